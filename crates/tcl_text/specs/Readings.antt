@@ -85,11 +85,7 @@ abbrev pub number_in : ℕ → List ℕ → Option ℕ
 number_in base [] = None
 number_in base (c ∷ cs) = if nat_lt (digit_value c) base then number_from base (digit_value c) cs else None
 
--- a numeral behind a 0
-abbrev pub behind_zero : List ℕ → Option ℕ → Option ℕ
-behind_zero text (Some base) = number_in base text
-behind_zero text None = None
-
+-- the number of a numeral that begins with 0, by what stands behind the 0
 abbrev pub zero_numeral : List ℕ → Option ℕ
 zero_numeral [] = Some 0
 zero_numeral (c ∷ cs) = elim (base_named c) [ Some base ↦ number_in base cs | None ↦ number_from 8 0 (c ∷ cs) ]
@@ -109,6 +105,11 @@ signed_numeral (c ∷ cs) =
     if c == 45 then signed_option true (numeral_of cs)
     else (if c == 43 then signed_option false (numeral_of cs)
     else signed_option false (numeral_of (c ∷ cs)))
+
+-- a number that is below a bound
+abbrev pub below : ℕ → Option ℕ → Option ℕ
+below bound None = None
+below bound (Some n) = if nat_lt n bound then Some n else None
 
 -- the integer that the text is, if any
 unfoldable pub integer_of : List ℕ → Option ℤ

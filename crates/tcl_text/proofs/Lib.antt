@@ -1,3 +1,4 @@
 -- Lemmas that several proofs share.
 pub mod ReadingExamples
 pub mod IntegerLemmas
+pub mod BooleanLemmas

@@ -1,5 +1,5 @@
 -- What can be read in a text: an integer, a boolean and a list, each as a relation on the whole text and as a function.
-use Rattle.std.specs.Prelude.{◌≡◌, ◌≢◌, ◌⊎◌, ℕ, zero, suc, ◌+◌, ◌*◌, ◌^◌, ℤ, pos, neg_ℤ, Bool, true, false, not, ◌&&◌, ◌||◌, ◌==◌, nat_eq, nat_lt, nat_le, if◌then◌else◌, List, [], ◌∷◌, ◌++◌, map, filter, IsTrue, Option, Some, None, Result, Ok, Err, codes, ⊤}
+use Rattle.std.specs.Prelude.{◌≡◌, ◌≢◌, ◌⊎◌, ℕ, zero, suc, ◌+◌, ◌*◌, ◌^◌, ℤ, pos, neg_ℤ, Bool, true, false, not, ◌&&◌, ◌||◌, ◌==◌, nat_lt, nat_le, if◌then◌else◌, List, [], ◌∷◌, ◌++◌, map, filter, IsTrue, Option, Some, None, Result, Ok, Err, codes, ⊤}
 use Rattle.std.specs.Char.{digit_value, to_ascii_lowercase}
 use Rattle.std.specs.List.{starts_with, list_all, join_with_byte, flat_map}
 use Rattle.std.specs.Str.Parse.{AllDigits, digits_value}
@@ -122,9 +122,15 @@ abbrev pub boolean_words : List (List ℕ × Bool)
 boolean_words =
     (codes "yes", true) ∷ (codes "no", false) ∷ (codes "true", true) ∷ (codes "false", false) ∷ (codes "on", true) ∷ (codes "off", false) ∷ []
 
--- the words that begin with the text, ignoring ASCII case
+-- whether a word begins with the text, ignoring the case of ASCII letters
+abbrev pub begins_word : List ℕ → List ℕ → Bool
+begins_word [] word = true
+begins_word (c ∷ cs) [] = false
+begins_word (c ∷ cs) (w ∷ ws) = to_ascii_lowercase c == w && begins_word cs ws
+
+-- the words that begin with the text
 abbrev pub words_begun : List ℕ → List (List ℕ × Bool)
-words_begun text = filter (λ word. starts_with nat_eq word.0 (map to_ascii_lowercase text)) boolean_words
+words_begun text = filter (λ word. begins_word text word.0) boolean_words
 
 -- the integer as a boolean: whether it isn't 0
 abbrev pub is_nonzero : ℤ → Bool

@@ -1,11 +1,13 @@
 //! Texts of a Tcl application, and what can be read in them.
 #![tactic(auto)]
 
+mod boolean;
 mod integer;
 mod list;
 mod splitting;
 mod text;
 
+pub use boolean::NotBoolean;
 pub use integer::NotInteger;
 pub use list::TextList;
 pub use splitting::ListFault;

@@ -2,3 +2,6 @@
 pub mod ReadingExamples
 pub mod IntegerLemmas
 pub mod BooleanLemmas
+pub mod IntegerReading
+pub mod BooleanReading
+pub mod ReadingLemmas

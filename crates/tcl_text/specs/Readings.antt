@@ -85,10 +85,14 @@ abbrev pub number_in : ℕ → List ℕ → Option ℕ
 number_in base [] = None
 number_in base (c ∷ cs) = if nat_lt (digit_value c) base then number_from base (digit_value c) cs else None
 
--- the number of a numeral that begins with 0, by what stands behind the 0
+-- the number of a numeral that begins with 0, by the base that the next character names, if any
+abbrev pub behind_zero : Option ℕ → ℕ → List ℕ → Option ℕ
+behind_zero (Some base) c cs = number_in base cs
+behind_zero None c cs = number_from 8 0 (c ∷ cs)
+
 abbrev pub zero_numeral : List ℕ → Option ℕ
 zero_numeral [] = Some 0
-zero_numeral (c ∷ cs) = elim (base_named c) [ Some base ↦ number_in base cs | None ↦ number_from 8 0 (c ∷ cs) ]
+zero_numeral (c ∷ cs) = behind_zero (base_named c) c cs
 
 -- the number that a numeral in front spells, with white space behind it
 abbrev pub numeral_of : List ℕ → Option ℕ

@@ -1,4 +1,4 @@
-ghost use Rattle.std.specs.Prelude.{◌≡◌, ◌∷◌};
+ghost use Rattle.std.specs.Prelude.{◌≡◌, ◌∷◌, ◌↔◌, Bool, IsErr};
 ghost use Rattle.std.specs.Result.{result_ok};
 ghost use Rattle.tcl_text.specs.Readings as readings;
 
@@ -15,6 +15,8 @@ impl Text {
     /// The boolean that the text is, as Tcl_GetBoolean(3) reads one: an integer, of which 0 is false, or in any case of its
     /// letters the beginning of exactly one of `yes`, `no`, `true`, `false`, `on` and `off`. It takes no memory.
     pub fn boolean(&self) -> Result<bool, NotBoolean>
+        ensures read { (b : Bool) → (result ≡ Ok b) ↔ readings.IsBoolean self.now b }
+        ensures refused { IsErr result ↔ ((b : Bool) → ¬ (readings.IsBoolean self.now b)) }
         ensures exact { result_ok result ≡ readings.boolean_of self.now }
     {
         boolean_in(self.as_str().as_bytes()).ok_or(NotBoolean)

@@ -1,11 +1,14 @@
-ghost use Rattle.std.specs.Prelude.{◌≡◌, ◌+◌, ◌*◌, ◌^◌, ◌<◌, ◌≤◌, SomeIff};
+ghost use Rattle.std.specs.Prelude.{◌≡◌, ◌+◌, ◌*◌, ◌^◌, ◌<◌, ◌≤◌, ◌↔◌, ℤ, IfOk, IsErr, SomeIff};
 ghost use Rattle.std.specs.Char as chars;
+ghost use Rattle.std.specs.Fmt.{signed_decimal};
 ghost use Rattle.std.specs.List.{list_all};
 ghost use Rattle.std.specs.Result.{result_ok};
 ghost use Rattle.tcl_text.specs.Backslash as backslash;
 ghost use Rattle.tcl_text.specs.Readings as readings;
 
 use crate::text::Text;
+use itoa::Buffer;
+use std::alloc::{AllocError, Global};
 use thiserror::Error;
 
 /// The text is no integer of 64 bits (1).
@@ -17,9 +20,19 @@ impl Text {
     /// The integer that the text spells, as Tcl's expr(n) reads one: an optional sign, then decimal digits, `0x`, `0o` or `0b`
     /// with digits, or octal digits after a leading 0, with white space around. It takes one pass and no memory.
     pub fn integer(&self) -> Result<i64, NotInteger>
+        ensures read { (n : ℤ) → (result ≡ Ok n) ↔ readings.IsInteger self.now n }
+        ensures refused { IsErr result ↔ ((n : ℤ) → ¬ (readings.IsInteger self.now n)) }
         ensures exact { result_ok result ≡ readings.integer_of self.now }
     {
         integer_in(self.as_str().as_bytes()).ok_or(NotInteger)
+    }
+
+    /// The decimal text of an integer.
+    pub fn from_integer(alloc: Global, number: i64) -> Result<Text, AllocError>
+        ensures { IfOk result (λ text. text ≡ signed_decimal number) }
+    {
+        let mut buffer = Buffer::new();
+        Text::of_short(alloc, buffer.format(number))
     }
 }
 

@@ -66,6 +66,14 @@ impl Text {
         if characters.len() > MAX_BYTES {
             return Err(TextFault::TooLong);
         }
+        Ok(Text::of_short(alloc, characters)?)
+    }
+
+    /// A text of characters that are known to be few enough.
+    pub(crate) fn of_short(alloc: Global, characters: &str) -> Result<Text, AllocError>
+        requires { length characters.now ≤ 65536 }
+        ensures { IfOk result (λ text. text ≡ characters.now) }
+    {
         let string = String::from_str(alloc, characters)?;
         Ok(Text {
             string: Rc::new(alloc, string)?,

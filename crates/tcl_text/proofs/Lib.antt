@@ -5,3 +5,4 @@ pub mod BooleanLemmas
 pub mod IntegerReading
 pub mod BooleanReading
 pub mod ReadingLemmas
+pub mod BackslashLemmas

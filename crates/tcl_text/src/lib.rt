@@ -1,11 +1,13 @@
 //! Texts of a Tcl application, and what can be read in them.
 #![tactic(auto)]
 
+mod backslash;
 mod boolean;
 mod integer;
 mod list;
 mod splitting;
 mod text;
+mod white_space;
 
 pub use boolean::NotBoolean;
 pub use integer::NotInteger;

@@ -1,9 +1,9 @@
 -- Digits behind a backslash, one by one.
 use Rattle.std.proofs.Common.{◌≡◌, ℕ, zero, suc, ◌+◌, ◌-◌, ◌*◌, ◌<◌, ◌≤◌, List, [], ◌∷◌, length, ◌⊎◌, nat_lt, refl, arith, ap, sym, ◌∙◌, inl, inr, Option, Some, None, unwrap_or}
-use Rattle.std.specs.Prelude.{nat_le, ◌&&◌, MatchOption, SomeIff}
+use Rattle.std.specs.Prelude.{nat_le, nat_eq, ◌&&◌, ◌||◌, MatchOption, SomeIff}
 use Rattle.std.specs.Char.{digit_value, IsScalar, OutOfScalarRange, InScalarRange}
-use Rattle.std.proofs.lemmas.Bool.{lt-ltb, le-leb, le-ltb, lt-leb, and_left, and_right}
-use Rattle.tcl_text.specs.Backslash.{Digits, digits_from, character_of}
+use Rattle.std.proofs.lemmas.Bool.{lt-ltb, le-leb, le-ltb, lt-leb, and_right, cases_Bool, cond_both}
+use Rattle.tcl_text.specs.Backslash.{Digits, Escape, digits_from, character_of, numbered, blanks, escape}
 
 module _ (base bound n : ℕ) where
   -- no room, no text, or no digit that fits
@@ -57,3 +57,42 @@ character_found (Some c) n most cases is = elim cases [
 ]
 
 pub ruleset digit_steps = (none_left, no_text, no_digit, past_bound, one_digit)
+
+-- ── what a backslash takes ──
+
+digits_within : (base bound most n : ℕ) (text : List ℕ) → (digits_from base bound most n text).count ≤ length text
+digits_within base bound zero n text = omega arith
+digits_within base bound (suc most) n [] = omega arith
+digits_within base bound (suc most) n (c ∷ cs) =
+    elim (cases_Bool (nat_lt (digit_value c) base && nat_le (n * base + digit_value c) bound)) [
+      inl fits ↦ rw fits (let others : (digits_from base bound most (n * base + digit_value c) cs).count ≤ length cs = digits_within base bound most (n * base + digit_value c) cs in omega arith)
+      | inr not ↦ rw not (omega arith)
+    ]
+
+numbered_within : (letter before : ℕ) (digits : Digits) (room : ℕ) → 1 ≤ room → before + digits.count ≤ room → (numbered letter before digits).length ≤ room
+numbered_within letter before digits room one all = elim (cases_Bool (nat_eq digits.count 0)) [ inl none ↦ rw none one | inr some ↦ rw some all ]
+
+blanks_within : (text : List ℕ) → blanks text ≤ length text
+blanks_within [] = omega arith
+blanks_within (c ∷ cs) =
+    elim (cases_Bool (nat_eq c 32 || nat_eq c 9)) [
+      inl blank ↦ rw blank (let others : blanks cs ≤ length cs = blanks_within cs in omega arith)
+      | inr not ↦ rw not (omega arith)
+    ]
+
+-- a backslash takes no more than there is
+pub escape_within : (text : List ℕ) → (escape text).length ≤ length text
+unfolding escape
+escape_within [] = omega arith
+escape_within (c ∷ cs) =
+    cond_both (nat_eq c 10) _ _ within (λ _. let h : blanks cs ≤ length cs = blanks_within cs in omega arith) (λ _.
+    cond_both (nat_le 48 c && nat_le c 55) _ _ within (λ _. numbered_within c 0 (digits_from 8 255 3 0 (c ∷ cs)) (length (c ∷ cs)) (omega arith) (let h : (digits_from 8 255 3 0 (c ∷ cs)).count ≤ length (c ∷ cs) = digits_within 8 255 3 0 (c ∷ cs) in omega arith)) (λ _.
+    cond_both (nat_eq c 120) _ _ within (λ _. hexadecimal 0xFF 2) (λ _.
+    cond_both (nat_eq c 117) _ _ within (λ _. hexadecimal 0xFFFF 4) (λ _.
+    cond_both (nat_eq c 85) _ _ within (λ _. hexadecimal 0x10FFFF 8) (λ _. omega arith)))))
+  where
+  within : Escape → Type 0
+  within e = e.length ≤ length (c ∷ cs)
+
+  hexadecimal : (bound most : ℕ) → (numbered c 1 (digits_from 16 bound most 0 cs)).length ≤ length (c ∷ cs)
+  hexadecimal bound most = numbered_within c 1 (digits_from 16 bound most 0 cs) (length (c ∷ cs)) (omega arith) (let h : (digits_from 16 bound most 0 cs).count ≤ length cs = digits_within 16 bound most 0 cs in omega arith)

@@ -6,3 +6,4 @@ pub mod IntegerReading
 pub mod BooleanReading
 pub mod ReadingLemmas
 pub mod BackslashLemmas
+pub mod SplittingLemmas

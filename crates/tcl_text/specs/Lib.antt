@@ -2,3 +2,4 @@
 pub mod Backslash
 pub mod Escaped
 pub mod Readings
+pub mod Splitting

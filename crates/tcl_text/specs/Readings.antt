@@ -4,8 +4,8 @@ use Rattle.std.specs.Char.{digit_value, to_ascii_lowercase}
 use Rattle.std.specs.List.{starts_with, list_all, join_with_byte, flat_map}
 use Rattle.std.specs.Str.Parse.{AllDigits, digits_value}
 use Rattle.tcl_text.specs.Backslash.{is_white, Mark, marks}
-use Rattle.tcl_text.specs.declared.splitting.Kind.{Kind}
-use Rattle.tcl_text.specs.declared.splitting.Kind.TheVariants.{White, OpenBrace, CloseBrace, Quote}
+use Rattle.tcl_text.specs.declared.splitting.ByteKind.{ByteKind}
+use Rattle.tcl_text.specs.declared.splitting.ByteKind.TheVariants.{White, OpenBrace, CloseBrace, Quote}
 use Rattle.tcl_text.specs.declared.splitting.ListFault.{ListFault}
 use Rattle.tcl_text.specs.declared.splitting.ListFault.TheVariants.{OpenBrace as UnmatchedBrace, OpenQuote as UnmatchedQuote, ExtraCharacters}
 
@@ -178,7 +178,7 @@ abbrev pub is_quote_mark : Mark → Bool
 is_quote_mark m = elim m.kind [ Quote ↦ true | _ ↦ false ]
 
 -- how many braces are open behind a mark, if it doesn't close one too many
-abbrev pub depth_after : ℕ → Kind → Option ℕ
+abbrev pub depth_after : ℕ → ByteKind → Option ℕ
 depth_after depth OpenBrace = Some (suc depth)
 depth_after zero CloseBrace = None
 depth_after (suc depth) CloseBrace = Some depth
@@ -231,7 +231,7 @@ abbrev pub Reading : Type 0
 Reading = Result (List ℕ × List (List ℕ)) ListFault
 
 -- the place behind a mark
-abbrev pub place_after : Place → Kind → Place
+abbrev pub place_after : Place → ByteKind → Place
 place_after between White = between
 place_after between OpenBrace = in_braces 0
 place_after between Quote = in_quotes
@@ -258,7 +258,7 @@ begun (Ok r) = Ok ([], r.0 ∷ r.1)
 begun (Err f) = Err f
 
 -- what a mark adds to the reading of what stands behind it
-abbrev pub with_mark : Place → Kind → Mark → Reading → Reading
+abbrev pub with_mark : Place → ByteKind → Mark → Reading → Reading
 with_mark between White m r = r
 with_mark between OpenBrace m r = begun r
 with_mark between Quote m r = begun r

@@ -31,7 +31,8 @@ struct Digits {
 /// What a backslash before these bytes stands for, by the rules of Tcl(n).
 #[tactic(auto, unfolding(crate::specs::Backslash::escape))]
 pub fn escape_behind(behind: &[u8]) -> Escape
-    ensures { escape_seen result ≡ backslash.escape behind.now }
+    ensures exact { escape_seen result ≡ backslash.escape behind.now }
+    ensures within { result.length ≤ length behind.now }
 {
     let Some((first, others)) = behind.split_first() else {
         return Escape {

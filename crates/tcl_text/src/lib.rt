@@ -12,5 +12,5 @@ mod white_space;
 pub use boolean::NotBoolean;
 pub use integer::NotInteger;
 pub use list::TextList;
-pub use splitting::ListFault;
+pub use splitting::{ListFault, SplitFault};
 pub use text::{Text, TextFault};

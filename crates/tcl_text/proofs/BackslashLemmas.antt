@@ -65,7 +65,7 @@ digits_within base bound zero n text = omega arith
 digits_within base bound (suc most) n [] = omega arith
 digits_within base bound (suc most) n (c ∷ cs) =
     elim (cases_Bool (nat_lt (digit_value c) base && nat_le (n * base + digit_value c) bound)) [
-      inl fits ↦ rw fits (let others : (digits_from base bound most (n * base + digit_value c) cs).count ≤ length cs = digits_within base bound most (n * base + digit_value c) cs in omega arith)
+      | inl fits ↦ rw fits (let others : (digits_from base bound most (n * base + digit_value c) cs).count ≤ length cs = digits_within base bound most (n * base + digit_value c) cs in omega arith)
       | inr not ↦ rw not (omega arith)
     ]
 
@@ -76,7 +76,7 @@ blanks_within : (text : List ℕ) → blanks text ≤ length text
 blanks_within [] = omega arith
 blanks_within (c ∷ cs) =
     elim (cases_Bool (nat_eq c 32 || nat_eq c 9)) [
-      inl blank ↦ rw blank (let others : blanks cs ≤ length cs = blanks_within cs in omega arith)
+      | inl blank ↦ rw blank (let others : blanks cs ≤ length cs = blanks_within cs in omega arith)
       | inr not ↦ rw not (omega arith)
     ]
 
@@ -91,8 +91,8 @@ escape_within (c ∷ cs) =
     cond_both (nat_eq c 117) _ _ within (λ _. hexadecimal 0xFFFF 4) (λ _.
     cond_both (nat_eq c 85) _ _ within (λ _. hexadecimal 0x10FFFF 8) (λ _. omega arith)))))
   where
-  within : Escape → Type 0
-  within e = e.length ≤ length (c ∷ cs)
+    within : Escape → Type 0
+    within e = e.length ≤ length (c ∷ cs)
 
-  hexadecimal : (bound most : ℕ) → (numbered c 1 (digits_from 16 bound most 0 cs)).length ≤ length (c ∷ cs)
-  hexadecimal bound most = numbered_within c 1 (digits_from 16 bound most 0 cs) (length (c ∷ cs)) (omega arith) (let h : (digits_from 16 bound most 0 cs).count ≤ length cs = digits_within 16 bound most 0 cs in omega arith)
+    hexadecimal : (bound most : ℕ) → (numbered c 1 (digits_from 16 bound most 0 cs)).length ≤ length (c ∷ cs)
+    hexadecimal bound most = numbered_within c 1 (digits_from 16 bound most 0 cs) (length (c ∷ cs)) (omega arith) (let h : (digits_from 16 bound most 0 cs).count ≤ length cs = digits_within 16 bound most 0 cs in omega arith)

@@ -7,3 +7,4 @@ pub mod BooleanReading
 pub mod ReadingLemmas
 pub mod BackslashLemmas
 pub mod SplittingLemmas
+pub mod Utf8Lemmas

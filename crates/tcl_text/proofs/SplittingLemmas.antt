@@ -1,11 +1,13 @@
 -- The readings of a list, mark by mark.
-use Rattle.std.proofs.Common.{◌≡◌, ◌≢◌, ℕ, zero, suc, ◌+◌, ◌-◌, ◌<◌, ◌≤◌, Bool, true, false, List, [], ◌∷◌, ◌++◌, append_assoc, take, drop, length, get_or, nat_eq, cond, subst, Some, None, Ok, Err, refl, arith, ap, sym, add-one, ◌∙◌, inl, inr}
+use Rattle.std.proofs.Common.{◌≡◌, ◌≢◌, ℕ, zero, suc, ◌+◌, ◌-◌, ◌<◌, ◌≤◌, Bool, true, false, List, [], ◌∷◌, ◌++◌, append_assoc, take, drop, length, get_or, IsUtf8, nat_eq, cond, subst, Some, None, Ok, Err, refl, arith, ap, sym, add-one, ◌∙◌, inl, inr}
 use Rattle.std.proofs.lemmas.Bool.{cases_Bool, eqb-true, both_ways}
-use Rattle.std.proofs.lemmas.List.{drop_more, take_more, drop-drop, take-take, drop-take, take-append-drop, get_or-drop, drop_all}
-use Rattle.tcl_text.specs.Backslash.{is_white, kind_of, escape, byte_mark, escape_mark, marks_past, marks, Mark}
+use Rattle.std.proofs.lemmas.List.{drop_more, take_more, drop-drop, take-take, drop-take, take-append-drop, get_or-drop, drop_all, length-drop}
+use Rattle.std.proofs.lemmas.Str.{IsUtf8-append}
+use Rattle.tcl_text.specs.Backslash.{is_white, kind_of, Escape, escape, byte_mark, escape_mark, marks_past, marks, Mark}
 use Rattle.tcl_text.specs.Readings.{Place, between, in_braces, in_quotes, in_bare, closed, place_after, Reading, onto, begun, with_mark, at_end, reading}
-use Rattle.tcl_text.specs.Splitting.{ReadsTo, StepsInBraces, FindsBrace, within, ends}
+use Rattle.tcl_text.specs.Splitting.{ReadsTo, StepsInBraces, FindsBrace, Unescapes, within, ends}
 use Rattle.tcl_text.proofs.BackslashLemmas.{escape_within}
+use Rattle.tcl_text.proofs.Utf8Lemmas.{cut_at_ascii, escape_utf8}
 use Rattle.tcl_text.specs.declared.splitting.ByteKind.{ByteKind}
 use Rattle.tcl_text.specs.declared.splitting.ByteKind.TheVariants.{White, OpenBrace, CloseBrace, Quote, Backslash, Other}
 
@@ -38,13 +40,13 @@ tells : (b : ℕ) → Tells (kind_of b) (is_white b) (nat_eq b 123) (nat_eq b 12
 unfolding kind_of
 tells b = at (is_white b) (nat_eq b 123) (nat_eq b 125) (nat_eq b 34) (nat_eq b 92)
   where
-  at : (w o c q s : Bool) → Tells (cond w White (cond o OpenBrace (cond c CloseBrace (cond q Quote (cond s Backslash Other))))) w o c q s
-  at true o c q s = refl
-  at false true c q s = refl
-  at false false true q s = refl
-  at false false false true s = refl
-  at false false false false true = refl
-  at false false false false false = (refl, refl, refl, refl, refl)
+    at : (w o c q s : Bool) → Tells (cond w White (cond o OpenBrace (cond c CloseBrace (cond q Quote (cond s Backslash Other))))) w o c q s
+    at true o c q s = refl
+    at false true c q s = refl
+    at false false true q s = refl
+    at false false false true s = refl
+    at false false false false true = refl
+    at false false false false false = (refl, refl, refl, refl, refl)
 
 told : (b : ℕ) (k : ByteKind) → kind_of b ≡ k → Tells k (is_white b) (nat_eq b 123) (nat_eq b 125) (nat_eq b 34) (nat_eq b 92)
 told b k is = subst (λ k. Tells k (is_white b) (nat_eq b 123) (nat_eq b 125) (nat_eq b 34) (nat_eq b 92)) is (tells b)
@@ -53,7 +55,7 @@ told b k is = subst (λ k. Tells k (is_white b) (nat_eq b 123) (nat_eq b 125) (n
 not_backslash : (b : ℕ) → kind_of b ≢ Backslash → nat_eq b 92 ≡ false
 unfolding kind_of
 not_backslash b other = elim (cases_Bool (nat_eq b 92)) [
-  inl is ↦ absurd (other (ap kind_of (eqb-true b 92 is)))
+  | inl is ↦ absurd (other (ap kind_of (eqb-true b 92 is)))
   | inr not ↦ not
 ]
 
@@ -176,23 +178,23 @@ plain_byte : (quoted : Bool) (b : ℕ) (bs : List ℕ) → (b ≡ 92 → ⊥) �
 plain_byte true b bs slash inner =
     reading_byte in_quotes b bs (λ is. slash (eqb-true b 92 (told b Backslash is))) ∙ at (kind_of b) (λ is. both_ways (nat_eq b 34) inner (told b Quote is))
   where
-  at : (k : ByteKind) → k ≢ Quote → with_mark in_quotes k (byte_mark b) (reading (place_after in_quotes k) (marks bs)) ≡ onto (b ∷ []) (reading in_quotes (marks bs))
-  at White other = refl
-  at OpenBrace other = refl
-  at CloseBrace other = refl
-  at Quote other = absurd (other refl)
-  at Backslash other = refl
-  at Other other = refl
+    at : (k : ByteKind) → k ≢ Quote → with_mark in_quotes k (byte_mark b) (reading (place_after in_quotes k) (marks bs)) ≡ onto (b ∷ []) (reading in_quotes (marks bs))
+    at White other = refl
+    at OpenBrace other = refl
+    at CloseBrace other = refl
+    at Quote other = absurd (other refl)
+    at Backslash other = refl
+    at Other other = refl
 plain_byte false b bs slash inner =
     reading_byte in_bare b bs (λ is. slash (eqb-true b 92 (told b Backslash is))) ∙ at (kind_of b) (λ is. both_ways (is_white b) inner (told b White is))
   where
-  at : (k : ByteKind) → k ≢ White → with_mark in_bare k (byte_mark b) (reading (place_after in_bare k) (marks bs)) ≡ onto (b ∷ []) (reading in_bare (marks bs))
-  at White other = absurd (other refl)
-  at OpenBrace other = refl
-  at CloseBrace other = refl
-  at Quote other = refl
-  at Backslash other = refl
-  at Other other = refl
+    at : (k : ByteKind) → k ≢ White → with_mark in_bare k (byte_mark b) (reading (place_after in_bare k) (marks bs)) ≡ onto (b ∷ []) (reading in_bare (marks bs))
+    at White other = absurd (other refl)
+    at OpenBrace other = refl
+    at CloseBrace other = refl
+    at Quote other = refl
+    at Backslash other = refl
+    at Other other = refl
 
 pub ReadsTo-start : (place : Place) (text : List ℕ) → ReadsTo place text 0 [] place
 ReadsTo-start place text = sym (onto-nil (reading place (marks text)))
@@ -201,8 +203,65 @@ pub run_turn : (quoted : Bool) (text : List ℕ) (at : ℕ) → at < length text
 run_turn quoted text at inside slash inner before =
     let b = get_or text at 0 in
     let step : reading (within quoted) (marks (drop at text)) ≡ onto (b ∷ []) (reading (within quoted) (marks (drop (at + 1) text))) =
-      ap (λ rest. reading (within quoted) (marks rest)) (drop_more text at 0 inside) ∙ plain_byte quoted b (drop (at + 1) text) slash inner
+    ap (λ rest. reading (within quoted) (marks rest)) (drop_more text at 0 inside) ∙ plain_byte quoted b (drop (at + 1) text) slash inner
     in
     before ∙ ap (onto (take at text)) step ∙ onto-onto (take at text) (b ∷ []) _ ∙ ap (λ bytes. onto bytes (reading (within quoted) (marks (drop (at + 1) text)))) (sym (take_more text at 0 inside))
 
 pub ruleset run_turns = (ReadsTo-start, run_turn)
+
+-- a run without backslashes, and what follows it
+pub Unescapes-run : (quoted : Bool) (text bytes : List ℕ) (at run : ℕ) → Unescapes quoted text bytes at → run ≤ length (drop at text) → ReadsTo (within quoted) (drop at text) run (take run (drop at text)) (within quoted) → Unescapes quoted text (bytes ++ take run (drop at text)) (at + run)
+Unescapes-run quoted text bytes at run h fits reads =
+    let rest = drop at text in
+    let same : (bytes ++ take run rest) ++ drop (at + run) text ≡ bytes ++ rest =
+    append_assoc bytes (take run rest) (drop (at + run) text) ∙ ap (λ xs. bytes ++ (take run rest ++ xs)) (sym (drop-drop run at text)) ∙ ap (λ xs. bytes ++ xs) (take-append-drop run rest)
+    in
+    record {
+      fits = omega (arith, length-drop at text);
+      reads = ReadsTo-step (within quoted) (within quoted) (within quoted) text bytes (take run rest) at run h.reads reads;
+      utf8 = λ whole. subst IsUtf8 (sym same) (h.utf8 whole);
+    }
+
+escape_byte : (quoted : Bool) (bs : List ℕ) → reading (within quoted) (marks (92 ∷ bs)) ≡ onto (escape bs).meaning (reading (within quoted) (marks (drop (escape bs).length bs)))
+unfolding kind_of
+escape_byte true bs = reading_escape in_quotes 92 bs refl
+escape_byte false bs = reading_escape in_bare 92 bs refl
+
+-- a backslash, and what follows what it takes
+pub Unescapes-escape : (quoted : Bool) (text bytes : List ℕ) (at : ℕ) → Unescapes quoted text bytes at → at < length text → get_or text at 0 ≡ 92 →
+    let e : Escape = escape (drop (at + 1) text) in Unescapes quoted text (bytes ++ e.meaning) (at + (e.length + 1))
+Unescapes-escape quoted text bytes at h inside slash =
+    let behind = drop (at + 1) text in
+    let n = (escape behind).length in
+    let opened : drop at text ≡ 92 ∷ behind = drop_more text at 0 inside ∙ ap (λ b. b ∷ behind) slash in
+    let past : drop n behind ≡ drop (at + (n + 1)) text =
+    drop-drop n (at + 1) text ∙ ap (λ i. drop i text) (let e : at + 1 + n ≡ at + (n + 1) = omega arith in e)
+    in
+    let within_text : n ≤ length behind = escape_within behind in
+    record {
+      fits = omega (arith, length-drop (at + 1) text);
+      reads =
+          h.reads
+          ∙ ap (onto bytes) (ap (λ rest. reading (within quoted) (marks rest)) opened ∙ escape_byte quoted behind ∙ ap (λ rest. onto (escape behind).meaning (reading (within quoted) (marks rest))) past)
+          ∙ onto-onto bytes (escape behind).meaning _;
+      utf8 = λ whole.
+          let cut = cut_at_ascii bytes behind 92 (omega arith) (subst (λ rest. IsUtf8 (bytes ++ rest)) opened (h.utf8 whole)) in
+          subst IsUtf8 (sym (append_assoc bytes (escape behind).meaning (drop (at + (n + 1)) text)))
+          (IsUtf8-append bytes ((escape behind).meaning ++ drop (at + (n + 1)) text) cut.0
+          (subst (λ rest. IsUtf8 ((escape behind).meaning ++ rest)) past (escape_utf8 behind cut.1)));
+    }
+
+-- the same as the code has them: slices of the text, and what was written
+pub Unescapes-run_read : (quoted : Bool) (text bytes new slice : List ℕ) (at run : ℕ) → slice ≡ drop at text → Unescapes quoted text bytes at → run ≤ length slice → ReadsTo (within quoted) slice run (take run slice) (within quoted) →
+    new ≡ bytes ++ take (at + run - at) (drop at text) → Unescapes quoted text new (at + run)
+Unescapes-run_read quoted text bytes new slice at run is h fits reads written =
+    let count : at + run - at ≡ run = omega arith in
+    subst (λ xs. Unescapes quoted text xs (at + run)) (sym (written ∙ ap (λ n. bytes ++ take n (drop at text)) count))
+    (Unescapes-run quoted text bytes at run h (subst (λ xs. run ≤ length xs) is fits) (subst (λ xs. ReadsTo (within quoted) xs run (take run xs) (within quoted)) is reads))
+
+pub Unescapes-escape_read : (quoted : Bool) (text bytes new slice : List ℕ) (at : ℕ) (e : Escape) → slice ≡ drop (at + 1) text → Unescapes quoted text bytes at → at < length text → get_or text at 0 ≡ 92 → e ≡ escape slice →
+    new ≡ bytes ++ e.meaning → Unescapes quoted text new (at + (e.length + 1))
+Unescapes-escape_read quoted text bytes new slice at e is h inside slash taken written =
+    let same : e ≡ escape (drop (at + 1) text) = taken ∙ ap escape is in
+    subst (λ xs. Unescapes quoted text xs (at + (e.length + 1))) (sym written)
+    (subst (λ (e : Escape). Unescapes quoted text (bytes ++ e.meaning) (at + (e.length + 1))) (sym same) (Unescapes-escape quoted text bytes at h inside slash))

@@ -1,8 +1,10 @@
 -- Digits behind a backslash, one by one.
-use Rattle.std.proofs.Common.{◌≡◌, ℕ, zero, suc, ◌+◌, ◌-◌, ◌*◌, ◌<◌, ◌≤◌, List, [], ◌∷◌, length, ◌⊎◌, nat_lt, refl, arith, ap, sym, ◌∙◌, inl, inr, Option, Some, None, unwrap_or}
+use Rattle.std.proofs.Common.{◌≡◌, ℕ, zero, suc, ◌+◌, ◌-◌, ◌*◌, ◌^◌, ◌<◌, ◌≤◌, List, [], ◌∷◌, length, ◌⊎◌, nat_lt, refl, arith, ap, sym, ◌∙◌, inl, inr, Option, Some, None, unwrap_or, encode_utf8, pow-suc, false}
 use Rattle.std.specs.Prelude.{nat_le, nat_eq, ◌&&◌, ◌||◌, MatchOption, SomeIff}
-use Rattle.std.specs.Char.{digit_value, IsScalar, OutOfScalarRange, InScalarRange}
-use Rattle.std.proofs.lemmas.Bool.{lt-ltb, le-leb, le-ltb, lt-leb, and_right, cases_Bool, cond_both}
+use Rattle.std.specs.Char.{digit_value, len_utf8, IsScalar, OutOfScalarRange, InScalarRange}
+use Rattle.std.proofs.lemmas.Bool.{lt-ltb, le-leb, le-ltb, lt-leb, and_right, and_parts, ltb-true, cases_Bool, cond_both}
+use Rattle.std.proofs.Math.Nat.{mul-le-mul_left, mul-le-mul_right}
+use Rattle.std.proofs.lemmas.Str.{length-encode, len_utf8_bounds}
 use Rattle.tcl_text.specs.Backslash.{Digits, Escape, digits_from, character_of, numbered, blanks, escape}
 
 module _ (base bound n : ℕ) where
@@ -96,3 +98,80 @@ escape_within (c ∷ cs) =
 
     hexadecimal : (bound most : ℕ) → (numbered c 1 (digits_from 16 bound most 0 cs)).length ≤ length (c ∷ cs)
     hexadecimal bound most = numbered_within c 1 (digits_from 16 bound most 0 cs) (length (c ∷ cs)) (omega arith) (let h : (digits_from 16 bound most 0 cs).count ≤ length cs = digits_within 16 bound most 0 cs in omega arith)
+
+-- ── what a backslash stands for is no longer than it is written ──
+
+-- hexadecimal digits spell a number below a power of 16
+value_small : (base bound most n : ℕ) (text : List ℕ) → base ≤ 16 → (digits_from base bound most n text).value < (n + 1) * 16 ^ (digits_from base bound most n text).count
+value_small base bound zero n text small = omega arith
+value_small base bound (suc most) n [] small = omega arith
+value_small base bound (suc most) n (c ∷ cs) small =
+    let next : ℕ = n * base + digit_value c in
+    elim (cases_Bool (nat_lt (digit_value c) base && nat_le next bound)) [
+      | inl fits ↦ (
+          let digit : digit_value c < base = ltb-true (digit_value c) base (and_parts (nat_lt (digit_value c) base) (nat_le next bound) fits).0 in
+          let more : Digits = digits_from base bound most next cs in
+          let below : more.value < (next + 1) * 16 ^ more.count = value_small base bound most next cs small in
+          rw fits (grown base n (digit_value c) more.count more.value small digit below))
+      | inr not ↦ rw not (omega arith)
+    ]
+  where
+    grown : (base n d k value : ℕ) → base ≤ 16 → d < base → value < (n * base + d + 1) * 16 ^ k → value < (n + 1) * 16 ^ suc k
+    grown base n d k value small digit below =
+        let wider : n * base ≤ n * 16 = mul-le-mul_left n small in
+        let larger : (n * base + d + 1) * 16 ^ k ≤ ((n + 1) * 16) * 16 ^ k = mul-le-mul_right (16 ^ k) (let h : n * base + d + 1 ≤ (n + 1) * 16 = omega arith in h) in
+        let same : (n + 1) * 16 ^ suc k ≡ ((n + 1) * 16) * 16 ^ k = rw pow-suc (grind arith) in
+        omega arith
+
+-- a character below the surrogates, by its number
+length_low : (value : ℕ) → value < 0xD800 → length (encode_utf8 (character_of value)) ≡ len_utf8 value
+length_low value low = rw (lt-leb 0xD800 value low) (length-encode value)
+
+one_byte : (value : ℕ) → value < 0x80 → len_utf8 value ≤ 1
+one_byte value low = rw (lt-ltb value 0x80 low) (omega arith)
+
+two_bytes : (value : ℕ) → value < 0x800 → len_utf8 value ≤ 2
+two_bytes value low = elim (cases_Bool (nat_lt value 0x80)) [ inl e ↦ rw e (omega arith) | inr e ↦ rw e (rw (lt-ltb value 0x800 low) (omega arith)) ]
+
+three_bytes : (value : ℕ) → value < 0x10000 → len_utf8 value ≤ 3
+three_bytes value low = elim (cases_Bool (nat_lt value 0x80)) [
+  | inl e ↦ rw e (omega arith)
+  | inr e ↦ rw e (elim (cases_Bool (nat_lt value 0x800)) [ inl f ↦ rw f (omega arith) | inr f ↦ rw f (rw (lt-ltb value 0x10000 low) (omega arith)) ])
+]
+
+-- so their character takes no more bytes than there are digits
+character_short : (value count : ℕ) → 0 < count → value < 16 ^ count → length (encode_utf8 (character_of value)) ≤ count
+character_short value zero some small = absurd (omega arith)
+character_short value (suc zero) some small = omega (arith, length_low value (omega arith), one_byte value (omega arith))
+character_short value (suc (suc zero)) some small = omega (arith, length_low value (omega arith), two_bytes value (omega arith))
+character_short value (suc (suc (suc zero))) some small = omega (arith, length_low value (omega arith), three_bytes value (omega arith))
+character_short value (suc (suc (suc (suc k)))) some small = omega (arith, length-encode (character_of value), len_utf8_bounds (character_of value))
+
+numbered_short : (letter before base bound most : ℕ) (text : List ℕ) → base ≤ 16 → let e : Escape = numbered letter before (digits_from base bound most 0 text) in length e.meaning ≤ e.length + 1
+numbered_short letter before base bound most text small =
+    let found : Digits = digits_from base bound most 0 text in
+    elim (cases_Bool (nat_eq found.count 0)) [
+      | inl none ↦ rw none (omega arith)
+      | inr some ↦ (
+          let one : 0 < found.count = nonzero found.count some in
+          let value : found.value < 16 ^ found.count = (let h : found.value < (0 + 1) * 16 ^ found.count = value_small base bound most 0 text small in omega arith) in
+          let short : length (encode_utf8 (character_of found.value)) ≤ found.count = character_short found.value found.count one value in
+          rw some (omega arith))
+    ]
+  where
+    nonzero : (n : ℕ) → nat_eq n 0 ≡ false → 0 < n
+    nonzero zero e = cc
+    nonzero (suc n) e = omega arith
+
+pub escape_short : (text : List ℕ) → length (escape text).meaning ≤ (escape text).length + 1
+unfolding escape
+escape_short [] = omega arith
+escape_short (c ∷ cs) =
+    cond_both (nat_eq c 10) _ _ Short (λ _. omega arith) (λ _.
+    cond_both (nat_le 48 c && nat_le c 55) _ _ Short (λ _. numbered_short c 0 8 255 3 (c ∷ cs) (omega arith)) (λ _.
+    cond_both (nat_eq c 120) _ _ Short (λ _. numbered_short c 1 16 0xFF 2 cs (omega arith)) (λ _.
+    cond_both (nat_eq c 117) _ _ Short (λ _. numbered_short c 1 16 0xFFFF 4 cs (omega arith)) (λ _.
+    cond_both (nat_eq c 85) _ _ Short (λ _. numbered_short c 1 16 0x10FFFF 8 cs (omega arith)) (λ _. omega arith)))))
+  where
+    Short : Escape → Type 0
+    Short e = length e.meaning ≤ e.length + 1

@@ -168,7 +168,7 @@ IsInteger-from_integer_of text value e =
 -- ── from the relation to the function ──
 
 -- white space stands below the digits
-white_low : (c : ℕ) → is_white c ≡ true → c ≤ 32
+pub white_low : (c : ℕ) → is_white c ≡ true → c ≤ 32
 white_low c white = elim (or_cases (c == 32) (nat_le 9 c && nat_le c 13) white) [
   | inl blank ↦ (let is : c ≡ 32 = eqb-true c 32 blank in omega arith)
   | inr control ↦ (let most : c ≤ 13 = leb-true c 13 (and_parts (nat_le 9 c) (nat_le c 13) control).1 in omega arith)

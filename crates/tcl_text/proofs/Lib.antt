@@ -8,3 +8,4 @@ pub mod ReadingLemmas
 pub mod BackslashLemmas
 pub mod SplittingLemmas
 pub mod Utf8Lemmas
+pub mod ElementLemmas

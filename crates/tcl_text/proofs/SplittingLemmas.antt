@@ -1,12 +1,12 @@
 -- The readings of a list, mark by mark.
 use Rattle.std.proofs.Common.{◌≡◌, ◌≢◌, ℕ, zero, suc, ◌+◌, ◌-◌, ◌<◌, ◌≤◌, Bool, true, false, List, [], ◌∷◌, ◌++◌, append_assoc, take, drop, length, get_or, IsUtf8, nat_eq, cond, subst, Some, None, Ok, Err, refl, arith, ap, sym, add-one, ◌∙◌, inl, inr}
 use Rattle.std.proofs.lemmas.Bool.{cases_Bool, eqb-true, both_ways}
-use Rattle.std.proofs.lemmas.List.{drop_more, take_more, drop-drop, take-take, drop-take, take-append-drop, get_or-drop, drop_all, length-drop}
+use Rattle.std.proofs.lemmas.List.{drop_more, take_more, drop-drop, take-take, drop-take, take-append-drop, get_or-drop, drop_all, length-drop, length-take, length-append}
 use Rattle.std.proofs.lemmas.Str.{IsUtf8-append}
 use Rattle.tcl_text.specs.Backslash.{is_white, kind_of, Escape, escape, byte_mark, escape_mark, marks_past, marks, Mark}
-use Rattle.tcl_text.specs.Readings.{Place, between, in_braces, in_quotes, in_bare, closed, place_after, Reading, onto, begun, with_mark, at_end, reading}
-use Rattle.tcl_text.specs.Splitting.{ReadsTo, StepsInBraces, FindsBrace, Unescapes, within, ends}
-use Rattle.tcl_text.proofs.BackslashLemmas.{escape_within}
+use Rattle.tcl_text.specs.Readings.{Place, between, in_braces, in_quotes, in_bare, closed, place_after, Reading, onto, begun, with_mark, at_end, reading, elements, list_of}
+use Rattle.tcl_text.specs.Splitting.{ReadsTo, StepsInBraces, FindsBrace, Unescapes, within, ends, ended, is_behind_element, items_before}
+use Rattle.tcl_text.proofs.BackslashLemmas.{escape_within, escape_short}
 use Rattle.tcl_text.proofs.Utf8Lemmas.{cut_at_ascii, escape_utf8}
 use Rattle.tcl_text.specs.declared.splitting.ByteKind.{ByteKind}
 use Rattle.tcl_text.specs.declared.splitting.ByteKind.TheVariants.{White, OpenBrace, CloseBrace, Quote, Backslash, Other}
@@ -28,7 +28,7 @@ marks_past-drop (suc n) [] = refl
 marks_past-drop (suc n) (b ∷ bs) = marks_past-drop n bs
 
 -- what the tests say of a byte of a kind
-abbrev Tells : ByteKind → Bool → Bool → Bool → Bool → Bool → Type 0
+abbrev pub Tells : ByteKind → Bool → Bool → Bool → Bool → Bool → Type 0
 Tells White white opening closing quote backslash = white ≡ true
 Tells OpenBrace white opening closing quote backslash = opening ≡ true
 Tells CloseBrace white opening closing quote backslash = closing ≡ true
@@ -36,7 +36,7 @@ Tells Quote white opening closing quote backslash = quote ≡ true
 Tells Backslash white opening closing quote backslash = backslash ≡ true
 Tells Other white opening closing quote backslash = (white ≡ false) × (opening ≡ false) × (closing ≡ false) × (quote ≡ false) × (backslash ≡ false)
 
-tells : (b : ℕ) → Tells (kind_of b) (is_white b) (nat_eq b 123) (nat_eq b 125) (nat_eq b 34) (nat_eq b 92)
+pub tells : (b : ℕ) → Tells (kind_of b) (is_white b) (nat_eq b 123) (nat_eq b 125) (nat_eq b 34) (nat_eq b 92)
 unfolding kind_of
 tells b = at (is_white b) (nat_eq b 123) (nat_eq b 125) (nat_eq b 34) (nat_eq b 92)
   where
@@ -48,7 +48,7 @@ tells b = at (is_white b) (nat_eq b 123) (nat_eq b 125) (nat_eq b 34) (nat_eq b 
     at false false false false true = refl
     at false false false false false = (refl, refl, refl, refl, refl)
 
-told : (b : ℕ) (k : ByteKind) → kind_of b ≡ k → Tells k (is_white b) (nat_eq b 123) (nat_eq b 125) (nat_eq b 34) (nat_eq b 92)
+pub told : (b : ℕ) (k : ByteKind) → kind_of b ≡ k → Tells k (is_white b) (nat_eq b 123) (nat_eq b 125) (nat_eq b 34) (nat_eq b 92)
 told b k is = subst (λ k. Tells k (is_white b) (nat_eq b 123) (nat_eq b 125) (nat_eq b 34) (nat_eq b 92)) is (tells b)
 
 -- a byte that is no backslash is a mark
@@ -219,6 +219,7 @@ Unescapes-run quoted text bytes at run h fits reads =
     record {
       fits = omega (arith, length-drop at text);
       reads = ReadsTo-step (within quoted) (within quoted) (within quoted) text bytes (take run rest) at run h.reads reads;
+      short = (let taken : length (take run rest) ≤ run = omega (arith, length-take run rest) in let before : length bytes ≤ at = h.short in omega (arith, length-append bytes (take run rest)));
       utf8 = λ whole. subst IsUtf8 (sym same) (h.utf8 whole);
     }
 
@@ -244,6 +245,7 @@ Unescapes-escape quoted text bytes at h inside slash =
           h.reads
           ∙ ap (onto bytes) (ap (λ rest. reading (within quoted) (marks rest)) opened ∙ escape_byte quoted behind ∙ ap (λ rest. onto (escape behind).meaning (reading (within quoted) (marks rest))) past)
           ∙ onto-onto bytes (escape behind).meaning _;
+      short = (let before : length bytes ≤ at = h.short in omega (arith, escape_short behind, length-append bytes (escape behind).meaning));
       utf8 = λ whole.
           let cut = cut_at_ascii bytes behind 92 (omega arith) (subst (λ rest. IsUtf8 (bytes ++ rest)) opened (h.utf8 whole)) in
           subst IsUtf8 (sym (append_assoc bytes (escape behind).meaning (drop (at + (n + 1)) text)))
@@ -265,3 +267,22 @@ Unescapes-escape_read quoted text bytes new slice at e is h inside slash taken w
     let same : e ≡ escape (drop (at + 1) text) = taken ∙ ap escape is in
     subst (λ xs. Unescapes quoted text xs (at + (e.length + 1))) (sym written)
     (subst (λ (e : Escape). Unescapes quoted text (bytes ++ e.meaning) (at + (e.length + 1))) (sym same) (Unescapes-escape quoted text bytes at h inside slash))
+
+-- ── an element and the list behind it ──
+
+opened : (r : Reading) → begun r ≡ ended (elements (begun r))
+opened (Ok r) = refl
+opened (Err f) = refl
+
+-- where the end or white space stands, no element is open
+pub reading_between : (ms : List Mark) → reading between ms ≡ ended (elements (reading between ms))
+reading_between [] = refl
+reading_between (m ∷ ms) = at m.kind m (reading (place_after between m.kind) ms) (reading_between ms)
+  where
+    at : (k : ByteKind) (m : Mark) (r : Reading) → reading between ms ≡ ended (elements (reading between ms)) → with_mark between k m (reading (place_after between k) ms) ≡ ended (elements (with_mark between k m (reading (place_after between k) ms)))
+    at White m r behind = behind
+    at OpenBrace m r behind = opened (reading (in_braces 0) ms)
+    at CloseBrace m r behind = opened (onto m.meant (reading in_bare ms))
+    at Quote m r behind = opened (reading in_quotes ms)
+    at Backslash m r behind = opened (onto m.meant (reading in_bare ms))
+    at Other m r behind = opened (onto m.meant (reading in_bare ms))

@@ -1,13 +1,13 @@
-ghost use Rattle.std.specs.Prelude.{◌≡◌, ◌+◌, ◌<◌, ◌≤◌, ◌++◌, ◌^◌, take, drop, length, codes, IfOk, OnOk};
+ghost use Rattle.std.specs.Prelude.{◌≡◌, ◌+◌, ◌<◌, ◌≤◌, ◌++◌, ◌^◌, take, drop, length, codes, IfOk, OnOk, true, false, slice_index};
 ghost use Rattle.tcl_text.specs.Backslash as backslash;
 ghost use Rattle.tcl_text.specs.Escaped.{bytes_meant};
 ghost use Rattle.tcl_text.specs.Readings as readings;
-ghost use Rattle.tcl_text.specs.Splitting.{FindsBrace, IsAtEnd, IsAtStop, ReadsTo, StepsInBraces, Unescapes, ends, within};
+ghost use Rattle.tcl_text.specs.Splitting.{FindsBrace, GivesBehind, GivesElement, GivesItem, IsAtEnd, IsAtStop, ReadsTo, Splits, StepsInBraces, Unescapes, ends, is_behind_element, begins_bare, within};
 
 use crate::backslash::{Meaning, escape_behind};
 use crate::list::TextList;
 use crate::text::Text;
-use crate::white_space::is_white;
+use crate::white_space::{is_white, skip_white};
 use std::alloc::{AllocError, AllocFailed, Global};
 use thiserror::Error;
 
@@ -45,6 +45,17 @@ pub enum SplitFault {
     /// Memory was refused.
     #[error("out of memory")]
     NoMemory,
+}
+
+impl From<AllocError> for SplitFault {
+    ghost use Rattle.std.specs.Prelude.{◌≡◌};
+    ghost use Rattle.tcl_text.specs.declared.splitting.SplitFault.TheVariants.{NoMemory};
+
+    ghost from_gives = { λ _ e. e ≡ NoMemory };
+
+    fn from(_refused: AllocError) -> SplitFault {
+        SplitFault::NoMemory
+    }
 }
 
 /// What the byte is to the form of a list.
@@ -151,5 +162,123 @@ fn unescaped(alloc: Global, text: &[u8], quoted: bool) -> Result<(Vec<u8>, usize
         let escape = escape_behind(&text[at + 1..]);
         push_meaning(&mut bytes, escape.meaning)?;
         at += escape.length + 1;
+    }
+}
+
+/// What an element in quotes or a bare one is, and how many bytes it is written in up to its end.
+fn item_in(alloc: Global, text: &str, quoted: bool) -> Result<(Text, usize), AllocError>
+    requires { length text.now ≤ 65536 }
+    ensures read { IfOk result (λ r. Unescapes quoted text.now r.0 r.1) }
+    ensures end { IfOk result (λ r. IsAtEnd quoted text.now r.1) }
+{
+    let bytes = text.as_bytes();
+    let run = run_len(bytes, quoted);
+    if run == bytes.len() || bytes[run] != b'\\' {
+        return Ok((Text::of_short(alloc, &text[..run])?, run));
+    }
+    let (item, length) = unescaped(alloc, bytes, quoted)?;
+    Ok((Text::of_bytes(alloc, item)?, length))
+}
+
+/// Whether an element may end before these bytes: they are none, or begin with white space.
+fn is_behind_element(text: &[u8]) -> bool
+    ensures { result ≡ is_behind_element text.now }
+{
+    match text.first() {
+        Some(byte) => is_white(*byte),
+        None => true,
+    }
+}
+
+/// The text behind a closing brace or quote, if an element may end there.
+fn behind_closing(text: &str, at: usize) -> Option<&str>
+    requires inside { at < length text.now }
+    requires closing { slice_index text.now at < 128 }
+    ensures { GivesBehind text.now at result }
+{
+    let behind = &text[at + 1..];
+    if is_behind_element(behind.as_bytes()) {
+        Some(behind)
+    } else {
+        None
+    }
+}
+
+/// The item that stands in braces, from behind the opening one, and the text behind it.
+fn braced(alloc: Global, text: &str) -> Result<(Text, &str), SplitFault>
+    requires { length text.now ≤ 65536 }
+    ensures { GivesItem (readings.in_braces 0) text.now result }
+{
+    let Some(length) = braced_len(text.as_bytes()) else {
+        return Err(SplitFault::BadList(ListFault::OpenBrace));
+    };
+    let Some(behind) = behind_closing(text, length) else {
+        return Err(SplitFault::BadList(ListFault::ExtraCharacters));
+    };
+    Ok((Text::of_short(alloc, &text[..length])?, behind))
+}
+
+/// The item that stands in quotes, from behind the opening one, and the text behind it.
+fn quoted(alloc: Global, text: &str) -> Result<(Text, &str), SplitFault>
+    requires { length text.now ≤ 65536 }
+    ensures { GivesItem readings.in_quotes text.now result }
+{
+    let (item, length) = item_in(alloc, text, true)?;
+    if length == text.len() {
+        return Err(SplitFault::BadList(ListFault::OpenQuote));
+    }
+    let Some(behind) = behind_closing(text, length) else {
+        return Err(SplitFault::BadList(ListFault::ExtraCharacters));
+    };
+    Ok((item, behind))
+}
+
+/// The bare item in front, and the text behind it.
+fn bare(alloc: Global, text: &str) -> Result<(Text, &str), SplitFault>
+    requires some { 0 < length text.now }
+    requires short { length text.now ≤ 65536 }
+    requires begins { begins_bare (backslash.kind_of (slice_index text.now 0)) ≡ true }
+    ensures { GivesElement text.now result }
+{
+    let (item, length) = item_in(alloc, text, false)?;
+    Ok((item, &text[length..]))
+}
+
+/// The first element of a list, and the text behind it.
+fn first_element(alloc: Global, text: &str) -> Result<(Text, &str), SplitFault>
+    requires some { 0 < length text.now }
+    requires short { length text.now ≤ 65536 }
+    requires black { backslash.is_white (slice_index text.now 0) ≡ false }
+    ensures { GivesElement text.now result }
+{
+    match kind(text.as_bytes()[0]) {
+        ByteKind::OpenBrace => braced(alloc, &text[1..]),
+        ByteKind::Quote => quoted(alloc, &text[1..]),
+        _ => bare(alloc, text),
+    }
+}
+
+/// The text behind the white space in front.
+fn trimmed(text: &str) -> &str
+    ensures { result.now ≡ readings.skip_white text.now }
+{
+    let behind = skip_white(text.as_bytes());
+    &text[text.len() - behind.len()..]
+}
+
+impl Text {
+    /// The elements of the list that the text is, by the rules of Tcl's lindex(n): in braces, in quotes or bare, with white
+    /// space between them.
+    pub fn split_list(&self, alloc: Global) -> Result<TextList, SplitFault>
+        ensures { Splits result (readings.list_of self.now) }
+    {
+        let mut items = TextList::new(alloc);
+        let mut rest = trimmed(self.as_str());
+        while !rest.is_empty() {
+            let (item, behind) = first_element(alloc, rest)?;
+            items.push(item)?;
+            rest = trimmed(behind);
+        }
+        Ok(items)
     }
 }

@@ -1,4 +1,4 @@
-ghost use Rattle.std.specs.Prelude.{◌≡◌, ◌<◌, ◌≤◌, ◌↔◌, length, IfOk, IsErrOf};
+ghost use Rattle.std.specs.Prelude.{◌≡◌, ◌<◌, ◌≤◌, ◌↔◌, length, IfOk, IsErrOf, IsUtf8};
 
 use std::alloc::{AllocError, AllocFailed, Global};
 use std::marker::Model;
@@ -75,6 +75,18 @@ impl Text {
         ensures { IfOk result (λ text. text ≡ characters.now) }
     {
         let string = String::from_str(alloc, characters)?;
+        Ok(Text {
+            string: Rc::new(alloc, string)?,
+        })
+    }
+
+    /// A text of bytes that are known to be one, and few enough.
+    pub(crate) fn of_bytes(alloc: Global, bytes: Vec<u8>) -> Result<Text, AllocError>
+        requires utf8 { IsUtf8 bytes.items }
+        requires short { length bytes.items ≤ 65536 }
+        ensures { IfOk result (λ text. text ≡ bytes.items) }
+    {
+        let string = String::from_utf8(bytes).unwrap();
         Ok(Text {
             string: Rc::new(alloc, string)?,
         })

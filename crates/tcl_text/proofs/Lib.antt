@@ -9,3 +9,4 @@ pub mod BackslashLemmas
 pub mod SplittingLemmas
 pub mod Utf8Lemmas
 pub mod ElementLemmas
+pub mod ListFormLemmas

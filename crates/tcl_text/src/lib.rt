@@ -5,6 +5,7 @@ mod backslash;
 mod boolean;
 mod integer;
 mod list;
+mod list_form;
 mod splitting;
 mod text;
 mod white_space;

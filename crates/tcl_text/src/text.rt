@@ -1,4 +1,4 @@
-ghost use Rattle.std.specs.Prelude.{◌≡◌, ◌<◌, ◌≤◌, ◌↔◌, length, IfOk, IsErrOf, IsUtf8};
+ghost use Rattle.std.specs.Prelude.{◌≡◌, ◌<◌, ◌≤◌, ◌↔◌, length, IfOk, IsErrOf, IsUtf8, string_bytes, string_len};
 
 use std::alloc::{AllocError, AllocFailed, Global};
 use std::marker::Model;
@@ -69,7 +69,7 @@ impl Text {
         Ok(Text::of_short(alloc, characters)?)
     }
 
-    /// A text of characters that are known to be few enough.
+    /// A text of these characters, which are known to be few enough.
     pub(crate) fn of_short(alloc: Global, characters: &str) -> Result<Text, AllocError>
         requires { length characters.now ≤ 65536 }
         ensures { IfOk result (λ text. text ≡ characters.now) }
@@ -86,7 +86,14 @@ impl Text {
         requires short { length bytes.items ≤ 65536 }
         ensures { IfOk result (λ text. text ≡ bytes.items) }
     {
-        let string = String::from_utf8(bytes).unwrap();
+        Text::of_string(alloc, String::from_utf8(bytes).unwrap())
+    }
+
+    /// A text of characters that are known to be few enough.
+    pub(crate) fn of_string(alloc: Global, string: String) -> Result<Text, AllocError>
+        requires { string_len string ≤ 65536 }
+        ensures { IfOk result (λ text. text ≡ string_bytes string) }
+    {
         Ok(Text {
             string: Rc::new(alloc, string)?,
         })

@@ -11,3 +11,4 @@ pub mod SplittingLemmas
 pub mod Utf8Lemmas
 pub mod ElementLemmas
 pub mod ListFormLemmas
+pub mod ListReading

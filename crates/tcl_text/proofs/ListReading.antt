@@ -36,6 +36,9 @@ record BareBehind (ms : List Mark) (item : List ℕ) (items : List (List ℕ)) :
 abbrev no_quote : List Mark → Bool
 no_quote ms = list_all (λ m. not (is_quote_mark m)) ms
 
+some_is : (a b : ℕ) → Some a ≡ Some b → a ≡ b
+some_is a b e = cc
+
 -- what a reading from a place says
 abbrev Says : Place → List Mark → List ℕ → List (List ℕ) → Type 0
 Says between ms item items = (item ≡ []) × AreElements ms items
@@ -244,3 +247,139 @@ IsList-from_list_of text items e = at (reading between (marks text)) refl e
   at : (r : Reading) → reading between (marks text) ≡ r → elements r ≡ Ok items → IsList text items
   at (Ok r) is f = subst (IsList text) (same_items r.1 items f) (said (marks text) between r.0 r.1 is).1
   at (Err f) is g = absurd (no_items f items g)
+
+-- ── from the relation to the function ──
+
+onto-onto_nil : (r : Reading) → onto [] r ≡ r
+onto-onto_nil (Ok r) = refl
+onto-onto_nil (Err f) = refl
+
+onto-twice : (xs ys : List ℕ) (r : Reading) → onto xs (onto ys r) ≡ onto (xs ++ ys) r
+onto-twice xs ys (Ok r) = ap (λ (bytes : List ℕ). let read : Reading = Ok (bytes, r.1) in read) (sym (append_assoc xs ys r.0))
+onto-twice xs ys (Err f) = refl
+
+-- white space in front changes no reading
+reads_white : (white ms : List Mark) → list_all is_white_mark white ≡ true → reading between (white ++ ms) ≡ reading between ms
+reads_white [] ms all = refl
+reads_white (m ∷ white) ms all =
+    let parts = and_parts (is_white_mark m) (list_all is_white_mark white) all in
+    at m.kind parts.0 (λ place. reading place (white ++ ms)) ∙ reads_white white ms parts.1
+  where
+  at : (k : ByteKind) → elim k [ White ↦ true | _ ↦ false ] ≡ true → (r : Place → Reading) → with_mark between k m (r (place_after between k)) ≡ r between
+  at White w r = refl
+  at OpenBrace w r = absurd cc
+  at CloseBrace w r = absurd cc
+  at Quote w r = absurd cc
+  at Backslash w r = absurd cc
+  at Other w r = absurd cc
+
+white_kind_of : (m : Mark) → is_white_mark m ≡ true → m.kind ≡ White
+white_kind_of m white = at m.kind white
+  where
+  at : (k : ByteKind) → elim k [ White ↦ true | _ ↦ false ] ≡ true → k ≡ White
+  at White w = refl
+  at OpenBrace w = absurd cc
+  at CloseBrace w = absurd cc
+  at Quote w = absurd cc
+  at Backslash w = absurd cc
+  at Other w = absurd cc
+
+-- an element may end where white space or the end stands
+reads_end : (rest : List Mark) → IsElementEnd rest → (reading closed rest ≡ reading between rest) × (reading in_bare rest ≡ reading between rest)
+reads_end [] end = (refl, refl)
+reads_end (m ∷ ms) end =
+    let white = white_kind_of m end in (
+      ap (λ k. with_mark closed k m (reading (place_after closed k) ms)) white ∙ sym (ap (λ k. with_mark between k m (reading (place_after between k) ms)) white),
+      ap (λ k. with_mark in_bare k m (reading (place_after in_bare k) ms)) white ∙ sym (ap (λ k. with_mark between k m (reading (place_after between k) ms)) white),
+    )
+
+-- a bare element
+reads_bare : (inside rest : List Mark) → list_all (λ m. not (is_white_mark m)) inside ≡ true → IsElementEnd rest → reading in_bare (inside ++ rest) ≡ onto (meant inside) (reading between rest)
+reads_bare [] rest all end = (reads_end rest end).1 ∙ sym (onto-onto_nil (reading between rest))
+reads_bare (m ∷ inside) rest all end =
+    let parts = and_parts (not (is_white_mark m)) (list_all (λ m. not (is_white_mark m)) inside) all in
+    at m.kind parts.0 (λ place. reading place (inside ++ rest)) ∙ ap (onto m.meant) (reads_bare inside rest parts.1 end) ∙ onto-twice m.meant (meant inside) (reading between rest)
+  where
+  at : (k : ByteKind) → not (elim k [ White ↦ true | _ ↦ false ]) ≡ true → (r : Place → Reading) → with_mark in_bare k m (r (place_after in_bare k)) ≡ onto m.meant (r in_bare)
+  at White w r = absurd cc
+  at OpenBrace w r = refl
+  at CloseBrace w r = refl
+  at Quote w r = refl
+  at Backslash w r = refl
+  at Other w r = refl
+
+-- an element in quotes
+reads_quotes : (inside rest : List Mark) (last : Mark) → no_quote inside ≡ true → last.kind ≡ Quote → IsElementEnd rest → reading in_quotes (inside ++ last ∷ rest) ≡ onto (meant inside) (reading between rest)
+reads_quotes [] rest last all closes end =
+    ap (λ k. with_mark in_quotes k last (reading (place_after in_quotes k) rest)) closes ∙ (reads_end rest end).0 ∙ sym (onto-onto_nil (reading between rest))
+reads_quotes (m ∷ inside) rest last all closes end =
+    let parts = and_parts (not (is_quote_mark m)) (no_quote inside) all in
+    at m.kind parts.0 (λ place. reading place (inside ++ last ∷ rest)) ∙ ap (onto m.meant) (reads_quotes inside rest last parts.1 closes end) ∙ onto-twice m.meant (meant inside) (reading between rest)
+  where
+  at : (k : ByteKind) → not (elim k [ Quote ↦ true | _ ↦ false ]) ≡ true → (r : Place → Reading) → with_mark in_quotes k m (r (place_after in_quotes k)) ≡ onto m.meant (r in_quotes)
+  at Quote w r = absurd cc
+  at OpenBrace w r = refl
+  at CloseBrace w r = refl
+  at White w r = refl
+  at Backslash w r = refl
+  at Other w r = refl
+
+-- a mark in braces, by the depth behind it
+braces_mark : (depth next : ℕ) (k : ByteKind) (m : Mark) (r : Place → Reading) → depth_after depth k ≡ Some next → with_mark (in_braces depth) k m (r (place_after (in_braces depth) k)) ≡ onto m.written (r (in_braces next))
+braces_mark zero next OpenBrace m r to = ap (λ d. onto m.written (r (in_braces d))) (some_is 1 next to)
+braces_mark (suc depth) next OpenBrace m r to = ap (λ d. onto m.written (r (in_braces d))) (some_is (suc (suc depth)) next to)
+braces_mark zero next CloseBrace m r to = absurd cc
+braces_mark (suc depth) next CloseBrace m r to = ap (λ d. onto m.written (r (in_braces d))) (some_is depth next to)
+braces_mark zero next White m r to = ap (λ d. onto m.written (r (in_braces d))) (some_is 0 next to)
+braces_mark (suc depth) next White m r to = ap (λ d. onto m.written (r (in_braces d))) (some_is (suc depth) next to)
+braces_mark zero next Quote m r to = ap (λ d. onto m.written (r (in_braces d))) (some_is 0 next to)
+braces_mark (suc depth) next Quote m r to = ap (λ d. onto m.written (r (in_braces d))) (some_is (suc depth) next to)
+braces_mark zero next Backslash m r to = ap (λ d. onto m.written (r (in_braces d))) (some_is 0 next to)
+braces_mark (suc depth) next Backslash m r to = ap (λ d. onto m.written (r (in_braces d))) (some_is (suc depth) next to)
+braces_mark zero next Other m r to = ap (λ d. onto m.written (r (in_braces d))) (some_is 0 next to)
+braces_mark (suc depth) next Other m r to = ap (λ d. onto m.written (r (in_braces d))) (some_is (suc depth) next to)
+
+-- an element in braces
+reads_braces : (depth : ℕ) (inside rest : List Mark) (last : Mark) → are_balanced depth inside ≡ true → last.kind ≡ CloseBrace → IsElementEnd rest → reading (in_braces depth) (inside ++ last ∷ rest) ≡ onto (written inside) (reading between rest)
+reads_braces depth [] rest last all closes end =
+    ap (λ d. reading (in_braces d) (last ∷ rest)) (eqb-true depth 0 all) ∙ ap (λ k. with_mark (in_braces 0) k last (reading (place_after (in_braces 0) k) rest)) closes ∙ (reads_end rest end).0
+    ∙ sym (onto-onto_nil (reading between rest))
+reads_braces depth (m ∷ inside) rest last all closes end = at (depth_after depth m.kind) refl all (λ next. reads_braces next inside rest last)
+  where
+  at : (next : Option ℕ) → depth_after depth m.kind ≡ next → option_map_or (λ next. are_balanced next inside) next false ≡ true →
+    ((next : ℕ) → are_balanced next inside ≡ true → last.kind ≡ CloseBrace → IsElementEnd rest → reading (in_braces next) (inside ++ last ∷ rest) ≡ onto (written inside) (reading between rest)) →
+    reading (in_braces depth) ((m ∷ inside) ++ last ∷ rest) ≡ onto (written (m ∷ inside)) (reading between rest)
+  at None is fits more = absurd cc
+  at (Some next) is fits more =
+      braces_mark depth next m.kind m (λ place. reading place (inside ++ last ∷ rest)) is ∙ ap (onto m.written) (more next fits closes end) ∙ onto-twice m.written (written inside) (reading between rest)
+
+-- an element
+reads_element : (element rest : List Mark) (item : List ℕ) → IsElement element item → IsElementEnd rest → reading between (element ++ rest) ≡ begun (onto item (reading between rest))
+reads_element element rest item (braced first last inside opens closes fits) end =
+    ap (λ k. with_mark between k first (reading (place_after between k) ((inside ++ last ∷ []) ++ rest))) opens
+    ∙ ap (λ ms. begun (reading (in_braces 0) ms)) (append_assoc inside (last ∷ []) rest) ∙ ap begun (reads_braces 0 inside rest last fits closes end)
+reads_element element rest item (quoted first last inside opens closes fits) end =
+    ap (λ k. with_mark between k first (reading (place_after between k) ((inside ++ last ∷ []) ++ rest))) opens
+    ∙ ap (λ ms. begun (reading in_quotes ms)) (append_assoc inside (last ∷ []) rest) ∙ ap begun (reads_quotes inside rest last fits closes end)
+reads_element element rest item (bare first others opening quote fits) end =
+    at first.kind opening quote (and_parts (not (is_white_mark first)) (list_all (λ m. not (is_white_mark m)) others) fits).0 (λ place. reading place (others ++ rest)) ∙ ap begun (reads_bare (first ∷ others) rest fits end)
+  where
+  at : (k : ByteKind) → k ≢ OpenBrace → k ≢ Quote → not (elim k [ White ↦ true | _ ↦ false ]) ≡ true → (r : Place → Reading) → with_mark between k first (r (place_after between k)) ≡ begun (with_mark in_bare k first (r (place_after in_bare k)))
+  at White o q w r = absurd cc
+  at OpenBrace o q w r = absurd (o refl)
+  at CloseBrace o q w r = refl
+  at Quote o q w r = absurd (q refl)
+  at Backslash o q w r = refl
+  at Other o q w r = refl
+
+-- the elements of a list
+reads_elements : (ms : List Mark) (items : List (List ℕ)) → AreElements ms items → reading between ms ≡ Ok ([], items)
+reads_elements ms [] h = ap (reading between) (sym (append-nil ms)) ∙ reads_white ms [] h
+reads_elements ms (item ∷ items) h =
+    ap (reading between) h.3 ∙ reads_white h.0 (h.1 ++ h.2) h.4 ∙ reads_element h.1 h.2 item h.5 h.6 ∙ ap (λ r. begun (onto item r)) (reads_elements h.2 items h.7)
+    ∙ ap (λ (bytes : List ℕ). let read : Reading = Ok ([], bytes ∷ items) in read) (append-nil item)
+
+-- what is related the function reads
+pub list_of-from_IsList : (text : List ℕ) (items : List (List ℕ)) → IsList text items → list_of text ≡ Ok items
+unfolding list_of
+list_of-from_IsList text items h = ap elements (reads_elements (marks text) items h)

@@ -12,3 +12,4 @@ pub mod Utf8Lemmas
 pub mod ElementLemmas
 pub mod ListFormLemmas
 pub mod ListReading
+pub mod RoundTrip

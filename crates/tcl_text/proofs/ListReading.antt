@@ -259,7 +259,7 @@ onto-twice xs ys (Ok r) = ap (λ (bytes : List ℕ). let read : Reading = Ok (by
 onto-twice xs ys (Err f) = refl
 
 -- white space in front changes no reading
-reads_white : (white ms : List Mark) → list_all is_white_mark white ≡ true → reading between (white ++ ms) ≡ reading between ms
+pub reads_white : (white ms : List Mark) → list_all is_white_mark white ≡ true → reading between (white ++ ms) ≡ reading between ms
 reads_white [] ms all = refl
 reads_white (m ∷ white) ms all =
     let parts = and_parts (is_white_mark m) (list_all is_white_mark white) all in
@@ -354,7 +354,7 @@ reads_braces depth (m ∷ inside) rest last all closes end = at (depth_after dep
       braces_mark depth next m.kind m (λ place. reading place (inside ++ last ∷ rest)) is ∙ ap (onto m.written) (more next fits closes end) ∙ onto-twice m.written (written inside) (reading between rest)
 
 -- an element
-reads_element : (element rest : List Mark) (item : List ℕ) → IsElement element item → IsElementEnd rest → reading between (element ++ rest) ≡ begun (onto item (reading between rest))
+pub reads_element : (element rest : List Mark) (item : List ℕ) → IsElement element item → IsElementEnd rest → reading between (element ++ rest) ≡ begun (onto item (reading between rest))
 reads_element element rest item (braced first last inside opens closes fits) end =
     ap (λ k. with_mark between k first (reading (place_after between k) ((inside ++ last ∷ []) ++ rest))) opens
     ∙ ap (λ ms. begun (reading (in_braces 0) ms)) (append_assoc inside (last ∷ []) rest) ∙ ap begun (reads_braces 0 inside rest last fits closes end)

@@ -13,3 +13,4 @@ pub mod ElementLemmas
 pub mod ListFormLemmas
 pub mod ListReading
 pub mod RoundTrip
+pub mod WrittenIntegers

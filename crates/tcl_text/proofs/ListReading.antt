@@ -7,7 +7,11 @@ use Rattle.tcl_text.specs.Backslash.{Mark, marks}
 use Rattle.tcl_text.specs.Readings.{AreElements, IsElement, IsElementEnd, IsList, Place, Reading, are_balanced, bare, between, braced, closed, depth_after, elements, in_bare, in_braces, in_quotes, is_quote_mark, is_white_mark, list_of, meant, onto, begun, place_after, quoted, reading, with_mark, written}
 use Rattle.tcl_text.specs.declared.splitting.ByteKind.{ByteKind}
 use Rattle.tcl_text.specs.declared.splitting.ByteKind.TheVariants.{White, OpenBrace, CloseBrace, Quote, Backslash, Other}
+use Rattle.tcl_text.specs.Splitting.{Splits}
+use Rattle.std.specs.Prelude.{IfOk}
 use Rattle.tcl_text.specs.declared.splitting.ListFault.{ListFault}
+use Rattle.tcl_text.specs.declared.splitting.SplitFault.{SplitFault}
+use Rattle.tcl_text.specs.declared.splitting.SplitFault.TheVariants.{BadList, NoMemory}
 
 -- ── from the function to the relation ──
 
@@ -56,8 +60,8 @@ element_first : (element rest : List Mark) (item : List ℕ) (items : List (List
 element_first element rest item items h end others = ([], element, rest, refl, refl, h, end, others)
 
 closed_first : (first : Mark) (inner : List Mark → Bool) (kind : ByteKind) (says : List Mark → List ℕ) (ms : List Mark) (item : List ℕ) (items : List (List ℕ)) →
-  ((inside : List Mark) (last : Mark) → last.kind ≡ kind → inner inside ≡ true → IsElement (first ∷ (inside ++ last ∷ [])) (says inside)) →
-  ClosesBehind inner kind says ms item items → AreElements (first ∷ ms) (item ∷ items)
+    ((inside : List Mark) (last : Mark) → last.kind ≡ kind → inner inside ≡ true → IsElement (first ∷ (inside ++ last ∷ [])) (says inside)) →
+    ClosesBehind inner kind says ms item items → AreElements (first ∷ ms) (item ∷ items)
 closed_first first inner kind says ms item items makes h =
     let element = first ∷ (h.inside ++ h.last ∷ []) in
     let cut : element ++ h.rest ≡ first ∷ ms = ap (λ xs. first ∷ xs) (append_assoc h.inside (h.last ∷ []) h.rest ∙ sym h.cut) in
@@ -70,7 +74,7 @@ same_ok r s e = cc
 not_err : (f : ListFault) (s : List ℕ × List (List ℕ)) → ◌≡◌ {A = Reading} (Err f) (Ok s) → ⊥
 not_err f s e = cc
 
-same_items : (xs ys : List (List ℕ)) → ◌≡◌ {A = Result (List (List ℕ)) ListFault} (Ok xs) (Ok ys) → xs ≡ ys
+pub same_items : (xs ys : List (List ℕ)) → ◌≡◌ {A = Result (List (List ℕ)) ListFault} (Ok xs) (Ok ys) → xs ≡ ys
 same_items xs ys e = cc
 
 no_items : (f : ListFault) (ys : List (List ℕ)) → ◌≡◌ {A = Result (List (List ℕ)) ListFault} (Err f) (Ok ys) → ⊥
@@ -92,8 +96,8 @@ begun_parts (Err f) item items e = absurd (not_err f (item, items) e)
 
 -- one mark more inside
 inside_more : (inner inner_before : List Mark → Bool) (kind : ByteKind) (says : List Mark → List ℕ) (m : Mark) (ms : List Mark) (bytes item behind : List ℕ) (items : List (List ℕ)) →
-  ((inside : List Mark) → inner inside ≡ true → inner_before (m ∷ inside) ≡ true) → ((inside : List Mark) → says (m ∷ inside) ≡ bytes ++ says inside) → item ≡ bytes ++ behind →
-  ClosesBehind inner kind says ms behind items → ClosesBehind inner_before kind says (m ∷ ms) item items
+    ((inside : List Mark) → inner inside ≡ true → inner_before (m ∷ inside) ≡ true) → ((inside : List Mark) → says (m ∷ inside) ≡ bytes ++ says inside) → item ≡ bytes ++ behind →
+    ClosesBehind inner kind says ms behind items → ClosesBehind inner_before kind says (m ∷ ms) item items
 inside_more inner inner_before kind says m ms bytes item behind items keeps spells is h =
     record {
       inside = m ∷ h.inside;
@@ -150,7 +154,7 @@ module _ (m : Mark) (ms : List Mark) (behind : (place : Place) (item : List ℕ)
       (b.2, subst (AreElements (m ∷ ms)) (sym b.3) (subst (λ xs. AreElements xs (b.0.0 ∷ b.0.1)) (ap (λ xs. m ∷ xs) (sym h.cut)) first))
 
   closed_element : (place : Place) (inner : List Mark → Bool) (kind : ByteKind) (says : List Mark → List ℕ) → ((inside : List Mark) (last : Mark) → last.kind ≡ kind → inner inside ≡ true → IsElement (m ∷ (inside ++ last ∷ [])) (says inside)) →
-    ((item : List ℕ) (items : List (List ℕ)) → reading place ms ≡ Ok (item, items) → ClosesBehind inner kind says ms item items) → (item : List ℕ) (items : List (List ℕ)) → begun (reading place ms) ≡ Ok (item, items) → Says between (m ∷ ms) item items
+      ((item : List ℕ) (items : List (List ℕ)) → reading place ms ≡ Ok (item, items) → ClosesBehind inner kind says ms item items) → (item : List ℕ) (items : List (List ℕ)) → begun (reading place ms) ≡ Ok (item, items) → Says between (m ∷ ms) item items
   closed_element place inner kind says makes inside item items e =
       let b = begun_parts (reading place ms) item items e in
       (b.2, subst (AreElements (m ∷ ms)) (sym b.3) (closed_first m inner kind says ms b.0.0 b.0.1 makes (inside b.0.0 b.0.1 b.1)))
@@ -244,9 +248,9 @@ pub IsList-from_list_of : (text : List ℕ) (items : List (List ℕ)) → list_o
 unfolding list_of
 IsList-from_list_of text items e = at (reading between (marks text)) refl e
   where
-  at : (r : Reading) → reading between (marks text) ≡ r → elements r ≡ Ok items → IsList text items
-  at (Ok r) is f = subst (IsList text) (same_items r.1 items f) (said (marks text) between r.0 r.1 is).1
-  at (Err f) is g = absurd (no_items f items g)
+    at : (r : Reading) → reading between (marks text) ≡ r → elements r ≡ Ok items → IsList text items
+    at (Ok r) is f = subst (IsList text) (same_items r.1 items f) (said (marks text) between r.0 r.1 is).1
+    at (Err f) is g = absurd (no_items f items g)
 
 -- ── from the relation to the function ──
 
@@ -265,24 +269,24 @@ reads_white (m ∷ white) ms all =
     let parts = and_parts (is_white_mark m) (list_all is_white_mark white) all in
     at m.kind parts.0 (λ place. reading place (white ++ ms)) ∙ reads_white white ms parts.1
   where
-  at : (k : ByteKind) → elim k [ White ↦ true | _ ↦ false ] ≡ true → (r : Place → Reading) → with_mark between k m (r (place_after between k)) ≡ r between
-  at White w r = refl
-  at OpenBrace w r = absurd cc
-  at CloseBrace w r = absurd cc
-  at Quote w r = absurd cc
-  at Backslash w r = absurd cc
-  at Other w r = absurd cc
+    at : (k : ByteKind) → elim k [ White ↦ true | _ ↦ false ] ≡ true → (r : Place → Reading) → with_mark between k m (r (place_after between k)) ≡ r between
+    at White w r = refl
+    at OpenBrace w r = absurd cc
+    at CloseBrace w r = absurd cc
+    at Quote w r = absurd cc
+    at Backslash w r = absurd cc
+    at Other w r = absurd cc
 
 white_kind_of : (m : Mark) → is_white_mark m ≡ true → m.kind ≡ White
 white_kind_of m white = at m.kind white
   where
-  at : (k : ByteKind) → elim k [ White ↦ true | _ ↦ false ] ≡ true → k ≡ White
-  at White w = refl
-  at OpenBrace w = absurd cc
-  at CloseBrace w = absurd cc
-  at Quote w = absurd cc
-  at Backslash w = absurd cc
-  at Other w = absurd cc
+    at : (k : ByteKind) → elim k [ White ↦ true | _ ↦ false ] ≡ true → k ≡ White
+    at White w = refl
+    at OpenBrace w = absurd cc
+    at CloseBrace w = absurd cc
+    at Quote w = absurd cc
+    at Backslash w = absurd cc
+    at Other w = absurd cc
 
 -- an element may end where white space or the end stands
 reads_end : (rest : List Mark) → IsElementEnd rest → (reading closed rest ≡ reading between rest) × (reading in_bare rest ≡ reading between rest)
@@ -300,13 +304,13 @@ reads_bare (m ∷ inside) rest all end =
     let parts = and_parts (not (is_white_mark m)) (list_all (λ m. not (is_white_mark m)) inside) all in
     at m.kind parts.0 (λ place. reading place (inside ++ rest)) ∙ ap (onto m.meant) (reads_bare inside rest parts.1 end) ∙ onto-twice m.meant (meant inside) (reading between rest)
   where
-  at : (k : ByteKind) → not (elim k [ White ↦ true | _ ↦ false ]) ≡ true → (r : Place → Reading) → with_mark in_bare k m (r (place_after in_bare k)) ≡ onto m.meant (r in_bare)
-  at White w r = absurd cc
-  at OpenBrace w r = refl
-  at CloseBrace w r = refl
-  at Quote w r = refl
-  at Backslash w r = refl
-  at Other w r = refl
+    at : (k : ByteKind) → not (elim k [ White ↦ true | _ ↦ false ]) ≡ true → (r : Place → Reading) → with_mark in_bare k m (r (place_after in_bare k)) ≡ onto m.meant (r in_bare)
+    at White w r = absurd cc
+    at OpenBrace w r = refl
+    at CloseBrace w r = refl
+    at Quote w r = refl
+    at Backslash w r = refl
+    at Other w r = refl
 
 -- an element in quotes
 reads_quotes : (inside rest : List Mark) (last : Mark) → no_quote inside ≡ true → last.kind ≡ Quote → IsElementEnd rest → reading in_quotes (inside ++ last ∷ rest) ≡ onto (meant inside) (reading between rest)
@@ -316,13 +320,13 @@ reads_quotes (m ∷ inside) rest last all closes end =
     let parts = and_parts (not (is_quote_mark m)) (no_quote inside) all in
     at m.kind parts.0 (λ place. reading place (inside ++ last ∷ rest)) ∙ ap (onto m.meant) (reads_quotes inside rest last parts.1 closes end) ∙ onto-twice m.meant (meant inside) (reading between rest)
   where
-  at : (k : ByteKind) → not (elim k [ Quote ↦ true | _ ↦ false ]) ≡ true → (r : Place → Reading) → with_mark in_quotes k m (r (place_after in_quotes k)) ≡ onto m.meant (r in_quotes)
-  at Quote w r = absurd cc
-  at OpenBrace w r = refl
-  at CloseBrace w r = refl
-  at White w r = refl
-  at Backslash w r = refl
-  at Other w r = refl
+    at : (k : ByteKind) → not (elim k [ Quote ↦ true | _ ↦ false ]) ≡ true → (r : Place → Reading) → with_mark in_quotes k m (r (place_after in_quotes k)) ≡ onto m.meant (r in_quotes)
+    at Quote w r = absurd cc
+    at OpenBrace w r = refl
+    at CloseBrace w r = refl
+    at White w r = refl
+    at Backslash w r = refl
+    at Other w r = refl
 
 -- a mark in braces, by the depth behind it
 braces_mark : (depth next : ℕ) (k : ByteKind) (m : Mark) (r : Place → Reading) → depth_after depth k ≡ Some next → with_mark (in_braces depth) k m (r (place_after (in_braces depth) k)) ≡ onto m.written (r (in_braces next))
@@ -346,12 +350,12 @@ reads_braces depth [] rest last all closes end =
     ∙ sym (onto-onto_nil (reading between rest))
 reads_braces depth (m ∷ inside) rest last all closes end = at (depth_after depth m.kind) refl all (λ next. reads_braces next inside rest last)
   where
-  at : (next : Option ℕ) → depth_after depth m.kind ≡ next → option_map_or (λ next. are_balanced next inside) next false ≡ true →
-    ((next : ℕ) → are_balanced next inside ≡ true → last.kind ≡ CloseBrace → IsElementEnd rest → reading (in_braces next) (inside ++ last ∷ rest) ≡ onto (written inside) (reading between rest)) →
-    reading (in_braces depth) ((m ∷ inside) ++ last ∷ rest) ≡ onto (written (m ∷ inside)) (reading between rest)
-  at None is fits more = absurd cc
-  at (Some next) is fits more =
-      braces_mark depth next m.kind m (λ place. reading place (inside ++ last ∷ rest)) is ∙ ap (onto m.written) (more next fits closes end) ∙ onto-twice m.written (written inside) (reading between rest)
+    at : (next : Option ℕ) → depth_after depth m.kind ≡ next → option_map_or (λ next. are_balanced next inside) next false ≡ true →
+        ((next : ℕ) → are_balanced next inside ≡ true → last.kind ≡ CloseBrace → IsElementEnd rest → reading (in_braces next) (inside ++ last ∷ rest) ≡ onto (written inside) (reading between rest)) →
+        reading (in_braces depth) ((m ∷ inside) ++ last ∷ rest) ≡ onto (written (m ∷ inside)) (reading between rest)
+    at None is fits more = absurd cc
+    at (Some next) is fits more =
+        braces_mark depth next m.kind m (λ place. reading place (inside ++ last ∷ rest)) is ∙ ap (onto m.written) (more next fits closes end) ∙ onto-twice m.written (written inside) (reading between rest)
 
 -- an element
 pub reads_element : (element rest : List Mark) (item : List ℕ) → IsElement element item → IsElementEnd rest → reading between (element ++ rest) ≡ begun (onto item (reading between rest))
@@ -364,13 +368,13 @@ reads_element element rest item (quoted first last inside opens closes fits) end
 reads_element element rest item (bare first others opening quote fits) end =
     at first.kind opening quote (and_parts (not (is_white_mark first)) (list_all (λ m. not (is_white_mark m)) others) fits).0 (λ place. reading place (others ++ rest)) ∙ ap begun (reads_bare (first ∷ others) rest fits end)
   where
-  at : (k : ByteKind) → k ≢ OpenBrace → k ≢ Quote → not (elim k [ White ↦ true | _ ↦ false ]) ≡ true → (r : Place → Reading) → with_mark between k first (r (place_after between k)) ≡ begun (with_mark in_bare k first (r (place_after in_bare k)))
-  at White o q w r = absurd cc
-  at OpenBrace o q w r = absurd (o refl)
-  at CloseBrace o q w r = refl
-  at Quote o q w r = absurd (q refl)
-  at Backslash o q w r = refl
-  at Other o q w r = refl
+    at : (k : ByteKind) → k ≢ OpenBrace → k ≢ Quote → not (elim k [ White ↦ true | _ ↦ false ]) ≡ true → (r : Place → Reading) → with_mark between k first (r (place_after between k)) ≡ begun (with_mark in_bare k first (r (place_after in_bare k)))
+    at White o q w r = absurd cc
+    at OpenBrace o q w r = absurd (o refl)
+    at CloseBrace o q w r = refl
+    at Quote o q w r = absurd (q refl)
+    at Backslash o q w r = refl
+    at Other o q w r = refl
 
 -- the elements of a list
 reads_elements : (ms : List Mark) (items : List (List ℕ)) → AreElements ms items → reading between ms ≡ Ok ([], items)
@@ -383,3 +387,17 @@ reads_elements ms (item ∷ items) h =
 pub list_of-from_IsList : (text : List ℕ) (items : List (List ℕ)) → IsList text items → list_of text ≡ Ok items
 unfolding list_of
 list_of-from_IsList text items h = ap elements (reads_elements (marks text) items h)
+
+-- ── what a split answers ──
+
+pub splits_read : (r : Result (List (List ℕ)) SplitFault) (text : List ℕ) → Splits r (list_of text) → IfOk r (λ items. IsList text items)
+splits_read (Ok items) text h = IsList-from_list_of text items h
+splits_read (Err (BadList fault)) text h = tt
+splits_read (Err NoMemory) text h = tt
+
+pub splits_only : (r : Result (List (List ℕ)) SplitFault) (text : List ℕ) → Splits r (list_of text) → (items : List (List ℕ)) → IsList text items → Splits r (Ok items)
+splits_only r text h items is = subst (Splits r) (list_of-from_IsList text items is) h
+
+pub splits_refused : (r : Result (List (List ℕ)) SplitFault) (text : List ℕ) → Splits r (list_of text) → (fault : ListFault) → r ≡ Err (BadList fault) → (items : List (List ℕ)) → IsList text items → ⊥
+splits_refused r text h fault e items is =
+    no_items fault items (sym (subst (λ r. Splits r (list_of text)) e h) ∙ list_of-from_IsList text items is)

@@ -21,7 +21,7 @@ digits-close base bound zero n xs ys small = refl
 digits-close base bound (suc most) n [] ys small = rw (le-ltb 36 base small) refl
 digits-close base bound (suc most) n (c ∷ cs) ys small =
     elim (cases_Bool (nat_lt (digit_value c) base && nat_le (n * base + digit_value c) bound)) [
-      inl fits ↦ rw fits (ap (λ (d : Digits). let more : Digits = record { value = d.value; count = suc d.count } in more) (digits-close base bound most (n * base + digit_value c) cs ys small))
+      | inl fits ↦ rw fits (ap (λ (d : Digits). let more : Digits = record { value = d.value; count = suc d.count } in more) (digits-close base bound most (n * base + digit_value c) cs ys small))
       | inr not ↦ rw not refl
     ]
 
@@ -35,9 +35,9 @@ escape-close c cs ys line =
     (at (nat_eq c 117) (numbered c 1) (digits-close 16 0xFFFF 4 0 cs ys (omega arith))
     (at (nat_eq c 85) (numbered c 1) (digits-close 16 0x10FFFF 8 0 cs ys (omega arith)) refl))))
   where
-  at : (test : Bool) (f : Digits → Escape) {d e : Digits} → d ≡ e → {x y : Escape} → x ≡ y → cond test (f d) x ≡ cond test (f e) y
-  at true f is other = ap f is
-  at false f is other = other
+    at : (test : Bool) (f : Digits → Escape) {d e : Digits} → d ≡ e → {x y : Escape} → x ≡ y → cond test (f d) x ≡ cond test (f e) y
+    at true f is other = ap f is
+    at false f is other = other
 
 joined_tail : (b : ℕ) (bs : List ℕ) → has_joined_line (b ∷ bs) ≡ false → has_joined_line bs ≡ false
 joined_tail b [] none = refl
@@ -50,25 +50,25 @@ marks_past-close (suc taken) [] rest fits none = absurd (omega arith)
 marks_past-close (suc taken) (b ∷ bs) rest fits none = marks_past-close taken bs rest (omega arith) (joined_tail b bs none)
 marks_past-close zero (b ∷ bs) rest fits none =
     elim (cases_Bool (nat_eq b 92)) [
-      inl slash ↦ rw slash (behind bs slash (joined_tail b bs none) none (λ taken fits. marks_past-close taken bs rest fits (joined_tail b bs none)))
+      | inl slash ↦ rw slash (behind bs slash (joined_tail b bs none) none (λ taken fits. marks_past-close taken bs rest fits (joined_tail b bs none)))
       | inr other ↦ rw other (ap (λ ms. byte_mark b ∷ ms) (marks_past-close 0 bs rest (omega arith) (joined_tail b bs none)))
     ]
   where
-  behind : (bs : List ℕ) → nat_eq b 92 ≡ true → has_joined_line bs ≡ false → has_joined_line (b ∷ bs) ≡ false →
-    ((taken : ℕ) → taken ≤ length bs → marks_past taken (bs ++ 125 ∷ rest) ≡ marks_past taken bs ++ byte_mark 125 ∷ marks_past 0 rest) →
-    escape_mark (bs ++ 125 ∷ rest) ∷ marks_past (escape (bs ++ 125 ∷ rest)).length (bs ++ 125 ∷ rest) ≡ escape_mark bs ∷ (marks_past (escape bs).length bs ++ byte_mark 125 ∷ marks_past 0 rest)
-  behind [] slash tail whole more = absurd (both_ways (nat_eq b 92) whole slash)
-  behind (c ∷ cs) slash tail whole more =
-      let line : nat_eq c 10 ≡ false = newline slash (or_parts (b == 92 && c == 10) (has_joined_line (c ∷ cs)) whole).0 in
-      let same : escape (c ∷ (cs ++ 125 ∷ rest)) ≡ escape (c ∷ cs) = escape-close c cs rest line in
-      let n = (escape (c ∷ cs)).length in
-      let within : n ≤ length (c ∷ cs) = escape_within (c ∷ cs) in
-      let at : Escape → List Mark = λ e. (record { kind = Backslash; written = 92 ∷ take e.length (c ∷ (cs ++ 125 ∷ rest)); meant = e.meaning }) ∷ marks_past e.length (c ∷ (cs ++ 125 ∷ rest)) in
-      let with_front : List ℕ → List Mark = λ xs. (record { kind = Backslash; written = 92 ∷ xs; meant = (escape (c ∷ cs)).meaning }) ∷ marks_past n (c ∷ (cs ++ 125 ∷ rest)) in
-      ap at same ∙ ap with_front (take-append-le n (c ∷ cs) (125 ∷ rest) within) ∙ ap (λ ms. escape_mark (c ∷ cs) ∷ ms) (more n within)
-    where
-    newline : nat_eq b 92 ≡ true → (nat_eq b 92 && nat_eq c 10) ≡ false → nat_eq c 10 ≡ false
-    newline slash both = rw slash at both
+    behind : (bs : List ℕ) → nat_eq b 92 ≡ true → has_joined_line bs ≡ false → has_joined_line (b ∷ bs) ≡ false →
+        ((taken : ℕ) → taken ≤ length bs → marks_past taken (bs ++ 125 ∷ rest) ≡ marks_past taken bs ++ byte_mark 125 ∷ marks_past 0 rest) →
+        escape_mark (bs ++ 125 ∷ rest) ∷ marks_past (escape (bs ++ 125 ∷ rest)).length (bs ++ 125 ∷ rest) ≡ escape_mark bs ∷ (marks_past (escape bs).length bs ++ byte_mark 125 ∷ marks_past 0 rest)
+    behind [] slash tail whole more = absurd (both_ways (nat_eq b 92) whole slash)
+    behind (c ∷ cs) slash tail whole more =
+        let line : nat_eq c 10 ≡ false = newline slash (or_parts (b == 92 && c == 10) (has_joined_line (c ∷ cs)) whole).0 in
+        let same : escape (c ∷ (cs ++ 125 ∷ rest)) ≡ escape (c ∷ cs) = escape-close c cs rest line in
+        let n = (escape (c ∷ cs)).length in
+        let within : n ≤ length (c ∷ cs) = escape_within (c ∷ cs) in
+        let at : Escape → List Mark = λ e. (record { kind = Backslash; written = 92 ∷ take e.length (c ∷ (cs ++ 125 ∷ rest)); meant = e.meaning }) ∷ marks_past e.length (c ∷ (cs ++ 125 ∷ rest)) in
+        let with_front : List ℕ → List Mark = λ xs. (record { kind = Backslash; written = 92 ∷ xs; meant = (escape (c ∷ cs)).meaning }) ∷ marks_past n (c ∷ (cs ++ 125 ∷ rest)) in
+        ap at same ∙ ap with_front (take-append-le n (c ∷ cs) (125 ∷ rest) within) ∙ ap (λ ms. escape_mark (c ∷ cs) ∷ ms) (more n within)
+      where
+        newline : nat_eq b 92 ≡ true → (nat_eq b 92 && nat_eq c 10) ≡ false → nat_eq c 10 ≡ false
+        newline slash both = rw slash at both
 
 -- marks are written as the text that they are the marks of
 written_marks : (taken : ℕ) (text : List ℕ) → written (marks_past taken text) ≡ drop taken text
@@ -77,8 +77,8 @@ written_marks (suc taken) [] = refl
 written_marks (suc taken) (b ∷ bs) = written_marks taken bs
 written_marks zero (b ∷ bs) =
     elim (cases_Bool (nat_eq b 92)) [
-      inl slash ↦ rw slash (
-        ap (λ xs. 92 ∷ (take (escape bs).length bs ++ xs)) (written_marks (escape bs).length bs) ∙ ap (λ xs. 92 ∷ xs) (take-append-drop (escape bs).length bs) ∙ ap (λ c. c ∷ bs) (sym (eqb-true b 92 slash)))
+      | inl slash ↦ rw slash (
+          ap (λ xs. 92 ∷ (take (escape bs).length bs ++ xs)) (written_marks (escape bs).length bs) ∙ ap (λ xs. 92 ∷ xs) (take-append-drop (escape bs).length bs) ∙ ap (λ c. c ∷ bs) (sym (eqb-true b 92 slash)))
       | inr other ↦ rw other (ap (λ xs. b ∷ xs) (written_marks 0 bs))
     ]
 
@@ -95,15 +95,15 @@ braced_form item can =
     record {
       marked = byte_mark 123 ∷ (marks item ++ byte_mark 125 ∷ []);
       stands = λ rest.
-        ap (λ xs. byte_mark 123 ∷ marks_past 0 xs) (append_assoc item (125 ∷ []) rest)
-        ∙ ap (λ ms. byte_mark 123 ∷ ms) (marks_past-close 0 item rest (omega arith) (no_line (has_joined_line item) parts.1))
-        ∙ ap (λ ms. byte_mark 123 ∷ ms) (sym (append_assoc (marks_past 0 item) (byte_mark 125 ∷ []) (marks_past 0 rest)));
+          ap (λ xs. byte_mark 123 ∷ marks_past 0 xs) (append_assoc item (125 ∷ []) rest)
+          ∙ ap (λ ms. byte_mark 123 ∷ ms) (marks_past-close 0 item rest (omega arith) (no_line (has_joined_line item) parts.1))
+          ∙ ap (λ ms. byte_mark 123 ∷ ms) (sym (append_assoc (marks_past 0 item) (byte_mark 125 ∷ []) (marks_past 0 rest)));
       element = subst (IsElement (byte_mark 123 ∷ (marks item ++ byte_mark 125 ∷ []))) (written_marks 0 item) (braced (byte_mark 123) (byte_mark 125) (marks item) refl refl parts.0);
     }
   where
-  no_line : (b : Bool) → not b ≡ true → b ≡ false
-  no_line true e = cc
-  no_line false e = refl
+    no_line : (b : Bool) → not b ≡ true → b ≡ false
+    no_line true e = cc
+    no_line false e = refl
 
 -- ── bare ──
 
@@ -134,13 +134,13 @@ in_bare_kind m k is white opening quote = record {
   quote = λ e. quote (sym is ∙ e);
 }
   where
-  at : (k : ByteKind) → k ≢ White → elim k [ White ↦ true | _ ↦ false ] ≡ false
-  at White w = absurd (w refl)
-  at OpenBrace w = refl
-  at CloseBrace w = refl
-  at Quote w = refl
-  at Backslash w = refl
-  at Other w = refl
+    at : (k : ByteKind) → k ≢ White → elim k [ White ↦ true | _ ↦ false ] ≡ false
+    at White w = absurd (w refl)
+    at OpenBrace w = refl
+    at CloseBrace w = refl
+    at Quote w = refl
+    at Backslash w = refl
+    at Other w = refl
 
 -- bytes, and how their marks stand in a bare element
 record Bytes (bytes form : List ℕ) : Type 0 where
@@ -200,19 +200,19 @@ Stands c xs = escape (letter_of c ∷ xs) ≡ record { meaning = c ∷ []; lengt
 special_stands : (c : ℕ) (xs : List ℕ) → is_special c ≡ true → Stands c xs
 unfolding escape
 special_stands c xs special = elim (or_cases (is_white c) _ special) [
-  inl white ↦ elim (or_cases (c == 32) _ white) [ inl e ↦ at 32 (eqb-true c 32 e) refl | inr e ↦ control (leb-true 9 c (and_parts (nat_le 9 c) (nat_le c 13) e).0) (leb-true c 13 (and_parts (nat_le 9 c) (nat_le c 13) e).1) ]
+  | inl white ↦ elim (or_cases (c == 32) _ white) [ inl e ↦ at 32 (eqb-true c 32 e) refl | inr e ↦ control (leb-true 9 c (and_parts (nat_le 9 c) (nat_le c 13) e).0) (leb-true c 13 (and_parts (nat_le 9 c) (nat_le c 13) e).1) ]
   | inr a ↦ elim (or_cases (c == 34) _ a) [
-    inl e ↦ at 34 (eqb-true c 34 e) refl
+    | inl e ↦ at 34 (eqb-true c 34 e) refl
     | inr a ↦ elim (or_cases (c == 36) _ a) [
-      inl e ↦ at 36 (eqb-true c 36 e) refl
+      | inl e ↦ at 36 (eqb-true c 36 e) refl
       | inr a ↦ elim (or_cases (c == 59) _ a) [
-        inl e ↦ at 59 (eqb-true c 59 e) refl
+        | inl e ↦ at 59 (eqb-true c 59 e) refl
         | inr a ↦ elim (or_cases (c == 91) _ a) [
-          inl e ↦ at 91 (eqb-true c 91 e) refl
+          | inl e ↦ at 91 (eqb-true c 91 e) refl
           | inr a ↦ elim (or_cases (c == 92) _ a) [
-            inl e ↦ at 92 (eqb-true c 92 e) refl
+            | inl e ↦ at 92 (eqb-true c 92 e) refl
             | inr a ↦ elim (or_cases (c == 93) _ a) [
-              inl e ↦ at 93 (eqb-true c 93 e) refl
+              | inl e ↦ at 93 (eqb-true c 93 e) refl
               | inr a ↦ elim (or_cases (c == 123) (c == 125) a) [ inl e ↦ at 123 (eqb-true c 123 e) refl | inr e ↦ at 125 (eqb-true c 125 e) refl ]
             ]
           ]
@@ -222,17 +222,17 @@ special_stands c xs special = elim (or_cases (is_white c) _ special) [
   ]
 ]
   where
-  at : (n : ℕ) → c ≡ n → Stands n xs → Stands c xs
-  at n is h = subst (λ c. Stands c xs) (sym is) h
+    at : (n : ℕ) → c ≡ n → Stands n xs → Stands c xs
+    at n is h = subst (λ c. Stands c xs) (sym is) h
 
-  control : 9 ≤ c → c ≤ 13 → Stands c xs
-  control low high = elim (cases_eq c 9) [
-    inl e ↦ at 9 e refl
-    | inr a ↦ elim (cases_eq c 10) [
-      inl e ↦ at 10 e refl
-      | inr b ↦ elim (cases_eq c 11) [ inl e ↦ at 11 e refl | inr d ↦ elim (cases_eq c 12) [ inl e ↦ at 12 e refl | inr f ↦ at 13 (omega arith) refl ] ]
+    control : 9 ≤ c → c ≤ 13 → Stands c xs
+    control low high = elim (cases_eq c 9) [
+      | inl e ↦ at 9 e refl
+      | inr a ↦ elim (cases_eq c 10) [
+        | inl e ↦ at 10 e refl
+        | inr b ↦ elim (cases_eq c 11) [ inl e ↦ at 11 e refl | inr d ↦ elim (cases_eq c 12) [ inl e ↦ at 12 e refl | inr f ↦ at 13 (omega arith) refl ] ]
+      ]
     ]
-  ]
 
 -- a byte behind a backslash
 escaped : ℕ → ℕ → Mark
@@ -251,7 +251,7 @@ escaped_stands c letter stands rest =
 byte_form : (c : ℕ) (bytes form : List ℕ) → Bytes bytes form → Bytes (c ∷ bytes) (cond (is_special c) (92 ∷ letter_of c ∷ form) (c ∷ form))
 unfolding escaped
 byte_form c bytes form h = elim (cases_Bool (is_special c)) [
-  inl special ↦ rw special (mark_before (escaped c (letter_of c)) bytes form (92 ∷ letter_of c ∷ []) (escaped_in_bare c (letter_of c)) (escaped_stands c (letter_of c) (λ xs. special_stands c xs special)) h)
+  | inl special ↦ rw special (mark_before (escaped c (letter_of c)) bytes form (92 ∷ letter_of c ∷ []) (escaped_in_bare c (letter_of c)) (escaped_stands c (letter_of c) (λ xs. special_stands c xs special)) h)
   | inr plain ↦ rw plain (mark_before (byte_mark c) bytes form (c ∷ []) (plain_in_bare c plain) (plain_stands c plain) h)
 ]
 
@@ -262,7 +262,7 @@ backslashed_bytes (c ∷ cs) = byte_form c cs (with_backslashes cs) (backslashed
 backslashed_form : (c : ℕ) (cs : List ℕ) → Element (c ∷ cs) (with_backslashes (c ∷ cs))
 unfolding escaped
 backslashed_form c cs = elim (cases_Bool (is_special c)) [
-  inl special ↦ rw special (bare_element (escaped c (letter_of c)) cs (with_backslashes cs) (92 ∷ letter_of c ∷ []) (escaped_in_bare c (letter_of c)) (escaped_stands c (letter_of c) (λ xs. special_stands c xs special)) (backslashed_bytes cs))
+  | inl special ↦ rw special (bare_element (escaped c (letter_of c)) cs (with_backslashes cs) (92 ∷ letter_of c ∷ []) (escaped_in_bare c (letter_of c)) (escaped_stands c (letter_of c) (λ xs. special_stands c xs special)) (backslashed_bytes cs))
   | inr plain ↦ rw plain (bare_element (byte_mark c) cs (with_backslashes cs) (c ∷ []) (plain_in_bare c plain) (plain_stands c plain) (backslashed_bytes cs))
 ]
 
@@ -276,11 +276,11 @@ item_form : (item : List ℕ) → Element item (element_form item)
 unfolding marks
 item_form [] = braced_form [] refl
 item_form (c ∷ cs) = elim (cases_Bool (can_be_bare (c ∷ cs))) [
-  inl can ↦ rw can (bare_form c cs (and_parts (not (begins_comment (c ∷ cs))) (list_all (λ c. not (is_special c)) (c ∷ cs)) can).1)
+  | inl can ↦ rw can (bare_form c cs (and_parts (not (begins_comment (c ∷ cs))) (list_all (λ c. not (is_special c)) (c ∷ cs)) can).1)
   | inr not_bare ↦ rw not_bare (elim (cases_Bool (can_be_braced (c ∷ cs))) [
-    inl can ↦ rw can (braced_form (c ∷ cs) can)
+    | inl can ↦ rw can (braced_form (c ∷ cs) can)
     | inr not_braced ↦ rw not_braced (elim (cases_Bool (nat_eq c 35)) [
-      inl comment ↦ rw comment (subst (λ c. Element (c ∷ cs) (92 ∷ with_backslashes (c ∷ cs))) (sym (eqb-true c 35 comment)) (comment_form cs))
+      | inl comment ↦ rw comment (subst (λ c. Element (c ∷ cs) (92 ∷ with_backslashes (c ∷ cs))) (sym (eqb-true c 35 comment)) (comment_form cs))
       | inr other ↦ rw other (backslashed_form c cs)
     ])
   ])

@@ -5,6 +5,7 @@ mod backslash;
 mod boolean;
 mod compared;
 mod integer;
+pub mod laws;
 mod list;
 mod list_form;
 mod splitting;

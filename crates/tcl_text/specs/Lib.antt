@@ -4,3 +4,4 @@ pub mod Escaped
 pub mod ListForm
 pub mod Readings
 pub mod Splitting
+pub mod TextForm

@@ -8,6 +8,7 @@ mod integer;
 pub mod laws;
 mod list;
 mod list_form;
+mod short;
 mod splitting;
 mod text;
 mod white_space;

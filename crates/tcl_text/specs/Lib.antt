@@ -1,1 +1,7 @@
 -- What the contracts cite.
+pub mod Backslash
+pub mod Escaped
+pub mod ListForm
+pub mod Readings
+pub mod Splitting
+pub mod TextForm

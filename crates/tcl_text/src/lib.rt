@@ -1,6 +1,8 @@
 //! Texts of a Tcl application, and what can be read in them.
 #![tactic(auto)]
 
+mod characters;
+mod glob;
 mod list;
 mod text;
 

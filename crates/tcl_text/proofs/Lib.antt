@@ -1,1 +1,4 @@
+-- Lemmas that several proofs share.
 pub mod GlobLemmas
+pub mod ReadingExamples
+pub mod IntegerLemmas

@@ -1,3 +1,5 @@
 -- What the contracts cite.
 pub mod Glob
 pub mod GlobSteps
+pub mod Backslash
+pub mod Readings

@@ -3,8 +3,12 @@
 
 mod characters;
 mod glob;
+mod integer;
 mod list;
+mod splitting;
 mod text;
 
+pub use integer::NotInteger;
 pub use list::TextList;
+pub use splitting::ListFault;
 pub use text::{Text, TextFault};

@@ -2,3 +2,5 @@
 pub mod GlobLemmas
 pub mod ReadingExamples
 pub mod IntegerLemmas
+pub mod AnswerLemmas
+pub mod CharacterLemmas

@@ -1,5 +1,5 @@
 -- Glob patterns. A pattern and a text are lists of characters here.
-use Rattle.std.specs.Prelude.{◌≡◌, ◌≢◌, ℕ, Bool, true, false, ◌&&◌, ◌||◌, ◌==◌, nat_le, if◌then◌else◌, List, [], ◌∷◌, ◌++◌, ◌⊎◌, IsTrue}
+use Rattle.std.specs.Prelude.{◌≡◌, ◌≢◌, ℕ, Bool, true, false, ◌&&◌, ◌||◌, ◌==◌, nat_le, if◌then◌else◌, List, [], ◌∷◌, ◌++◌, ◌⊎◌, length, IsTrue}
 
 -- whether a class has the character: its text is read from the left, a `-` between two characters
 -- makes them the ends of a range, and every other character stands for itself
@@ -35,3 +35,40 @@ pub data GlobMatches : List ℕ → List ℕ → Type 0 where
   -- `*` stands for any text
   skips : {rest text : List ℕ} (skipped left : List ℕ) → text ≡ skipped ++ left → GlobMatches rest left → GlobMatches (42 ∷ rest) text
   allows : {pattern rest left : List ℕ} {c : ℕ} → AllowsFirst pattern c rest → GlobMatches rest left → GlobMatches pattern (c ∷ left)
+
+-- ── the same as a function ──
+
+-- where reading a pattern stands: at a part, behind a backslash, or in a class with its characters so far
+pub data PatternPlace : Type 0 where
+  at_part : PatternPlace
+  behind_backslash : PatternPlace
+  inside_class : List ℕ → PatternPlace
+
+-- the text begins with a character that passes, and what follows passes
+abbrev pub first_passes : (ℕ → Bool) → (List ℕ → Bool) → List ℕ → Bool
+first_passes test rest [] = false
+first_passes test rest (c ∷ cs) = test c && rest cs
+
+-- what follows some characters passes
+abbrev pub some_end_passes : (List ℕ → Bool) → List ℕ → Bool
+some_end_passes test [] = test []
+some_end_passes test (c ∷ cs) = test (c ∷ cs) || some_end_passes test cs
+
+abbrev pub glob_from : PatternPlace → List ℕ → List ℕ → Bool
+glob_from at_part [] text = length text == 0
+glob_from at_part (p ∷ ps) text =
+    if p == 42 then some_end_passes (glob_from at_part ps) text
+    else (if p == 63 then first_passes (λ _. true) (glob_from at_part ps) text
+    else (if p == 91 then glob_from (inside_class []) ps text
+    else (if p == 92 then glob_from behind_backslash ps text
+    else first_passes (λ c. p == c) (glob_from at_part ps) text)))
+glob_from behind_backslash [] text = false
+glob_from behind_backslash (p ∷ ps) text = first_passes (λ c. p == c) (glob_from at_part ps) text
+glob_from (inside_class class) [] text = false
+glob_from (inside_class class) (p ∷ ps) text =
+    if p == 93 then first_passes (in_class class) (glob_from at_part ps) text
+    else glob_from (inside_class (class ++ p ∷ [])) ps text
+
+-- whether the pattern matches the whole text
+unfoldable pub glob_matches : List ℕ → List ℕ → Bool
+glob_matches pattern text = glob_from at_part pattern text

@@ -3,3 +3,8 @@ pub mod Glob
 pub mod GlobSteps
 pub mod Backslash
 pub mod Readings
+pub mod Answers
+pub mod Indices
+pub mod Commands
+pub mod StringCommands
+pub mod ListCommands

@@ -1,7 +1,7 @@
 //! Glob patterns, as `string match` of string(n) has them.
 ghost use Rattle.std.specs.Prelude.{◌≡◌, ◌<◌, ◌↔◌, [], List, ℕ, ◌∷◌, ◌+◌, length, IsTrue, IfSome, IfNone};
 ghost use Rattle.std.specs.Str.{chars};
-ghost use Rattle.tcl_text.specs.Glob.{in_class, AllowsByClass, AllowsFirst, GlobMatches};
+ghost use Rattle.tcl_text.specs.Glob.{in_class, AllowsByClass, AllowsFirst, GlobMatches, glob_matches};
 ghost use Rattle.tcl_text.specs.GlobSteps.{HasPart, Stops, Runs};
 
 use crate::characters::split_first_char;
@@ -13,7 +13,8 @@ impl Text {
     /// closed, or that ends with a lone backslash, matches nothing. It takes no memory, and at most
     /// as many steps as the pattern's length times the text's.
     pub fn glob_match(pattern: &Text, text: &Text) -> bool
-        ensures { IsTrue result ↔ GlobMatches (chars pattern.now) (chars text.now) }
+        ensures matches { IsTrue result ↔ GlobMatches (chars pattern.now) (chars text.now) }
+        ensures value { result ≡ glob_matches (chars pattern.now) (chars text.now) }
     {
         let Some((mut pattern, mut text)) = match_run(pattern.as_str(), text.as_str()) else {
             return false;

@@ -2,6 +2,7 @@
 #![tactic(auto)]
 
 mod characters;
+mod commands;
 mod glob;
 mod integer;
 mod list;

@@ -4,3 +4,4 @@ pub mod ReadingExamples
 pub mod IntegerLemmas
 pub mod AnswerLemmas
 pub mod CharacterLemmas
+pub mod GlobFunction

@@ -16,20 +16,28 @@ impl Text {
         ensures matches { IsTrue result ↔ GlobMatches (chars pattern.now) (chars text.now) }
         ensures value { result ≡ glob_matches (chars pattern.now) (chars text.now) }
     {
-        let Some((mut pattern, mut text)) = match_run(pattern.as_str(), text.as_str()) else {
-            return false;
-        };
-        while let Some((_star, after)) = split_first_char(pattern) {
-            match find_run(after, text) {
-                Some((rest, left)) => {
-                    pattern = rest;
-                    text = left;
-                }
-                None => return false,
-            }
-        }
-        true
+        matches_whole(pattern.as_str(), text.as_str())
     }
+}
+
+/// Whether the pattern matches the whole text: run by run, each at the first place where it matches
+/// behind the one before, since a `*` takes what stands between.
+fn matches_whole(pattern: &str, text: &str) -> bool
+    ensures { IsTrue result ↔ GlobMatches (chars pattern.now) (chars text.now) }
+{
+    let Some((mut pattern, mut text)) = match_run(pattern, text) else {
+        return false;
+    };
+    while let Some((_star, after)) = split_first_char(pattern) {
+        match find_run(after, text) {
+            Some((rest, left)) => {
+                pattern = rest;
+                text = left;
+            }
+            None => return false,
+        }
+    }
+    true
 }
 
 /// Finds the first place in the text from which the pattern's parts, up to its next `*` or its end,

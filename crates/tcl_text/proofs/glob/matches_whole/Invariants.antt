@@ -4,7 +4,7 @@ use denote.Shadow.{shadow}
 use Rattle.std.specs.Str.{chars}
 use Rattle.tcl_text.specs.Glob.{GlobMatches}
 use Rattle.tcl_text.specs.GlobSteps.{Stops}
-use Rattle.tcl_text.proofs.text.Text.glob_match.Given as goal
+use Rattle.tcl_text.proofs.glob.matches_whole.Given as goal
 
 abbrev pub invariant-loop-star : goal.invariant-loop-star
 invariant-loop-star l =

@@ -5,3 +5,5 @@ pub mod IntegerLemmas
 pub mod AnswerLemmas
 pub mod CharacterLemmas
 pub mod GlobFunction
+pub mod FindLemmas
+pub mod StringLemmas

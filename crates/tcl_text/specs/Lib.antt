@@ -8,3 +8,4 @@ pub mod Indices
 pub mod Commands
 pub mod StringCommands
 pub mod ListCommands
+pub mod StringSteps

@@ -133,5 +133,8 @@ string_words [] = wrong_args (codes "string option ?arg ..?")
 string_words (name ∷ words) = string_or_error name (string_command_named name) words
 
 -- the words without white space around them, those that aren't empty, with a blank between each two
+abbrev pub concatenated : List (List ℕ) → List ℕ
+concatenated words = join_with_byte 32 (filter (λ word. not (length word == 0)) (map trimmed words))
+
 abbrev pub concat_words : List (List ℕ) → Answer
-concat_words words = answers (join_with_byte 32 (filter (λ word. not (length word == 0)) (map trimmed words)))
+concat_words words = answers (concatenated words)

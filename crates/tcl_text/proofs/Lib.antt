@@ -7,3 +7,4 @@ pub mod CharacterLemmas
 pub mod GlobFunction
 pub mod FindLemmas
 pub mod StringLemmas
+pub mod ListLemmas

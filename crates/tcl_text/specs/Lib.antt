@@ -9,3 +9,4 @@ pub mod Commands
 pub mod StringCommands
 pub mod ListCommands
 pub mod StringSteps
+pub mod ListSteps

@@ -4,6 +4,9 @@
 mod answers;
 mod indices;
 mod integers;
+mod items;
+mod lists;
+mod splits;
 mod strings;
 
 /// A command on texts and lists.

@@ -72,6 +72,17 @@ impl Text {
         })
     }
 
+    /// A text of characters that are known to be few enough.
+    pub(crate) fn of_short(alloc: Global, characters: &str) -> Result<Text, AllocError>
+        requires { length characters.now ≤ 65536 }
+        ensures { IfOk result (λ text. text ≡ characters.now) }
+    {
+        let string = String::from_str(alloc, characters)?;
+        Ok(Text {
+            string: Rc::new(alloc, string)?,
+        })
+    }
+
     /// A text of the characters of a string, which it takes over.
     pub(crate) fn from_string(alloc: Global, string: String) -> Result<Text, TextFault>
         ensures ok { IfOk result (λ text. text ≡ string_bytes string) }

@@ -8,3 +8,12 @@ pub mod GlobFunction
 pub mod FindLemmas
 pub mod StringLemmas
 pub mod ListLemmas
+pub mod BooleanLemmas
+pub mod IntegerReading
+pub mod BooleanReading
+pub mod ReadingLemmas
+pub mod BackslashLemmas
+pub mod SplittingLemmas
+pub mod Utf8Lemmas
+pub mod ElementLemmas
+pub mod ListFormLemmas

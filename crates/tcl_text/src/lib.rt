@@ -4,12 +4,17 @@
 mod characters;
 mod commands;
 mod glob;
+mod backslash;
+mod boolean;
 mod integer;
 mod list;
+mod list_form;
 mod splitting;
 mod text;
+mod white_space;
 
+pub use boolean::NotBoolean;
 pub use integer::NotInteger;
 pub use list::TextList;
-pub use splitting::ListFault;
+pub use splitting::{ListFault, SplitFault};
 pub use text::{Text, TextFault};

@@ -17,3 +17,4 @@ pub mod SplittingLemmas
 pub mod Utf8Lemmas
 pub mod ElementLemmas
 pub mod ListFormLemmas
+pub mod SortLemmas

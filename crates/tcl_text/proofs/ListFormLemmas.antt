@@ -13,4 +13,5 @@ plain_more item at inside plain before =
     ∙ ap (λ xs. xs ++ with_backslashes (drop (at + 1) item)) (sym (take_more item at 0 inside))
 
 pub ruleset plain_runs = (plain_more)
+
 pub ruleset balances = (plain_more)

@@ -1,12 +1,12 @@
 -- The commands of list(n), llength(n), lindex(n), lrange(n), linsert(n), lreplace(n), lsearch(n), lsort(n), join(n) and split(n).
-use Rattle.std.specs.Prelude.{◌≡◌, ℕ, zero, suc, ◌+◌, ◌-◌, max, ℤ, pos, negsuc, int_lt, Bool, true, false, not, ◌&&◌, ◌||◌, ◌==◌, nat_eq, nat_lt, nat_le, if◌then◌else◌, List, [], ◌∷◌, ◌++◌, length, take, drop, map, filter, position, Option, Some, None, option_map, Result, Ok, Err, codes}
+use Rattle.std.specs.Prelude.{◌≡◌, ℕ, zero, suc, ◌+◌, ◌-◌, max, ℤ, pos, negsuc, Bool, true, false, not, ◌&&◌, ◌||◌, ◌==◌, nat_eq, nat_lt, nat_le, if◌then◌else◌, List, [], ◌∷◌, ◌++◌, length, take, drop, map, filter, position, Option, Some, None, option_map, Result, Ok, Err, codes}
 use Rattle.std.specs.Str.{chars, encode_utf8_all, bytes_eq}
 use Rattle.std.specs.Char.{encode_utf8}
 use Rattle.std.specs.Fmt.{decimal}
-use Rattle.std.specs.Ordering.{nat_cmp, is_lt}
+use Rattle.std.specs.Ordering.{nat_cmp, int_cmp, is_lt}
 use Rattle.std.specs.List.{list_any}
 use Rattle.std.specs.Cmp.Lexicographic.{slice_cmp}
-use Rattle.tcl_text.specs.Backslash.{is_white}
+use Rattle.tcl_text.specs.declared.commands.sorting.Order.{Order}
 use Rattle.tcl_text.specs.Readings.{list_form}
 use Rattle.tcl_text.specs.Glob.{glob_matches}
 use Rattle.tcl_text.specs.Answers.{Answer, ◌>>=◌, answers, wrong_args, bad_option, integer_in, items_in, place}
@@ -95,14 +95,10 @@ sorted less [] = []
 sorted less (x ∷ xs) = put_in_order less x (sorted less xs)
 
 -- how lsort compares: as integers or as bytes, up or down
-pub record Order : Type 0 where
-  pub as_integers : Bool
-  pub decreasing : Bool
-
 abbrev pub plain_order : Order
 plain_order = record { as_integers = false; decreasing = false }
 
-abbrev pub with_option : List ℕ → Order → Result Order (List ℕ)
+unfoldable pub with_option : List ℕ → Order → Result Order (List ℕ)
 with_option option order =
     if bytes_eq option (codes "-integer") then Ok (record order { as_integers = true })
     else (if bytes_eq option (codes "-decreasing") then Ok (record order { decreasing = true })
@@ -123,9 +119,12 @@ turned true less x y = less y x
 abbrev pub bytes_less : List ℕ → List ℕ → Bool
 bytes_less x y = is_lt (slice_cmp nat_cmp x y)
 
+abbrev pub key_less : ℤ × List ℕ → ℤ × List ℕ → Bool
+key_less x y = is_lt (int_cmp x.0 y.0)
+
 abbrev pub in_order : Order → List (List ℕ) → Result (List (List ℕ)) (List ℕ)
 in_order order items =
-    if order.as_integers then (keyed items >>= λ pairs. Ok (map (λ p. p.1) (sorted (turned order.decreasing (λ p q. int_lt p.0 q.0)) pairs)))
+    if order.as_integers then (keyed items >>= λ pairs. Ok (map (λ p. p.1) (sorted (turned order.decreasing key_less) pairs)))
     else Ok (sorted (turned order.decreasing bytes_less) items)
 
 abbrev pub sort_list : Order → List ℕ → Answer

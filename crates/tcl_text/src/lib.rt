@@ -1,11 +1,11 @@
 //! Texts of a Tcl application, and what can be read in them.
 #![tactic(auto)]
 
+mod backslash;
+mod boolean;
 mod characters;
 mod commands;
 mod glob;
-mod backslash;
-mod boolean;
 mod integer;
 mod list;
 mod list_form;

@@ -13,6 +13,7 @@ pub mod IntegerReading
 pub mod BooleanReading
 pub mod ReadingLemmas
 pub mod BackslashLemmas
+pub mod BalanceLemmas
 pub mod SplittingLemmas
 pub mod Utf8Lemmas
 pub mod ElementLemmas

@@ -6,6 +6,7 @@ mod boolean;
 mod characters;
 mod commands;
 mod glob;
+mod compared;
 mod integer;
 mod list;
 mod list_form;
@@ -18,3 +19,6 @@ pub use integer::NotInteger;
 pub use list::TextList;
 pub use splitting::{ListFault, SplitFault};
 pub use text::{Text, TextFault};
+
+#[cfg(test)]
+mod reading_tests;

@@ -3,7 +3,10 @@
 
 mod backslash;
 mod boolean;
+mod characters;
+mod commands;
 mod compared;
+mod glob;
 mod integer;
 pub mod laws;
 mod list;

@@ -97,6 +97,17 @@ impl Text {
         })
     }
 
+    /// A text of the characters of a string, which it takes over.
+    pub(crate) fn from_string(alloc: Global, string: String) -> Result<Text, TextFault>
+        ensures ok { IfOk result (λ text. text ≡ string_bytes string) }
+        ensures too_long { IsErrOf result TextFault.TooLong ↔ (65536 < length (string_bytes string)) }
+    {
+        if string.len() > MAX_BYTES {
+            return Err(TextFault::TooLong);
+        }
+        Ok(Text::of_string(alloc, string)?)
+    }
+
     /// A text of bytes that are known to be one, and few enough.
     pub(crate) fn of_bytes(alloc: Global, bytes: Vec<u8>) -> Result<Text, AllocError>
         requires utf8 { IsUtf8 bytes.items }

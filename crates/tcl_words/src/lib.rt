@@ -3,8 +3,13 @@
 
 mod fault;
 mod kind;
+mod later;
+mod open;
 mod parser;
+mod read;
 mod script;
+#[cfg(test)]
+mod tests;
 
 pub use fault::ParseFault;
 pub use parser::parse;

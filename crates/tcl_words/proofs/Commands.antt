@@ -1,5 +1,5 @@
 -- The commands of a text by its length, its bytes and its forms.
-use Rattle.std.proofs.Common.{◌≡◌, ◌<◌, ◌≤◌, ℕ, Bool, true, false, List, length, nat_lt, refl, sym, ap, ◌∙◌, ◌⊎◌, inl, inr, arith, Ok, Err, Result}
+use Rattle.std.proofs.Common.{◌≡◌, ◌≤◌, ℕ, true, false, List, length, nat_lt, refl, sym, ap, ◌∙◌, ◌⊎◌, inl, inr, arith, Err, Result}
 use Rattle.std.proofs.lemmas.Bool.Decides.{nat_tests}
 use Rattle.std.specs.Str.{IsUtf8, is_utf8}
 use Rattle.std.proofs.lemmas.Str.{is_utf8-from_IsUtf8, IsUtf8-from_is_utf8}

@@ -1,19 +1,15 @@
 -- What was read joined with a rest of the text: how a byte goes over from the rest to what was read.
-use Rattle.std.proofs.Common.{◌≡◌, ◌≢◌, ℕ, ◌+◌, ◌-◌, ◌<◌, ◌≤◌, List, [], ◌∷◌, ◌++◌, length, take, drop, refl, sym, ap, ◌∙◌, append_assoc, append-nil, arith, Ok, Err, Result, slice_index, inl, inr}
+use Rattle.std.proofs.Common.{◌≡◌, ℕ, ◌+◌, ◌-◌, ◌<◌, ◌≤◌, List, [], ◌∷◌, ◌++◌, length, take, drop, refl, sym, ap, ◌∙◌, append_assoc, append-nil, arith, Ok, Err, slice_index}
 use Rattle.std.specs.List.{slice_range}
 use Rattle.std.proofs.lemmas.List.{drop-drop}
 use Rattle.std.proofs.lemmas.List.Edits.{between_more, between_none}
 use Rattle.std.proofs.Math.Seq.{take-add}
-use Rattle.tcl_words.specs.Reading.{Rest, Read, put, byte_before, literal_before, name_ended, variable_before, word_ended, command_ended, bare_word, braced_word, word_before, command_before, command_of}
-use Rattle.tcl_words.specs.Parts.{Parts, joined, with_rest, with_words, word_of, with_word, with_name}
-use Rattle.tcl_words.specs.declared.kind.Place.{Place}
+use Rattle.tcl_words.specs.Reading.{Read, put, byte_before, literal_before, name_ended, variable_before, word_ended, command_ended, bare_word, braced_word, word_before, command_before, command_of}
+use Rattle.tcl_words.specs.Parts.{Parts, joined, with_word, with_name}
 use Rattle.tcl_words.specs.declared.kind.Place.TheVariants.{Start, Between, Bare, Name, Brace, Braced, Dollar, Colon, Colons}
-use Rattle.tcl_words.specs.declared.script.WordForm.{WordForm}
 use Rattle.tcl_words.specs.declared.script.WordForm.TheVariants.{Bare as BareForm, Braced as BracedForm}
 use Rattle.tcl_words.specs.declared.script.Piece.{Piece}
 use Rattle.tcl_words.specs.declared.script.Piece.TheVariants.{Literal, Variable}
-use Rattle.tcl_words.specs.declared.script.Word.{Word}
-use Rattle.tcl_words.specs.declared.fault.ParseFault.{ParseFault}
 
 pub slice_more : (s : List ℕ) (mark at b : ℕ) → mark ≤ at → at < length s → slice_index s at ≡ b → slice_range s mark (at + 1) ≡ slice_range s mark at ++ b ∷ []
 slice_more s mark at b le lt e = between_more s mark at 0 le lt ∙ ap (λ x. slice_range s mark at ++ x ∷ []) e

@@ -1,5 +1,5 @@
 -- The text read byte by byte.
-use Rattle.std.proofs.Common.{◌≡◌, ℕ, suc, ◌+◌, ◌<◌, ◌⊎◌, Bool, false, ◌||◌, List, [], ◌∷◌, ◌++◌, length, drop, slice_index, refl, sym, ap, ◌∙◌, arith, Ok, Err, Result, inl, inr}
+use Rattle.std.proofs.Common.{◌≡◌, ℕ, suc, ◌+◌, ◌<◌, ◌⊎◌, false, ◌||◌, List, [], ◌∷◌, ◌++◌, length, drop, slice_index, refl, sym, ap, ◌∙◌, arith, Ok, Err, Result, inl, inr}
 use Rattle.std.proofs.Math.Seq.{drop-cons}
 use Rattle.tcl_words.specs.Kinds.{kind_of}
 use Rattle.tcl_words.specs.Later.{begins_later_form, holds_later_form}

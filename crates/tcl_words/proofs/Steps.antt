@@ -1,18 +1,19 @@
 -- What a byte does where it stands.
-use Rattle.std.proofs.Common.{◌≡◌, ◌≢◌, ℕ, zero, suc, ◌+◌, ◌-◌, ◌<◌, ◌≤◌, ◌⊎◌, List, [], ◌∷◌, ◌++◌, refl, sym, ap, ◌∙◌, arith, Ok, Err, Result, inl, inr, length, slice_index, append_assoc}
+use Rattle.std.proofs.Common.{◌≡◌, ◌≢◌, ℕ, zero, suc, ◌+◌, ◌-◌, ◌<◌, ◌≤◌, ◌⊎◌, List, [], ◌∷◌, ◌++◌, refl, ap, ◌∙◌, arith, Ok, Err, Result, inl, inr, length, slice_index}
 use Rattle.std.specs.List.{slice_range}
 use Rattle.std.specs.Str.{IsUtf8}
 use Rattle.std.proofs.lemmas.Str.{IsCharBoundary-before_ascii, IsCharBoundary-after_ascii}
-use Rattle.tcl_words.specs.Reading.{Rest, Read, put, at_end, last_rest, after_word, in_bare, in_dollar, in_colon, in_colons, in_name, in_brace, close_brace, in_braced, in_between, in_start, byte_before, literal_before, word_ended, word_before, bare_word, command_before, name_ended, variable_before}
-use Rattle.tcl_words.specs.Parts.{Parts, joined, IsFine, Reads, StandsAt, EndsWord, with_word, with_name}
+use Rattle.tcl_words.specs.Kinds.{EndsWord}
+use Rattle.tcl_words.specs.Reading.{Rest, Read, put, at_end, last_rest, after_word, in_bare, in_dollar, in_colon, in_colons, in_name, in_brace, close_brace, in_braced, in_between, in_start, byte_before, literal_before, word_ended, word_before, bare_word, command_before, name_ended}
+use Rattle.tcl_words.specs.Parts.{Parts, joined, IsFine, Reads, StandsAt, with_word, with_name}
 use Rattle.tcl_words.specs.declared.kind.Kind.{Kind}
 use Rattle.tcl_words.specs.declared.kind.Kind.TheVariants.{Blank, Newline, Semicolon, Hash, OpenBrace, CloseBrace, Letter, Other, Dollar as DollarByte, Colon as ColonByte}
 use Rattle.tcl_words.specs.declared.kind.Place.{Place}
-use Rattle.tcl_words.specs.declared.kind.Place.TheVariants.{Start, Comment, Between, Bare, Name, Brace, Braced, Dollar, Colon, Colons}
+use Rattle.tcl_words.specs.declared.kind.Place.TheVariants.{Start, Between, Bare, Name, Brace, Braced, Dollar, Colon, Colons}
 use Rattle.tcl_words.specs.declared.script.WordForm.TheVariants.{Bare as BareForm, Braced as BracedForm}
 use Rattle.tcl_words.specs.declared.script.Piece.TheVariants.{Literal, Variable}
 use Rattle.tcl_words.specs.declared.fault.ParseFault.{ParseFault}
-use Rattle.tcl_words.proofs.Joins.{slice_more, slice_none, slice_split, bare_byte, name_byte, brace_byte, bare_ended, braced_ended, dollar_over, closed_over, dollar_stood, colon_stood, colons_stood, dollar_named, colons_named, name_over, bare_begun, command_begun}
+use Rattle.tcl_words.proofs.Joins.{slice_more, slice_none, slice_split, bare_byte, name_byte, brace_byte, bare_ended, braced_ended, dollar_over, closed_over, dollar_stood, colon_stood, colons_stood, colons_named, name_over, bare_begun, command_begun}
 
 -- a first change of the parts, and then what the byte does
 pub first : (old mid new : Parts) (s : List ℕ) (at : ℕ) (place place' : Place) (change : Rest → Rest) (byte byte' : (Place → Read) → Read) (result : Result Place ParseFault) →

@@ -1,5 +1,5 @@
 -- The forms of the language that are not read yet.
-use Rattle.std.specs.Prelude.{ℕ, Bool, true, false, ◌==◌, ◌&&◌, ◌||◌, nat_eq, if◌then◌else◌, List, [], ◌∷◌, drop}
+use Rattle.std.specs.Prelude.{ℕ, Bool, false, ◌==◌, ◌&&◌, ◌||◌, nat_eq, if◌then◌else◌, IsTrue, List, [], ◌∷◌, ◌++◌, drop}
 use Rattle.std.specs.List.{starts_with}
 use Rattle.tcl_words.specs.Kinds.{is_letter}
 
@@ -30,3 +30,18 @@ begins_later_form text =
 abbrev pub holds_later_form : List ℕ → Bool
 holds_later_form [] = false
 holds_later_form (b ∷ text) = begins_later_form (b ∷ text) || holds_later_form text
+
+-- bytes of names alone
+abbrev pub AreNameBytes : List ℕ → Type 0
+AreNameBytes [] = Unit {0}
+AreNameBytes (b ∷ text) = IsTrue (is_letter b) × AreNameBytes text
+
+-- a form that is not read yet: a backslash, `"`, `[`, `{*}`, `${` or `$name(`
+pub data IsLaterForm : List ℕ → Type 0 where
+  backslash : IsLaterForm (92 ∷ [])
+  quote : IsLaterForm (34 ∷ [])
+  bracket : IsLaterForm (91 ∷ [])
+  expansion : IsLaterForm (123 ∷ 42 ∷ 125 ∷ [])
+  braces : IsLaterForm (36 ∷ 123 ∷ [])
+  index : (b : ℕ) (letters : List ℕ) → AreNameBytes (b ∷ letters) → IsLaterForm (36 ∷ (b ∷ letters) ++ 40 ∷ [])
+  global_index : (b : ℕ) (letters : List ℕ) → AreNameBytes (b ∷ letters) → IsLaterForm (36 ∷ 58 ∷ 58 ∷ (b ∷ letters) ++ 40 ∷ [])

@@ -1,5 +1,6 @@
 -- What the contracts cite.
 pub mod Faults
+pub mod Grammar
 pub mod Kinds
 pub mod Reading
 pub mod Falls

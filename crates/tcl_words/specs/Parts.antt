@@ -1,10 +1,10 @@
 -- What was read of a script so far, and what it gives with the rest of the text.
-use Rattle.std.specs.Prelude.{ℕ, ◌+◌, ◌≡◌, ◌≢◌, ◌<◌, ◌≤◌, ◌⊎◌, false, List, [], ◌∷◌, ◌++◌, length, slice_index, Result, Ok, Err}
+use Rattle.std.specs.Prelude.{ℕ, ◌+◌, ◌≡◌, ◌≢◌, ◌<◌, ◌≤◌, ◌⊎◌, List, [], ◌∷◌, ◌++◌, length, slice_index, Result, Ok, Err}
 use Rattle.std.specs.List.{slice_range}
 use Rattle.std.specs.Str.{IsCharBoundary}
-use Rattle.tcl_words.specs.Reading.{Rest, Read, at_end, last_rest, literal_before, command_of}
+use Rattle.tcl_words.specs.Reading.{Rest, Read, at_end, last_rest, literal_before, command_of, word_of}
 use Rattle.tcl_words.specs.declared.kind.Kind.{Kind}
-use Rattle.tcl_words.specs.declared.kind.Kind.TheVariants.{Blank, Newline, Semicolon, Other, Dollar as DollarByte, Colon as ColonByte}
+use Rattle.tcl_words.specs.declared.kind.Kind.TheVariants.{Other, Dollar as DollarByte, Colon as ColonByte}
 use Rattle.tcl_words.specs.declared.kind.Place.{Place}
 use Rattle.tcl_words.specs.declared.kind.Place.TheVariants.{Start, Comment, Between, Bare, Name, Brace, Braced, Dollar, Colon, Colons}
 use Rattle.tcl_words.specs.declared.script.WordForm.{WordForm}
@@ -28,9 +28,6 @@ pub record Parts : Type 0 where
   -- where the open literal or name begins, and where it would end
   pub mark : ℕ
   pub stop : ℕ
-
-abbrev pub word_of : WordForm → ℕ → List Piece → ℕ → Word
-word_of form start pieces end = record { form = form; expand = false; pieces = pieces; span = record { start = start; end = end } }
 
 -- the parts once the open word has ended with these pieces
 abbrev pub with_word : Parts → WordForm → List Piece → ℕ → Parts
@@ -82,10 +79,6 @@ IsFine parts source Braced at = (parts.pieces ≡ []) × (parts.mark ≤ parts.s
 abbrev pub Reads : Parts → Parts → List ℕ → ℕ → Place → ((Place → Read) → Read) → Result Place ParseFault → Type 0
 Reads old new source at place byte (Ok next) = ((go : Place → Read) → joined old source place at (byte go) ≡ joined new source next (at + 1) (go next)) × IsFine new source next (at + 1)
 Reads old new source at place byte (Err fault) = (((go : Place → Read) → byte go ≡ Err fault)) ⊎ (fault ≡ NoMemory)
-
--- a byte that ends words
-abbrev pub EndsWord : Kind → Type 0
-EndsWord kind = (kind ≡ Blank) ⊎ ((kind ≡ Newline) ⊎ (kind ≡ Semicolon))
 
 -- a byte of this kind stands at this position of a source that is a script's
 pub record StandsAt (source : List ℕ) (at byte : ℕ) (kind : Kind) : Type 0 where

@@ -1,6 +1,6 @@
 -- The commands of a script, by recursion on its bytes: what a byte means where it stands, and what it puts
 -- in front of what the rest of the text gives. The first fault from the left is thereby the one that counts.
-use Rattle.std.specs.Prelude.{ℕ, suc, zero, ◌+◌, Bool, false, ◌==◌, ◌&&◌, ◌||◌, not, nat_lt, if◌then◌else◌, List, [], ◌∷◌, ◌++◌, length, drop, nat_eq, Result, Ok, Err}
+use Rattle.std.specs.Prelude.{ℕ, suc, zero, ◌+◌, false, not, nat_lt, if◌then◌else◌, List, [], ◌∷◌, ◌++◌, length, Result, Ok, Err}
 use Rattle.std.specs.Str.{is_utf8}
 use Rattle.tcl_words.specs.Kinds.{kind_of}
 use Rattle.tcl_words.specs.Later.{holds_later_form}
@@ -8,6 +8,7 @@ use Rattle.tcl_words.specs.declared.kind.Kind.{Kind}
 use Rattle.tcl_words.specs.declared.kind.Kind.TheVariants.{Blank, Newline, Semicolon, Hash, OpenBrace, CloseBrace, Letter, Dollar as DollarByte, Colon as ColonByte}
 use Rattle.tcl_words.specs.declared.kind.Place.{Place}
 use Rattle.tcl_words.specs.declared.kind.Place.TheVariants.{Start, Comment, Between, Bare, Name, Brace, Braced, Dollar, Colon, Colons}
+use Rattle.tcl_words.specs.declared.script.WordForm.{WordForm}
 use Rattle.tcl_words.specs.declared.script.WordForm.TheVariants.{Bare as BareForm, Braced as BracedForm}
 use Rattle.tcl_words.specs.declared.script.Piece.{Piece}
 use Rattle.tcl_words.specs.declared.script.Piece.TheVariants.{Literal, Variable}
@@ -65,21 +66,15 @@ word_ended at rest = record { bytes = []; pieces = []; end = at; words = rest.wo
 abbrev pub command_ended : Rest → Rest
 command_ended rest = record { bytes = []; pieces = []; end = 0; words = []; commands = rest.commands }
 
+-- a word of this form, with its pieces and where it begins and ends
+abbrev pub word_of : WordForm → ℕ → List Piece → ℕ → Word
+word_of form start pieces end = record { form = form; expand = false; pieces = pieces; span = record { start = start; end = end } }
+
 abbrev pub bare_word : ℕ → Rest → Word
-bare_word start rest = record {
-  form = BareForm;
-  expand = false;
-  pieces = literal_before rest.bytes rest.pieces;
-  span = record { start = start; end = rest.end };
-}
+bare_word start rest = word_of BareForm start (literal_before rest.bytes rest.pieces) rest.end
 
 abbrev pub braced_word : ℕ → Rest → Word
-braced_word start rest = record {
-  form = BracedForm;
-  expand = false;
-  pieces = Literal rest.bytes ∷ [];
-  span = record { start = start; end = rest.end };
-}
+braced_word start rest = word_of BracedForm start (Literal rest.bytes ∷ []) rest.end
 
 -- a word began here
 abbrev pub word_before : (ℕ → Rest → Word) → ℕ → Rest → Rest

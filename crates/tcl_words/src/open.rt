@@ -1,9 +1,9 @@
 ghost use Rattle.std.specs.Prelude.{◌≡◌, ◌<◌, ◌≤◌, [], ◌∷◌, ◌++◌, length, OnOk, IfOk};
 ghost use Rattle.std.specs.List.{slice_range};
 ghost use Rattle.std.specs.Str.{IsCharBoundary};
-ghost use Rattle.tcl_words.specs.Reading.{command_of, literal_before};
+ghost use Rattle.tcl_words.specs.Reading.{command_of, literal_before, word_of};
 ghost use Rattle.tcl_words.specs.Room.{piece_room, commands_room};
-ghost use Rattle.tcl_words.specs.Parts.{word_of, with_word, with_name};
+ghost use Rattle.tcl_words.specs.Parts.{with_word, with_name};
 ghost use Rattle.tcl_words.specs.declared.script.WordForm.TheVariants.{Bare as BareForm, Braced as BracedForm};
 ghost use Rattle.tcl_words.specs.declared.script.Piece.TheVariants.{Literal, Variable};
 

@@ -1,5 +1,7 @@
-ghost use Rattle.std.specs.Prelude.{◌≡◌, ◌≤◌, ◌⊎◌, length, Ok, Err, IfOk, IfErr, IsOk, MatchResult};
+ghost use Rattle.std.specs.Prelude.{◌≡◌, ◌≤◌, ◌⊎◌, List, length, Ok, Err, IfOk, IfErr, IsOk, MatchResult};
 ghost use Rattle.tcl_words.specs.Reading.{commands_of, commands_in, rest_of};
+ghost use Rattle.tcl_words.specs.Grammar.{IsScriptOf, IsFaultOf};
+ghost use Rattle.tcl_words.specs.declared.script.Command.{Command};
 ghost use Rattle.tcl_words.specs.Room.{commands_room};
 
 use crate::fault::ParseFault;
@@ -30,8 +32,8 @@ fn read_all(alloc: Global, source: &str) -> Result<Vec<Command>, ParseFault>
     Ok(open.into_commands())
 }
 
-/// Reads a script whole. It is at most 65,536 bytes of UTF-8; the first fault from the left is told.
-pub fn parse(alloc: Global, source: &[u8]) -> Result<Script, ParseFault>
+/// The script that the bytes spell, by the function that reads its commands.
+fn read_script(alloc: Global, source: &[u8]) -> Result<Script, ParseFault>
     ensures text { IfOk result (λ script. script ≡ source.now) }
     ensures ok { IfOk result (λ _. IsOk (commands_of source.now)) }
     ensures fault { IfErr result (λ fault. (commands_of source.now ≡ Err fault) ⊎ (fault ≡ ParseFault.NoMemory)) }
@@ -49,4 +51,19 @@ pub fn parse(alloc: Global, source: &[u8]) -> Result<Script, ParseFault>
     let text = Text::new(alloc, text)?;
     let script = Script::new(alloc, text, commands)?;
     Ok(script)
+}
+
+/// Reads a script whole. It is at most 65,536 bytes of UTF-8; the first fault from the left is told.
+pub fn parse(alloc: Global, source: &[u8]) -> Result<Script, ParseFault>
+    ensures text { IfOk result (λ script. script ≡ source.now) }
+
+    // By the function that reads a text's commands.
+    ensures ok { IfOk result (λ _. IsOk (commands_of source.now)) }
+    ensures fault { IfErr result (λ fault. (commands_of source.now ≡ Err fault) ⊎ (fault ≡ ParseFault.NoMemory)) }
+
+    // By the grammar.
+    ensures is_script { IfOk result (λ _. (commands : List Command) × IsScriptOf source.now commands) }
+    ensures is_fault { IfErr result (λ fault. IsFaultOf source.now fault ⊎ (fault ≡ ParseFault.NoMemory)) }
+{
+    read_script(alloc, source)
 }

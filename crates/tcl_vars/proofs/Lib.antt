@@ -1,3 +1,6 @@
 pub mod LinkLemmas
 pub mod NameLemmas
 pub mod NamedLemmas
+pub mod PutLemmas
+pub mod StoreLemmas
+pub mod TableLemmas

@@ -1,5 +1,5 @@
 -- Where links lead.
-use Rattle.std.proofs.Common.{◌≡◌, ℕ, zero, suc, ◌<◌, ◌≤◌, Bool, true, false, List, Option, None, Some, option_and_then, if◌then◌else◌, is_some, drop, nat_eq, codes, refl, sym, ap, ◌∙◌, arith}
+use Rattle.std.proofs.Common.{◌≡◌, ℕ, zero, suc, ◌<◌, ◌≤◌, Bool, true, false, List, Option, None, Some, option_and_then, if◌then◌else◌, is_some, drop, nat_eq, codes, refl, sym, ap, subst, ◌∙◌, arith}
 use Rattle.std.specs.List.{starts_with}
 use Rattle.tcl_vars.specs.Name.{Place, element_of, place_of_parts, place_in_frame, place_of}
 use Rattle.tcl_vars.specs.Sound.{LinksDescend}
@@ -95,3 +95,28 @@ led-here store place none = by place.level
     by : (n : ℕ) → led store n place ≡ Some place
     by zero = refl
     by (suc n) = ap (λ l. led_by place l (λ p. led store n p)) none
+
+-- where links end is no link
+pub led-end : (store : Store) → LinksDescend store → (n : ℕ) (place end : Place) → place.level ≤ n → led store n place ≡ Some end → link_of (content_at store end) ≡ None
+unfolding led
+led-end store down zero place end low leads = subst (λ p. link_of (content_at store p) ≡ None) same (by (link_of (content_at store place)) refl)
+  where
+    same : place ≡ end
+    same = cc
+
+    by : (l : Option (ℕ × List ℕ)) → link_of (content_at store place) ≡ l → l ≡ None
+    by None e = refl
+    by (Some link) e = absurd (omega (arith, down place link e))
+led-end store down (suc n) place end low leads =
+    by (link_of (content_at store place)) refl leads (λ next below h. led-end store down n next end (omega arith) h)
+  where
+    next_of : (link : ℕ × List ℕ) → link_of (content_at store place) ≡ Some link → (o : Option Place) → element_in (place_of link.0 link.1) place.element ≡ o
+        → option_and_then (λ next. led store n next) o ≡ Some end → ((next : Place) → next.level < place.level → led store n next ≡ Some end → link_of (content_at store end) ≡ None)
+        → link_of (content_at store end) ≡ None
+    next_of link held None e h ih = absurd (cc)
+    next_of link held (Some next) e h ih = ih next (next_below store down place next link held e) h
+
+    by : (l : Option (ℕ × List ℕ)) → link_of (content_at store place) ≡ l → led_by place l (λ next. led store n next) ≡ Some end
+        → ((next : Place) → next.level < place.level → led store n next ≡ Some end → link_of (content_at store end) ≡ None) → link_of (content_at store end) ≡ None
+    by None e h ih = let same : place ≡ end = cc in subst (λ p. link_of (content_at store p) ≡ None) same e
+    by (Some link) e h ih = next_of link e (element_in (place_of link.0 link.1) place.element) refl h ih

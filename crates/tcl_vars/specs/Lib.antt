@@ -1,5 +1,7 @@
 pub mod Name
 pub mod Named
+pub mod Owned
+pub mod Put
 pub mod Shown
 pub mod Sound
 pub mod Store

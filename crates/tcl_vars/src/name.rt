@@ -1,8 +1,10 @@
-ghost use Rattle.std.specs.Prelude.{◌≡◌, option_map};
+ghost use Rattle.std.specs.Prelude.{◌≡◌, option_map, IfOk};
 ghost use Rattle.std.specs.Option.{option_copied};
 ghost use Rattle.tcl_vars.specs.Name.{element_of, place_in_frame, place_of};
 ghost use Rattle.tcl_vars.specs.Shown.{shown};
 ghost use Rattle.tcl_vars.specs.Store.{element_in};
+
+use std::alloc::{AllocError, Global};
 
 /// A variable of the frame at a level, or an element of it where an index is given.
 #[derive(Clone, Copy)]
@@ -61,5 +63,46 @@ pub(crate) fn place_of<'a>(level: usize, name: &'a str) -> Place<'a>
     match name.strip_prefix("::") {
         Some(rest) => place_in_frame(0, rest),
         None => place_in_frame(level, name),
+    }
+}
+
+/// A place whose names are kept apart from the store, which changes there.
+#[derive(Drop)]
+pub(crate) struct OwnPlace {
+    level: usize,
+    variable: String,
+    element: Option<String>,
+}
+
+impl OwnPlace {
+    ghost use Rattle.tcl_vars.specs.Owned.{owned};
+
+    pub(crate) fn of(alloc: Global, place: Place<'_>) -> Result<OwnPlace, AllocError>
+        ensures { IfOk result (λ own. owned own ≡ shown place.entry) }
+    {
+        let variable = String::from_str(alloc, place.variable)?;
+        let element = match place.element {
+            Some(index) => Some(String::from_str(alloc, index)?),
+            None => None,
+        };
+        Ok(OwnPlace {
+            level: place.level,
+            variable,
+            element,
+        })
+    }
+
+    pub(crate) fn place(&self) -> Place<'_>
+        ensures { shown result ≡ owned self.now }
+    {
+        let element = match &self.element {
+            Some(index) => Some(index.as_str()),
+            None => None,
+        };
+        Place {
+            level: self.level,
+            variable: self.variable.as_str(),
+            element,
+        }
     }
 }

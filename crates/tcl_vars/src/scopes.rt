@@ -1,11 +1,13 @@
-ghost use Rattle.std.specs.Prelude.{◌≡◌, ◌<◌, [], ◌∷◌, length, IfOk, MatchResult, MatchOption, Ok, Err, Some, None};
+ghost use Rattle.std.specs.Prelude.{◌≡◌, ◌≢◌, ◌<◌, [], ◌∷◌, length, IfOk, IfErr, OnOk, OnErr, MatchResult, MatchOption, Ok, Err, Some, None};
 ghost use Rattle.std.specs.Option.{option_copied};
+ghost use Rattle.tcl_vars.specs.Put.{Sets};
 ghost use Rattle.tcl_vars.specs.Shown.{shown};
-ghost use Rattle.tcl_vars.specs.Store.{content_at, led, place_in, variable_in};
+ghost use Rattle.tcl_vars.specs.Store.{content_at, link_of, led, place_in, variable_in, with_variable};
 
-use crate::content::{Content, link_of, text_of};
-use crate::fault::ReadFault;
-use crate::name::{Place, place_of};
+use crate::content::{Content, Outcome, link_of, text_of};
+use crate::fault::{ReadFault, SetFault};
+use crate::frame::{Frame, put};
+use crate::name::{OwnPlace, Place, place_of};
 use crate::table::Table;
 use std::alloc::{AllocError, Global};
 use std::marker::Model;
@@ -17,7 +19,7 @@ pub const MAX_VARIABLES: usize = 4096;
 /// The variables of one application: the global frame, and one for each procedure that runs.
 #[derive(Drop)]
 pub struct Scopes {
-    frames: Vec<Table<Content>>,
+    frames: Vec<Frame>,
     count: usize,
     alloc: Global,
 }
@@ -77,12 +79,65 @@ impl Scopes {
         self.frames[place.level].get(place.variable)
     }
 
+    /// Gives the variable or element that a name means in the frame at a level a text.
+    pub fn set(&mut self, level: usize, name: &Text, value: Text) -> Result<(), SetFault>
+        requires { level < length self.old }
+        ensures ok { OnOk result (with_variable self.old level name.now value ≡ Ok self.new) }
+        ensures refused { IfErr result (λ fault. fault ≢ SetFault.NoMemory → with_variable self.old level name.now value ≡ Err fault) }
+        ensures err { OnErr result (self.new ≡ self.old) }
+    {
+        match self.put(place_of(level, name.as_str()), value)? {
+            None => Ok(()),
+            Some(value) => {
+                self.set_linked(level, name, value)?;
+                Ok(())
+            }
+        }
+    }
+
+    // Gives the variable or element to which a name's link leads a text.
+    fn set_linked(&mut self, level: usize, name: &Text, value: Text) -> Result<(), SetFault>
+        requires { level < length self.old }
+        ensures ok { OnOk result (with_variable self.old level name.now value ≡ Ok self.new) }
+        ensures refused { IfErr result (λ fault. fault ≢ SetFault.NoMemory → with_variable self.old level name.now value ≡ Err fault) }
+        ensures err { OnErr result (self.new ≡ self.old) }
+    {
+        let _ = &self.frames;
+        let place = match self.find(level, name) {
+            Some(found) => OwnPlace::of(self.alloc, found.place)?,
+            None => return Err(SetFault::NotArray),
+        };
+        self.put(place.place(), value)?;
+        Ok(())
+    }
+
+    // Sets the text of a place, or gives it back where the variable is a link.
+    fn put(&mut self, place: Place<'_>, value: Text) -> Result<Option<Text>, SetFault>
+        requires { place.level < length self.old }
+        ensures ok { IfOk result (λ back. MatchOption back
+            (Sets self.old (shown place.entry) value (Ok self.new))
+            (λ text. (link_of (content_at self.old (shown place.entry)) ≢ None) × (text ≡ value) × (self.new ≡ self.old))) }
+        ensures refused { IfErr result (λ fault. fault ≢ SetFault.NoMemory → Sets self.old (shown place.entry) value (Err fault)) }
+        ensures err { OnErr result (self.new ≡ self.old) }
+    {
+        let alloc = self.alloc;
+        let room = MAX_VARIABLES - self.count;
+        let frame = &mut self.frames[place.level];
+        match put(alloc, frame, place, value, room)? {
+            Outcome::Added(added) => {
+                self.count += added;
+                Ok(None)
+            }
+            Outcome::Linked(value) => Ok(Some(value)),
+        }
+    }
+
     // Where a name leads that is used in the frame at a level; none where an element is used as an array.
     fn find<'s: 'n, 'n>(&'s self, level: usize, name: &'n Text) -> Option<Found<'s, 'n>>
         requires { level < length self.now }
         ensures { MatchOption result
             (place_in self.now level name.now ≡ None)
-            (λ found. (place_in self.now level name.now ≡ Some (shown found.place)) × (option_copied found.content ≡ content_at self.now (shown found.place))) }
+            (λ found. (found.place.level < length self.now) × (place_in self.now level name.now ≡ Some (shown found.place)) × (option_copied found.content ≡ content_at self.now (shown found.place))) }
     {
         self.lead(place_of(level, name.as_str()))
     }
@@ -92,7 +147,7 @@ impl Scopes {
         requires { place.level < length self.now }
         ensures { MatchOption result
             (led self.now place.entry.level (shown place.entry) ≡ None)
-            (λ found. (led self.now place.entry.level (shown place.entry) ≡ Some (shown found.place)) × (option_copied found.content ≡ content_at self.now (shown found.place))) }
+            (λ found. (found.place.level < length self.now) × (led self.now place.entry.level (shown place.entry) ≡ Some (shown found.place)) × (option_copied found.content ≡ content_at self.now (shown found.place))) }
     {
         let _ = &self.frames;
         loop {

@@ -27,7 +27,7 @@ impl<V> Model for Table<V> {
 
 impl<V> Table<V> {
     /// No names. It takes no memory.
-    pub fn new(alloc: Global) -> Table<V>
+    pub(crate) fn new(alloc: Global) -> Table<V>
         ensures { result ≡ [] }
     {
         Table {
@@ -37,14 +37,14 @@ impl<V> Table<V> {
     }
 
     /// How many names there are.
-    pub fn len(&self) -> usize
+    pub(crate) fn len(&self) -> usize
         ensures { result ≡ length self.now }
     {
         self.entries.len()
     }
 
     /// The value at a name.
-    pub fn get(&self, name: &str) -> Option<&V>
+    pub(crate) fn get(&self, name: &str) -> Option<&V>
         ensures { option_copied result ≡ value_at self.now name.now }
     {
         self.entries.get(name)
@@ -53,26 +53,17 @@ impl<V> Table<V> {
 
 impl<V: Drop> Table<V> {
     /// Gives a name a value. A new name comes last; the other names keep their places and values.
-    pub fn set(&mut self, name: &str, value: V) -> Result<(), AllocError>
+    pub(crate) fn insert(&mut self, name: &str, value: V) -> Result<(), AllocError>
         ensures ok { OnOk result (self.new ≡ with_value self.old name.now value) }
         ensures err { OnErr result (self.new ≡ self.old) }
     {
-        match self.entries.get_index_of(name) {
-            Some(index) => {
-                let held = self.entries.get_index_mut(index).unwrap();
-                *held = value;
-                Ok(())
-            }
-            None => {
-                let name = String::from_str(self.alloc, name)?;
-                self.entries.insert(name, value)?;
-                Ok(())
-            }
-        }
+        let name = String::from_str(self.alloc, name)?;
+        self.entries.insert(name, value)?;
+        Ok(())
     }
 
     /// The value at a name, to write.
-    pub fn get_mut(&mut self, name: &str) -> Option<&mut V>
+    pub(crate) fn get_mut(&mut self, name: &str) -> Option<&mut V>
         ensures* writes_back { sem 𝓛 (LendsIf (the_row V.row) V.row self.entry result (with_value self.old name.now) self.old) }
         ensures value { option_copied_mut result ≡ value_at self.old name.now }
     {
@@ -83,7 +74,7 @@ impl<V: Drop> Table<V> {
     }
 
     /// Takes a name out, with its value. Those behind it move up.
-    pub fn remove(&mut self, name: &str) -> Option<V>
+    pub(crate) fn remove(&mut self, name: &str) -> Option<V>
         ensures value { result ≡ value_at self.old name.now }
         ensures rest { self.new ≡ without self.old name.now }
     {

@@ -11,5 +11,5 @@ pub returns : goal.returns
 unfolding variable_in
 returns c =
     let read : variable_in c.args.self.now c.args.level c.args.name.now ≡ text_of (option_copied c.in-Some.found.content) (option_copied c.in-Some.found.place.element)
-    = ap (text_at c.args.self.now) c.in-Some.ensures.0 ∙ ap (λ content. text_of content (option_copied c.in-Some.found.place.element)) (sym c.in-Some.ensures.1) in
+    = ap (text_at c.args.self.now) c.in-Some.ensures.1 ∙ ap (λ content. text_of content (option_copied c.in-Some.found.place.element)) (sym c.in-Some.ensures.2) in
     rw read c.text_of.ensures

@@ -30,6 +30,7 @@ loop-level-preserved c = (let lower = (followed c).0 in omega arith, (followed c
 
 pub returns-in_default : goal.returns-in_default
 returns-in_default c = (
+  c.loop-level.invariant.0,
   sym c.loop-level.invariant.1
       ∙ led-here c.args.self.now (shown c.loop-level.place) (sym (c.in_default.ensures ∙ ap link_of c.content-content.ensures)),
   c.content-content.ensures,

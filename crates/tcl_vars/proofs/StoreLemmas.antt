@@ -1,0 +1,127 @@
+-- Setting a text in a store, by what it does in the frame.
+use Rattle.std.proofs.Common.{◌≡◌, ◌≢◌, ℕ, ◌+◌, ◌-◌, ◌<◌, ◌≤◌, Bool, true, false, cond, nat_le, nat_eq, if◌then◌else◌, List, [], length, get_or, set, Option, None, Some, Ok, Err, Result, bytes_eq, refl, sym, ap, ◌∙◌, arith}
+use Rattle.std.proofs.Common.{◌⊎◌, inl, inr, MatchOption, length-set}
+use Rattle.std.proofs.lemmas.List.{get_or-set_other}
+use Rattle.std.proofs.lemmas.Grind.{get_or-set_at}
+use Rattle.std.proofs.lemmas.Bool.{true_from_ne_false, false_from_ne_true}
+use Rattle.std.proofs.lemmas.Bool.Decides.{eqb_tells, nat_tests}
+use Rattle.std.proofs.lemmas.List.Sums.{sum_by-set}
+use Rattle.tcl_vars.specs.declared.content.Content.{Content}
+use Rattle.tcl_vars.specs.declared.content.Content.TheVariants.{Scalar, Array, Link}
+use Rattle.tcl_vars.specs.declared.fault.SetFault.{SetFault}
+use Rattle.tcl_vars.specs.declared.fault.SetFault.TheVariants.{Full, NotArray}
+use Rattle.tcl_vars.specs.Name.{Place, place_of}
+use Rattle.tcl_vars.specs.Put.{PutsText, RefusesText, IsReason, Sets}
+use Rattle.tcl_vars.specs.Sound.{LinksDescend, IsSound}
+use Rattle.tcl_vars.specs.Store.{Store, Frame, frame_at, content_at, with_content, link_of, frame_count, variable_count, content_with, within_limit, with_new_content, with_text_at, place_in, with_variable}
+use Rattle.tcl_vars.specs.Table.{value_at, with_value}
+use Rattle.tcl_vars.proofs.LinkLemmas.{led-here}
+use Rattle.tcl_vars.proofs.TableLemmas.{value_at-with_value}
+
+none_is_some : {A : Type 0} {x : A} → None ≡ Some x → ⊥
+none_is_some e = cc
+
+-- a text makes no link
+content_with-linkless : (held : Option Content) (element : Option (List ℕ)) (value : List ℕ) (content : Content) → content_with held element value ≡ Ok content → link_of (Some content) ≡ None
+content_with-linkless held element value (Scalar text) e = refl
+content_with-linkless held element value (Array elements) e = refl
+content_with-linkless None None value (Link to name) e = absurd (cc)
+content_with-linkless None (Some index) value (Link to name) e = absurd (cc)
+content_with-linkless (Some (Scalar text)) None value (Link to name) e = absurd (cc)
+content_with-linkless (Some (Scalar text)) (Some index) value (Link to name) e = absurd (cc)
+content_with-linkless (Some (Array elements)) None value (Link to name) e = absurd (cc)
+content_with-linkless (Some (Array elements)) (Some index) value (Link to name) e = absurd (cc)
+content_with-linkless (Some (Link from there)) element value (Link to name) e = absurd (cc)
+
+module _ (store : Store) (level : ℕ) (within : level < length store) (new : Frame) where
+  -- the count of a store in which a frame is replaced
+  pub variable_count-set : variable_count (set store level new) + frame_count (frame_at store level) ≡ variable_count store + frame_count new
+  variable_count-set = sum_by-set frame_count store level new [] within
+
+  -- the links of a store in which a frame is replaced
+  descending-set : LinksDescend store → ((variable : List ℕ) (link : ℕ × List ℕ) → link_of (value_at new variable) ≡ Some link → link.0 < level) → LinksDescend (set store level new)
+  descending-set down lower place link e = by (eqb_tells place.level level)
+    where
+      by : ((nat_eq place.level level ≡ true) × (place.level ≡ level)) ⊎ ((nat_eq place.level level ≡ false) × (place.level ≢ level)) → link.0 < place.level
+      by (inl here) =
+          let frame : get_or (set store level new) place.level [] ≡ new = get_or-set_at store level place.level new [] here.1 within in
+          omega (arith, lower place.variable link (sym (ap (λ f. link_of (value_at f place.variable)) frame) ∙ e), here.1)
+      by (inr there) =
+          let frame : get_or (set store level new) place.level [] ≡ get_or store place.level [] = get_or-set_other store level place.level new [] there.1 in
+          down place link (sym (ap (λ f. link_of (value_at f place.variable)) frame) ∙ e)
+
+-- within the limit, or over it
+within_limit-ok : (store : Store) → variable_count store ≤ 4096 → within_limit store ≡ Ok store
+within_limit-ok store low = ap (λ b. if b then Ok store else Err Full) (true_from_ne_false (nat_le (variable_count store) 4096) (λ no. absurd (grind (arith, nat_tests))))
+
+within_limit-full : (store : Store) → 4096 < variable_count store → within_limit store ≡ Err Full
+within_limit-full store high = ap (λ b. if b then Ok store else Err Full) (false_from_ne_true (nat_le (variable_count store) 4096) (λ yes. absurd (grind (arith, nat_tests))))
+
+module _ (store : Store) (count : ℕ) (sound : IsSound store count) (place : Place) (within : place.level < length store) (value : List ℕ) where
+  module _ (added : ℕ) (new : Frame) (puts : PutsText (frame_at store place.level) place value (4096 - count) added new) where
+    counted-set : count + added ≡ variable_count (set store place.level new)
+    counted-set = omega (arith, variable_count-set store place.level within new, puts.counted, sound.counted)
+
+    lower : (variable : List ℕ) (link : ℕ × List ℕ) → link_of (value_at new variable) ≡ Some link → link.0 < place.level
+    lower variable link e =
+        by (bytes_eq variable place.variable)
+        (ap link_of (sym (ap (λ f. value_at f variable) puts.frame ∙ value_at-with_value place.variable puts.content (frame_at store place.level) variable)) ∙ e)
+      where
+        by : (b : Bool) → link_of (cond b (Some puts.content) (value_at (frame_at store place.level) variable)) ≡ Some link → link.0 < place.level
+        by true h = absurd (none_is_some (sym (content_with-linkless _ place.element value puts.content puts.given) ∙ h))
+        by false h = sound.descending (record { level = place.level; variable = variable; element = None }) link h
+
+    -- the store stays sound
+    pub IsSound-set : IsSound (set store place.level new) (count + added)
+    IsSound-set = record {
+      rooted = omega (arith, sound.rooted, length-set store place.level new);
+      counted = counted-set;
+      limited = omega (arith, puts.fits, sound.limited);
+      descending = descending-set store place.level within new sound.descending lower;
+    }
+
+    -- and is the one that the definition gives
+    pub Sets-ok : Sets store place value (Ok (set store place.level new))
+    Sets-ok = record {
+      linkless = puts.linkless;
+      given = ap (with_new_content store place) puts.given
+          ∙ ap (λ f. within_limit (set store place.level f)) (sym puts.frame)
+          ∙ within_limit-ok (set store place.level new) (omega (arith, counted-set, puts.fits, sound.limited));
+    }
+
+  -- the definition gives the refusal too
+  pub Sets-err : (fault : SetFault) → RefusesText (frame_at store place.level) place value (4096 - count) fault → Sets store place value (Err fault)
+  Sets-err fault refuses = record {
+    linkless = refuses.linkless;
+    given = by (content_with (content_at store place) place.element value) refuses.reason;
+  }
+    where
+      by : (r : Result Content SetFault) → IsReason (frame_at store place.level) place (4096 - count) fault r → with_new_content store place r ≡ Err fault
+      by (Ok content) h =
+          within_limit-full (with_content store place content)
+          (omega (arith, h.1, variable_count-set store place.level within (with_value (frame_at store place.level) place.variable content), sound.counted, sound.limited))
+          ∙ ap Err (sym h.0)
+      by (Err refusal) h = ap Err (sym h)
+
+module _ (store : Store) (level : ℕ) (name value : List ℕ) where
+  -- a name whose variable is no link
+  pub with_variable-direct : (gives : Result Store SetFault) → Sets store (place_of level name) value gives → with_variable store level name value ≡ gives
+  unfolding with_variable
+  with_variable-direct gives sets = ap (λ p. with_text_at store p value) (led-here store (place_of level name) sets.linkless) ∙ sets.given
+
+  -- a name that leads to a place
+  pub with_variable-led : (place : Place) (gives : Result Store SetFault) → place_in store level name ≡ Some place → Sets store place value gives → with_variable store level name value ≡ gives
+  unfolding with_variable
+  with_variable-led place gives leads sets = ap (λ p. with_text_at store p value) leads ∙ sets.given
+
+  -- a name that leads nowhere
+  pub with_variable-nowhere : place_in store level name ≡ None → with_variable store level name value ≡ Err NotArray
+  unfolding with_variable
+  with_variable-nowhere nowhere = ap (λ p. with_text_at store p value) nowhere
+
+-- where links end the text is set
+pub at_end : (store new : Store) (place : Place) (value : List ℕ) (back : Option (List ℕ)) → link_of (content_at store place) ≡ None
+    → MatchOption back (Sets store place value (Ok new)) (λ text. (link_of (content_at store place) ≢ None) × (text ≡ value) × (new ≡ store))
+    → Sets store place value (Ok new)
+at_end store new place value None linkless h = h
+at_end store new place value (Some text) linkless h = absurd (h.0 linkless)

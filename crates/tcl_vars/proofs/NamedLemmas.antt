@@ -53,6 +53,11 @@ module _ {Z V : Type 0} where
           let it = position-Some (is_key name) (keys_of (e ∷ es)) i e.0 found in
           at_first (e ∷ es) i e.0 it.0 it.1 it.2
 
+-- the entries after an insertion, in the words of the calls
+pub named-inserted : {Z V : Type 0} (name : List ℕ) (value : V) (key : String Z) (old new : List (String Z × V)) → string_bytes key ≡ name → new ≡ insert_entry string_eq old key value
+    → named new ≡ insert_entry bytes_eq (named old) name value
+named-inserted name value key old new same is = ap named is ∙ named-insert_entry value key old ∙ ap (λ n. insert_entry bytes_eq (named old) n value) same
+
 -- a look-up that finds nothing
 pub none_of : {V : Type 0} (o : Option V) → false ≡ is_some o → None ≡ o
 none_of None h = refl

@@ -9,11 +9,11 @@ use Rattle.std.proofs.lemmas.List.Sums.{sum_by-set}
 use Rattle.tcl_vars.specs.declared.content.Content.{Content}
 use Rattle.tcl_vars.specs.declared.content.Content.TheVariants.{Scalar, Array, Link}
 use Rattle.tcl_vars.specs.declared.fault.SetFault.{SetFault}
-use Rattle.tcl_vars.specs.declared.fault.SetFault.TheVariants.{Full, NotArray}
-use Rattle.tcl_vars.specs.Name.{Place, place_of}
+use Rattle.tcl_vars.specs.declared.fault.SetFault.TheVariants.{Full}
+use Rattle.tcl_vars.specs.Name.{Place}
 use Rattle.tcl_vars.specs.Put.{PutsText, RefusesText, IsReason, Sets}
 use Rattle.tcl_vars.specs.Sound.{LinksDescend, IsSound}
-use Rattle.tcl_vars.specs.Store.{Store, Frame, frame_at, content_at, with_content, link_of, frame_count, variable_count, content_with, within_limit, with_new_content, with_text_at, place_in, with_variable}
+use Rattle.tcl_vars.specs.Store.{Store, Frame, frame_at, content_at, with_content, link_of, frame_count, variable_count, content_with, within_limit, with_new_content, with_text_at, end_of}
 use Rattle.tcl_vars.specs.Table.{value_at, with_value}
 use Rattle.tcl_vars.proofs.LinkLemmas.{led-here}
 use Rattle.tcl_vars.proofs.TableLemmas.{value_at-with_value}
@@ -103,21 +103,14 @@ module _ (store : Store) (count : ℕ) (sound : IsSound store count) (place : Pl
           ∙ ap Err (sym h.0)
       by (Err refusal) h = ap Err (sym h)
 
-module _ (store : Store) (level : ℕ) (name value : List ℕ) where
-  -- a name whose variable is no link
-  pub with_variable-direct : (gives : Result Store SetFault) → Sets store (place_of level name) value gives → with_variable store level name value ≡ gives
-  unfolding with_variable
-  with_variable-direct gives sets = ap (λ p. with_text_at store p value) (led-here store (place_of level name) sets.linkless) ∙ sets.given
+module _ (store : Store) (place : Place) (value : List ℕ) where
+  -- a place whose variable is no link
+  pub with_text_at-direct : (gives : Result Store SetFault) → Sets store place value gives → with_text_at store (end_of store place) value ≡ gives
+  with_text_at-direct gives sets = ap (λ p. with_text_at store p value) (led-here store place sets.linkless) ∙ sets.given
 
-  -- a name that leads to a place
-  pub with_variable-led : (place : Place) (gives : Result Store SetFault) → place_in store level name ≡ Some place → Sets store place value gives → with_variable store level name value ≡ gives
-  unfolding with_variable
-  with_variable-led place gives leads sets = ap (λ p. with_text_at store p value) leads ∙ sets.given
-
-  -- a name that leads nowhere
-  pub with_variable-nowhere : place_in store level name ≡ None → with_variable store level name value ≡ Err NotArray
-  unfolding with_variable
-  with_variable-nowhere nowhere = ap (λ p. with_text_at store p value) nowhere
+  -- a place that leads to another
+  pub with_text_at-led : (end : Place) (gives : Result Store SetFault) → end_of store place ≡ Some end → Sets store end value gives → with_text_at store (end_of store place) value ≡ gives
+  with_text_at-led end gives leads sets = ap (λ p. with_text_at store p value) leads ∙ sets.given
 
 -- where links end the text is set
 pub at_end : (store new : Store) (place : Place) (value : List ℕ) (back : Option (List ℕ)) → link_of (content_at store place) ≡ None

@@ -1,6 +1,7 @@
-ghost use Rattle.std.specs.Prelude.{◌≡◌, ◌≢◌, ◌+◌, ◌<◌, ◌≤◌, length, option_map, MatchResult, Ok, Err, IfOk, IfErr, OnErr};
+ghost use Rattle.std.specs.Prelude.{◌≡◌, ◌≢◌, ◌+◌, ◌<◌, ◌≤◌, length, option_map, MatchResult, Ok, Err, IfOk, IfErr, IfSome, OnErr};
 ghost use Rattle.std.specs.Option.{option_copied};
 ghost use Rattle.tcl_vars.specs.Put.{AfterContent, RefusesContent};
+ghost use Rattle.tcl_vars.specs.Short.{IsShort};
 ghost use Rattle.tcl_vars.specs.Store.{link_of, text_of};
 ghost use Rattle.tcl_vars.specs.Table.{with_value};
 
@@ -42,7 +43,8 @@ pub(crate) fn text_of<'a>(
 
 /// The level and the name that a link gives.
 pub(crate) fn link_of<'a>(content: Option<&'a Content>) -> Option<(usize, &'a str)>
-    ensures { option_map (λ link. (link.0, link.1.now)) result ≡ link_of (option_copied content.entry) }
+    ensures link { option_map (λ link. (link.0, link.1.now)) result ≡ link_of (option_copied content.entry) }
+    ensures short { IfSome result (λ link. IsShort link.1.now) }
 {
     match content {
         Some(Content::Link(level, name)) => Some((*level, name.as_str())),
@@ -69,6 +71,7 @@ impl Content {
         value: Text,
         room: usize,
     ) -> Result<Outcome, SetFault>
+        requires { IfSome (option_copied element) IsShort }
         ensures ok { IfOk result (λ done. AfterContent self.old (option_copied element.entry) value room done self.new) }
         ensures refused { IfErr result (λ fault. fault ≢ SetFault.NoMemory → RefusesContent self.old (option_copied element.entry) value room fault) }
         ensures err { OnErr result (self.new ≡ self.old) }
@@ -96,6 +99,7 @@ fn put_element(
     value: Text,
     room: usize,
 ) -> Result<usize, SetFault>
+    requires { IsShort index.now }
     ensures ok { IfOk result (λ added. (elements.new ≡ with_value elements.old index.now value) × (length elements.new ≡ length elements.old + added) × (added ≤ room)) }
     ensures full { IfErr result (λ fault. fault ≢ SetFault.NoMemory →
         (fault ≡ SetFault.Full) × (length elements.old + room < length (with_value elements.old index.now value))) }

@@ -1,6 +1,7 @@
-ghost use Rattle.std.specs.Prelude.{◌≡◌, ◌≢◌, None, Ok, IfOk, IfErr, OnErr};
+ghost use Rattle.std.specs.Prelude.{◌≡◌, ◌≢◌, None, Ok, IfOk, IfErr, IfSome, OnErr};
 ghost use Rattle.std.specs.Option.{option_copied};
 ghost use Rattle.tcl_vars.specs.Put.{RefusesText, AfterPut, new_count};
+ghost use Rattle.tcl_vars.specs.Short.{IsShort, IsShortPlace};
 ghost use Rattle.tcl_vars.specs.Shown.{shown};
 ghost use Rattle.tcl_vars.specs.Store.{content_with};
 ghost use Rattle.tcl_vars.specs.Table.{value_at};
@@ -23,6 +24,7 @@ pub(crate) fn put(
     value: Text,
     room: usize,
 ) -> Result<Outcome, SetFault>
+    requires { IsShortPlace (shown place) }
     ensures ok { IfOk result (λ done. AfterPut frame.old (shown place.entry) value room done frame.new) }
     ensures refused { IfErr result (λ fault. fault ≢ SetFault.NoMemory → RefusesText frame.old (shown place.entry) value room fault) }
     ensures err { OnErr result (frame.new ≡ frame.old) }
@@ -44,7 +46,8 @@ fn put_new(
     value: Text,
     room: usize,
 ) -> Result<Outcome, SetFault>
-    requires { value_at frame.old place.variable.now ≡ None }
+    requires absent { value_at frame.old place.variable.now ≡ None }
+    requires short { IsShortPlace (shown place) }
     ensures ok { IfOk result (λ done. AfterPut frame.old (shown place.entry) value room done frame.new) }
     ensures refused { IfErr result (λ fault. fault ≢ SetFault.NoMemory → RefusesText frame.old (shown place.entry) value room fault) }
     ensures err { OnErr result (frame.new ≡ frame.old) }
@@ -70,6 +73,7 @@ fn new_count(element: Option<&str>) -> usize
 
 // A new variable of this text, or of an element of it.
 fn new_content(alloc: Global, element: Option<&str>, value: Text) -> Result<Content, AllocError>
+    requires { IfSome (option_copied element) IsShort }
     ensures { IfOk result (λ content. content_with None (option_copied element.entry) value ≡ Ok content) }
 {
     match element {

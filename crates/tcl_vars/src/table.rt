@@ -3,6 +3,7 @@ ghost use Rattle.std.specs.Option.{option_copied};
 ghost use Rattle.std.specs.Borrow.{LendsIf, sem};
 ghost use Rattle.std.specs.Option.{option_copied_mut};
 ghost use Rattle.tcl_vars.specs.contracts.table.Table.{the_row};
+ghost use Rattle.tcl_vars.specs.Short.{IsShort};
 ghost use Rattle.tcl_vars.specs.Table.{value_at, with_value, without};
 
 use indexmap::IndexMap;
@@ -23,6 +24,10 @@ impl<V> Model for Table<V> {
     ghost Value = { List (List ℕ × V) };
 
     ghost view = { λ t. named t.entries.entries };
+
+    ghost use Rattle.tcl_vars.specs.Short.{ShortNames};
+
+    ghost invariant = { λ t. ShortNames (named t.entries.entries) };
 }
 
 impl<V> Table<V> {
@@ -54,6 +59,7 @@ impl<V> Table<V> {
 impl<V: Drop> Table<V> {
     /// Gives a name a value. A new name comes last; the other names keep their places and values.
     pub(crate) fn insert(&mut self, name: &str, value: V) -> Result<(), AllocError>
+        requires { IsShort name.now }
         ensures ok { OnOk result (self.new ≡ with_value self.old name.now value) }
         ensures err { OnErr result (self.new ≡ self.old) }
     {

@@ -1,3 +1,5 @@
+pub mod BelowLemmas
+pub mod CountLemmas
 pub mod LinkLemmas
 pub mod NameLemmas
 pub mod NamedLemmas

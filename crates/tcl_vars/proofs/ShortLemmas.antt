@@ -1,5 +1,5 @@
 -- Short names stay short.
-use Rattle.std.proofs.Common.{◌≡◌, ℕ, zero, suc, Bool, true, false, cond, List, [], ◌∷◌, String, string_bytes, bytes_eq}
+use Rattle.std.proofs.Common.{◌≡◌, ℕ, zero, suc, Bool, true, false, cond, List, [], ◌∷◌, String, string_bytes, bytes_eq, slice_get, Some, subst}
 use Rattle.indexmap.specs.IndexMap.{set_value_at}
 use Rattle.tcl_vars.specs.Named.{named}
 use Rattle.tcl_vars.specs.Short.{IsShort, ShortNames}
@@ -26,3 +26,8 @@ module _ {V : Type 0} where
   ShortNames-set_value_at [] i value h = tt
   ShortNames-set_value_at (e ∷ es) zero value h = (h.0, h.1)
   ShortNames-set_value_at (e ∷ es) (suc i) value h = (h.0, ShortNames-set_value_at es i value h.1)
+
+  pub IsShort-at : (table : Table V) (index : ℕ) (entry : List ℕ × V) → slice_get table index ≡ Some entry → ShortNames table → IsShort entry.0
+  IsShort-at [] index entry at h = absurd (cc)
+  IsShort-at (e ∷ es) zero entry at h = let same : e ≡ entry = cc in subst (λ x. IsShort x.0) same h.0
+  IsShort-at (e ∷ es) (suc index) entry at h = IsShort-at es index entry at h.1

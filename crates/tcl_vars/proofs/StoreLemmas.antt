@@ -1,6 +1,6 @@
 -- Setting a text in a store, by what it does in the frame.
 use Rattle.std.proofs.Common.{◌≡◌, ◌≢◌, ℕ, ◌+◌, ◌-◌, ◌<◌, ◌≤◌, Bool, true, false, cond, nat_le, nat_eq, if◌then◌else◌, List, [], length, get_or, set, Option, None, Some, Ok, Err, Result, bytes_eq, refl, sym, ap, ◌∙◌, arith}
-use Rattle.std.proofs.Common.{◌⊎◌, inl, inr, MatchOption, length-set}
+use Rattle.std.proofs.Common.{◌⊎◌, inl, inr, MatchOption, length-set, subst}
 use Rattle.std.proofs.lemmas.List.{get_or-set_other}
 use Rattle.std.proofs.lemmas.Grind.{get_or-set_at}
 use Rattle.std.proofs.lemmas.Bool.{true_from_ne_false, false_from_ne_true}
@@ -12,26 +12,12 @@ use Rattle.tcl_vars.specs.declared.fault.SetFault.{SetFault}
 use Rattle.tcl_vars.specs.declared.fault.SetFault.TheVariants.{Full}
 use Rattle.tcl_vars.specs.Name.{Place}
 use Rattle.tcl_vars.specs.Put.{PutsText, RefusesText, IsReason, Sets}
-use Rattle.tcl_vars.specs.Sound.{LinksDescend, IsSound}
+use Rattle.tcl_vars.specs.Sound.{AllBelow, FramesDescend, IsSound}
 use Rattle.tcl_vars.specs.Store.{Store, Frame, frame_at, content_at, with_content, link_of, frame_count, variable_count, content_with, within_limit, with_new_content, with_text_at, end_of}
 use Rattle.tcl_vars.specs.Table.{value_at, with_value}
+use Rattle.tcl_vars.proofs.BelowLemmas.{AllBelow-with_value, content_with-below}
 use Rattle.tcl_vars.proofs.LinkLemmas.{led-here}
 use Rattle.tcl_vars.proofs.TableLemmas.{value_at-with_value}
-
-none_is_some : {A : Type 0} {x : A} → None ≡ Some x → ⊥
-none_is_some e = cc
-
--- a text makes no link
-content_with-linkless : (held : Option Content) (element : Option (List ℕ)) (value : List ℕ) (content : Content) → content_with held element value ≡ Ok content → link_of (Some content) ≡ None
-content_with-linkless held element value (Scalar text) e = refl
-content_with-linkless held element value (Array elements) e = refl
-content_with-linkless None None value (Link to name) e = absurd (cc)
-content_with-linkless None (Some index) value (Link to name) e = absurd (cc)
-content_with-linkless (Some (Scalar text)) None value (Link to name) e = absurd (cc)
-content_with-linkless (Some (Scalar text)) (Some index) value (Link to name) e = absurd (cc)
-content_with-linkless (Some (Array elements)) None value (Link to name) e = absurd (cc)
-content_with-linkless (Some (Array elements)) (Some index) value (Link to name) e = absurd (cc)
-content_with-linkless (Some (Link from there)) element value (Link to name) e = absurd (cc)
 
 module _ (store : Store) (level : ℕ) (within : level < length store) (new : Frame) where
   -- the count of a store in which a frame is replaced
@@ -39,16 +25,12 @@ module _ (store : Store) (level : ℕ) (within : level < length store) (new : Fr
   variable_count-set = sum_by-set frame_count store level new [] within
 
   -- the links of a store in which a frame is replaced
-  descending-set : LinksDescend store → ((variable : List ℕ) (link : ℕ × List ℕ) → link_of (value_at new variable) ≡ Some link → link.0 < level) → LinksDescend (set store level new)
-  descending-set down lower place link e = by (eqb_tells place.level level)
+  FramesDescend-set : FramesDescend store → AllBelow level new → FramesDescend (set store level new)
+  FramesDescend-set down below other = by (eqb_tells other level)
     where
-      by : ((nat_eq place.level level ≡ true) × (place.level ≡ level)) ⊎ ((nat_eq place.level level ≡ false) × (place.level ≢ level)) → link.0 < place.level
-      by (inl here) =
-          let frame : get_or (set store level new) place.level [] ≡ new = get_or-set_at store level place.level new [] here.1 within in
-          omega (arith, lower place.variable link (sym (ap (λ f. link_of (value_at f place.variable)) frame) ∙ e), here.1)
-      by (inr there) =
-          let frame : get_or (set store level new) place.level [] ≡ get_or store place.level [] = get_or-set_other store level place.level new [] there.1 in
-          down place link (sym (ap (λ f. link_of (value_at f place.variable)) frame) ∙ e)
+      by : ((nat_eq other level ≡ true) × (other ≡ level)) ⊎ ((nat_eq other level ≡ false) × (other ≢ level)) → AllBelow other (frame_at (set store level new) other)
+      by (inl here) = subst (AllBelow other) (sym (get_or-set_at store level other new [] here.1 within)) (subst (λ l. AllBelow l new) (sym here.1) below)
+      by (inr there) = subst (AllBelow other) (sym (get_or-set_other store level other new [] there.1)) (down other)
 
 -- within the limit, or over it
 within_limit-ok : (store : Store) → variable_count store ≤ 4096 → within_limit store ≡ Ok store
@@ -62,14 +44,10 @@ module _ (store : Store) (count : ℕ) (sound : IsSound store count) (place : Pl
     counted-set : count + added ≡ variable_count (set store place.level new)
     counted-set = omega (arith, variable_count-set store place.level within new, puts.counted, sound.counted)
 
-    lower : (variable : List ℕ) (link : ℕ × List ℕ) → link_of (value_at new variable) ≡ Some link → link.0 < place.level
-    lower variable link e =
-        by (bytes_eq variable place.variable)
-        (ap link_of (sym (ap (λ f. value_at f variable) puts.frame ∙ value_at-with_value place.variable puts.content (frame_at store place.level) variable)) ∙ e)
-      where
-        by : (b : Bool) → link_of (cond b (Some puts.content) (value_at (frame_at store place.level) variable)) ≡ Some link → link.0 < place.level
-        by true h = absurd (none_is_some (sym (content_with-linkless _ place.element value puts.content puts.given) ∙ h))
-        by false h = sound.descending (record { level = place.level; variable = variable; element = None }) link h
+    below : AllBelow place.level new
+    below = subst (AllBelow place.level) (sym puts.frame)
+        (AllBelow-with_value place.level (frame_at store place.level) place.variable puts.content (sound.descending place.level)
+        (content_with-below place.level _ place.element value puts.content puts.given))
 
     -- the store stays sound
     pub IsSound-set : IsSound (set store place.level new) (count + added)
@@ -77,7 +55,7 @@ module _ (store : Store) (count : ℕ) (sound : IsSound store count) (place : Pl
       rooted = omega (arith, sound.rooted, length-set store place.level new);
       counted = counted-set;
       limited = omega (arith, puts.fits, sound.limited);
-      descending = descending-set store place.level within new sound.descending lower;
+      descending = FramesDescend-set store place.level within new sound.descending below;
     }
 
     -- and is the one that the definition gives

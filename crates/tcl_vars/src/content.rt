@@ -2,7 +2,7 @@ ghost use Rattle.std.specs.Prelude.{◌≡◌, ◌≢◌, ◌+◌, ◌<◌, ◌�
 ghost use Rattle.std.specs.Option.{option_copied};
 ghost use Rattle.tcl_vars.specs.Put.{AfterContent, RefusesContent};
 ghost use Rattle.tcl_vars.specs.Short.{IsShort};
-ghost use Rattle.tcl_vars.specs.Store.{link_of, text_of};
+ghost use Rattle.tcl_vars.specs.Store.{content_count, link_of, text_of};
 ghost use Rattle.tcl_vars.specs.Table.{with_value};
 
 use crate::fault::{ReadFault, SetFault};
@@ -64,6 +64,17 @@ pub(crate) enum Outcome {
 }
 
 impl Content {
+    /// How many variables it counts: one, and one more for each element.
+    pub(crate) fn count(&self) -> usize
+        ensures { result ≡ content_count self.now }
+    {
+        match self {
+            Content::Scalar(_) => 1,
+            Content::Array(elements) => elements.len() + 1,
+            Content::Link(_, _) => 1,
+        }
+    }
+
     /// Sets the text, or that of an element, with room for so many more variables.
     pub(crate) fn put(
         &mut self,

@@ -1,9 +1,9 @@
-ghost use Rattle.std.specs.Prelude.{◌≡◌, ◌≢◌, None, Ok, IfOk, IfErr, IfSome, OnErr};
+ghost use Rattle.std.specs.Prelude.{◌≡◌, ◌≢◌, ◌≤◌, None, Ok, IfOk, IfErr, IfSome, OnErr};
 ghost use Rattle.std.specs.Option.{option_copied};
 ghost use Rattle.tcl_vars.specs.Put.{RefusesText, AfterPut, new_count};
 ghost use Rattle.tcl_vars.specs.Short.{IsShort, IsShortPlace};
 ghost use Rattle.tcl_vars.specs.Shown.{shown};
-ghost use Rattle.tcl_vars.specs.Store.{content_with};
+ghost use Rattle.tcl_vars.specs.Store.{content_with, frame_count};
 ghost use Rattle.tcl_vars.specs.Table.{value_at};
 
 use crate::content::{Content, Outcome};
@@ -15,6 +15,19 @@ use tcl_text::Text;
 
 /// The names of one frame, in the order in which they came.
 pub(crate) type Frame = Table<Content>;
+
+/// How many variables a frame has.
+pub(crate) fn variable_count(frame: &Frame) -> usize
+    requires { frame_count frame.now ≤ 4096 }
+    ensures { result ≡ frame_count frame.now }
+{
+    let mut count = 0;
+    for index in 0..frame.len() {
+        let (_, content) = frame.at(index);
+        count += content.count();
+    }
+    count
+}
 
 /// Sets the text of a place of the frame, with room for so many more variables.
 pub(crate) fn put(

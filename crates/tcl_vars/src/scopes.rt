@@ -1,4 +1,4 @@
-ghost use Rattle.std.specs.Prelude.{◌≡◌, ◌≢◌, ◌<◌, [], ◌∷◌, length, IfOk, IfErr, OnOk, OnErr, MatchResult, MatchOption, Ok, Err, Some, None};
+ghost use Rattle.std.specs.Prelude.{◌≡◌, ◌≢◌, ◌<◌, ◌-◌, [], ◌∷◌, ◌++◌, length, take, IfOk, IfErr, OnOk, OnErr, MatchResult, MatchOption, Ok, Err, Some, None};
 ghost use Rattle.std.specs.Option.{option_copied};
 ghost use Rattle.tcl_vars.specs.Put.{Sets};
 ghost use Rattle.tcl_vars.specs.Short.{IsShortPlace};
@@ -7,7 +7,7 @@ ghost use Rattle.tcl_vars.specs.Store.{content_at, link_of, end_of, text_at, var
 
 use crate::content::{Content, Outcome, link_of, text_of};
 use crate::fault::{ReadFault, SetFault};
-use crate::frame::{Frame, put};
+use crate::frame::{Frame, put, variable_count};
 use crate::name::{OwnPlace, Place, element_place, place_of};
 use crate::table::Table;
 use std::alloc::{AllocError, Global};
@@ -64,6 +64,24 @@ impl Scopes {
         ensures { result ≡ length self.now }
     {
         self.frames.len()
+    }
+
+    /// Adds a frame without variables, for a procedure that begins.
+    pub fn push_frame(&mut self) -> Result<(), AllocError>
+        ensures ok { OnOk result (self.new ≡ self.old ++ [] ∷ []) }
+        ensures err { OnErr result (self.new ≡ self.old) }
+    {
+        self.frames.push(Table::new(self.alloc))?;
+        Ok(())
+    }
+
+    /// Drops the last frame with its variables, where a procedure ends. It takes no memory.
+    pub fn pop_frame(&mut self)
+        requires { 1 < length self.old }
+        ensures { self.new ≡ take (length self.old - 1) self.old }
+    {
+        let frame = self.frames.pop().unwrap();
+        self.count -= variable_count(&frame);
     }
 
     /// The text of the variable or element that a name means in the frame at a level (Tcl(n), set(n)). It takes no memory.

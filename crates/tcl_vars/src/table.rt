@@ -1,4 +1,4 @@
-ghost use Rattle.std.specs.Prelude.{◌≡◌, [], length, OnOk, OnErr, IfOk};
+ghost use Rattle.std.specs.Prelude.{◌≡◌, ◌<◌, ◌^◌, [], length, slice_get, Some, OnOk, OnErr};
 ghost use Rattle.std.specs.Option.{option_copied};
 ghost use Rattle.std.specs.Borrow.{LendsIf, sem};
 ghost use Rattle.std.specs.Option.{option_copied_mut};
@@ -43,9 +43,20 @@ impl<V> Table<V> {
 
     /// How many names there are.
     pub(crate) fn len(&self) -> usize
-        ensures { result ≡ length self.now }
+        ensures len { result ≡ length self.now }
+        ensures small { result < 2 ^ 63 }
     {
         self.entries.len()
+    }
+
+    /// The name and the value at a place of the order.
+    pub(crate) fn at(&self, index: usize) -> (&str, &V)
+        requires { index < length self.now }
+        ensures entry { slice_get self.now index ≡ Some (result.0.now, result.1.now) }
+        ensures short { IsShort result.0.now }
+    {
+        let (name, value) = self.entries.get_index(index).unwrap();
+        (name.as_str(), value)
     }
 
     /// The value at a name.

@@ -3,15 +3,16 @@ use Rattle.std.proofs.Common.{◌≡◌, ◌<◌, ◌∙◌, sym, ap, subst, opt
 use Rattle.std.proofs.lemmas.Result.{err_from_is_err_and}
 use Rattle.tcl_vars.specs.Name.{Place, place_of}
 use Rattle.tcl_vars.specs.Shown.{shown}
-use Rattle.tcl_vars.specs.Sound.{LinksDescend}
+use Rattle.tcl_vars.specs.Sound.{FramesDescend}
 use Rattle.tcl_vars.specs.Store.{content_at, link_of, indexed, led, end_of}
+use Rattle.tcl_vars.proofs.BelowLemmas.{LinksDescend-frames}
 use Rattle.tcl_vars.proofs.LinkLemmas.{led-link, led-nowhere, led-here}
 use Rattle.tcl_vars.proofs.scopes.Scopes.lead.Goals as goal
 
 followed : (c : goal.In_ok-place) → (c.in_ok-place.place.level < c.loop-level.place.level)
     × (led c.args.self.now c.in_ok-place.place.level (shown c.in_ok-place.place) ≡ led c.args.self.now c.loop-level.place.level (shown c.loop-level.place))
 followed c =
-    led-link c.args.self.now (subst LinksDescend c.self.view_is c.self.invariant.descending) (shown c.loop-level.place) (c.in-Some.level, c.in-Some.name.now)
+    led-link c.args.self.now (LinksDescend-frames c.args.self.now (subst FramesDescend c.self.view_is c.self.invariant.descending)) (shown c.loop-level.place) (c.in-Some.level, c.in-Some.name.now)
     (sym (c.in-Some.ensures.link ∙ ap link_of c.content-content.ensures))
     (shown c.in_ok-place.place)
     (sym (c.in_ok-place.ensures.place ∙ ap (λ p. indexed p (option_copied c.loop-level.place.element)) c.place_of.ensures.place))
@@ -20,7 +21,7 @@ pub returns-in_err-place : goal.returns-in_err-place
 returns-in_err-place c =
     rw c.from_residual.ensures
     (sym c.loop-level.invariant.leads
-    ∙ led-nowhere c.args.self.now (subst LinksDescend c.self.view_is c.self.invariant.descending) (shown c.loop-level.place) (c.in-Some.level, c.in-Some.name.now)
+    ∙ led-nowhere c.args.self.now (LinksDescend-frames c.args.self.now (subst FramesDescend c.self.view_is c.self.invariant.descending)) (shown c.loop-level.place) (c.in-Some.level, c.in-Some.name.now)
     (sym (c.in-Some.ensures.link ∙ ap link_of c.content-content.ensures))
     (sym (c.in_err-place.ensures.place ∙ ap (λ p. indexed p (option_copied c.loop-level.place.element)) c.place_of.ensures.place)))
 

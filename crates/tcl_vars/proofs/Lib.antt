@@ -7,3 +7,4 @@ pub mod PutLemmas
 pub mod ShortLemmas
 pub mod StoreLemmas
 pub mod TableLemmas
+pub mod UnsetLemmas

@@ -25,7 +25,7 @@ module _ (store : Store) (level : ℕ) (within : level < length store) (new : Fr
   variable_count-set = sum_by-set frame_count store level new [] within
 
   -- the links of a store in which a frame is replaced
-  FramesDescend-set : FramesDescend store → AllBelow level new → FramesDescend (set store level new)
+  pub FramesDescend-set : FramesDescend store → AllBelow level new → FramesDescend (set store level new)
   FramesDescend-set down below other = by (eqb_tells other level)
     where
       by : ((nat_eq other level ≡ true) × (other ≡ level)) ⊎ ((nat_eq other level ≡ false) × (other ≢ level)) → AllBelow other (frame_at (set store level new) other)

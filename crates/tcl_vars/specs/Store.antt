@@ -6,8 +6,10 @@ use Rattle.tcl_vars.specs.declared.fault.ReadFault.{ReadFault}
 use Rattle.tcl_vars.specs.declared.fault.ReadFault.TheVariants as reads
 use Rattle.tcl_vars.specs.declared.fault.SetFault.{SetFault}
 use Rattle.tcl_vars.specs.declared.fault.SetFault.TheVariants as sets
+use Rattle.tcl_vars.specs.declared.fault.UnsetFault.{UnsetFault}
+use Rattle.tcl_vars.specs.declared.fault.UnsetFault.TheVariants as unsets
 use Rattle.tcl_vars.specs.Name.{Place, place_of}
-use Rattle.tcl_vars.specs.Table.{Table, value_at, with_value}
+use Rattle.tcl_vars.specs.Table.{Table, value_at, with_value, without}
 
 -- what the names of one procedure's call, or the global ones, stand for
 abbrev pub Frame : Type 0
@@ -132,3 +134,31 @@ with_variable store level name value = with_text_at store (place_in store level 
 -- the store after the element that an index gives of the array that a name means is set
 unfoldable pub with_element : Store → ℕ → List ℕ → List ℕ → List ℕ → Result Store SetFault
 with_element store level name index value = with_text_at store (element_place_in store level name index) value
+
+-- Removing
+
+-- what is left of a content after its text, or that of its element, is unset; nothing of a scalar or a whole array
+abbrev pub content_without : Option Content → Option (List ℕ) → Result (Option Content) UnsetFault
+content_without None element = Err unsets.NoVariable
+content_without (Some (Scalar text)) None = Ok None
+content_without (Some (Scalar text)) (Some index) = Err unsets.NotArray
+content_without (Some (Array elements)) None = Ok None
+content_without (Some (Array elements)) (Some index) = if is_some (value_at elements index) then Ok (Some (Array (without elements index))) else Err unsets.NoElement
+content_without (Some (Link level name)) element = Err unsets.NoVariable
+
+-- the frame in which this is left of the content of a variable
+abbrev pub frame_with_rest : Frame → List ℕ → Option Content → Frame
+frame_with_rest frame variable None = without frame variable
+frame_with_rest frame variable (Some content) = with_value frame variable content
+
+abbrev pub with_rest : Store → Place → Result (Option Content) UnsetFault → Result Store UnsetFault
+with_rest store place (Ok rest) = Ok (slice_set store place.level (frame_with_rest (frame_at store place.level) place.variable rest))
+with_rest store place (Err fault) = Err fault
+
+abbrev pub without_text_at : Store → Option Place → Result Store UnsetFault
+without_text_at store None = Err unsets.NotArray
+without_text_at store (Some place) = with_rest store place (content_without (content_at store place) place.element)
+
+-- the store after the variable or element that a name means in the frame at a level is unset
+unfoldable pub without_variable : Store → ℕ → List ℕ → Result Store UnsetFault
+without_variable store level name = without_text_at store (place_in store level name)

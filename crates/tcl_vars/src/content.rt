@@ -1,11 +1,12 @@
-ghost use Rattle.std.specs.Prelude.{◌≡◌, ◌≢◌, ◌+◌, ◌<◌, ◌≤◌, length, option_map, MatchResult, Ok, Err, IfOk, IfErr, IfSome, OnErr};
+ghost use Rattle.std.specs.Prelude.{◌≡◌, ◌≢◌, ◌+◌, ◌<◌, ◌≤◌, length, option_map, ◌↔◌, MatchResult, Ok, Err, Some, None, IsOk, IsSome, IfOk, IfErr, IfSome, OnOk, OnErr};
 ghost use Rattle.std.specs.Option.{option_copied};
 ghost use Rattle.tcl_vars.specs.Put.{AfterContent, RefusesContent};
 ghost use Rattle.tcl_vars.specs.Short.{IsShort};
-ghost use Rattle.tcl_vars.specs.Store.{content_count, link_of, text_of};
-ghost use Rattle.tcl_vars.specs.Table.{with_value};
+ghost use Rattle.tcl_vars.specs.Store.{content_count, content_without, link_of, text_of};
+ghost use Rattle.tcl_vars.specs.Unset.{AfterUnset};
+ghost use Rattle.tcl_vars.specs.Table.{value_at, with_value, without};
 
-use crate::fault::{ReadFault, SetFault};
+use crate::fault::{ReadFault, SetFault, UnsetFault};
 use crate::table::Table;
 use tcl_text::Text;
 
@@ -63,6 +64,16 @@ pub(crate) enum Outcome {
     Linked(Text),
 }
 
+/// What came of unsetting.
+pub(crate) enum Removal {
+    /// The whole variable goes, which counts so many. It is still to be taken out of its frame.
+    Whole(usize),
+    /// An element is gone.
+    Element,
+    /// Nothing is done, since the variable is a link.
+    Linked,
+}
+
 impl Content {
     /// How many variables it counts: one, and one more for each element.
     pub(crate) fn count(&self) -> usize
@@ -101,6 +112,24 @@ impl Content {
             }
         }
     }
+
+    /// Takes out an element, or tells how many variables go with the whole (unset(n)).
+    pub(crate) fn unset(&mut self, element: Option<&str>) -> Result<Removal, UnsetFault>
+        ensures ok { IfOk result (λ done. AfterUnset self.old (option_copied element.entry) done self.new) }
+        ensures refused { IfErr result (λ fault. (link_of (Some self.old) ≡ None) × (content_without (Some self.old) (option_copied element.entry) ≡ Err fault)) }
+        ensures err { OnErr result (self.new ≡ self.old) }
+    {
+        match (self, element) {
+            (Content::Link(_, _), _) => Ok(Removal::Linked),
+            (Content::Scalar(_), None) => Ok(Removal::Whole(1)),
+            (Content::Scalar(_), Some(_)) => Err(UnsetFault::NotArray),
+            (Content::Array(elements), None) => Ok(Removal::Whole(elements.len() + 1)),
+            (Content::Array(elements), Some(index)) => {
+                remove_element(elements, index)?;
+                Ok(Removal::Element)
+            }
+        }
+    }
 }
 
 // Sets an element, with room for so many more.
@@ -129,4 +158,17 @@ fn put_element(
             Ok(1)
         }
     }
+}
+
+// Takes an element out.
+fn remove_element(elements: &mut Table<Text>, index: &str) -> Result<(), UnsetFault>
+    ensures there { IsOk result ↔ IsSome (value_at elements.old index.now) }
+    ensures ok { OnOk result ((elements.new ≡ without elements.old index.now) × (length elements.new + 1 ≡ length elements.old)) }
+    ensures absent { IfErr result (λ fault. fault ≡ UnsetFault.NoElement) }
+    ensures err { OnErr result (elements.new ≡ elements.old) }
+{
+    let Some(_) = elements.remove(index) else {
+        return Err(UnsetFault::NoElement);
+    };
+    Ok(())
 }

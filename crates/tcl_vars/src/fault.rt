@@ -56,3 +56,31 @@ impl<T: Drop> From<AllocFailed<T>> for SetFault {
         SetFault::NoMemory
     }
 }
+
+/// Why a variable can't be unset.
+#[derive(Clone, Copy, Debug, PartialEq, Eq, Drop, Error)]
+pub enum UnsetFault {
+    /// There is no such variable (15).
+    #[error("no such variable")]
+    NoVariable,
+    /// The array has no such element (16).
+    #[error("no such element in array")]
+    NoElement,
+    /// An element is meant of what is no array (18).
+    #[error("variable isn't array")]
+    NotArray,
+    /// Memory was refused.
+    #[error("out of memory")]
+    NoMemory,
+}
+
+impl From<AllocError> for UnsetFault {
+    ghost use Rattle.std.specs.Prelude.{◌≡◌};
+    ghost use Rattle.tcl_vars.specs.declared.fault.UnsetFault.TheVariants.{NoMemory};
+
+    ghost from_gives = { λ _ e. e ≡ NoMemory };
+
+    fn from(_refused: AllocError) -> UnsetFault {
+        UnsetFault::NoMemory
+    }
+}

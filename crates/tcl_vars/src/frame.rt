@@ -1,13 +1,14 @@
-ghost use Rattle.std.specs.Prelude.{◌≡◌, ◌≢◌, ◌≤◌, None, Ok, IfOk, IfErr, IfSome, OnErr};
+ghost use Rattle.std.specs.Prelude.{◌≡◌, ◌≢◌, ◌≤◌, None, Ok, IfOk, IfErr, IfSome, MatchOption, OnErr};
 ghost use Rattle.std.specs.Option.{option_copied};
 ghost use Rattle.tcl_vars.specs.Put.{RefusesText, AfterPut, new_count};
 ghost use Rattle.tcl_vars.specs.Short.{IsShort, IsShortPlace};
 ghost use Rattle.tcl_vars.specs.Shown.{shown};
-ghost use Rattle.tcl_vars.specs.Store.{content_with, frame_count};
+ghost use Rattle.tcl_vars.specs.Store.{content_with, frame_count, link_of};
+ghost use Rattle.tcl_vars.specs.Unset.{UnsetsText, RefusesUnset};
 ghost use Rattle.tcl_vars.specs.Table.{value_at};
 
-use crate::content::{Content, Outcome};
-use crate::fault::SetFault;
+use crate::content::{Content, Outcome, Removal};
+use crate::fault::{SetFault, UnsetFault};
 use crate::name::Place;
 use crate::table::Table;
 use std::alloc::{AllocError, Global};
@@ -48,6 +49,27 @@ pub(crate) fn put(
             let outcome = content.put(place.element, value, room)?;
             Ok(outcome)
         }
+    }
+}
+
+/// Unsets the text of a place of the frame, and gives how many variables are gone; none where the variable is a link.
+pub(crate) fn unset(frame: &mut Frame, place: Place<'_>) -> Result<Option<usize>, UnsetFault>
+    ensures ok { IfOk result (λ removed. MatchOption removed
+        ((link_of (value_at frame.old place.entry.variable.now) ≢ None) × (frame.new ≡ frame.old))
+        (λ count. UnsetsText frame.old (shown place.entry) count frame.new)) }
+    ensures refused { IfErr result (RefusesUnset frame.old (shown place.entry)) }
+    ensures err { OnErr result (frame.new ≡ frame.old) }
+{
+    let Some(content) = frame.get_mut(place.variable) else {
+        return Err(UnsetFault::NoVariable);
+    };
+    match content.unset(place.element)? {
+        Removal::Whole(count) => {
+            frame.remove(place.variable);
+            Ok(Some(count))
+        }
+        Removal::Element => Ok(Some(1)),
+        Removal::Linked => Ok(None),
     }
 }
 

@@ -9,6 +9,6 @@ mod scopes;
 mod table;
 
 pub use content::Content;
-pub use fault::{ReadFault, SetFault};
+pub use fault::{ReadFault, SetFault, UnsetFault};
 pub use scopes::Scopes;
 pub use table::Table;

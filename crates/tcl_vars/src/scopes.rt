@@ -1,13 +1,14 @@
-ghost use Rattle.std.specs.Prelude.{◌≡◌, ◌≢◌, ◌<◌, ◌-◌, [], ◌∷◌, ◌++◌, length, take, IfOk, IfErr, OnOk, OnErr, MatchResult, MatchOption, Ok, Err, Some, None};
+ghost use Rattle.std.specs.Prelude.{◌≡◌, ◌≢◌, ◌<◌, ◌-◌, [], ◌∷◌, ◌++◌, length, take, IfOk, IfErr, OnOk, OnErr, MatchResult, MatchOption, MatchBool, Ok, Err, Some, None};
 ghost use Rattle.std.specs.Option.{option_copied};
 ghost use Rattle.tcl_vars.specs.Put.{Sets};
 ghost use Rattle.tcl_vars.specs.Short.{IsShortPlace};
 ghost use Rattle.tcl_vars.specs.Shown.{shown};
-ghost use Rattle.tcl_vars.specs.Store.{content_at, link_of, end_of, text_at, variable_in, element_in, with_text_at, with_variable, with_element};
+ghost use Rattle.tcl_vars.specs.Unset.{Unsets};
+ghost use Rattle.tcl_vars.specs.Store.{content_at, link_of, end_of, text_at, variable_in, element_in, with_text_at, with_variable, with_element, without_text_at, without_variable};
 
 use crate::content::{Content, Outcome, link_of, text_of};
-use crate::fault::{ReadFault, SetFault};
-use crate::frame::{Frame, put, variable_count};
+use crate::fault::{ReadFault, SetFault, UnsetFault};
+use crate::frame::{Frame, put, unset, variable_count};
 use crate::name::{OwnPlace, Place, element_place, place_of};
 use crate::table::Table;
 use std::alloc::{AllocError, Global};
@@ -140,6 +141,17 @@ impl Scopes {
         }
     }
 
+    /// Unsets the variable or element that a name means in the frame at a level; an array with its elements (unset(n)). A link stays.
+    pub fn unset(&mut self, level: usize, name: &Text) -> Result<(), UnsetFault>
+        requires { level < length self.old }
+        ensures ok { OnOk result (without_variable self.old level name.now ≡ Ok self.new) }
+        ensures refused { IfErr result (λ fault. fault ≢ UnsetFault.NoMemory → without_variable self.old level name.now ≡ Err fault) }
+        ensures err { OnErr result (self.new ≡ self.old) }
+    {
+        self.erase(place_of(level, name.as_str()))?;
+        Ok(())
+    }
+
     // What the variable of a place stands for.
     fn content(&self, place: Place<'_>) -> Option<&Content>
         requires { place.level < length self.now }
@@ -234,6 +246,57 @@ impl Scopes {
                 Ok(None)
             }
             Outcome::Linked(value) => Ok(Some(value)),
+        }
+    }
+
+    // Unsets the text to which a place leads.
+    fn erase(&mut self, place: Place<'_>) -> Result<(), UnsetFault>
+        requires level { place.level < length self.old }
+        requires short { IsShortPlace (shown place) }
+        ensures ok { OnOk result (without_text_at self.old (end_of self.old (shown place.entry)) ≡ Ok self.new) }
+        ensures refused { IfErr result (λ fault. fault ≢ UnsetFault.NoMemory → without_text_at self.old (end_of self.old (shown place.entry)) ≡ Err fault) }
+        ensures err { OnErr result (self.new ≡ self.old) }
+    {
+        if self.take(place)? {
+            return Ok(());
+        }
+        self.erase_linked(place)?;
+        Ok(())
+    }
+
+    // Unsets the text to which the link of a place leads.
+    fn erase_linked(&mut self, place: Place<'_>) -> Result<(), UnsetFault>
+        requires level { place.level < length self.old }
+        requires short { IsShortPlace (shown place) }
+        ensures ok { OnOk result (without_text_at self.old (end_of self.old (shown place.entry)) ≡ Ok self.new) }
+        ensures refused { IfErr result (λ fault. fault ≢ UnsetFault.NoMemory → without_text_at self.old (end_of self.old (shown place.entry)) ≡ Err fault) }
+        ensures err { OnErr result (self.new ≡ self.old) }
+    {
+        let _ = &self.frames;
+        let end = match self.lead(place) {
+            Some(found) => OwnPlace::of(self.alloc, found.place)?,
+            None => return Err(UnsetFault::NotArray),
+        };
+        self.take(end.place())?;
+        Ok(())
+    }
+
+    // Unsets the text of a place; false, and nothing is done, where the variable is a link.
+    fn take(&mut self, place: Place<'_>) -> Result<bool, UnsetFault>
+        requires { place.level < length self.old }
+        ensures ok { IfOk result (λ done. MatchBool done
+            (Unsets self.old (shown place.entry) (Ok self.new))
+            ((link_of (content_at self.old (shown place.entry)) ≢ None) × (self.new ≡ self.old))) }
+        ensures refused { IfErr result (λ fault. Unsets self.old (shown place.entry) (Err fault)) }
+        ensures err { OnErr result (self.new ≡ self.old) }
+    {
+        let frame = &mut self.frames[place.level];
+        match unset(frame, place)? {
+            Some(removed) => {
+                self.count -= removed;
+                Ok(true)
+            }
+            None => Ok(false),
         }
     }
 }

@@ -1,6 +1,9 @@
+pub mod ArrayLemmas
 pub mod BelowLemmas
 pub mod CountLemmas
+pub mod GiveLemmas
 pub mod LinkLemmas
+pub mod MadeLemmas
 pub mod NameLemmas
 pub mod NamedLemmas
 pub mod PutLemmas

@@ -2,18 +2,13 @@
 use Rattle.std.proofs.Common.{◌≡◌, ℕ, ◌+◌, Bool, true, false, cond, List, [], ◌∷◌, length, sum_by, Option, None, Some, IsSome, bytes_eq, true≢false, refl, sym, ap, ◌∙◌, arith}
 use Rattle.std.specs.Cmp.Lexicographic.{bytes_decides}
 use Rattle.std.proofs.lemmas.List.Sums.{sum_by-cons}
-use Rattle.tcl_vars.specs.Table.{Table, value_at, with_value, without}
+use Rattle.tcl_vars.specs.Table.{Table, value_at, with_value, without, weight_of}
 
 -- a text equals itself
 pub bytes_eq-refl : (text : List ℕ) → bytes_eq text text ≡ true
 bytes_eq-refl text = (bytes_decides text text).1 refl
 
 module _ {V : Type 0} where
-  -- what a value weighs, if there is one
-  abbrev pub weight_of : (V → ℕ) → Option V → ℕ
-  weight_of weigh None = 0
-  weight_of weigh (Some value) = weigh value
-
   module _ (name : List ℕ) (value : V) where
     length-with_value : (table : Table V) → (o : Option V) → value_at table name ≡ o → length (with_value table name value) + weight_of (λ _. 1) o ≡ length table + 1
     length-with_value [] o e = by o e

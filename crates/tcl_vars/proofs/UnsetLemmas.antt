@@ -1,5 +1,5 @@
 -- Unsetting in a frame, by what it does in the content, and in a store, by what it does in the frame.
-use Rattle.std.proofs.Common.{◌≡◌, ◌≢◌, ℕ, ◌+◌, ◌-◌, ◌<◌, ◌≤◌, Bool, true, false, List, Option, None, Some, IsSome, is_some, if◌then◌else◌, MatchBool, Ok, Err, Result, length, set, sum_by, refl, sym, ap, ◌∙◌, subst, arith, length-set}
+use Rattle.std.proofs.Common.{◌≡◌, ◌≢◌, ℕ, ◌+◌, ◌-◌, ◌<◌, ◌≤◌, Bool, true, false, List, Option, None, Some, is_some, if◌then◌else◌, MatchBool, Ok, Err, Result, length, set, refl, sym, ap, ◌∙◌, subst, arith, length-set}
 use Rattle.tcl_vars.specs.declared.content.Content.{Content}
 use Rattle.tcl_vars.specs.declared.content.Content.TheVariants.{Scalar, Array, Link}
 use Rattle.tcl_vars.specs.declared.fault.UnsetFault.{UnsetFault}
@@ -7,12 +7,12 @@ use Rattle.tcl_vars.specs.declared.fault.UnsetFault.TheVariants.{NoElement}
 use Rattle.tcl_vars.specs.Name.{Place}
 use Rattle.tcl_vars.specs.Sound.{IsBelow, AllBelow, IsSound}
 use Rattle.tcl_vars.specs.Store.{Store, Frame, frame_at, content_at, content_count, frame_count, variable_count, content_without, frame_with_rest, with_rest, without_text_at, end_of, link_of}
-use Rattle.tcl_vars.specs.Table.{value_at, with_value, without}
+use Rattle.tcl_vars.specs.Table.{value_at, with_value, without, weight_of}
 use Rattle.tcl_vars.specs.Unset.{UnsetsWhole, UnsetsElement, UnsetsText, RefusesUnset, Unsets}
 use Rattle.tcl_vars.proofs.BelowLemmas.{AllBelow-with_value, AllBelow-without}
 use Rattle.tcl_vars.proofs.LinkLemmas.{led-here}
 use Rattle.tcl_vars.proofs.StoreLemmas.{variable_count-set, FramesDescend-set}
-use Rattle.tcl_vars.proofs.TableLemmas.{weight_of, weights-with_value, weights-without, with_value-same}
+use Rattle.tcl_vars.proofs.TableLemmas.{weights-with_value, weights-without, with_value-same}
 
 module _ (frame : Frame) (place : Place) (held : Content) (known : value_at frame place.variable ≡ Some held) where
   -- a whole variable

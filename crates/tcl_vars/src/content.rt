@@ -1,8 +1,8 @@
-ghost use Rattle.std.specs.Prelude.{◌≡◌, ◌≢◌, ◌+◌, ◌<◌, ◌≤◌, length, option_map, ◌↔◌, MatchResult, Ok, Err, Some, None, IsOk, IsSome, IfOk, IfErr, IfSome, OnOk, OnErr};
+ghost use Rattle.std.specs.Prelude.{◌≡◌, ◌≢◌, ◌+◌, ◌<◌, ◌≤◌, length, option_map, ◌↔◌, MatchResult, Ok, Err, Some, None, false, IsOk, IsSome, IfOk, IfErr, IfSome, OnOk, OnErr};
 ghost use Rattle.std.specs.Option.{option_copied};
 ghost use Rattle.tcl_vars.specs.Put.{AfterContent, RefusesContent};
 ghost use Rattle.tcl_vars.specs.Short.{IsShort};
-ghost use Rattle.tcl_vars.specs.Store.{content_count, content_without, link_of, text_of};
+ghost use Rattle.tcl_vars.specs.Store.{array_state, content_count, content_without, elements_of, holds_value, is_there, link_of, text_of};
 ghost use Rattle.tcl_vars.specs.Unset.{AfterUnset};
 ghost use Rattle.tcl_vars.specs.Table.{value_at, with_value, without};
 
@@ -39,6 +39,63 @@ pub(crate) fn text_of<'a>(
             elements.get(index).ok_or(ReadFault::NoElement)
         }
         (Some(Content::Link(_, _)), _) => Err(ReadFault::NoVariable),
+    }
+}
+
+/// Whether there is a content, or its element.
+pub(crate) fn is_there(content: Option<&Content>, element: Option<&str>) -> bool
+    ensures { result ≡ is_there (option_copied content.entry) (option_copied element.entry) }
+{
+    match (content, element) {
+        (None, _) => false,
+        (Some(Content::Scalar(_)), None) => true,
+        (Some(Content::Scalar(_)), Some(_)) => false,
+        (Some(Content::Array(_)), None) => true,
+        (Some(Content::Array(elements)), Some(index)) => elements.get(index).is_some(),
+        (Some(Content::Link(_, _)), _) => false,
+    }
+}
+
+/// Whether there is a content that is no link.
+pub(crate) fn holds_value(content: Option<&Content>) -> bool
+    ensures { result ≡ holds_value (option_copied content.entry) }
+{
+    match content {
+        None => false,
+        Some(Content::Scalar(_)) => true,
+        Some(Content::Array(_)) => true,
+        Some(Content::Link(_, _)) => false,
+    }
+}
+
+/// Whether a content is an array; nothing where it can't become one.
+pub(crate) fn array_state(content: Option<&Content>, element: Option<&str>) -> Option<bool>
+    ensures state { result ≡ array_state (option_copied content.entry) (option_copied element.entry) }
+    ensures absent { result ≡ Some false → option_copied content.entry ≡ None }
+{
+    match (content, element) {
+        (None, None) => Some(false),
+        (None, Some(_)) => None,
+        (Some(Content::Array(_)), None) => Some(true),
+        (Some(Content::Array(_)), Some(_)) => None,
+        (Some(Content::Scalar(_)), _) => None,
+        (Some(Content::Link(_, _)), _) => None,
+    }
+}
+
+/// The elements of a content that is an array.
+pub(crate) fn elements_of<'a>(
+    content: Option<&'a Content>,
+    element: Option<&str>,
+) -> Option<&'a Table<Text>>
+    ensures { option_copied result ≡ elements_of (option_copied content.entry) (option_copied element.entry) }
+{
+    match (content, element) {
+        (None, _) => None,
+        (Some(Content::Scalar(_)), _) => None,
+        (Some(Content::Array(elements)), None) => Some(elements),
+        (Some(Content::Array(_)), Some(_)) => None,
+        (Some(Content::Link(_, _)), _) => None,
     }
 }
 

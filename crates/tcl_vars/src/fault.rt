@@ -84,3 +84,31 @@ impl From<AllocError> for UnsetFault {
         UnsetFault::NoMemory
     }
 }
+
+/// Why a link can't be made.
+#[derive(Clone, Copy, Debug, PartialEq, Eq, Drop, Error)]
+pub enum LinkFault {
+    /// The name means an element, or a variable of the global frame by a leading `::`.
+    #[error("can't use name")]
+    BadName,
+    /// There is a variable of this name that is no link.
+    #[error("already exists")]
+    Exists,
+    /// There would be more than 4,096 variables (19).
+    #[error("limit reached: variables")]
+    Full,
+    /// Memory was refused.
+    #[error("out of memory")]
+    NoMemory,
+}
+
+impl From<AllocError> for LinkFault {
+    ghost use Rattle.std.specs.Prelude.{◌≡◌};
+    ghost use Rattle.tcl_vars.specs.declared.fault.LinkFault.TheVariants.{NoMemory};
+
+    ghost from_gives = { λ _ e. e ≡ NoMemory };
+
+    fn from(_refused: AllocError) -> LinkFault {
+        LinkFault::NoMemory
+    }
+}

@@ -1,6 +1,5 @@
 -- An index that isn't there leaves the elements as they are.
-use Rattle.std.proofs.Common.{◌≡◌, ◌+◌, ◌∙◌, sym, ap, subst, length, is_some, IsSome, refl}
-use Rattle.tcl_vars.specs.Table.{value_at}
+use Rattle.std.proofs.Common.{◌+◌, ◌∙◌, sym, ap, subst, length, IsSome, refl}
 use Rattle.tcl_vars.proofs.TableLemmas.{without-absent, length-without}
 use Rattle.tcl_vars.proofs.content.remove_element.Goals as goal
 

@@ -1,9 +1,9 @@
 -- The frame unsets what its content does.
-use Rattle.std.proofs.Common.{◌≡◌, ◌≢◌, sym, ap, ◌∙◌, OnErr, None}
+use Rattle.std.proofs.Common.{sym, ap, ◌∙◌}
 use Rattle.std.proofs.lemmas.Result.{err_from_is_err_and}
 use Rattle.tcl_vars.specs.Shown.{shown}
 use Rattle.tcl_vars.specs.Store.{link_of}
-use Rattle.tcl_vars.specs.Table.{value_at, with_value}
+use Rattle.tcl_vars.specs.Table.{with_value}
 use Rattle.tcl_vars.proofs.TableLemmas.{with_value-same}
 use Rattle.tcl_vars.proofs.UnsetLemmas.{UnsetsText-whole, UnsetsText-element}
 use Rattle.tcl_vars.proofs.frame.unset.Goals as goal

@@ -1,5 +1,5 @@
 -- The store unsets what its frame does.
-use Rattle.std.proofs.Common.{◌≡◌, ◌<◌, length, [], sym, ap, ◌∙◌, subst, arith}
+use Rattle.std.proofs.Common.{◌≡◌, ◌<◌, length, [], ap, ◌∙◌, subst, arith}
 use Rattle.std.proofs.lemmas.List.{get_or_default}
 use Rattle.tcl_vars.specs.Shown.{shown}
 use Rattle.tcl_vars.specs.Store.{frame_at}

@@ -26,7 +26,7 @@ enum Call {
     Pop,
 }
 
-const CALLS: [(Call, &str); 118] = [
+static CALLS: [(Call, &str); 118] = [
     (Call::Set(0, "x", "1"), ""),
     (Call::Get(0, "x"), "1"),
     (Call::Get(0, "z"), "no such variable"),
@@ -156,7 +156,7 @@ const CALLS: [(Call, &str); 118] = [
 ];
 
 // The limit counts names, links and elements, and those of a dropped frame no more.
-const LIMITS: [(Call, &str); 20] = [
+static LIMITS: [(Call, &str); 20] = [
     (Call::Fill(1, "a", 4_092), ""),
     // The array and its elements are 4,093.
     (Call::Set(0, "s", "1"), ""),
@@ -325,27 +325,30 @@ fn answer(
     }
 }
 
-#[test]
-fn answers_as_tclsh(rt: HostRuntime) -> Result<(), Fail> {
-    let alloc = rt.alloc();
-    let mut scopes = Scopes::new(alloc)?;
-    scopes.push_frame()?;
-    scopes.push_frame()?;
-    for (call, wanted) in &CALLS {
-        let given = answer(&rt, alloc, &mut scopes, call)?;
+fn run(
+    rt: &impl Abort,
+    alloc: Global,
+    scopes: &mut Scopes,
+    calls: &[(Call, &str)],
+) -> Result<(), Fail> {
+    for (call, wanted) in calls {
+        let given = answer(rt, alloc, scopes, call)?;
         assert_eq!(rt; given.as_str(), *wanted);
     }
     Ok(())
 }
 
 #[test]
-fn counts_variables(rt: HostRuntime) -> Result<(), Fail> {
-    let alloc = rt.alloc();
-    let mut scopes = Scopes::new(alloc)?;
+fn answers_as_tclsh(rt: HostRuntime) -> Result<(), Fail> {
+    let mut scopes = Scopes::new(rt.alloc())?;
     scopes.push_frame()?;
-    for (call, wanted) in &LIMITS {
-        let given = answer(&rt, alloc, &mut scopes, call)?;
-        assert_eq!(rt; given.as_str(), *wanted);
-    }
-    Ok(())
+    scopes.push_frame()?;
+    run(&rt, rt.alloc(), &mut scopes, &CALLS)
+}
+
+#[test]
+fn counts_variables(rt: HostRuntime) -> Result<(), Fail> {
+    let mut scopes = Scopes::new(rt.alloc())?;
+    scopes.push_frame()?;
+    run(&rt, rt.alloc(), &mut scopes, &LIMITS)
 }

@@ -2,6 +2,7 @@ pub mod ArrayLemmas
 pub mod BelowLemmas
 pub mod CountLemmas
 pub mod GiveLemmas
+pub mod LawLemmas
 pub mod LinkLemmas
 pub mod MadeLemmas
 pub mod NameLemmas

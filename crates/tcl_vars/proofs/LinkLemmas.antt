@@ -33,7 +33,7 @@ and_then_same f g None h = refl
 and_then_same f g (Some x) h = h x refl
 
 module _ (store : Store) (down : LinksDescend store) where
-  next_below : (place next : Place) (link : ℕ × List ℕ) → link_of (content_at store place) ≡ Some link
+  pub next_below : (place next : Place) (link : ℕ × List ℕ) → link_of (content_at store place) ≡ Some link
       → indexed (place_of link.0 link.1) place.element ≡ Some next → next.level < place.level
   next_below place next link held leads =
       omega (arith, down place link held, indexed-level (place_of link.0 link.1) next place.element leads, place_of-level link.0 link.1)

@@ -122,6 +122,8 @@ impl Scopes {
         ensures ok { OnOk result (with_variable self.old level name.now value ≡ Ok self.new) }
         ensures refused { IfErr result (λ fault. fault ≢ SetFault.NoMemory → with_variable self.old level name.now value ≡ Err fault) }
         ensures err { OnErr result (self.new ≡ self.old) }
+        ensures read { OnOk result (variable_in self.new level name.now ≡ Ok value) }
+        ensures levels { length self.new ≡ length self.old }
     {
         self.write(place_of_text(level, name), value)?;
         Ok(())
@@ -139,6 +141,8 @@ impl Scopes {
         ensures ok { OnOk result (with_element self.old level name.now index.now value ≡ Ok self.new) }
         ensures refused { IfErr result (λ fault. fault ≢ SetFault.NoMemory → with_element self.old level name.now index.now value ≡ Err fault) }
         ensures err { OnErr result (self.new ≡ self.old) }
+        ensures read { OnOk result (element_in self.new level name.now index.now ≡ Ok value) }
+        ensures levels { length self.new ≡ length self.old }
     {
         match element_place(level, name, index) {
             Some(place) => {
@@ -155,6 +159,7 @@ impl Scopes {
         ensures ok { OnOk result (without_variable self.old level name.now ≡ Ok self.new) }
         ensures refused { IfErr result (λ fault. fault ≢ UnsetFault.NoMemory → without_variable self.old level name.now ≡ Err fault) }
         ensures err { OnErr result (self.new ≡ self.old) }
+        ensures levels { length self.new ≡ length self.old }
     {
         self.erase(place_of_text(level, name))?;
         Ok(())
@@ -171,6 +176,7 @@ impl Scopes {
         ensures ok { OnOk result (without_element self.old level name.now index.now ≡ Ok self.new) }
         ensures refused { IfErr result (λ fault. fault ≢ UnsetFault.NoMemory → without_element self.old level name.now index.now ≡ Err fault) }
         ensures err { OnErr result (self.new ≡ self.old) }
+        ensures levels { length self.new ≡ length self.old }
     {
         match element_place(level, name, index) {
             Some(place) => {
@@ -205,6 +211,7 @@ impl Scopes {
         ensures ok { OnOk result (with_link self.old level name.now to_level to_name.now ≡ Ok self.new) }
         ensures refused { IfErr result (λ fault. fault ≢ LinkFault.NoMemory → with_link self.old level name.now to_level to_name.now ≡ Err fault) }
         ensures err { OnErr result (self.new ≡ self.old) }
+        ensures levels { length self.new ≡ length self.old }
     {
         if !is_plain(name.as_str()) {
             return Err(LinkFault::BadName);
@@ -227,6 +234,7 @@ impl Scopes {
         ensures ok { OnOk result (with_array self.old level name.now ≡ Ok self.new) }
         ensures refused { IfErr result (λ fault. fault ≢ SetFault.NoMemory → with_array self.old level name.now ≡ Err fault) }
         ensures err { OnErr result (self.new ≡ self.old) }
+        ensures levels { length self.new ≡ length self.old }
     {
         let Some(found) = self.lead(place_of_text(level, name)) else {
             return Err(SetFault::NotArray);
@@ -371,7 +379,9 @@ impl Scopes {
         ensures ok { OnOk result (with_text_at self.old (end_of self.old (shown place.entry)) value ≡ Ok self.new) }
         ensures refused { IfErr result (λ fault. fault ≢ SetFault.NoMemory → with_text_at self.old (end_of self.old (shown place.entry)) value ≡ Err fault) }
         ensures err { OnErr result (self.new ≡ self.old) }
+        ensures read { OnOk result (text_at self.new (end_of self.new (shown place.entry)) ≡ Ok value) }
     {
+        let _ = &self.frames;
         match self.put(place, value)? {
             None => Ok(()),
             Some(value) => {
@@ -388,6 +398,7 @@ impl Scopes {
         ensures ok { OnOk result (with_text_at self.old (end_of self.old (shown place.entry)) value ≡ Ok self.new) }
         ensures refused { IfErr result (λ fault. fault ≢ SetFault.NoMemory → with_text_at self.old (end_of self.old (shown place.entry)) value ≡ Err fault) }
         ensures err { OnErr result (self.new ≡ self.old) }
+        ensures read { OnOk result (text_at self.new (end_of self.new (shown place.entry)) ≡ Ok value) }
     {
         let _ = &self.frames;
         let end = match self.lead(place) {

@@ -4,6 +4,7 @@ use Rattle.tcl_vars.specs.declared.content.Content.TheVariants.{Link}
 use Rattle.tcl_vars.specs.Shown.{shown}
 use Rattle.tcl_vars.specs.Store.{is_plain, holds_value, variable_place, with_content}
 use Rattle.tcl_vars.proofs.MadeLemmas.{with_link-bad, with_link-exists, with_link-ok, with_link-full}
+use Rattle.tcl_vars.proofs.LawLemmas.{length-with_link}
 use Rattle.tcl_vars.proofs.scopes.Scopes.link.Goals as goal
 
 pub returns-then-not-is_plain-clause-refused : goal.returns-then-not-is_plain-clause-refused
@@ -34,3 +35,7 @@ returns-else-branch-clause-refused c = λ _.
     (sym (c.if-not-is_plain.ensures ∙ ap is_plain c.as_str.ensures.bytes))
     (sym (c.if-holds_value.ensures ∙ ap holds_value c.content.ensures))
     (rw c.in_ok-copy.ensures.ok at given.1)
+
+pub returns-then-branch-clause-levels : goal.returns-then-branch-clause-levels
+returns-then-branch-clause-levels c =
+    length-with_link c.args.self.now c.give.new.self c.args.level c.args.name.now c.args.to_level c.args.to_name.now (returns-then-branch-clause-ok c)

@@ -4,6 +4,7 @@ use Rattle.tcl_vars.specs.declared.content.Content.TheVariants.{Array}
 use Rattle.tcl_vars.specs.Shown.{shown}
 use Rattle.tcl_vars.specs.Store.{end_of, array_state, variable_count, with_content}
 use Rattle.tcl_vars.proofs.MadeLemmas.{with_array-nowhere, with_array-state, with_array-ok, with_array-full}
+use Rattle.tcl_vars.proofs.LawLemmas.{length-with_array}
 use Rattle.tcl_vars.proofs.scopes.Scopes.make_array.Goals as goal
 
 pub returns-in_default-clause-refused : goal.returns-in_default-clause-refused
@@ -43,3 +44,6 @@ returns-clause-refused c = λ _.
     (subst (λ n. 4096 < n)
     (ap (λ p. variable_count (with_content c.args.self.now p (Array c.new.result))) own
     ∙ ap (λ t. variable_count (with_content c.args.self.now (shown c.in-Some.found.place) (Array t))) c.new.ensures) given.1)
+
+pub returns-then-branch-clause-levels : goal.returns-then-branch-clause-levels
+returns-then-branch-clause-levels c = length-with_array c.args.self.now c.give-2.new.self c.args.level c.args.name.now (returns-then-branch-clause-ok c)

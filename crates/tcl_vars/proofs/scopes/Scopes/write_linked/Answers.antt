@@ -7,6 +7,7 @@ use Rattle.tcl_vars.specs.Store.{content_at, link_of}
 use Rattle.tcl_vars.proofs.BelowLemmas.{LinksDescend-frames}
 use Rattle.tcl_vars.proofs.LinkLemmas.{led-end}
 use Rattle.tcl_vars.proofs.StoreLemmas.{with_text_at-led, at_end}
+use Rattle.tcl_vars.proofs.LawLemmas.{text_at-with_text_at}
 use Rattle.tcl_vars.proofs.scopes.Scopes.write_linked.Goals as goal
 
 pub returns-clause-ok : goal.returns-clause-ok
@@ -18,3 +19,8 @@ returns-clause-ok c =
     (subst (λ place. Sets c.args.self.now place c.args.value (Ok c.put.new.self)) own
     (at_end c.args.self.now c.put.new.self (shown c.place.result) c.args.value c.in_ok-put.field-0
     (ap (λ place. link_of (content_at c.args.self.now place)) own ∙ linkless) c.in_ok-put.ensures.ok))
+
+pub returns-clause-read : goal.returns-clause-read
+returns-clause-read c =
+    text_at-with_text_at c.args.self.now (LinksDescend-frames c.args.self.now (subst FramesDescend c.self.view_is c.self.invariant.descending)) (shown c.args.place) c.requires.level
+    c.args.value c.put.new.self (returns-clause-ok c)

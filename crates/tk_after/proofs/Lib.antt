@@ -1,0 +1,4 @@
+pub mod Dues
+pub mod Earliest
+pub mod Numbers
+pub mod Owners

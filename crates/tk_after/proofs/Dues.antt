@@ -4,12 +4,12 @@ use Rattle.std.specs.Prelude.{Contains, find, filter, not, ◌==◌, nat_le, nat
 use Rattle.std.specs.List.{cons_option, position, position_or_len}
 use Rattle.std.specs.Option.{MatchOption, option_map_or, option_and_then}
 use Rattle.std.proofs.lemmas.Bool.Decides.{nat_tests}
-use Rattle.std.proofs.lemmas.List.{get_or_default, drop_more, drop_all}
+use Rattle.std.proofs.lemmas.List.{drop_more, drop_all}
 use Rattle.std.proofs.lemmas.Option.{slice_get_past, IfSome_then, MatchOption-at_none, MatchOption-at_some, option_and_then_some, none-some, same_Some}
 use Rattle.std.proofs.lemmas.Bool.{ltb-true, ltb-false, leb-true, leb-false, le-leb, lt-leb, eqb-true, false≢true}
 use Rattle.std.proofs.lemmas.List.Folds.{find_at}
 use Rattle.tk_after.specs.declared.entry.Entry.{Entry}
-use Rattle.tk_after.specs.Timers.{IsNumbered, entry_with, lesser, least, due_moments, is_due_at, first_due, IsFirstDue, NothingDue, IsLeastOf, IsPlaceOf}
+use Rattle.tk_after.specs.Timers.{IsNumbered, entry_with, lesser, least, due_moments, is_due_at, first_due, IsFirstDue, NothingDue, IsPlaceOf}
 use Rattle.tk_after.proofs.Numbers.{id_at_least}
 
 -- no number is below the least
@@ -30,16 +30,6 @@ least_at_least (x ∷ xs) m h = above (least xs) (least_at_least xs m (λ k lt. 
     above : (o : Option ℕ) → IfSome o (λ y. m ≤ y) → m ≤ option_map_or (min x) o x
     above None rest = h 0 (omega arith)
     above (Some y) rest = omega (arith, h 0 (omega arith))
-
--- so it is the one number that is least of them
-pub least-is : (xs : List ℕ) (m : ℕ) → IsLeastOf xs m → least xs ≡ Some m
-least-is xs m is = only (least xs) (least_at_most xs is.among.0 is.among.1) (least_at_least xs m (λ k lt. is.least k 0 lt))
-  where
-    only : (o : Option ℕ) → IsSomeAnd o (λ y. y ≤ get_or xs is.among.0 0) → IfSome o (λ y. m ≤ y) → o ≡ Some m
-    only None most at_least = absurd most
-    only (Some y) most at_least =
-        let there : get_or xs is.among.0 0 ≡ m = get_or_default xs is.among.0 0 m is.among.1 ∙ is.among.2 in
-        let same : y ≡ m = omega arith in ap Some same
 
 -- the least of the numbers so far and of the rest is that of them all
 pub lesser-least : (o : Option ℕ) (next : Option ℕ) (moments : List ℕ) → lesser (lesser o next) (least moments) ≡ lesser o (least (cons_option next moments))

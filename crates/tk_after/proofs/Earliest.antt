@@ -4,7 +4,7 @@ use Rattle.std.specs.Prelude.{All, Contains, IfNone, IfSome, IsSomeAnd}
 use Rattle.std.proofs.lemmas.Bool.{cases_lt}
 use Rattle.std.proofs.lemmas.Option.{same_Some}
 use Rattle.std.proofs.lemmas.List.{get_or_default, drop_more, drop_all}
-use Rattle.tk_after.specs.Timers.{Own, entries_of, fresh, lesser, least, due_moments, earliest_of, IsNextDue, IsOncePerOwner}
+use Rattle.tk_after.specs.Timers.{Own, entries_of, fresh, lesser, least, due_moments, IsLeastOf, earliest_of, IsNextDue, IsOncePerOwner}
 use Rattle.tk_after.proofs.Dues.{lesser-None, least_at_most}
 use Rattle.tk_after.proofs.Owners.{own_of_each, own_of_once}
 
@@ -79,6 +79,17 @@ least_among (x ∷ xs) m is = pick (lesser_some (Some x) (least xs) m is) (least
     pick (inl here) rest = (0, omega arith, same_Some _ _ here)
     pick (inr there) rest = let found = rest there in (suc found.0, omega (arith, found.1), found.2)
 
+-- as an answer tells it
+pub least_none-answer : (xs : List ℕ) (o : Option ℕ) → o ≡ least xs → IfNone o (xs ≡ [])
+least_none-answer xs None is = least_none xs (sym is)
+least_none-answer xs (Some m) is = tt
+
+pub least_some-answer : (xs : List ℕ) (o : Option ℕ) → o ≡ least xs → IfSome o (IsLeastOf xs)
+least_some-answer xs None is = tt
+least_some-answer xs (Some m) is =
+    let P : Option ℕ → Type 0 = λ o. IfSome o (λ y. m ≤ y) in
+    record { among = least_among xs m (sym is); least = above_least xs m (subst P is (omega arith)) }
+
 -- the place at which it stands
 abbrev HasAt : List Own → ℕ → ℕ → Type 0
 HasAt owns m k = (k < length owns) × (least (due_moments (get_or owns k (fresh 0)).entries) ≡ Some m)
@@ -103,10 +114,10 @@ next_due-is owns m once is =
     }
 
 -- as an answer tells it
-pub answer_none : (owns : List Own) (o : Option ℕ) → o ≡ earliest_of owns → IfNone o ((owner : ℕ) → due_moments (entries_of owner owns) ≡ [])
-answer_none owns None is = none_due owns (sym is)
-answer_none owns (Some m) is = tt
+pub earliest_none-answer : (owns : List Own) (o : Option ℕ) → o ≡ earliest_of owns → IfNone o ((owner : ℕ) → due_moments (entries_of owner owns) ≡ [])
+earliest_none-answer owns None is = none_due owns (sym is)
+earliest_none-answer owns (Some m) is = tt
 
-pub answer_some : (owns : List Own) (o : Option ℕ) → IsOncePerOwner owns → o ≡ earliest_of owns → IfSome o (IsNextDue owns)
-answer_some owns None once is = tt
-answer_some owns (Some m) once is = next_due-is owns m once (sym is)
+pub earliest_some-answer : (owns : List Own) (o : Option ℕ) → IsOncePerOwner owns → o ≡ earliest_of owns → IfSome o (IsNextDue owns)
+earliest_some-answer owns None once is = tt
+earliest_some-answer owns (Some m) once is = next_due-is owns m once (sym is)

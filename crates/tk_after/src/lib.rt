@@ -7,3 +7,6 @@ mod timers;
 
 pub use entry::Entry;
 pub use timers::Timers;
+
+#[cfg(test)]
+mod tests;

@@ -32,7 +32,7 @@ impl Model for OwnTimers {
 }
 
 impl OwnTimers {
-    ghost use Rattle.tk_after.specs.Timers.{fresh, is_full, with_entry, without, IsFirstDue, NothingDue};
+    ghost use Rattle.tk_after.specs.Timers.{fresh, is_full, with_entry, without, IsKept, IsFirstDue, NothingDue};
 
     /// An application with nothing waiting. It takes no memory.
     pub fn new(alloc: Global, owner: usize) -> OwnTimers
@@ -59,7 +59,8 @@ impl OwnTimers {
     }
 
     pub fn count(&self) -> usize
-        ensures { result ≡ length self.now.entries }
+        ensures count { result ≡ length self.now.entries }
+        ensures kept { IsKept self.now }
     {
         self.entries.len()
     }

@@ -1,6 +1,6 @@
 ghost use Rattle.std.specs.Prelude.{◌≡◌, ◌≢◌, ℕ, ◌+◌, ◌<◌, false, ◌==◌, [], ◌∷◌, ◌++◌, length, IfOk, IfSome, IfNone, OnOk, OnErr, Some, None, option_map, position, slice_get};
 ghost use Rattle.std.specs.Option.{option_copied, option_map_or};
-ghost use Rattle.tk_after.specs.Timers.{own_of, entries_of, fresh, is_full, with_entry, entry_with, without, ids, idle_ids, least, due_moments, first_due, IsFirstDue, NothingDue, earliest_of, IsNextDue, LeavesOthers};
+ghost use Rattle.tk_after.specs.Timers.{own_of, entries_of, fresh, is_full, with_entry, entry_with, without, ids, idle_ids, IsKept, least, IsLeastOf, due_moments, first_due, IsFirstDue, NothingDue, earliest_of, IsNextDue, LeavesOthers};
 
 use crate::entry::Entry;
 use crate::own::{OwnTimers, earlier};
@@ -49,7 +49,10 @@ impl Timers {
 
     /// How many are listed.
     pub fn count(&self, owner: usize) -> usize
-        ensures { result ≡ length (entries_of owner self.now) }
+        ensures count { result ≡ length (entries_of owner self.now) }
+
+        // At most 256, in the order of their numbers, each of which was given before the next one.
+        ensures kept { IsKept (own_of owner self.now) }
     {
         match self.own(owner) {
             Some(own) => own.count(),
@@ -117,7 +120,9 @@ impl Timers {
 
     /// The earliest due moment of one application. It takes no memory.
     pub fn next_due_of(&self, owner: usize) -> Option<u64>
-        ensures { result ≡ least (due_moments (entries_of owner self.now)) }
+        ensures value { result ≡ least (due_moments (entries_of owner self.now)) }
+        ensures none { IfNone result (due_moments (entries_of owner self.now) ≡ []) }
+        ensures least { IfSome result (IsLeastOf (due_moments (entries_of owner self.now))) }
     {
         self.own(owner)?.next_due()
     }

@@ -1,1 +1,11 @@
 -- What the contracts cite.
+pub mod Glob
+pub mod GlobSteps
+pub mod Backslash
+pub mod Readings
+pub mod Answers
+pub mod Indices
+pub mod Commands
+pub mod StringCommands
+pub mod ListCommands
+pub mod StringSteps

@@ -1,4 +1,4 @@
-ghost use Rattle.std.specs.Prelude.{◌≡◌, ◌<◌, ◌≤◌, ◌↔◌, length, IfOk, IsErrOf};
+ghost use Rattle.std.specs.Prelude.{◌≡◌, ◌<◌, ◌≤◌, ◌↔◌, length, IfOk, IsErrOf, string_bytes};
 
 use std::alloc::{AllocError, AllocFailed, Global};
 use std::marker::Model;
@@ -67,6 +67,19 @@ impl Text {
             return Err(TextFault::TooLong);
         }
         let string = String::from_str(alloc, characters)?;
+        Ok(Text {
+            string: Rc::new(alloc, string)?,
+        })
+    }
+
+    /// A text of the characters of a string, which it takes over.
+    pub(crate) fn from_string(alloc: Global, string: String) -> Result<Text, TextFault>
+        ensures ok { IfOk result (λ text. text ≡ string_bytes string) }
+        ensures too_long { IsErrOf result TextFault.TooLong ↔ (65536 < length (string_bytes string)) }
+    {
+        if string.len() > MAX_BYTES {
+            return Err(TextFault::TooLong);
+        }
         Ok(Text {
             string: Rc::new(alloc, string)?,
         })

@@ -33,3 +33,5 @@ refused NoMemory step rest h = tt
 pub given_error : (T : Type 0) (e : Refusal) (text : List ℕ) → Refuses e text → Gives {T = T} (Err e) (Err text)
 given_error T (Error message) text h = ap Err h
 given_error T NoMemory text h = tt
+
+pub ruleset list_faults = (given_error)

@@ -2,6 +2,8 @@
 pub mod Glob
 pub mod GlobSteps
 pub mod Backslash
+pub mod Escaped
+pub mod ListForm
 pub mod Readings
 pub mod Answers
 pub mod Indices
@@ -9,3 +11,5 @@ pub mod Commands
 pub mod StringCommands
 pub mod ListCommands
 pub mod StringSteps
+pub mod ListSteps
+pub mod Splitting

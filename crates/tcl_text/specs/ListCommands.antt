@@ -1,11 +1,12 @@
 -- The commands of list(n), llength(n), lindex(n), lrange(n), linsert(n), lreplace(n), lsearch(n), lsort(n), join(n) and split(n).
-use Rattle.std.specs.Prelude.{◌≡◌, ℕ, zero, suc, ◌+◌, ◌-◌, max, ℤ, pos, negsuc, int_lt, Bool, true, false, not, ◌&&◌, ◌||◌, ◌==◌, nat_eq, nat_lt, nat_le, if◌then◌else◌, List, [], ◌∷◌, ◌++◌, length, take, drop, map, filter, position, Option, Some, None, option_map, Result, Ok, Err, codes}
+use Rattle.std.specs.Prelude.{◌≡◌, ℕ, zero, suc, ◌+◌, ◌-◌, max, ℤ, pos, negsuc, Bool, true, false, not, ◌&&◌, ◌||◌, ◌==◌, nat_eq, nat_lt, nat_le, if◌then◌else◌, List, [], ◌∷◌, ◌++◌, length, take, drop, map, filter, position, Option, Some, None, option_map, Result, Ok, Err, codes}
 use Rattle.std.specs.Str.{chars, encode_utf8_all, bytes_eq}
+use Rattle.std.specs.Char.{encode_utf8}
 use Rattle.std.specs.Fmt.{decimal}
-use Rattle.std.specs.Ordering.{nat_cmp, is_lt}
+use Rattle.std.specs.Ordering.{nat_cmp, int_cmp, is_lt}
 use Rattle.std.specs.List.{list_any}
 use Rattle.std.specs.Cmp.Lexicographic.{slice_cmp}
-use Rattle.tcl_text.specs.Backslash.{is_white}
+use Rattle.tcl_text.specs.declared.commands.sorting.Order.{Order}
 use Rattle.tcl_text.specs.Readings.{list_form}
 use Rattle.tcl_text.specs.Glob.{glob_matches}
 use Rattle.tcl_text.specs.Answers.{Answer, ◌>>=◌, answers, wrong_args, bad_option, integer_in, items_in, place}
@@ -73,12 +74,15 @@ search_in test list = do
   items ← items_in list
   place (position test items)
 
-abbrev pub lsearch_words : List (List ℕ) → Answer
-lsearch_words (list ∷ pattern ∷ []) = search_in (is_like pattern) list
-lsearch_words (option ∷ list ∷ pattern ∷ []) =
+unfoldable pub search_by : List ℕ → List ℕ → List ℕ → Answer
+search_by option pattern list =
     if bytes_eq option (codes "-exact") then search_in (is_exactly pattern) list
     else (if bytes_eq option (codes "-glob") then search_in (is_like pattern) list
     else bad_option option)
+
+abbrev pub lsearch_words : List (List ℕ) → Answer
+lsearch_words (list ∷ pattern ∷ []) = search_in (is_like pattern) list
+lsearch_words (option ∷ list ∷ pattern ∷ []) = search_by option pattern list
 lsearch_words _ = wrong_args (codes "lsearch ?-exact|-glob? list pattern")
 
 -- the items in order: each goes before the first that isn't less, so that equal items keep their order
@@ -91,14 +95,10 @@ sorted less [] = []
 sorted less (x ∷ xs) = put_in_order less x (sorted less xs)
 
 -- how lsort compares: as integers or as bytes, up or down
-pub record Order : Type 0 where
-  pub as_integers : Bool
-  pub decreasing : Bool
-
 abbrev pub plain_order : Order
 plain_order = record { as_integers = false; decreasing = false }
 
-abbrev pub with_option : List ℕ → Order → Result Order (List ℕ)
+unfoldable pub with_option : List ℕ → Order → Result Order (List ℕ)
 with_option option order =
     if bytes_eq option (codes "-integer") then Ok (record order { as_integers = true })
     else (if bytes_eq option (codes "-decreasing") then Ok (record order { decreasing = true })
@@ -119,9 +119,12 @@ turned true less x y = less y x
 abbrev pub bytes_less : List ℕ → List ℕ → Bool
 bytes_less x y = is_lt (slice_cmp nat_cmp x y)
 
+abbrev pub key_less : ℤ × List ℕ → ℤ × List ℕ → Bool
+key_less x y = is_lt (int_cmp x.0 y.0)
+
 abbrev pub in_order : Order → List (List ℕ) → Result (List (List ℕ)) (List ℕ)
 in_order order items =
-    if order.as_integers then (keyed items >>= λ pairs. Ok (map (λ p. p.1) (sorted (turned order.decreasing (λ p q. int_lt p.0 q.0)) pairs)))
+    if order.as_integers then (keyed items >>= λ pairs. Ok (map (λ p. p.1) (sorted (turned order.decreasing key_less) pairs)))
     else Ok (sorted (turned order.decreasing bytes_less) items)
 
 abbrev pub sort_list : Order → List ℕ → Answer
@@ -166,16 +169,31 @@ abbrev pub cut_at : (ℕ → Bool) → List ℕ → List (List ℕ)
 cut_at test [] = [] ∷ []
 cut_at test (c ∷ cs) = if test c then [] ∷ cut_at test cs else with_first c (cut_at test cs)
 
--- the parts of a text, cut at separators, or at each character where there are none
-abbrev pub split_by : List ℕ → List ℕ → List (List ℕ)
-split_by [] separators = []
-split_by (c ∷ cs) [] = map (λ d. d ∷ []) (c ∷ cs)
-split_by (c ∷ cs) (s ∷ separators) = cut_at (λ d. list_any (λ e. e == d) (s ∷ separators)) (c ∷ cs)
+-- whether a character is one of the separators
+abbrev pub is_one_of : List ℕ → ℕ → Bool
+is_one_of separators c = list_any (λ s. s == c) separators
+
+-- each character of a text, and its parts between separators
+abbrev pub characters_of : List ℕ → List (List ℕ)
+characters_of text = map encode_utf8 (chars text)
+
+abbrev pub pieces_of : List ℕ → List ℕ → List (List ℕ)
+pieces_of text separators = map encode_utf8_all (cut_at (is_one_of separators) (chars text))
+
+-- the parts of a text, or each of its characters where there are no separators
+abbrev pub parts_of : List ℕ → List ℕ → List (List ℕ)
+parts_of [] separators = []
+parts_of (b ∷ bs) [] = characters_of (b ∷ bs)
+parts_of (b ∷ bs) (s ∷ separators) = pieces_of (b ∷ bs) (s ∷ separators)
 
 abbrev pub split_text : List ℕ → List ℕ → Answer
-split_text text separators = answers (list_form (map encode_utf8_all (split_by (chars text) separators)))
+split_text text separators = answers (list_form (parts_of text separators))
+
+-- blank, tab, newline, vertical tab, form feed and carriage return
+abbrev pub white_characters : List ℕ
+white_characters = 32 ∷ 9 ∷ 10 ∷ 11 ∷ 12 ∷ 13 ∷ []
 
 abbrev pub split_words : List (List ℕ) → Answer
-split_words (text ∷ []) = split_text text (32 ∷ 9 ∷ 10 ∷ 11 ∷ 12 ∷ 13 ∷ [])
+split_words (text ∷ []) = split_text text white_characters
 split_words (text ∷ separators ∷ []) = split_text text (chars separators)
 split_words _ = wrong_args (codes "split text ?chars?")

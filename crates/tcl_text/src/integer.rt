@@ -1,11 +1,13 @@
-ghost use Rattle.std.specs.Prelude.{◌≡◌, ◌+◌, ◌*◌, ◌^◌, ◌<◌, ◌≤◌, SomeIff};
+ghost use Rattle.std.specs.Prelude.{◌≡◌, ◌+◌, ◌*◌, ◌^◌, ◌<◌, ◌≤◌, ◌↔◌, ℤ, IfOk, IsErr, SomeIff};
 ghost use Rattle.std.specs.Char as chars;
-ghost use Rattle.std.specs.List.{list_all};
+ghost use Rattle.std.specs.Fmt.{signed_decimal};
 ghost use Rattle.std.specs.Result.{result_ok};
-ghost use Rattle.tcl_text.specs.Backslash as backslash;
 ghost use Rattle.tcl_text.specs.Readings as readings;
 
 use crate::text::Text;
+use crate::white_space::{is_blank, skip_white};
+use itoa::Buffer;
+use std::alloc::{AllocError, Global};
 use thiserror::Error;
 
 /// The text is no integer of 64 bits (1).
@@ -17,9 +19,19 @@ impl Text {
     /// The integer that the text spells, as Tcl's expr(n) reads one: an optional sign, then decimal digits, `0x`, `0o` or `0b`
     /// with digits, or octal digits after a leading 0, with white space around. It takes one pass and no memory.
     pub fn integer(&self) -> Result<i64, NotInteger>
+        ensures read { (n : ℤ) → (result ≡ Ok n) ↔ readings.IsInteger self.now n }
+        ensures refused { IsErr result ↔ ((n : ℤ) → ¬ (readings.IsInteger self.now n)) }
         ensures exact { result_ok result ≡ readings.integer_of self.now }
     {
         integer_in(self.as_str().as_bytes()).ok_or(NotInteger)
+    }
+
+    /// The decimal text of an integer.
+    pub fn from_integer(alloc: Global, number: i64) -> Result<Text, AllocError>
+        ensures { IfOk result (λ text. text ≡ signed_decimal number) }
+    {
+        let mut buffer = Buffer::new();
+        Text::of_short(alloc, buffer.format(number))
     }
 }
 
@@ -37,41 +49,15 @@ pub fn integer_in(text: &[u8]) -> Option<i64>
     }
 }
 
-/// Whether the byte is white space.
+/// The value of a digit or letter, from 0 to 35, and 36 for another byte.
 #[inline]
-pub fn is_white(byte: u8) -> bool
-    ensures { result ≡ backslash.is_white byte }
-{
-    byte == b' ' || (9 <= byte && byte <= 13)
-}
-
-fn skip_white(text: &[u8]) -> &[u8]
-    ensures { result.now ≡ readings.skip_white text.now }
-{
-    let mut rest = text;
-    while let [first, others @ ..] = rest {
-        if !is_white(*first) {
-            break;
-        }
-        rest = others;
-    }
-    rest
-}
-
-fn is_blank(text: &[u8]) -> bool
-    ensures { result ≡ list_all backslash.is_white text.now }
-{
-    text.iter().all(|byte| is_white(*byte))
-}
-
-#[inline]
-fn digit_value(byte: u8) -> u64
+pub fn digit_value(byte: u8) -> u8
     ensures { result ≡ chars.digit_value byte }
 {
     match byte {
-        b'0'..=b'9' => u64::from(byte - b'0'),
-        b'A'..=b'Z' => u64::from(byte - b'A') + 10,
-        b'a'..=b'z' => u64::from(byte - b'a') + 10,
+        b'0'..=b'9' => byte - b'0',
+        b'A'..=b'Z' => byte - b'A' + 10,
+        b'a'..=b'z' => byte - b'a' + 10,
         _ => 36,
     }
 }
@@ -130,7 +116,7 @@ fn number_in(base: u64, digits: &[u8]) -> Option<u64>
     ensures { result ≡ readings.below (2 ^ 64) (readings.number_in base digits.now) }
 {
     let (first, others) = digits.split_first()?;
-    let digit = digit_value(*first);
+    let digit = u64::from(digit_value(*first));
     if digit < base {
         number_from(base, digit, others)
     } else {
@@ -153,7 +139,7 @@ fn number_from(base: u64, mut number: u64, digits: &[u8]) -> Option<u64>
 {
     let mut rest = digits;
     while let [first, others @ ..] = rest {
-        let digit = digit_value(*first);
+        let digit = u64::from(digit_value(*first));
         if base <= digit {
             return if is_blank(rest) { Some(number) } else { None };
         }

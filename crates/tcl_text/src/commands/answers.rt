@@ -62,6 +62,15 @@ pub fn string_answer(alloc: Global, string: String) -> Result<Text, Refusal>
     }
 }
 
+/// A text as it is.
+#[tactic(auto, using(crate::proofs::AnswerLemmas::bounds))]
+pub fn copy_answer(text: &Text) -> Result<Text, Refusal>
+    ensures { Gives result (answers text.now) }
+{
+    let _characters = text.as_str();
+    Ok(text.copy()?)
+}
+
 /// A number in decimal.
 pub fn decimal_answer(alloc: Global, number: usize) -> Result<Text, Refusal>
     ensures { Gives result (answers (decimal number)) }

@@ -4,8 +4,9 @@ ghost use Rattle.tcl_text.specs.Answers.{Gives};
 ghost use Rattle.tcl_text.specs.Indices as spec;
 
 use crate::commands::answers::{Refusal, bad_index};
-use crate::integer::{integer_in, is_white};
+use crate::integer::integer_in;
 use crate::text::Text;
+use crate::white_space::is_white;
 use std::alloc::Global;
 
 /// A place in a row of items.

@@ -1,6 +1,6 @@
 use Rattle.std.proofs.Common.{◌≡◌, length}
 use Rattle.tcl_text.specs.Readings.{skip_white}
-use Rattle.tcl_text.proofs.integer.skip_white.Given as goal
+use Rattle.tcl_text.proofs.white_space.skip_white.Given as goal
 
 -- what is left has the same text behind its white space
 abbrev pub invariant-loop-rest : goal.invariant-loop-rest

@@ -6,21 +6,25 @@ use Rattle.tk_after.specs.declared.entry.Entry.{Entry}
 
 -- what one application has waiting, in the order of its numbers, and the number that comes next
 pub record Own : Type 0 where
-  pub owner : ℕ
   pub next_number : ℕ
   pub entries : List Entry
 
--- an application that has made no timer yet
-abbrev pub fresh : ℕ → Own
-fresh owner = record { owner = owner; next_number = 0; entries = [] }
+-- the same beside the application's number
+pub record Row : Type 0 where
+  pub owner : ℕ
+  pub own : Own
 
--- one application's part of the table
-abbrev pub own_of : ℕ → List Own → Own
-own_of owner [] = fresh owner
-own_of owner (own ∷ owns) = if own.owner == owner then own else own_of owner owns
+-- nothing was ever waiting
+abbrev pub fresh : Own
+fresh = record { next_number = 0; entries = [] }
 
-abbrev pub entries_of : ℕ → List Own → List Entry
-entries_of owner owns = (own_of owner owns).entries
+-- what one application has in a table
+abbrev pub own_of : ℕ → List Row → Own
+own_of owner [] = fresh
+own_of owner (row ∷ rows) = if row.owner == owner then row.own else own_of owner rows
+
+abbrev pub entries_of : ℕ → List Row → List Entry
+entries_of owner rows = (own_of owner rows).entries
 
 -- ---- one application
 
@@ -96,25 +100,25 @@ NothingDue moment entries = All (λ entry. IfSome entry.due (λ due. moment < du
 -- ---- all applications
 
 -- the earliest due moment of them all
-abbrev pub earliest_of : List Own → Option ℕ
+abbrev pub earliest_of : List Row → Option ℕ
 earliest_of [] = None
-earliest_of (own ∷ owns) = lesser (least (due_moments own.entries)) (earliest_of owns)
+earliest_of (row ∷ rows) = lesser (least (due_moments row.own.entries)) (earliest_of rows)
 
 -- some application has a timer due at this moment, and none has one due before it
-pub record IsNextDue (owns : List Own) (moment : ℕ) : Type 0 where
+pub record IsNextDue (rows : List Row) (moment : ℕ) : Type 0 where
   pub owner : ℕ
-  pub among : Contains (due_moments (entries_of owner owns)) moment
-  pub least : (other : ℕ) → All (λ its_due. moment ≤ its_due) (due_moments (entries_of other owns))
+  pub among : Contains (due_moments (entries_of owner rows)) moment
+  pub least : (other : ℕ) → All (λ its_due. moment ≤ its_due) (due_moments (entries_of other rows))
 
 -- every application but one has what it had
-abbrev pub LeavesOthers : ℕ → List Own → List Own → Type 0
+abbrev pub LeavesOthers : ℕ → List Row → List Row → Type 0
 LeavesOthers owner old new = (other : ℕ) → other ≢ owner → own_of other new ≡ own_of other old
 
 -- ---- what is kept
 
 -- each application stands once
-abbrev pub IsOncePerOwner : List Own → Type 0
-IsOncePerOwner owns = AllPairs (λ one other. one.owner ≢ other.owner) owns
+abbrev pub IsOncePerOwner : List Row → Type 0
+IsOncePerOwner rows = AllPairs (λ one other. one.owner ≢ other.owner) rows
 
 -- numbers rise along the list, from low on, and all have been given
 abbrev pub IsNumbered : ℕ → List Entry → ℕ → Type 0

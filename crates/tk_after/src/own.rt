@@ -1,4 +1,5 @@
-ghost use Rattle.std.specs.Prelude.{◌≡◌, ℕ, ◌+◌, ◌-◌, ◌<◌, ◌≤◌, false, ◌==◌, [], ◌∷◌, ◌++◌, length, IfOk, IfSome, IfNone, OnOk, OnErr, MatchOption, option_map, slice_get, position};
+ghost use Rattle.std.specs.Prelude.{◌≡◌, ℕ, ◌+◌, ◌-◌, ◌<◌, ◌≤◌, false, ◌==◌, [], ◌∷◌, ◌++◌, length, IfOk, IfSome, IfNone, OnOk, OnErr, MatchOption, option_map, slice_get, position, find};
+ghost use Rattle.std.specs.Str.{bytes_eq};
 ghost use Rattle.std.specs.Option.{option_copied, option_map_or};
 ghost use Rattle.tk_after.specs.Timers.{ids, idle_ids, lesser, least, due_moments, is_due_at, IsPlaceOf, entry_with, first_due};
 
@@ -13,7 +14,7 @@ pub const MAX_LISTED: usize = 256;
 /// The number after the last one that is given.
 const NUMBERS_END: u64 = u64::MAX;
 
-/// What one application has waiting.
+/// What one application has waiting, beside the application's number.
 #[derive(Drop)]
 pub struct OwnTimers {
     owner: usize,
@@ -22,21 +23,22 @@ pub struct OwnTimers {
 }
 
 impl Model for OwnTimers {
-    ghost use Rattle.tk_after.specs.Timers.{Own, IsKept};
+    ghost use Rattle.tk_after.specs.Timers.{Row, IsKept};
 
-    ghost Value = { Own };
+    ghost Value = { Row };
 
-    ghost view = { λ t. record { owner = t.owner; next_number = t.next_number; entries = t.entries.items } };
+    ghost view = { λ t. record { owner = t.owner; own = record { next_number = t.next_number; entries = t.entries.items } } };
 
-    ghost invariant = { λ t. IsKept (record { owner = t.owner; next_number = t.next_number; entries = t.entries.items }) };
+    ghost invariant = { λ t. IsKept (record { next_number = t.next_number; entries = t.entries.items }) };
 }
 
 impl OwnTimers {
+    ghost use Rattle.tk_after.specs.After.{entry_named, entry_meant};
     ghost use Rattle.tk_after.specs.Timers.{fresh, is_full, with_entry, without, IsKept, IsFirstDue, NothingDue};
 
     /// An application with nothing waiting. It takes no memory.
     pub fn new(alloc: Global, owner: usize) -> OwnTimers
-        ensures { result ≡ fresh owner }
+        ensures { result ≡ record { owner = owner; own = fresh } }
     {
         OwnTimers {
             owner,
@@ -53,23 +55,23 @@ impl OwnTimers {
     }
 
     pub fn is_full(&self) -> bool
-        ensures { result ≡ is_full self.now }
+        ensures { result ≡ is_full self.now.own }
     {
         self.entries.len() >= MAX_LISTED || self.next_number == NUMBERS_END
     }
 
     pub fn count(&self) -> usize
-        ensures count { result ≡ length self.now.entries }
-        ensures kept { IsKept self.now }
+        ensures count { result ≡ length self.now.own.entries }
+        ensures kept { IsKept self.now.own }
     {
         self.entries.len()
     }
 
     /// Adds a timer, or an idle script where no moment is given, and answers its number.
     pub fn add(&mut self, due: Option<u64>, script: Text) -> Result<u64, AllocError>
-        requires { is_full self.old ≡ false }
-        ensures id { IfOk result (λ id. id ≡ self.old.next_number) }
-        ensures ok { OnOk result (self.new ≡ with_entry due script self.old) }
+        requires { is_full self.old.own ≡ false }
+        ensures id { IfOk result (λ id. id ≡ self.old.own.next_number) }
+        ensures ok { OnOk result (self.new.own ≡ with_entry due script self.old.own) }
         ensures owner { self.new.owner ≡ self.old.owner }
         ensures err { OnErr result (self.new ≡ self.old) }
     {
@@ -81,36 +83,68 @@ impl OwnTimers {
 
     /// What is listed under a number.
     pub fn entry(&self, id: u64) -> Option<&Entry>
-        ensures { option_copied result ≡ entry_with id self.now.entries }
+        ensures { option_copied result ≡ entry_with id self.now.own.entries }
     {
         self.entries.iter().find(|entry| entry.id == id)
     }
 
+    /// The number that comes next.
+    pub fn next_number(&self) -> u64
+        ensures { result ≡ self.now.own.next_number }
+    {
+        self.next_number
+    }
+
+    /// What is listed under a name.
+    pub fn entry_named(&self, text: &str) -> Option<&Entry>
+        ensures { option_copied result ≡ entry_named text.now self.now.own.entries }
+    {
+        self.entries.iter().find(|entry| entry.is_named(text))
+    }
+
+    /// The first that is listed with a script.
+    pub fn entry_running(&self, script: &str) -> Option<&Entry>
+        ensures { option_copied result ≡ find (λ entry. bytes_eq entry.script script.now) self.now.own.entries }
+    {
+        self.entries.iter().find(|entry| entry.has_script(script))
+    }
+
+    /// What is listed under a name, or else the first with a script.
+    pub fn entry_meant(&self, text: &str) -> Option<&Entry>
+        ensures { option_copied result ≡ entry_meant text.now self.now.own.entries }
+    {
+        match self.entry_named(text) {
+            Some(entry) => Some(entry),
+            None => self.entry_running(text),
+        }
+    }
+
     /// The numbers in order.
     pub fn ids(&self) -> Result<Vec<u64>, AllocError>
-        ensures { IfOk result (λ list. list.items ≡ ids self.now.entries) }
+        ensures { IfOk result (λ list. list.items ≡ ids self.now.own.entries) }
     {
         ids_of(*self.entries.allocator(), &self.entries)
     }
 
     /// The numbers of the idle scripts, in order.
     pub fn idle_ids(&self) -> Result<Vec<u64>, AllocError>
-        ensures { IfOk result (λ list. list.items ≡ idle_ids self.now.entries) }
+        ensures { IfOk result (λ list. list.items ≡ idle_ids self.now.own.entries) }
     {
         idle_ids_of(*self.entries.allocator(), &self.entries)
     }
 
     /// The earliest due moment.
     pub fn next_due(&self) -> Option<u64>
-        ensures { result ≡ least (due_moments self.now.entries) }
+        ensures { result ≡ least (due_moments self.now.own.entries) }
     {
         next_due_of(&self.entries)
     }
 
     /// Takes out what is listed under a number, and gives its script.
     pub fn take_out(&mut self, id: u64) -> Option<Text>
-        ensures script { result ≡ option_map (λ entry. entry.script) (entry_with id self.old.entries) }
-        ensures rest { self.new ≡ without id self.old }
+        ensures script { result ≡ option_map (λ entry. entry.script) (entry_with id self.old.own.entries) }
+        ensures rest { self.new.own ≡ without id self.old.own }
+        ensures owner { self.new.owner ≡ self.old.owner }
     {
         let place = place_of_id(&self.entries, id)?;
         let Entry {
@@ -123,10 +157,10 @@ impl OwnTimers {
 
     /// Takes out the timer that goes first of those due by a moment, and gives its number and script.
     pub fn take_due(&mut self, moment: u64) -> Option<(u64, Text)>
-        ensures taken { result ≡ option_map (λ entry. (entry.id, entry.script)) (first_due moment self.old.entries) }
-        ensures first { IfSome result (λ taken. IsFirstDue moment self.old.entries taken.0 taken.1) }
-        ensures none { IfNone result (NothingDue moment self.old.entries) }
-        ensures rest { self.new ≡ option_map_or (λ taken. without taken.0 self.old) result self.old }
+        ensures taken { result ≡ option_map (λ entry. (entry.id, entry.script)) (first_due moment self.old.own.entries) }
+        ensures first { IfSome result (λ taken. IsFirstDue moment self.old.own.entries taken.0 taken.1) }
+        ensures none { IfNone result (NothingDue moment self.old.own.entries) }
+        ensures rest { self.new.own ≡ option_map_or (λ taken. without taken.0 self.old.own) result self.old.own }
         ensures owner { self.new.owner ≡ self.old.owner }
     {
         let place = place_of_first(&self.entries, moment)?;
@@ -135,9 +169,10 @@ impl OwnTimers {
     }
 
     fn take_at(&mut self, place: usize) -> Entry
-        requires { place < length self.old.entries }
-        ensures entry { slice_get self.old.entries place ≡ Some result }
-        ensures rest { self.new ≡ without result.id self.old }
+        requires { place < length self.old.own.entries }
+        ensures entry { slice_get self.old.own.entries place ≡ Some result }
+        ensures rest { self.new.own ≡ without result.id self.old.own }
+        ensures owner { self.new.owner ≡ self.old.owner }
     {
         self.entries.remove(place)
     }

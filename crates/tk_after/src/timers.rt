@@ -1,4 +1,4 @@
-ghost use Rattle.std.specs.Prelude.{◌≡◌, ◌≢◌, ℕ, ◌+◌, ◌<◌, false, ◌==◌, [], ◌∷◌, ◌++◌, length, IfOk, IfSome, IfNone, OnOk, OnErr, Some, None, option_map, position, slice_get};
+ghost use Rattle.std.specs.Prelude.{◌≡◌, ◌≢◌, ℕ, ◌+◌, ◌<◌, false, ◌==◌, [], ◌∷◌, ◌++◌, length, IfOk, IfSome, IfNone, OnOk, OnErr, Some, None, Ok, option_map, position, slice_get};
 ghost use Rattle.std.specs.Option.{option_copied, option_map_or};
 ghost use Rattle.tk_after.specs.Timers.{own_of, entries_of, fresh, is_full, with_entry, entry_with, without, ids, idle_ids, IsKept, least, IsLeastOf, due_moments, first_due, IsFirstDue, NothingDue, earliest_of, IsNextDue, LeavesOthers};
 
@@ -18,9 +18,9 @@ pub struct Timers {
 
 impl Model for Timers {
     ghost use Rattle.std.specs.Prelude.{List};
-    ghost use Rattle.tk_after.specs.Timers.{Own, IsOncePerOwner};
+    ghost use Rattle.tk_after.specs.Timers.{Row, IsOncePerOwner};
 
-    ghost Value = { List Own };
+    ghost Value = { List Row };
 
     ghost view = { λ t. t.owners.items };
 
@@ -28,6 +28,8 @@ impl Model for Timers {
 }
 
 impl Timers {
+    ghost use Rattle.tk_after.specs.After.{entry_named, entry_meant, cancel_text};
+
     /// Nothing waits. It takes no memory.
     pub fn new(alloc: Global) -> Timers
         ensures { result ≡ [] }
@@ -150,14 +152,53 @@ impl Timers {
         }
     }
 
+    /// The number that comes next.
+    pub(crate) fn next_number(&self, owner: usize) -> u64
+        ensures { result ≡ (own_of owner self.now).next_number }
+    {
+        match self.own(owner) {
+            Some(own) => own.next_number(),
+            None => 0,
+        }
+    }
+
+    /// What is listed under a name.
+    pub(crate) fn entry_named(&self, owner: usize, text: &str) -> Option<&Entry>
+        ensures { option_copied result ≡ entry_named text.now (entries_of owner self.now) }
+    {
+        self.own(owner)?.entry_named(text)
+    }
+
+    /// Takes out what is listed under a name, or else the first with a script, if anything.
+    pub(crate) fn cancel_meant(&mut self, owner: usize, text: &str)
+        ensures own { own_of owner self.new ≡ (cancel_text (Ok text.now) (own_of owner self.old)).0 }
+        ensures others { LeavesOthers owner self.old self.new }
+    {
+        if let Some(id) = self.id_meant(owner, text) {
+            let _script = self.cancel(owner, id);
+        }
+    }
+
+    fn id_meant(&self, owner: usize, text: &str) -> Option<u64>
+        ensures { result ≡ option_map (λ entry. entry.id) (entry_meant text.now (entries_of owner self.now)) }
+    {
+        let entry = self.own(owner)?.entry_meant(text)?;
+        Some(entry.id)
+    }
+
     fn own(&self, owner: usize) -> Option<&OwnTimers>
-        ensures { option_map_or (λ own. own.now) result (fresh owner) ≡ own_of owner self.now }
+        ensures { option_map_or (λ row. row.now.own) result fresh ≡ own_of owner self.now }
     {
         let place = place_of(&self.owners, owner)?;
         Some(&self.owners[place])
     }
 
-    fn insert(&mut self, owner: usize, due: Option<u64>, script: Text) -> Result<u64, AllocError>
+    pub(crate) fn insert(
+        &mut self,
+        owner: usize,
+        due: Option<u64>,
+        script: Text,
+    ) -> Result<u64, AllocError>
         requires { is_full (own_of owner self.old) ≡ false }
         ensures id { IfOk result (λ id. id ≡ (own_of owner self.old).next_number) }
         ensures ok { OnOk result (own_of owner self.new ≡ with_entry due script (own_of owner self.old)) }
@@ -177,7 +218,7 @@ impl Timers {
 }
 
 fn place_of(owners: &[OwnTimers], owner: usize) -> Option<usize>
-    ensures { result ≡ position (λ own. own.owner == owner) owners.now }
+    ensures { result ≡ position (λ row. row.owner == owner) owners.now }
 {
     owners.iter().position(|own| own.owner() == owner)
 }

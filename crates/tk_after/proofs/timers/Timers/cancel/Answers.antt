@@ -20,19 +20,19 @@ returns-in_err-place-clause-own c =
 pub returns-clause-script : goal.returns-clause-script
 returns-clause-script c =
     let at : StandsAt c.args.owner c.self.inside.owners.items c.in_ok-place.place = rw c.deref.ensures.value at (sym c.place_of.ensures ∙ c.in_ok-place.was) in
-    let own : c.index_mut.result.now ≡ own_of c.args.owner c.args.self.now = own_at c.args.owner c.self.inside.owners.items c.in_ok-place.place c.index_mut.result.now at c.index_mut.ensures.value ∙ ap (own_of c.args.owner) c.self.view_is in
+    let own : c.index_mut.result.now.own ≡ own_of c.args.owner c.args.self.now = own_at c.args.owner c.self.inside.owners.items c.in_ok-place.place c.index_mut.result.now at c.index_mut.ensures.value ∙ ap (own_of c.args.owner) c.self.view_is in
     c.take_out.ensures.script ∙ ap (λ (own : Own). option_map (λ (entry : Entry). entry.script) (entry_with c.args.id own.entries)) own
 
 pub returns-clause-own : goal.returns-clause-own
 returns-clause-own c =
     let at : StandsAt c.args.owner c.self.inside.owners.items c.in_ok-place.place = rw c.deref.ensures.value at (sym c.place_of.ensures ∙ c.in_ok-place.was) in
-    let own : c.index_mut.result.now ≡ own_of c.args.owner c.args.self.now = own_at c.args.owner c.self.inside.owners.items c.in_ok-place.place c.index_mut.result.now at c.index_mut.ensures.value ∙ ap (own_of c.args.owner) c.self.view_is in
-    let is : c.take_out.new.self.owner ≡ c.args.owner = ap (λ (own : Own). own.owner) c.take_out.ensures.rest ∙ owner_at c.args.owner c.self.inside.owners.items c.in_ok-place.place c.index_mut.result.now at c.index_mut.ensures.value in
+    let own : c.index_mut.result.now.own ≡ own_of c.args.owner c.args.self.now = own_at c.args.owner c.self.inside.owners.items c.in_ok-place.place c.index_mut.result.now at c.index_mut.ensures.value ∙ ap (own_of c.args.owner) c.self.view_is in
+    let is : c.take_out.new.self.owner ≡ c.args.owner = c.take_out.ensures.owner ∙ owner_at c.args.owner c.self.inside.owners.items c.in_ok-place.place c.index_mut.result.now at c.index_mut.ensures.value in
     own_of-set c.args.owner c.self.inside.owners.items c.in_ok-place.place c.take_out.new.self at is ∙ c.take_out.ensures.rest ∙ ap (without c.args.id) own
 
 pub returns-clause-others : goal.returns-clause-others
 returns-clause-others c =
     let at : StandsAt c.args.owner c.self.inside.owners.items c.in_ok-place.place = rw c.deref.ensures.value at (sym c.place_of.ensures ∙ c.in_ok-place.was) in
-    let own : c.index_mut.result.now ≡ own_of c.args.owner c.args.self.now = own_at c.args.owner c.self.inside.owners.items c.in_ok-place.place c.index_mut.result.now at c.index_mut.ensures.value ∙ ap (own_of c.args.owner) c.self.view_is in
-    let is : c.take_out.new.self.owner ≡ c.args.owner = ap (λ (own : Own). own.owner) c.take_out.ensures.rest ∙ owner_at c.args.owner c.self.inside.owners.items c.in_ok-place.place c.index_mut.result.now at c.index_mut.ensures.value in
+    let own : c.index_mut.result.now.own ≡ own_of c.args.owner c.args.self.now = own_at c.args.owner c.self.inside.owners.items c.in_ok-place.place c.index_mut.result.now at c.index_mut.ensures.value ∙ ap (own_of c.args.owner) c.self.view_is in
+    let is : c.take_out.new.self.owner ≡ c.args.owner = c.take_out.ensures.owner ∙ owner_at c.args.owner c.self.inside.owners.items c.in_ok-place.place c.index_mut.result.now at c.index_mut.ensures.value in
     λ other differ. own_of_other-set c.args.owner c.self.inside.owners.items c.in_ok-place.place c.take_out.new.self at is other differ ∙ ap (own_of other) c.self.view_is

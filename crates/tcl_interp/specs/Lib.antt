@@ -3,6 +3,7 @@ pub mod Commands
 pub mod Evaluation
 pub mod Finish
 pub mod Interp
+pub mod Moves
 pub mod Outside
 pub mod Rests
 pub mod Scripts

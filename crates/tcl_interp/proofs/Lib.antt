@@ -1,0 +1,4 @@
+-- What the proofs share.
+pub mod Bounds
+pub mod Same
+pub mod Weights

@@ -17,7 +17,7 @@ use Rattle.tcl_interp.specs.declared.tasks.Act.{Act}
 use Rattle.tcl_interp.specs.declared.tasks.Act.TheVariants.{Done, Step, Run, Unknown}
 use Rattle.tcl_interp.specs.Outside.{Outside, Told, Falls, RunsBelow}
 use Rattle.tcl_interp.specs.Evaluation.{State, Outcome, Ended, OutOfSteps, and_then, on_normal, stepped, with_step, on_read, with_joined, piece_meaning, pieces_meaning, words_meaning, called, commands_meaning}
-use Rattle.tcl_interp.specs.Commands.{command_of, plain_name, condition_of, condition_value, on_test, after_body, on_set, turns_meaning, while_meaning, set_meaning, builtin_meaning}
+use Rattle.tcl_interp.specs.Commands.{command_of, plain_name, condition_of, condition_value, on_test, after_body, turns_meaning, while_meaning, builtin_meaning}
 use Rattle.tcl_interp.specs.Scripts.{out_of_global, on_act, told_state, resumed, after_step, task_meaning, act_meaning, outside_meaning, by_name, call_meaning, script_of, on_parsed, script_meaning}
 
 -- where something ends, at most so many steps are left
@@ -63,7 +63,7 @@ module _ {S : Type 0} (run : ℕ → List ℕ → State S → Outcome S) (call :
   within_pieces n level [] so_far state f w h = h state so_far w
   within_pieces n level (piece ∷ pieces) so_far state f w h =
       within_piece n level piece state _ w (λ state' text w'.
-        within_cond n (nat_le (length (so_far ++ text)) 65536) _ _ (within_pieces n level pieces (so_far ++ text) state' f w' h) w')
+      within_cond n (nat_le (length (so_far ++ text)) 65536) _ _ (within_pieces n level pieces (so_far ++ text) state' f w' h) w')
 
   pub within_words : (n level : ℕ) (words : List Word) (whole : List (List ℕ)) (state : State S) (f : State S → List (List ℕ) → Outcome S) → state.steps ≤ n → ((state' : State S) (all : List (List ℕ)) → state'.steps ≤ n → Within n (f state' all)) → Within n (words_meaning run call level words whole state f)
   within_words n level [] whole state f w h = h state whole w
@@ -78,7 +78,7 @@ module _ {S : Type 0} (run : ℕ → List ℕ → State S → Outcome S) (call :
   within_commands c n level [] result state w = w
   within_commands c n level (command ∷ commands) result state w =
       within_and_then n _ _ (within_words n level command.words [] state _ w (λ state' all w'. within_called c n level state' all w'))
-        (within_on_normal n _ (λ state' text w'. within_commands c n level commands text state' w'))
+      (within_on_normal n _ (λ state' text w'. within_commands c n level commands text state' w'))
 
 within_on_test : {S : Type 0} (n : ℕ) (state : State S) (f : State S → Outcome S) (test : Result Bool (List ℕ)) → state.steps ≤ n → Within n (f state) → Within n (on_test state f test)
 within_on_test n state f (Ok true) w h = h
@@ -92,17 +92,13 @@ within_after_body n again h state Break text w = w
 within_after_body n again h state Error text w = w
 within_after_body n again h state (Return code) text w = w
 
-within_on_set : {S : Type 0} (n : ℕ) (name value : List ℕ) (state : State S) (store : Result Store SetFault) → state.steps ≤ n → Within n (on_set name value state store)
-within_on_set n name value state (Ok store) w = w
-within_on_set n name value state (Err fault) w = w
-
 module _ {S : Type 0} (run : ℕ → List ℕ → State S → Outcome S) (run_falls : Bounded run) where
   pub within_turns : (n level : ℕ) (condition : Condition) (body : List ℕ) (turns : ℕ) (state : State S) → state.steps ≤ n → Within n (turns_meaning run level condition body turns state)
   within_turns n level condition body zero state w = tt
   within_turns n level condition body (suc turns) state w =
       within_stepped n state.steps state _ w (λ state' w'.
-        within_on_test n state' (λ state''. and_then (run level body state'') (after_body (turns_meaning run level condition body turns))) (condition_value level condition state'.store) w'
-          (within_and_then n _ _ (run_falls n level body state' w') (within_after_body n _ (λ state'' w''. within_turns n level condition body turns state'' w''))))
+      within_on_test n state' (λ state''. and_then (run level body state'') (after_body (turns_meaning run level condition body turns))) (condition_value level condition state'.store) w'
+      (within_and_then n _ _ (run_falls n level body state' w') (within_after_body n _ (λ state'' w''. within_turns n level condition body turns state'' w''))))
 
   within_while : (n level : ℕ) (arguments : List (List ℕ)) (state : State S) → state.steps ≤ n → Within n (while_meaning run level arguments state)
   within_while n level [] state w = w
@@ -110,15 +106,9 @@ module _ {S : Type 0} (run : ℕ → List ℕ → State S → Outcome S) (run_fa
   within_while n level (condition ∷ body ∷ []) state w = within_turns n level (condition_of condition) body state.steps state w
   within_while n level (a ∷ b ∷ c ∷ rest) state w = w
 
-  within_set : (n level : ℕ) (arguments : List (List ℕ)) (state : State S) → state.steps ≤ n → Within n (set_meaning run level arguments state)
-  within_set n level [] state w = w
-  within_set n level (name ∷ []) state w = within_on_read n name state (λ state' value. Ended state' Normal value) (variable_in state.store level name) w (λ text. w)
-  within_set n level (name ∷ value ∷ []) state w = within_on_set n name value state (with_variable state.store level name value) w
-  within_set n level (a ∷ b ∷ c ∷ rest) state w = w
-
   within_builtin : (builtin : Builtin) (n level : ℕ) (arguments : List (List ℕ)) (state : State S) → state.steps ≤ n → Within n (builtin_meaning run builtin level arguments state)
-  within_builtin Set = within_set
-  within_builtin While = within_while
+  within_builtin Set n level arguments state w = w
+  within_builtin While n level arguments state w = within_while n level arguments state w
 
 -- ── the same turns ──
 
@@ -156,9 +146,9 @@ module _ {S : Type 0} (run : ℕ → List ℕ → State S → Outcome S) (run_fa
       let again_t : State S → Outcome S = turns_meaning run level condition body t in
       let again_u : State S → Outcome S = turns_meaning run level condition body u in
       stepped_same state.steps state _ _ (λ state' less.
-        on_test_same state' (λ state''. and_then (run level body state'') (after_body again_t)) (λ state''. and_then (run level body state'') (after_body again_u)) (condition_value level condition state'.store)
-          (and_then_same state'.steps (run level body state') (after_body again_t) (after_body again_u) (run_falls state'.steps level body state' (omega arith))
-            (λ state'' code text le. after_body_same again_t again_u state'' code text (turns_same level condition body t u state'' (omega arith) (omega arith)))))
+      on_test_same state' (λ state''. and_then (run level body state'') (after_body again_t)) (λ state''. and_then (run level body state'') (after_body again_u)) (condition_value level condition state'.store)
+      (and_then_same state'.steps (run level body state') (after_body again_t) (after_body again_u) (run_falls state'.steps level body state' (omega arith))
+      (λ state'' code text le. after_body_same again_t again_u state'' code text (turns_same level condition body t u state'' (omega arith) (omega arith)))))
 
 module _ {S K : Type 0} (outside : Outside S K) (run : ℕ → List ℕ → State S → Outcome S) (run_falls : Bounded run) where
   within_on_act : (n : ℕ) (f : K → State S → Outcome S) (g : K → State S → Code → List ℕ → Outcome S) → ((task : K) (state : State S) → state.steps ≤ n → Within n (f task state)) → ((task : K) (state : State S) (code : Code) (text : List ℕ) → state.steps ≤ n → Within n (g task state code text)) → (name : List ℕ) (state : State S) (act : Act K) → state.steps ≤ n → Within n (on_act run f g name state act)
@@ -227,5 +217,5 @@ module _ {S K : Type 0} (outside : Outside S K) (replaced : List (List ℕ)) whe
   within_script zero n level text state w = w
   within_script (suc room) n level text state w =
       within_on_parsed n _ state (script_of text) w (λ commands.
-        within_commands (script_meaning outside replaced room) (call_meaning outside (script_meaning outside replaced room) replaced) (within_script room)
-          (within_call outside (script_meaning outside replaced room) (within_script room) replaced) n level commands [] state w)
+      within_commands (script_meaning outside replaced room) (call_meaning outside (script_meaning outside replaced room) replaced) (within_script room)
+      (within_call outside (script_meaning outside replaced room) (within_script room) replaced) n level commands [] state w)

@@ -2,3 +2,4 @@
 pub mod Bounds
 pub mod Same
 pub mod Weights
+pub mod WordLemmas

@@ -91,7 +91,7 @@ module _ {S K : Type 0} (outside : Outside S K) (replaced : List (List ℕ)) whe
       → ((more : List (List ℕ)) → and_then (and_then (words_rest outside replaced room words more state) (next_in room after)) (waits_meaning outside replaced waits) ≡ finish_moved (go more) state)
       → (end : WordEnd)
       → and_then (and_then (end_meaning (run_in room) (call_in room) (λ state' text. words_rest outside replaced room words (whole ++ text ∷ []) state') state end) (next_in room after)) (waits_meaning outside replaced waits)
-        ≡ finish_moved (word_move room after words whole waits go end) state
+      ≡ finish_moved (word_move room after words whole waits go end) state
   word_same room after words whole waits state go h (Whole text) = h (whole ++ text ∷ [])
   word_same room after words whole waits state go h (Failed text) = refl
   word_same room after words whole waits state go h (AtBracket script pieces so_far) =
@@ -100,7 +100,7 @@ module _ {S K : Type 0} (outside : Outside S K) (replaced : List (List ℕ)) whe
       and_then_assoc (and_then (run_in room 0 script state) (on_normal g)) (next_in room after) (waits_meaning outside replaced waits)
       ∙ and_then_assoc (run_in room 0 script state) (on_normal g) (λ state' code text. and_then (next_in room after state' code text) (waits_meaning outside replaced waits))
       ∙ and_then_cong (run_in room 0 script state) _ _ (λ state' code text.
-          sym (and_then_assoc (on_normal g state' code text) (next_in room after) (waits_meaning outside replaced waits)) ∙ after_bracket_same room after waits g state' code text)
+      sym (and_then_assoc (on_normal g state' code text) (next_in room after) (waits_meaning outside replaced waits)) ∙ after_bracket_same room after waits g state' code text)
 
   pub words_same : (room : ℕ) (after : List Command) (words : List Word) (whole : List (List ℕ)) (waits : List (Waiting K)) (state : State S)
       → and_then (and_then (words_rest outside replaced room words whole state) (next_in room after)) (waits_meaning outside replaced waits) ≡ finish_moved (words_move state.store room after words whole waits) state

@@ -66,7 +66,7 @@ module _ (script_weight : List ℕ → ℕ) where
       join_weighs (1 + pieces_weight pieces) (nat_le (length (so_far ++ text)) 65536) _ (end_weighs_more (pieces_weight pieces) (1 + pieces_weight pieces) (word_end store pieces (so_far ++ text)) (omega arith) (end_weighs store pieces (so_far ++ text)))
   end_weighs store (Variable name ∷ pieces) so_far =
       read_weighs (1 + pieces_weight pieces) name (variable_in store 0 name) pieces so_far (word_end store pieces)
-        (λ text. end_weighs_more (pieces_weight pieces) (1 + pieces_weight pieces) (word_end store pieces text) (omega arith) (end_weighs store pieces text))
+      (λ text. end_weighs_more (pieces_weight pieces) (1 + pieces_weight pieces) (word_end store pieces text) (omega arith) (end_weighs store pieces text))
   end_weighs store (Element name index ∷ pieces) so_far = tt
   end_weighs store (Bracket script ∷ pieces) so_far = omega arith
 
@@ -113,7 +113,7 @@ module _ {K : Type 0} where
   words_light store room after [] (name ∷ arguments) waits = omega arith
   words_light store room after (word ∷ words) whole waits =
       let light : weight (words_move store room after (word ∷ words) whole waits) ≤ 2 + (pieces_weight (script_weight room) word.pieces + (words_weight (script_weight room) words + (commands_weight (script_weight room) after + waits_weight waits))) =
-        word_light room after words whole waits (λ more. words_move store room after words more waits) (pieces_weight (script_weight room) word.pieces) (word_end store word.pieces []) (λ more. words_light store room after words more waits) (end_weighs (script_weight room) store word.pieces []) in
+      word_light room after words whole waits (λ more. words_move store room after words more waits) (pieces_weight (script_weight room) word.pieces) (word_end store word.pieces []) (λ more. words_light store room after words more waits) (end_weighs (script_weight room) store word.pieces []) in
       omega arith
 
   parsed_light : (room : ℕ) (waits : List (Waiting K)) (script : Result (List Command) ParseFault) → weight (parsed_move room waits script) < parsed_weight (script_weight room) script + waits_weight waits
@@ -136,9 +136,9 @@ module _ {K : Type 0} where
   end_lighter store Continue text (ForCommand room after) waits = omega arith
   end_lighter store Normal text (ForBracket w) waits =
       let light : weight (bracket_move store w waits text) ≤ 2 + (pieces_weight (script_weight w.room) w.pieces + (words_weight (script_weight w.room) w.words + (commands_weight (script_weight w.room) w.after + waits_weight waits))) =
-        word_light w.room w.after w.words w.whole waits (λ more. words_move store w.room w.after w.words more waits) (pieces_weight (script_weight w.room) w.pieces) (join_end w.so_far text (word_end store w.pieces))
-          (λ more. words_light store w.room w.after w.words more waits)
-          (join_weighs (script_weight w.room) (pieces_weight (script_weight w.room) w.pieces) (nat_le (length (w.so_far ++ text)) 65536) (word_end store w.pieces (w.so_far ++ text)) (end_weighs (script_weight w.room) store w.pieces (w.so_far ++ text))) in
+      word_light w.room w.after w.words w.whole waits (λ more. words_move store w.room w.after w.words more waits) (pieces_weight (script_weight w.room) w.pieces) (join_end w.so_far text (word_end store w.pieces))
+      (λ more. words_light store w.room w.after w.words more waits)
+      (join_weighs (script_weight w.room) (pieces_weight (script_weight w.room) w.pieces) (nat_le (length (w.so_far ++ text)) 65536) (word_end store w.pieces (w.so_far ++ text)) (end_weighs (script_weight w.room) store w.pieces (w.so_far ++ text))) in
       omega arith
   end_lighter store Error text (ForBracket w) waits = omega arith
   end_lighter store (Return code) text (ForBracket w) waits = omega arith
@@ -209,7 +209,7 @@ module _ {K : Type 0} (size : K → ℕ) where
   end_tasks store Continue text (ForCommand room after) waits = omega arith
   end_tasks store Normal text (ForBracket w) waits =
       let same : tasks (bracket_move store w waits text) ≡ waits_tasks waits =
-        word_tasks w.room w.after w.words w.whole waits (λ more. words_move store w.room w.after w.words more waits) (join_end w.so_far text (word_end store w.pieces)) (λ more. words_tasks store w.room w.after w.words more waits) in
+      word_tasks w.room w.after w.words w.whole waits (λ more. words_move store w.room w.after w.words more waits) (join_end w.so_far text (word_end store w.pieces)) (λ more. words_tasks store w.room w.after w.words more waits) in
       omega arith
   end_tasks store Error text (ForBracket w) waits = omega arith
   end_tasks store (Return code) text (ForBracket w) waits = omega arith

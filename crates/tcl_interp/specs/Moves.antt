@@ -63,12 +63,16 @@ module _ {K : Type 0} where
   called_move room after [] waits = moved (GoesOn room after []) waits
   called_move room after (name ∷ arguments) waits = moved (Calls room (name ∷ arguments)) (ForCommand room after ∷ waits)
 
+  -- a script in a word begins
+  abbrev pub bracket_begins : ℕ → List Command → List Word → List (List ℕ) → List Piece → List ℕ → List ℕ → List (Waiting K) → Moved K
+  bracket_begins room after words whole pieces so_far script waits =
+      moved (Begins room script) (ForBracket (record { room = room; after = after; whole = whole; so_far = so_far; pieces = pieces; words = words }) ∷ waits)
+
   -- a word that comes so far, with the words behind it
   abbrev pub word_move : ℕ → List Command → List Word → List (List ℕ) → List (Waiting K) → (List (List ℕ) → Moved K) → WordEnd → Moved K
   word_move room after words whole waits go (Whole text) = go (whole ++ text ∷ [])
   word_move room after words whole waits go (Failed text) = moved (Ends Error text) waits
-  word_move room after words whole waits go (AtBracket script pieces so_far) =
-      moved (Begins room script) (ForBracket (record { room = room; after = after; whole = whole; so_far = so_far; pieces = pieces; words = words }) ∷ waits)
+  word_move room after words whole waits go (AtBracket script pieces so_far) = bracket_begins room after words whole pieces so_far script waits
 
   abbrev pub words_move : Store → ℕ → List Command → List Word → List (List ℕ) → List (Waiting K) → Moved K
   words_move store room after [] whole waits = called_move room after whole waits

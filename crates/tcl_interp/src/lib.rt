@@ -6,6 +6,8 @@ mod interp;
 mod loops;
 mod machine;
 mod tasks;
+mod texts;
+mod words;
 
 pub use interp::{Interp, SliceEnd};
 pub use tasks::{Act, Code, ReturnCode, Tasks};

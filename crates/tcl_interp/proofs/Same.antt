@@ -18,6 +18,7 @@ use Rattle.tcl_interp.specs.Texts.{limit_text}
 use Rattle.tcl_interp.specs.Evaluation.{State, Outcome, Ended, OutOfSteps, and_then, on_normal, stepped, with_step, on_read, with_joined, piece_meaning, pieces_meaning, words_meaning, called, commands_meaning}
 use Rattle.tcl_interp.specs.Scripts.{out_of_global, on_act, told_state, resumed, after_step, task_meaning, act_meaning, call_meaning, script_of, on_parsed, script_meaning}
 use Rattle.tcl_interp.specs.Finish.{Turning, Wording, Doing, Begins, GoesOn, Calls, Tests, Steps, Resumes, Ends, Waiting, ForCommand, ForBracket, ForBody, ForScript, ForAll, Rest, Running, at_global, script_rest, words_rest, word_rest, loop_rest, task_rest, doing_meaning, waiting_meaning, waits_meaning, finish}
+use Rattle.tcl_interp.specs.Quiet.{quiet_by, quiet_move, quiet_moves, Leads}
 use Rattle.tcl_interp.specs.Moves.{Moved, PieceText, Plain, Fails, Script, value_text, piece_text, WordEnd, Whole, Failed, AtBracket, join_end, piece_end, word_end, moved, called_move, word_move, words_move, parsed_move, begin_move, go_on_move, after_command, bracket_move, after_bracket, after_body_move, global_end, end_move}
 
 pub and_then_assoc : {S : Type 0} (o : Outcome S) (f g : State S → Code → List ℕ → Outcome S) → and_then (and_then o f) g ≡ and_then o (λ state code text. and_then (f state code text) g)
@@ -165,3 +166,24 @@ module _ {S K : Type 0} (outside : Outside S K) (replaced : List (List ℕ)) whe
   end_same code text (ForBody turning) waits state = body_end_same turning waits state code text
   end_same code text (ForScript room task) waits state = refl
   end_same code text ForAll waits state = global_end_same waits state (out_of_global code) text
+
+  -- ── moves in a row ──
+
+  quiet_same_by : (doing : Doing K) (waits : List (Waiting K)) (state : State S) → finish_moved (moved doing waits) state ≡ finish_moved (quiet_by state.store doing waits) state
+  quiet_same_by (Begins room text) waits state = begin_same room text waits state
+  quiet_same_by (GoesOn room commands result) waits state = go_on_same room commands result waits state
+  quiet_same_by (Calls room words) waits state = refl
+  quiet_same_by (Tests turning) waits state = refl
+  quiet_same_by (Steps room task) waits state = refl
+  quiet_same_by (Resumes room task code text) waits state = refl
+  quiet_same_by (Ends code text) [] state = refl
+  quiet_same_by (Ends code text) (waiting ∷ waits) state = end_same code text waiting waits state
+
+  quiet_moves_same : (moves : ℕ) (m : Moved K) (state : State S) → finish_moved m state ≡ finish_moved (quiet_moves state.store moves m) state
+  quiet_moves_same zero m state = refl
+  quiet_moves_same (suc moves) m state =
+      quiet_moves_same moves m state ∙ quiet_same_by (quiet_moves state.store moves m).doing (quiet_moves state.store moves m).waits state
+
+  -- moves without a step keep the outcome
+  pub leads_same : (m n : Moved K) (state : State S) → Leads state.store m n → finish_moved m state ≡ finish_moved n state
+  leads_same m n state (moves, e) = quiet_moves_same moves m state ∙ ap (λ x. finish_moved x state) e

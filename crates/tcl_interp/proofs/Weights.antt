@@ -13,6 +13,7 @@ use Rattle.tcl_interp.specs.Texts.{limit_text}
 use Rattle.tcl_interp.specs.Scripts.{out_of_global, script_of}
 use Rattle.tcl_interp.specs.Finish.{Turning, Wording, Doing, Begins, GoesOn, Calls, Tests, Steps, Resumes, Ends, Waiting, ForCommand, ForBracket, ForBody, ForScript, ForAll}
 use Rattle.tcl_interp.specs.Moves.{Moved, PieceText, value_text, piece_text, WordEnd, Whole, Failed, AtBracket, join_end, piece_end, word_end, moved, word_move, words_move, parsed_move, begin_move, go_on_move, after_command, bracket_move, after_bracket, after_body_move, global_end, end_move}
+use Rattle.tcl_interp.specs.Quiet.{quiet_by, quiet_move, quiet_moves, Leads, IsQuietBy, IsQuiet}
 use Rattle.tcl_interp.proofs.Same.{begin_some}
 
 -- ── before the next step or task ──
@@ -159,6 +160,20 @@ module _ {K : Type 0} where
       global_light Break = omega arith
       global_light Continue = omega arith
 
+  quiet_lighter_by : (store : Store) (doing : Doing K) (waits : List (Waiting K)) → IsQuietBy doing waits → weight (quiet_by store doing waits) < weight (moved doing waits)
+  quiet_lighter_by store (Begins room text) waits q = begin_lighter room text waits
+  quiet_lighter_by store (GoesOn room commands result) waits q = omega (arith, go_on_lighter store room commands result waits)
+  quiet_lighter_by store (Calls room words) waits q = absurd q
+  quiet_lighter_by store (Tests turning) waits q = absurd q
+  quiet_lighter_by store (Steps room task) waits q = absurd q
+  quiet_lighter_by store (Resumes room task code text) waits q = absurd q
+  quiet_lighter_by store (Ends code text) [] q = absurd (q refl)
+  quiet_lighter_by store (Ends code text) (waiting ∷ waits) q = end_lighter store code text waiting waits
+
+  -- a move makes what is to do before the next step lighter
+  pub quiet_lighter : (store : Store) (m n : Moved K) → IsQuiet m → n ≡ quiet_move store m → weight n < weight m
+  quiet_lighter store m n q e = rw e (quiet_lighter_by store m.doing m.waits q)
+
 -- ── tasks ──
 
 module _ {K : Type 0} (size : K → ℕ) where
@@ -229,3 +244,25 @@ module _ {K : Type 0} (size : K → ℕ) where
       global_tasks (Return code') = refl
       global_tasks Break = refl
       global_tasks Continue = refl
+
+  quiet_tasks_by : (store : Store) (doing : Doing K) (waits : List (Waiting K)) → tasks (quiet_by store doing waits) ≡ tasks (moved doing waits)
+  quiet_tasks_by store (Begins room text) waits = begin_tasks room text waits ∙ omega arith
+  quiet_tasks_by store (GoesOn room commands result) waits = go_on_tasks store room commands result waits ∙ omega arith
+  quiet_tasks_by store (Calls room words) waits = refl
+  quiet_tasks_by store (Tests turning) waits = refl
+  quiet_tasks_by store (Steps room task) waits = refl
+  quiet_tasks_by store (Resumes room task code text) waits = refl
+  quiet_tasks_by store (Ends code text) [] = refl
+  quiet_tasks_by store (Ends code text) (waiting ∷ waits) = end_tasks store code text waiting waits ∙ omega arith
+
+  -- moves without a step leave the tasks alone
+  pub quiet_moves_tasks : (store : Store) (moves : ℕ) (m : Moved K) → tasks (quiet_moves store moves m) ≡ tasks m
+  quiet_moves_tasks store zero m = refl
+  quiet_moves_tasks store (suc moves) m = quiet_tasks_by store (quiet_moves store moves m).doing (quiet_moves store moves m).waits ∙ quiet_moves_tasks store moves m
+
+  pub leads_tasks : (store : Store) (m n : Moved K) → Leads store m n → tasks n ≡ tasks m
+  leads_tasks store m n (moves, e) = ap tasks (sym e) ∙ quiet_moves_tasks store moves m
+
+-- one move more
+pub leads_on : {K : Type 0} (store : Store) (m n k : Moved K) → Leads store m n → k ≡ quiet_move store n → Leads store m k
+leads_on store m n k (moves, e) h = (suc moves, ap (quiet_move store) e ∙ sym h)

@@ -1,10 +1,12 @@
 -- What the contracts cite.
+pub mod Advances
 pub mod Commands
 pub mod Evaluation
 pub mod Finish
 pub mod Interp
 pub mod Moves
 pub mod Outside
+pub mod Quiet
 pub mod Rests
 pub mod Scripts
 pub mod Texts

@@ -5,6 +5,7 @@ mod commands;
 mod interp;
 mod loops;
 mod machine;
+mod moves;
 mod tasks;
 mod texts;
 mod words;

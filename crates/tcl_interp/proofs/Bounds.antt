@@ -183,7 +183,7 @@ module _ {S K : Type 0} (outside : Outside S K) (run : ℕ → List ℕ → Stat
   within_call replaced n level [] state w = w
   within_call replaced n level (name ∷ arguments) state w = within_by_name n name arguments level state (command_of replaced (plain_name name)) w
 
-  on_act_same : (n bound : ℕ) (f g : K → State S → Outcome S) (p q : K → State S → Code → List ℕ → Outcome S) → ((task : K) (state : State S) → state.steps < n → f task state ≡ g task state) → ((task : K) (state : State S) (code : Code) (text : List ℕ) → outside.size task < bound → state.steps ≤ n → p task state code text ≡ q task state code text) → (name : List ℕ) (state : State S) (act : Act K) → RunsBelow outside.size bound act → state.steps ≤ n → on_act run f p name state act ≡ on_act run g q name state act
+  pub on_act_same : (n bound : ℕ) (f g : K → State S → Outcome S) (p q : K → State S → Code → List ℕ → Outcome S) → ((task : K) (state : State S) → state.steps < n → f task state ≡ g task state) → ((task : K) (state : State S) (code : Code) (text : List ℕ) → outside.size task < bound → state.steps ≤ n → p task state code text ≡ q task state code text) → (name : List ℕ) (state : State S) (act : Act K) → RunsBelow outside.size bound act → state.steps ≤ n → on_act run f p name state act ≡ on_act run g q name state act
   on_act_same n bound f g p q fg pq name state (Done code text) below w = refl
   on_act_same n bound f g p q fg pq name state (Step task) below w = stepped_same state.steps state (f task) (g task) (λ state' less. fg task state' (omega arith))
   on_act_same n bound f g p q fg pq name state (Run script task) below w =

@@ -1,5 +1,6 @@
 -- What the proofs share.
 pub mod Bounds
 pub mod Same
+pub mod Stepping
 pub mod Weights
 pub mod WordLemmas

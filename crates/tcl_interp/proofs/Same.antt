@@ -64,7 +64,7 @@ begin_some room text waits =
     rw (some, less) refl
 
 module _ {S K : Type 0} (outside : Outside S K) (replaced : List (List ℕ)) where
-  abbrev run_in : ℕ → ℕ → List ℕ → State S → Outcome S
+  abbrev pub run_in : ℕ → ℕ → List ℕ → State S → Outcome S
   run_in room = script_meaning outside replaced room
 
   abbrev call_in : ℕ → ℕ → List (List ℕ) → State S → Outcome S

@@ -9,4 +9,5 @@ pub mod Outside
 pub mod Quiet
 pub mod Rests
 pub mod Scripts
+pub mod Steps
 pub mod Texts

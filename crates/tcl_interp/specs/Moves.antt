@@ -1,5 +1,5 @@
 -- The moves of the interpreter that take no step and call nothing outside: what is done, and what waits, after each.
-use Rattle.std.specs.Prelude.{ℕ, ◌-◌, ◌==◌, List, [], ◌∷◌, ◌++◌, length, nat_le, if◌then◌else◌, Result, Ok, Err, codes}
+use Rattle.std.specs.Prelude.{ℕ, ◌-◌, ◌==◌, Bool, true, false, List, [], ◌∷◌, ◌++◌, length, nat_le, if◌then◌else◌, Result, Ok, Err, codes}
 use Rattle.tcl_words.specs.declared.script.Command.{Command}
 use Rattle.tcl_words.specs.declared.script.Word.{Word}
 use Rattle.tcl_words.specs.declared.script.Piece.{Piece}
@@ -9,9 +9,12 @@ use Rattle.tcl_vars.specs.Store.{Store, variable_in}
 use Rattle.tcl_vars.specs.declared.fault.ReadFault.{ReadFault}
 use Rattle.tcl_interp.specs.declared.tasks.Code.{Code}
 use Rattle.tcl_interp.specs.declared.tasks.Code.TheVariants.{Normal, Error, Return, Break, Continue}
-use Rattle.tcl_interp.specs.Texts.{limit_text, nesting_text, cannot_read, fault_text}
+use Rattle.tcl_interp.specs.declared.tasks.Act.{Act}
+use Rattle.tcl_interp.specs.declared.tasks.Act.TheVariants.{Done, Step, Run, Unknown}
+use Rattle.tcl_interp.specs.Texts.{limit_text, nesting_text, wrong_words, cannot_read, unknown_command, fault_text}
+use Rattle.tcl_interp.specs.Commands.{condition_of}
 use Rattle.tcl_interp.specs.Scripts.{script_of, out_of_global}
-use Rattle.tcl_interp.specs.Finish.{Turning, Wording, Doing, Begins, GoesOn, Calls, Tests, Resumes, Ends, Waiting, ForCommand, ForBracket, ForBody, ForScript, ForAll}
+use Rattle.tcl_interp.specs.Finish.{Turning, Wording, Doing, Begins, GoesOn, Calls, Tests, Steps, Resumes, Ends, Waiting, ForCommand, ForBracket, ForBody, ForScript, ForAll}
 
 -- what is done, and what waits
 pub record Moved (K : Type 0) : Type 0 where
@@ -123,3 +126,22 @@ module _ {K : Type 0} where
   end_move store code text (ForBody turning) waits = after_body_move turning waits code text
   end_move store code text (ForScript room task) waits = moved (Resumes room task (out_of_global code) text) waits
   end_move store code text ForAll waits = moved (global_end (out_of_global code) text) waits
+
+  -- ── commands, tests and tasks ──
+
+  -- while condition body
+  abbrev pub while_move : ℕ → List (List ℕ) → List (Waiting K) → Moved K
+  while_move room (condition ∷ body ∷ []) waits = moved (Tests (record { room = room; condition = condition_of condition; body = body })) waits
+  while_move room _ waits = moved (Ends Error (wrong_words (codes "while cond body"))) waits
+
+  abbrev pub test_move : Turning → List (Waiting K) → Result Bool (List ℕ) → Moved K
+  test_move turning waits (Ok true) = moved (Begins turning.room turning.body) (ForBody turning ∷ waits)
+  test_move turning waits (Ok false) = moved (Ends Normal []) waits
+  test_move turning waits (Err text) = moved (Ends Error text) waits
+
+  -- what an act of a command of this name, or of a task, leads to
+  abbrev pub act_move : ℕ → List ℕ → List (Waiting K) → Act K → Moved K
+  act_move room name waits (Done code text) = moved (Ends code text) waits
+  act_move room name waits (Step task) = moved (Steps room task) waits
+  act_move room name waits (Run script task) = moved (Begins room script) (ForScript room task ∷ waits)
+  act_move room name waits Unknown = moved (Ends Error (unknown_command name)) waits

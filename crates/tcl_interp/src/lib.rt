@@ -6,6 +6,7 @@ mod interp;
 mod loops;
 mod machine;
 mod moves;
+mod steps;
 mod tasks;
 mod texts;
 mod words;

@@ -37,7 +37,7 @@ pub fn out_of_global(code: Code) -> Code
 
 /// Reads a script, or tells its fault.
 #[tactic(auto, unfolding(crate::specs::Scripts::script_of))]
-fn read(alloc: Global, text: &Text) -> Result<Result<Script, ParseFault>, AllocError>
+pub fn read(alloc: Global, text: &Text) -> Result<Result<Script, ParseFault>, AllocError>
     ensures { IfOk result (λ reading. MatchResult reading (λ script. (script ≡ text.now) × IsOk (script_of text.now)) (λ fault. script_of text.now ≡ Err fault)) }
 {
     match parse(alloc, text.as_str().as_bytes()) {

@@ -1,9 +1,9 @@
 ghost use Rattle.std.specs.Prelude.{◌≡◌, ◌≤◌, ◌++◌, length, IfOk};
-ghost use Rattle.tcl_interp.specs.Texts.{message, limit_text, fault_text, read_reason, cannot_read, not_boolean, unknown_command};
+ghost use Rattle.tcl_interp.specs.Texts.{message, limit_text, fault_text, read_reason, cannot_read, cannot_set, not_boolean, unknown_command};
 
 use std::alloc::{AllocError, Global};
 use tcl_text::{Text, TextFault};
-use tcl_vars::ReadFault;
+use tcl_vars::{ReadFault, SetFault};
 use tcl_words::ParseFault;
 
 /// A text of these characters, which are few enough.
@@ -53,6 +53,28 @@ fn read_reason(fault: ReadFault) -> &'static str
         ReadFault::NoElement => "\": no such element in array",
         ReadFault::IsArray => "\": variable is array",
         ReadFault::NotArray => "\": variable isn't array",
+    }
+}
+
+/// Why a variable can't be set, as its script is told of it.
+pub fn cannot_set(alloc: Global, name: &Text, fault: SetFault) -> Result<Text, AllocError>
+    ensures { IfOk result (λ text. text ≡ cannot_set name.now fault) }
+{
+    match fault {
+        SetFault::IsArray => message(
+            alloc,
+            "can't set \"",
+            name.as_str(),
+            "\": variable is array",
+        ),
+        SetFault::NotArray => message(
+            alloc,
+            "can't set \"",
+            name.as_str(),
+            "\": variable isn't array",
+        ),
+        SetFault::Full => fixed(alloc, "limit reached: variables"),
+        SetFault::NoMemory => fixed(alloc, ""),
     }
 }
 

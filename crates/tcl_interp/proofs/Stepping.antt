@@ -1,0 +1,83 @@
+-- The moves that take a step or resume a task keep the outcome of all that is still to do.
+use Rattle.std.proofs.Common.{◌≡◌, ℕ, zero, suc, ◌+◌, ◌≤◌, ◌<◌, Bool, true, false, List, [], ◌∷◌, Option, Some, None, Result, Ok, Err, refl, ap, sym, ◌∙◌, arith}
+use Rattle.tcl_vars.specs.Store.{Store}
+use Rattle.tcl_interp.specs.declared.commands.Builtin.{Builtin}
+use Rattle.tcl_interp.specs.declared.commands.Builtin.TheVariants.{Set, While}
+use Rattle.tcl_interp.specs.declared.tasks.Code.{Code}
+use Rattle.tcl_interp.specs.declared.tasks.Code.TheVariants.{Normal}
+use Rattle.tcl_interp.specs.declared.tasks.Act.{Act}
+use Rattle.tcl_interp.specs.declared.tasks.Act.TheVariants.{Done, Step, Run, Unknown}
+use Rattle.tcl_interp.specs.Outside.{Outside, Told, Falls, RunsBelow}
+use Rattle.tcl_interp.specs.Evaluation.{State, Outcome, OutOfSteps, and_then}
+use Rattle.tcl_interp.specs.Commands.{plain_name, command_of, condition_value, on_test, after_body, turns_meaning, while_meaning, set_ending, Ending}
+use Rattle.tcl_interp.specs.Scripts.{out_of_global, told_state, on_act, resumed, after_step, task_meaning, act_meaning, by_name, call_meaning, script_meaning}
+use Rattle.tcl_interp.specs.Finish.{Turning, Doing, Calls, Tests, Steps, Resumes, Ends, Waiting, ForScript, ForBody, Running, loop_rest, waits_meaning, finish}
+use Rattle.tcl_interp.specs.Moves.{Moved, moved, while_move, test_move, act_move}
+use Rattle.tcl_interp.specs.Steps.{state_with, plain_words, TakesStep, TakesNone}
+use Rattle.tcl_interp.proofs.Bounds.{and_then_same, after_body_same, turns_same, resumed_same, after_step_same, on_act_same, within_script}
+use Rattle.tcl_interp.proofs.Same.{and_then_assoc, finish_moved, run_in}
+
+module _ {S K : Type 0} (outside : Outside S K) (replaced : List (List ℕ)) where
+  pub act_same : (room : ℕ) (name : List ℕ) (waits : List (Waiting K)) (state : State S) (act : Act K)
+      → and_then (act_meaning outside (run_in outside replaced room) name state act) (waits_meaning outside replaced waits) ≡ finish_moved outside replaced (act_move room name waits act) state
+  act_same room name waits state (Done code text) = refl
+  act_same room name waits state (Step task) = refl
+  act_same room name waits state (Run script task) =
+      and_then_assoc (run_in outside replaced room 0 script state) (λ state' code text. task_meaning outside (run_in outside replaced room) task state' (out_of_global code) text) (waits_meaning outside replaced waits)
+  act_same room name waits state Unknown = refl
+
+  pub while_same : (room : ℕ) (arguments : List (List ℕ)) (waits : List (Waiting K)) (state : State S)
+      → and_then (while_meaning (run_in outside replaced room) 0 arguments state) (waits_meaning outside replaced waits) ≡ finish_moved outside replaced (while_move room arguments waits) state
+  while_same room [] waits state = refl
+  while_same room (a ∷ []) waits state = refl
+  while_same room (condition ∷ body ∷ []) waits state = refl
+  while_same room (a ∷ b ∷ c ∷ rest) waits state = refl
+
+  -- a task is due its step: it is resumed after it
+  pub step_same : (room : ℕ) (task : K) (waits : List (Waiting K)) (shows : S) (store : Store) → TakesStep outside replaced (moved (Steps room task) waits) shows store (moved (Resumes room task Normal []) waits) shows store
+  step_same room task waits shows store left = refl
+
+  on_test_cases : (turning : Turning) (waits : List (Waiting K)) (left : ℕ) (state : State S) (value : Result Bool (List ℕ)) → state.steps ≤ left
+      → and_then (on_test state (λ state'. and_then (run_in outside replaced turning.room 0 turning.body state') (after_body (turns_meaning (run_in outside replaced turning.room) 0 turning.condition turning.body left))) value) (waits_meaning outside replaced waits)
+      ≡ finish_moved outside replaced (test_move turning waits value) state
+  on_test_cases turning waits left state (Ok true) le =
+      let run : ℕ → List ℕ → State S → Outcome S = run_in outside replaced turning.room in
+      let again : State S → Outcome S = turns_meaning run 0 turning.condition turning.body left in
+      ap (λ o. and_then o (waits_meaning outside replaced waits))
+      (and_then_same left (run 0 turning.body state) (after_body again) (after_body (loop_rest outside replaced turning)) (within_script outside replaced turning.room left 0 turning.body state le)
+      (λ state' code text le'. after_body_same again (loop_rest outside replaced turning) state' code text
+      (turns_same run (within_script outside replaced turning.room) 0 turning.condition turning.body left state'.steps state' le' (omega arith))))
+      ∙ and_then_assoc (run 0 turning.body state) (after_body (loop_rest outside replaced turning)) (waits_meaning outside replaced waits)
+  on_test_cases turning waits left state (Ok false) le = refl
+  on_test_cases turning waits left state (Err text) le = refl
+
+  -- the test of a loop
+  pub test_same : (turning : Turning) (waits : List (Waiting K)) (shows : S) (store : Store) → TakesStep outside replaced (moved (Tests turning) waits) shows store (test_move turning waits (condition_value 0 turning.condition store)) shows store
+  test_same turning waits shows store left = on_test_cases turning waits left (state_with shows store left) (condition_value 0 turning.condition store) (omega arith)
+
+  module _ (falls : Falls outside) where
+    resumed_act : (room : ℕ) (m : ℕ) (task : K) (code : Code) (text : List ℕ) (state : State S) → outside.size task ≤ m
+        → (let told : Told S K = outside.resumes state.shows state.store task code text in
+        resumed outside (run_in outside replaced room) (after_step outside (run_in outside replaced room) state.steps) m task state code text
+        ≡ act_meaning outside (run_in outside replaced room) [] (told_state told state.steps) told.act)
+    resumed_act room zero task code text state le =
+        let run : ℕ → List ℕ → State S → Outcome S = run_in outside replaced room in
+        on_act_same outside run (within_script outside replaced room) state.steps (outside.size task) (after_step outside run state.steps) (after_step outside run state.steps) (λ _ state' _ _. OutOfSteps state') (task_meaning outside run)
+        (λ task' state' less. refl) (λ task' state' code' text' less le'. absurd (omega arith)) [] _ (outside.resumes state.shows state.store task code text).act (falls state.shows state.store task code text) (omega arith)
+    resumed_act room (suc m) task code text state le =
+        let run : ℕ → List ℕ → State S → Outcome S = run_in outside replaced room in
+        on_act_same outside run (within_script outside replaced room) state.steps (outside.size task) (after_step outside run state.steps) (after_step outside run state.steps) (resumed outside run (after_step outside run state.steps) m) (task_meaning outside run)
+        (λ task' state' less. refl)
+        (λ task' state' code' text' less le'.
+        resumed_same outside run (within_script outside replaced room) falls state'.steps (after_step outside run state.steps) (after_step outside run state'.steps)
+        (λ task'' state'' less'. after_step_same outside run (within_script outside replaced room) falls state.steps state'.steps task'' state'' (omega arith) less')
+        m (outside.size task') task' state' code' text' (omega arith) (omega arith) (omega arith))
+        [] _ (outside.resumes state.shows state.store task code text).act (falls state.shows state.store task code text) (omega arith)
+
+    -- a task is resumed
+    pub resume_same : (room : ℕ) (task : K) (code : Code) (text : List ℕ) (waits : List (Waiting K)) (shows : S) (store : Store)
+        → (let told : Told S K = outside.resumes shows store task code text in
+        TakesNone outside replaced (moved (Resumes room task code text) waits) shows store (act_move room [] waits told.act) told.shows told.store)
+    resume_same room task code text waits shows store left =
+        ap (λ o. and_then o (waits_meaning outside replaced waits)) (resumed_act room (outside.size task) task code text (state_with shows store left) (omega arith))
+        ∙ act_same room [] waits _ (outside.resumes shows store task code text).act

@@ -1,0 +1,133 @@
+ghost use Rattle.std.specs.Prelude.{◌≡◌, ◌<◌, [], ◌∷◌, List, length, drop, IfOk, MatchResult, Ok, Err};
+ghost use Rattle.tcl_vars.specs.Store.{variable_in, with_variable};
+ghost use Rattle.tcl_interp.specs.Outside.{Told};
+ghost use Rattle.tcl_interp.specs.Commands.{set_ending, value_ending, store_ending, condition_value, command_of, plain_name, truth};
+ghost use Rattle.tcl_interp.specs.Finish.{Waiting, Calls, Resumes};
+ghost use Rattle.tcl_interp.specs.Moves.{moved, while_move, test_move, act_move};
+ghost use Rattle.tcl_interp.specs.Rests.{source_text, turning_of, moved_of, waits_of, doing_of};
+ghost use Rattle.tcl_interp.specs.Steps.{NeedsStep, TakesStep, TakesNone, plain_words};
+
+use crate::commands::{Builtin, command_of, plain_name};
+use crate::loops::{Condition, Source, Turning, condition_of};
+use crate::machine::{Frame, Now};
+use crate::moves::read;
+use crate::tasks::{Act, Code, Tasks};
+use crate::texts::{cannot_read, cannot_set, fixed, not_boolean, unknown_command};
+use crate::words::{global_value, wait};
+use std::alloc::{AllocError, Global};
+use tcl_text::{Text, TextList};
+use tcl_vars::{Scopes, SetFault};
+
+/// How a command that only reads and writes variables ends.
+#[derive(Drop)]
+pub struct End {
+    pub code: Code,
+    pub text: Text,
+}
+
+fn error(text: Text) -> End
+    ensures { result ≡ record { code = Code.Error; text = text } }
+{
+    End {
+        code: Code::Error,
+        text,
+    }
+}
+
+/// Reads a variable.
+fn set_read(alloc: Global, scopes: &Scopes, name: &Text) -> Result<End, AllocError>
+    ensures { IfOk result (λ end. record { store = scopes.now; code = end.code; text = end.text } ≡ value_ending name.now scopes.now (variable_in scopes.now 0 name.now)) }
+{
+    match global_value(scopes, name) {
+        Ok(value) => Ok(End {
+            code: Code::Normal,
+            text: value.copy()?,
+        }),
+        Err(fault) => Ok(error(cannot_read(alloc, name, fault)?)),
+    }
+}
+
+/// Sets a variable.
+fn set_write(
+    alloc: Global,
+    scopes: &mut Scopes,
+    name: &Text,
+    value: &Text,
+) -> Result<End, AllocError>
+    ensures { IfOk result (λ end. record { store = scopes.new; code = end.code; text = end.text } ≡ store_ending name.now value.now scopes.old (with_variable scopes.old 0 name.now value.now)) }
+{
+    let _frames = scopes.depth();
+    match scopes.set(0, name, value.copy()?) {
+        Ok(()) => Ok(End {
+            code: Code::Normal,
+            text: value.copy()?,
+        }),
+        Err(SetFault::NoMemory) => Err(AllocError),
+        Err(fault) => Ok(error(cannot_set(alloc, name, fault)?)),
+    }
+}
+
+/// Calls `set` with these words, the first of which is its name (set(n)).
+fn set(alloc: Global, scopes: &mut Scopes, words: &[Text]) -> Result<End, AllocError>
+    ensures { IfOk result (λ end. record { store = scopes.new; code = end.code; text = end.text } ≡ set_ending 0 (drop 1 words.now) scopes.old) }
+{
+    match words {
+        [_, name] => set_read(alloc, scopes, name),
+        [_, name, value] => set_write(alloc, scopes, name, value),
+        _ => Ok(error(fixed(alloc, "wrong # args: should be \"set name ?value?\"")?)),
+    }
+}
+
+/// A loop's body, read where it can be.
+fn body_of(alloc: Global, text: &Text) -> Result<Source, AllocError>
+    ensures { IfOk result (λ body. source_text body ≡ text.now) }
+{
+    match read(alloc, text)? {
+        Ok(script) => Ok(Source::Parsed(script)),
+        Err(_) => Ok(Source::Text(text.copy()?)),
+    }
+}
+
+/// Calls `while` with these words, the first of which is its name (while(n)).
+fn begin_while<K: Drop>(alloc: Global, words: &[Text], room: u64) -> Result<Now<K>, AllocError>
+    ensures { IfOk result (λ now. (waits : List (Waiting K)) → moved (doing_of now) waits ≡ while_move room (drop 1 words.now) waits) }
+{
+    match words {
+        [_, condition, body] => Ok(Now::Tests(Turning {
+            room,
+            condition: condition_of(alloc, condition)?,
+            body: body_of(alloc, body)?,
+        })),
+        _ => Ok(Now::Ends {
+            code: Code::Error,
+            text: fixed(alloc, "wrong # args: should be \"while cond body\"")?,
+        }),
+    }
+}
+
+/// What an act of a command of this name, or of a task, leads to.
+fn act_on<K: Drop>(
+    alloc: Global,
+    frames: &mut Vec<Frame<K>>,
+    act: Act<K>,
+    name: &str,
+    room: u64,
+) -> Result<Now<K>, AllocError>
+    ensures { IfOk result (λ now. moved_of now frames.new.items ≡ act_move room name.now (waits_of frames.old.items) act) }
+{
+    match act {
+        Act::Done(code, text) => Ok(Now::Ends { code, text }),
+        Act::Step(task) => Ok(Now::Steps { room, task }),
+        Act::Run { script, task } => {
+            wait(frames, Frame::ForScript { room, task })?;
+            Ok(Now::Begins {
+                room,
+                script: Source::Text(script),
+            })
+        }
+        Act::Unknown => Ok(Now::Ends {
+            code: Code::Error,
+            text: unknown_command(alloc, name)?,
+        }),
+    }
+}

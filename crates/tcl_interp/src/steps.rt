@@ -1,4 +1,5 @@
 ghost use Rattle.std.specs.Prelude.{◌≡◌, ◌<◌, [], ◌∷◌, List, length, drop, IfOk, MatchResult, Ok, Err};
+ghost use Rattle.tcl_text.specs.Readings.{boolean_of};
 ghost use Rattle.tcl_vars.specs.Store.{variable_in, with_variable};
 ghost use Rattle.tcl_interp.specs.Outside.{Told};
 ghost use Rattle.tcl_interp.specs.Commands.{set_ending, value_ending, store_ending, condition_value, command_of, plain_name, truth};
@@ -130,4 +131,93 @@ fn act_on<K: Drop>(
             text: unknown_command(alloc, name)?,
         }),
     }
+}
+
+/// A loop's condition, or the error's text.
+fn truth_of(
+    alloc: Global,
+    scopes: &Scopes,
+    condition: &Condition,
+) -> Result<Result<bool, Text>, AllocError>
+    ensures { IfOk result (λ truth. truth ≡ condition_value 0 condition.now scopes.now) }
+{
+    match condition {
+        Condition::Word(text) => truth(alloc, text),
+        Condition::Variable(name) => match global_value(scopes, name) {
+            Ok(value) => truth(alloc, value),
+            Err(fault) => Ok(Err(cannot_read(alloc, name, fault)?)),
+        },
+    }
+}
+
+/// A text as a boolean, or the error's text.
+fn truth(alloc: Global, text: &Text) -> Result<Result<bool, Text>, AllocError>
+    ensures { IfOk result (λ value. value ≡ truth text.now (boolean_of text.now)) }
+{
+    match text.boolean() {
+        Ok(value) => Ok(Ok(value)),
+        Err(_) => Ok(Err(not_boolean(alloc, text)?)),
+    }
+}
+
+/// The body of a loop, shared where it has been read.
+fn copy_of(body: &Source) -> Result<Source, AllocError>
+    ensures { IfOk result (λ copy. source_text copy ≡ source_text body.now) }
+{
+    match body {
+        Source::Text(text) => Ok(Source::Text(text.copy()?)),
+        Source::Parsed(script) => Ok(Source::Parsed(script.copy()?)),
+    }
+}
+
+/// A loop tests its condition.
+fn test<K: Drop>(
+    alloc: Global,
+    scopes: &Scopes,
+    frames: &mut Vec<Frame<K>>,
+    turning: Turning,
+) -> Result<Now<K>, AllocError>
+    ensures { IfOk result (λ now. moved_of now frames.new.items ≡ test_move (turning_of turning) (waits_of frames.old.items) (condition_value 0 turning.condition scopes.now)) }
+{
+    match truth_of(alloc, scopes, &turning.condition)? {
+        Ok(true) => {
+            let room = turning.room;
+            let script = copy_of(&turning.body)?;
+            wait(frames, Frame::ForBody(turning))?;
+            Ok(Now::Begins { room, script })
+        }
+        Ok(false) => Ok(Now::Ends {
+            code: Code::Normal,
+            text: fixed(alloc, "")?,
+        }),
+        Err(text) => Ok(Now::Ends {
+            code: Code::Error,
+            text,
+        }),
+    }
+}
+
+/// The words of an outside command, the first of which is its plain name.
+fn plain_words(alloc: Global, words: &[Text]) -> Result<TextList, AllocError>
+    ensures { IfOk result (λ plain. plain ≡ plain_words words.now) }
+{
+    let mut plain = TextList::new(alloc);
+    for (index, word) in words.iter().enumerate() {
+        let word = if index == 0 {
+            plain_text(alloc, word)?
+        } else {
+            word.copy()?
+        };
+        plain.push(word)?;
+    }
+    Ok(plain)
+}
+
+/// A command's plain name as a text.
+fn plain_text(alloc: Global, name: &Text) -> Result<Text, AllocError>
+    ensures { IfOk result (λ plain. plain ≡ plain_name name.now) }
+{
+    let characters = name.as_str();
+    let plain = plain_name(characters);
+    fixed(alloc, plain)
 }

@@ -1,3 +1,9 @@
+pub mod BelowLemmas
+pub mod CountLemmas
 pub mod LinkLemmas
 pub mod NameLemmas
 pub mod NamedLemmas
+pub mod PutLemmas
+pub mod ShortLemmas
+pub mod StoreLemmas
+pub mod TableLemmas

@@ -38,24 +38,31 @@ link_of (Some (Array elements)) = None
 link_of (Some (Link level name)) = Some (level, name)
 
 -- an element of a place, or the place itself; an element has no elements
-abbrev pub element_in : Place → Option (List ℕ) → Option Place
-element_in place None = Some place
-element_in place (Some index) = if is_some place.element then None else Some (record { level = place.level; variable = place.variable; element = Some index })
+abbrev pub indexed : Place → Option (List ℕ) → Option Place
+indexed place None = Some place
+indexed place (Some index) = if is_some place.element then None else Some (record { level = place.level; variable = place.variable; element = Some index })
 
 -- where a place leads whose variable is this link, if any, given where the place leads that the link names
 abbrev pub led_by : Place → Option (ℕ × List ℕ) → (Place → Option Place) → Option Place
 led_by place None lead = Some place
-led_by place (Some link) lead = option_and_then lead (element_in (place_of link.0 link.1) place.element)
+led_by place (Some link) lead = option_and_then lead (indexed (place_of link.0 link.1) place.element)
 
 -- where a place leads through at most so many links; nowhere if an element is used as an array
 unfoldable pub led : Store → ℕ → Place → Option Place
 led store zero place = Some place
 led store (suc links) place = led_by place (link_of (content_at store place)) (λ next. led store links next)
 
--- where a name leads that is used in the frame at a level. A link leads to an earlier frame, so there are at most as many in a row as
--- there are frames before
+-- where a place leads. A link leads to an earlier frame, so there are at most as many in a row as there are frames before
+abbrev pub end_of : Store → Place → Option Place
+end_of store place = led store place.level place
+
+-- where a name leads that is used in the frame at a level
 abbrev pub place_in : Store → ℕ → List ℕ → Option Place
-place_in store level name = let place = place_of level name in led store place.level place
+place_in store level name = end_of store (place_of level name)
+
+-- where the element leads that an index gives of the array of a name
+abbrev pub element_place_in : Store → ℕ → List ℕ → List ℕ → Option Place
+element_place_in store level name index = option_and_then (end_of store) (indexed (place_of level name) (Some index))
 
 -- Reading
 
@@ -75,6 +82,10 @@ text_at store (Some place) = text_of (content_at store place) place.element
 -- the value of the variable or element that a name means in the frame at a level
 unfoldable pub variable_in : Store → ℕ → List ℕ → Result (List ℕ) ReadFault
 variable_in store level name = text_at store (place_in store level name)
+
+-- the value of the element that an index gives of the array that a name means
+unfoldable pub element_in : Store → ℕ → List ℕ → List ℕ → Result (List ℕ) ReadFault
+element_in store level name index = text_at store (element_place_in store level name index)
 
 -- How many there are
 
@@ -117,3 +128,7 @@ with_text_at store (Some place) value = with_new_content store place (content_wi
 -- the store after the variable or element that a name means in the frame at a level is set
 unfoldable pub with_variable : Store → ℕ → List ℕ → List ℕ → Result Store SetFault
 with_variable store level name value = with_text_at store (place_in store level name) value
+
+-- the store after the element that an index gives of the array that a name means is set
+unfoldable pub with_element : Store → ℕ → List ℕ → List ℕ → List ℕ → Result Store SetFault
+with_element store level name index value = with_text_at store (element_place_in store level name index) value

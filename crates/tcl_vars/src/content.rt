@@ -1,8 +1,11 @@
-ghost use Rattle.std.specs.Prelude.{◌≡◌, option_map, MatchResult, Ok, Err};
+ghost use Rattle.std.specs.Prelude.{◌≡◌, ◌≢◌, ◌+◌, ◌<◌, ◌≤◌, length, option_map, MatchResult, Ok, Err, IfOk, IfErr, IfSome, OnErr};
 ghost use Rattle.std.specs.Option.{option_copied};
-ghost use Rattle.tcl_vars.specs.Store.{link_of, text_of};
+ghost use Rattle.tcl_vars.specs.Put.{AfterContent, RefusesContent};
+ghost use Rattle.tcl_vars.specs.Short.{IsShort};
+ghost use Rattle.tcl_vars.specs.Store.{content_count, link_of, text_of};
+ghost use Rattle.tcl_vars.specs.Table.{with_value};
 
-use crate::fault::ReadFault;
+use crate::fault::{ReadFault, SetFault};
 use crate::table::Table;
 use tcl_text::Text;
 
@@ -40,12 +43,90 @@ pub(crate) fn text_of<'a>(
 
 /// The level and the name that a link gives.
 pub(crate) fn link_of<'a>(content: Option<&'a Content>) -> Option<(usize, &'a str)>
-    ensures { option_map (λ link. (link.0, link.1.now)) result ≡ link_of (option_copied content.entry) }
+    ensures link { option_map (λ link. (link.0, link.1.now)) result ≡ link_of (option_copied content.entry) }
+    ensures short { IfSome result (λ link. IsShort link.1.now) }
 {
     match content {
         Some(Content::Link(level, name)) => Some((*level, name.as_str())),
         Some(Content::Scalar(_)) => None,
         Some(Content::Array(_)) => None,
         None => None,
+    }
+}
+
+/// What came of setting a text.
+#[derive(Drop)]
+pub(crate) enum Outcome {
+    /// It is set, and there are so many variables more.
+    Added(usize),
+    /// Nothing is done, since the variable is a link. The text comes back.
+    Linked(Text),
+}
+
+impl Content {
+    /// How many variables it counts: one, and one more for each element.
+    pub(crate) fn count(&self) -> usize
+        ensures { result ≡ content_count self.now }
+    {
+        match self {
+            Content::Scalar(_) => 1,
+            Content::Array(elements) => elements.len() + 1,
+            Content::Link(_, _) => 1,
+        }
+    }
+
+    /// Sets the text, or that of an element, with room for so many more variables.
+    pub(crate) fn put(
+        &mut self,
+        element: Option<&str>,
+        value: Text,
+        room: usize,
+    ) -> Result<Outcome, SetFault>
+        requires { IfSome (option_copied element) IsShort }
+        ensures ok { IfOk result (λ done. AfterContent self.old (option_copied element.entry) value room done self.new) }
+        ensures refused { IfErr result (λ fault. fault ≢ SetFault.NoMemory → RefusesContent self.old (option_copied element.entry) value room fault) }
+        ensures err { OnErr result (self.new ≡ self.old) }
+    {
+        match (self, element) {
+            (Content::Link(_, _), _) => Ok(Outcome::Linked(value)),
+            (Content::Scalar(text), None) => {
+                *text = value;
+                Ok(Outcome::Added(0))
+            }
+            (Content::Scalar(_), Some(_)) => Err(SetFault::NotArray),
+            (Content::Array(_), None) => Err(SetFault::IsArray),
+            (Content::Array(elements), Some(index)) => {
+                let added = put_element(elements, index, value, room)?;
+                Ok(Outcome::Added(added))
+            }
+        }
+    }
+}
+
+// Sets an element, with room for so many more.
+fn put_element(
+    elements: &mut Table<Text>,
+    index: &str,
+    value: Text,
+    room: usize,
+) -> Result<usize, SetFault>
+    requires { IsShort index.now }
+    ensures ok { IfOk result (λ added. (elements.new ≡ with_value elements.old index.now value) × (length elements.new ≡ length elements.old + added) × (added ≤ room)) }
+    ensures full { IfErr result (λ fault. fault ≢ SetFault.NoMemory →
+        (fault ≡ SetFault.Full) × (length elements.old + room < length (with_value elements.old index.now value))) }
+    ensures err { OnErr result (elements.new ≡ elements.old) }
+{
+    match elements.get_mut(index) {
+        Some(held) => {
+            *held = value;
+            Ok(0)
+        }
+        None => {
+            if room == 0 {
+                return Err(SetFault::Full);
+            }
+            elements.insert(index, value)?;
+            Ok(1)
+        }
     }
 }

@@ -3,6 +3,7 @@
 
 mod content;
 mod fault;
+mod frame;
 mod name;
 mod scopes;
 mod table;

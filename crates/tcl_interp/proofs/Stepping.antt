@@ -1,5 +1,5 @@
 -- The moves that take a step or resume a task keep the outcome of all that is still to do.
-use Rattle.std.proofs.Common.{◌≡◌, ℕ, zero, suc, ◌+◌, ◌≤◌, ◌<◌, Bool, true, false, List, [], ◌∷◌, Option, Some, None, Result, Ok, Err, refl, ap, sym, ◌∙◌, arith}
+use Rattle.std.proofs.Common.{◌≡◌, ℕ, zero, suc, ◌+◌, ◌≤◌, ◌<◌, Bool, true, false, drop, slice_get, List, [], ◌∷◌, Option, Some, None, Result, Ok, Err, refl, ap, sym, ◌∙◌, arith}
 use Rattle.tcl_vars.specs.Store.{Store}
 use Rattle.tcl_interp.specs.declared.commands.Builtin.{Builtin}
 use Rattle.tcl_interp.specs.declared.commands.Builtin.TheVariants.{Set, While}
@@ -54,6 +54,17 @@ module _ {S K : Type 0} (outside : Outside S K) (replaced : List (List ℕ)) whe
   -- the test of a loop
   pub test_same : (turning : Turning) (waits : List (Waiting K)) (shows : S) (store : Store) → TakesStep outside replaced (moved (Tests turning) waits) shows store (test_move turning waits (condition_value 0 turning.condition store)) shows store
   test_same turning waits shows store left = on_test_cases turning waits left (state_with shows store left) (condition_value 0 turning.condition store) (omega arith)
+
+  -- `while` is called
+  pub call_while : (room : ℕ) (words : List (List ℕ)) (name : List ℕ) (waits : List (Waiting K)) (shows : S) (store : Store) (after : Moved K)
+      → slice_get words 0 ≡ Some name → command_of replaced (plain_name name) ≡ Some While → after ≡ while_move room (drop 1 words) waits
+      → TakesStep outside replaced (moved (Calls room words) waits) shows store after shows store
+  call_while room [] name waits shows store after first is e left = cc
+  call_while room (word ∷ arguments) name waits shows store after first is e left =
+      let same : command_of replaced (plain_name word) ≡ Some While = (let w : word ≡ name = cc in ap (λ x. command_of replaced (plain_name x)) w ∙ is) in
+      ap (λ b. and_then (by_name outside (run_in outside replaced room) word arguments 0 (state_with shows store left) b) (waits_meaning outside replaced waits)) same
+      ∙ while_same room arguments waits (state_with shows store left)
+      ∙ ap (λ m. finish_moved outside replaced m (state_with shows store left)) (sym e)
 
   module _ (falls : Falls outside) where
     resumed_act : (room : ℕ) (m : ℕ) (task : K) (code : Code) (text : List ℕ) (state : State S) → outside.size task ≤ m

@@ -5,7 +5,9 @@ use Rattle.tcl_interp.specs.Outside.{Outside, Told}
 use Rattle.tcl_interp.specs.Evaluation.{State, Outcome}
 use Rattle.tcl_interp.specs.Commands.{plain_name}
 use Rattle.tcl_interp.specs.Finish.{Doing, Begins, GoesOn, Calls, Tests, Steps, Resumes, Ends, Waiting, Running, finish}
-use Rattle.tcl_interp.specs.Moves.{Moved}
+use Rattle.tcl_interp.specs.declared.tasks.Code.{Code}
+use Rattle.tcl_interp.specs.declared.tasks.Act.{Act}
+use Rattle.tcl_interp.specs.Moves.{Moved, act_move}
 
 -- the words of an outside command begin with its plain name
 abbrev pub plain_words : List (List ℕ) → List (List ℕ)
@@ -44,3 +46,8 @@ module _ {S K : Type 0} (outside : Outside S K) (replaced : List (List ℕ)) whe
   abbrev pub TakesNone : Moved K → S → Store → Moved K → S → Store → Type 0
   TakesNone before shows store after shows' store' =
       (left : ℕ) → finish_from before (state_with shows store left) ≡ finish_from after (state_with shows' store' left)
+
+-- a task was resumed, and this is what its act leads to
+abbrev pub Resumed : {S K : Type 0} → Outside S K → ℕ → K → Code → List ℕ → List (Waiting K) → S → Store → Moved K → S → Store → Type 0
+Resumed {S} {K} outside room task code text waits shows store after shows' store' =
+    (act : Act K) × (record { shows = shows'; store = store'; act = act } ≡ outside.resumes shows store task code text) × (after ≡ act_move room [] waits act)

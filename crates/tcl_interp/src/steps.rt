@@ -1,12 +1,12 @@
-ghost use Rattle.std.specs.Prelude.{◌≡◌, ◌<◌, [], ◌∷◌, List, length, drop, IfOk, MatchResult, Ok, Err};
+ghost use Rattle.std.specs.Prelude.{◌≡◌, ◌<◌, [], ◌∷◌, ◌++◌, List, length, drop, IfOk, MatchResult, Ok, Err};
 ghost use Rattle.tcl_text.specs.Readings.{boolean_of};
 ghost use Rattle.tcl_vars.specs.Store.{variable_in, with_variable};
 ghost use Rattle.tcl_interp.specs.Outside.{Told};
 ghost use Rattle.tcl_interp.specs.Commands.{set_ending, value_ending, store_ending, condition_value, command_of, plain_name, truth};
-ghost use Rattle.tcl_interp.specs.Finish.{Waiting, Calls, Resumes};
+ghost use Rattle.tcl_interp.specs.Finish.{Waiting, Calls};
 ghost use Rattle.tcl_interp.specs.Moves.{moved, while_move, test_move, act_move};
 ghost use Rattle.tcl_interp.specs.Rests.{source_text, turning_of, moved_of, waits_of, doing_of};
-ghost use Rattle.tcl_interp.specs.Steps.{NeedsStep, TakesStep, TakesNone, plain_words};
+ghost use Rattle.tcl_interp.specs.Steps.{NeedsStep, TakesStep, Resumed, plain_words};
 
 use crate::commands::{Builtin, command_of, plain_name};
 use crate::loops::{Condition, Source, Turning, condition_of};
@@ -201,16 +201,24 @@ fn test<K: Drop>(
 fn plain_words(alloc: Global, words: &[Text]) -> Result<TextList, AllocError>
     ensures { IfOk result (λ plain. plain ≡ plain_words words.now) }
 {
-    let mut plain = TextList::new(alloc);
-    for (index, word) in words.iter().enumerate() {
-        let word = if index == 0 {
-            plain_text(alloc, word)?
-        } else {
-            word.copy()?
-        };
-        plain.push(word)?;
+    match words {
+        [] => Ok(TextList::new(alloc)),
+        [name, arguments @ ..] => {
+            let mut plain = TextList::new(alloc);
+            plain.push(plain_text(alloc, name)?)?;
+            with_copies(plain, arguments)
+        }
     }
-    Ok(plain)
+}
+
+/// These texts, and copies of more.
+fn with_copies(mut texts: TextList, more: &[Text]) -> Result<TextList, AllocError>
+    ensures { IfOk result (λ all. all ≡ texts ++ more.now) }
+{
+    for text in more {
+        texts.push(text.copy()?)?;
+    }
+    Ok(texts)
 }
 
 /// A command's plain name as a text.
@@ -220,4 +228,72 @@ fn plain_text(alloc: Global, name: &Text) -> Result<Text, AllocError>
     let characters = name.as_str();
     let plain = plain_name(characters);
     fixed(alloc, plain)
+}
+
+/// Calls an outside command with these words, the first of which is its name.
+fn call_outside<T: Tasks>(
+    alloc: Global,
+    tasks: &mut T,
+    scopes: &mut Scopes,
+    words: &[Text],
+) -> Result<Act<T::Task>, AllocError>
+    ensures ok { IfOk result (λ act. record { shows = tasks.new; store = scopes.new; act = act } ≡ T.outside.calls tasks.old scopes.old (plain_words words.now)) }
+    ensures left { T.left_alone tasks.new ≡ T.left_alone tasks.old }
+{
+    let plain = plain_words(alloc, words)?;
+    tasks.call(scopes, plain.as_slice())
+}
+
+/// Calls a command with these words, of which there is one at least.
+fn call<T: Tasks>(
+    alloc: Global,
+    tasks: &mut T,
+    scopes: &mut Scopes,
+    frames: &mut Vec<Frame<T::Task>>,
+    replaced: &TextList,
+    words: &[Text],
+    room: u64,
+) -> Result<Now<T::Task>, AllocError>
+    ensures ok { IfOk result (λ now. TakesStep T.outside replaced.now (moved (Calls room words.now) (waits_of frames.old.items)) tasks.old scopes.old (moved_of now frames.new.items) tasks.new scopes.new) }
+    ensures left { T.left_alone tasks.new ≡ T.left_alone tasks.old }
+{
+    let Some(name) = words.first() else {
+        return Ok(Now::Ends {
+            code: Code::Normal,
+            text: fixed(alloc, "")?,
+        });
+    };
+    match command_of(replaced, plain_name(name.as_str())) {
+        Some(Builtin::Set) => {
+            let End { code, text } = set(alloc, scopes, words)?;
+            Ok(Now::Ends { code, text })
+        }
+        Some(Builtin::While) => {
+            let now = begin_while(alloc, words, room)?;
+            Ok(now)
+        }
+        None => {
+            let act = call_outside(alloc, tasks, scopes, words)?;
+            let now = act_on(alloc, frames, act, name.as_str(), room)?;
+            Ok(now)
+        }
+    }
+}
+
+/// Resumes a task.
+pub fn resume<T: Tasks>(
+    alloc: Global,
+    tasks: &mut T,
+    scopes: &mut Scopes,
+    frames: &mut Vec<Frame<T::Task>>,
+    room: u64,
+    task: T::Task,
+    code: Code,
+    text: Text,
+) -> Result<Now<T::Task>, AllocError>
+    ensures ok { IfOk result (λ now. Resumed T.outside room task code text (waits_of frames.old.items) tasks.old scopes.old (moved_of now frames.new.items) tasks.new scopes.new) }
+    ensures left { T.left_alone tasks.new ≡ T.left_alone tasks.old }
+{
+    let act = tasks.resume(scopes, task, code, text)?;
+    act_on(alloc, frames, act, "", room)
 }

@@ -1,5 +1,5 @@
 -- The moves that take a step or resume a task keep the outcome of all that is still to do.
-use Rattle.std.proofs.Common.{◌≡◌, ℕ, zero, suc, ◌+◌, ◌≤◌, ◌<◌, Bool, true, false, drop, slice_get, List, [], ◌∷◌, Option, Some, None, Result, Ok, Err, refl, ap, sym, ◌∙◌, arith}
+use Rattle.std.proofs.Common.{◌≡◌, ℕ, zero, suc, ◌+◌, ◌≤◌, ◌<◌, Bool, true, false, drop, slice_get, List, [], ◌∷◌, Option, Some, None, Result, Ok, Err, refl, ap, sym, ◌∙◌, subst, arith}
 use Rattle.tcl_vars.specs.Store.{Store}
 use Rattle.tcl_interp.specs.declared.commands.Builtin.{Builtin}
 use Rattle.tcl_interp.specs.declared.commands.Builtin.TheVariants.{Set, While}
@@ -13,9 +13,11 @@ use Rattle.tcl_interp.specs.Commands.{plain_name, command_of, condition_value, o
 use Rattle.tcl_interp.specs.Scripts.{out_of_global, told_state, on_act, resumed, after_step, task_meaning, act_meaning, by_name, call_meaning, script_meaning}
 use Rattle.tcl_interp.specs.Finish.{Turning, Doing, Calls, Tests, Steps, Resumes, Ends, Waiting, ForScript, ForBody, Running, loop_rest, waits_meaning, finish}
 use Rattle.tcl_interp.specs.Moves.{Moved, moved, while_move, test_move, act_move}
-use Rattle.tcl_interp.specs.Steps.{state_with, plain_words, TakesStep, TakesNone}
+use Rattle.tcl_interp.specs.Steps.{state_with, plain_words, TakesStep, TakesNone, Resumed}
+use Rattle.tcl_interp.specs.Quiet.{Leads}
 use Rattle.tcl_interp.proofs.Bounds.{and_then_same, after_body_same, turns_same, resumed_same, after_step_same, on_act_same, within_script}
-use Rattle.tcl_interp.proofs.Same.{and_then_assoc, finish_moved, run_in}
+use Rattle.tcl_interp.proofs.Same.{and_then_assoc, finish_moved, run_in, leads_same}
+use Rattle.tcl_interp.proofs.Weights.{tasks, waits_tasks}
 
 module _ {S K : Type 0} (outside : Outside S K) (replaced : List (List ℕ)) where
   pub act_same : (room : ℕ) (name : List ℕ) (waits : List (Waiting K)) (state : State S) (act : Act K)
@@ -55,6 +57,10 @@ module _ {S K : Type 0} (outside : Outside S K) (replaced : List (List ℕ)) whe
   pub test_same : (turning : Turning) (waits : List (Waiting K)) (shows : S) (store : Store) → TakesStep outside replaced (moved (Tests turning) waits) shows store (test_move turning waits (condition_value 0 turning.condition store)) shows store
   test_same turning waits shows store left = on_test_cases turning waits left (state_with shows store left) (condition_value 0 turning.condition store) (omega arith)
 
+  pub test_given : (turning : Turning) (waits : List (Waiting K)) (shows : S) (store : Store) (after : Moved K) → after ≡ test_move turning waits (condition_value 0 turning.condition store)
+      → TakesStep outside replaced (moved (Tests turning) waits) shows store after shows store
+  test_given turning waits shows store after e left = test_same turning waits shows store left ∙ ap (λ m. finish_moved outside replaced m (state_with shows store left)) (sym e)
+
   -- `while` is called
   pub call_while : (room : ℕ) (words : List (List ℕ)) (name : List ℕ) (waits : List (Waiting K)) (shows : S) (store : Store) (after : Moved K)
       → slice_get words 0 ≡ Some name → command_of replaced (plain_name name) ≡ Some While → after ≡ while_move room (drop 1 words) waits
@@ -92,3 +98,28 @@ module _ {S K : Type 0} (outside : Outside S K) (replaced : List (List ℕ)) whe
     resume_same room task code text waits shows store left =
         ap (λ o. and_then o (waits_meaning outside replaced waits)) (resumed_act room (outside.size task) task code text (state_with shows store left) (omega arith))
         ∙ act_same room [] waits _ (outside.resumes shows store task code text).act
+
+    -- moves without a step lead to a task, and it is resumed
+    pub settle_on : (m : Moved K) (shows : S) (store : Store) (room : ℕ) (task : K) (code : Code) (text : List ℕ) (waits : List (Waiting K)) (after : Moved K) (shows' : S) (store' : Store)
+        → Leads store m (moved (Resumes room task code text) waits) → Resumed outside room task code text waits shows store after shows' store'
+        → TakesNone outside replaced m shows store after shows' store'
+    settle_on m shows store room task code text waits after shows' store' leads (act, told, e) left =
+        leads_same outside replaced m (moved (Resumes room task code text) waits) (state_with shows store left) leads
+        ∙ subst (λ (t : Told S K). TakesNone outside replaced (moved (Resumes room task code text) waits) shows store (act_move room [] waits t.act) t.shows t.store) (sym told) (resume_same room task code text waits shows store) left
+        ∙ ap (λ x. finish_moved outside replaced x (state_with shows' store' left)) (sym e)
+
+  pub leads_none : (m n : Moved K) (shows : S) (store : Store) → Leads store m n → TakesNone outside replaced m shows store n shows store
+  leads_none m n shows store leads left = leads_same outside replaced m n (state_with shows store left) leads
+
+-- a task that was resumed leaves less for tasks to do
+act_falls : {K : Type 0} (size : K → ℕ) (room bound : ℕ) (waits : List (Waiting K)) (act : Act K) → RunsBelow size bound act → tasks size (act_move room [] waits act) < suc bound + waits_tasks size waits
+act_falls size room bound waits (Done code text) below = omega arith
+act_falls size room bound waits (Step task) below = omega arith
+act_falls size room bound waits (Run script task) below = omega arith
+act_falls size room bound waits Unknown below = omega arith
+
+pub resumed_falls : {S K : Type 0} (outside : Outside S K) → Falls outside → (room : ℕ) (task : K) (code : Code) (text : List ℕ) (waits : List (Waiting K)) (shows : S) (store : Store) (after : Moved K) (shows' : S) (store' : Store)
+    → Resumed outside room task code text waits shows store after shows' store' → tasks outside.size after < suc (outside.size task) + waits_tasks outside.size waits
+resumed_falls outside falls room task code text waits shows store after shows' store' (act, told, e) =
+    let below : RunsBelow outside.size (outside.size task) act = subst (λ (t : Told _ _). RunsBelow outside.size (outside.size task) t.act) (sym told) (falls shows store task code text) in
+    rw e (act_falls outside.size room (outside.size task) waits act below)

@@ -6,6 +6,7 @@ mod interp;
 mod loops;
 mod machine;
 mod moves;
+mod slices;
 mod steps;
 mod tasks;
 mod texts;

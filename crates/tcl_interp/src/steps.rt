@@ -171,7 +171,7 @@ fn copy_of(body: &Source) -> Result<Source, AllocError>
 }
 
 /// A loop tests its condition.
-fn test<K: Drop>(
+pub fn test<K: Drop>(
     alloc: Global,
     scopes: &Scopes,
     frames: &mut Vec<Frame<K>>,
@@ -245,7 +245,7 @@ fn call_outside<T: Tasks>(
 }
 
 /// Calls a command with these words, of which there is one at least.
-fn call<T: Tasks>(
+pub fn call<T: Tasks>(
     alloc: Global,
     tasks: &mut T,
     scopes: &mut Scopes,

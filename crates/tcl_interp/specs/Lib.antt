@@ -8,6 +8,7 @@ pub mod Moves
 pub mod Outside
 pub mod Quiet
 pub mod Rests
+pub mod Runs
 pub mod Scripts
 pub mod Steps
 pub mod Texts

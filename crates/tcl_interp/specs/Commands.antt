@@ -1,5 +1,5 @@
 -- The commands that the interpreter has itself: a table of names, and for each command one equation.
-use Rattle.std.specs.Prelude.{ℕ, zero, suc, Bool, true, false, ◌&&◌, ◌||◌, ◌==◌, nat_le, List, [], ◌∷◌, length, drop, if◌then◌else◌, Option, Some, None, Result, Ok, Err, codes, bytes_eq, nat_eq, not}
+use Rattle.std.specs.Prelude.{ℕ, zero, suc, Bool, true, false, ◌&&◌, ◌||◌, ◌==◌, nat_le, List, [], ◌∷◌, length, drop, if◌then◌else◌, Option, Some, None, Result, Ok, Err, codes, bytes_eq, nat_eq, not, filter, is_some}
 use Rattle.std.specs.List.{list_all, list_any, starts_with}
 use Rattle.tcl_text.specs.Readings.{boolean_of}
 use Rattle.tcl_vars.specs.Store.{Store, variable_in, with_variable}
@@ -26,6 +26,10 @@ builtin_of name =
 -- where outside commands replace some of the built-in ones
 abbrev pub command_of : List (List ℕ) → List ℕ → Option Builtin
 command_of replaced name = if list_any (bytes_eq name) replaced then None else builtin_of name
+
+-- the built-in commands that outside commands of these names replace
+abbrev pub replaced_by : List (List ℕ) → List (List ℕ)
+replaced_by names = filter (λ name. is_some (builtin_of name)) names
 
 -- a leading :: is dropped from a command's name
 abbrev pub plain_name : List ℕ → List ℕ

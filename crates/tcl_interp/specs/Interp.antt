@@ -1,17 +1,12 @@
 -- What an interpreter stands for, and what a slice of it reaches.
-use Rattle.std.specs.Prelude.{◌≡◌, ◌+◌, ℕ, List, ◌<◌, filter, is_some}
+use Rattle.std.specs.Prelude.{◌≡◌, ◌+◌, ℕ, List, ◌<◌}
 use Rattle.tcl_vars.specs.Store.{Store}
 use Rattle.tcl_interp.specs.declared.interp.Interp.{Interp}
 use Rattle.tcl_interp.specs.declared.interp.SliceEnd.{SliceEnd}
 use Rattle.tcl_interp.specs.declared.interp.SliceEnd.TheVariants.{Done, More, Exhausted}
 use Rattle.tcl_interp.specs.Evaluation.{State, Outcome, Ended, OutOfSteps}
-use Rattle.tcl_interp.specs.Commands.{builtin_of}
 use Rattle.tcl_interp.specs.Finish.{Doing, Waiting, Rest, Idle, Running, Spent, Broken}
 use Rattle.tcl_interp.specs.Rests.{rest_by, waits_of}
-
--- the built-in commands that outside commands of these names replace
-abbrev pub replaced_by : List (List ℕ) → List (List ℕ)
-replaced_by names = filter (λ name. is_some (builtin_of name)) names
 
 module _ {K : Type 0} where
   -- what it still has to do

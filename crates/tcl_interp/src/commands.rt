@@ -1,7 +1,8 @@
-ghost use Rattle.std.specs.Prelude.{◌≡◌, length, codes, bytes_eq};
+ghost use Rattle.std.specs.Prelude.{◌≡◌, length, codes, bytes_eq, IfOk};
 ghost use Rattle.std.specs.List.{list_any};
-ghost use Rattle.tcl_interp.specs.Commands.{builtin_of, command_of, plain_name};
+ghost use Rattle.tcl_interp.specs.Commands.{builtin_of, command_of, plain_name, replaced_by};
 
+use std::alloc::{AllocError, Global};
 use tcl_text::{Text, TextList};
 
 /// The commands that the interpreter has itself.
@@ -49,4 +50,17 @@ pub fn plain_name(name: &str) -> &str
         Some(rest) => rest,
         None => name,
     }
+}
+
+/// The built-in commands that outside commands of these names replace.
+pub fn replaced_by(alloc: Global, names: &[Text]) -> Result<TextList, AllocError>
+    ensures { IfOk result (λ replaced. replaced ≡ replaced_by names.now) }
+{
+    let mut replaced = TextList::new(alloc);
+    for name in names {
+        if builtin_of(name.as_str()).is_some() {
+            replaced.push(name.copy()?)?;
+        }
+    }
+    Ok(replaced)
 }

@@ -1,11 +1,14 @@
-ghost use Rattle.std.specs.Prelude.{◌≡◌, ◌≢◌, ◌<◌, ◌≤◌, ◌+◌, [], Ok, IfOk, OnOk, OnErr, IsErr};
-ghost use Rattle.tcl_interp.specs.Finish.{finish, Idle, Running, Spent, Broken, rest_of_script, rest_of_task};
-ghost use Rattle.tcl_interp.specs.Interp.{replaced_by, rest_of, left_of, replaced_in, state_of, LeavesRest, Reaches};
+ghost use Rattle.std.specs.Prelude.{◌≡◌};
+ghost use Rattle.tcl_interp.specs.declared.machine.Machine.TheVariants.{Spent as MachineSpent};
 
+use crate::commands::replaced_by;
 use crate::loops::Source;
 use crate::machine::{Frame, Machine, Now};
+use crate::slices::{Ran, run};
 use crate::tasks::{Code, Tasks};
+use crate::texts::fixed;
 use std::alloc::{AllocError, Global};
+use std::mem::replace;
 use tcl_text::{Text, TextList};
 use tcl_vars::Scopes;
 
@@ -28,16 +31,28 @@ pub struct Interp<K> {
     left: u64,
     machine: Machine<K>,
     frames: Vec<Frame<K>>,
+    ghost spent: { machine ≡ MachineSpent → left ≡ 0 },
 }
 
 impl<K: Drop> Interp<K> {
+    ghost use Rattle.std.specs.Prelude.{◌≡◌, ◌≢◌, ◌<◌, ◌≤◌, ◌+◌, [], Ok, IfOk, OnOk, OnErr, IsErr};
+    ghost use Rattle.tcl_interp.specs.Commands.{replaced_by};
+    ghost use Rattle.tcl_interp.specs.Finish.{finish, Idle, Running, Spent, Broken, rest_of_script, rest_of_task};
+    ghost use Rattle.tcl_interp.specs.Interp.{rest_of, left_of, replaced_in, state_of, LeavesRest, Reaches};
+
     /// An interpreter that takes at most so many steps, where outside commands have these names.
     pub fn new(alloc: Global, budget: u64, outside_names: &[Text]) -> Result<Interp<K>, AllocError>
         ensures rest { IfOk result (λ interp. rest_of interp ≡ Idle) }
         ensures left { IfOk result (λ interp. left_of interp ≡ budget) }
         ensures replaced { IfOk result (λ interp. replaced_in interp ≡ replaced_by outside_names.now) }
     {
-        Err(AllocError)
+        Ok(Interp {
+            alloc,
+            replaced: replaced_by(alloc, outside_names)?,
+            left: budget,
+            machine: Machine::Idle,
+            frames: Vec::new(alloc),
+        })
     }
 
     /// Begins a script at global level. It takes no step, and is read in the first slice.
@@ -67,7 +82,7 @@ impl<K: Drop> Interp<K> {
         ensures left { left_of self.new ≡ left_of self.old }
         ensures replaced { replaced_in self.new ≡ replaced_in self.old }
     {
-        let text = empty_text(self.alloc)?;
+        let text = fixed(self.alloc, "")?;
         self.frames.clear();
         self.machine = Machine::Running(Now::Resumes {
             room: 200,
@@ -105,16 +120,40 @@ impl<K: Drop> Interp<K> {
         ensures broken { rest_of self.old ≡ Broken → IsErr result }
         ensures left_alone { T.left_alone tasks.new ≡ T.left_alone tasks.old }
     {
-        self.machine = Machine::Broken;
-        Err(AllocError)
-    }
-}
-
-fn empty_text(alloc: Global) -> Result<Text, AllocError>
-    ensures { IfOk result (λ text. text ≡ []) }
-{
-    match Text::new(alloc, "") {
-        Ok(text) => Ok(text),
-        Err(_) => Err(AllocError),
+        match replace(&mut self.machine, Machine::Broken) {
+            Machine::Running(now) => {
+                let ran = run(
+                    self.alloc,
+                    tasks,
+                    scopes,
+                    &mut self.frames,
+                    &self.replaced,
+                    &mut self.left,
+                    now,
+                    steps,
+                )?;
+                match ran {
+                    Ran::Ended(code, text) => {
+                        self.machine = Machine::Idle;
+                        Ok(SliceEnd::Done(code, text))
+                    }
+                    Ran::Paused(now) => {
+                        self.machine = Machine::Running(now);
+                        Ok(SliceEnd::More)
+                    }
+                    Ran::Spent => {
+                        self.machine = Machine::Spent;
+                        self.frames.clear();
+                        Ok(SliceEnd::Exhausted)
+                    }
+                }
+            }
+            Machine::Spent => {
+                self.machine = Machine::Spent;
+                Ok(SliceEnd::Exhausted)
+            }
+            Machine::Broken => Err(AllocError),
+            Machine::Idle => unreachable!(),
+        }
     }
 }

@@ -57,7 +57,7 @@ fn set_write(
 ) -> Result<End, AllocError>
     ensures { IfOk result (λ end. record { store = scopes.new; code = end.code; text = end.text } ≡ store_ending name.now value.now scopes.old (with_variable scopes.old 0 name.now value.now)) }
 {
-    let _frames = scopes.depth();
+    let _frames = scopes.levels();
     match scopes.set(0, name, value.copy()?) {
         Ok(()) => Ok(End {
             code: Code::Normal,

@@ -38,7 +38,7 @@ pub fn global_value<'a>(scopes: &'a Scopes, name: &Text) -> Result<&'a Text, Rea
         (λ text. variable_in scopes.now 0 name.now ≡ Ok text.now)
         (λ fault. variable_in scopes.now 0 name.now ≡ Err fault) }
 {
-    let _frames = scopes.depth();
+    let _frames = scopes.levels();
     scopes.get(0, name)
 }
 

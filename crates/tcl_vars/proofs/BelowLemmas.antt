@@ -1,10 +1,9 @@
 -- Links lead to earlier frames.
-use Rattle.std.proofs.Common.{◌≡◌, ℕ, zero, suc, ◌<◌, ◌≤◌, ◌-◌, Bool, true, false, cond, List, [], ◌∷◌, ◌++◌, length, take, get_or, Option, None, Some, Ok, bytes_eq, refl, sym, ap, subst, arith}
+use Rattle.std.proofs.Common.{◌≡◌, ℕ, zero, suc, ◌<◌, Bool, true, false, cond, List, [], ◌∷◌, ◌++◌, take, Option, None, Some, Ok, bytes_eq, refl, sym, subst}
 use Rattle.tcl_vars.specs.declared.content.Content.{Content}
 use Rattle.tcl_vars.specs.declared.content.Content.TheVariants.{Scalar, Array, Link}
-use Rattle.tcl_vars.specs.Name.{Place}
 use Rattle.tcl_vars.specs.Sound.{IsBelow, AllBelow, FramesDescend, LinksDescend}
-use Rattle.tcl_vars.specs.Store.{Store, Frame, frame_at, content_at, content_with, link_of}
+use Rattle.tcl_vars.specs.Store.{Store, Frame, frame_at, content_with, link_of}
 use Rattle.tcl_vars.specs.Table.{value_at, with_value, without}
 
 link-below : (level : ℕ) (content : Content) (link : ℕ × List ℕ) → IsBelow level content → link_of (Some content) ≡ Some link → link.0 < level

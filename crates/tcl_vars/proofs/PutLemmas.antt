@@ -9,8 +9,8 @@ use Rattle.tcl_vars.specs.declared.fault.SetFault.TheVariants.{Full}
 use Rattle.tcl_vars.specs.Name.{Place}
 use Rattle.tcl_vars.specs.Put.{PutsText, RefusesText, AfterPut, AfterContent, RefusesContent, IsReason, new_count}
 use Rattle.tcl_vars.specs.Store.{Frame, content_count, frame_count, content_with, link_of}
-use Rattle.tcl_vars.specs.Table.{value_at, with_value}
-use Rattle.tcl_vars.proofs.TableLemmas.{weight_of, weights-with_value, with_value-same}
+use Rattle.tcl_vars.specs.Table.{value_at, with_value, weight_of}
+use Rattle.tcl_vars.proofs.TableLemmas.{weights-with_value, with_value-same}
 
 module _ (frame : Frame) (place : Place) (value : List ℕ) (room : ℕ) (held : Content) (known : value_at frame place.variable ≡ Some held) where
   counts : (new : Content) → frame_count (with_value frame place.variable new) + content_count held ≡ frame_count frame + content_count new

@@ -1,5 +1,5 @@
 -- Short names stay short.
-use Rattle.std.proofs.Common.{◌≡◌, ℕ, zero, suc, Bool, true, false, cond, List, [], ◌∷◌, String, string_bytes, bytes_eq, slice_get, Some, subst}
+use Rattle.std.proofs.Common.{◌≡◌, ℕ, zero, suc, Bool, true, false, cond, List, [], ◌∷◌, String, bytes_eq, slice_get, Some, subst}
 use Rattle.indexmap.specs.IndexMap.{set_value_at}
 use Rattle.tcl_vars.specs.Named.{named}
 use Rattle.tcl_vars.specs.Short.{IsShort, ShortNames}

@@ -1,5 +1,5 @@
 -- Setting a text in a store, by what it does in the frame.
-use Rattle.std.proofs.Common.{◌≡◌, ◌≢◌, ℕ, ◌+◌, ◌-◌, ◌<◌, ◌≤◌, Bool, true, false, cond, nat_le, nat_eq, if◌then◌else◌, List, [], length, get_or, set, Option, None, Some, Ok, Err, Result, bytes_eq, refl, sym, ap, ◌∙◌, arith}
+use Rattle.std.proofs.Common.{◌≡◌, ◌≢◌, ℕ, ◌+◌, ◌-◌, ◌<◌, ◌≤◌, true, false, nat_le, nat_eq, if◌then◌else◌, List, [], length, set, Option, None, Some, Ok, Err, Result, sym, ap, ◌∙◌, arith}
 use Rattle.std.proofs.Common.{◌⊎◌, inl, inr, MatchOption, length-set, subst}
 use Rattle.std.proofs.lemmas.List.{get_or-set_other}
 use Rattle.std.proofs.lemmas.Grind.{get_or-set_at}
@@ -7,17 +7,15 @@ use Rattle.std.proofs.lemmas.Bool.{true_from_ne_false, false_from_ne_true}
 use Rattle.std.proofs.lemmas.Bool.Decides.{eqb_tells, nat_tests}
 use Rattle.std.proofs.lemmas.List.Sums.{sum_by-set}
 use Rattle.tcl_vars.specs.declared.content.Content.{Content}
-use Rattle.tcl_vars.specs.declared.content.Content.TheVariants.{Scalar, Array, Link}
 use Rattle.tcl_vars.specs.declared.fault.SetFault.{SetFault}
 use Rattle.tcl_vars.specs.declared.fault.SetFault.TheVariants.{Full}
 use Rattle.tcl_vars.specs.Name.{Place}
 use Rattle.tcl_vars.specs.Put.{PutsText, RefusesText, IsReason, Sets}
 use Rattle.tcl_vars.specs.Sound.{AllBelow, FramesDescend, IsSound}
 use Rattle.tcl_vars.specs.Store.{Store, Frame, frame_at, content_at, with_content, link_of, frame_count, variable_count, content_with, within_limit, with_new_content, with_text_at, end_of}
-use Rattle.tcl_vars.specs.Table.{value_at, with_value}
+use Rattle.tcl_vars.specs.Table.{with_value}
 use Rattle.tcl_vars.proofs.BelowLemmas.{AllBelow-with_value, content_with-below}
 use Rattle.tcl_vars.proofs.LinkLemmas.{led-here}
-use Rattle.tcl_vars.proofs.TableLemmas.{value_at-with_value}
 
 module _ (store : Store) (level : ℕ) (within : level < length store) (new : Frame) where
   -- the count of a store in which a frame is replaced
@@ -25,7 +23,7 @@ module _ (store : Store) (level : ℕ) (within : level < length store) (new : Fr
   variable_count-set = sum_by-set frame_count store level new [] within
 
   -- the links of a store in which a frame is replaced
-  FramesDescend-set : FramesDescend store → AllBelow level new → FramesDescend (set store level new)
+  pub FramesDescend-set : FramesDescend store → AllBelow level new → FramesDescend (set store level new)
   FramesDescend-set down below other = by (eqb_tells other level)
     where
       by : ((nat_eq other level ≡ true) × (other ≡ level)) ⊎ ((nat_eq other level ≡ false) × (other ≢ level)) → AllBelow other (frame_at (set store level new) other)
@@ -33,11 +31,11 @@ module _ (store : Store) (level : ℕ) (within : level < length store) (new : Fr
       by (inr there) = subst (AllBelow other) (sym (get_or-set_other store level other new [] there.1)) (down other)
 
 -- within the limit, or over it
-within_limit-ok : (store : Store) → variable_count store ≤ 4096 → within_limit store ≡ Ok store
-within_limit-ok store low = ap (λ b. if b then Ok store else Err Full) (true_from_ne_false (nat_le (variable_count store) 4096) (λ no. absurd (grind (arith, nat_tests))))
+pub within_limit-ok : {F : Type 0} (full : F) (store : Store) → variable_count store ≤ 4096 → within_limit full store ≡ Ok store
+within_limit-ok full store low = ap (λ b. if b then Ok store else Err full) (true_from_ne_false (nat_le (variable_count store) 4096) (λ no. absurd (grind (arith, nat_tests))))
 
-within_limit-full : (store : Store) → 4096 < variable_count store → within_limit store ≡ Err Full
-within_limit-full store high = ap (λ b. if b then Ok store else Err Full) (false_from_ne_true (nat_le (variable_count store) 4096) (λ yes. absurd (grind (arith, nat_tests))))
+pub within_limit-full : {F : Type 0} (full : F) (store : Store) → 4096 < variable_count store → within_limit full store ≡ Err full
+within_limit-full full store high = ap (λ b. if b then Ok store else Err full) (false_from_ne_true (nat_le (variable_count store) 4096) (λ yes. absurd (grind (arith, nat_tests))))
 
 module _ (store : Store) (count : ℕ) (sound : IsSound store count) (place : Place) (within : place.level < length store) (value : List ℕ) where
   module _ (added : ℕ) (new : Frame) (puts : PutsText (frame_at store place.level) place value (4096 - count) added new) where
@@ -63,8 +61,8 @@ module _ (store : Store) (count : ℕ) (sound : IsSound store count) (place : Pl
     Sets-ok = record {
       linkless = puts.linkless;
       given = ap (with_new_content store place) puts.given
-          ∙ ap (λ f. within_limit (set store place.level f)) (sym puts.frame)
-          ∙ within_limit-ok (set store place.level new) (omega (arith, counted-set, puts.fits, sound.limited));
+          ∙ ap (λ f. within_limit Full (set store place.level f)) (sym puts.frame)
+          ∙ within_limit-ok Full (set store place.level new) (omega (arith, counted-set, puts.fits, sound.limited));
     }
 
   -- the definition gives the refusal too
@@ -76,7 +74,7 @@ module _ (store : Store) (count : ℕ) (sound : IsSound store count) (place : Pl
     where
       by : (r : Result Content SetFault) → IsReason (frame_at store place.level) place (4096 - count) fault r → with_new_content store place r ≡ Err fault
       by (Ok content) h =
-          within_limit-full (with_content store place content)
+          within_limit-full Full (with_content store place content)
           (omega (arith, h.1, variable_count-set store place.level within (with_value (frame_at store place.level) place.variable content), sound.counted, sound.limited))
           ∙ ap Err (sym h.0)
       by (Err refusal) h = ap Err (sym h)

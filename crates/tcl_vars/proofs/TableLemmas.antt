@@ -1,19 +1,14 @@
 -- Facts on tables under names.
-use Rattle.std.proofs.Common.{◌≡◌, ℕ, ◌+◌, Bool, true, false, cond, List, [], ◌∷◌, length, sum_by, Option, None, Some, bytes_eq, true≢false, refl, sym, ap, ◌∙◌, arith}
+use Rattle.std.proofs.Common.{◌≡◌, ℕ, ◌+◌, Bool, true, false, cond, List, [], ◌∷◌, length, sum_by, Option, None, Some, IsSome, bytes_eq, true≢false, refl, sym, ap, ◌∙◌, arith}
 use Rattle.std.specs.Cmp.Lexicographic.{bytes_decides}
 use Rattle.std.proofs.lemmas.List.Sums.{sum_by-cons}
-use Rattle.tcl_vars.specs.Table.{Table, value_at, with_value}
+use Rattle.tcl_vars.specs.Table.{Table, value_at, with_value, without, weight_of}
 
 -- a text equals itself
 pub bytes_eq-refl : (text : List ℕ) → bytes_eq text text ≡ true
 bytes_eq-refl text = (bytes_decides text text).1 refl
 
 module _ {V : Type 0} where
-  -- what a value weighs, if there is one
-  abbrev pub weight_of : (V → ℕ) → Option V → ℕ
-  weight_of weigh None = 0
-  weight_of weigh (Some value) = weigh value
-
   module _ (name : List ℕ) (value : V) where
     length-with_value : (table : Table V) → (o : Option V) → value_at table name ≡ o → length (with_value table name value) + weight_of (λ _. 1) o ≡ length table + 1
     length-with_value [] o e = by o e
@@ -88,3 +83,31 @@ module _ {V : Type 0} where
             pick true false d h = refl
             pick false true d h = h
             pick false false d h = h
+
+  -- without a name that isn't there
+  pub without-absent : (table : Table V) (name : List ℕ) → value_at table name ≡ None → without table name ≡ table
+  without-absent [] name absent = refl
+  without-absent (e ∷ es) name absent = by (bytes_eq name e.0) absent (λ h. without-absent es name h)
+    where
+      by : (b : Bool) → cond b (Some e.1) (value_at es name) ≡ None → (value_at es name ≡ None → without es name ≡ es) → cond b es (e ∷ without es name) ≡ e ∷ es
+      by true h rest = absurd (cc)
+      by false h rest = ap (λ l. e ∷ l) (rest h)
+
+  -- the weights of all values, without a name
+  pub weights-without : (weigh : V → ℕ) (table : Table V) (name : List ℕ)
+      → sum_by (λ e. weigh e.1) (without table name) + weight_of weigh (value_at table name) ≡ sum_by (λ e. weigh e.1) table
+  weights-without weigh [] name = omega arith
+  weights-without weigh (e ∷ es) name = by (bytes_eq name e.0) (weights-without weigh es name)
+    where
+      by : (b : Bool) → sum_by (λ e. weigh e.1) (without es name) + weight_of weigh (value_at es name) ≡ sum_by (λ e. weigh e.1) es
+          → sum_by (λ e. weigh e.1) (cond b es (e ∷ without es name)) + weight_of weigh (cond b (Some e.1) (value_at es name)) ≡ sum_by (λ e. weigh e.1) (e ∷ es)
+      by true rest = omega (arith, sum_by-cons (λ e. weigh e.1) e es)
+      by false rest = omega (arith, sum_by-cons (λ e. weigh e.1) e (without es name), sum_by-cons (λ e. weigh e.1) e es)
+
+  pub length-without : (table : Table V) (name : List ℕ) → IsSome (value_at table name) → length (without table name) + 1 ≡ length table
+  length-without [] name there = absurd (cc)
+  length-without (e ∷ es) name there = by (bytes_eq name e.0) there (λ h. length-without es name h)
+    where
+      by : (b : Bool) → IsSome (cond b (Some e.1) (value_at es name)) → (IsSome (value_at es name) → length (without es name) + 1 ≡ length es) → length (cond b es (e ∷ without es name)) + 1 ≡ length (e ∷ es)
+      by true h rest = omega arith
+      by false h rest = omega (arith, rest h)

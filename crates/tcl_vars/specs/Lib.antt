@@ -7,4 +7,5 @@ pub mod Shown
 pub mod Sound
 pub mod Store
 pub mod Table
+pub mod Unset
 pub mod Way

@@ -1,13 +1,14 @@
-ghost use Rattle.std.specs.Prelude.{◌≡◌, ◌≢◌, ◌≤◌, None, Ok, IfOk, IfErr, IfSome, OnErr};
+ghost use Rattle.std.specs.Prelude.{◌≡◌, ◌≢◌, ◌+◌, ◌<◌, ◌≤◌, None, Ok, IfOk, IfErr, IfSome, MatchOption, OnErr};
 ghost use Rattle.std.specs.Option.{option_copied};
 ghost use Rattle.tcl_vars.specs.Put.{RefusesText, AfterPut, new_count};
 ghost use Rattle.tcl_vars.specs.Short.{IsShort, IsShortPlace};
 ghost use Rattle.tcl_vars.specs.Shown.{shown};
-ghost use Rattle.tcl_vars.specs.Store.{content_with, frame_count};
-ghost use Rattle.tcl_vars.specs.Table.{value_at};
+ghost use Rattle.tcl_vars.specs.Store.{content_count, content_with, frame_count, link_of};
+ghost use Rattle.tcl_vars.specs.Unset.{UnsetsText, RefusesUnset};
+ghost use Rattle.tcl_vars.specs.Table.{value_at, with_value, weight_of};
 
-use crate::content::{Content, Outcome};
-use crate::fault::SetFault;
+use crate::content::{Content, Outcome, Removal};
+use crate::fault::{SetFault, UnsetFault};
 use crate::name::Place;
 use crate::table::Table;
 use std::alloc::{AllocError, Global};
@@ -49,6 +50,54 @@ pub(crate) fn put(
             Ok(outcome)
         }
     }
+}
+
+/// Unsets the text of a place of the frame, and gives how many variables are gone; none where the variable is a link.
+pub(crate) fn unset(frame: &mut Frame, place: Place<'_>) -> Result<Option<usize>, UnsetFault>
+    ensures ok { IfOk result (λ removed. MatchOption removed
+        ((link_of (value_at frame.old place.entry.variable.now) ≢ None) × (frame.new ≡ frame.old))
+        (λ count. UnsetsText frame.old (shown place.entry) count frame.new)) }
+    ensures refused { IfErr result (RefusesUnset frame.old (shown place.entry)) }
+    ensures err { OnErr result (frame.new ≡ frame.old) }
+{
+    let Some(content) = frame.get_mut(place.variable) else {
+        return Err(UnsetFault::NoVariable);
+    };
+    match content.unset(place.element)? {
+        Removal::Whole(count) => {
+            frame.remove(place.variable);
+            Ok(Some(count))
+        }
+        Removal::Element => Ok(Some(1)),
+        Removal::Linked => Ok(None),
+    }
+}
+
+/// Gives a variable, which isn't there or counts one, a content that counts one. Gives how many variables came; none, and nothing is
+/// done, where there is no room for the one that would come.
+pub(crate) fn give(
+    frame: &mut Frame,
+    variable: &str,
+    content: Content,
+    room: usize,
+) -> Result<Option<usize>, AllocError>
+    requires short { IsShort variable.now }
+    requires light { content_count content ≡ 1 }
+    requires replaceable { weight_of content_count (value_at frame.old variable.now) ≤ 1 }
+    ensures ok { IfOk result (λ added. MatchOption added
+        ((frame.new ≡ frame.old) × (frame_count frame.old + room < frame_count (with_value frame.old variable.now content)))
+        (λ count. (frame.new ≡ with_value frame.old variable.now content) × (frame_count frame.new ≡ frame_count frame.old + count) × (count ≤ room))) }
+    ensures err { OnErr result (frame.new ≡ frame.old) }
+{
+    if let Some(held) = frame.get_mut(variable) {
+        *held = content;
+        return Ok(Some(0));
+    }
+    if room == 0 {
+        return Ok(None);
+    }
+    frame.insert(variable, content)?;
+    Ok(Some(1))
 }
 
 // Sets the text of a place of the frame whose variable isn't there.

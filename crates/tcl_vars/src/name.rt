@@ -3,9 +3,10 @@ ghost use Rattle.std.specs.Option.{option_copied};
 ghost use Rattle.tcl_vars.specs.Name.{element_of, place_in_frame, place_of};
 ghost use Rattle.tcl_vars.specs.Short.{IsShort, IsShortPlace};
 ghost use Rattle.tcl_vars.specs.Shown.{shown};
-ghost use Rattle.tcl_vars.specs.Store.{indexed};
+ghost use Rattle.tcl_vars.specs.Store.{indexed, is_plain, variable_place};
 
 use std::alloc::{AllocError, Global};
+use tcl_text::Text;
 
 /// A variable of the frame at a level, or an element of it where an index is given.
 #[derive(Clone, Copy)]
@@ -74,15 +75,40 @@ pub(crate) fn place_of<'a>(level: usize, name: &'a str) -> Place<'a>
     }
 }
 
+/// A variable of the frame at a level.
+pub(crate) fn variable_place<'a>(level: usize, variable: &'a str) -> Place<'a>
+    ensures { shown result ≡ variable_place level variable.now }
+{
+    Place {
+        level,
+        variable,
+        element: None,
+    }
+}
+
+/// Whether a name means a variable of the frame that it is used in.
+pub(crate) fn is_plain(name: &str) -> bool
+    ensures { result ≡ is_plain name.now }
+{
+    !name.starts_with("::") && element_of(name).is_none()
+}
+
+/// Where a name points that is used in the frame at a level.
+pub(crate) fn place_of_text<'a>(level: usize, name: &'a Text) -> Place<'a>
+    ensures place { shown result ≡ place_of level name.now }
+    ensures short { IsShortPlace (shown result) }
+    ensures level { result.level ≤ level }
+{
+    place_of(level, name.as_str())
+}
+
 /// Where the element points that an index gives of the array of a name; none where the name means an element.
-pub(crate) fn element_place<'a>(level: usize, name: &'a str, index: &'a str) -> Option<Place<'a>>
-    requires name { IsShort name.now }
-    requires index { IsShort index.now }
+pub(crate) fn element_place<'a>(level: usize, name: &'a Text, index: &'a Text) -> Option<Place<'a>>
     ensures place { option_map shown result ≡ indexed (place_of level name.now) (Some index.now) }
     ensures short { IfSome result (λ place. IsShortPlace (shown place)) }
     ensures level { IfSome result (λ place. place.level ≤ level) }
 {
-    place_of(level, name).indexed(Some(index))
+    place_of_text(level, name).indexed(Some(index.as_str()))
 }
 
 /// A place whose names are kept apart from the store, which changes there.

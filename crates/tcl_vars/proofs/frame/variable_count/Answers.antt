@@ -1,6 +1,6 @@
 -- Each entry adds its count.
-use Rattle.std.proofs.Common.{◌≡◌, ◌+◌, ◌<◌, ◌≤◌, length, take, ap, ◌∙◌, sym, arith}
-use Rattle.tcl_vars.specs.Store.{content_count, frame_count}
+use Rattle.std.proofs.Common.{◌≡◌, ◌+◌, take, ap, ◌∙◌, sym, arith}
+use Rattle.tcl_vars.specs.Store.{frame_count}
 use Rattle.tcl_vars.proofs.CountLemmas.{frame_count-more, frame_count-bound}
 use Rattle.tcl_vars.proofs.frame.variable_count.Goals as goal
 

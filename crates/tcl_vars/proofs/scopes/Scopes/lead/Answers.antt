@@ -1,10 +1,8 @@
 -- Each turn follows one link, to an earlier frame.
 use Rattle.std.proofs.Common.{◌≡◌, ◌<◌, ◌∙◌, sym, ap, subst, option_copied, arith}
-use Rattle.std.proofs.lemmas.Result.{err_from_is_err_and}
-use Rattle.tcl_vars.specs.Name.{Place, place_of}
 use Rattle.tcl_vars.specs.Shown.{shown}
 use Rattle.tcl_vars.specs.Sound.{FramesDescend}
-use Rattle.tcl_vars.specs.Store.{content_at, link_of, indexed, led, end_of}
+use Rattle.tcl_vars.specs.Store.{link_of, indexed, led}
 use Rattle.tcl_vars.proofs.BelowLemmas.{LinksDescend-frames}
 use Rattle.tcl_vars.proofs.LinkLemmas.{led-link, led-nowhere, led-here}
 use Rattle.tcl_vars.proofs.scopes.Scopes.lead.Goals as goal

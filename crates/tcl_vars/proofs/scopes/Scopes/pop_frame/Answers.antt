@@ -1,6 +1,5 @@
 -- The store without its last frame is sound.
-use Rattle.std.proofs.Common.{◌≡◌, ◌-◌, ◌++◌, [], ◌∷◌, length, option_to_list, ap, ◌∙◌, subst, sym, arith}
-use Rattle.tcl_vars.specs.Sound.{IsSound}
+use Rattle.std.proofs.Common.{◌++◌, length, option_to_list, ap, ◌∙◌, arith}
 use Rattle.tcl_vars.proofs.CountLemmas.{IsSound-rest}
 use Rattle.tcl_vars.proofs.scopes.Scopes.pop_frame.Goals as goal
 

@@ -1,5 +1,5 @@
 -- A place whose variable is no link is set in its own frame.
-use Rattle.std.proofs.Common.{◌≡◌, ◌≢◌, IfErr, Err, Ok}
+use Rattle.std.proofs.Common.{Err, Ok}
 use Rattle.std.proofs.lemmas.Result.{err_from_is_err_and}
 use Rattle.tcl_vars.specs.Shown.{shown}
 use Rattle.tcl_vars.proofs.StoreLemmas.{with_text_at-direct}

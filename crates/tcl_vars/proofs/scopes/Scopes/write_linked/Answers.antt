@@ -1,6 +1,5 @@
 -- The text is set where the links end, which is no link.
-use Rattle.std.proofs.Common.{◌≡◌, ◌≢◌, ◌≤◌, IfErr, Err, Ok, None, ap, ◌∙◌, subst, le_refl}
-use Rattle.std.proofs.lemmas.Result.{err_from_is_err_and}
+use Rattle.std.proofs.Common.{◌≡◌, Ok, None, ap, ◌∙◌, subst, le_refl}
 use Rattle.tcl_vars.specs.Put.{Sets}
 use Rattle.tcl_vars.specs.Shown.{shown}
 use Rattle.tcl_vars.specs.Sound.{FramesDescend}

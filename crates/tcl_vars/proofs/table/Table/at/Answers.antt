@@ -1,7 +1,6 @@
 -- A name of the table is short.
-use Rattle.std.proofs.Common.{◌≡◌, ◌∙◌, ap, subst, sym, Some, slice_get, option_map, string_bytes}
+use Rattle.std.proofs.Common.{◌∙◌, ap, sym, option_map, string_bytes}
 use Rattle.tcl_vars.specs.Named.{named}
-use Rattle.tcl_vars.specs.Short.{IsShort, ShortNames}
 use Rattle.tcl_vars.proofs.ShortLemmas.{IsShort-at}
 use Rattle.tcl_vars.proofs.NamedLemmas.{slice_get-named}
 use Rattle.tcl_vars.proofs.table.Table.at.Goals as goal

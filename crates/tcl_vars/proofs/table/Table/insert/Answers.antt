@@ -1,7 +1,7 @@
 -- An insertion is that of the named entries.
-use Rattle.std.proofs.Common.{◌≡◌, ◌∙◌, sym, ap, subst}
+use Rattle.std.proofs.Common.{◌∙◌, sym, ap, subst}
 use Rattle.tcl_vars.specs.Named.{named}
-use Rattle.tcl_vars.specs.Short.{IsShort, ShortNames}
+use Rattle.tcl_vars.specs.Short.{ShortNames}
 use Rattle.tcl_vars.specs.Table.{with_value}
 use Rattle.tcl_vars.proofs.NamedLemmas.{named-inserted}
 use Rattle.tcl_vars.proofs.ShortLemmas.{ShortNames-with_value}

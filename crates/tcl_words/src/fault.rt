@@ -1,4 +1,5 @@
 use std::alloc::{AllocError, AllocFailed};
+use tcl_text::TextFault;
 use thiserror::Error;
 
 /// Why a text is no script.
@@ -69,5 +70,19 @@ impl<T: Drop> From<AllocFailed<T>> for ParseFault {
 
     fn from(_refused: AllocFailed<T>) -> ParseFault {
         ParseFault::NoMemory
+    }
+}
+
+impl From<TextFault> for ParseFault {
+    ghost use Rattle.std.specs.Prelude.{◌≡◌};
+    ghost use Rattle.tcl_words.specs.Faults.{fault_of};
+
+    ghost from_gives = { λ fault e. e ≡ fault_of fault };
+
+    fn from(fault: TextFault) -> ParseFault {
+        match fault {
+            TextFault::TooLong => ParseFault::TooLong,
+            TextFault::NoMemory => ParseFault::NoMemory,
+        }
     }
 }

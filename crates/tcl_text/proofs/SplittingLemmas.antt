@@ -59,9 +59,12 @@ not_backslash b other = elim (cases_Bool (nat_eq b 92)) [
   | inr not ↦ not
 ]
 
-pub reading_byte : (place : Place) (b : ℕ) (bs : List ℕ) → kind_of b ≢ Backslash → reading place (marks (b ∷ bs)) ≡ with_mark place (kind_of b) (byte_mark b) (reading (place_after place (kind_of b)) (marks bs))
+pub marks_byte : (b : ℕ) (bs : List ℕ) → kind_of b ≢ Backslash → marks (b ∷ bs) ≡ byte_mark b ∷ marks bs
 unfolding marks
-reading_byte place b bs other = rw (not_backslash b other) refl
+marks_byte b bs other = rw (not_backslash b other) refl
+
+pub reading_byte : (place : Place) (b : ℕ) (bs : List ℕ) → kind_of b ≢ Backslash → reading place (marks (b ∷ bs)) ≡ with_mark place (kind_of b) (byte_mark b) (reading (place_after place (kind_of b)) (marks bs))
+reading_byte place b bs other = ap (reading place) (marks_byte b bs other)
 
 -- the same of a known kind
 pub reading_kind : (place : Place) (k : ByteKind) (b : ℕ) (bs : List ℕ) → k ≢ Backslash → kind_of b ≡ k → reading place (marks (b ∷ bs)) ≡ with_mark place k (byte_mark b) (reading (place_after place k) (marks bs))
@@ -69,11 +72,14 @@ reading_kind place k b bs other is =
     reading_byte place b bs (λ e. other (sym is ∙ e)) ∙ ap (λ k. with_mark place k (byte_mark b) (reading (place_after place k) (marks bs))) is
 
 -- and a backslash is one with what it takes
-pub reading_escape : (place : Place) (b : ℕ) (bs : List ℕ) → kind_of b ≡ Backslash → reading place (marks (b ∷ bs)) ≡ with_mark place Backslash (escape_mark bs) (reading (place_after place Backslash) (marks (drop (escape bs).length bs)))
+pub marks_escape : (b : ℕ) (bs : List ℕ) → kind_of b ≡ Backslash → marks (b ∷ bs) ≡ escape_mark bs ∷ marks (drop (escape bs).length bs)
 unfolding marks
-reading_escape place b bs is =
+marks_escape b bs is =
     let slash : nat_eq b 92 ≡ true = told b Backslash is in
-    rw slash (ap (λ ms. with_mark place Backslash (escape_mark bs) (reading (place_after place Backslash) ms)) (marks_past-drop (escape bs).length bs))
+    rw slash (ap (λ ms. escape_mark bs ∷ ms) (marks_past-drop (escape bs).length bs))
+
+pub reading_escape : (place : Place) (b : ℕ) (bs : List ℕ) → kind_of b ≡ Backslash → reading place (marks (b ∷ bs)) ≡ with_mark place Backslash (escape_mark bs) (reading (place_after place Backslash) (marks (drop (escape bs).length bs)))
+reading_escape place b bs is = ap (reading place) (marks_escape b bs is)
 
 -- ── in braces ──
 

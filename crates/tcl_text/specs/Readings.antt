@@ -1,6 +1,7 @@
 -- What can be read in a text: an integer, a boolean and a list, each as a relation on the whole text and as a function.
 use Rattle.std.specs.Prelude.{◌≡◌, ◌≢◌, ◌⊎◌, ℕ, zero, suc, ◌+◌, ◌*◌, ◌^◌, ℤ, pos, neg_ℤ, Bool, true, false, not, ◌&&◌, ◌||◌, ◌==◌, nat_lt, nat_le, if◌then◌else◌, List, [], ◌∷◌, ◌++◌, map, filter, IsTrue, Option, Some, None, Result, Ok, Err, codes, ⊤}
 use Rattle.std.specs.Char.{digit_value, to_ascii_lowercase}
+use Rattle.std.specs.Option.{option_map_or}
 use Rattle.std.specs.List.{starts_with, list_all, join_with_byte, flat_map}
 use Rattle.std.specs.Str.Parse.{AllDigits, digits_value}
 use Rattle.tcl_text.specs.Backslash.{is_white, Mark, marks}
@@ -187,7 +188,7 @@ depth_after depth _ = Some depth
 -- each brace that isn't behind a backslash has its match, with so many open in front
 abbrev pub are_balanced : ℕ → List Mark → Bool
 are_balanced depth [] = depth == 0
-are_balanced depth (m ∷ ms) = elim (depth_after depth m.kind) [ Some next ↦ are_balanced next ms | None ↦ false ]
+are_balanced depth (m ∷ ms) = option_map_or (λ next. are_balanced next ms) (depth_after depth m.kind) false
 
 -- An element and how it stands in a list.
 pub data IsElement : List Mark → List ℕ → Type 0 where

@@ -1,14 +1,20 @@
 -- What the steps of splitting a list say, in the words of the readings.
-use Rattle.std.specs.Prelude.{◌≡◌, ℕ, ◌+◌, ◌<◌, ◌≤◌, ◌==◌, ◌⊎◌, IsUtf8, Bool, true, false, List, [], ◌∷◌, ◌++◌, take, drop, length, slice_index, IsTrue, Option, Some, None, Result, Ok, Err, ⊤}
+use Rattle.std.specs.Prelude.{◌≡◌, ℕ, ◌+◌, ◌<◌, ◌≤◌, ◌==◌, ◌⊎◌, IsUtf8, codes, Bool, true, false, List, [], ◌∷◌, ◌++◌, take, drop, length, slice_index, IsTrue, Option, Some, None, Result, Ok, Err, ⊤}
 use Rattle.std.specs.Borrow.{Bor}
 use Rattle.tcl_text.specs.Backslash.{is_white, marks}
-use Rattle.tcl_text.specs.Readings.{Place, in_braces, in_quotes, in_bare, closed, Reading, onto, reading, IsList, list_of}
+use Rattle.tcl_text.specs.Readings.{Place, in_braces, in_quotes, in_bare, closed, Reading, onto, reading, list_of, are_balanced}
 use Rattle.tcl_text.specs.declared.splitting.ByteKind.{ByteKind}
 use Rattle.tcl_text.specs.declared.splitting.ByteKind.TheVariants.{White, OpenBrace, Quote}
 use Rattle.tcl_text.specs.declared.splitting.ListFault.{ListFault}
-use Rattle.tcl_text.specs.declared.splitting.ListFault.TheVariants.{OpenBrace as UnmatchedBrace, ExtraCharacters}
+use Rattle.tcl_text.specs.declared.splitting.ListFault.TheVariants.{OpenBrace as UnmatchedBrace, OpenQuote as UnmatchedQuote, ExtraCharacters}
 use Rattle.tcl_text.specs.declared.splitting.SplitFault.{SplitFault}
 use Rattle.tcl_text.specs.declared.splitting.SplitFault.TheVariants.{BadList, NoMemory}
+
+-- the message of a fault
+abbrev pub fault_text : ListFault → List ℕ
+fault_text UnmatchedBrace = codes "unmatched open brace in list"
+fault_text UnmatchedQuote = codes "unmatched open quote in list"
+fault_text ExtraCharacters = codes "extra characters after list element"
 
 -- the answer is what reading gives, unless memory was refused
 abbrev pub Splits : Result (List (List ℕ)) SplitFault → Result (List (List ℕ)) ListFault → Type 0
@@ -41,6 +47,11 @@ StepsInBraces depth text (Some step) =
     (step.0 ≤ length text) × (0 < step.0) × (step.1 ≤ depth + 1)
     × (reading (in_braces depth) (marks text) ≡ onto (take step.0 text) (reading (in_braces step.1) (marks (drop step.0 text))))
 StepsInBraces depth text None = (slice_index text 0 ≡ 125) × (reading (in_braces depth) (marks text) ≡ reading closed (marks (drop 1 text)))
+
+-- and by it braces are balanced from there, or aren't
+abbrev pub KeepsBalance : ℕ → List ℕ → Option (ℕ × ℕ) → Type 0
+KeepsBalance depth text (Some step) = are_balanced depth (marks text) ≡ are_balanced step.1 (marks (drop step.0 text))
+KeepsBalance depth text None = are_balanced depth (marks text) ≡ false
 
 -- where the closing brace stands, or that there is none
 abbrev pub FindsBrace : List ℕ → Option ℕ → Type 0

@@ -3,6 +3,7 @@
 
 mod backslash;
 mod boolean;
+mod compared;
 mod integer;
 mod list;
 mod list_form;
@@ -15,3 +16,6 @@ pub use integer::NotInteger;
 pub use list::TextList;
 pub use splitting::{ListFault, SplitFault};
 pub use text::{Text, TextFault};
+
+#[cfg(test)]
+mod reading_tests;

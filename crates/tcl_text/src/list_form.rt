@@ -1,14 +1,28 @@
 ghost use Rattle.std.specs.Prelude.{◌≡◌, ◌++◌, ◌∷◌, [], ◌<◌, ◌≤◌, take, drop, length, true, slice_index, string_bytes, OnOk, not};
 ghost use Rattle.std.specs.List.{list_all};
 ghost use Rattle.tcl_text.specs.Backslash as backslash;
-ghost use Rattle.tcl_text.specs.ListForm.{Joins, StopsAtSpecial};
+ghost use Rattle.tcl_text.specs.ListForm.{Joins, StopsAtSpecial, form_text};
 ghost use Rattle.tcl_text.specs.Readings as readings;
 
-use crate::backslash::escape_behind;
-use crate::splitting::{ByteKind, kind};
+use crate::splitting::brace_step;
 use crate::text::{MAX_BYTES, Text, TextFault};
 use crate::white_space::is_white;
 use std::alloc::{AllocError, Global};
+
+/// How an item is written as an element.
+#[derive(Clone, Copy)]
+enum ElementForm {
+    /// As `{}`, being empty.
+    Empty,
+    /// As it is.
+    Bare,
+    /// In braces.
+    Braced,
+    /// With backslashes, also before the `#` that it begins with.
+    Comment,
+    /// With backslashes.
+    Backslashed,
+}
 
 /// Whether a list gives the byte a meaning, so that it can't stand in a bare element by itself.
 fn is_special(byte: u8) -> bool
@@ -31,21 +45,17 @@ fn plain_len(item: &[u8]) -> usize
 }
 
 /// Whether each brace has its match, those behind backslashes aside.
-#[tactic(auto, using(crate::proofs::ListFormLemmas::balances))]
 fn is_balanced(item: &[u8]) -> bool
     ensures { result ≡ readings.are_balanced 0 (backslash.marks item.now) }
 {
     let mut depth = 0;
     let mut at = 0;
     while at < item.len() {
-        match kind(item[at]) {
-            ByteKind::Backslash => at += escape_behind(&item[at + 1..]).length,
-            ByteKind::OpenBrace => depth += 1,
-            ByteKind::CloseBrace if depth == 0 => return false,
-            ByteKind::CloseBrace => depth -= 1,
-            _ => {}
-        }
-        at += 1;
+        let Some((length, next)) = brace_step(&item[at..], depth) else {
+            return false;
+        };
+        at += length;
+        depth = next;
     }
     depth == 0
 }
@@ -62,6 +72,54 @@ fn has_joined_line(item: &[u8]) -> bool
         rest = others;
     }
     false
+}
+
+/// Whether the item begins as a comment would.
+fn begins_comment(item: &[u8]) -> bool
+    ensures { result ≡ readings.begins_comment item.now }
+{
+    match item.first() {
+        Some(byte) => *byte == b'#',
+        None => false,
+    }
+}
+
+/// Whether no byte is special.
+fn is_plain(item: &[u8]) -> bool
+    ensures { result ≡ list_all (λ c. not (readings.is_special c)) item.now }
+{
+    item.iter().all(|byte| !is_special(*byte))
+}
+
+/// Whether the item can stand as it is.
+fn can_be_bare(item: &[u8]) -> bool
+    ensures { result ≡ readings.can_be_bare item.now }
+{
+    !begins_comment(item) && is_plain(item)
+}
+
+/// Whether the item can stand in braces.
+fn can_be_braced(item: &[u8]) -> bool
+    ensures { result ≡ readings.can_be_braced item.now }
+{
+    is_balanced(item) && !has_joined_line(item)
+}
+
+/// How an item is written as an element.
+fn form_of(item: &[u8]) -> ElementForm
+    ensures { readings.element_form item.now ≡ form_text result item.now }
+{
+    if item.is_empty() {
+        ElementForm::Empty
+    } else if can_be_bare(item) {
+        ElementForm::Bare
+    } else if can_be_braced(item) {
+        ElementForm::Braced
+    } else if begins_comment(item) {
+        ElementForm::Comment
+    } else {
+        ElementForm::Backslashed
+    }
 }
 
 /// The letter that stands for a byte behind a backslash, or the byte itself.
@@ -99,23 +157,21 @@ fn push_backslashed(form: &mut String, item: &str) -> Result<(), AllocError>
 fn push_element(form: &mut String, item: &str) -> Result<(), AllocError>
     ensures { OnOk result (string_bytes form.new ≡ string_bytes form.old ++ readings.element_form item.now) }
 {
-    let bytes = item.as_bytes();
-    let Some(first) = bytes.first() else {
-        return form.push_str("{}");
-    };
-    let is_comment = *first == b'#';
-    if !is_comment && plain_len(bytes) == bytes.len() {
-        return form.push_str(item);
+    match form_of(item.as_bytes()) {
+        ElementForm::Empty => form.push_str("{}")?,
+        ElementForm::Bare => form.push_str(item)?,
+        ElementForm::Braced => {
+            form.push('{')?;
+            form.push_str(item)?;
+            form.push('}')?;
+        }
+        ElementForm::Comment => {
+            form.push('\\')?;
+            push_backslashed(form, item)?;
+        }
+        ElementForm::Backslashed => push_backslashed(form, item)?,
     }
-    if is_balanced(bytes) && !has_joined_line(bytes) {
-        form.push('{')?;
-        form.push_str(item)?;
-        return form.push('}');
-    }
-    if is_comment {
-        form.push('\\')?;
-    }
-    push_backslashed(form, item)
+    Ok(())
 }
 
 impl Text {
@@ -124,16 +180,17 @@ impl Text {
     pub fn join_list(alloc: Global, items: &[Text]) -> Result<Text, TextFault>
         ensures { Joins result (readings.list_form items.now) }
     {
+        let Some((first, others)) = items.split_first() else {
+            return Ok(Text::of_short(alloc, "")?);
+        };
         let mut form = String::new(alloc);
-        if let Some((first, others)) = items.split_first() {
-            push_element(&mut form, first.as_str())?;
-            for item in others {
-                if form.len() > MAX_BYTES {
-                    return Err(TextFault::TooLong);
-                }
-                form.push(' ')?;
-                push_element(&mut form, item.as_str())?;
+        push_element(&mut form, first.as_str())?;
+        for item in others {
+            if form.len() > MAX_BYTES {
+                return Err(TextFault::TooLong);
             }
+            form.push(' ')?;
+            push_element(&mut form, item.as_str())?;
         }
         if form.len() > MAX_BYTES {
             return Err(TextFault::TooLong);

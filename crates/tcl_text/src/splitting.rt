@@ -2,7 +2,7 @@ ghost use Rattle.std.specs.Prelude.{◌≡◌, ◌+◌, ◌<◌, ◌≤◌, ◌+
 ghost use Rattle.tcl_text.specs.Backslash as backslash;
 ghost use Rattle.tcl_text.specs.Escaped.{bytes_meant};
 ghost use Rattle.tcl_text.specs.Readings as readings;
-ghost use Rattle.tcl_text.specs.Splitting.{FindsBrace, GivesBehind, GivesElement, GivesItem, IsAtEnd, IsAtStop, ReadsTo, Splits, StepsInBraces, Unescapes, ends, is_behind_element, begins_bare, within};
+ghost use Rattle.tcl_text.specs.Splitting.{FindsBrace, GivesBehind, GivesElement, GivesItem, IsAtEnd, IsAtStop, KeepsBalance, ReadsTo, Splits, StepsInBraces, Unescapes, ends, is_behind_element, begins_bare, fault_text, within};
 
 use crate::backslash::{Meaning, escape_behind};
 use crate::list::TextList;
@@ -23,6 +23,19 @@ pub enum ListFault {
     /// Something other than white space follows a closing brace or quote.
     #[error("extra characters after list element")]
     ExtraCharacters,
+}
+
+impl ListFault {
+    /// The message of the fault.
+    pub fn text(&self) -> &'static str
+        ensures { result.now ≡ fault_text self.now }
+    {
+        match self {
+            ListFault::OpenBrace => "unmatched open brace in list",
+            ListFault::OpenQuote => "unmatched open quote in list",
+            ListFault::ExtraCharacters => "extra characters after list element",
+        }
+    }
 }
 
 /// What a byte is to the form of a list.
@@ -76,11 +89,12 @@ pub fn kind(byte: u8) -> ByteKind
 
 /// One step behind an opening brace: how many bytes it takes, and how many braces are open behind it; none where the closing
 /// brace stands.
-#[tactic(auto, using(crate::proofs::SplittingLemmas::brace_steps))]
-fn brace_step(text: &[u8], depth: usize) -> Option<(usize, usize)>
+#[tactic(auto, using(crate::proofs::SplittingLemmas::brace_steps, crate::proofs::BalanceLemmas::brace_balances))]
+pub fn brace_step(text: &[u8], depth: usize) -> Option<(usize, usize)>
     requires some { 0 < length text.now }
     requires room { depth + 1 < 2 ^ 64 }
-    ensures { StepsInBraces depth text.now result }
+    ensures reads { StepsInBraces depth text.now result }
+    ensures balance { KeepsBalance depth text.now result }
 {
     match kind(text[0]) {
         ByteKind::Backslash => Some((escape_behind(&text[1..]).length + 1, depth)),

@@ -10,7 +10,7 @@ loop-at-preserved c =
     record {
       within = grind (arith, common_steps);
       depth = grind (arith, common_steps);
-      reads = brace_turn text _ c.loop-at.at c.loop-at.depth (take_rest text c.loop-at.at) c.loop-at.invariant.reads c.in-Some.length c.in-Some.next c.in-Some.ensures;
+      reads = brace_turn text _ c.loop-at.at c.loop-at.depth (take_rest text c.loop-at.at) c.loop-at.invariant.reads c.in-Some.length c.in-Some.next c.in-Some.ensures.reads;
     }
 
 pub returns : goal.returns

@@ -20,8 +20,8 @@ loop-rest-smaller c =
 pub loop-rest-preserved : goal.loop-rest-preserved
 loop-rest-preserved c = record {
   splits =
-    SplitsTo-item c.args.self.now c.loop-rest.items c.push.new.self c.loop-rest.rest.now c.in_ok-item.item c.in_ok-item.behind.now c.trimmed-rest-in-loop-rest.result.now
-    c.loop-rest.invariant.splits c.in_ok-item.ensures.0 c.in_ok-item.ensures.1 c.in_ok-push.ensures.ok c.trimmed-rest-in-loop-rest.ensures;
+      SplitsTo-item c.args.self.now c.loop-rest.items c.push.new.self c.loop-rest.rest.now c.in_ok-item.item c.in_ok-item.behind.now c.trimmed-rest-in-loop-rest.result.now
+      c.loop-rest.invariant.splits c.in_ok-item.ensures.0 c.in_ok-item.ensures.1 c.in_ok-push.ensures.ok c.trimmed-rest-in-loop-rest.ensures;
   utf8 = c.trimmed-rest-in-loop-rest.utf8;
 }
 

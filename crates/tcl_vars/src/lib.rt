@@ -13,3 +13,6 @@ pub use content::Content;
 pub use fault::{LinkFault, ReadFault, SetFault, UnsetFault};
 pub use scopes::Scopes;
 pub use table::Table;
+
+#[cfg(test)]
+mod tests;

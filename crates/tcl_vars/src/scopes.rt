@@ -67,9 +67,10 @@ impl Scopes {
         })
     }
 
-    /// How many frames there are.
+    /// How many frames there are: the global one at least.
     pub fn levels(&self) -> usize
-        ensures { result ≡ length self.now }
+        ensures value { result ≡ length self.now }
+        ensures rooted { 0 < length self.now }
     {
         self.frames.len()
     }

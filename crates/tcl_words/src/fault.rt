@@ -35,8 +35,13 @@ pub enum ParseFault {
 }
 
 impl ParseFault {
+    ghost use Rattle.std.specs.Prelude.{◌≡◌};
+    ghost use Rattle.tcl_words.specs.Faults.{text_of};
+
     /// The fault as an application is told of it. Refused memory has no such text: it is empty.
-    pub fn text(&self) -> &'static str {
+    pub fn text(&self) -> &'static str
+        ensures { result.now ≡ text_of self.now }
+    {
         match self {
             ParseFault::TooLong => "limit reached: value",
             ParseFault::MissingBrace => "missing close-brace",

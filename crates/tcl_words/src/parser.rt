@@ -23,13 +23,13 @@ fn read_all(alloc: Global, source: &str) -> Result<Vec<Command>, ParseFault>
     ensures room { IfOk result (λ commands. commands_room commands.items ≤ 2) }
     ensures fault { IfErr result (λ fault. (commands_in (rest_of source.now Place.Start 0) ≡ Err fault) ⊎ (fault ≡ ParseFault.NoMemory)) }
 {
-    let mut open = Open::new(alloc);
+    let mut parts = Open::new(alloc);
     let mut place = Place::Start;
     for at in 0..source.len() {
-        place = read_byte(&mut open, alloc, source, at, place)?;
+        place = read_byte(&mut parts, alloc, source, at, place)?;
     }
-    finish(&mut open, alloc, source, place)?;
-    Ok(open.into_commands())
+    finish(&mut parts, alloc, source, place)?;
+    Ok(parts.into_commands())
 }
 
 /// The script that the bytes spell, by the function that reads its commands.

@@ -11,7 +11,7 @@ use std::alloc::Global;
 
 /// A byte that ends a word has been read, and the word has ended.
 pub fn after_word(
-    open: &mut Open,
+    parts: &mut Open,
     alloc: Global,
     source: &str,
     at: usize,
@@ -20,12 +20,12 @@ pub fn after_word(
 ) -> Result<Place, ParseFault>
     requires stands { StandsAt source.now at byte kind }
     requires ascii { kind ≢ Kind.Other }
-    requires fine { open.old.pieces ≡ [] }
-    ensures { Reads open.old open.new source.now at Place.Between (after_word kind byte at) result }
+    requires fine { parts.old.pieces ≡ [] }
+    ensures { Reads parts.old parts.new source.now at Place.Between (after_word kind byte at) result }
 {
     match kind {
         Kind::Newline | Kind::Semicolon => {
-            open.end_command(alloc)?;
+            parts.end_command(alloc)?;
             Ok(Place::Start)
         }
         _ => Ok(Place::Between),
@@ -34,7 +34,7 @@ pub fn after_word(
 
 /// A byte in a bare word.
 pub fn read_bare(
-    open: &mut Open,
+    parts: &mut Open,
     alloc: Global,
     source: &str,
     at: usize,
@@ -42,16 +42,16 @@ pub fn read_bare(
     kind: Kind,
 ) -> Result<Place, ParseFault>
     requires stands { StandsAt source.now at byte kind }
-    requires fine { IsFine open.old source.now Place.Bare at }
-    ensures { Reads open.old open.new source.now at Place.Bare (in_bare kind byte at) result }
+    requires fine { IsFine parts.old source.now Place.Bare at }
+    ensures { Reads parts.old parts.new source.now at Place.Bare (in_bare kind byte at) result }
 {
     match kind {
         Kind::Blank | Kind::Newline | Kind::Semicolon => {
-            open.end_bare_word(alloc, source, at)?;
-            after_word(open, alloc, source, at, byte, kind)
+            parts.end_bare_word(alloc, source, at)?;
+            after_word(parts, alloc, source, at, byte, kind)
         }
         Kind::Dollar => {
-            open.set_stop(at);
+            parts.set_stop(at);
             Ok(Place::Dollar)
         }
         _ => Ok(Place::Bare),
@@ -60,7 +60,7 @@ pub fn read_bare(
 
 /// A byte past a `$` in a bare word.
 pub fn read_dollar(
-    open: &mut Open,
+    parts: &mut Open,
     alloc: Global,
     source: &str,
     at: usize,
@@ -68,22 +68,22 @@ pub fn read_dollar(
     kind: Kind,
 ) -> Result<Place, ParseFault>
     requires stands { StandsAt source.now at byte kind }
-    requires fine { IsFine open.old source.now Place.Dollar at }
-    ensures { Reads open.old open.new source.now at Place.Dollar (in_dollar kind byte at) result }
+    requires fine { IsFine parts.old source.now Place.Dollar at }
+    ensures { Reads parts.old parts.new source.now at Place.Dollar (in_dollar kind byte at) result }
 {
     match kind {
         Kind::Letter => {
-            open.begin_name(alloc, source)?;
+            parts.begin_name(alloc, source)?;
             Ok(Place::Name)
         }
         Kind::Colon => Ok(Place::Colon),
-        _ => read_bare(open, alloc, source, at, byte, kind),
+        _ => read_bare(parts, alloc, source, at, byte, kind),
     }
 }
 
 /// A byte past `$:` in a bare word.
 pub fn read_colon(
-    open: &mut Open,
+    parts: &mut Open,
     alloc: Global,
     source: &str,
     at: usize,
@@ -91,18 +91,18 @@ pub fn read_colon(
     kind: Kind,
 ) -> Result<Place, ParseFault>
     requires stands { StandsAt source.now at byte kind }
-    requires fine { IsFine open.old source.now Place.Colon at }
-    ensures { Reads open.old open.new source.now at Place.Colon (in_colon kind byte at) result }
+    requires fine { IsFine parts.old source.now Place.Colon at }
+    ensures { Reads parts.old parts.new source.now at Place.Colon (in_colon kind byte at) result }
 {
     match kind {
         Kind::Colon => Ok(Place::Colons),
-        _ => read_bare(open, alloc, source, at, byte, kind),
+        _ => read_bare(parts, alloc, source, at, byte, kind),
     }
 }
 
 /// A byte past `$::` in a bare word.
 pub fn read_colons(
-    open: &mut Open,
+    parts: &mut Open,
     alloc: Global,
     source: &str,
     at: usize,
@@ -110,21 +110,21 @@ pub fn read_colons(
     kind: Kind,
 ) -> Result<Place, ParseFault>
     requires stands { StandsAt source.now at byte kind }
-    requires fine { IsFine open.old source.now Place.Colons at }
-    ensures { Reads open.old open.new source.now at Place.Colons (in_colons kind byte at) result }
+    requires fine { IsFine parts.old source.now Place.Colons at }
+    ensures { Reads parts.old parts.new source.now at Place.Colons (in_colons kind byte at) result }
 {
     match kind {
         Kind::Letter => {
-            open.begin_name(alloc, source)?;
+            parts.begin_name(alloc, source)?;
             Ok(Place::Name)
         }
-        _ => read_bare(open, alloc, source, at, byte, kind),
+        _ => read_bare(parts, alloc, source, at, byte, kind),
     }
 }
 
 /// A byte in a variable's name or past it.
 pub fn read_name(
-    open: &mut Open,
+    parts: &mut Open,
     alloc: Global,
     source: &str,
     at: usize,
@@ -132,21 +132,21 @@ pub fn read_name(
     kind: Kind,
 ) -> Result<Place, ParseFault>
     requires stands { StandsAt source.now at byte kind }
-    requires fine { IsFine open.old source.now Place.Name at }
-    ensures { Reads open.old open.new source.now at Place.Name (in_name kind byte at) result }
+    requires fine { IsFine parts.old source.now Place.Name at }
+    ensures { Reads parts.old parts.new source.now at Place.Name (in_name kind byte at) result }
 {
     match kind {
         Kind::Letter => Ok(Place::Name),
         _ => {
-            open.end_name(alloc, source, at)?;
-            read_bare(open, alloc, source, at, byte, kind)
+            parts.end_name(alloc, source, at)?;
+            read_bare(parts, alloc, source, at, byte, kind)
         }
     }
 }
 
 /// A byte in a word in braces.
 pub fn read_brace(
-    open: &mut Open,
+    parts: &mut Open,
     source: &str,
     at: usize,
     byte: u8,
@@ -154,8 +154,8 @@ pub fn read_brace(
     depth: usize,
 ) -> Result<Place, ParseFault>
     requires stands { StandsAt source.now at byte kind }
-    requires fine { IsFine open.old source.now (Place.Brace depth) at }
-    ensures { Reads open.old open.new source.now at (Place.Brace depth) (in_brace depth kind byte at) result }
+    requires fine { IsFine parts.old source.now (Place.Brace depth) at }
+    ensures { Reads parts.old parts.new source.now at (Place.Brace depth) (in_brace depth kind byte at) result }
 {
     match kind {
         Kind::OpenBrace => Ok(Place::Brace(depth + 1)),
@@ -163,7 +163,7 @@ pub fn read_brace(
             if depth > 0 {
                 return Ok(Place::Brace(depth - 1));
             }
-            open.set_stop(at);
+            parts.set_stop(at);
             Ok(Place::Braced)
         }
         _ => Ok(Place::Brace(depth)),
@@ -172,7 +172,7 @@ pub fn read_brace(
 
 /// A byte past the brace that ends a word.
 pub fn read_braced(
-    open: &mut Open,
+    parts: &mut Open,
     alloc: Global,
     source: &str,
     at: usize,
@@ -180,13 +180,13 @@ pub fn read_braced(
     kind: Kind,
 ) -> Result<Place, ParseFault>
     requires stands { StandsAt source.now at byte kind }
-    requires fine { IsFine open.old source.now Place.Braced at }
-    ensures { Reads open.old open.new source.now at Place.Braced (in_braced kind byte at) result }
+    requires fine { IsFine parts.old source.now Place.Braced at }
+    ensures { Reads parts.old parts.new source.now at Place.Braced (in_braced kind byte at) result }
 {
     match kind {
         Kind::Blank | Kind::Newline | Kind::Semicolon => {
-            open.end_braced_word(alloc, source, at)?;
-            after_word(open, alloc, source, at, byte, kind)
+            parts.end_braced_word(alloc, source, at)?;
+            after_word(parts, alloc, source, at, byte, kind)
         }
         _ => Err(ParseFault::ExtraAfterBrace),
     }
@@ -194,7 +194,7 @@ pub fn read_braced(
 
 /// A byte in a command, past a word and a blank.
 pub fn read_between(
-    open: &mut Open,
+    parts: &mut Open,
     alloc: Global,
     source: &str,
     at: usize,
@@ -202,27 +202,27 @@ pub fn read_between(
     kind: Kind,
 ) -> Result<Place, ParseFault>
     requires stands { StandsAt source.now at byte kind }
-    requires fine { IsFine open.old source.now Place.Between at }
-    ensures { Reads open.old open.new source.now at Place.Between (in_between kind byte at) result }
+    requires fine { IsFine parts.old source.now Place.Between at }
+    ensures { Reads parts.old parts.new source.now at Place.Between (in_between kind byte at) result }
 {
     match kind {
         Kind::Blank | Kind::Newline | Kind::Semicolon => {
-            after_word(open, alloc, source, at, byte, kind)
+            after_word(parts, alloc, source, at, byte, kind)
         }
         Kind::OpenBrace => {
-            open.begin_word(at, at + 1);
+            parts.begin_word(at, at + 1);
             Ok(Place::Brace(0))
         }
         _ => {
-            open.begin_word(at, at);
-            read_bare(open, alloc, source, at, byte, kind)
+            parts.begin_word(at, at);
+            read_bare(parts, alloc, source, at, byte, kind)
         }
     }
 }
 
 /// A byte where a command may begin.
 pub fn read_start(
-    open: &mut Open,
+    parts: &mut Open,
     alloc: Global,
     source: &str,
     at: usize,
@@ -230,30 +230,30 @@ pub fn read_start(
     kind: Kind,
 ) -> Result<Place, ParseFault>
     requires stands { StandsAt source.now at byte kind }
-    requires fine { IsFine open.old source.now Place.Start at }
-    ensures { Reads open.old open.new source.now at Place.Start (in_start kind byte at) result }
+    requires fine { IsFine parts.old source.now Place.Start at }
+    ensures { Reads parts.old parts.new source.now at Place.Start (in_start kind byte at) result }
 {
     match kind {
         Kind::Blank | Kind::Newline | Kind::Semicolon => Ok(Place::Start),
         Kind::Hash => Ok(Place::Comment),
         _ => {
-            open.begin_command(at);
-            read_between(open, alloc, source, at, byte, kind)
+            parts.begin_command(at);
+            read_between(parts, alloc, source, at, byte, kind)
         }
     }
 }
 
 /// A byte in a comment.
 pub fn read_comment(
-    open: &Open,
+    parts: &Open,
     source: &str,
     at: usize,
     byte: u8,
     kind: Kind,
 ) -> Result<Place, ParseFault>
     requires stands { StandsAt source.now at byte kind }
-    requires fine { IsFine open.now source.now Place.Comment at }
-    ensures { Reads open.now open.now source.now at Place.Comment (in_comment kind byte at) result }
+    requires fine { IsFine parts.now source.now Place.Comment at }
+    ensures { Reads parts.now parts.now source.now at Place.Comment (in_comment kind byte at) result }
 {
     match kind {
         Kind::Newline => Ok(Place::Start),
@@ -275,7 +275,7 @@ fn look(source: &str, at: usize) -> (u8, Kind)
 
 /// The byte at a place of the source, read where it stands.
 pub fn read_byte(
-    open: &mut Open,
+    parts: &mut Open,
     alloc: Global,
     source: &str,
     at: usize,
@@ -283,63 +283,68 @@ pub fn read_byte(
 ) -> Result<Place, ParseFault>
     requires within { at < length source.now }
     requires short { length source.now ≤ 65536 }
-    requires fine { IsFine open.old source.now place at }
-    ensures { let byte = slice_index source.now at in Reads open.old open.new source.now at place (in_place place (kind_of byte) byte at) result }
+    requires fine { IsFine parts.old source.now place at }
+    ensures { let byte = slice_index source.now at in Reads parts.old parts.new source.now at place (in_place place (kind_of byte) byte at) result }
 {
     let (byte, kind) = look(source, at);
     match place {
-        Place::Start => read_start(open, alloc, source, at, byte, kind),
-        Place::Comment => read_comment(open, source, at, byte, kind),
-        Place::Between => read_between(open, alloc, source, at, byte, kind),
-        Place::Bare => read_bare(open, alloc, source, at, byte, kind),
-        Place::Dollar => read_dollar(open, alloc, source, at, byte, kind),
-        Place::Colon => read_colon(open, alloc, source, at, byte, kind),
-        Place::Colons => read_colons(open, alloc, source, at, byte, kind),
-        Place::Name => read_name(open, alloc, source, at, byte, kind),
-        Place::Brace(depth) => read_brace(open, source, at, byte, kind, depth),
-        Place::Braced => read_braced(open, alloc, source, at, byte, kind),
+        Place::Start => read_start(parts, alloc, source, at, byte, kind),
+        Place::Comment => read_comment(parts, source, at, byte, kind),
+        Place::Between => read_between(parts, alloc, source, at, byte, kind),
+        Place::Bare => read_bare(parts, alloc, source, at, byte, kind),
+        Place::Dollar => read_dollar(parts, alloc, source, at, byte, kind),
+        Place::Colon => read_colon(parts, alloc, source, at, byte, kind),
+        Place::Colons => read_colons(parts, alloc, source, at, byte, kind),
+        Place::Name => read_name(parts, alloc, source, at, byte, kind),
+        Place::Brace(depth) => read_brace(parts, source, at, byte, kind, depth),
+        Place::Braced => read_braced(parts, alloc, source, at, byte, kind),
     }
 }
 
 /// The source ends in a command, and its last word with it.
-fn finish_word(open: &mut Open, alloc: Global, source: &str, place: Place) -> Result<(), ParseFault>
+fn finish_word(
+    parts: &mut Open,
+    alloc: Global,
+    source: &str,
+    place: Place,
+) -> Result<(), ParseFault>
     requires short { length source.now ≤ 65536 }
-    requires fine { IsFine open.old source.now place (length source.now) }
+    requires fine { IsFine parts.old source.now place (length source.now) }
     requires command { (place ≢ Place.Start) × (place ≢ Place.Comment) }
-    ensures { EndsLastWord open.old open.new source.now place (length source.now) result }
+    ensures { EndsLastWord parts.old parts.new source.now place (length source.now) result }
 {
     let at = source.len();
     match place {
         Place::Start | Place::Comment => unreachable!(),
         Place::Between => Ok(()),
         Place::Bare | Place::Dollar | Place::Colon | Place::Colons => {
-            open.end_bare_word(alloc, source, at)?;
+            parts.end_bare_word(alloc, source, at)?;
             Ok(())
         }
         Place::Name => {
-            open.end_name(alloc, source, at)?;
-            open.end_bare_word(alloc, source, at)?;
+            parts.end_name(alloc, source, at)?;
+            parts.end_bare_word(alloc, source, at)?;
             Ok(())
         }
         Place::Brace(_) => Err(ParseFault::MissingBrace),
         Place::Braced => {
-            open.end_braced_word(alloc, source, at)?;
+            parts.end_braced_word(alloc, source, at)?;
             Ok(())
         }
     }
 }
 
 /// The source ends.
-pub fn finish(open: &mut Open, alloc: Global, source: &str, place: Place) -> Result<(), ParseFault>
+pub fn finish(parts: &mut Open, alloc: Global, source: &str, place: Place) -> Result<(), ParseFault>
     requires short { length source.now ≤ 65536 }
-    requires fine { IsFine open.old source.now place (length source.now) }
-    ensures { Ends open.old open.new source.now place (length source.now) result }
+    requires fine { IsFine parts.old source.now place (length source.now) }
+    ensures { Ends parts.old parts.new source.now place (length source.now) result }
 {
     match place {
         Place::Start | Place::Comment => Ok(()),
         _ => {
-            finish_word(open, alloc, source, place)?;
-            open.end_command(alloc)?;
+            finish_word(parts, alloc, source, place)?;
+            parts.end_command(alloc)?;
             Ok(())
         }
     }

@@ -172,7 +172,7 @@ impl Model for Script {
 
 impl Words {
     /// These words. It takes no memory.
-    pub fn from_vec(words: Vec<Word>) -> Words
+    pub(crate) fn from_vec(words: Vec<Word>) -> Words
         ensures { result ≡ words.items }
     {
         Words { words }
@@ -188,7 +188,7 @@ impl Words {
 
 impl Pieces {
     /// These pieces. It takes no memory.
-    pub fn from_vec(pieces: Vec<Piece>) -> Pieces
+    pub(crate) fn from_vec(pieces: Vec<Piece>) -> Pieces
         ensures { result ≡ pieces.items }
     {
         Pieces { pieces }

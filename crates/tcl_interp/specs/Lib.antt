@@ -9,6 +9,8 @@ pub mod Outside
 pub mod Quiet
 pub mod Rests
 pub mod Runs
+pub mod Sample
+pub mod SampleFalls
 pub mod Scripts
 pub mod Steps
 pub mod Texts

@@ -9,6 +9,8 @@ mod moves;
 mod slices;
 mod steps;
 mod tasks;
+#[cfg(test)]
+mod tests;
 mod texts;
 mod words;
 

@@ -1,0 +1,4 @@
+-- What the contracts cite.
+pub mod Application
+pub mod Rect
+pub mod Section

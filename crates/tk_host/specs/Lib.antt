@@ -1,4 +1,10 @@
 -- What the contracts cite.
+pub mod Alone
 pub mod Application
+pub mod Held
 pub mod Rect
+pub mod Refusals
 pub mod Section
+pub mod Shown
+pub mod Spec
+pub mod Stub

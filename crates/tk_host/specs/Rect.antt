@@ -15,5 +15,5 @@ abbrev pub Meet : ℕ → ℕ → ℕ → ℕ → Type 0
 Meet start length other_start other_length = (place : ℕ) × IsWithin start length place × IsWithin other_start other_length place
 
 -- some pixel lies in both
-abbrev pub Overlap : Rect → Rect → Type 0
-Overlap a b = (x : ℕ) × (y : ℕ) × HoldsPixel a x y × HoldsPixel b x y
+abbrev pub SharePixel : Rect → Rect → Type 0
+SharePixel a b = (x : ℕ) × (y : ℕ) × HoldsPixel a x y × HoldsPixel b x y

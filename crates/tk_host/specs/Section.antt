@@ -6,6 +6,7 @@ use Rattle.tk_host.specs.declared.transcript.Stream.{Stream}
 use Rattle.tk_host.specs.declared.transcript.Stream.TheVariants.{Out, Err}
 use Rattle.tk_host.specs.declared.transcript.Line.{Line}
 use Rattle.tk_host.specs.declared.window.Window.{Window}
+use Rattle.tk_host.specs.Application.{Application}
 
 abbrev pub state_name : AppState → List ℕ
 state_name Running = codes "running"
@@ -40,3 +41,13 @@ abbrev pub window_line : Window → List ℕ
 window_line window =
     let place = window.place in
     codes "win . Tk" ++ field place.x ++ field place.y ++ field place.width ++ field place.height ++ field (flag window.mapped) ++ codes "\n"
+
+-- `app NAME STATE STEPS_LEFT`
+abbrev pub head_line : List ℕ → AppState → ℕ → List ℕ
+head_line name state steps = codes "app " ++ name ++ codes " " ++ state_name state ++ field steps ++ codes "\n"
+
+-- what an application wrote, its windows, and its timers, of which there are none
+abbrev pub section : Application → List ℕ
+section application =
+    head_line application.name application.state application.steps ++ flat_map transcript_line application.shown.transcript ++ codes "tree\n"
+    ++ window_line application.window ++ codes "timers\n" ++ codes "done\n"

@@ -1,15 +1,23 @@
 //! Applications side by side in one host, and the section that each of them ends with.
 #![tactic(auto)]
 
+mod application;
+mod console;
 mod fault;
+mod host;
+mod phase;
 mod rect;
 mod section;
+mod spec;
 mod state;
 mod transcript;
 mod window;
 
 pub use fault::HostFault;
+pub use host::Host;
+pub use phase::Phase;
 pub use rect::Rect;
+pub use spec::{MAX_BUDGET, MAX_PIXELS, is_name};
 pub use state::AppState;
 pub use transcript::{Line, Stream};
 pub use window::Window;

@@ -1,5 +1,5 @@
 ghost use Rattle.std.specs.Prelude.{◌↔◌, IsTrue};
-ghost use Rattle.tk_host.specs.Rect.{Meet, Overlap};
+ghost use Rattle.tk_host.specs.Rect.{Meet, SharePixel};
 
 /// A rectangle of the screen, in pixels from its upper left corner.
 #[derive(Clone, Copy, Debug, PartialEq, Eq)]
@@ -13,7 +13,7 @@ pub struct Rect {
 impl Rect {
     /// Whether some pixel lies in both rectangles.
     pub fn overlaps(self, other: Rect) -> bool
-        ensures { IsTrue result ↔ Overlap self other }
+        ensures { IsTrue result ↔ SharePixel self other }
     {
         meet(self.x, self.width, other.x, other.width)
             && meet(self.y, self.height, other.y, other.height)

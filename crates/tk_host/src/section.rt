@@ -1,6 +1,7 @@
 ghost use Rattle.std.specs.Prelude.{◌≡◌, ◌++◌, OnOk, codes, decimal, flat_map};
-ghost use Rattle.tk_host.specs.Section.{escaped_byte, escaped, field, transcript_line, window_line};
+ghost use Rattle.tk_host.specs.Section.{escaped_byte, escaped, field, head_line, transcript_line, window_line};
 
+use crate::state::AppState;
 use crate::transcript::Line;
 use crate::window::Window;
 use itoa::Buffer;
@@ -49,7 +50,7 @@ fn push_transcript_line(out: &mut Vec<u8>, line: &Line) -> Result<(), AllocError
 }
 
 /// Adds the lines of a transcript.
-fn push_transcript(out: &mut Vec<u8>, lines: &[Line]) -> Result<(), AllocError>
+pub fn push_transcript(out: &mut Vec<u8>, lines: &[Line]) -> Result<(), AllocError>
     ensures { OnOk result (out.new.items ≡ out.old.items ++ flat_map transcript_line lines.now) }
 {
     for line in lines {
@@ -67,7 +68,7 @@ fn push_field(out: &mut Vec<u8>, number: u64) -> Result<(), AllocError>
 }
 
 /// Adds the line of the main window.
-fn push_window(out: &mut Vec<u8>, window: Window) -> Result<(), AllocError>
+pub fn push_window(out: &mut Vec<u8>, window: Window) -> Result<(), AllocError>
     ensures { OnOk result (out.new.items ≡ out.old.items ++ window_line window) }
 {
     out.extend_from_slice(b"win . Tk")?;
@@ -76,5 +77,22 @@ fn push_window(out: &mut Vec<u8>, window: Window) -> Result<(), AllocError>
     push_field(out, u64::from(window.place.width))?;
     push_field(out, u64::from(window.place.height))?;
     push_field(out, u64::from(window.mapped))?;
+    Ok(out.push(b'\n')?)
+}
+
+/// Adds the line that an application's section begins with.
+pub fn push_head(
+    out: &mut Vec<u8>,
+    name: &str,
+    state: AppState,
+    steps: u64,
+) -> Result<(), AllocError>
+    ensures { OnOk result (out.new.items ≡ out.old.items ++ head_line name.now state steps) }
+{
+    out.extend_from_slice(b"app ")?;
+    out.extend_from_slice(name.as_bytes())?;
+    out.push(b' ')?;
+    out.extend_from_slice(state.as_str().as_bytes())?;
+    push_field(out, steps)?;
     Ok(out.push(b'\n')?)
 }

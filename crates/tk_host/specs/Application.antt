@@ -1,9 +1,9 @@
 -- An application as lists and values.
 use Rattle.std.specs.Prelude.{ℕ, true, false, List, []}
 use Rattle.tk_host.specs.declared.window.Window.{Window}
+use Rattle.tk_host.specs.declared.transcript.Line.{Line}
 use Rattle.tk_host.specs.declared.state.AppState.{AppState}
 use Rattle.tk_host.specs.declared.state.AppState.TheVariants.{Running}
-use Rattle.tk_host.specs.Shown.{Shown}
 use Rattle.tk_host.specs.Spec.{Spec}
 use Rattle.tk_host.specs.Stub.{Store, no_variables}
 
@@ -20,7 +20,7 @@ pub record Application : Type 0 where
   pub width : ℕ
   pub height : ℕ
   pub store : Store
-  pub shown : Shown
+  pub transcript : List Line
   pub window : Window
   pub title : List ℕ
   pub steps : ℕ
@@ -33,7 +33,7 @@ fresh spec = record {
   width = spec.width;
   height = spec.height;
   store = no_variables;
-  shown = record { moment = 0; transcript = [] };
+  transcript = [];
   window = unlaid;
   title = spec.name;
   steps = spec.budget;

@@ -5,7 +5,7 @@ use Rattle.tk_host.specs.declared.phase.Phase.TheVariants.{Adding, Reached, Fini
 use Rattle.tk_host.specs.declared.rect.Rect.{Rect}
 use Rattle.tk_host.specs.Spec.{Spec, Given, rect_of}
 use Rattle.tk_host.specs.Application.{Application, fresh}
-use Rattle.tk_host.specs.Alone.{begun, at_moment, alone}
+use Rattle.tk_host.specs.Alone.{settled, after_script, alone}
 
 -- what a host holds for an application: its rectangle on the screen, itself, and the script that it still has to run
 pub record Part : Type 0 where
@@ -26,17 +26,13 @@ empty = record { phase = Adding; parts = [] }
 abbrev pub added : Given → Part
 added app = record { rect = rect_of app; application = fresh app.spec; waiting = Some app.spec.script }
 
--- an application that has run the script that waited
-abbrev pub begun_waiting : Option (List ℕ) → Application → Application
-begun_waiting None application = application
-begun_waiting (Some script) application = begun script application
+-- an application that has run the script that waited, and done what comes of it
+abbrev pub begun : Option (List ℕ) → Application → Application
+begun None application = application
+begun (Some script) application = settled (after_script 0 script application)
 
 abbrev pub started : Part → Part
-started part = record part { application = begun_waiting part.waiting part.application; waiting = None }
-
--- an application for which the clock has gone on to a moment
-abbrev pub passed : ℕ → Part → Part
-passed moment part = record part { application = at_moment moment part.application }
+started part = record part { application = begun part.waiting part.application; waiting = None }
 
 -- a host with one application more
 abbrev pub with_app : Given → Held → Held
@@ -48,7 +44,7 @@ after_start held = record { phase = Reached 0; parts = map started held.parts }
 
 -- a host that has come to its end at a moment
 abbrev pub after_end : ℕ → Held → Held
-after_end moment held = record { phase = Finished moment; parts = map (passed moment) held.parts }
+after_end moment held = record held { phase = Finished moment }
 
 -- a call that was not refused
 pub data Call : Type 0 where

@@ -5,6 +5,7 @@ pub mod Held
 pub mod Rect
 pub mod Refusals
 pub mod Section
+pub mod Sections
 pub mod Shown
 pub mod Spec
 pub mod Stub

@@ -47,7 +47,7 @@ abbrev pub head_line : List ℕ → AppState → ℕ → List ℕ
 head_line name state steps = codes "app " ++ name ++ codes " " ++ state_name state ++ field steps ++ codes "\n"
 
 -- what an application wrote, its windows, and its timers, of which there are none
-abbrev pub section : Application → List ℕ
+unfoldable pub section : Application → List ℕ
 section application =
-    head_line application.name application.state application.steps ++ flat_map transcript_line application.shown.transcript ++ codes "tree\n"
+    head_line application.name application.state application.steps ++ flat_map transcript_line application.transcript ++ codes "tree\n"
     ++ window_line application.window ++ codes "timers\n" ++ codes "done\n"

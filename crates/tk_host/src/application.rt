@@ -27,31 +27,37 @@ impl Model for Application {
     ghost Value = { Part };
 
     ghost view = { λ a. record {
-        rect = a.rect;
-        application = record {
-            name = a.name;
-            width = a.rect.width;
-            height = a.rect.height;
-            store = no_variables;
-            shown = a.console;
-            window = a.window;
-            title = a.title;
-            steps = a.steps;
-            state = a.state
-        };
-        waiting = a.script
+      rect = a.rect;
+      application = record {
+        name = a.name;
+        width = a.rect.width;
+        height = a.rect.height;
+        store = no_variables;
+        transcript = a.console.transcript;
+        window = a.window;
+        title = a.title;
+        steps = a.steps;
+        state = a.state;
+      };
+      waiting = a.script;
     } };
 }
 
 impl Application {
     ghost use Rattle.std.specs.Prelude.{◌≡◌, ◌↔◌, IsTrue, IfOk, OnOk, OnErr};
-    ghost use Rattle.tk_host.specs.Held.{added, started, passed};
+    ghost use Rattle.tk_host.specs.Held.{added, started};
     ghost use Rattle.tk_host.specs.Rect.{SharePixel};
     ghost use Rattle.tk_host.specs.Section.{section};
     ghost use Rattle.tk_host.specs.Spec.{given};
 
     /// An application before its script.
-    pub fn new(alloc: Global, name: Text, rect: Rect, script: Text, budget: u64) -> Result<Application, AllocError>
+    pub fn new(
+        alloc: Global,
+        name: Text,
+        rect: Rect,
+        script: Text,
+        budget: u64,
+    ) -> Result<Application, AllocError>
         ensures { IfOk result (λ application. application ≡ added (given name rect script budget)) }
     {
         let title = name.copy()?;
@@ -88,14 +94,8 @@ impl Application {
         Err(AllocError)
     }
 
-    /// Goes on to a moment.
-    pub fn pass(&mut self, moment: u64)
-        ensures { self.new ≡ passed moment self.old }
-    {
-        self.console.set_moment(moment);
-    }
-
     /// What it wrote and what is left of it.
+    #[tactic(auto, unfolding(crate::specs::Section::section))]
     pub fn section(&self, alloc: Global) -> Result<Vec<u8>, AllocError>
         ensures { IfOk result (λ bytes. bytes.items ≡ section self.now.application) }
     {

@@ -52,10 +52,12 @@ impl Console {
         ensures err { OnErr result (self.new ≡ self.old) }
     {
         let moment = self.moment;
-        Ok(self.transcript.push(Line {
-            stream,
-            moment,
-            text,
-        })?)
+        Ok(
+            self.transcript.push(Line {
+                stream,
+                moment,
+                text,
+            })?,
+        )
     }
 }

@@ -1,5 +1,5 @@
 ghost use Rattle.std.specs.Prelude.{◌≡◌, ◌↔◌, ℕ, List, map, IsTrue, Any, OnOk, MatchResult};
-ghost use Rattle.tk_host.specs.Held.{passed, started};
+ghost use Rattle.tk_host.specs.Held.{started};
 ghost use Rattle.tk_host.specs.Rect.{SharePixel};
 ghost use Rattle.tk_host.specs.Refusals.{IsRefusal, NoneApplies, app_faults, PartsRefuse};
 ghost use Rattle.tk_host.specs.Spec.{given};
@@ -40,8 +40,9 @@ impl Model for Host {
 }
 
 impl Host {
-    ghost use Rattle.std.specs.Prelude.{◌≡◌, ◌≢◌, ◌≤◌, ℕ, List, map, slice_get, IfOk, IfErr, OnOk, OnErr, MatchResult};
-    ghost use Rattle.tk_host.specs.Held.{empty, with_app, after_start, after_end};
+    ghost use Rattle.std.specs.Prelude.{◌≡◌, ◌≢◌, ◌≤◌, ℕ, List, [], ◌∷◌, ◌++◌, map, slice_get, IfOk, IfErr, OnOk, OnErr, MatchResult};
+    ghost use Rattle.tk_host.specs.Held.{AddApp, Call, End, Start, after_end, after_start, held_after, with_app};
+    ghost use Rattle.tk_host.specs.Sections.{sections_after};
     ghost use Rattle.tk_host.specs.Spec.{given};
     ghost use Rattle.tk_host.specs.Refusals.{IsRefusal, LeftBy, NoneApplies, PhaseRefuses, RefusesApp, RefusesEnd, RefusesSection, add_faults, end_faults, section_faults, start_faults};
     ghost use Rattle.tk_host.specs.Section.{section};
@@ -49,7 +50,7 @@ impl Host {
     /// A host without applications, whose applications take turns of at most `slice` steps.
     pub fn new(alloc: Global, slice: u64) -> Host
         requires { 1 ≤ slice }
-        ensures { result ≡ empty }
+        ensures { result ≡ held_after [] }
     {
         Host {
             alloc,
@@ -71,6 +72,7 @@ impl Host {
         ensures unless { OnOk result (NoneApplies (RefusesApp self.old (given name rect script budget)) add_faults) }
         ensures refused { IfErr result (IsRefusal (RefusesApp self.old (given name rect script budget)) add_faults) }
         ensures unchanged { OnErr result (self.new ≡ self.old) }
+        ensures history { (calls : List Call) → self.old ≡ held_after calls → OnOk result (self.new ≡ held_after (calls ++ AddApp (given name rect script budget) ∷ [])) }
     {
         self.may_add(&name, rect, budget)?;
         let application = Application::new(self.alloc, name, rect, script, budget)?;
@@ -84,6 +86,7 @@ impl Host {
         ensures unless { OnOk result (NoneApplies (PhaseRefuses self.old.phase) start_faults) }
         ensures refused { IfErr result (IsRefusal (PhaseRefuses self.old.phase) start_faults) }
         ensures left { IfErr result (λ fault. LeftBy fault self.old self.new) }
+        ensures history { (calls : List Call) → self.old ≡ held_after calls → OnOk result (self.new ≡ held_after (calls ++ Start ∷ [])) }
     {
         match self.phase {
             Phase::Adding => {}
@@ -104,6 +107,7 @@ impl Host {
         ensures unless { OnOk result (NoneApplies (RefusesEnd self.old moment) end_faults) }
         ensures refused { IfErr result (IsRefusal (RefusesEnd self.old moment) end_faults) }
         ensures left { IfErr result (λ fault. LeftBy fault self.old self.new) }
+        ensures history { (calls : List Call) → self.old ≡ held_after calls → OnOk result (self.new ≡ held_after (calls ++ End moment ∷ [])) }
     {
         let reached = match self.phase {
             Phase::Adding => unreachable!(),
@@ -117,8 +121,6 @@ impl Host {
         if moment < reached {
             return Err(HostFault::TimeBack);
         }
-        self.phase = Phase::Lost;
-        pass_all(self.applications.as_mut_slice(), moment);
         self.phase = Phase::Finished(moment);
         Ok(())
     }
@@ -128,6 +130,7 @@ impl Host {
         ensures section { IfOk result (λ bytes. slice_get (map (λ part. section part.application) self.now.parts) slot ≡ Some bytes.items) }
         ensures unless { OnOk result (NoneApplies (RefusesSection self.now slot) section_faults) }
         ensures refused { IfErr result (IsRefusal (RefusesSection self.now slot) section_faults) }
+        ensures history { (calls : List Call) → self.now ≡ held_after calls → IfOk result (λ bytes. slice_get (sections_after calls) slot ≡ Some bytes.items) }
     {
         if let Phase::Lost = self.phase {
             return Err(HostFault::Broken);
@@ -183,14 +186,18 @@ fn test_app(
 fn is_name_taken(applications: &[Application], name: &Text) -> bool
     ensures { IsTrue result ↔ Any (λ part. part.application.name ≡ name.now) applications.now }
 {
-    applications.iter().any(|application| application.has_name(name))
+    applications
+        .iter()
+        .any(|application| application.has_name(name))
 }
 
 /// Whether an application's rectangle shares a pixel with this one.
 fn is_place_taken(applications: &[Application], rect: Rect) -> bool
     ensures { IsTrue result ↔ Any (λ part. SharePixel part.rect rect) applications.now }
 {
-    applications.iter().any(|application| application.overlaps(rect))
+    applications
+        .iter()
+        .any(|application| application.overlaps(rect))
 }
 
 /// Runs the script of each application.
@@ -201,13 +208,4 @@ fn start_all(applications: &mut [Application]) -> Result<(), AllocError>
         application.start()?;
     }
     Ok(())
-}
-
-/// Takes each application on to a moment.
-fn pass_all(applications: &mut [Application], moment: u64)
-    ensures { applications.new ≡ map (passed moment) applications.old }
-{
-    for application in applications.iter_mut() {
-        application.pass(moment);
-    }
 }

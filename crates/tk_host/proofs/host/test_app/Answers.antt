@@ -11,18 +11,29 @@ returns-then-applications-ge-MAX_APPLICATIONS c = λ script.
 
 pub returns-then-is_name_taken : goal.returns-then-is_name_taken
 returns-then-is_name_taken c = λ script.
-    inr (λ out. out ((c.is_in_range.ensures script).0 c.if-not-is_in_range.false),
-    inr (λ full. absurd (omega arith), inl (c.is_name_taken.ensures.0 c.if-is_name_taken.true, refl)))
+    inr (
+      λ out. out ((c.is_in_range.ensures script).0 c.if-not-is_in_range.false),
+      inr (λ full. absurd (omega arith), inl (c.is_name_taken.ensures.0 c.if-is_name_taken.true, refl)),
+    )
 
 pub returns-then-is_place_taken : goal.returns-then-is_place_taken
 returns-then-is_place_taken c = λ script.
-    inr (λ out. out ((c.is_in_range.ensures script).0 c.if-not-is_in_range.false),
-    inr (λ full. absurd (omega arith),
-    inr (iff_false c.is_name_taken.ensures c.if-is_name_taken.false, inl (c.is_place_taken.ensures.0 c.if-is_place_taken.true, refl))))
+    inr (
+      λ out. out ((c.is_in_range.ensures script).0 c.if-not-is_in_range.false),
+      inr (
+        λ full. absurd (omega arith),
+        inr (iff_false c.is_name_taken.ensures c.if-is_name_taken.false, inl (c.is_place_taken.ensures.0 c.if-is_place_taken.true, refl)),
+      ),
+    )
 
 pub returns : goal.returns
-returns c = λ script.
-    (λ out. out ((c.is_in_range.ensures script).0 c.if-not-is_in_range.false),
-    (λ full. absurd (omega arith),
-    (iff_false c.is_name_taken.ensures c.if-is_name_taken.false,
-    (iff_false c.is_place_taken.ensures c.if-is_place_taken.false, tt))))
+returns c = λ script. (
+  λ out. out ((c.is_in_range.ensures script).0 c.if-not-is_in_range.false),
+  (
+    λ full. absurd (omega arith),
+    (
+      iff_false c.is_name_taken.ensures c.if-is_name_taken.false,
+      (iff_false c.is_place_taken.ensures c.if-is_place_taken.false, tt),
+    ),
+  ),
+)

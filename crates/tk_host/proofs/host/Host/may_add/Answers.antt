@@ -9,4 +9,4 @@ returns-in-Adding c = λ script.
     let adding : c.args.self.now.phase ≡ Adding = sym (ap (λ h. h.phase) c.self.view_is) ∙ c.in-Adding.is in
     let parts : c.as_slice.result.now ≡ c.args.self.now.parts = c.as_slice.ensures.value ∙ ap (λ h. h.parts) c.self.view_is in
     decided_by_parts c.args.self.now (given c.args.name.now c.args.rect script c.args.budget) c.test_app.result adding
-        (rw parts at (c.test_app.ensures script))
+    (rw parts at (c.test_app.ensures script))

@@ -1,22 +1,27 @@
 -- What becomes of an application, whatever else there is.
-use Rattle.std.specs.Prelude.{ℕ, List, codes}
+use Rattle.std.specs.Prelude.{ℕ, List, []}
+use Rattle.tcl_interp.specs.declared.tasks.Code.{Code}
+use Rattle.tcl_interp.specs.declared.tasks.Code.TheVariants.{Error}
+use Rattle.tcl_interp.specs.Evaluation.{State, Outcome, Ended, OutOfSteps, and_then}
+use Rattle.tcl_interp.specs.Scripts.{script_meaning, out_of_global}
+use Rattle.tcl_interp.specs.Finish.{at_global}
+use Rattle.tk_host.specs.Outside.{outside}
 use Rattle.tk_host.specs.declared.state.AppState.{AppState}
 use Rattle.tk_host.specs.declared.state.AppState.TheVariants.{Running, Exhausted, Closed}
 use Rattle.tk_host.specs.declared.transcript.Stream.TheVariants.{Err}
 use Rattle.tk_host.specs.Shown.{Shown, with_line}
 use Rattle.tk_host.specs.Spec.{Spec}
 use Rattle.tk_host.specs.Application.{Application, fresh, laid_out}
-use Rattle.tk_host.specs.Stub.{State, Code, Outcome, script_at_global}
-use Rattle.tk_host.specs.Stub.Code.{Normal, Error, Return, Break, Continue}
-use Rattle.tk_host.specs.Stub.Outcome.{Ended, OutOfSteps}
 
--- What is told when a script at global level has ended. A break or a continue has no loop to end there.
+-- What a script at global level comes to, with room for 200 scripts one in another. There is no loop around it, and a return has become
+-- its -code.
+abbrev pub script_at_global : List ℕ → State Shown → Outcome Shown
+script_at_global script state = and_then (script_meaning outside [] 200 0 script state) (λ left code text. at_global left (out_of_global code) text)
+
+-- what is told when it has ended: an error
 abbrev pub reported : Code → List ℕ → Shown → Shown
-reported Normal text shown = shown
-reported (Return code) text shown = shown
 reported Error text shown = with_line Err text shown
-reported Break text shown = with_line Err (codes "invoked \"break\" outside of a loop") shown
-reported Continue text shown = with_line Err (codes "invoked \"continue\" outside of a loop") shown
+reported code text shown = shown
 
 -- the application that an evaluation leaves
 abbrev pub with_left : State Shown → Application → Application

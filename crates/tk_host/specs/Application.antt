@@ -1,11 +1,11 @@
 -- An application as lists and values.
-use Rattle.std.specs.Prelude.{ℕ, true, false, List, []}
+use Rattle.std.specs.Prelude.{ℕ, true, false, List, [], ◌∷◌}
 use Rattle.tk_host.specs.declared.window.Window.{Window}
 use Rattle.tk_host.specs.declared.transcript.Line.{Line}
 use Rattle.tk_host.specs.declared.state.AppState.{AppState}
 use Rattle.tk_host.specs.declared.state.AppState.TheVariants.{Running}
 use Rattle.tk_host.specs.Spec.{Spec}
-use Rattle.tk_host.specs.Stub.{Store, no_variables}
+use Rattle.tcl_vars.specs.Store.{Store}
 
 -- a window that was never laid out
 abbrev pub unlaid : Window
@@ -26,13 +26,13 @@ pub record Application : Type 0 where
   pub steps : ℕ
   pub state : AppState
 
--- an application before its script
+-- an application before its script, with no variables
 abbrev pub fresh : Spec → Application
 fresh spec = record {
   name = spec.name;
   width = spec.width;
   height = spec.height;
-  store = no_variables;
+  store = [] ∷ [];
   transcript = [];
   window = unlaid;
   title = spec.name;

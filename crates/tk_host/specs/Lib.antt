@@ -6,6 +6,6 @@ pub mod Rect
 pub mod Refusals
 pub mod Section
 pub mod Sections
+pub mod Outside
 pub mod Shown
 pub mod Spec
-pub mod Stub

@@ -22,7 +22,7 @@ pub struct Application {
 
 impl Model for Application {
     ghost use Rattle.tk_host.specs.Held.{Part};
-    ghost use Rattle.tk_host.specs.Stub.{no_variables};
+    ghost use Rattle.std.specs.Prelude.{[], ◌∷◌};
 
     ghost Value = { Part };
 
@@ -32,7 +32,7 @@ impl Model for Application {
         name = a.name;
         width = a.rect.width;
         height = a.rect.height;
-        store = no_variables;
+        store = [] ∷ [];
         transcript = a.console.transcript;
         window = a.window;
         title = a.title;

@@ -5,6 +5,7 @@ mod application;
 mod console;
 mod fault;
 mod host;
+mod message;
 mod phase;
 mod rect;
 mod section;

@@ -4,6 +4,7 @@ pub mod Application
 pub mod Held
 pub mod Rect
 pub mod Refusals
+pub mod Running
 pub mod Section
 pub mod Sections
 pub mod Outside

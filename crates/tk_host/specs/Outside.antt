@@ -1,7 +1,6 @@
 -- The commands that an application serves itself.
 use Rattle.std.specs.Prelude.{ℕ, List, [], ◌∷◌, ◌++◌, if◌then◌else◌, codes, bytes_eq}
 use Rattle.tcl_vars.specs.Store.{Store}
-use Rattle.tcl_interp.specs.declared.tasks.Act.{Act}
 use Rattle.tcl_interp.specs.declared.tasks.Act.TheVariants.{Done, Unknown}
 use Rattle.tcl_interp.specs.declared.tasks.Code.TheVariants.{Normal, Error}
 use Rattle.tcl_interp.specs.Outside.{Outside, Told}

@@ -63,11 +63,13 @@ impl Console {
         ensures err { OnErr result (self.new ≡ self.old) }
     {
         let moment = self.moment;
-        Ok(self.transcript.push(Line {
-            stream,
-            moment,
-            text,
-        })?)
+        Ok(
+            self.transcript.push(Line {
+                stream,
+                moment,
+                text,
+            })?,
+        )
     }
 
     /// Writes a line, and answers the empty text.

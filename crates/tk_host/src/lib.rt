@@ -8,6 +8,7 @@ mod host;
 mod message;
 mod phase;
 mod rect;
+mod running;
 mod section;
 mod spec;
 mod state;

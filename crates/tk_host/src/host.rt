@@ -1,4 +1,4 @@
-ghost use Rattle.std.specs.Prelude.{◌≡◌, ◌↔◌, ℕ, List, map, IsTrue, Any, OnOk, MatchResult};
+ghost use Rattle.std.specs.Prelude.{◌≡◌, ◌<◌, ◌↔◌, ℕ, List, map, IsTrue, Any, OnOk, MatchResult};
 ghost use Rattle.tk_host.specs.Held.{started};
 ghost use Rattle.tk_host.specs.Rect.{SharePixel};
 ghost use Rattle.tk_host.specs.Refusals.{IsRefusal, NoneApplies, app_faults, PartsRefuse};
@@ -95,7 +95,7 @@ impl Host {
             Phase::Lost => return Err(HostFault::Broken),
         }
         self.phase = Phase::Lost;
-        start_all(self.applications.as_mut_slice())?;
+        start_all(self.applications.as_mut_slice(), self.slice)?;
         self.phase = Phase::Reached(0);
         Ok(())
     }
@@ -201,11 +201,12 @@ fn is_place_taken(applications: &[Application], rect: Rect) -> bool
 }
 
 /// Runs the script of each application.
-fn start_all(applications: &mut [Application]) -> Result<(), AllocError>
+fn start_all(applications: &mut [Application], slice: u64) -> Result<(), AllocError>
+    requires { 0 < slice }
     ensures { OnOk result (applications.new ≡ map started applications.old) }
 {
     for application in applications.iter_mut() {
-        application.start()?;
+        application.start(slice)?;
     }
     Ok(())
 }

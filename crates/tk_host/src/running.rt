@@ -31,7 +31,8 @@ fn run_to_end(
     requires positive { 0 < slice }
     requires begun { rest_of interp.old ≢ Idle }
     requires own { replaced_in interp.old ≡ [] }
-    ensures { IfOk result (λ end. ComesTo end (finish outside [] (rest_of interp.old) (state_of interp.old console.old scopes.old)) (state_of interp.new console.new scopes.new)) }
+    ensures end { IfOk result (λ end. ComesTo end (finish outside [] (rest_of interp.old) (state_of interp.old console.old scopes.old)) (state_of interp.new console.new scopes.new)) }
+    ensures own { replaced_in interp.new ≡ [] }
 {
     'slices: loop {
         match interp.run_slice(console, scopes, slice)? {
@@ -63,7 +64,8 @@ pub fn run_script(
     requires positive { 0 < slice }
     requires idle { rest_of interp.old ≡ Idle }
     requires own { replaced_in interp.old ≡ [] }
-    ensures { IfOk result (λ enough. Leaves (script_at_global script (state_of interp.old console.old scopes.old)) enough (state_of interp.new console.new scopes.new)) }
+    ensures left { IfOk result (λ enough. Leaves (script_at_global script (state_of interp.old console.old scopes.old)) enough (state_of interp.new console.new scopes.new)) }
+    ensures own { replaced_in interp.new ≡ [] }
 {
     interp.begin(script)?;
     match run_to_end(interp, console, scopes, slice)? {

@@ -1,14 +1,16 @@
 -- One call more after a list of calls.
 use Rattle.std.proofs.Common.{◌≡◌, ℕ, List, [], ◌∷◌, ◌++◌, map, refl, sym, ap, ◌∙◌}
 use Rattle.std.proofs.lemmas.List.{map-append, append-nil}
+use Rattle.std.proofs.lemmas.Option.{slice_get-map}
+use Rattle.std.specs.Prelude.{Some, option_map}
 use Rattle.tk_host.specs.declared.fault.HostFault.TheVariants.{Started, Ended, Broken}
 use Rattle.tk_host.specs.declared.phase.Phase.{Phase}
 use Rattle.tk_host.specs.declared.phase.Phase.TheVariants.{Adding, Reached, Finished, Lost}
 use Rattle.tk_host.specs.Spec.{Given}
-use Rattle.tk_host.specs.Held.{Held, Part, Call, AddApp, Start, End, started, with_app, after_start, after_end, given_by, phase_after, part_in, held_after}
+use Rattle.tk_host.specs.Held.{Held, Part, Call, AddApp, Start, End, started, with_app, after_start, after_end, given_by, phase_after, application_in, part_in, held_after}
 use Rattle.tk_host.specs.Refusals.{PhaseRefuses}
 use Rattle.tk_host.specs.Section.{section}
-use Rattle.tk_host.specs.Sections.{sections_after}
+use Rattle.tk_host.specs.Sections.{EachByItself, sections_after}
 
 -- a phase that refuses nothing is that of adding applications
 pub adding_if_not_refused : (phase : Phase) → ¬ PhaseRefuses phase Broken → ¬ PhaseRefuses phase Ended → ¬ PhaseRefuses phase Started → phase ≡ Adding
@@ -93,3 +95,12 @@ pub sections_of_held : (calls : List Call) (held : Held) → held ≡ held_after
 sections_of_held calls held e =
     ap (λ h. map (λ (part : Part). section part.application) h.parts) e
     ∙ map-map (λ (part : Part). section part.application) (part_in (phase_after Adding calls)) (given_by calls)
+
+pub each_by_itself_holds : EachByItself
+each_by_itself_holds calls others slot app other phases is there same =
+    let section_in : Phase → Given → List ℕ = λ phase app. section (application_in phase app.spec) in
+    let here : Phase = phase_after Adding calls in
+    let elsewhere : Phase = phase_after Adding others in
+    slice_get-map (section_in here) (given_by calls) slot ∙ ap (option_map (section_in here)) is
+    ∙ ap (λ phase. Some (section (application_in phase app.spec))) phases ∙ ap (λ spec. Some (section (application_in elsewhere spec))) same
+    ∙ sym (slice_get-map (section_in elsewhere) (given_by others) slot ∙ ap (option_map (section_in elsewhere)) there)

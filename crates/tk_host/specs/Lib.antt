@@ -1,6 +1,7 @@
 -- What the contracts cite.
 pub mod Alone
 pub mod Application
+pub mod Fault
 pub mod Held
 pub mod Rect
 pub mod Refusals

@@ -1,5 +1,5 @@
 -- When the calls of a host are refused, and with which fault.
-use Rattle.std.specs.Prelude.{◌≡◌, ℕ, ◌<◌, ◌≤◌, ◌⊎◌, List, [], ◌∷◌, length, Any}
+use Rattle.std.specs.Prelude.{Bool, IsTrue, ◌≡◌, ℕ, ◌<◌, ◌≤◌, ◌⊎◌, List, [], ◌∷◌, length, Any}
 use Rattle.tk_host.specs.declared.fault.HostFault.{HostFault}
 use Rattle.tk_host.specs.declared.fault.HostFault.TheVariants.{Overlap, TimeBack, BadValue, NoApp, TooManyApps, NameTaken, Started, Ended, Broken, NoMemory}
 use Rattle.tk_host.specs.declared.phase.Phase.{Phase}
@@ -75,3 +75,10 @@ section_faults = Broken ∷ NoApp ∷ []
 abbrev pub RefusesSection : Held → ℕ → HostFault → Type 0
 RefusesSection held slot NoApp = length held.parts ≤ slot
 RefusesSection held slot found = PhaseRefuses held.phase found
+
+-- a fault of a list is the only one that is the first to apply, and none is where none applies
+abbrev pub OneRefusal : Type 0
+OneRefusal =
+    (Applies : HostFault → Bool) (faults : List HostFault) (one other : HostFault)
+    → IsFirst (λ fault. IsTrue (Applies fault)) faults one
+    → (IsFirst (λ fault. IsTrue (Applies fault)) faults other → one ≡ other) × ¬ NoneApplies (λ fault. IsTrue (Applies fault)) faults

@@ -36,6 +36,29 @@ pub enum HostFault {
     NoMemory,
 }
 
+impl HostFault {
+    ghost use Rattle.std.specs.Prelude.{◌≡◌};
+    ghost use Rattle.tk_host.specs.Fault.{number_of};
+
+    /// Its number; want of memory has none.
+    pub fn number(self) -> Option<u32>
+        ensures { result ≡ number_of self }
+    {
+        match self {
+            HostFault::Overlap => Some(34),
+            HostFault::TimeBack => Some(35),
+            HostFault::BadValue => Some(36),
+            HostFault::NoApp => Some(37),
+            HostFault::TooManyApps => Some(38),
+            HostFault::NameTaken => Some(39),
+            HostFault::Started => Some(40),
+            HostFault::Ended => Some(41),
+            HostFault::Broken => Some(42),
+            HostFault::NoMemory => None,
+        }
+    }
+}
+
 impl From<AllocError> for HostFault {
     ghost use Rattle.std.specs.Prelude.{◌≡◌};
     ghost use Rattle.tk_host.specs.declared.fault.HostFault.TheVariants.{NoMemory};

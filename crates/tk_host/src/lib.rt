@@ -5,6 +5,7 @@ mod application;
 mod console;
 mod fault;
 mod host;
+mod laws;
 mod message;
 mod phase;
 mod rect;
@@ -16,7 +17,8 @@ mod transcript;
 mod window;
 
 pub use fault::HostFault;
-pub use host::Host;
+pub use host::{Host, MAX_APPLICATIONS, MAX_MOMENT};
+pub use laws::{each_by_itself, one_refusal};
 pub use phase::Phase;
 pub use rect::Rect;
 pub use spec::{MAX_BUDGET, MAX_PIXELS, is_name};

@@ -13,6 +13,8 @@ mod running;
 mod section;
 mod spec;
 mod state;
+#[cfg(test)]
+mod tests;
 mod transcript;
 mod window;
 
@@ -22,6 +24,3 @@ pub use laws::{each_by_itself, one_refusal};
 pub use phase::Phase;
 pub use rect::Rect;
 pub use spec::{MAX_BUDGET, MAX_PIXELS, is_name};
-pub use state::AppState;
-pub use transcript::{Line, Stream};
-pub use window::Window;

@@ -1,4 +1,4 @@
-ghost use Rattle.std.specs.Prelude.{◌≡◌, ◌<◌, ◌≤◌, ◌↔◌, length, IfOk, IsErrOf};
+ghost use Rattle.std.specs.Prelude.{◌≡◌, ◌<◌, ◌≤◌, ◌↔◌, length, IfOk, IsErrOf, IsUtf8, string_bytes, string_len};
 
 use std::alloc::{AllocError, AllocFailed, Global};
 use std::marker::Model;
@@ -66,7 +66,34 @@ impl Text {
         if characters.len() > MAX_BYTES {
             return Err(TextFault::TooLong);
         }
+        Ok(Text::of_short(alloc, characters)?)
+    }
+
+    /// A text of these characters, which are known to be few enough.
+    pub(crate) fn of_short(alloc: Global, characters: &str) -> Result<Text, AllocError>
+        requires { length characters.now ≤ 65536 }
+        ensures { IfOk result (λ text. text ≡ characters.now) }
+    {
         let string = String::from_str(alloc, characters)?;
+        Ok(Text {
+            string: Rc::new(alloc, string)?,
+        })
+    }
+
+    /// A text of bytes that are known to be one, and few enough.
+    pub(crate) fn of_bytes(alloc: Global, bytes: Vec<u8>) -> Result<Text, AllocError>
+        requires utf8 { IsUtf8 bytes.items }
+        requires short { length bytes.items ≤ 65536 }
+        ensures { IfOk result (λ text. text ≡ bytes.items) }
+    {
+        Text::of_string(alloc, String::from_utf8(bytes).unwrap())
+    }
+
+    /// A text of characters that are known to be few enough.
+    pub(crate) fn of_string(alloc: Global, string: String) -> Result<Text, AllocError>
+        requires { string_len string ≤ 65536 }
+        ensures { IfOk result (λ text. text ≡ string_bytes string) }
+    {
         Ok(Text {
             string: Rc::new(alloc, string)?,
         })

@@ -1,0 +1,3 @@
+pub mod Rect
+pub mod Session
+pub mod Reading

@@ -1,10 +1,17 @@
 -- How a session is read, line by line. What a session is stands in `Session`.
-use Rattle.std.specs.Prelude.{◌≡◌, ℕ, zero, suc, ◌+◌, ◌-◌, Bool, true, false, ◌&&◌, ◌||◌, ◌==◌, nat_le, if◌then◌else◌, List, [], ◌∷◌, ◌++◌, length, codes, Option, Some, None, option_map, Result, Ok, Err, unwrap_or, not}
+use Rattle.std.specs.Prelude.{◌≡◌, ℕ, zero, suc, ◌+◌, ◌-◌, Bool, true, false, ◌&&◌, ◌||◌, ◌==◌, nat_le, nat_lt, min, max, if◌then◌else◌, List, [], ◌∷◌, ◌++◌, length, codes, Option, Some, None, option_map, Result, Ok, Err, unwrap_or, not}
 use Rattle.std.specs.List.{join_with_byte, list_any, list_all}
 use Rattle.std.specs.Str.{is_utf8, bytes_eq}
 use Rattle.std.specs.Char.{is_ascii_digit}
 use Rattle.std.specs.Str.Parse.{digits_value}
 use Rattle.tkhost.specs.declared.rect.Rect.{Rect}
+use Rattle.tkhost.specs.declared.stage.Head.{Head}
+use Rattle.tkhost.specs.declared.stage.Stage.{Stage}
+use Rattle.tkhost.specs.declared.stage.Stage.TheVariants as stages
+use Rattle.tkhost.specs.declared.fault.LineError.{LineError}
+use Rattle.tkhost.specs.declared.fault.LineError.TheVariants.{Faulty, NoMemory}
+use Rattle.tkhost.specs.declared.fault.SessionFault.{SessionFault}
+use Rattle.tkhost.specs.declared.fault.SessionFault.TheVariants as refusals
 use Rattle.tkhost.specs.declared.session.AppBlock.{AppBlock}
 use Rattle.tkhost.specs.declared.session.Session.{Session}
 use Rattle.tkhost.specs.declared.fault.LineFault.{LineFault}
@@ -80,3 +87,111 @@ end_line_of line = do
   parts ← cut_at 32 line
   moment ← number_of 0 1000000000000 parts.0
   if bytes_eq parts.1 (codes "end") then Some moment else None
+
+-- some place lies in both spans
+abbrev pub meet : ℕ → ℕ → ℕ → ℕ → Bool
+meet start len other_start other_len = nat_lt (max start other_start) (min (start + len) (other_start + other_len))
+
+abbrev pub overlap : Rect → Rect → Bool
+overlap a b = meet a.x a.width b.x b.width && meet a.y a.height b.y b.height
+
+abbrev pub is_taken : List ℕ → List AppBlock → Bool
+is_taken name apps = list_any (λ app. bytes_eq app.name name) apps
+
+abbrev pub is_covered : Rect → List AppBlock → Bool
+is_covered rect apps = list_any (λ app. overlap app.rect rect) apps
+
+-- what keeps an application from coming after apps
+abbrev pub hindrance : List AppBlock → List ℕ → Rect → Option LineFault
+hindrance apps name rect =
+    if nat_le 16 (length apps) then Some TooManyApps else
+    if is_taken name apps then Some NameTaken else
+    if is_covered rect apps then Some faults.Overlap else None
+
+abbrev pub block_of : Head → List ℕ → AppBlock
+block_of head script = record { name = head.name; rect = head.rect; budget = head.budget; script = script }
+
+-- the stage after the last line of an application
+abbrev pub closed : List AppBlock → Head → List ℕ → Stage
+closed apps head script = stages.Block (apps ++ block_of head script ∷ [])
+
+-- the lines of a script so far, none before its first, with one more
+abbrev pub with_line : Option (List ℕ) → List ℕ → List ℕ
+with_line None line = line
+with_line (Some text) line = text ++ 10 ∷ line
+
+abbrev pub heading_step : List ℕ → Result Stage LineFault
+heading_step line = if bytes_eq line heading then Ok (stages.Block []) else Err BadLine
+
+abbrev pub admitted : List AppBlock → (List ℕ × Rect × ℕ) → Option LineFault → Result Stage LineFault
+admitted apps app (Some fault) = Err fault
+admitted apps app None = Ok (stages.Script apps (record { name = app.0; rect = app.1; budget = app.2 }))
+
+abbrev pub app_step : List AppBlock → Option (List ℕ × Rect × ℕ) → Result Stage LineFault
+app_step apps None = Err BadLine
+app_step apps (Some app) = admitted apps app (hindrance apps app.0 app.1)
+
+abbrev pub block_step : List AppBlock → List ℕ → Result Stage LineFault
+block_step apps line = if bytes_eq line events then Ok (stages.End apps) else app_step apps (app_line_of line)
+
+abbrev pub count_step : List AppBlock → Head → Option ℕ → Result Stage LineFault
+count_step apps head None = Err BadLine
+count_step apps head (Some count) = if count == 0 then Ok (closed apps head []) else Ok (stages.Text apps head count None)
+
+abbrev pub script_step : List AppBlock → Head → List ℕ → Result Stage LineFault
+script_step apps head line = count_step apps head (script_line_of line)
+
+-- the stage after one of the left lines of a script, with which the script so far is this
+abbrev pub text_read : List AppBlock → Head → ℕ → List ℕ → Stage
+text_read apps head left script = if nat_le left 1 then closed apps head script else stages.Text apps head (left - 1) (Some script)
+
+abbrev pub text_step : List AppBlock → Head → ℕ → Option (List ℕ) → List ℕ → Result Stage LineFault
+text_step apps head left script line =
+    if is_utf8 line && nat_le (length (with_line script line)) 65536
+    then Ok (text_read apps head left (with_line script line)) else Err BadLine
+
+abbrev pub moment_step : List AppBlock → Option ℕ → Result Stage LineFault
+moment_step apps None = Err BadLine
+moment_step apps (Some moment) = Ok (stages.Whole (record { apps = apps; end = moment }))
+
+abbrev pub end_step : List AppBlock → List ℕ → Result Stage LineFault
+end_step apps line = moment_step apps (end_line_of line)
+
+-- the stage after one more line, or what is wrong with it
+abbrev pub step : Stage → List ℕ → Result Stage LineFault
+step stages.Heading line = heading_step line
+step (stages.Block apps) line = block_step apps line
+step (stages.Script apps head) line = script_step apps head line
+step (stages.Text apps head left script) line = text_step apps head left script line
+step (stages.End apps) line = end_step apps line
+step (stages.Whole session) line = Err BadLine
+
+-- what a step returned is what the definition tells, unless memory was refused
+abbrev pub Gives : Result Stage LineError → Result Stage LineFault → Type 0
+Gives (Ok stage) told = told ≡ Ok stage
+Gives (Err NoMemory) told = Unit {0}
+Gives (Err (Faulty fault)) told = told ≡ Err fault
+
+-- the end of the text at a stage, as the line of this number
+abbrev pub finished : Stage → ℕ → Result Session (LineFault × ℕ)
+finished (stages.Whole session) number = Ok session
+finished stages.Heading number = Err (BadLine, number)
+finished (stages.Block apps) number = Err (BadLine, number)
+finished (stages.Script apps head) number = Err (BadLine, number)
+finished (stages.Text apps head left script) number = Err (BadLine, number)
+finished (stages.End apps) number = Err (BadLine, number)
+
+abbrev pub and_on : Result Stage LineFault → ℕ → (Stage → Result Session (LineFault × ℕ)) → Result Session (LineFault × ℕ)
+and_on (Ok stage) number rest = rest stage
+and_on (Err fault) number rest = Err (fault, number)
+
+-- what the lines tell from a stage on, after so many lines
+abbrev pub run : Stage → ℕ → List (List ℕ) → Result Session (LineFault × ℕ)
+run stage number [] = finished stage (number + 1)
+run stage number (line ∷ lines) = and_on (step stage line) (number + 1) (λ next. run next (number + 1) lines)
+
+-- what reading a session returned is what its lines tell, unless memory was refused
+abbrev pub Reads : Result Session SessionFault → Result Session (LineFault × ℕ) → Type 0
+Reads (Ok session) told = told ≡ Ok session
+Reads (Err refusals.NoMemory) told = Unit {0}
+Reads (Err (refusals.Refused fault line)) told = told ≡ Err (fault, line)

@@ -124,7 +124,7 @@ pub data Place : Type 0 where
   -- the end line
   AtEnd : (apps : List AppBlock) → Place
   -- nothing
-  Behind : (session : Session) → Place
+  PastEnd : (session : Session) → Place
 
 -- the lines before a place
 abbrev pub Leads : List (List ℕ) → Place → Type 0
@@ -138,7 +138,7 @@ Leads lines (AtText apps name rect budget count texts) = (blocks : List (List �
     × AreBlocks [] blocks apps × IsAppLine first name rect budget × MayFollow apps name rect
     × IsScriptLine second count × (length texts < count) × IsScript texts (join_with_byte 10 texts)
 Leads lines (AtEnd apps) = (blocks : List (List ℕ)) × (lines ≡ heading ∷ blocks ++ events ∷ []) × AreBlocks [] blocks apps
-Leads lines (Behind session) = (blocks : List (List ℕ)) × (last : List ℕ)
+Leads lines (PastEnd session) = (blocks : List (List ℕ)) × (last : List ℕ)
     × (lines ≡ heading ∷ blocks ++ events ∷ last ∷ [])
     × AreBlocks [] blocks session.apps × IsEndLine last session.end
 
@@ -152,11 +152,11 @@ IsFaulty (AtScript apps name rect budget) line fault = ((count : ℕ) → ¬ IsS
 IsFaulty (AtText apps name rect budget count texts) line fault =
     ((script : List ℕ) → ¬ IsScript (texts ++ line ∷ []) script) × (fault ≡ BadLine)
 IsFaulty (AtEnd apps) line fault = ((moment : ℕ) → ¬ IsEndLine line moment) × (fault ≡ BadLine)
-IsFaulty (Behind session) line fault = fault ≡ BadLine
+IsFaulty (PastEnd session) line fault = fault ≡ BadLine
 
 -- what is wrong with the end of the text at a place
 abbrev pub IsCut : Place → LineFault → Type 0
-IsCut (Behind session) fault = ⊥
+IsCut (PastEnd session) fault = ⊥
 IsCut _ fault = fault ≡ BadLine
 
 -- what is wrong at a place with what comes next, a line or the end of the text
@@ -166,7 +166,7 @@ IsRefused place (line ∷ lines) fault = IsFaulty place line fault
 
 -- the bytes are a session, and this is what it says
 abbrev pub IsSession : List ℕ → Session → Type 0
-IsSession bytes session = Leads (lines_of bytes) (Behind session)
+IsSession bytes session = Leads (lines_of bytes) (PastEnd session)
 
 -- The bytes are no session, and the first faulty line has this number, where the one after the last stands for the end of the text.
 abbrev pub HasFault : List ℕ → LineFault → ℕ → Type 0

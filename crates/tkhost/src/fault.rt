@@ -18,6 +18,36 @@ pub enum LineFault {
     NameTaken,
 }
 
+/// Why a line was not taken.
+#[derive(Clone, Copy, Debug, PartialEq, Eq, Drop)]
+pub(crate) enum LineError {
+    Faulty(LineFault),
+    /// Memory was refused.
+    NoMemory,
+}
+
+impl From<AllocError> for LineError {
+    ghost use Rattle.std.specs.Prelude.{◌≡◌};
+    ghost use Rattle.tkhost.specs.declared.fault.LineError.TheVariants.{NoMemory};
+
+    ghost from_gives = { λ _ e. e ≡ NoMemory };
+
+    fn from(_refused: AllocError) -> LineError {
+        LineError::NoMemory
+    }
+}
+
+impl<T: Drop> From<AllocFailed<T>> for LineError {
+    ghost use Rattle.std.specs.Prelude.{◌≡◌};
+    ghost use Rattle.tkhost.specs.declared.fault.LineError.TheVariants.{NoMemory};
+
+    ghost from_gives = { λ _ e. e ≡ NoMemory };
+
+    fn from(_refused: AllocFailed<T>) -> LineError {
+        LineError::NoMemory
+    }
+}
+
 /// Why a session was not read.
 #[derive(Clone, Copy, Debug, PartialEq, Eq, Drop, Error)]
 pub enum SessionFault {

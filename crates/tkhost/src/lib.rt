@@ -3,8 +3,11 @@
 
 mod fault;
 mod line;
+mod reading;
 mod rect;
+mod script;
 mod session;
+mod stage;
 
 pub use fault::{LineFault, SessionFault};
 pub use rect::Rect;

@@ -1,6 +1,6 @@
 //! What one line of a session says.
 
-ghost use Rattle.std.specs.Prelude.{◌≡◌, ◌≤◌, option_map, IfSome};
+ghost use Rattle.std.specs.Prelude.{◌≡◌, ◌≤◌, length, option_map, IfSome};
 ghost use Rattle.std.specs.List.{list_all};
 ghost use Rattle.std.specs.Char.{is_ascii_digit};
 ghost use Rattle.std.specs.Str.{IsUtf8};
@@ -20,7 +20,8 @@ const MAX_SCRIPT_LINES: u64 = 65_537;
 const MAX_MOMENT: u64 = 1_000_000_000_000;
 
 /// The values of an `app` line.
-pub struct AppLine<'a> {
+#[derive(Drop)]
+pub(crate) struct AppLine<'a> {
     pub name: &'a str,
     pub rect: Rect,
     pub budget: u64,
@@ -35,7 +36,7 @@ fn as_text(bytes: &[u8]) -> &str
 }
 
 /// What stands before the first such byte, and what stands after it.
-pub fn cut(text: &[u8], byte: u8) -> Option<(&[u8], &[u8])>
+pub(crate) fn cut(text: &[u8], byte: u8) -> Option<(&[u8], &[u8])>
     ensures { option_map (λ parts. (parts.0.now, parts.1.now)) result ≡ cut_at byte text.now }
 {
     let at = memchr(byte, text)?;
@@ -131,7 +132,8 @@ fn is_app_name(name: &[u8]) -> bool
 }
 
 fn name(field: &[u8]) -> Option<&str>
-    ensures { option_map (λ name. name.now) result ≡ name_of field.now }
+    ensures short { IfSome result (λ name. length name.now ≤ 32) }
+    ensures name { option_map (λ name. name.now) result ≡ name_of field.now }
 {
     if !is_app_name(field) {
         return None;
@@ -141,8 +143,9 @@ fn name(field: &[u8]) -> Option<&str>
 
 /// Reads `app NAME X Y WIDTH HEIGHT BUDGET`.
 #[tactic(auto, unfolding(crate::specs::Reading::app_line_of))]
-pub fn app_line(line: &[u8]) -> Option<AppLine<'_>>
-    ensures { option_map (λ app. (app.name.now, app.rect, app.budget)) result ≡ app_line_of line.now }
+pub(crate) fn app_line(line: &[u8]) -> Option<AppLine<'_>>
+    ensures short { IfSome result (λ app. length app.name.now ≤ 32) }
+    ensures app { option_map (λ app. (app.name.now, app.rect, app.budget)) result ≡ app_line_of line.now }
 {
     let fields = fields_behind(b"app", line)?;
     let (field, rest) = cut(fields, b' ')?;
@@ -154,7 +157,7 @@ pub fn app_line(line: &[u8]) -> Option<AppLine<'_>>
 
 /// Reads `script COUNT`.
 #[tactic(auto, unfolding(crate::specs::Reading::script_line_of))]
-pub fn script_line(line: &[u8]) -> Option<u64>
+pub(crate) fn script_line(line: &[u8]) -> Option<u64>
     ensures { result ≡ script_line_of line.now }
 {
     let count = fields_behind(b"script", line)?;
@@ -163,7 +166,7 @@ pub fn script_line(line: &[u8]) -> Option<u64>
 
 /// Reads `MOMENT end`.
 #[tactic(auto, unfolding(crate::specs::Reading::end_line_of))]
-pub fn end_line(line: &[u8]) -> Option<u64>
+pub(crate) fn end_line(line: &[u8]) -> Option<u64>
     ensures { result ≡ end_line_of line.now }
 {
     let (field, rest) = cut(line, b' ')?;

@@ -1,0 +1,58 @@
+ghost use Rattle.std.specs.Prelude.{◌≡◌, ◌<◌, ◌∷◌, length};
+ghost use Rattle.tkhost.specs.Session.{lines_of};
+ghost use Rattle.tkhost.specs.Reading.{Reads, finished, run};
+
+use crate::fault::{LineError, LineFault, SessionFault};
+use crate::line::cut;
+use crate::session::Session;
+use crate::stage::Stage;
+use std::alloc::Global;
+
+/// The first line without its LF, and what stands after it.
+fn cut_line(bytes: &[u8]) -> (&[u8], &[u8])
+    requires { 0 < length bytes.now }
+    ensures lines { lines_of bytes.now ≡ result.0.now ∷ lines_of result.1.now }
+    ensures shorter { length result.1.now < length bytes.now }
+{
+    match cut(bytes, b'\n') {
+        Some(parts) => parts,
+        None => (bytes, &bytes[bytes.len()..]),
+    }
+}
+
+/// The session, where the text may end at this stage; the line that is told otherwise is the one after the last.
+fn finish(stage: Stage, line: usize) -> Result<Session, SessionFault>
+    ensures { Reads result (finished stage line) }
+{
+    match stage {
+        Stage::Whole { session } => Ok(session),
+        _ => Err(SessionFault::Refused {
+            fault: LineFault::BadLine,
+            line,
+        }),
+    }
+}
+
+fn read_lines(alloc: Global, bytes: &[u8]) -> Result<Session, SessionFault>
+    ensures { Reads result (run Stage.Heading 0 (lines_of bytes.now)) }
+{
+    let mut stage = Stage::Heading;
+    let mut rest = bytes;
+    let mut number = 0;
+    while !rest.is_empty() {
+        let (line, after) = cut_line(rest);
+        rest = after;
+        number += 1;
+        stage = match stage.step(alloc, line) {
+            Ok(next) => next,
+            Err(LineError::Faulty(fault)) => {
+                return Err(SessionFault::Refused {
+                    fault,
+                    line: number,
+                });
+            }
+            Err(LineError::NoMemory) => return Err(SessionFault::NoMemory),
+        };
+    }
+    finish(stage, number + 1)
+}

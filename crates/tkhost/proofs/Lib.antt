@@ -1,3 +1,7 @@
 pub mod Lines
 pub mod LineLaws
 pub mod StepLemmas
+pub mod Hindrances
+pub mod Scripts
+pub mod Complete
+pub mod Sound

@@ -168,10 +168,15 @@ IsRefused place (line ∷ lines) fault = IsFaulty place line fault
 abbrev pub IsSession : List ℕ → Session → Type 0
 IsSession bytes session = Leads (lines_of bytes) (PastEnd session)
 
--- The bytes are no session, and the first faulty line has this number, where the one after the last stands for the end of the text.
-abbrev pub HasFault : List ℕ → LineFault → ℕ → Type 0
-HasFault bytes fault number = (before : List (List ℕ)) × (after : List (List ℕ)) × (place : Place)
-    × (lines_of bytes ≡ before ++ after)
+-- The lines are no session: what is wrong with the first faulty one, and its number.
+-- The one after the last stands for the end of the text.
+abbrev pub IsAtFault : List (List ℕ) → LineFault → ℕ → Type 0
+IsAtFault lines fault number = (before : List (List ℕ)) × (after : List (List ℕ)) × (place : Place)
+    × (lines ≡ before ++ after)
     × (number ≡ length before + 1)
     × Leads before place
     × IsRefused place after fault
+
+-- the bytes are no session, for this fault in the line of this number
+abbrev pub HasFault : List ℕ → LineFault → ℕ → Type 0
+HasFault bytes fault number = IsAtFault (lines_of bytes) fault number

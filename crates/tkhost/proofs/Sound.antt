@@ -15,8 +15,10 @@ use Rattle.tkhost.specs.declared.fault.LineFault.TheVariants.{BadLine}
 use Rattle.tkhost.specs.declared.stage.Head.{Head}
 use Rattle.tkhost.specs.declared.stage.Stage.{Stage}
 use Rattle.tkhost.specs.declared.stage.Stage.TheVariants as stages
-use Rattle.tkhost.specs.Session.{heading, events, IsAppLine, IsScriptLine, IsEndLine, IsScript, IsBlock, MayFollow, Hinders, AreBlocks, Place, AtHeading, AtBlock, AtScript, AtText, AtEnd, PastEnd, Leads, IsFaulty, IsAtFault}
-use Rattle.tkhost.specs.Reading.{with_line, step, run, finished, and_on, admitted, app_step, count_step, moment_step, text_read, app_line_of, script_line_of, end_line_of, hindrance}
+use Rattle.tkhost.specs.declared.fault.SessionFault.{SessionFault}
+use Rattle.tkhost.specs.declared.fault.SessionFault.TheVariants as refusals
+use Rattle.tkhost.specs.Session.{lines_of, IsAnswer, heading, events, IsAppLine, IsScriptLine, IsEndLine, IsScript, IsBlock, MayFollow, Hinders, AreBlocks, Place, AtHeading, AtBlock, AtScript, AtText, AtEnd, PastEnd, Leads, IsFaulty, IsAtFault}
+use Rattle.tkhost.specs.Reading.{Reads, with_line, step, run, finished, and_on, admitted, app_step, count_step, moment_step, text_read, app_line_of, script_line_of, end_line_of, hindrance}
 use Rattle.tkhost.proofs.LineLaws.{app_line_of-some, app_line_of-spelled, script_line_of-some, script_line_of-spelled, end_line_of-some, end_line_of-spelled, same_bytes}
 use Rattle.tkhost.proofs.Hindrances.{Judged, judged}
 use Rattle.tkhost.proofs.Scripts.{so_far, so_far-push, with_line-so_far, text_step-ok, text_step-fits}
@@ -205,3 +207,32 @@ run-tells (line ∷ lines) before place leads =
 -- what reading told of all lines holds of them
 pub run-tells_all : (lines : List (List ℕ)) → Tells lines (run stages.Heading 0 lines)
 run-tells_all lines = run-tells lines [] AtHeading refl
+
+-- what was read of bytes holds of them
+pub IsAnswer-from_reads : (bytes : List ℕ) (answer : Result Session SessionFault) → Reads answer (run stages.Heading 0 (lines_of bytes)) → IsAnswer bytes answer
+IsAnswer-from_reads bytes (Ok session) reads =
+    let P : Result Session (LineFault × ℕ) → Type 0 = λ told. Tells (lines_of bytes) told in
+    subst P reads (run-tells_all (lines_of bytes))
+IsAnswer-from_reads bytes (Err (refusals.Refused fault line)) reads =
+    let P : Result Session (LineFault × ℕ) → Type 0 = λ told. Tells (lines_of bytes) told in
+    subst P reads (run-tells_all (lines_of bytes))
+IsAnswer-from_reads bytes (Err refusals.NoMemory) reads = tt
+
+-- what was told, as an answer
+abbrev read_as : Result Session (LineFault × ℕ) → Result Session SessionFault
+read_as (Ok session) = Ok session
+read_as (Err fault) = Err (refusals.Refused fault.0 fault.1)
+
+ok_is_err : (session : Session) (fault : LineFault × ℕ) → Ok session ≡ Err fault → ⊥
+ok_is_err session fault same = cc
+
+-- an answer that was told otherwise, or for want of memory
+pub answer_from_told : (answer : Result Session SessionFault) (told : Result Session (LineFault × ℕ)) (session : Session) → Reads answer told → told ≡ Ok session → (answer ≡ Ok session) ⊎ (answer ≡ Err refusals.NoMemory)
+answer_from_told (Ok found) told session reads is = inl (ap read_as (sym reads ∙ is))
+answer_from_told (Err (refusals.Refused fault line)) told session reads is = absurd (ok_is_err session (fault, line) (sym is ∙ reads))
+answer_from_told (Err refusals.NoMemory) told session reads is = inr refl
+
+pub fault_from_told : (answer : Result Session SessionFault) (told : Result Session (LineFault × ℕ)) (fault : LineFault) (line : ℕ) → Reads answer told → told ≡ Err (fault, line) → (answer ≡ Err (refusals.Refused fault line)) ⊎ (answer ≡ Err refusals.NoMemory)
+fault_from_told (Ok found) told fault line reads is = absurd (ok_is_err found (fault, line) (sym reads ∙ is))
+fault_from_told (Err (refusals.Refused other place)) told fault line reads is = inl (ap read_as (sym reads ∙ is))
+fault_from_told (Err refusals.NoMemory) told fault line reads is = inr refl

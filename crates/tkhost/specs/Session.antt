@@ -1,5 +1,5 @@
 -- Sessions of format 1: the text of each, and the first faulty line of a text that is none.
-use Rattle.std.specs.Prelude.{◌≡◌, ◌≢◌, ℕ, ◌+◌, ◌<◌, ◌≤◌, ◌^◌, Bool, true, false, ◌&&◌, ◌||◌, ◌==◌, nat_le, IsTrue, if◌then◌else◌, List, [], ◌∷◌, ◌++◌, length, codes, ◌⊎◌}
+use Rattle.std.specs.Prelude.{◌≡◌, ◌≢◌, ℕ, ◌+◌, ◌<◌, ◌≤◌, ◌^◌, Bool, true, false, ◌&&◌, ◌||◌, ◌==◌, nat_le, IsTrue, if◌then◌else◌, List, [], ◌∷◌, ◌++◌, length, codes, ◌⊎◌, Result, Ok, Err}
 use Rattle.std.specs.List.{AllByRecursion, join_with_byte, list_all, onto_first}
 use Rattle.std.specs.Int.{IsInRange}
 use Rattle.std.specs.Fmt.{decimal}
@@ -11,6 +11,8 @@ use Rattle.tkhost.specs.declared.session.Session.{Session}
 use Rattle.tkhost.specs.declared.fault.LineFault.{LineFault}
 use Rattle.tkhost.specs.declared.fault.LineFault.TheVariants.{BadLine, TooManyApps, NameTaken}
 use Rattle.tkhost.specs.declared.fault.LineFault.TheVariants as faults
+use Rattle.tkhost.specs.declared.fault.SessionFault.{SessionFault}
+use Rattle.tkhost.specs.declared.fault.SessionFault.TheVariants.{Refused, NoMemory}
 use Rattle.tkhost.specs.Rect as rects
 
 -- the bytes of a line, without the LF at its end
@@ -180,3 +182,9 @@ IsAtFault lines fault number = (before : List (List ℕ)) × (after : List (List
 -- the bytes are no session, for this fault in the line of this number
 abbrev pub HasFault : List ℕ → LineFault → ℕ → Type 0
 HasFault bytes fault number = IsAtFault (lines_of bytes) fault number
+
+-- the answer to these bytes holds of them
+abbrev pub IsAnswer : List ℕ → Result Session SessionFault → Type 0
+IsAnswer bytes (Ok session) = IsSession bytes session
+IsAnswer bytes (Err (Refused fault line)) = HasFault bytes fault line
+IsAnswer bytes (Err NoMemory) = Unit {0}

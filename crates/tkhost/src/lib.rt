@@ -10,5 +10,6 @@ mod session;
 mod stage;
 
 pub use fault::{LineFault, SessionFault};
+pub use reading::read_session;
 pub use rect::Rect;
 pub use session::{AppBlock, AppBlocks, Session};

@@ -1,5 +1,7 @@
-ghost use Rattle.std.specs.Prelude.{◌≡◌, ◌<◌, ◌∷◌, length};
-ghost use Rattle.tkhost.specs.Session.{lines_of};
+ghost use Rattle.std.specs.Prelude.{◌≡◌, ℕ, ◌<◌, ◌∷◌, ◌⊎◌, length};
+ghost use Rattle.tkhost.specs.declared.fault.LineFault.{LineFault};
+ghost use Rattle.tkhost.specs.declared.session.Session.{Session};
+ghost use Rattle.tkhost.specs.Session.{lines_of, IsSession, HasFault, IsAnswer};
 ghost use Rattle.tkhost.specs.Reading.{Reads, finished, run};
 
 use crate::fault::{LineError, LineFault, SessionFault};
@@ -55,4 +57,18 @@ fn read_lines(alloc: Global, bytes: &[u8]) -> Result<Session, SessionFault>
         };
     }
     finish(stage, number + 1)
+}
+
+/// Reads a session of format 1. A line is refused as a bad one, and then for what it says beside the lines before
+/// it, so the first faulty line is told; where the text ends too soon, the one after the last.
+///
+/// It takes time in proportion to the bytes, and memory for the names and scripts alone.
+pub fn read_session(alloc: Global, bytes: &[u8]) -> Result<Session, SessionFault>
+    ensures answer { IsAnswer bytes.now result }
+    ensures whole { (session : Session) → IsSession bytes.now session
+        → (result ≡ Ok session) ⊎ (result ≡ Err SessionFault.NoMemory) }
+    ensures faulty { (fault : LineFault) (line : ℕ) → HasFault bytes.now fault line
+        → (result ≡ Err (SessionFault.Refused fault line)) ⊎ (result ≡ Err SessionFault.NoMemory) }
+{
+    read_lines(alloc, bytes)
 }

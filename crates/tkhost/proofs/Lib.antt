@@ -5,3 +5,4 @@ pub mod Hindrances
 pub mod Scripts
 pub mod Complete
 pub mod Sound
+pub mod Streams

@@ -2,7 +2,10 @@
 #![tactic(auto)]
 
 mod fault;
+mod input;
 mod line;
+mod outcome;
+mod output;
 mod reading;
 mod rect;
 mod script;
@@ -10,6 +13,9 @@ mod session;
 mod stage;
 
 pub use fault::{LineFault, SessionFault};
+pub use input::{InputFault, read_input};
+pub use outcome::Outcome;
+pub use output::{WriteFault, write_whole};
 pub use reading::read_session;
 pub use rect::Rect;
 pub use session::{AppBlock, AppBlocks, Session};

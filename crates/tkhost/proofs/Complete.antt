@@ -9,13 +9,12 @@ use Rattle.std.proofs.lemmas.Bool.{false≢true, cases_Bool, ne_eqb, lt-leb, le-
 use Rattle.std.proofs.lemmas.Slice.Eq.{bytes_eq-Decides}
 use Rattle.tkhost.specs.declared.rect.Rect.{Rect}
 use Rattle.tkhost.specs.declared.session.AppBlock.{AppBlock}
-use Rattle.tkhost.specs.declared.session.Session.{Session}
 use Rattle.tkhost.specs.declared.fault.LineFault.{LineFault}
 use Rattle.tkhost.specs.declared.fault.LineFault.TheVariants.{BadLine}
 use Rattle.tkhost.specs.declared.stage.Head.{Head}
 use Rattle.tkhost.specs.declared.stage.Stage.{Stage}
 use Rattle.tkhost.specs.declared.stage.Stage.TheVariants as stages
-use Rattle.tkhost.specs.Session.{heading, events, IsAppLine, IsScriptLine, IsEndLine, IsScript, IsBlock, MayFollow, Hinders, AreBlocks, Place, AtHeading, AtBlock, AtScript, AtText, AtEnd, PastEnd, Leads, IsFaulty, IsCut, IsRefused, IsAtFault}
+use Rattle.tkhost.specs.Session.{heading, events, IsAppLine, IsScriptLine, IsEndLine, IsScript, IsBlock, MayFollow, Hinders, AreBlocks, Place, AtHeading, AtBlock, AtScript, AtText, AtEnd, PastEnd, Plan, Leads, IsFaulty, IsCut, IsRefused, IsAtFault}
 use Rattle.tkhost.specs.Reading.{step, run, finished, and_on, closed, text_read, text_step, app_line_of, script_line_of, end_line_of, hindrance}
 use Rattle.tkhost.proofs.LineLaws.{app_line_of-some, app_line_of-spelled, script_line_of-some, script_line_of-spelled, end_line_of-some, end_line_of-spelled, same_bytes}
 use Rattle.tkhost.proofs.Hindrances.{hindrance-may, hindrance-hinders}
@@ -32,7 +31,7 @@ stage_of (AtBlock apps) = stages.Block apps
 stage_of (AtScript apps name rect budget) = stages.Script apps (head_of name rect budget)
 stage_of (AtText apps name rect budget count texts) = stages.Text apps (head_of name rect budget) (count - length texts) (so_far texts)
 stage_of (AtEnd apps) = stages.End apps
-stage_of (PastEnd session) = stages.Whole session
+stage_of (PastEnd plan) = stages.Whole plan.apps plan.end
 
 -- an `app` line is not `events`
 app_is_not_events : (line name : List ℕ) (rect : Rect) (budget : ℕ) → IsAppLine line name rect budget → bytes_eq line events ≡ false
@@ -188,8 +187,8 @@ reaches (PastEnd session) before rest leads =
     let numbers : suc (length leads.0) + 1 + 1 ≡ length (front ++ events ∷ leads.1 ∷ []) = omega arith in
     rw leads.2 (rw (append_assoc leads.0 (events ∷ leads.1 ∷ []) rest) (
     reaches_block session.apps leads.0 (events ∷ leads.1 ∷ rest) leads.3
-    ∙ run-step (stages.End session.apps) (stages.Whole session) (suc (length leads.0) + 1) leads.1 rest (rw (end_line_of-spelled leads.1 session.end leads.4) refl)
-    ∙ ap (λ n. run (stages.Whole session) n rest) numbers))
+    ∙ run-step (stages.End session.apps) (stages.Whole session.apps session.end) (suc (length leads.0) + 1) leads.1 rest (rw (end_line_of-spelled leads.1 session.end leads.4) refl)
+    ∙ ap (λ n. run (stages.Whole session.apps session.end) n rest) numbers))
 
 none_from_never : {A : Type 0} (o : Option A) → ((x : A) → o ≡ Some x → ⊥) → o ≡ None
 none_from_never None never = refl
@@ -232,7 +231,7 @@ run-refused place before [] fault number leads is = finished-cut place fault (nu
 run-refused place before (line ∷ lines) fault number leads is = run-fault (stage_of place) fault number line lines (step-faulty place before line fault leads is)
 
 -- a session is read as what it says
-pub run-session : (lines : List (List ℕ)) (session : Session) → Leads lines (PastEnd session) → run stages.Heading 0 lines ≡ Ok session
+pub run-session : (lines : List (List ℕ)) (session : Plan) → Leads lines (PastEnd session) → run stages.Heading 0 lines ≡ Ok session
 run-session lines session leads =
     let P : List (List ℕ) → Type 0 = λ ls. run stages.Heading 0 ls ≡ Ok session in
     subst P (append-nil lines) (reaches (PastEnd session) lines [] leads)

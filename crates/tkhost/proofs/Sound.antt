@@ -9,7 +9,6 @@ use Rattle.std.proofs.lemmas.Option.{none-some}
 use Rattle.std.proofs.lemmas.Slice.Eq.{bytes_eq-Decides}
 use Rattle.tkhost.specs.declared.rect.Rect.{Rect}
 use Rattle.tkhost.specs.declared.session.AppBlock.{AppBlock}
-use Rattle.tkhost.specs.declared.session.Session.{Session}
 use Rattle.tkhost.specs.declared.fault.LineFault.{LineFault}
 use Rattle.tkhost.specs.declared.fault.LineFault.TheVariants.{BadLine}
 use Rattle.tkhost.specs.declared.stage.Head.{Head}
@@ -17,12 +16,12 @@ use Rattle.tkhost.specs.declared.stage.Stage.{Stage}
 use Rattle.tkhost.specs.declared.stage.Stage.TheVariants as stages
 use Rattle.tkhost.specs.declared.fault.SessionFault.{SessionFault}
 use Rattle.tkhost.specs.declared.fault.SessionFault.TheVariants as refusals
-use Rattle.tkhost.specs.Session.{lines_of, IsAnswer, heading, events, IsAppLine, IsScriptLine, IsEndLine, IsScript, IsBlock, MayFollow, Hinders, AreBlocks, Place, AtHeading, AtBlock, AtScript, AtText, AtEnd, PastEnd, Leads, IsFaulty, IsAtFault}
+use Rattle.tkhost.specs.Session.{lines_of, IsAnswer, IsSession, HasFault, AreAllowed, IsAllowed, heading, events, IsAppLine, IsScriptLine, IsEndLine, IsScript, IsBlock, MayFollow, Hinders, AreBlocks, Place, AtHeading, AtBlock, AtScript, AtText, AtEnd, PastEnd, Plan, Leads, IsFaulty, IsAtFault}
 use Rattle.tkhost.specs.Reading.{Reads, with_line, step, run, finished, and_on, admitted, app_step, count_step, moment_step, text_read, app_line_of, script_line_of, end_line_of, hindrance}
 use Rattle.tkhost.proofs.LineLaws.{app_line_of-some, app_line_of-spelled, script_line_of-some, script_line_of-spelled, end_line_of-some, end_line_of-spelled, same_bytes}
 use Rattle.tkhost.proofs.Hindrances.{Judged, judged}
 use Rattle.tkhost.proofs.Scripts.{so_far, so_far-push, with_line-so_far, text_step-ok, text_step-fits}
-use Rattle.tkhost.proofs.Complete.{head_of, stage_of}
+use Rattle.tkhost.proofs.Complete.{head_of, stage_of, run-session, run-at_fault}
 
 -- one more application at the end
 pub AreBlocks-push : (before apps : List AppBlock) (app : AppBlock) (lines own : List (List ℕ)) → AreBlocks before lines apps → IsBlock own app → MayFollow (before ++ apps) app.name app.rect → AreBlocks before (lines ++ own) (apps ++ app ∷ [])
@@ -174,7 +173,7 @@ step-judged (AtEnd apps) before line leads = moment_step-judged apps before line
 step-judged (PastEnd session) before line leads = refl
 
 -- what reading lines told holds of them
-abbrev pub Tells : List (List ℕ) → Result Session (LineFault × ℕ) → Type 0
+abbrev pub Tells : List (List ℕ) → Result Plan (LineFault × ℕ) → Type 0
 Tells lines (Ok session) = Leads lines (PastEnd session)
 Tells lines (Err fault) = IsAtFault lines fault.0 fault.1
 
@@ -208,31 +207,72 @@ run-tells (line ∷ lines) before place leads =
 pub run-tells_all : (lines : List (List ℕ)) → Tells lines (run stages.Heading 0 lines)
 run-tells_all lines = run-tells lines [] AtHeading refl
 
--- what was read of bytes holds of them
-pub IsAnswer-from_reads : (bytes : List ℕ) (answer : Result Session SessionFault) → Reads answer (run stages.Heading 0 (lines_of bytes)) → IsAnswer bytes answer
-IsAnswer-from_reads bytes (Ok session) reads =
-    let P : Result Session (LineFault × ℕ) → Type 0 = λ told. Tells (lines_of bytes) told in
+-- what was found, as an answer
+abbrev pub as_plan : Result (List AppBlock × ℕ) SessionFault → Result Plan SessionFault
+as_plan (Ok found) = Ok (record { apps = found.0; end = found.1 })
+as_plan (Err fault) = Err fault
+
+-- what was found in bytes holds of them
+pub IsAnswer-from_reads : (bytes : List ℕ) (found : Result (List AppBlock × ℕ) SessionFault) → Reads found (run stages.Heading 0 (lines_of bytes)) → IsAnswer bytes (as_plan found)
+IsAnswer-from_reads bytes (Ok found) reads =
+    let P : Result Plan (LineFault × ℕ) → Type 0 = λ told. Tells (lines_of bytes) told in
     subst P reads (run-tells_all (lines_of bytes))
 IsAnswer-from_reads bytes (Err (refusals.Refused fault line)) reads =
-    let P : Result Session (LineFault × ℕ) → Type 0 = λ told. Tells (lines_of bytes) told in
+    let P : Result Plan (LineFault × ℕ) → Type 0 = λ told. Tells (lines_of bytes) told in
     subst P reads (run-tells_all (lines_of bytes))
 IsAnswer-from_reads bytes (Err refusals.NoMemory) reads = tt
 
--- what was told, as an answer
-abbrev read_as : Result Session (LineFault × ℕ) → Result Session SessionFault
-read_as (Ok session) = Ok session
-read_as (Err fault) = Err (refusals.Refused fault.0 fault.1)
+abbrev Told : Type 0
+Told = Result Plan (LineFault × ℕ)
 
-ok_is_err : (session : Session) (fault : LineFault × ℕ) → Ok session ≡ Err fault → ⊥
-ok_is_err session fault same = cc
+ok_is_err : (plan : Plan) (fault : LineFault × ℕ) → (let told : Told = Ok plan in told ≡ Err fault) → ⊥
+ok_is_err plan fault same = cc
 
--- an answer that was told otherwise, or for want of memory
-pub answer_from_told : (answer : Result Session SessionFault) (told : Result Session (LineFault × ℕ)) (session : Session) → Reads answer told → told ≡ Ok session → (answer ≡ Ok session) ⊎ (answer ≡ Err refusals.NoMemory)
-answer_from_told (Ok found) told session reads is = inl (ap read_as (sym reads ∙ is))
-answer_from_told (Err (refusals.Refused fault line)) told session reads is = absurd (ok_is_err session (fault, line) (sym is ∙ reads))
-answer_from_told (Err refusals.NoMemory) told session reads is = inr refl
+same_plan : (a b : Plan) → (let told : Told = Ok a in told ≡ Ok b) → a ≡ b
+same_plan a b same = cc
 
-pub fault_from_told : (answer : Result Session SessionFault) (told : Result Session (LineFault × ℕ)) (fault : LineFault) (line : ℕ) → Reads answer told → told ≡ Err (fault, line) → (answer ≡ Err (refusals.Refused fault line)) ⊎ (answer ≡ Err refusals.NoMemory)
-fault_from_told (Ok found) told fault line reads is = absurd (ok_is_err found (fault, line) (sym reads ∙ is))
-fault_from_told (Err (refusals.Refused other place)) told fault line reads is = inl (ap read_as (sym reads ∙ is))
-fault_from_told (Err refusals.NoMemory) told fault line reads is = inr refl
+same_fault : (a b : LineFault × ℕ) → (let told : Told = Err a in told ≡ Err b) → a ≡ b
+same_fault a b same = cc
+
+-- a session is found, unless memory was refused
+pub found_plan : (found : Result (List AppBlock × ℕ) SessionFault) (told : Result Plan (LineFault × ℕ)) (plan : Plan) → Reads found told → told ≡ Ok plan → (as_plan found ≡ Ok plan) ⊎ (as_plan found ≡ Err refusals.NoMemory)
+found_plan (Ok found) told plan reads is = inl (ap Ok (same_plan _ _ (sym reads ∙ is)))
+found_plan (Err (refusals.Refused fault line)) told plan reads is = absurd (ok_is_err plan (fault, line) (sym is ∙ reads))
+found_plan (Err refusals.NoMemory) told plan reads is = inr refl
+
+-- a fault is found, unless memory was refused
+pub found_fault : (found : Result (List AppBlock × ℕ) SessionFault) (told : Result Plan (LineFault × ℕ)) (fault : LineFault) (line : ℕ) → Reads found told → told ≡ Err (fault, line) → (as_plan found ≡ Err (refusals.Refused fault line)) ⊎ (as_plan found ≡ Err refusals.NoMemory)
+found_fault (Ok found) told fault line reads is = absurd (ok_is_err _ (fault, line) (sym reads ∙ is))
+found_fault (Err (refusals.Refused other place)) told fault line reads is =
+    inl (ap (λ f. Err (refusals.Refused f.0 f.1)) (same_fault (other, place) (fault, line) (sym reads ∙ is)))
+found_fault (Err refusals.NoMemory) told fault line reads is = inr refl
+
+-- what the answer to bytes is
+pub record IsExact (bytes : List ℕ) (answer : Result Plan SessionFault) : Type 0 where
+  pub holds : IsAnswer bytes answer
+  pub whole : (plan : Plan) → IsSession bytes plan → (answer ≡ Ok plan) ⊎ (answer ≡ Err refusals.NoMemory)
+  pub faulty : (fault : LineFault) (line : ℕ) → HasFault bytes fault line → (answer ≡ Err (refusals.Refused fault line)) ⊎ (answer ≡ Err refusals.NoMemory)
+
+pub IsExact-from_reads : (bytes : List ℕ) (found : Result (List AppBlock × ℕ) SessionFault) → Reads found (run stages.Heading 0 (lines_of bytes)) → IsExact bytes (as_plan found)
+IsExact-from_reads bytes found reads = record {
+  holds = IsAnswer-from_reads bytes found reads;
+  whole = λ plan is. found_plan found (run stages.Heading 0 (lines_of bytes)) plan reads (run-session (lines_of bytes) plan is);
+  faulty = λ fault line is. found_fault found (run stages.Heading 0 (lines_of bytes)) fault line reads (run-at_fault (lines_of bytes) fault line is);
+}
+
+-- the applications of blocks may come one after another
+pub AreAllowed-from_blocks : (before : List AppBlock) (lines : List (List ℕ)) (apps : List AppBlock) → AreBlocks before lines apps → AreAllowed before apps
+AreAllowed-from_blocks before lines [] are = tt
+AreAllowed-from_blocks before lines (app ∷ apps) are =
+    let head = (are.3).head in (
+      record { name_form = head.name_form; rect_range = head.rect_range; budget_range = head.budget_range },
+      are.4,
+      AreAllowed-from_blocks (before ++ app ∷ []) are.1 apps are.5,
+    )
+
+-- what a session says may be said
+pub IsAllowed-from_session : (bytes : List ℕ) (plan : Plan) → IsSession bytes plan → IsAllowed plan
+IsAllowed-from_session bytes plan is = record {
+  apps_may = AreAllowed-from_blocks [] is.0 plan.apps is.3;
+  end_range = (is.4).moment_range;
+}

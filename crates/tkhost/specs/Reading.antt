@@ -13,11 +13,10 @@ use Rattle.tkhost.specs.declared.fault.LineError.TheVariants.{Faulty, NoMemory}
 use Rattle.tkhost.specs.declared.fault.SessionFault.{SessionFault}
 use Rattle.tkhost.specs.declared.fault.SessionFault.TheVariants as refusals
 use Rattle.tkhost.specs.declared.session.AppBlock.{AppBlock}
-use Rattle.tkhost.specs.declared.session.Session.{Session}
 use Rattle.tkhost.specs.declared.fault.LineFault.{LineFault}
 use Rattle.tkhost.specs.declared.fault.LineFault.TheVariants.{BadLine, TooManyApps, NameTaken}
 use Rattle.tkhost.specs.declared.fault.LineFault.TheVariants as faults
-use Rattle.tkhost.specs.Session.{is_name, heading, events}
+use Rattle.tkhost.specs.Session.{is_name, heading, events, Plan}
 
 infixl 10 ◌>>=◌
 abbrev pub ◌>>=◌ : {A B : Type 0} → Option A → (A → Option B) → Option B
@@ -152,7 +151,7 @@ text_step apps head left script line =
 
 abbrev pub moment_step : List AppBlock → Option ℕ → Result Stage LineFault
 moment_step apps None = Err BadLine
-moment_step apps (Some moment) = Ok (stages.Whole (record { apps = apps; end = moment }))
+moment_step apps (Some moment) = Ok (stages.Whole apps moment)
 
 abbrev pub end_step : List AppBlock → List ℕ → Result Stage LineFault
 end_step apps line = moment_step apps (end_line_of line)
@@ -164,7 +163,7 @@ step (stages.Block apps) line = block_step apps line
 step (stages.Script apps head) line = script_step apps head line
 step (stages.Text apps head left script) line = text_step apps head left script line
 step (stages.End apps) line = end_step apps line
-step (stages.Whole session) line = Err BadLine
+step (stages.Whole apps end) line = Err BadLine
 
 -- what a step returned is what the definition tells, unless memory was refused
 abbrev pub Gives : Result Stage LineError → Result Stage LineFault → Type 0
@@ -173,25 +172,25 @@ Gives (Err NoMemory) told = Unit {0}
 Gives (Err (Faulty fault)) told = told ≡ Err fault
 
 -- the end of the text at a stage, as the line of this number
-abbrev pub finished : Stage → ℕ → Result Session (LineFault × ℕ)
-finished (stages.Whole session) number = Ok session
+abbrev pub finished : Stage → ℕ → Result Plan (LineFault × ℕ)
+finished (stages.Whole apps end) number = Ok (record { apps = apps; end = end })
 finished stages.Heading number = Err (BadLine, number)
 finished (stages.Block apps) number = Err (BadLine, number)
 finished (stages.Script apps head) number = Err (BadLine, number)
 finished (stages.Text apps head left script) number = Err (BadLine, number)
 finished (stages.End apps) number = Err (BadLine, number)
 
-abbrev pub and_on : Result Stage LineFault → ℕ → (Stage → Result Session (LineFault × ℕ)) → Result Session (LineFault × ℕ)
+abbrev pub and_on : Result Stage LineFault → ℕ → (Stage → Result Plan (LineFault × ℕ)) → Result Plan (LineFault × ℕ)
 and_on (Ok stage) number rest = rest stage
 and_on (Err fault) number rest = Err (fault, number)
 
 -- what the lines tell from a stage on, after so many lines
-abbrev pub run : Stage → ℕ → List (List ℕ) → Result Session (LineFault × ℕ)
+abbrev pub run : Stage → ℕ → List (List ℕ) → Result Plan (LineFault × ℕ)
 run stage number [] = finished stage (number + 1)
 run stage number (line ∷ lines) = and_on (step stage line) (number + 1) (λ next. run next (number + 1) lines)
 
--- what reading a session returned is what its lines tell, unless memory was refused
-abbrev pub Reads : Result Session SessionFault → Result Session (LineFault × ℕ) → Type 0
-Reads (Ok session) told = told ≡ Ok session
+-- what reading lines returned is what they tell, unless memory was refused
+abbrev pub Reads : Result (List AppBlock × ℕ) SessionFault → Result Plan (LineFault × ℕ) → Type 0
+Reads (Ok found) told = told ≡ Ok (record { apps = found.0; end = found.1 })
 Reads (Err refusals.NoMemory) told = Unit {0}
 Reads (Err (refusals.Refused fault line)) told = told ≡ Err (fault, line)

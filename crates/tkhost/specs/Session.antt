@@ -1,13 +1,12 @@
 -- Sessions of format 1: the text of each, and the first faulty line of a text that is none.
 use Rattle.std.specs.Prelude.{◌≡◌, ◌≢◌, ℕ, ◌+◌, ◌<◌, ◌≤◌, ◌^◌, Bool, true, false, ◌&&◌, ◌||◌, ◌==◌, nat_le, IsTrue, if◌then◌else◌, List, [], ◌∷◌, ◌++◌, length, codes, ◌⊎◌, Result, Ok, Err}
 use Rattle.std.specs.List.{AllByRecursion, join_with_byte, list_all, onto_first}
-use Rattle.std.specs.Int.{IsInRange}
+use Rattle.std.specs.Int.{IsInRange as IsBetween}
 use Rattle.std.specs.Fmt.{decimal}
 use Rattle.std.specs.Str.{IsUtf8}
 use Rattle.std.specs.Char.{is_ascii_alphabetic, is_ascii_alphanumeric}
 use Rattle.tkhost.specs.declared.rect.Rect.{Rect}
 use Rattle.tkhost.specs.declared.session.AppBlock.{AppBlock}
-use Rattle.tkhost.specs.declared.session.Session.{Session}
 use Rattle.tkhost.specs.declared.fault.LineFault.{LineFault}
 use Rattle.tkhost.specs.declared.fault.LineFault.TheVariants.{BadLine, TooManyApps, NameTaken}
 use Rattle.tkhost.specs.declared.fault.LineFault.TheVariants as faults
@@ -46,8 +45,8 @@ is_name (c ∷ cs) = is_ascii_alphabetic c && list_all is_name_part cs && nat_le
 pub record IsScreenRect (rect : Rect) : Type 0 where
   pub x : rect.x ≤ 32767
   pub y : rect.y ≤ 32767
-  pub width : IsInRange 1 32767 rect.width
-  pub height : IsInRange 1 32767 rect.height
+  pub width : IsBetween 1 32767 rect.width
+  pub height : IsBetween 1 32767 rect.height
 
 -- `app NAME X Y WIDTH HEIGHT BUDGET`
 pub record IsAppLine (line name : List ℕ) (rect : Rect) (budget : ℕ) : Type 0 where
@@ -114,6 +113,11 @@ AreBlocks before lines (app ∷ apps) = (own : List (List ℕ)) × (others : Lis
     × MayFollow before app.name app.rect
     × AreBlocks (before ++ app ∷ []) others apps
 
+-- what a session says: its applications, and the moment at which it ends
+pub record Plan : Type 0 where
+  pub apps : List AppBlock
+  pub end : ℕ
+
 -- A place in a session: what the lines before it have told, and which line comes next.
 pub data Place : Type 0 where
   AtHeading : Place
@@ -126,7 +130,7 @@ pub data Place : Type 0 where
   -- the end line
   AtEnd : (apps : List AppBlock) → Place
   -- nothing
-  PastEnd : (session : Session) → Place
+  PastEnd : (session : Plan) → Place
 
 -- the lines before a place
 abbrev pub Leads : List (List ℕ) → Place → Type 0
@@ -166,8 +170,24 @@ abbrev pub IsRefused : Place → List (List ℕ) → LineFault → Type 0
 IsRefused place [] fault = IsCut place fault
 IsRefused place (line ∷ lines) fault = IsFaulty place line fault
 
+-- the values of an application are in their ranges
+pub record IsInRange (app : AppBlock) : Type 0 where
+  pub name_form : IsTrue (is_name app.name)
+  pub rect_range : IsScreenRect app.rect
+  pub budget_range : app.budget ≤ 10000000
+
+-- the applications may come one after another behind those before
+abbrev pub AreAllowed : List AppBlock → List AppBlock → Type 0
+AreAllowed before [] = Unit {0}
+AreAllowed before (app ∷ apps) = IsInRange app × MayFollow before app.name app.rect × AreAllowed (before ++ app ∷ []) apps
+
+-- what a session may say
+pub record IsAllowed (plan : Plan) : Type 0 where
+  pub apps_may : AreAllowed [] plan.apps
+  pub end_range : plan.end ≤ 1000000000000
+
 -- the bytes are a session, and this is what it says
-abbrev pub IsSession : List ℕ → Session → Type 0
+abbrev pub IsSession : List ℕ → Plan → Type 0
 IsSession bytes session = Leads (lines_of bytes) (PastEnd session)
 
 -- The lines are no session: what is wrong with the first faulty one, and its number.
@@ -184,7 +204,7 @@ abbrev pub HasFault : List ℕ → LineFault → ℕ → Type 0
 HasFault bytes fault number = IsAtFault (lines_of bytes) fault number
 
 -- the answer to these bytes holds of them
-abbrev pub IsAnswer : List ℕ → Result Session SessionFault → Type 0
+abbrev pub IsAnswer : List ℕ → Result Plan SessionFault → Type 0
 IsAnswer bytes (Ok session) = IsSession bytes session
 IsAnswer bytes (Err (Refused fault line)) = HasFault bytes fault line
 IsAnswer bytes (Err NoMemory) = Unit {0}

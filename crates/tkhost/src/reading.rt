@@ -1,12 +1,11 @@
 ghost use Rattle.std.specs.Prelude.{◌≡◌, ℕ, ◌<◌, ◌∷◌, ◌⊎◌, length};
 ghost use Rattle.tkhost.specs.declared.fault.LineFault.{LineFault};
-ghost use Rattle.tkhost.specs.declared.session.Session.{Session};
-ghost use Rattle.tkhost.specs.Session.{lines_of, IsSession, HasFault, IsAnswer};
+ghost use Rattle.tkhost.specs.Session.{lines_of, Plan, IsSession, HasFault, IsAnswer};
 ghost use Rattle.tkhost.specs.Reading.{Reads, finished, run};
 
 use crate::fault::{LineError, LineFault, SessionFault};
 use crate::line::cut;
-use crate::session::Session;
+use crate::session::{AppBlocks, Session};
 use crate::stage::Stage;
 use std::alloc::Global;
 
@@ -22,12 +21,12 @@ fn cut_line(bytes: &[u8]) -> (&[u8], &[u8])
     }
 }
 
-/// The session, where the text may end at this stage; the line that is told otherwise is the one after the last.
-fn finish(stage: Stage, line: usize) -> Result<Session, SessionFault>
+/// The parts of a session, where the text may end at this stage; the line that is told otherwise is the one after the last.
+fn finish(stage: Stage, line: usize) -> Result<(AppBlocks, u64), SessionFault>
     ensures { Reads result (finished stage line) }
 {
     match stage {
-        Stage::Whole { session } => Ok(session),
+        Stage::Whole { apps, end } => Ok((apps, end)),
         _ => Err(SessionFault::Refused {
             fault: LineFault::BadLine,
             line,
@@ -35,7 +34,7 @@ fn finish(stage: Stage, line: usize) -> Result<Session, SessionFault>
     }
 }
 
-fn read_lines(alloc: Global, bytes: &[u8]) -> Result<Session, SessionFault>
+fn read_lines(alloc: Global, bytes: &[u8]) -> Result<(AppBlocks, u64), SessionFault>
     ensures { Reads result (run Stage.Heading 0 (lines_of bytes.now)) }
 {
     let mut stage = Stage::Heading;
@@ -65,10 +64,11 @@ fn read_lines(alloc: Global, bytes: &[u8]) -> Result<Session, SessionFault>
 /// It takes time in proportion to the bytes, and memory for the names and scripts alone.
 pub fn read_session(alloc: Global, bytes: &[u8]) -> Result<Session, SessionFault>
     ensures answer { IsAnswer bytes.now result }
-    ensures whole { (session : Session) → IsSession bytes.now session
-        → (result ≡ Ok session) ⊎ (result ≡ Err SessionFault.NoMemory) }
+    ensures whole { (plan : Plan) → IsSession bytes.now plan
+        → (result ≡ Ok plan) ⊎ (result ≡ Err SessionFault.NoMemory) }
     ensures faulty { (fault : LineFault) (line : ℕ) → HasFault bytes.now fault line
         → (result ≡ Err (SessionFault.Refused fault line)) ⊎ (result ≡ Err SessionFault.NoMemory) }
 {
-    read_lines(alloc, bytes)
+    let (apps, end) = read_lines(alloc, bytes)?;
+    Ok(Session::new(apps, end))
 }

@@ -1,4 +1,4 @@
-ghost use Rattle.std.specs.Prelude.{◌≡◌, ◌==◌, [], ◌∷◌, ◌++◌, length, OnOk, OnErr};
+ghost use Rattle.std.specs.Prelude.{◌≡◌, ◌≤◌, [], ◌∷◌, ◌++◌, OnOk, OnErr};
 
 use crate::rect::Rect;
 use std::alloc::{AllocError, Global};
@@ -57,9 +57,48 @@ impl AppBlocks {
     }
 }
 
-/// What a session says: its applications, and the moment at which it ends, in milliseconds.
+/// What a session says: its applications, which may stand side by side, and the moment at which it ends.
 #[derive(Drop)]
 pub struct Session {
-    pub apps: AppBlocks,
-    pub end: u64,
+    apps: AppBlocks,
+    end: u64,
+}
+
+impl Model for Session {
+    ghost use Rattle.tkhost.specs.Session.{Plan, IsAllowed};
+
+    ghost Value = { Plan };
+
+    ghost view = { λ s. record { apps = s.apps; end = s.end } };
+
+    ghost invariant = { λ s. IsAllowed (record { apps = s.apps; end = s.end }) };
+}
+
+impl Session {
+    ghost use Rattle.std.specs.Prelude.{[]};
+    ghost use Rattle.tkhost.specs.Session.{IsAllowed, AreAllowed};
+
+    /// What may stand in a session.
+    pub(crate) fn new(apps: AppBlocks, end: u64) -> Session
+        requires { IsAllowed (record { apps = apps; end = end }) }
+        ensures { result ≡ record { apps = apps; end = end } }
+    {
+        Session { apps, end }
+    }
+
+    /// The applications in their order.
+    pub fn apps(&self) -> &[AppBlock]
+        ensures apps { result.now ≡ self.now.apps }
+        ensures allowed { AreAllowed [] self.now.apps }
+    {
+        self.apps.as_slice()
+    }
+
+    /// The moment of the end, in milliseconds.
+    pub fn end(&self) -> u64
+        ensures end { result ≡ self.now.end }
+        ensures range { result ≤ 1000000000000 }
+    {
+        self.end
+    }
 }

@@ -8,7 +8,7 @@ use crate::fault::{LineError, LineFault};
 use crate::line::{app_line, end_line, script_line};
 use crate::rect::Rect;
 use crate::script::ScriptText;
-use crate::session::{AppBlock, AppBlocks, Session};
+use crate::session::{AppBlock, AppBlocks};
 use std::alloc::Global;
 use tcl_text::{Text, TextFault};
 
@@ -50,7 +50,8 @@ pub(crate) enum Stage {
     },
     /// Nothing.
     Whole {
-        session: Session,
+        apps: AppBlocks,
+        end: u64,
     },
 }
 
@@ -216,9 +217,7 @@ fn read_end(apps: AppBlocks, line: &[u8]) -> Result<Stage, LineError>
 {
     match end_line(line) {
         None => Err(LineError::Faulty(LineFault::BadLine)),
-        Some(end) => Ok(Stage::Whole {
-            session: Session { apps, end },
-        }),
+        Some(end) => Ok(Stage::Whole { apps, end }),
     }
 }
 

@@ -1,3 +1,6 @@
+ghost use Rattle.std.specs.Prelude.{◌≡◌};
+ghost use Rattle.tkhost.specs.Output.{number_of_fault};
+
 use std::alloc::{AllocError, AllocFailed};
 use thiserror::Error;
 
@@ -16,6 +19,20 @@ pub enum LineFault {
     /// An application before has this name (39).
     #[error("name is taken")]
     NameTaken,
+}
+
+impl LineFault {
+    /// The number that is told.
+    pub fn number(self) -> u8
+        ensures { result ≡ number_of_fault self }
+    {
+        match self {
+            LineFault::Overlap => 34,
+            LineFault::BadLine => 36,
+            LineFault::TooManyApps => 38,
+            LineFault::NameTaken => 39,
+        }
+    }
 }
 
 /// Why a line was not taken.

@@ -19,3 +19,6 @@ pub use output::{WriteFault, write_whole};
 pub use reading::read_session;
 pub use rect::Rect;
 pub use session::{AppBlock, AppBlocks, Session};
+
+#[cfg(test)]
+mod tests;

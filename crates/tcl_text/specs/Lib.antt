@@ -1,1 +1,3 @@
 -- What the contracts cite.
+pub mod Backslash
+pub mod Readings

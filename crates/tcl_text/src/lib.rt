@@ -2,7 +2,9 @@
 #![tactic(auto)]
 
 mod list;
+mod splitting;
 mod text;
 
 pub use list::TextList;
+pub use splitting::ListFault;
 pub use text::{Text, TextFault};

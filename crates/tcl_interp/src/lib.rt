@@ -1,0 +1,11 @@
+//! A Tcl interpreter on a stack of its own, which can stop after any number of steps.
+#![tactic(auto)]
+
+mod commands;
+mod interp;
+mod loops;
+mod machine;
+mod tasks;
+
+pub use interp::{Interp, SliceEnd};
+pub use tasks::{Act, Code, ReturnCode, Tasks};

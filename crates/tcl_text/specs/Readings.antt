@@ -1,0 +1,334 @@
+-- What can be read in a text: an integer, a boolean and a list, each as a relation on the whole text and as a function.
+use Rattle.std.specs.Prelude.{◌≡◌, ◌≢◌, ◌⊎◌, ℕ, zero, suc, ◌+◌, ◌*◌, ◌^◌, ℤ, pos, neg_ℤ, Bool, true, false, not, ◌&&◌, ◌||◌, ◌==◌, nat_eq, nat_lt, nat_le, if◌then◌else◌, List, [], ◌∷◌, ◌++◌, map, filter, IsTrue, Option, Some, None, Result, Ok, Err, codes, ⊤}
+use Rattle.std.specs.Char.{digit_value, to_ascii_lowercase}
+use Rattle.std.specs.List.{starts_with, list_all, join_with_byte, flat_map}
+use Rattle.std.specs.Str.Parse.{AllDigits, digits_value}
+use Rattle.tcl_text.specs.Backslash.{is_white, Mark, marks}
+use Rattle.tcl_text.specs.declared.splitting.Kind.{Kind}
+use Rattle.tcl_text.specs.declared.splitting.Kind.TheVariants.{White, OpenBrace, CloseBrace, Quote}
+use Rattle.tcl_text.specs.declared.splitting.ListFault.{ListFault}
+use Rattle.tcl_text.specs.declared.splitting.ListFault.TheVariants.{OpenBrace as UnmatchedBrace, OpenQuote as UnmatchedQuote, ExtraCharacters}
+
+-- white space and nothing else
+abbrev pub IsBlank : List ℕ → Type 0
+IsBlank text = IsTrue (list_all is_white text)
+
+-- ── integers ──
+
+-- the base that the letter of 0x, 0o or 0b names, in both cases
+abbrev pub base_named : ℕ → Option ℕ
+base_named c =
+    if c == 120 || c == 88 then Some 16
+    else (if c == 111 || c == 79 then Some 8
+    else (if c == 98 || c == 66 then Some 2
+    else None))
+
+-- what opens digits of this base: 0 with a letter, or nothing, and then digits that begin with 0 are octal and others decimal
+abbrev pub OpensDigits : List ℕ → List ℕ → ℕ → Type 0
+OpensDigits [] [] base = ⊥
+OpensDigits [] (d ∷ ds) base = base ≡ (if d == 48 then 8 else 10)
+OpensDigits (z ∷ []) digits base = ⊥
+OpensDigits (z ∷ letter ∷ []) digits base = (z ≡ 48) × (base_named letter ≡ Some base)
+OpensDigits (z ∷ letter ∷ c ∷ cs) digits base = ⊥
+
+-- one digit or more of a base, and their value
+pub record IsNumeral (text : List ℕ) (value : ℕ) : Type 0 where
+  pub base : ℕ
+  pub opening : List ℕ
+  pub digits : List ℕ
+  pub cut : text ≡ opening ++ digits
+  pub opened : OpensDigits opening digits base
+  pub some : digits ≢ []
+  pub each : AllDigits base digits
+  pub valued : value ≡ digits_value base digits
+
+-- a sign, if any, and whether it is a minus
+abbrev pub IsSign : List ℕ → Bool → Type 0
+IsSign [] negative = negative ≡ false
+IsSign (c ∷ []) negative = (c ≡ 43) × (negative ≡ false) ⊎ (c ≡ 45) × (negative ≡ true)
+IsSign (c ∷ d ∷ cs) negative = ⊥
+
+-- the number with its sign, where it fits 64 bits
+abbrev pub signed : Bool → ℕ → Option ℤ
+signed false n = if nat_lt n (2 ^ 63) then Some (pos n) else None
+signed true n = if nat_le n (2 ^ 63) then Some (neg_ℤ (pos n)) else None
+
+-- the text is the integer: a sign, if any, and a numeral, with white space around, in 64 bits
+pub record IsInteger (text : List ℕ) (value : ℤ) : Type 0 where
+  pub before : List ℕ
+  pub sign : List ℕ
+  pub numeral : List ℕ
+  pub after : List ℕ
+  pub negative : Bool
+  pub magnitude : ℕ
+  pub cut : text ≡ before ++ (sign ++ (numeral ++ after))
+  pub blank_before : IsBlank before
+  pub blank_after : IsBlank after
+  pub signs : IsSign sign negative
+  pub spells : IsNumeral numeral magnitude
+  pub valued : signed negative magnitude ≡ Some value
+
+-- the text without white space in front
+abbrev pub skip_white : List ℕ → List ℕ
+skip_white [] = []
+skip_white (c ∷ cs) = if is_white c then skip_white cs else c ∷ cs
+
+-- the number of which n are the digits so far and the text has the others, with white space behind them
+abbrev pub number_from : ℕ → ℕ → List ℕ → Option ℕ
+number_from base n [] = Some n
+number_from base n (c ∷ cs) =
+    if nat_lt (digit_value c) base then number_from base (n * base + digit_value c) cs
+    else (if list_all is_white (c ∷ cs) then Some n else None)
+
+-- the same with one digit at least
+abbrev pub number_in : ℕ → List ℕ → Option ℕ
+number_in base [] = None
+number_in base (c ∷ cs) = if nat_lt (digit_value c) base then number_from base (digit_value c) cs else None
+
+-- a numeral behind a 0
+abbrev pub behind_zero : List ℕ → Option ℕ → Option ℕ
+behind_zero text (Some base) = number_in base text
+behind_zero text None = None
+
+abbrev pub zero_numeral : List ℕ → Option ℕ
+zero_numeral [] = Some 0
+zero_numeral (c ∷ cs) = elim (base_named c) [ Some base ↦ number_in base cs | None ↦ number_from 8 0 (c ∷ cs) ]
+
+-- the number that a numeral in front spells, with white space behind it
+abbrev pub numeral_of : List ℕ → Option ℕ
+numeral_of [] = None
+numeral_of (c ∷ cs) = if c == 48 then zero_numeral cs else number_in 10 (c ∷ cs)
+
+abbrev pub signed_option : Bool → Option ℕ → Option ℤ
+signed_option negative None = None
+signed_option negative (Some n) = signed negative n
+
+abbrev pub signed_numeral : List ℕ → Option ℤ
+signed_numeral [] = None
+signed_numeral (c ∷ cs) =
+    if c == 45 then signed_option true (numeral_of cs)
+    else (if c == 43 then signed_option false (numeral_of cs)
+    else signed_option false (numeral_of (c ∷ cs)))
+
+-- the integer that the text is, if any
+unfoldable pub integer_of : List ℕ → Option ℤ
+integer_of text = signed_numeral (skip_white text)
+
+-- ── booleans ──
+
+-- the words for true and false
+abbrev pub boolean_words : List (List ℕ × Bool)
+boolean_words =
+    (codes "yes", true) ∷ (codes "no", false) ∷ (codes "true", true) ∷ (codes "false", false) ∷ (codes "on", true) ∷ (codes "off", false) ∷ []
+
+-- the words that begin with the text, ignoring ASCII case
+abbrev pub words_begun : List ℕ → List (List ℕ × Bool)
+words_begun text = filter (λ word. starts_with nat_eq word.0 (map to_ascii_lowercase text)) boolean_words
+
+-- the integer as a boolean: whether it isn't 0
+abbrev pub is_nonzero : ℤ → Bool
+is_nonzero (pos zero) = false
+is_nonzero _ = true
+
+-- the text is an integer, of which 0 is false, or begins exactly one of the words
+abbrev pub IsBoolean : List ℕ → Bool → Type 0
+IsBoolean text b =
+    ((n : ℤ) × IsInteger text n × (b ≡ is_nonzero n))
+    ⊎ ((word : List ℕ) × (words_begun text ≡ (word, b) ∷ []))
+
+-- the value of the only word
+abbrev pub only_word : List (List ℕ × Bool) → Option Bool
+only_word [] = None
+only_word (w ∷ []) = Some w.1
+only_word (v ∷ w ∷ ws) = None
+
+-- the boolean of the integer, or else that of the words
+abbrev pub boolean_by : Option ℤ → List ℕ → Option Bool
+boolean_by (Some n) text = Some (is_nonzero n)
+boolean_by None text = only_word (words_begun text)
+
+-- the boolean that the text is, if any
+unfoldable pub boolean_of : List ℕ → Option Bool
+boolean_of text = boolean_by (integer_of text) text
+
+-- ── lists ──
+
+-- how marks are written, and what they stand for
+abbrev pub written : List Mark → List ℕ
+written ms = flat_map (λ m. m.written) ms
+
+abbrev pub meant : List Mark → List ℕ
+meant ms = flat_map (λ m. m.meant) ms
+
+abbrev pub is_white_mark : Mark → Bool
+is_white_mark m = elim m.kind [ White ↦ true | _ ↦ false ]
+
+abbrev pub is_quote_mark : Mark → Bool
+is_quote_mark m = elim m.kind [ Quote ↦ true | _ ↦ false ]
+
+-- how many braces are open behind a mark, if it doesn't close one too many
+abbrev pub depth_after : ℕ → Kind → Option ℕ
+depth_after depth OpenBrace = Some (suc depth)
+depth_after zero CloseBrace = None
+depth_after (suc depth) CloseBrace = Some depth
+depth_after depth _ = Some depth
+
+-- each brace that isn't behind a backslash has its match, with so many open in front
+abbrev pub are_balanced : ℕ → List Mark → Bool
+are_balanced depth [] = depth == 0
+are_balanced depth (m ∷ ms) = elim (depth_after depth m.kind) [ Some next ↦ are_balanced next ms | None ↦ false ]
+
+-- An element and how it stands in a list.
+pub data IsElement : List Mark → List ℕ → Type 0 where
+  -- in braces, whose inside is taken as it is written
+  braced : (first last : Mark) (inside : List Mark) → first.kind ≡ OpenBrace → last.kind ≡ CloseBrace
+      → IsTrue (are_balanced 0 inside) → IsElement (first ∷ (inside ++ last ∷ [])) (written inside)
+  -- in quotes, with what backslashes stand for
+  quoted : (first last : Mark) (inside : List Mark) → first.kind ≡ Quote → last.kind ≡ Quote
+      → IsTrue (list_all (λ m. not (is_quote_mark m)) inside) → IsElement (first ∷ (inside ++ last ∷ [])) (meant inside)
+  -- bare, without white space, with what backslashes stand for
+  bare : (first : Mark) (others : List Mark) → first.kind ≢ OpenBrace → first.kind ≢ Quote
+      → IsTrue (list_all (λ m. not (is_white_mark m)) (first ∷ others)) → IsElement (first ∷ others) (meant (first ∷ others))
+
+-- a place at which an element may end: before white space, or at the end
+abbrev pub IsElementEnd : List Mark → Type 0
+IsElementEnd [] = ⊤
+IsElementEnd (m ∷ ms) = IsTrue (is_white_mark m)
+
+-- the marks are these elements, with white space between them and around
+abbrev pub AreElements : List Mark → List (List ℕ) → Type 0
+AreElements ms [] = IsTrue (list_all is_white_mark ms)
+AreElements ms (item ∷ items) =
+    (white : List Mark) × (element : List Mark) × (rest : List Mark) × (ms ≡ white ++ (element ++ rest))
+    × IsTrue (list_all is_white_mark white) × IsElement element item × IsElementEnd rest × AreElements rest items
+
+-- the text is the list of these items
+abbrev pub IsList : List ℕ → List (List ℕ) → Type 0
+IsList text items = AreElements (marks text) items
+
+-- where reading stands: between elements, in braces with so many more open, in quotes, in a bare element, or behind a
+-- closing brace or quote
+pub data Place : Type 0 where
+  between : Place
+  in_braces : ℕ → Place
+  in_quotes : Place
+  in_bare : Place
+  closed : Place
+
+-- what is left of the element that stands open, and the elements after it
+abbrev pub Reading : Type 0
+Reading = Result (List ℕ × List (List ℕ)) ListFault
+
+-- the place behind a mark
+abbrev pub place_after : Place → Kind → Place
+place_after between White = between
+place_after between OpenBrace = in_braces 0
+place_after between Quote = in_quotes
+place_after between _ = in_bare
+place_after (in_braces depth) OpenBrace = in_braces (suc depth)
+place_after (in_braces zero) CloseBrace = closed
+place_after (in_braces (suc depth)) CloseBrace = in_braces depth
+place_after (in_braces depth) _ = in_braces depth
+place_after in_quotes Quote = closed
+place_after in_quotes _ = in_quotes
+place_after in_bare White = between
+place_after in_bare _ = in_bare
+place_after closed White = between
+place_after closed _ = closed
+
+-- bytes in front of the element that stands open
+abbrev pub onto : List ℕ → Reading → Reading
+onto bytes (Ok r) = Ok (bytes ++ r.0, r.1)
+onto bytes (Err f) = Err f
+
+-- the element that stood open begins here
+abbrev pub begun : Reading → Reading
+begun (Ok r) = Ok ([], r.0 ∷ r.1)
+begun (Err f) = Err f
+
+-- what a mark adds to the reading of what stands behind it
+abbrev pub with_mark : Place → Kind → Mark → Reading → Reading
+with_mark between White m r = r
+with_mark between OpenBrace m r = begun r
+with_mark between Quote m r = begun r
+with_mark between _ m r = begun (onto m.meant r)
+with_mark (in_braces zero) CloseBrace m r = r
+with_mark (in_braces depth) _ m r = onto m.written r
+with_mark in_quotes Quote m r = r
+with_mark in_quotes _ m r = onto m.meant r
+with_mark in_bare White m r = r
+with_mark in_bare _ m r = onto m.meant r
+with_mark closed White m r = r
+with_mark closed _ m r = Err ExtraCharacters
+
+-- what the end of the text is
+abbrev pub at_end : Place → Reading
+at_end (in_braces depth) = Err UnmatchedBrace
+at_end in_quotes = Err UnmatchedQuote
+at_end _ = Ok ([], [])
+
+abbrev pub reading : Place → List Mark → Reading
+reading place [] = at_end place
+reading place (m ∷ ms) = with_mark place m.kind m (reading (place_after place m.kind) ms)
+
+abbrev pub elements : Reading → Result (List (List ℕ)) ListFault
+elements (Ok r) = Ok r.1
+elements (Err f) = Err f
+
+-- the items of the list that the text is, or the first fault in it
+unfoldable pub list_of : List ℕ → Result (List (List ℕ)) ListFault
+list_of text = elements (reading between (marks text))
+
+-- ── the list form ──
+
+-- a byte that a list gives a meaning: white space, quote, braces, brackets, dollar, semicolon and backslash
+abbrev pub is_special : ℕ → Bool
+is_special c = is_white c || (c == 34 || (c == 36 || (c == 59 || (c == 91 || (c == 92 || (c == 93 || (c == 123 || c == 125)))))))
+
+abbrev pub begins_comment : List ℕ → Bool
+begins_comment [] = false
+begins_comment (c ∷ cs) = c == 35
+
+-- the letter behind a backslash that stands for a byte, or the byte itself
+abbrev pub letter_of : ℕ → ℕ
+letter_of c =
+    if c == 10 then 110
+    else (if c == 9 then 116
+    else (if c == 11 then 118
+    else (if c == 12 then 102
+    else (if c == 13 then 114
+    else c))))
+
+-- each special byte behind a backslash
+abbrev pub with_backslashes : List ℕ → List ℕ
+with_backslashes [] = []
+with_backslashes (c ∷ cs) = if is_special c then 92 ∷ letter_of c ∷ with_backslashes cs else c ∷ with_backslashes cs
+
+-- and a first # too
+abbrev pub backslashed : List ℕ → List ℕ
+backslashed item = if begins_comment item then 92 ∷ with_backslashes item else with_backslashes item
+
+-- whether a backslash and a newline stand side by side, or a backslash at the end
+abbrev pub has_joined_line : List ℕ → Bool
+has_joined_line [] = false
+has_joined_line (c ∷ []) = c == 92
+has_joined_line (c ∷ d ∷ cs) = (c == 92 && d == 10) || has_joined_line (d ∷ cs)
+
+-- whether an element can stand as it is, or in braces
+abbrev pub can_be_bare : List ℕ → Bool
+can_be_bare item = not (begins_comment item) && list_all (λ c. not (is_special c)) item
+
+abbrev pub can_be_braced : List ℕ → Bool
+can_be_braced item = are_balanced 0 (marks item) && not (has_joined_line item)
+
+-- how an item is written as an element
+abbrev pub element_form : List ℕ → List ℕ
+element_form [] = codes "{}"
+element_form (c ∷ cs) =
+    if can_be_bare (c ∷ cs) then c ∷ cs
+    else (if can_be_braced (c ∷ cs) then 123 ∷ ((c ∷ cs) ++ 125 ∷ [])
+    else backslashed (c ∷ cs))
+
+-- the one text of the items: their elements with a blank between each two
+unfoldable pub list_form : List (List ℕ) → List ℕ
+list_form items = join_with_byte 32 (map element_form items)

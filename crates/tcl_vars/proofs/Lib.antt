@@ -1,0 +1,3 @@
+pub mod LinkLemmas
+pub mod NameLemmas
+pub mod NamedLemmas

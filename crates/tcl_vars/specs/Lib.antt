@@ -1,0 +1,6 @@
+pub mod Name
+pub mod Named
+pub mod Shown
+pub mod Sound
+pub mod Store
+pub mod Table

@@ -1,0 +1,11 @@
+//! Tcl scripts, read whole into commands, words and pieces.
+#![tactic(auto)]
+
+mod fault;
+mod kind;
+mod parser;
+mod script;
+
+pub use fault::ParseFault;
+pub use parser::parse;
+pub use script::{Command, Index, Piece, Pieces, Script, Span, Word, WordForm, Words};

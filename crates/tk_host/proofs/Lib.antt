@@ -1,0 +1,4 @@
+mod History
+mod Order
+mod Runs
+mod Words

@@ -1,3 +1,4 @@
+pub mod Names
 pub mod Lines
 pub mod LineLaws
 pub mod StepLemmas

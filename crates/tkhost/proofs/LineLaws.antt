@@ -2,7 +2,7 @@
 use Rattle.std.proofs.Common.{◌≡◌, ◌≢◌, ℕ, zero, suc, ◌+◌, ◌<◌, ◌≤◌, ◌^◌, Bool, true, false, ◌&&◌, ◌||◌, cond, eqb, leb, List, [], ◌∷◌, ◌++◌, length, get_or, Option, Some, None, option_map, not, inl, inr, refl, ap, sym, ◌∙◌, subst, arith, lit<, length-append}
 use Rattle.std.specs.Prelude.{codes, IsTrue}
 use Rattle.std.specs.List.{list_all, AllByRecursion, join_with_byte}
-use Rattle.std.specs.Int.{IsInRange, is_in_range}
+use Rattle.std.specs.Int.{is_in_range}
 use Rattle.std.specs.Char.{is_ascii_digit, is_ascii_alphabetic, is_ascii_alphanumeric}
 use Rattle.std.specs.Fmt.{decimal}
 use Rattle.std.specs.Str.{bytes_eq, all_ascii_digits}
@@ -11,9 +11,11 @@ use Rattle.std.proofs.lemmas.Bool.{false≢true, eq-eqb, ne_eqb, eqb-true, and_p
 use Rattle.std.proofs.lemmas.Fmt.{decimal_digit, first_decimal, digits_decimal, digits_value-decimal, decimal-digits_value, decimal_nonempty}
 use Rattle.std.proofs.lemmas.Option.{cond_some, none-some, same_Some}
 use Rattle.std.proofs.lemmas.Slice.Eq.{bytes_eq-Decides}
-use Rattle.tkhost.specs.declared.rect.Rect.{Rect}
-use Rattle.tkhost.specs.Session.{is_name, is_name_part, lines_of, spelled, IsScreenRect, IsAppLine, IsScriptLine, IsEndLine}
-use Rattle.tkhost.specs.Reading.{◌>>=◌, cut_at, is_numeral, has_plain_front, number_of, number_field, rect_field, name_of, behind, app_line_of, script_line_of, end_line_of}
+use Rattle.tk_host.specs.declared.rect.Rect.{Rect}
+use Rattle.tk_host.specs.Spec.{IsName, IsNameByte, IsLength, IsInRange, given}
+use Rattle.tkhost.specs.Session.{lines_of, spelled, IsAppLine, IsScriptLine, IsEndLine}
+use Rattle.tkhost.specs.Reading.{◌>>=◌, is_name, is_name_part, cut_at, is_numeral, has_plain_front, number_of, number_field, rect_field, name_of, behind, app_line_of, script_line_of, end_line_of}
+use Rattle.tkhost.proofs.Names.{is_name-Decides}
 use Rattle.tkhost.proofs.Lines.{digits_model, list_all-digits, digits_from_numeral, numeral_nonempty}
 
 -- a chain that gives something goes on from something
@@ -142,6 +144,13 @@ unfolding number_field
 number_field-decimal least most n rest small low high =
     rw (cut_at-append 32 (decimal n) rest (Lacks-decimal n (omega arith)), number_of-decimal least most n small low high) refl
 
+-- a corner and a size as an application has them
+pub record IsScreenRect (rect : Rect) : Type 0 where
+  pub x : rect.x ≤ 32767
+  pub y : rect.y ≤ 32767
+  pub width : IsLength rect.width
+  pub height : IsLength rect.height
+
 pub rect_field-some : (text : List ℕ) (p : Rect × List ℕ) → rect_field text ≡ Some p → (text ≡ decimal p.0.x ++ 32 ∷ (decimal p.0.y ++ 32 ∷ (decimal p.0.width ++ 32 ∷ (decimal p.0.height ++ 32 ∷ p.1)))) × IsScreenRect p.0
 unfolding rect_field
 rect_field-some text p h =
@@ -189,6 +198,16 @@ behind-some word line fields h =
 pub behind-append : (word fields : List ℕ) → Lacks 32 word → behind word (word ++ 32 ∷ fields) ≡ Some fields
 behind-append word fields lacks = rw (cut_at-append 32 word fields lacks, bytes_eq-same word) refl
 
+in_range : (name : List ℕ) (rect : Rect) (budget : ℕ) → is_name name ≡ true → IsScreenRect rect → budget ≤ 10000000 → IsInRange (given name rect [] budget)
+in_range name rect budget named placed few = record {
+  named = (is_name-Decides name).0 named;
+  x_fits = placed.x;
+  y_fits = placed.y;
+  width_fits = placed.width;
+  height_fits = placed.height;
+  budget_fits = few;
+}
+
 pub app_line_of-some : (line : List ℕ) (app : List ℕ × Rect × ℕ) → app_line_of line ≡ Some app → IsAppLine line app.0 app.1 app.2
 unfolding app_line_of
 app_line_of-some line app h =
@@ -209,20 +228,21 @@ app_line_of-some line app h =
     ∙ ap (λ rest. decimal rect.0.0.x ++ 32 ∷ (decimal rect.0.0.y ++ 32 ∷ (decimal rect.0.0.width ++ 32 ∷ (decimal rect.0.0.height ++ 32 ∷ rest)))) budget_is.0)) in
     subst P (same_Some _ _ budget.1.1) record {
       spelling = spelling;
-      name_form = sym (ap is_name name_is.1) ∙ name_is.0;
-      rect_range = rect_is.1;
-      budget_range = budget_is.2;
+      values = in_range name.0 rect.0.0 budget.0 (sym (ap is_name name_is.1) ∙ name_is.0) rect_is.1 budget_is.2;
     }
 
 pub app_line_of-spelled : (line name : List ℕ) (rect : Rect) (budget : ℕ) → IsAppLine line name rect budget → app_line_of line ≡ Some (name, rect, budget)
 unfolding app_line_of
 app_line_of-spelled line name rect budget is =
+    let values = is.values in
+    let named : is_name name ≡ true = (is_name-Decides name).1 values.named in
+    let placed : IsScreenRect rect = record { x = values.x_fits; y = values.y_fits; width = values.width_fits; height = values.height_fits } in
     ap app_line_of is.spelling
     ∙ rw (
-      cut_at-append 32 name (decimal rect.x ++ 32 ∷ (decimal rect.y ++ 32 ∷ (decimal rect.width ++ 32 ∷ (decimal rect.height ++ 32 ∷ decimal budget)))) (Lacks-name name is.name_form),
-      is.name_form,
-      rect_field-spelled rect (decimal budget) is.rect_range,
-      number_of-decimal 0 10000000 budget (lit< tt) (omega arith) is.budget_range,
+      cut_at-append 32 name (decimal rect.x ++ 32 ∷ (decimal rect.y ++ 32 ∷ (decimal rect.width ++ 32 ∷ (decimal rect.height ++ 32 ∷ decimal budget)))) (Lacks-name name named),
+      named,
+      rect_field-spelled rect (decimal budget) placed,
+      number_of-decimal 0 10000000 budget (lit< tt) (omega arith) values.budget_fits,
     ) refl
 
 pub script_line_of-some : (line : List ℕ) (count : ℕ) → script_line_of line ≡ Some count → IsScriptLine line count

@@ -12,8 +12,7 @@ use Rattle.std.proofs.lemmas.Fmt.{IsAscii-from_digits}
 use Rattle.std.proofs.lemmas.Bool.{false≢true, eq-eqb, ne_eqb, eqb-true, and_parts, lt-leb, leb-true, or_cases}
 use Rattle.std.proofs.Math.Bool.{and-false}
 use Rattle.memchr.specs.Find.{IsFirstByte, is_byte}
-use Rattle.tkhost.specs.Session.{is_name, is_name_part}
-use Rattle.tkhost.specs.Reading.{cut_at, is_numeral, has_plain_front, number_of}
+use Rattle.tkhost.specs.Reading.{is_name, is_name_part, cut_at, is_numeral, has_plain_front, number_of}
 
 pub cut_at-none : (byte : ℕ) (text : List ℕ) → ((k : ℕ) → k < length text → get_or text k 0 ≢ byte) → cut_at byte text ≡ None
 cut_at-none byte [] away = refl

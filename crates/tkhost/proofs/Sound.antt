@@ -7,7 +7,7 @@ use Rattle.std.proofs.Math.Seq.{append_snoc}
 use Rattle.std.proofs.lemmas.Bool.{false≢true, cases_Bool, eqb-true, eqb-false, leb-true, leb-false}
 use Rattle.std.proofs.lemmas.Option.{none-some}
 use Rattle.std.proofs.lemmas.Slice.Eq.{bytes_eq-Decides}
-use Rattle.tkhost.specs.declared.rect.Rect.{Rect}
+use Rattle.tk_host.specs.declared.rect.Rect.{Rect}
 use Rattle.tkhost.specs.declared.session.AppBlock.{AppBlock}
 use Rattle.tkhost.specs.declared.fault.LineFault.{LineFault}
 use Rattle.tkhost.specs.declared.fault.LineFault.TheVariants.{BadLine}
@@ -264,8 +264,15 @@ IsExact-from_reads bytes found reads = record {
 pub AreAllowed-from_blocks : (before : List AppBlock) (lines : List (List ℕ)) (apps : List AppBlock) → AreBlocks before lines apps → AreAllowed before apps
 AreAllowed-from_blocks before lines [] are = tt
 AreAllowed-from_blocks before lines (app ∷ apps) are =
-    let head = (are.3).head in (
-      record { name_form = head.name_form; rect_range = head.rect_range; budget_range = head.budget_range },
+    let values = (are.3).head.values in (
+      record {
+        named = values.named;
+        x_fits = values.x_fits;
+        y_fits = values.y_fits;
+        width_fits = values.width_fits;
+        height_fits = values.height_fits;
+        budget_fits = values.budget_fits;
+      },
       are.4,
       AreAllowed-from_blocks (before ++ app ∷ []) are.1 apps are.5,
     )

@@ -5,8 +5,8 @@ use Rattle.std.specs.Str.{IsUtf8, is_utf8}
 use Rattle.std.proofs.lemmas.Str.{is_utf8-from_IsUtf8, IsUtf8-from_is_utf8}
 use Rattle.std.proofs.lemmas.Bool.{lt-ltb, ltb-true, cond-true, cond-false, false_from_ne_true}
 use Rattle.std.proofs.lemmas.Bool.Decides.{Decides-and, Decides-like}
-use Rattle.tkhost.specs.declared.rect.Rect.{Rect}
-use Rattle.tkhost.specs.Rect.{IsWithin, Meet, Overlap}
+use Rattle.tk_host.specs.declared.rect.Rect.{Rect}
+use Rattle.tk_host.specs.Rect.{Meet, SharePixel}
 use Rattle.tkhost.specs.Reading.{meet, overlap}
 
 -- what `from_utf8` answers, as a test
@@ -21,7 +21,7 @@ meet-Decides start len other_start other_len = (
   λ m. lt-ltb _ _ (omega (arith, m.1.0, m.1.1, m.2.0, m.2.1)),
 )
 
-pub overlap-Decides : (a b : Rect) → Decides (overlap a b) (Overlap a b)
+pub overlap-Decides : (a b : Rect) → Decides (overlap a b) (SharePixel a b)
 overlap-Decides a b = Decides-like (overlap a b)
     (λ m. (m.0.0, m.1.0, (m.0.1, m.1.1), (m.0.2, m.1.2)))
     (λ o. ((o.0, o.2.0, o.3.0), (o.1, o.2.1, o.3.1)))

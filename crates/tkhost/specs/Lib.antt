@@ -1,4 +1,3 @@
-pub mod Rect
 pub mod Session
 pub mod Reading
 pub mod Output

@@ -2,9 +2,9 @@
 use Rattle.std.specs.Prelude.{◌≡◌, ℕ, zero, suc, ◌+◌, ◌-◌, Bool, true, false, ◌&&◌, ◌||◌, ◌==◌, nat_le, nat_lt, min, max, if◌then◌else◌, List, [], ◌∷◌, ◌++◌, length, codes, Option, Some, None, option_map, Result, Ok, Err, unwrap_or, not}
 use Rattle.std.specs.List.{join_with_byte, list_any, list_all}
 use Rattle.std.specs.Str.{is_utf8, bytes_eq}
-use Rattle.std.specs.Char.{is_ascii_digit}
+use Rattle.std.specs.Char.{is_ascii_digit, is_ascii_alphabetic, is_ascii_alphanumeric}
 use Rattle.std.specs.Str.Parse.{digits_value}
-use Rattle.tkhost.specs.declared.rect.Rect.{Rect}
+use Rattle.tk_host.specs.declared.rect.Rect.{Rect}
 use Rattle.tkhost.specs.declared.stage.Head.{Head}
 use Rattle.tkhost.specs.declared.stage.Stage.{Stage}
 use Rattle.tkhost.specs.declared.stage.Stage.TheVariants as stages
@@ -16,7 +16,7 @@ use Rattle.tkhost.specs.declared.session.AppBlock.{AppBlock}
 use Rattle.tkhost.specs.declared.fault.LineFault.{LineFault}
 use Rattle.tkhost.specs.declared.fault.LineFault.TheVariants.{BadLine, TooManyApps, NameTaken}
 use Rattle.tkhost.specs.declared.fault.LineFault.TheVariants as faults
-use Rattle.tkhost.specs.Session.{is_name, heading, events, Plan}
+use Rattle.tkhost.specs.Session.{heading, events, Plan}
 
 infixl 10 ◌>>=◌
 abbrev pub ◌>>=◌ : {A B : Type 0} → Option A → (A → Option B) → Option B
@@ -58,6 +58,14 @@ rect_field text = do
   width ← number_field 1 32767 y.1
   height ← number_field 1 32767 width.1
   Some (record { x = x.0; y = y.0; width = width.0; height = height.0 }, height.1)
+
+abbrev pub is_name_part : ℕ → Bool
+is_name_part c = is_ascii_alphanumeric c || c == 95
+
+-- a letter, and then letters, digits and underscores, 32 in all at most
+abbrev pub is_name : List ℕ → Bool
+is_name [] = false
+is_name (c ∷ cs) = is_ascii_alphabetic c && list_all is_name_part cs && nat_lt (length cs) 32
 
 abbrev pub name_of : List ℕ → Option (List ℕ)
 name_of field = if is_name field then Some field else None

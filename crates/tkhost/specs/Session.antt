@@ -1,18 +1,17 @@
 -- Sessions of format 1: the text of each, and the first faulty line of a text that is none.
 use Rattle.std.specs.Prelude.{◌≡◌, ◌≢◌, ℕ, ◌+◌, ◌<◌, ◌≤◌, ◌^◌, Bool, true, false, ◌&&◌, ◌||◌, ◌==◌, nat_le, IsTrue, if◌then◌else◌, List, [], ◌∷◌, ◌++◌, length, codes, ◌⊎◌, Result, Ok, Err}
 use Rattle.std.specs.List.{AllByRecursion, join_with_byte, list_all, onto_first}
-use Rattle.std.specs.Int.{IsInRange as IsBetween}
 use Rattle.std.specs.Fmt.{decimal}
 use Rattle.std.specs.Str.{IsUtf8}
-use Rattle.std.specs.Char.{is_ascii_alphabetic, is_ascii_alphanumeric}
-use Rattle.tkhost.specs.declared.rect.Rect.{Rect}
+use Rattle.tk_host.specs.declared.rect.Rect.{Rect}
 use Rattle.tkhost.specs.declared.session.AppBlock.{AppBlock}
 use Rattle.tkhost.specs.declared.fault.LineFault.{LineFault}
 use Rattle.tkhost.specs.declared.fault.LineFault.TheVariants.{BadLine, TooManyApps, NameTaken}
 use Rattle.tkhost.specs.declared.fault.LineFault.TheVariants as faults
 use Rattle.tkhost.specs.declared.fault.SessionFault.{SessionFault}
 use Rattle.tkhost.specs.declared.fault.SessionFault.TheVariants.{Refused, NoMemory}
-use Rattle.tkhost.specs.Rect as rects
+use Rattle.tk_host.specs.Rect.{SharePixel}
+use Rattle.tk_host.specs.Spec.{IsInRange, given}
 
 -- the bytes of a line, without the LF at its end
 abbrev pub Line : Type 0
@@ -33,27 +32,10 @@ heading = codes "tkhost 1"
 abbrev pub events : List ℕ
 events = codes "events"
 
-abbrev pub is_name_part : ℕ → Bool
-is_name_part c = is_ascii_alphanumeric c || c == 95
-
--- a letter, and then letters, digits and underscores, 32 in all at most
-abbrev pub is_name : List ℕ → Bool
-is_name [] = false
-is_name (c ∷ cs) = is_ascii_alphabetic c && list_all is_name_part cs && nat_le (length cs) 31
-
--- a corner from 0 to 32,767, and a size from 1 on
-pub record IsScreenRect (rect : Rect) : Type 0 where
-  pub x : rect.x ≤ 32767
-  pub y : rect.y ≤ 32767
-  pub width : IsBetween 1 32767 rect.width
-  pub height : IsBetween 1 32767 rect.height
-
--- `app NAME X Y WIDTH HEIGHT BUDGET`
+-- `app NAME X Y WIDTH HEIGHT BUDGET`, with values that a host takes
 pub record IsAppLine (line name : List ℕ) (rect : Rect) (budget : ℕ) : Type 0 where
   pub spelling : line ≡ spelled (codes "app" ∷ name ∷ decimal rect.x ∷ decimal rect.y ∷ decimal rect.width ∷ decimal rect.height ∷ decimal budget ∷ [])
-  pub name_form : IsTrue (is_name name)
-  pub rect_range : IsScreenRect rect
-  pub budget_range : budget ≤ 10000000
+  pub values : IsInRange (given name rect [] budget)
 
 -- `script COUNT`
 pub record IsScriptLine (line : List ℕ) (count : ℕ) : Type 0 where
@@ -89,7 +71,7 @@ IsTaken name (app ∷ apps) = (app.name ≡ name) ⊎ IsTaken name apps
 -- an application of the list has a pixel of the rectangle
 abbrev pub IsCovered : Rect → List AppBlock → Type 0
 IsCovered rect [] = ⊥
-IsCovered rect (app ∷ apps) = rects.Overlap app.rect rect ⊎ IsCovered rect apps
+IsCovered rect (app ∷ apps) = SharePixel app.rect rect ⊎ IsCovered rect apps
 
 -- what keeps an application with this name and rectangle from coming after apps, the first in this order
 abbrev pub Hinders : LineFault → List AppBlock → List ℕ → Rect → Type 0
@@ -170,16 +152,10 @@ abbrev pub IsRefused : Place → List (List ℕ) → LineFault → Type 0
 IsRefused place [] fault = IsCut place fault
 IsRefused place (line ∷ lines) fault = IsFaulty place line fault
 
--- the values of an application are in their ranges
-pub record IsInRange (app : AppBlock) : Type 0 where
-  pub name_form : IsTrue (is_name app.name)
-  pub rect_range : IsScreenRect app.rect
-  pub budget_range : app.budget ≤ 10000000
-
 -- the applications may come one after another behind those before
 abbrev pub AreAllowed : List AppBlock → List AppBlock → Type 0
 AreAllowed before [] = Unit {0}
-AreAllowed before (app ∷ apps) = IsInRange app × MayFollow before app.name app.rect × AreAllowed (before ++ app ∷ []) apps
+AreAllowed before (app ∷ apps) = IsInRange (given app.name app.rect app.script app.budget) × MayFollow before app.name app.rect × AreAllowed (before ++ app ∷ []) apps
 
 -- what a session may say
 pub record IsAllowed (plan : Plan) : Type 0 where

@@ -7,7 +7,6 @@ mod line;
 mod outcome;
 mod output;
 mod reading;
-mod rect;
 mod script;
 mod session;
 mod stage;
@@ -17,8 +16,8 @@ pub use input::{InputFault, read_input};
 pub use outcome::Outcome;
 pub use output::{WriteFault, write_whole};
 pub use reading::read_session;
-pub use rect::Rect;
 pub use session::{AppBlock, AppBlocks, Session};
+pub use tk_host::Rect;
 
 #[cfg(test)]
 mod tests;

@@ -4,11 +4,10 @@ ghost use Rattle.std.specs.Prelude.{◌≡◌, ◌≤◌, length, option_map, If
 ghost use Rattle.std.specs.List.{list_all};
 ghost use Rattle.std.specs.Char.{is_ascii_digit};
 ghost use Rattle.std.specs.Str.{IsUtf8};
-ghost use Rattle.tkhost.specs.Session.{is_name, is_name_part};
 ghost use Rattle.tkhost.specs.Reading.{cut_at, behind, has_plain_front, is_numeral, number_of, number_field, rect_field, name_of, app_line_of, script_line_of, end_line_of};
 
-use crate::rect::Rect;
 use memchr::memchr;
+use tk_host::Rect;
 
 /// The largest coordinate, width and height of a rectangle.
 const MAX_PIXELS: u64 = 32_767;
@@ -115,27 +114,11 @@ fn leading_rect(text: &[u8]) -> Option<(Rect, &[u8])>
     Some((rect, rest))
 }
 
-fn are_name_parts(text: &[u8]) -> bool
-    ensures { result ≡ list_all is_name_part text.now }
-{
-    text.iter().all(|c| c.is_ascii_alphanumeric() || *c == b'_')
-}
-
-/// Whether an application may have this name.
-fn is_app_name(name: &[u8]) -> bool
-    ensures { result ≡ is_name name.now }
-{
-    let Some((first, rest)) = name.split_first() else {
-        return false;
-    };
-    first.is_ascii_alphabetic() && are_name_parts(rest) && rest.len() <= 31
-}
-
 fn name(field: &[u8]) -> Option<&str>
     ensures short { IfSome result (λ name. length name.now ≤ 32) }
     ensures name { option_map (λ name. name.now) result ≡ name_of field.now }
 {
-    if !is_app_name(field) {
+    if !tk_host::is_name(field) {
         return None;
     }
     Some(as_text(field))

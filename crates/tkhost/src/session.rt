@@ -1,9 +1,9 @@
 ghost use Rattle.std.specs.Prelude.{◌≡◌, ◌≤◌, [], ◌∷◌, ◌++◌, OnOk, OnErr};
 
-use crate::rect::Rect;
 use std::alloc::{AllocError, Global};
 use std::marker::Model;
 use tcl_text::Text;
+use tk_host::Rect;
 
 /// An application of a session.
 #[derive(Drop)]

@@ -6,11 +6,11 @@ ghost use Rattle.tkhost.specs.Reading.{Gives, overlap, is_taken, is_covered, hin
 
 use crate::fault::{LineError, LineFault};
 use crate::line::{app_line, end_line, script_line};
-use crate::rect::Rect;
 use crate::script::ScriptText;
 use crate::session::{AppBlock, AppBlocks};
 use std::alloc::Global;
 use tcl_text::{Text, TextFault};
+use tk_host::Rect;
 
 /// How many applications a session has at most.
 const MAX_APPS: usize = 16;

@@ -7,3 +7,4 @@ pub mod Scripts
 pub mod Complete
 pub mod Sound
 pub mod Streams
+pub mod PlayLemmas

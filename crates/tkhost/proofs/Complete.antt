@@ -1,21 +1,18 @@
 -- What is a session is read as it is, and what has a fault is refused with that fault.
-use Rattle.std.proofs.Common.{◌≡◌, ◌≢◌, ℕ, zero, suc, ◌+◌, ◌-◌, ◌<◌, ◌≤◌, Bool, true, false, ◌&&◌, cond, eqb, leb, List, [], ◌∷◌, ◌++◌, length, Option, Some, None, Result, Ok, Err, ◌⊎◌, inl, inr, refl, sym, ◌∙◌, ap, subst, arith, add-zero, length-append, append_assoc}
-use Rattle.std.specs.Prelude.{codes}
-use Rattle.std.specs.List.{join_with_byte, AllByRecursion}
-use Rattle.std.specs.Str.{IsUtf8, is_utf8, bytes_eq}
+use Rattle.std.proofs.Common.{◌≡◌, ◌≢◌, ℕ, suc, ◌+◌, ◌-◌, ◌<◌, ◌≤◌, false, List, [], ◌∷◌, ◌++◌, length, Option, Some, None, Ok, Err, inl, inr, refl, sym, ◌∙◌, ap, subst, arith, add-zero, length-append, append_assoc}
+use Rattle.std.specs.List.{join_with_byte}
+use Rattle.std.specs.Str.{bytes_eq}
 use Rattle.std.proofs.lemmas.List.{append-nil}
 use Rattle.std.proofs.Math.Seq.{append_snoc}
-use Rattle.std.proofs.lemmas.Bool.{false≢true, cases_Bool, ne_eqb, lt-leb, le-leb, false_from_ne_true}
-use Rattle.std.proofs.lemmas.Slice.Eq.{bytes_eq-Decides}
+use Rattle.std.proofs.lemmas.Bool.{ne_eqb, lt-leb, le-leb, false_from_ne_true}
 use Rattle.tk_host.specs.declared.rect.Rect.{Rect}
 use Rattle.tkhost.specs.declared.session.AppBlock.{AppBlock}
 use Rattle.tkhost.specs.declared.fault.LineFault.{LineFault}
-use Rattle.tkhost.specs.declared.fault.LineFault.TheVariants.{BadLine}
 use Rattle.tkhost.specs.declared.stage.Head.{Head}
 use Rattle.tkhost.specs.declared.stage.Stage.{Stage}
 use Rattle.tkhost.specs.declared.stage.Stage.TheVariants as stages
-use Rattle.tkhost.specs.Session.{heading, events, IsAppLine, IsScriptLine, IsEndLine, IsScript, IsBlock, MayFollow, Hinders, AreBlocks, Place, AtHeading, AtBlock, AtScript, AtText, AtEnd, PastEnd, Plan, Leads, IsFaulty, IsCut, IsRefused, IsAtFault}
-use Rattle.tkhost.specs.Reading.{step, run, finished, and_on, closed, text_read, text_step, app_line_of, script_line_of, end_line_of, hindrance}
+use Rattle.tkhost.specs.Session.{heading, events, IsAppLine, IsScriptLine, IsScript, IsBlock, MayFollow, Hinders, AreBlocks, Place, AtHeading, AtBlock, AtScript, AtText, AtEnd, PastEnd, Plan, Leads, IsFaulty, IsCut, IsRefused, IsAtFault}
+use Rattle.tkhost.specs.Reading.{step, run, finished, and_on, closed, app_line_of, script_line_of, end_line_of}
 use Rattle.tkhost.proofs.LineLaws.{app_line_of-some, app_line_of-spelled, script_line_of-some, script_line_of-spelled, end_line_of-some, end_line_of-spelled, same_bytes}
 use Rattle.tkhost.proofs.Hindrances.{hindrance-may, hindrance-hinders}
 use Rattle.tkhost.proofs.Scripts.{so_far, so_far-push, IsScript-front, text_step-taken, text_step-refused}

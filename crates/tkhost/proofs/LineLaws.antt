@@ -1,18 +1,18 @@
 -- What the readers of a line answer is what the line says, both ways.
-use Rattle.std.proofs.Common.{◌≡◌, ◌≢◌, ℕ, zero, suc, ◌+◌, ◌<◌, ◌≤◌, ◌^◌, Bool, true, false, ◌&&◌, ◌||◌, cond, eqb, leb, List, [], ◌∷◌, ◌++◌, length, get_or, Option, Some, None, option_map, not, inl, inr, refl, ap, sym, ◌∙◌, subst, arith, lit<, length-append}
-use Rattle.std.specs.Prelude.{codes, IsTrue}
-use Rattle.std.specs.List.{list_all, AllByRecursion, join_with_byte}
+use Rattle.std.proofs.Common.{◌≡◌, ◌≢◌, ℕ, zero, suc, ◌<◌, ◌≤◌, ◌^◌, Bool, true, eqb, List, [], ◌∷◌, ◌++◌, length, get_or, Option, Some, None, option_map, not, inl, inr, refl, ap, sym, ◌∙◌, subst, arith, lit<, length-append}
+use Rattle.std.specs.Prelude.{codes}
+use Rattle.std.specs.List.{list_all, AllByRecursion}
 use Rattle.std.specs.Int.{is_in_range}
-use Rattle.std.specs.Char.{is_ascii_digit, is_ascii_alphabetic, is_ascii_alphanumeric}
+use Rattle.std.specs.Char.{is_ascii_digit, is_ascii_alphabetic}
 use Rattle.std.specs.Fmt.{decimal}
-use Rattle.std.specs.Str.{bytes_eq, all_ascii_digits}
+use Rattle.std.specs.Str.{bytes_eq}
 use Rattle.std.specs.Str.Parse.{digits_value}
 use Rattle.std.proofs.lemmas.Bool.{false≢true, eq-eqb, ne_eqb, eqb-true, and_parts, and_from, leb-true, le-leb, or_cases, not_from_false, cases_Bool}
-use Rattle.std.proofs.lemmas.Fmt.{decimal_digit, first_decimal, digits_decimal, digits_value-decimal, decimal-digits_value, decimal_nonempty}
+use Rattle.std.proofs.lemmas.Fmt.{decimal_digit, first_decimal, digits_decimal, digits_value-decimal, decimal-digits_value}
 use Rattle.std.proofs.lemmas.Option.{cond_some, none-some, same_Some}
 use Rattle.std.proofs.lemmas.Slice.Eq.{bytes_eq-Decides}
 use Rattle.tk_host.specs.declared.rect.Rect.{Rect}
-use Rattle.tk_host.specs.Spec.{IsName, IsNameByte, IsLength, IsInRange, given}
+use Rattle.tk_host.specs.Spec.{IsLength, IsInRange, given}
 use Rattle.tkhost.specs.Session.{lines_of, spelled, IsAppLine, IsScriptLine, IsEndLine}
 use Rattle.tkhost.specs.Reading.{◌>>=◌, is_name, is_name_part, cut_at, is_numeral, has_plain_front, number_of, number_field, rect_field, name_of, behind, app_line_of, script_line_of, end_line_of}
 use Rattle.tkhost.proofs.Names.{is_name-Decides}

@@ -1,10 +1,10 @@
 -- The test of a name tells names.
-use Rattle.std.proofs.Common.{◌≡◌, ℕ, ◌<◌, ◌≤◌, Bool, true, false, ◌&&◌, ◌||◌, eqb, leb, ltb, List, [], ◌∷◌, length, Decides, ◌⊎◌, inl, inr, refl, arith}
-use Rattle.std.specs.List.{list_all, All, AllByRecursion}
+use Rattle.std.proofs.Common.{ℕ, ◌≤◌, ◌||◌, eqb, List, [], ◌∷◌, length, Decides, refl}
+use Rattle.std.specs.List.{list_all, AllByRecursion}
 use Rattle.std.specs.Int.{is_in_range}
 use Rattle.std.specs.Char.{is_ascii_alphabetic, is_ascii_alphanumeric, IsAsciiAlphabetic, IsAsciiAlphanumeric}
 use Rattle.std.proofs.lemmas.Bool.{false≢true, and_parts, and_from, leb-true, le-leb}
-use Rattle.std.proofs.lemmas.Bool.Decides.{Decides-and, Decides-or, Decides-like, Decides-eqb, Decides-ltb, Decides-by_and}
+use Rattle.std.proofs.lemmas.Bool.Decides.{Decides-and, Decides-or, Decides-eqb, Decides-ltb}
 use Rattle.std.proofs.lemmas.List.Elements.{All-from_recursion, recursion_from_All}
 use Rattle.tk_host.specs.Spec.{IsName, IsNameByte}
 use Rattle.tkhost.specs.Reading.{is_name, is_name_part}

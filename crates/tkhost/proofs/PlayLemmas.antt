@@ -1,9 +1,9 @@
 -- A host takes what a session may say, and its sections are the session's.
-use Rattle.std.proofs.Common.{◌≡◌, ℕ, zero, suc, ◌+◌, ◌<◌, ◌≤◌, List, [], ◌∷◌, ◌++◌, length, get_or, take, drop, map, Option, Some, None, ◌⊎◌, inl, inr, refl, sym, ◌∙◌, ap, subst, arith, add-one, append_assoc, length-append}
+use Rattle.std.proofs.Common.{◌≡◌, ℕ, zero, suc, ◌+◌, ◌<◌, ◌≤◌, List, [], ◌∷◌, ◌++◌, length, get_or, take, drop, map, Some, ◌⊎◌, inl, inr, refl, sym, ◌∙◌, ap, subst, arith, add-one, append_assoc}
 use Rattle.std.specs.List.{Any, slice_get, flat_map}
 use Rattle.std.proofs.lemmas.List.{append-nil, length-map, take_more}
 use Rattle.std.proofs.lemmas.Option.{none-some, same_Some}
-use Rattle.std.proofs.Math.Seq.{append_snoc, drop-cons}
+use Rattle.std.proofs.Math.Seq.{drop-cons}
 use Rattle.tk_host.specs.declared.fault.HostFault.{HostFault}
 use Rattle.tk_host.specs.declared.fault.HostFault.TheVariants.{TimeBack, BadValue, NoApp, TooManyApps, NameTaken, Started, Ended, Broken, NoMemory}
 use Rattle.tk_host.specs.declared.fault.HostFault.TheVariants as faults
@@ -11,15 +11,15 @@ use Rattle.tk_host.specs.declared.phase.Phase.{Phase}
 use Rattle.tk_host.specs.declared.phase.Phase.TheVariants.{Adding, Reached, Finished}
 use Rattle.tk_host.specs.declared.rect.Rect.{Rect}
 use Rattle.tk_host.specs.Alone.{alone}
-use Rattle.tk_host.specs.Held.{Call, AddApp, Start, End, Held, Part, held_after, given_by, phase_after, part_in, application_in}
+use Rattle.tk_host.specs.Held.{Call, AddApp, Start, End, Held, held_after, given_by, phase_after, part_in, application_in}
 use Rattle.tk_host.specs.Rect.{SharePixel}
 use Rattle.tk_host.specs.Refusals.{IsFirst, NoneApplies, IsRefusal, RefusesApp, RefusesEnd, RefusesSection, PhaseRefuses, add_faults, start_faults, end_faults, section_faults}
 use Rattle.tk_host.specs.Section.{section}
 use Rattle.tk_host.specs.Sections.{sections_after}
-use Rattle.tk_host.specs.Spec.{Given, IsInRange}
+use Rattle.tk_host.specs.Spec.{IsInRange}
 use Rattle.tkhost.specs.declared.session.AppBlock.{AppBlock}
-use Rattle.tkhost.specs.Session.{Plan, IsTaken, IsCovered, MayFollow, AreAllowed, IsAllowed}
-use Rattle.tkhost.specs.Play.{spec_of, sections_of, given_of, adding, calls_of}
+use Rattle.tkhost.specs.Session.{Plan, IsTaken, IsCovered, MayFollow, AreAllowed}
+use Rattle.tkhost.specs.Play.{spec_of, given_of, adding, calls_of}
 
 no_first : (Applies : HostFault → Type 0) (list : List HostFault) (found : HostFault) → NoneApplies Applies list → IsFirst Applies list found → ⊥
 no_first Applies [] found none first = first

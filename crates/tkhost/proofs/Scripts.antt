@@ -1,15 +1,12 @@
 -- The lines of a script, joined one by one.
-use Rattle.std.proofs.Common.{◌≡◌, ℕ, ◌+◌, ◌-◌, ◌<◌, ◌≤◌, Bool, true, false, ◌&&◌, cond, leb, List, [], ◌∷◌, ◌++◌, length, Option, Some, None, Result, Ok, Err, refl, sym, ◌∙◌, ap, arith, length-append, append_assoc}
+use Rattle.std.proofs.Common.{◌≡◌, ℕ, ◌≤◌, true, ◌&&◌, leb, List, [], ◌∷◌, ◌++◌, length, Option, Some, None, Ok, Err, refl, sym, ◌∙◌, ap, arith, length-append, append_assoc}
 use Rattle.std.specs.List.{join_with_byte, AllByRecursion}
 use Rattle.std.specs.Str.{IsUtf8, is_utf8}
 use Rattle.std.proofs.lemmas.Str.{is_utf8-from_IsUtf8, IsUtf8-from_is_utf8}
-use Rattle.std.proofs.lemmas.Bool.{le-leb, leb-true, and_parts, and_from, cond-false, cond-true, false_from_ne_true}
+use Rattle.std.proofs.lemmas.Bool.{le-leb, leb-true, and_parts, and_from, cond-false, false_from_ne_true}
 use Rattle.tkhost.specs.declared.session.AppBlock.{AppBlock}
-use Rattle.tkhost.specs.declared.fault.LineFault.{LineFault}
 use Rattle.tkhost.specs.declared.fault.LineFault.TheVariants.{BadLine}
 use Rattle.tkhost.specs.declared.stage.Head.{Head}
-use Rattle.tkhost.specs.declared.stage.Stage.{Stage}
-use Rattle.tkhost.specs.declared.stage.Stage.TheVariants as stages
 use Rattle.tkhost.specs.Session.{IsScript}
 use Rattle.tkhost.specs.Reading.{with_line, text_read, text_step}
 

@@ -1,5 +1,5 @@
 -- What is read is a session, and what is refused has the fault that is told.
-use Rattle.std.proofs.Common.{◌≡◌, ◌≢◌, ℕ, zero, suc, ◌+◌, ◌-◌, ◌<◌, ◌≤◌, Bool, true, false, ◌&&◌, cond, eqb, leb, List, [], ◌∷◌, ◌++◌, length, Option, Some, None, Result, Ok, Err, ◌⊎◌, inl, inr, refl, sym, ◌∙◌, ap, subst, arith, length-append, append_assoc}
+use Rattle.std.proofs.Common.{◌≡◌, ◌≢◌, ℕ, zero, suc, ◌+◌, ◌-◌, ◌<◌, ◌≤◌, false, ◌&&◌, eqb, leb, List, [], ◌∷◌, ◌++◌, length, Option, Some, None, Result, Ok, Err, ◌⊎◌, inl, inr, refl, sym, ◌∙◌, ap, subst, arith, length-append, append_assoc}
 use Rattle.std.specs.List.{join_with_byte}
 use Rattle.std.specs.Str.{is_utf8, bytes_eq}
 use Rattle.std.proofs.lemmas.List.{append-nil}
@@ -10,13 +10,11 @@ use Rattle.std.proofs.lemmas.Slice.Eq.{bytes_eq-Decides}
 use Rattle.tk_host.specs.declared.rect.Rect.{Rect}
 use Rattle.tkhost.specs.declared.session.AppBlock.{AppBlock}
 use Rattle.tkhost.specs.declared.fault.LineFault.{LineFault}
-use Rattle.tkhost.specs.declared.fault.LineFault.TheVariants.{BadLine}
-use Rattle.tkhost.specs.declared.stage.Head.{Head}
 use Rattle.tkhost.specs.declared.stage.Stage.{Stage}
 use Rattle.tkhost.specs.declared.stage.Stage.TheVariants as stages
 use Rattle.tkhost.specs.declared.fault.SessionFault.{SessionFault}
 use Rattle.tkhost.specs.declared.fault.SessionFault.TheVariants as refusals
-use Rattle.tkhost.specs.Session.{lines_of, IsAnswer, IsSession, HasFault, AreAllowed, IsAllowed, heading, events, IsAppLine, IsScriptLine, IsEndLine, IsScript, IsBlock, MayFollow, Hinders, AreBlocks, Place, AtHeading, AtBlock, AtScript, AtText, AtEnd, PastEnd, Plan, Leads, IsFaulty, IsAtFault}
+use Rattle.tkhost.specs.Session.{lines_of, IsAnswer, IsSession, HasFault, AreAllowed, IsAllowed, heading, events, IsAppLine, IsScriptLine, IsScript, IsBlock, MayFollow, AreBlocks, Place, AtHeading, AtBlock, AtScript, AtText, AtEnd, PastEnd, Plan, Leads, IsFaulty, IsAtFault}
 use Rattle.tkhost.specs.Reading.{Reads, with_line, step, run, finished, and_on, admitted, app_step, count_step, moment_step, text_read, app_line_of, script_line_of, end_line_of, hindrance}
 use Rattle.tkhost.proofs.LineLaws.{app_line_of-some, app_line_of-spelled, script_line_of-some, script_line_of-spelled, end_line_of-some, end_line_of-spelled, same_bytes}
 use Rattle.tkhost.proofs.Hindrances.{Judged, judged}

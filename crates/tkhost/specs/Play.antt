@@ -1,5 +1,5 @@
 -- What a session comes to.
-use Rattle.std.specs.Prelude.{ℕ, List, [], ◌∷◌, ◌++◌, map, flat_map}
+use Rattle.std.specs.Prelude.{ℕ, List, [], ◌∷◌, ◌++◌, flat_map}
 use Rattle.tk_host.specs.Spec.{Spec, Given, given}
 use Rattle.tk_host.specs.Alone.{alone}
 use Rattle.tk_host.specs.Section.{section}

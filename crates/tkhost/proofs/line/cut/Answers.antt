@@ -1,4 +1,4 @@
-use Rattle.std.proofs.Common.{◌≡◌, ℕ, suc, ◌+◌, ◌-◌, List, length, take, drop, Some, None, sym, ◌∙◌, refl, add-one}
+use Rattle.std.proofs.Common.{◌≡◌, suc, ◌+◌, take, drop, Some, None, sym, refl, add-one}
 use Rattle.std.proofs.lemmas.List.{take_rest}
 use Rattle.tkhost.proofs.Lines.{cut_at-first}
 use Rattle.tkhost.specs.Reading.{cut_at}

@@ -1,4 +1,4 @@
-use Rattle.std.proofs.Common.{◌≡◌, ℕ, Bool, true, false, List, Decides, sym, ◌∙◌, refl}
+use Rattle.std.proofs.Common.{◌≡◌, ℕ, Bool, true, false, List, Decides, ◌∙◌, refl}
 use Rattle.std.proofs.lemmas.Bool.Decides.{same_from_decides}
 use Rattle.tk_host.specs.Spec.{IsName}
 use Rattle.tkhost.specs.Reading.{is_name}

@@ -1,4 +1,4 @@
-use Rattle.std.proofs.Common.{sym, ◌∙◌, arith}
+use Rattle.std.proofs.Common.{sym, arith}
 use Rattle.tkhost.proofs.Lines.{IsUtf8-numeral, parse_numeral, number_of-large}
 use Rattle.tkhost.proofs.line.number.Goals as goal
 

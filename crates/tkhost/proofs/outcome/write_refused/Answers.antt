@@ -1,4 +1,4 @@
-use Rattle.std.proofs.Common.{◌≡◌, ◌++◌, ◌∙◌, decimal, List, ℕ}
+use Rattle.std.proofs.Common.{◌++◌, decimal, List, ℕ}
 use Rattle.std.specs.Prelude.{codes}
 use Rattle.std.proofs.lemmas.Result.{on_err_weaker, on_ok_weaker}
 use Rattle.tkhost.proofs.Streams.{appends_more, AppendsFront-within, AppendsFront-behind, on_err_always}

@@ -1,4 +1,4 @@
-use Rattle.std.proofs.Common.{◌≡◌, ℕ, ◌+◌, ◌++◌, ◌∷◌, [], List, take, Ok, sym, ◌∙◌, ap, subst, arith}
+use Rattle.std.proofs.Common.{◌≡◌, ◌+◌, ◌++◌, ◌∷◌, [], take, sym, ◌∙◌, ap, subst}
 use Rattle.tk_host.specs.Held.{Held, held_after, AddApp}
 use Rattle.tk_host.specs.Refusals.{NoneApplies, RefusesApp, add_faults}
 use Rattle.tkhost.specs.Play.{adding, given_of}

@@ -1,9 +1,8 @@
-use Rattle.std.proofs.Common.{◌≡◌, ◌++◌, ◌∷◌, [], List, Ok, sym, ◌∙◌, ap, subst, arith}
+use Rattle.std.proofs.Common.{sym, subst}
 use Rattle.std.proofs.lemmas.Result.{IfErr-weaker}
-use Rattle.tk_host.specs.Held.{Held, held_after, Start}
-use Rattle.tk_host.specs.Refusals.{NoneApplies, PhaseRefuses, RefusesEnd, start_faults, end_faults}
-use Rattle.tkhost.specs.Play.{adding}
-use Rattle.tkhost.proofs.PlayLemmas.{only_memory, none_refuses_start, none_refuses_end}
+use Rattle.tk_host.specs.Held.{Held}
+use Rattle.tk_host.specs.Refusals.{NoneApplies, PhaseRefuses, start_faults}
+use Rattle.tkhost.proofs.PlayLemmas.{only_memory, none_refuses_start}
 use Rattle.tkhost.proofs.playing.played.Goals as goal
 
 pub unless_memory-requires : goal.unless_memory-requires

@@ -1,7 +1,6 @@
-use Rattle.std.proofs.Common.{sym, ◌∙◌, ap, length, drop, ◌∷◌, []}
+use Rattle.std.proofs.Common.{sym, length}
 use Rattle.std.proofs.lemmas.List.{take_rest}
 use Rattle.std.proofs.Math.Seq.{drop-length}
-use Rattle.tkhost.specs.Session.{lines_of}
 use Rattle.tkhost.proofs.LineLaws.{lines_of-cut, lines_of-last, length-cut_at}
 use Rattle.tkhost.proofs.reading.cut_line.Goals as goal
 

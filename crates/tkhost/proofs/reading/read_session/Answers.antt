@@ -1,6 +1,5 @@
-use Rattle.std.proofs.Common.{Result, Ok, Err, subst, sym}
+use Rattle.std.proofs.Common.{Ok, Err, subst, sym}
 use Rattle.std.proofs.lemmas.Result.{err_from_is_err_and}
-use Rattle.tkhost.specs.declared.fault.SessionFault.{SessionFault}
 use Rattle.tkhost.specs.Session.{Plan}
 use Rattle.tkhost.proofs.Sound.{IsExact, IsExact-from_reads, IsAllowed-from_session}
 use Rattle.tkhost.proofs.reading.read_session.Goals as goal

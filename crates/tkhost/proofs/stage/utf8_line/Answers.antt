@@ -1,4 +1,3 @@
-use Rattle.std.proofs.Common.{◌∙◌, ap, option_map}
 use Rattle.tkhost.proofs.StepLemmas.{utf8_or_none}
 use Rattle.tkhost.proofs.stage.utf8_line.Goals as goal
 

@@ -1,0 +1,4 @@
+//! What no contract says: worked sessions, readers and writers that fail, and that calls succeed.
+
+mod sessions;
+mod streams;

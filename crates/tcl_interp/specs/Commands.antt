@@ -1,6 +1,6 @@
 -- The commands that the interpreter has itself: a table of names, and for each command one equation.
-use Rattle.std.specs.Prelude.{ℕ, zero, suc, Bool, true, false, ◌&&◌, ◌||◌, ◌==◌, nat_le, List, [], ◌∷◌, length, drop, if◌then◌else◌, Option, Some, None, Result, Ok, Err, codes, bytes_eq}
-use Rattle.std.specs.List.{list_all, list_any}
+use Rattle.std.specs.Prelude.{ℕ, zero, suc, Bool, true, false, ◌&&◌, ◌||◌, ◌==◌, nat_le, List, [], ◌∷◌, length, drop, if◌then◌else◌, Option, Some, None, Result, Ok, Err, codes, bytes_eq, nat_eq, not, filter, is_some}
+use Rattle.std.specs.List.{list_all, list_any, starts_with}
 use Rattle.tcl_text.specs.Readings.{boolean_of}
 use Rattle.tcl_vars.specs.Store.{Store, variable_in, with_variable}
 use Rattle.tcl_vars.specs.declared.fault.ReadFault.{ReadFault}
@@ -12,7 +12,7 @@ use Rattle.tcl_interp.specs.declared.loops.Condition.TheVariants.{Variable, Word
 use Rattle.tcl_interp.specs.declared.tasks.Code.{Code}
 use Rattle.tcl_interp.specs.declared.tasks.Code.TheVariants.{Normal, Error, Break, Continue}
 use Rattle.tcl_interp.specs.Texts.{wrong_words, not_boolean, cannot_read, cannot_set}
-use Rattle.tcl_interp.specs.Evaluation.{State, Outcome, Ended, OutOfSteps, and_then, with_step, with_value_of}
+use Rattle.tcl_interp.specs.Evaluation.{State, Outcome, Ended, OutOfSteps, and_then, with_step}
 
 -- ── names ──
 
@@ -27,14 +27,13 @@ builtin_of name =
 abbrev pub command_of : List (List ℕ) → List ℕ → Option Builtin
 command_of replaced name = if list_any (bytes_eq name) replaced then None else builtin_of name
 
--- a leading :: is dropped from a command's name
-abbrev pub has_colons : List ℕ → Bool
-has_colons [] = false
-has_colons (a ∷ []) = false
-has_colons (a ∷ b ∷ rest) = (a == 58) && (b == 58)
+-- the built-in commands that outside commands of these names replace
+abbrev pub replaced_by : List (List ℕ) → List (List ℕ)
+replaced_by names = filter (λ name. is_some (builtin_of name)) names
 
+-- a leading :: is dropped from a command's name
 abbrev pub plain_name : List ℕ → List ℕ
-plain_name name = if has_colons name then drop 2 name else name
+plain_name name = if starts_with nat_eq name (codes "::") then drop 2 name else name
 
 -- ── conditions ──
 
@@ -43,13 +42,12 @@ abbrev pub is_name_byte : ℕ → Bool
 is_name_byte c = (nat_le 97 c && nat_le c 122) || (nat_le 65 c && nat_le c 90) || (nat_le 48 c && nat_le c 57) || (c == 95)
 
 abbrev pub is_name : List ℕ → Bool
-is_name [] = false
-is_name (c ∷ cs) = list_all is_name_byte (c ∷ cs)
+is_name name = not (length name == 0) && list_all is_name_byte name
 
 -- A condition is a dollar sign with a variable's name alone, or a text.
 abbrev pub condition_of : List ℕ → Condition
-condition_of [] = Word []
-condition_of (c ∷ cs) = if (c == 36) && is_name (plain_name cs) then Variable cs else Word (c ∷ cs)
+condition_of text =
+    if starts_with nat_eq text (codes "$") && is_name (plain_name (drop 1 text)) then Variable (drop 1 text) else Word text
 
 -- a text read as a boolean, or the error's text
 abbrev pub truth : List ℕ → Option Bool → Result Bool (List ℕ)
@@ -79,9 +77,28 @@ after_body again state Continue text = again state
 after_body again state Break text = Ended state Normal []
 after_body again state code text = Ended state code text
 
-abbrev pub on_set : {S : Type 0} → List ℕ → List ℕ → State S → Result Store SetFault → Outcome S
-on_set name value state (Ok store) = Ended (record state { store = store }) Normal value
-on_set name value state (Err fault) = Ended state Error (cannot_set name fault)
+-- what a command that only reads and writes variables leaves of them, and how it ends
+pub record Ending : Type 0 where
+  pub store : Store
+  pub code : Code
+  pub text : List ℕ
+
+abbrev pub value_ending : List ℕ → Store → Result (List ℕ) ReadFault → Ending
+value_ending name store (Ok value) = record { store = store; code = Normal; text = value }
+value_ending name store (Err fault) = record { store = store; code = Error; text = cannot_read name fault }
+
+abbrev pub store_ending : List ℕ → List ℕ → Store → Result Store SetFault → Ending
+store_ending name value store (Ok changed) = record { store = changed; code = Normal; text = value }
+store_ending name value store (Err fault) = record { store = store; code = Error; text = cannot_set name fault }
+
+-- set name ?value?
+abbrev pub set_ending : ℕ → List (List ℕ) → Store → Ending
+set_ending level (name ∷ []) store = value_ending name store (variable_in store level name)
+set_ending level (name ∷ value ∷ []) store = store_ending name value store (with_variable store level name value)
+set_ending level _ store = record { store = store; code = Error; text = wrong_words (codes "set name ?value?") }
+
+abbrev pub ends_in : {S : Type 0} → State S → Ending → Outcome S
+ends_in state ending = Ended (record state { store = ending.store }) ending.code ending.text
 
 -- How a script is run at a level is given.
 module _ {S : Type 0} (run : ℕ → List ℕ → State S → Outcome S) where
@@ -97,13 +114,7 @@ module _ {S : Type 0} (run : ℕ → List ℕ → State S → Outcome S) where
   while_meaning level (condition ∷ body ∷ []) state = turns_meaning level (condition_of condition) body state.steps state
   while_meaning level _ state = Ended state Error (wrong_words (codes "while cond body"))
 
-  -- set name ?value?
-  abbrev pub set_meaning : ℕ → List (List ℕ) → State S → Outcome S
-  set_meaning level (name ∷ []) state = with_value_of level name state (λ state' value. Ended state' Normal value)
-  set_meaning level (name ∷ value ∷ []) state = on_set name value state (with_variable state.store level name value)
-  set_meaning level _ state = Ended state Error (wrong_words (codes "set name ?value?"))
-
   -- a built-in command with its arguments
   abbrev pub builtin_meaning : Builtin → ℕ → List (List ℕ) → State S → Outcome S
-  builtin_meaning Set = set_meaning
-  builtin_meaning While = while_meaning
+  builtin_meaning Set level arguments state = ends_in state (set_ending level arguments state.store)
+  builtin_meaning While level arguments state = while_meaning level arguments state

@@ -1,17 +1,12 @@
 -- What an interpreter stands for, and what a slice of it reaches.
-use Rattle.std.specs.Prelude.{◌≡◌, ◌+◌, ℕ, List, ◌<◌, filter, is_some}
+use Rattle.std.specs.Prelude.{◌≡◌, ◌≢◌, ◌+◌, ℕ, List, ◌<◌}
 use Rattle.tcl_vars.specs.Store.{Store}
 use Rattle.tcl_interp.specs.declared.interp.Interp.{Interp}
 use Rattle.tcl_interp.specs.declared.interp.SliceEnd.{SliceEnd}
 use Rattle.tcl_interp.specs.declared.interp.SliceEnd.TheVariants.{Done, More, Exhausted}
 use Rattle.tcl_interp.specs.Evaluation.{State, Outcome, Ended, OutOfSteps}
-use Rattle.tcl_interp.specs.Commands.{builtin_of}
 use Rattle.tcl_interp.specs.Finish.{Doing, Waiting, Rest, Idle, Running, Spent, Broken}
 use Rattle.tcl_interp.specs.Rests.{rest_by, waits_of}
-
--- the built-in commands that outside commands of these names replace
-abbrev pub replaced_by : List (List ℕ) → List (List ℕ)
-replaced_by names = filter (λ name. is_some (builtin_of name)) names
 
 module _ {K : Type 0} where
   -- what it still has to do
@@ -21,6 +16,10 @@ module _ {K : Type 0} where
   -- how many steps are left
   abbrev pub left_of : Interp K → ℕ
   left_of interp = interp.left
+
+  -- how many there are in all
+  abbrev pub budget_of : Interp K → ℕ
+  budget_of interp = interp.budget
 
   -- the built-in commands that are replaced
   abbrev pub replaced_in : Interp K → List (List ℕ)
@@ -38,6 +37,18 @@ module _ {K : Type 0} where
   LeavesRest (Done code text) rest = rest ≡ Idle
   LeavesRest More rest = IsRunning rest
   LeavesRest Exhausted rest = rest ≡ Spent
+
+  -- what is left to do after slices
+  abbrev pub LeavesAfter : SliceEnd → Rest K → Type 0
+  LeavesAfter (Done code text) rest = rest ≡ Idle
+  LeavesAfter More rest = rest ≢ Idle
+  LeavesAfter Exhausted rest = rest ≡ Spent
+
+-- The end of all slices is the outcome, in the state that they leave.
+abbrev pub IsWhole : {S : Type 0} → SliceEnd → Outcome S → State S → Type 0
+IsWhole (Done code text) outcome state = outcome ≡ Ended state code text
+IsWhole More outcome state = ⊥
+IsWhole Exhausted outcome state = (outcome ≡ OutOfSteps state) × (state.steps ≡ 0)
 
 -- What a slice reaches: the outcome, in the state that it leaves, or a rest that has the same outcome.
 abbrev pub Reaches : {S : Type 0} → SliceEnd → Outcome S → State S → Outcome S → Type 0

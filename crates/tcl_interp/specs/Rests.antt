@@ -18,7 +18,12 @@ use Rattle.tcl_interp.specs.declared.machine.Frame.TheVariants as frame
 use Rattle.tcl_interp.specs.declared.machine.Machine.{Machine}
 use Rattle.tcl_interp.specs.declared.machine.Machine.TheVariants as machine
 use Rattle.tcl_interp.specs.Finish.{Turning, Wording, Doing, Begins, GoesOn, Calls, Tests, Steps, Resumes, Ends, Waiting, ForCommand, ForBracket, ForBody, ForScript, ForAll, Rest, Idle, Running, Spent, Broken}
+use Rattle.tcl_interp.specs.Moves.{Moved, PieceText, Plain, Fails, Script, WordEnd, Whole, Failed, AtBracket}
 use Rattle.tcl_interp.specs.Scripts.{script_of}
+use Rattle.tcl_interp.specs.declared.words.Value.{Value}
+use Rattle.tcl_interp.specs.declared.words.Value.TheVariants as value
+use Rattle.tcl_interp.specs.declared.words.Put.{Put}
+use Rattle.tcl_interp.specs.declared.words.Put.TheVariants as put
 
 abbrev pub source_text : Source → List ℕ
 source_text (AsText text) = text
@@ -42,7 +47,7 @@ left_in place = drop place.next (commands_in place.script)
 abbrev pub joined_text : Joined → List ℕ
 joined_text Nothing = []
 joined_text (Shared text) = text
-joined_text (Own string) = string_bytes string
+joined_text (Own short) = string_bytes short.string
 
 -- the words of the command in front, and the pieces of the word in front
 abbrev pub words_in_front : List Command → List Word
@@ -58,12 +63,23 @@ wording_of part =
     let words = words_in_front (left_in part.place) in
     record {
       room = part.place.room;
-      after = drop (suc part.place.next) (commands_in part.place.script);
+      after = drop (part.place.next + 1) (commands_in part.place.script);
       whole = part.whole;
       so_far = joined_text part.so_far;
       pieces = drop part.piece (pieces_in_front (drop part.word words));
-      words = drop (suc part.word) words;
+      words = drop (part.word + 1) words;
     }
+
+abbrev pub value_of : Value → PieceText
+value_of (value.Plain text) = Plain text
+value_of (value.Fails text) = Fails text
+value_of (value.Script script) = Script script
+
+-- how far a word came, of these pieces
+abbrev pub put_end : List Piece → Put → WordEnd
+put_end pieces (put.Whole text) = Whole text
+put_end pieces (put.Failed text) = Failed text
+put_end pieces (put.Bracket script next so_far) = AtBracket script (drop next pieces) (joined_text so_far)
 
 module _ {K : Type 0} where
   abbrev pub doing_of : Now K → Doing K
@@ -85,6 +101,9 @@ module _ {K : Type 0} where
   -- what waits, innermost first: the last frame
   unfoldable pub waits_of : List (Frame K) → List (Waiting K)
   waits_of frames = reverse (map waiting_of frames)
+
+  abbrev pub moved_of : Now K → List (Frame K) → Moved K
+  moved_of now frames = record { doing = doing_of now; waits = waits_of frames }
 
   abbrev pub rest_by : Machine K → List (Waiting K) → Rest K
   rest_by machine.Idle waits = Idle

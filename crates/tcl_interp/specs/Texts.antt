@@ -27,14 +27,15 @@ wrong_words usage = codes "wrong # args: should be \"" ++ usage ++ codes "\""
 abbrev pub not_boolean : List ℕ → List ℕ
 not_boolean text = message (codes "expected boolean value but got \"" ++ text ++ codes "\"")
 
+-- why a variable isn't read, behind its name
 abbrev pub read_reason : ReadFault → List ℕ
-read_reason NoVariable = codes "no such variable"
-read_reason NoElement = codes "no such element in array"
-read_reason IsArray = codes "variable is array"
-read_reason NotArray = codes "variable isn't array"
+read_reason NoVariable = codes "\": no such variable"
+read_reason NoElement = codes "\": no such element in array"
+read_reason IsArray = codes "\": variable is array"
+read_reason NotArray = codes "\": variable isn't array"
 
 abbrev pub cannot_read : List ℕ → ReadFault → List ℕ
-cannot_read name fault = message (codes "can't read \"" ++ name ++ codes "\": " ++ read_reason fault)
+cannot_read name fault = message (codes "can't read \"" ++ name ++ read_reason fault)
 
 abbrev pub cannot_set : List ℕ → SetFault → List ℕ
 cannot_set name SetArray = message (codes "can't set \"" ++ name ++ codes "\": variable is array")

@@ -5,7 +5,14 @@ mod commands;
 mod interp;
 mod loops;
 mod machine;
+mod moves;
+mod slices;
+mod steps;
 mod tasks;
+#[cfg(test)]
+mod tests;
+mod texts;
+mod words;
 
 pub use interp::{Interp, SliceEnd};
 pub use tasks::{Act, Code, ReturnCode, Tasks};

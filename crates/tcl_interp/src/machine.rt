@@ -1,3 +1,5 @@
+ghost use Rattle.std.specs.Prelude.{◌≤◌, string_len};
+
 use crate::loops::{Source, Turning};
 use crate::tasks::Code;
 use tcl_text::{Text, TextList};
@@ -11,12 +13,19 @@ pub struct Place {
     pub room: u64,
 }
 
+/// At most as many bytes as a value has.
+#[derive(Drop)]
+pub struct Short {
+    pub string: String,
+    ghost short: { string_len string ≤ 65536 },
+}
+
 /// The text so far of a word. Its first piece is shared, and from the second on the pieces are copied.
 #[derive(Drop)]
 pub enum Joined {
     Nothing,
     Shared(Text),
-    Own(String),
+    Own(Short),
 }
 
 /// The next command of a script, whose words are being put together: those before `word` are whole, and the pieces of that

@@ -1,2 +1,24 @@
 -- Lemmas that several proofs share.
+pub mod GlobLemmas
 pub mod ReadingExamples
+pub mod IntegerLemmas
+pub mod AnswerLemmas
+pub mod CharacterLemmas
+pub mod GlobFunction
+pub mod FindLemmas
+pub mod StringLemmas
+pub mod ListLemmas
+pub mod BooleanLemmas
+pub mod IntegerReading
+pub mod BooleanReading
+pub mod ReadingLemmas
+pub mod BackslashLemmas
+pub mod BalanceLemmas
+pub mod SplittingLemmas
+pub mod Utf8Lemmas
+pub mod ElementLemmas
+pub mod ListFormLemmas
+pub mod SortLemmas
+pub mod ListReading
+pub mod RoundTrip
+pub mod WrittenIntegers

@@ -1,15 +1,15 @@
 -- What a backslash stands for, and a text as the marks that it is written in.
 use Rattle.std.specs.Prelude.{ℕ, zero, suc, ◌+◌, ◌*◌, Bool, ◌&&◌, ◌||◌, ◌==◌, nat_lt, nat_le, if◌then◌else◌, List, [], ◌∷◌, take, encode_utf8}
 use Rattle.std.specs.Char.{digit_value}
-use Rattle.tcl_text.specs.declared.splitting.Kind.{Kind}
-use Rattle.tcl_text.specs.declared.splitting.Kind.TheVariants.{White, OpenBrace, CloseBrace, Quote, Backslash, Other}
+use Rattle.tcl_text.specs.declared.splitting.ByteKind.{ByteKind}
+use Rattle.tcl_text.specs.declared.splitting.ByteKind.TheVariants.{White, OpenBrace, CloseBrace, Quote, Backslash, Other}
 
 -- blank, tab, newline, vertical tab, form feed and carriage return
 abbrev pub is_white : ℕ → Bool
 is_white c = c == 32 || (nat_le 9 c && nat_le c 13)
 
 -- what a byte is to the form of a list
-unfoldable pub kind_of : ℕ → Kind
+unfoldable pub kind_of : ℕ → ByteKind
 kind_of c =
     if is_white c then White
     else (if c == 123 then OpenBrace
@@ -79,7 +79,7 @@ escape (c ∷ cs) =
 
 -- A byte, or a backslash with all that it takes: how it is written, and what it stands for.
 pub record Mark : Type 0 where
-  pub kind : Kind
+  pub kind : ByteKind
   pub written : List ℕ
   pub meant : List ℕ
 

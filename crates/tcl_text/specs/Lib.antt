@@ -1,3 +1,16 @@
 -- What the contracts cite.
+pub mod Glob
+pub mod GlobSteps
 pub mod Backslash
+pub mod Escaped
+pub mod ListForm
 pub mod Readings
+pub mod Answers
+pub mod Indices
+pub mod Commands
+pub mod StringCommands
+pub mod ListCommands
+pub mod StringSteps
+pub mod ListSteps
+pub mod Splitting
+pub mod TextForm

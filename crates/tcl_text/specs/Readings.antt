@@ -1,11 +1,12 @@
 -- What can be read in a text: an integer, a boolean and a list, each as a relation on the whole text and as a function.
-use Rattle.std.specs.Prelude.{◌≡◌, ◌≢◌, ◌⊎◌, ℕ, zero, suc, ◌+◌, ◌*◌, ◌^◌, ℤ, pos, neg_ℤ, Bool, true, false, not, ◌&&◌, ◌||◌, ◌==◌, nat_eq, nat_lt, nat_le, if◌then◌else◌, List, [], ◌∷◌, ◌++◌, map, filter, IsTrue, Option, Some, None, Result, Ok, Err, codes, ⊤}
+use Rattle.std.specs.Prelude.{◌≡◌, ◌≢◌, ◌⊎◌, ℕ, zero, suc, ◌+◌, ◌*◌, ◌^◌, ℤ, pos, neg_ℤ, Bool, true, false, not, ◌&&◌, ◌||◌, ◌==◌, nat_lt, nat_le, if◌then◌else◌, List, [], ◌∷◌, ◌++◌, map, filter, IsTrue, Option, Some, None, Result, Ok, Err, codes, ⊤}
 use Rattle.std.specs.Char.{digit_value, to_ascii_lowercase}
+use Rattle.std.specs.Option.{option_map_or}
 use Rattle.std.specs.List.{starts_with, list_all, join_with_byte, flat_map}
 use Rattle.std.specs.Str.Parse.{AllDigits, digits_value}
 use Rattle.tcl_text.specs.Backslash.{is_white, Mark, marks}
-use Rattle.tcl_text.specs.declared.splitting.Kind.{Kind}
-use Rattle.tcl_text.specs.declared.splitting.Kind.TheVariants.{White, OpenBrace, CloseBrace, Quote}
+use Rattle.tcl_text.specs.declared.splitting.ByteKind.{ByteKind}
+use Rattle.tcl_text.specs.declared.splitting.ByteKind.TheVariants.{White, OpenBrace, CloseBrace, Quote}
 use Rattle.tcl_text.specs.declared.splitting.ListFault.{ListFault}
 use Rattle.tcl_text.specs.declared.splitting.ListFault.TheVariants.{OpenBrace as UnmatchedBrace, OpenQuote as UnmatchedQuote, ExtraCharacters}
 
@@ -85,14 +86,14 @@ abbrev pub number_in : ℕ → List ℕ → Option ℕ
 number_in base [] = None
 number_in base (c ∷ cs) = if nat_lt (digit_value c) base then number_from base (digit_value c) cs else None
 
--- a numeral behind a 0
-abbrev pub behind_zero : List ℕ → Option ℕ → Option ℕ
-behind_zero text (Some base) = number_in base text
-behind_zero text None = None
+-- the number of a numeral that begins with 0, by the base that the next character names, if any
+abbrev pub behind_zero : Option ℕ → ℕ → List ℕ → Option ℕ
+behind_zero (Some base) c cs = number_in base cs
+behind_zero None c cs = number_from 8 0 (c ∷ cs)
 
 abbrev pub zero_numeral : List ℕ → Option ℕ
 zero_numeral [] = Some 0
-zero_numeral (c ∷ cs) = elim (base_named c) [ Some base ↦ number_in base cs | None ↦ number_from 8 0 (c ∷ cs) ]
+zero_numeral (c ∷ cs) = behind_zero (base_named c) c cs
 
 -- the number that a numeral in front spells, with white space behind it
 abbrev pub numeral_of : List ℕ → Option ℕ
@@ -110,6 +111,11 @@ signed_numeral (c ∷ cs) =
     else (if c == 43 then signed_option false (numeral_of cs)
     else signed_option false (numeral_of (c ∷ cs)))
 
+-- a number that is below a bound
+abbrev pub below : ℕ → Option ℕ → Option ℕ
+below bound None = None
+below bound (Some n) = if nat_lt n bound then Some n else None
+
 -- the integer that the text is, if any
 unfoldable pub integer_of : List ℕ → Option ℤ
 integer_of text = signed_numeral (skip_white text)
@@ -121,9 +127,15 @@ abbrev pub boolean_words : List (List ℕ × Bool)
 boolean_words =
     (codes "yes", true) ∷ (codes "no", false) ∷ (codes "true", true) ∷ (codes "false", false) ∷ (codes "on", true) ∷ (codes "off", false) ∷ []
 
--- the words that begin with the text, ignoring ASCII case
+-- whether a word begins with the text, ignoring the case of ASCII letters
+abbrev pub begins_word : List ℕ → List ℕ → Bool
+begins_word [] word = true
+begins_word (c ∷ cs) [] = false
+begins_word (c ∷ cs) (w ∷ ws) = to_ascii_lowercase c == w && begins_word cs ws
+
+-- the words that begin with the text
 abbrev pub words_begun : List ℕ → List (List ℕ × Bool)
-words_begun text = filter (λ word. starts_with nat_eq word.0 (map to_ascii_lowercase text)) boolean_words
+words_begun text = filter (λ word. begins_word text word.0) boolean_words
 
 -- the integer as a boolean: whether it isn't 0
 abbrev pub is_nonzero : ℤ → Bool
@@ -167,7 +179,7 @@ abbrev pub is_quote_mark : Mark → Bool
 is_quote_mark m = elim m.kind [ Quote ↦ true | _ ↦ false ]
 
 -- how many braces are open behind a mark, if it doesn't close one too many
-abbrev pub depth_after : ℕ → Kind → Option ℕ
+abbrev pub depth_after : ℕ → ByteKind → Option ℕ
 depth_after depth OpenBrace = Some (suc depth)
 depth_after zero CloseBrace = None
 depth_after (suc depth) CloseBrace = Some depth
@@ -176,7 +188,7 @@ depth_after depth _ = Some depth
 -- each brace that isn't behind a backslash has its match, with so many open in front
 abbrev pub are_balanced : ℕ → List Mark → Bool
 are_balanced depth [] = depth == 0
-are_balanced depth (m ∷ ms) = elim (depth_after depth m.kind) [ Some next ↦ are_balanced next ms | None ↦ false ]
+are_balanced depth (m ∷ ms) = option_map_or (λ next. are_balanced next ms) (depth_after depth m.kind) false
 
 -- An element and how it stands in a list.
 pub data IsElement : List Mark → List ℕ → Type 0 where
@@ -220,7 +232,7 @@ abbrev pub Reading : Type 0
 Reading = Result (List ℕ × List (List ℕ)) ListFault
 
 -- the place behind a mark
-abbrev pub place_after : Place → Kind → Place
+abbrev pub place_after : Place → ByteKind → Place
 place_after between White = between
 place_after between OpenBrace = in_braces 0
 place_after between Quote = in_quotes
@@ -247,7 +259,7 @@ begun (Ok r) = Ok ([], r.0 ∷ r.1)
 begun (Err f) = Err f
 
 -- what a mark adds to the reading of what stands behind it
-abbrev pub with_mark : Place → Kind → Mark → Reading → Reading
+abbrev pub with_mark : Place → ByteKind → Mark → Reading → Reading
 with_mark between White m r = r
 with_mark between OpenBrace m r = begun r
 with_mark between Quote m r = begun r

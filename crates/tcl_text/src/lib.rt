@@ -1,10 +1,26 @@
 //! Texts of a Tcl application, and what can be read in them.
 #![tactic(auto)]
 
+mod backslash;
+mod boolean;
+mod characters;
+mod commands;
+mod compared;
+mod glob;
+mod integer;
+pub mod laws;
 mod list;
+mod list_form;
+mod short;
 mod splitting;
 mod text;
+mod white_space;
 
+pub use boolean::NotBoolean;
+pub use integer::NotInteger;
 pub use list::TextList;
-pub use splitting::ListFault;
+pub use splitting::{ListFault, SplitFault};
 pub use text::{Text, TextFault};
+
+#[cfg(test)]
+mod reading_tests;

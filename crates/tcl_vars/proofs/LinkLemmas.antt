@@ -1,9 +1,9 @@
 -- Where links lead.
-use Rattle.std.proofs.Common.{◌≡◌, ℕ, zero, suc, ◌<◌, ◌≤◌, Bool, true, false, List, Option, None, Some, option_and_then, if◌then◌else◌, is_some, drop, nat_eq, codes, refl, sym, ap, ◌∙◌, arith}
+use Rattle.std.proofs.Common.{◌≡◌, ℕ, zero, suc, ◌<◌, ◌≤◌, Bool, true, false, List, Option, None, Some, option_and_then, if◌then◌else◌, is_some, drop, nat_eq, codes, refl, sym, ap, subst, ◌∙◌, arith}
 use Rattle.std.specs.List.{starts_with}
 use Rattle.tcl_vars.specs.Name.{Place, element_of, place_of_parts, place_in_frame, place_of}
 use Rattle.tcl_vars.specs.Sound.{LinksDescend}
-use Rattle.tcl_vars.specs.Store.{Store, content_at, link_of, element_in, led_by, led}
+use Rattle.tcl_vars.specs.Store.{Store, content_at, link_of, indexed, led_by, led}
 
 place_in_frame-level : (level : ℕ) (name : List ℕ) → (place_in_frame level name).level ≡ level
 place_in_frame-level level name = by (element_of name)
@@ -20,9 +20,9 @@ place_of-level level name = by (starts_with nat_eq name (codes "::"))
     by true = omega (arith, place_in_frame-level 0 (drop 2 name))
     by false = omega (arith, place_in_frame-level level name)
 
-element_in-level : (place next : Place) (element : Option (List ℕ)) → element_in place element ≡ Some next → next.level ≡ place.level
-element_in-level place next None e = cc
-element_in-level place next (Some index) e = by (is_some place.element) e
+indexed-level : (place next : Place) (element : Option (List ℕ)) → indexed place element ≡ Some next → next.level ≡ place.level
+indexed-level place next None e = cc
+indexed-level place next (Some index) e = by (is_some place.element) e
   where
     by : (b : Bool) → (if b then None else Some (record { level = place.level; variable = place.variable; element = Some index })) ≡ Some next → next.level ≡ place.level
     by true h = absurd (cc)
@@ -33,10 +33,10 @@ and_then_same f g None h = refl
 and_then_same f g (Some x) h = h x refl
 
 module _ (store : Store) (down : LinksDescend store) where
-  next_below : (place next : Place) (link : ℕ × List ℕ) → link_of (content_at store place) ≡ Some link
-      → element_in (place_of link.0 link.1) place.element ≡ Some next → next.level < place.level
+  pub next_below : (place next : Place) (link : ℕ × List ℕ) → link_of (content_at store place) ≡ Some link
+      → indexed (place_of link.0 link.1) place.element ≡ Some next → next.level < place.level
   next_below place next link held leads =
-      omega (arith, down place link held, element_in-level (place_of link.0 link.1) next place.element leads, place_of-level link.0 link.1)
+      omega (arith, down place link held, indexed-level (place_of link.0 link.1) next place.element leads, place_of-level link.0 link.1)
 
   -- how many links are allowed doesn't matter, where they are as many as there are earlier frames
   led_enough : (n m : ℕ) (place : Place) → place.level ≤ n → place.level ≤ m → led store n place ≡ led store m place
@@ -59,12 +59,12 @@ module _ (store : Store) (down : LinksDescend store) where
           → led_by place l (λ next. led store n next) ≡ led_by place l (λ next. led store m next)
       by None e ih = refl
       by (Some link) e ih =
-          and_then_same (λ next. led store n next) (λ next. led store m next) (element_in (place_of link.0 link.1) place.element)
+          and_then_same (λ next. led store n next) (λ next. led store m next) (indexed (place_of link.0 link.1) place.element)
           (λ next leads. ih next (next_below place next link e leads))
 
   module _ (place : Place) (link : ℕ × List ℕ) (held : link_of (content_at store place) ≡ Some link) where
     -- a link is followed, to an earlier frame
-    pub led-link : (next : Place) → element_in (place_of link.0 link.1) place.element ≡ Some next
+    pub led-link : (next : Place) → indexed (place_of link.0 link.1) place.element ≡ Some next
         → (next.level < place.level) × (led store next.level next ≡ led store place.level place)
     unfolding led
     led-link next leads = (below, by place.level refl)
@@ -79,7 +79,7 @@ module _ (store : Store) (down : LinksDescend store) where
             ∙ led_enough n next.level next (omega (arith, below)) (omega arith))
 
     -- a link to an element that is used as an array leads nowhere
-    pub led-nowhere : element_in (place_of link.0 link.1) place.element ≡ None → led store place.level place ≡ None
+    pub led-nowhere : indexed (place_of link.0 link.1) place.element ≡ None → led store place.level place ≡ None
     unfolding led
     led-nowhere leads = by place.level refl
       where
@@ -95,3 +95,28 @@ led-here store place none = by place.level
     by : (n : ℕ) → led store n place ≡ Some place
     by zero = refl
     by (suc n) = ap (λ l. led_by place l (λ p. led store n p)) none
+
+-- where links end is no link
+pub led-end : (store : Store) → LinksDescend store → (n : ℕ) (place end : Place) → place.level ≤ n → led store n place ≡ Some end → link_of (content_at store end) ≡ None
+unfolding led
+led-end store down zero place end low leads = subst (λ p. link_of (content_at store p) ≡ None) same (by (link_of (content_at store place)) refl)
+  where
+    same : place ≡ end
+    same = cc
+
+    by : (l : Option (ℕ × List ℕ)) → link_of (content_at store place) ≡ l → l ≡ None
+    by None e = refl
+    by (Some link) e = absurd (omega (arith, down place link e))
+led-end store down (suc n) place end low leads =
+    by (link_of (content_at store place)) refl leads (λ next below h. led-end store down n next end (omega arith) h)
+  where
+    next_of : (link : ℕ × List ℕ) → link_of (content_at store place) ≡ Some link → (o : Option Place) → indexed (place_of link.0 link.1) place.element ≡ o
+        → option_and_then (λ next. led store n next) o ≡ Some end → ((next : Place) → next.level < place.level → led store n next ≡ Some end → link_of (content_at store end) ≡ None)
+        → link_of (content_at store end) ≡ None
+    next_of link held None e h ih = absurd (cc)
+    next_of link held (Some next) e h ih = ih next (next_below store down place next link held e) h
+
+    by : (l : Option (ℕ × List ℕ)) → link_of (content_at store place) ≡ l → led_by place l (λ next. led store n next) ≡ Some end
+        → ((next : Place) → next.level < place.level → led store n next ≡ Some end → link_of (content_at store end) ≡ None) → link_of (content_at store end) ≡ None
+    by None e h ih = let same : place ≡ end = cc in subst (λ p. link_of (content_at store p) ≡ None) same e
+    by (Some link) e h ih = next_of link e (indexed (place_of link.0 link.1) place.element) refl h ih

@@ -1,5 +1,5 @@
 -- A map under text keys does what the list of its named entries says.
-use Rattle.std.proofs.Common.{◌≡◌, ℕ, zero, suc, ◌<◌, Bool, true, false, cond, List, [], ◌∷◌, length, get_or, Option, None, Some, is_some, position, String, string_bytes, string_eq, bytes_eq, refl, sym, ap, ◌∙◌, arith}
+use Rattle.std.proofs.Common.{◌≡◌, ℕ, zero, suc, ◌<◌, Bool, true, false, cond, List, [], ◌∷◌, length, get_or, Option, None, Some, is_some, slice_get, position, String, string_bytes, string_eq, bytes_eq, refl, sym, ap, ◌∙◌, arith}
 use Rattle.std.proofs.lemmas.List.Quantifiers.{position-Some}
 use Rattle.std.specs.Map.{keys_of, lookup, remove_entry}
 use Rattle.indexmap.specs.IndexMap.{insert_entry, set_value_at}
@@ -52,6 +52,16 @@ module _ {Z V : Type 0} where
       named-set_value_at (e ∷ es) i found =
           let it = position-Some (is_key name) (keys_of (e ∷ es)) i e.0 found in
           at_first (e ∷ es) i e.0 it.0 it.1 it.2
+
+-- the entries after an insertion, in the words of the calls
+pub named-inserted : {Z V : Type 0} (name : List ℕ) (value : V) (key : String Z) (old new : List (String Z × V)) → string_bytes key ≡ name → new ≡ insert_entry string_eq old key value
+    → named new ≡ insert_entry bytes_eq (named old) name value
+named-inserted name value key old new same is = ap named is ∙ named-insert_entry value key old ∙ ap (λ n. insert_entry bytes_eq (named old) n value) same
+
+pub slice_get-named : {Z V : Type 0} (es : List (String Z × V)) (i : ℕ) (e : String Z × V) → slice_get es i ≡ Some e → slice_get (named es) i ≡ Some (string_bytes e.0, e.1)
+slice_get-named [] i e at = absurd (cc)
+slice_get-named (f ∷ fs) zero e at = let same : f ≡ e = cc in ap (λ x. Some (string_bytes x.0, x.1)) same
+slice_get-named (f ∷ fs) (suc i) e at = slice_get-named fs i e at
 
 -- a look-up that finds nothing
 pub none_of : {V : Type 0} (o : Option V) → false ≡ is_some o → None ≡ o

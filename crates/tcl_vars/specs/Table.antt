@@ -1,5 +1,5 @@
 -- Values by name, as a list of (name, value) in the order in which the names came.
-use Rattle.std.specs.Prelude.{ℕ, List, Option}
+use Rattle.std.specs.Prelude.{ℕ, List, Option, None, Some}
 use Rattle.std.specs.Str.{bytes_eq}
 use Rattle.std.specs.Map.{lookup, remove_entry}
 use Rattle.indexmap.specs.IndexMap.{insert_entry}
@@ -20,3 +20,8 @@ module _ {V : Type 0} where
   -- the table without a name
   abbrev pub without : Table V → List ℕ → Table V
   without table name = remove_entry (bytes_eq name) table
+
+-- what a value weighs, if there is one
+abbrev pub weight_of : {V : Type 0} → (V → ℕ) → Option V → ℕ
+weight_of weigh None = 0
+weight_of weigh (Some value) = weigh value

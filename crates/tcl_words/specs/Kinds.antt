@@ -1,5 +1,5 @@
 -- What a byte can mean in a script.
-use Rattle.std.specs.Prelude.{ℕ, Bool, ◌==◌, nat_le, ◌&&◌, ◌||◌, if◌then◌else◌}
+use Rattle.std.specs.Prelude.{ℕ, ◌≡◌, ◌⊎◌, Bool, ◌==◌, nat_le, ◌&&◌, ◌||◌, if◌then◌else◌}
 use Rattle.tcl_words.specs.declared.kind.Kind.{Kind}
 use Rattle.tcl_words.specs.declared.kind.Kind.TheVariants.{Blank, Newline, Semicolon, Hash, Dollar, Colon, OpenBrace, CloseBrace, Letter, Other}
 
@@ -23,3 +23,7 @@ kind_of b =
     else if b == 125 then CloseBrace
     else if is_letter b then Letter
     else Other
+
+-- a byte that ends words
+abbrev pub EndsWord : Kind → Type 0
+EndsWord kind = (kind ≡ Blank) ⊎ ((kind ≡ Newline) ⊎ (kind ≡ Semicolon))

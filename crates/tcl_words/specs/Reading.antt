@@ -1,13 +1,14 @@
 -- The commands of a script, by recursion on its bytes: what a byte means where it stands, and what it puts
 -- in front of what the rest of the text gives. The first fault from the left is thereby the one that counts.
-use Rattle.std.specs.Prelude.{ℕ, suc, zero, ◌+◌, Bool, false, ◌==◌, ◌&&◌, ◌||◌, not, nat_lt, if◌then◌else◌, List, [], ◌∷◌, ◌++◌, length, drop, nat_eq, Result, Ok, Err}
-use Rattle.std.specs.List.{starts_with}
+use Rattle.std.specs.Prelude.{ℕ, suc, zero, ◌+◌, false, not, nat_lt, if◌then◌else◌, List, [], ◌∷◌, ◌++◌, length, Result, Ok, Err}
 use Rattle.std.specs.Str.{is_utf8}
-use Rattle.tcl_words.specs.Kinds.{kind_of, is_letter}
+use Rattle.tcl_words.specs.Kinds.{kind_of}
+use Rattle.tcl_words.specs.Later.{holds_later_form}
 use Rattle.tcl_words.specs.declared.kind.Kind.{Kind}
 use Rattle.tcl_words.specs.declared.kind.Kind.TheVariants.{Blank, Newline, Semicolon, Hash, OpenBrace, CloseBrace, Letter, Dollar as DollarByte, Colon as ColonByte}
 use Rattle.tcl_words.specs.declared.kind.Place.{Place}
 use Rattle.tcl_words.specs.declared.kind.Place.TheVariants.{Start, Comment, Between, Bare, Name, Brace, Braced, Dollar, Colon, Colons}
+use Rattle.tcl_words.specs.declared.script.WordForm.{WordForm}
 use Rattle.tcl_words.specs.declared.script.WordForm.TheVariants.{Bare as BareForm, Braced as BracedForm}
 use Rattle.tcl_words.specs.declared.script.Piece.{Piece}
 use Rattle.tcl_words.specs.declared.script.Piece.TheVariants.{Literal, Variable}
@@ -65,21 +66,15 @@ word_ended at rest = record { bytes = []; pieces = []; end = at; words = rest.wo
 abbrev pub command_ended : Rest → Rest
 command_ended rest = record { bytes = []; pieces = []; end = 0; words = []; commands = rest.commands }
 
+-- a word of this form, with its pieces and where it begins and ends
+abbrev pub word_of : WordForm → ℕ → List Piece → ℕ → Word
+word_of form start pieces end = record { form = form; expand = false; pieces = pieces; span = record { start = start; end = end } }
+
 abbrev pub bare_word : ℕ → Rest → Word
-bare_word start rest = record {
-  form = BareForm;
-  expand = false;
-  pieces = literal_before rest.bytes rest.pieces;
-  span = record { start = start; end = rest.end };
-}
+bare_word start rest = word_of BareForm start (literal_before rest.bytes rest.pieces) rest.end
 
 abbrev pub braced_word : ℕ → Rest → Word
-braced_word start rest = record {
-  form = BracedForm;
-  expand = false;
-  pieces = Literal rest.bytes ∷ [];
-  span = record { start = start; end = rest.end };
-}
+braced_word start rest = word_of BracedForm start (Literal rest.bytes ∷ []) rest.end
 
 -- a word began here
 abbrev pub word_before : (ℕ → Rest → Word) → ℕ → Rest → Rest
@@ -112,10 +107,16 @@ command_before start rest = record {
 -- For each place: a byte of this kind at this position, where `go` is what the rest of the text gives to
 -- each place.
 
+-- past a word
+abbrev pub after_word : Kind → ℕ → ℕ → (Place → Read) → Read
+after_word Newline b at go = put command_ended (go Start)
+after_word Semicolon b at go = put command_ended (go Start)
+after_word kind b at go = go Between
+
 abbrev pub in_bare : Kind → ℕ → ℕ → (Place → Read) → Read
-in_bare Blank b at go = put (word_ended at) (go Between)
-in_bare Newline b at go = put (λ rest. word_ended at (command_ended rest)) (go Start)
-in_bare Semicolon b at go = put (λ rest. word_ended at (command_ended rest)) (go Start)
+in_bare Blank b at go = put (word_ended at) (after_word Blank b at go)
+in_bare Newline b at go = put (word_ended at) (after_word Newline b at go)
+in_bare Semicolon b at go = put (word_ended at) (after_word Semicolon b at go)
 in_bare DollarByte b at go = go Dollar
 in_bare kind b at go = put (byte_before b) (go Bare)
 
@@ -137,22 +138,26 @@ abbrev pub in_name : Kind → ℕ → ℕ → (Place → Read) → Read
 in_name Letter b at go = put (byte_before b) (go Name)
 in_name kind b at go = put name_ended (in_bare kind b at go)
 
+-- a closing brace, with so many open beyond the first
+abbrev pub close_brace : ℕ → ℕ → (Place → Read) → Read
+close_brace zero b go = go Braced
+close_brace (suc depth) b go = put (byte_before b) (go (Brace depth))
+
 abbrev pub in_brace : ℕ → Kind → ℕ → ℕ → (Place → Read) → Read
-in_brace zero CloseBrace b at go = go Braced
-in_brace (suc depth) CloseBrace b at go = put (byte_before b) (go (Brace depth))
+in_brace depth CloseBrace b at go = close_brace depth b go
 in_brace depth OpenBrace b at go = put (byte_before b) (go (Brace (suc depth)))
 in_brace depth kind b at go = put (byte_before b) (go (Brace depth))
 
 abbrev pub in_braced : Kind → ℕ → ℕ → (Place → Read) → Read
-in_braced Blank b at go = in_bare Blank b at go
-in_braced Newline b at go = in_bare Newline b at go
-in_braced Semicolon b at go = in_bare Semicolon b at go
+in_braced Blank b at go = put (word_ended at) (after_word Blank b at go)
+in_braced Newline b at go = put (word_ended at) (after_word Newline b at go)
+in_braced Semicolon b at go = put (word_ended at) (after_word Semicolon b at go)
 in_braced kind b at go = Err ExtraAfterBrace
 
 abbrev pub in_between : Kind → ℕ → ℕ → (Place → Read) → Read
-in_between Blank b at go = go Between
-in_between Newline b at go = put command_ended (go Start)
-in_between Semicolon b at go = put command_ended (go Start)
+in_between Blank b at go = after_word Blank b at go
+in_between Newline b at go = after_word Newline b at go
+in_between Semicolon b at go = after_word Semicolon b at go
 in_between OpenBrace b at go = put (word_before braced_word at) (go (Brace 0))
 in_between kind b at go = put (word_before bare_word at) (in_bare kind b at go)
 
@@ -200,30 +205,6 @@ rest_of (b ∷ text) place at = in_place place (kind_of b) b at (λ next. rest_o
 abbrev pub commands_in : Read → Result (List Command) ParseFault
 commands_in (Ok rest) = Ok rest.commands
 commands_in (Err fault) = Err fault
-
--- letters and then `(`
-abbrev pub goes_to_paren : List ℕ → Bool
-goes_to_paren [] = false
-goes_to_paren (b ∷ text) = if is_letter b then goes_to_paren text else b == 40
-
--- a name and then `(`
-abbrev pub opens_index : List ℕ → Bool
-opens_index [] = false
-opens_index (b ∷ text) = is_letter b && goes_to_paren text
-
--- what follows a `$` is not read yet: `{`, or a name and then `(`
-abbrev pub is_later_variable : List ℕ → Bool
-is_later_variable text = starts_with nat_eq text (123 ∷ []) || opens_index text || (starts_with nat_eq text (58 ∷ 58 ∷ []) && opens_index (drop 2 text))
-
--- a form that is not read yet begins the text: a backslash, `"`, `[`, `{*}`, `${` or `$name(`
-abbrev pub begins_later_form : List ℕ → Bool
-begins_later_form [] = false
-begins_later_form (b ∷ text) =
-    b == 92 || b == 34 || b == 91 || (b == 123 && starts_with nat_eq text (42 ∷ 125 ∷ [])) || (b == 36 && is_later_variable text)
-
-abbrev pub holds_later_form : List ℕ → Bool
-holds_later_form [] = false
-holds_later_form (b ∷ text) = begins_later_form (b ∷ text) || holds_later_form text
 
 -- The commands of a text, or its fault.
 abbrev pub commands_of : List ℕ → Result (List Command) ParseFault

@@ -1,4 +1,5 @@
 use std::alloc::{AllocError, AllocFailed};
+use tcl_text::TextFault;
 use thiserror::Error;
 
 /// Why a text is no script.
@@ -34,8 +35,13 @@ pub enum ParseFault {
 }
 
 impl ParseFault {
+    ghost use Rattle.std.specs.Prelude.{◌≡◌};
+    ghost use Rattle.tcl_words.specs.Faults.{text_of};
+
     /// The fault as an application is told of it. Refused memory has no such text: it is empty.
-    pub fn text(&self) -> &'static str {
+    pub fn text(&self) -> &'static str
+        ensures { result.now ≡ text_of self.now }
+    {
         match self {
             ParseFault::TooLong => "limit reached: value",
             ParseFault::MissingBrace => "missing close-brace",
@@ -69,5 +75,19 @@ impl<T: Drop> From<AllocFailed<T>> for ParseFault {
 
     fn from(_refused: AllocFailed<T>) -> ParseFault {
         ParseFault::NoMemory
+    }
+}
+
+impl From<TextFault> for ParseFault {
+    ghost use Rattle.std.specs.Prelude.{◌≡◌};
+    ghost use Rattle.tcl_words.specs.Faults.{fault_of};
+
+    ghost from_gives = { λ fault e. e ≡ fault_of fault };
+
+    fn from(fault: TextFault) -> ParseFault {
+        match fault {
+            TextFault::TooLong => ParseFault::TooLong,
+            TextFault::NoMemory => ParseFault::NoMemory,
+        }
     }
 }

@@ -1,4 +1,4 @@
-ghost use Rattle.std.specs.Prelude.{◌≡◌};
+ghost use Rattle.std.specs.Prelude.{◌≡◌, ◌≢◌, ◌<◌};
 ghost use Rattle.tcl_words.specs.Kinds.{kind_of};
 
 /// What a byte can mean in a script.
@@ -45,7 +45,10 @@ pub enum Place {
 
 /// What a byte can mean.
 pub fn kind_of(byte: u8) -> Kind
-    ensures { result ≡ kind_of byte }
+    ensures kind { result ≡ kind_of byte }
+    ensures ascii { result ≢ Kind.Other → byte < 128 }
+    ensures dollar { result ≡ Kind.Dollar → byte ≡ 36 }
+    ensures colon { result ≡ Kind.Colon → byte ≡ 58 }
 {
     if byte == b'\n' {
         Kind::Newline

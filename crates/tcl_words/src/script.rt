@@ -171,6 +171,13 @@ impl Model for Script {
 }
 
 impl Words {
+    /// These words. It takes no memory.
+    pub(crate) fn from_vec(words: Vec<Word>) -> Words
+        ensures { result ≡ words.items }
+    {
+        Words { words }
+    }
+
     /// The words, in order.
     pub fn as_slice(&self) -> &[Word]
         ensures { result.now ≡ self.now }
@@ -180,6 +187,13 @@ impl Words {
 }
 
 impl Pieces {
+    /// These pieces. It takes no memory.
+    pub(crate) fn from_vec(pieces: Vec<Piece>) -> Pieces
+        ensures { result ≡ pieces.items }
+    {
+        Pieces { pieces }
+    }
+
     /// The pieces, in order.
     pub fn as_slice(&self) -> &[Piece]
         ensures { result.now ≡ self.now }
@@ -189,7 +203,8 @@ impl Pieces {
 }
 
 impl Script {
-    ghost use Rattle.std.specs.Prelude.{◌≡◌, Ok, IfOk};
+    ghost use Rattle.std.specs.Prelude.{◌≡◌, ◌≤◌, Ok, IfOk};
+    ghost use Rattle.tcl_words.specs.Room.{text_room, commands_room};
     ghost use Rattle.tcl_words.specs.Reading.{commands_of};
 
     /// The commands, in order.
@@ -204,6 +219,21 @@ impl Script {
         ensures { result.now ≡ self.now }
     {
         &self.parsed.text
+    }
+
+    /// A script of this text, of which these are the commands.
+    pub(crate) fn new(
+        alloc: Global,
+        text: Text,
+        commands: Vec<Command>,
+    ) -> Result<Script, AllocError>
+        requires parsed { commands_of text ≡ Ok commands.items }
+        requires room { commands_room commands.items ≤ text_room text }
+        ensures { IfOk result (λ script. script ≡ text) }
+    {
+        Ok(Script {
+            parsed: Rc::new(alloc, Parsed { text, commands })?,
+        })
     }
 
     /// The same script, shared.

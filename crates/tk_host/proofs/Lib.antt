@@ -1,3 +1,4 @@
+mod Escapes
 mod History
 mod Order
 mod Runs

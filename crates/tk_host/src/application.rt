@@ -78,7 +78,7 @@ impl Application {
             rect,
             scopes: Scopes::new(alloc)?,
             interp: Interp::new(alloc, budget, &[puts])?,
-            console: Console::new(alloc),
+            console: Console::new(alloc)?,
             window: Window::new(),
             title,
             state: AppState::Running,

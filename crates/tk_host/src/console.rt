@@ -10,16 +10,20 @@ use tcl_vars::Scopes;
 #[derive(Drop)]
 pub struct Console {
     alloc: Global,
+    empty: Text,
     moment: u64,
     transcript: Vec<Line>,
 }
 
 impl Model for Console {
+    ghost use Rattle.std.specs.Prelude.{◌≡◌, []};
     ghost use Rattle.tk_host.specs.Shown.{Shown};
 
     ghost Value = { Shown };
 
     ghost view = { λ c. record { moment = c.moment; transcript = c.transcript.items } };
+
+    ghost invariant = { λ c. c.empty ≡ [] };
 }
 
 /// What a command keeps while it waits: no command of the host's waits.
@@ -33,14 +37,15 @@ impl Console {
     ghost use Rattle.tk_host.specs.Outside.{puts_told, written};
 
     /// Nothing was written, at moment 0.
-    pub fn new(alloc: Global) -> Console
-        ensures { result ≡ record { moment = 0; transcript = [] } }
+    pub fn new(alloc: Global) -> Result<Console, AllocError>
+        ensures { IfOk result (λ console. console ≡ record { moment = 0; transcript = [] }) }
     {
-        Console {
+        Ok(Console {
             alloc,
+            empty: short_text(alloc, "")?,
             moment: 0,
             transcript: Vec::new(alloc),
-        }
+        })
     }
 
     /// What was written.
@@ -78,7 +83,7 @@ impl Console {
         ensures moment { self.new.moment ≡ self.old.moment }
     {
         let line = text.copy()?;
-        let empty = short_text(self.alloc, "")?;
+        let empty = self.empty.copy()?;
         self.write(Stream::Out, line)?;
         Ok(Act::Done(Code::Normal, empty))
     }

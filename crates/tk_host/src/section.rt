@@ -5,6 +5,7 @@ use crate::state::AppState;
 use crate::transcript::Line;
 use crate::window::Window;
 use itoa::Buffer;
+use memchr::memchr3;
 use std::alloc::AllocError;
 
 /// Adds a number in decimal.
@@ -31,10 +32,13 @@ fn push_escaped_byte(out: &mut Vec<u8>, byte: u8) -> Result<(), AllocError>
 fn push_escaped(out: &mut Vec<u8>, text: &[u8]) -> Result<(), AllocError>
     ensures { OnOk result (out.new.items ≡ out.old.items ++ escaped text.now) }
 {
-    for byte in text {
-        push_escaped_byte(out, *byte)?;
+    let mut rest = text;
+    while let Some(place) = memchr3(b'\\', b'\n', b'\r', rest) {
+        out.extend_from_slice(&rest[..place])?;
+        push_escaped_byte(out, rest[place])?;
+        rest = &rest[place + 1..];
     }
-    Ok(())
+    out.extend_from_slice(rest)
 }
 
 /// Adds a line of a transcript.

@@ -1,8 +1,10 @@
-use Rattle.std.proofs.Common.{◌≡◌, ◌++◌, take}
-use Rattle.std.specs.Prelude.{flat_map}
-use Rattle.tk_host.specs.Section.{escaped_byte}
+use Rattle.std.proofs.Common.{◌≡◌, ◌++◌, length}
+use Rattle.tk_host.specs.Section.{escaped}
 use Rattle.tk_host.proofs.section.push_escaped.Given as goal
 
--- what was read is written
-abbrev pub invariant-loop-byte : goal.invariant-loop-byte
-invariant-loop-byte l = l.out.items ≡ l.fn.out.items ++ flat_map escaped_byte (take l.byte-index l.text)
+-- what is written and what is left to be written make up the whole
+abbrev pub invariant-loop-place : goal.invariant-loop-place
+invariant-loop-place l = l.out.items ++ escaped l.rest ≡ l.fn.out.items ++ escaped l.text
+
+abbrev pub decreases-loop-place : goal.decreases-loop-place
+decreases-loop-place l = length l.rest

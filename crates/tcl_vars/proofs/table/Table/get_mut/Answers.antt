@@ -4,6 +4,7 @@ use Rattle.std.proofs.Common.{◌∙◌, sym, ap, inr}
 use Rattle.std.specs.Option.{ghost_name_of}
 use Rattle.tcl_vars.specs.Table.{value_at, with_value}
 use Rattle.tcl_vars.proofs.NamedLemmas.{lookup-named, named-set_value_at, none_of}
+use Rattle.tcl_vars.proofs.ShortLemmas.{ShortNames-set_value_at}
 use Rattle.tcl_vars.proofs.table.Table.get_mut.Goals as goal
 
 pub returns-in-Some : goal.returns-in-Some
@@ -22,3 +23,6 @@ returns-in-None g c = (
   none_of _ c.in-None.ensures.found
       ∙ sym (lookup-named c.args.name.now c.self.inside.entries.entries) ∙ ap (λ t. value_at t c.args.name.now) c.self.view_is,
 )
+
+pub invariant_of-self-lent : goal.invariant_of-self-lent
+invariant_of-self-lent g c = λ _. ((λ w. ShortNames-set_value_at c.self.inside.entries.entries c.in-Some.index w c.self.invariant), c.self.invariant)

@@ -1,0 +1,106 @@
+-- Facts about the commands of list(n) and its kin.
+use Rattle.std.proofs.Common.{◌≡◌, ℕ, zero, suc, ◌+◌, ◌-◌, ◌<◌, ◌≤◌, min, Bool, true, false, List, [], ◌∷◌, ◌++◌, Option, Some, None, Result, Ok, Err, length, take, drop, get_or, map, refl, sym, ap, subst, ◌∙◌, inl, inr, arith, add-one}
+use Rattle.std.proofs.lemmas.Bool.{cases_lt}
+use Rattle.std.proofs.lemmas.List.{append-nil, append_assoc, length-append, length-take, length-drop, take_more, drop_all, drop-take}
+use Rattle.std.specs.Prelude.{if◌then◌else◌}
+use Rattle.tcl_text.specs.ListCommands.{joined, cut_at, with_first, is_one_of, characters_of, pieces_of, parts_of}
+use Rattle.std.specs.Str.{chars, IsUtf8, encode_utf8_all}
+use Rattle.std.proofs.lemmas.Str.{encodes-chars}
+use Rattle.tcl_text.specs.ListSteps.{behind, onto_first}
+
+-- join
+pub joined-behind : (between x : List ℕ) (xs : List (List ℕ)) → joined between (x ∷ xs) ≡ x ++ behind between xs
+joined-behind between x [] = sym (append-nil x)
+joined-behind between x (y ∷ ys) =
+    ap (λ (t : List ℕ). x ++ (between ++ t)) (joined-behind between y ys) ∙ ap (λ (t : List ℕ). x ++ t) (sym (append_assoc between y (behind between ys)))
+
+pub behind-push : (between : List ℕ) (xs : List (List ℕ)) (x : List ℕ) → behind between (xs ++ x ∷ []) ≡ (behind between xs ++ between) ++ x
+behind-push between [] x = append-nil (between ++ x)
+behind-push between (y ∷ ys) x =
+    ap (λ (t : List ℕ). (between ++ y) ++ t) (behind-push between ys x) ∙ sym (append_assoc (between ++ y) _ x ∙ ap (λ (t : List ℕ). (between ++ y) ++ t) refl) ∙ ap (λ (t : List ℕ). t ++ x) (sym (append_assoc (between ++ y) (behind between ys) between))
+
+pub behind_step : (between : List ℕ) (xs : List (List ℕ)) (i : ℕ) (x : List ℕ) → i < length xs → x ≡ get_or xs i x → behind between (take (i + 1) xs) ≡ (behind between (take i xs) ++ between) ++ x
+behind_step between xs i x within is =
+    ap (behind between) (take_more xs i x within ∙ ap (λ (y : List ℕ). take i xs ++ y ∷ []) (sym is)) ∙ behind-push between (take i xs) x
+
+-- a part of a row, cut from its start or from its end
+pub part_cut : {X : Type 0} (start end : ℕ) (xs : List X) → take (end - min start end) (drop (min start end) xs) ≡ drop start (take end xs)
+part_cut start end xs = elim (cases_lt start end) [
+  | inl before ↦
+      let m : min start end ≡ start = omega arith in
+      let e : start + (end - start) ≡ end = omega arith in
+      rw m (sym (drop-take start (end - start) xs) ∙ ap (λ (n : ℕ). drop start (take n xs)) e)
+  | inr past ↦
+      let m : end - min start end ≡ 0 = omega arith in
+      rw m (sym (drop_all start (take end xs) (omega (arith, length-take end xs))))
+]
+
+pub regroup : (old before between item : List ℕ) → ((old ++ before) ++ between) ++ item ≡ old ++ ((before ++ between) ++ item)
+regroup old before between item = simp append_assoc
+
+-- split: what was passed stands in front of the first piece of what is left
+nothing_cons : (c : ℕ) (rest : List ℕ) → [] ≡ c ∷ rest → ⊥
+nothing_cons c rest e = cc
+
+onto_nothing : (pieces : List (List ℕ)) (c : ℕ) (b : Bool) → onto_first [] (if b then [] ∷ pieces else with_first c pieces) ≡ (if b then [] ∷ pieces else with_first c pieces)
+onto_nothing pieces c true = refl
+onto_nothing [] c false = refl
+onto_nothing (p ∷ ps) c false = refl
+
+pub cut-nothing_passed : (test : ℕ → Bool) (cs : List ℕ) → cut_at test cs ≡ onto_first [] (cut_at test cs)
+cut-nothing_passed test [] = refl
+cut-nothing_passed test (c ∷ cs) = sym (onto_nothing (cut_at test cs) c (test c))
+
+onto-with_first : (front : List ℕ) (c : ℕ) (pieces : List (List ℕ)) → onto_first front (with_first c pieces) ≡ onto_first (front ++ c ∷ []) pieces
+onto-with_first front c [] = refl
+onto-with_first front c (p ∷ ps) = ap (λ (t : List ℕ). t ∷ ps) (sym (append_assoc front (c ∷ []) p))
+
+take_past : (passed : ℕ) (cs : List ℕ) (c : ℕ) (next : List ℕ) → drop passed cs ≡ c ∷ next → take (suc passed) cs ≡ take passed cs ++ c ∷ []
+take_past zero [] c next e = absurd (nothing_cons c next e)
+take_past zero (x ∷ xs) c next e = let same : x ≡ c = cc in ap (λ (y : ℕ). y ∷ []) same
+take_past (suc passed) [] c next e = absurd (nothing_cons c next e)
+take_past (suc passed) (x ∷ xs) c next e = ap (λ (t : List ℕ). x ∷ t) (take_past passed xs c next e)
+
+pub cut-passed : (test : ℕ → Bool) (whole : List (List ℕ)) (cs rest : List ℕ) (passed c : ℕ) (next : List ℕ) → test c ≡ false → rest ≡ c ∷ next → rest ≡ drop passed cs → whole ≡ onto_first (take passed cs) (cut_at test rest) → whole ≡ onto_first (take (passed + 1) cs) (cut_at test next)
+cut-passed test whole cs rest passed c next fails is at h =
+    let front : take (passed + 1) cs ≡ take passed cs ++ c ∷ [] = rw add-one (take_past passed cs c next (sym at ∙ is)) in
+    let cut : cut_at test rest ≡ with_first c (cut_at test next) = rw (is, fails) refl in
+    h ∙ ap (onto_first (take passed cs)) cut ∙ onto-with_first (take passed cs) c (cut_at test next) ∙ ap (λ (t : List ℕ). onto_first t (cut_at test next)) (sym front)
+
+pub cut-found : (test : ℕ → Bool) (whole : List (List ℕ)) (cs rest : List ℕ) (passed c : ℕ) (next piece : List ℕ) → test c ≡ true → rest ≡ c ∷ next → piece ≡ take passed cs → whole ≡ onto_first (take passed cs) (cut_at test rest) → whole ≡ piece ∷ cut_at test next
+cut-found test whole cs rest passed c next piece passes is front h =
+    let cut : cut_at test rest ≡ [] ∷ cut_at test next = rw (is, passes) refl in
+    h ∙ ap (onto_first (take passed cs)) cut ∙ ap (λ (t : List ℕ). t ∷ cut_at test next) (append-nil (take passed cs) ∙ sym front)
+
+-- split: a piece more, and the last
+pub pieces-more : (items whole : List (List ℕ)) (rest piece after separators : List ℕ) → IsUtf8 piece → cut_at (is_one_of separators) (chars rest) ≡ chars piece ∷ cut_at (is_one_of separators) (chars after) → items ++ pieces_of rest separators ≡ whole → (items ++ piece ∷ []) ++ pieces_of after separators ≡ whole
+pieces-more items whole rest piece after separators utf8 cut h =
+    let first : pieces_of rest separators ≡ piece ∷ pieces_of after separators =
+    ap (map encode_utf8_all) cut ∙ ap (λ (t : List ℕ). t ∷ pieces_of after separators) (encodes-chars piece utf8)
+    in
+    append_assoc items (piece ∷ []) (pieces_of after separators) ∙ ap (λ (t : List (List ℕ)). items ++ t) (sym first) ∙ h
+
+pub pieces-last : (items whole : List (List ℕ)) (rest piece separators : List ℕ) → IsUtf8 piece → cut_at (is_one_of separators) (chars rest) ≡ chars piece ∷ [] → items ++ pieces_of rest separators ≡ whole → items ++ piece ∷ [] ≡ whole
+pieces-last items whole rest piece separators utf8 cut h =
+    let only : pieces_of rest separators ≡ piece ∷ [] = ap (map encode_utf8_all) cut ∙ ap (λ (t : List ℕ). t ∷ []) (encodes-chars piece utf8) in
+    ap (λ (t : List (List ℕ)). items ++ t) (sym only) ∙ h
+
+-- the parts of a text by what it has and the separators have
+pub parts-none : (text separators : List ℕ) → length text ≡ 0 → parts_of text separators ≡ []
+parts-none [] separators e = refl
+parts-none (b ∷ bs) separators e = absurd (omega arith)
+
+pub parts-characters : (text separators : List ℕ) → (length text ≡ 0 → ⊥) → separators ≡ [] → parts_of text separators ≡ characters_of text
+parts-characters [] separators some e = absurd (some refl)
+parts-characters (b ∷ bs) [] some e = refl
+parts-characters (b ∷ bs) (s ∷ separators) some e = absurd (nothing_cons s separators (sym e))
+
+pub parts-pieces : (text separators : List ℕ) → (length text ≡ 0 → ⊥) → (separators ≡ [] → ⊥) → parts_of text separators ≡ pieces_of text separators
+parts-pieces [] separators some seps = absurd (some refl)
+parts-pieces (b ∷ bs) [] some seps = absurd (seps refl)
+parts-pieces (b ∷ bs) (s ∷ separators) some seps = refl
+
+-- white space as separators
+pub white_separators : chars (32 ∷ 9 ∷ 10 ∷ 11 ∷ 12 ∷ 13 ∷ []) ≡ 32 ∷ 9 ∷ 10 ∷ 11 ∷ 12 ∷ 13 ∷ []
+unfolding chars
+white_separators = refl

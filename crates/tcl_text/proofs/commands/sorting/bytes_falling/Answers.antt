@@ -1,0 +1,12 @@
+use Rattle.std.proofs.Common.{rules, List, ℕ, ℤ}
+use Rattle.std.proofs.lemmas.Cmp.{nat_list_cmp_total, int_cmp_total}
+use Rattle.std.proofs.lemmas.List.Sorted.{ranks_by, IsStrictWeakOrder-flip, answers_always}
+use Rattle.tcl_text.specs.ListCommands.{bytes_less, key_less}
+use Rattle.tcl_text.proofs.SortLemmas.{stable_sort-is}
+use Rattle.tcl_text.proofs.commands.sorting.bytes_falling.Goals as goal
+
+pub returns : goal.returns
+returns c =
+    let less = (λ (x y : List ℕ). bytes_less y x) in
+    let order = IsStrictWeakOrder-flip bytes_less (ranks_by nat_list_cmp_total (λ x. x)) in
+    stable_sort-is less order _ _ (c.in_ok-sort_by.ensures.sorted less order (answers_always _ _ _ (λ f a r g h. search rules))) (c.in_ok-sort_by.ensures.stable less order (answers_always _ _ _ (λ f a r g h. search rules)))

@@ -1,0 +1,103 @@
+-- What a command answers: its result or the text of its error, and the texts of the errors.
+use Rattle.std.specs.Prelude.{◌≡◌, ℕ, ℤ, Bool, nat_le, if◌then◌else◌, List, [], ◌∷◌, ◌++◌, length, Option, Some, None, Result, Ok, Err, codes, ⊤}
+use Rattle.std.specs.Fmt.{decimal}
+use Rattle.tcl_text.specs.Readings.{integer_of, list_of}
+use Rattle.tcl_text.specs.declared.splitting.ListFault.{ListFault}
+use Rattle.tcl_text.specs.declared.splitting.ListFault.TheVariants.{OpenBrace, OpenQuote, ExtraCharacters}
+use Rattle.tcl_text.specs.declared.commands.answers.Refusal.{Refusal}
+use Rattle.tcl_text.specs.declared.commands.answers.Refusal.TheVariants.{Error, NoMemory}
+
+-- a command's result, or the text of its error
+abbrev pub Answer : Type 0
+Answer = Result (List ℕ) (List ℕ)
+
+-- the rest of a command, unless a step before it was refused
+infixl 10 ◌>>=◌
+abbrev pub ◌>>=◌ : {T U : Type 0} → Result T (List ℕ) → (T → Result U (List ℕ)) → Result U (List ℕ)
+Ok value >>= rest = rest value
+Err text >>= rest = Err text
+
+-- the text that stands for one past 65,536 bytes
+abbrev pub limit_text : List ℕ
+limit_text = codes "limit reached: value"
+
+-- the text, or the limit's where it is past it
+unfoldable pub bounded : List ℕ → List ℕ
+bounded text = if nat_le (length text) 65536 then text else limit_text
+
+-- an error with this text
+abbrev pub fails : {T : Type 0} → List ℕ → Result T (List ℕ)
+fails text = Err (bounded text)
+
+-- this result
+unfoldable pub answers : List ℕ → Answer
+answers text = if nat_le (length text) 65536 then Ok text else Err limit_text
+
+-- a text in quotation marks
+abbrev pub quoted : List ℕ → List ℕ
+quoted text = codes "\"" ++ (text ++ codes "\"")
+
+-- the errors of the commands on texts and lists
+abbrev pub wrong_args_text : List ℕ → List ℕ
+wrong_args_text usage = codes "wrong # args: should be " ++ quoted usage
+
+abbrev pub bad_option_text : List ℕ → List ℕ
+bad_option_text word = codes "bad option " ++ quoted word
+
+abbrev pub bad_index_text : List ℕ → List ℕ
+bad_index_text word = codes "bad index " ++ quoted word
+
+abbrev pub expected_integer_text : List ℕ → List ℕ
+expected_integer_text word = codes "expected integer but got " ++ quoted word
+
+abbrev pub wrong_args : {T : Type 0} → List ℕ → Result T (List ℕ)
+wrong_args usage = fails (wrong_args_text usage)
+
+abbrev pub bad_option : {T : Type 0} → List ℕ → Result T (List ℕ)
+bad_option word = fails (bad_option_text word)
+
+abbrev pub bad_index : {T : Type 0} → List ℕ → Result T (List ℕ)
+bad_index word = fails (bad_index_text word)
+
+abbrev pub list_fault_text : ListFault → List ℕ
+list_fault_text OpenBrace = codes "unmatched open brace in list"
+list_fault_text OpenQuote = codes "unmatched open quote in list"
+list_fault_text ExtraCharacters = codes "extra characters after list element"
+
+abbrev pub expected_integer : {T : Type 0} → List ℕ → Result T (List ℕ)
+expected_integer word = fails (expected_integer_text word)
+
+-- the integer that a word is
+abbrev pub integer_or_error : List ℕ → Option ℤ → Result ℤ (List ℕ)
+integer_or_error word (Some n) = Ok n
+integer_or_error word None = expected_integer word
+
+unfoldable pub integer_in : List ℕ → Result ℤ (List ℕ)
+integer_in word = integer_or_error word (integer_of word)
+
+-- the items of the list that a word is
+abbrev pub items_or_error : Result (List (List ℕ)) ListFault → Result (List (List ℕ)) (List ℕ)
+items_or_error (Ok items) = Ok items
+items_or_error (Err fault) = fails (list_fault_text fault)
+
+unfoldable pub items_in : List ℕ → Result (List (List ℕ)) (List ℕ)
+items_in word = items_or_error (list_of word)
+
+-- 1 or 0, and an index or -1
+abbrev pub truth : Bool → Answer
+truth b = answers (if b then codes "1" else codes "0")
+
+abbrev pub place : Option ℕ → Answer
+place (Some k) = answers (decimal k)
+place None = answers (codes "-1")
+
+-- a refusal is an error with this text, unless memory was refused
+abbrev pub Refuses : Refusal → List ℕ → Type 0
+Refuses (Error message) text = text ≡ message
+Refuses NoMemory text = ⊤
+
+-- what a step gave is what the definition says, unless memory was refused
+abbrev pub Gives : {T : Type 0} → Result T Refusal → Result T (List ℕ) → Type 0
+Gives (Ok value) wanted = wanted ≡ Ok value
+Gives (Err (Error message)) wanted = wanted ≡ Err message
+Gives (Err NoMemory) wanted = ⊤

@@ -1,0 +1,140 @@
+-- The commands of string(n), and concat(n).
+use Rattle.std.specs.Prelude.{◌≡◌, ℕ, zero, suc, ◌+◌, ◌*◌, ◌-◌, ℤ, pos, negsuc, Bool, true, false, not, ◌&&◌, ◌||◌, ◌==◌, nat_eq, nat_lt, nat_le, if◌then◌else◌, List, [], ◌∷◌, ◌++◌, length, take, drop, map, filter, reverse, Option, Some, None, option_map, replicate, Result, Ok, Err, codes}
+use Rattle.std.specs.List.{starts_with, concat, join_with_byte}
+use Rattle.std.specs.Str.{chars, encode_utf8_all, bytes_eq, str_to_ascii_lowercase, str_to_ascii_uppercase}
+use Rattle.std.specs.Fmt.{decimal}
+use Rattle.std.specs.Ordering.{nat_cmp}
+use Rattle.std.specs.Cmp.Lexicographic.{slice_cmp}
+use Rattle.std.specs.declared.cmp.Ordering.{Ordering}
+use Rattle.std.specs.declared.cmp.Ordering.TheVariants.{Less, Equal, Greater}
+use Rattle.tcl_text.specs.Backslash.{is_white}
+use Rattle.tcl_text.specs.Readings.{skip_white}
+use Rattle.tcl_text.specs.Glob.{glob_matches}
+use Rattle.tcl_text.specs.Answers.{Answer, ◌>>=◌, answers, wrong_args, bad_option, integer_in, truth, place}
+use Rattle.tcl_text.specs.Indices.{index_in, from_zero, part}
+use Rattle.tcl_text.specs.declared.commands.strings.StringCommand.{StringCommand}
+use Rattle.tcl_text.specs.declared.commands.strings.StringCommand.TheVariants as string
+
+-- the text without white space at its end, and at both ends
+abbrev pub before_end : ℕ → List ℕ → List ℕ
+before_end c [] = if is_white c then [] else c ∷ []
+before_end c (d ∷ ds) = c ∷ d ∷ ds
+
+abbrev pub drop_white_end : List ℕ → List ℕ
+drop_white_end [] = []
+drop_white_end (c ∷ cs) = before_end c (drop_white_end cs)
+
+abbrev pub trimmed : List ℕ → List ℕ
+trimmed text = drop_white_end (skip_white text)
+
+-- the byte at which the needle first stands in the text
+abbrev pub first_place : List ℕ → List ℕ → Option ℕ
+first_place needle [] = if starts_with nat_eq [] needle then Some 0 else None
+first_place needle (c ∷ cs) = if starts_with nat_eq (c ∷ cs) needle then Some 0 else option_map suc (first_place needle cs)
+
+-- how many characters stand before the needle, which isn't empty
+abbrev pub characters_before : List ℕ → List ℕ → Option ℕ
+characters_before [] text = None
+characters_before (c ∷ cs) text = option_map (λ k. length (chars (take k text))) (first_place (c ∷ cs) text)
+
+-- -1, 0 or 1
+abbrev pub sign_of : Ordering → List ℕ
+sign_of Less = codes "-1"
+sign_of Equal = codes "0"
+sign_of Greater = codes "1"
+
+-- each command: its words after `string NAME` give the answer
+abbrev pub string_length : List (List ℕ) → Answer
+string_length (text ∷ []) = answers (decimal (length (chars text)))
+string_length _ = wrong_args (codes "string length s")
+
+abbrev pub string_index : List (List ℕ) → Answer
+string_index (text ∷ index ∷ []) = do
+  i ← index_in index
+  answers (encode_utf8_all (part i i (chars text)))
+string_index _ = wrong_args (codes "string index s i")
+
+abbrev pub string_range : List (List ℕ) → Answer
+string_range (text ∷ first ∷ last ∷ []) = do
+  i ← index_in first
+  j ← index_in last
+  answers (encode_utf8_all (part i j (chars text)))
+string_range _ = wrong_args (codes "string range s first last")
+
+abbrev pub string_compare : List (List ℕ) → Answer
+string_compare (a ∷ b ∷ []) = answers (sign_of (slice_cmp nat_cmp a b))
+string_compare _ = wrong_args (codes "string compare a b")
+
+abbrev pub string_equal : List (List ℕ) → Answer
+string_equal (a ∷ b ∷ []) = truth (bytes_eq a b)
+string_equal _ = wrong_args (codes "string equal a b")
+
+abbrev pub string_match : List (List ℕ) → Answer
+string_match (pattern ∷ text ∷ []) = truth (glob_matches (chars pattern) (chars text))
+string_match _ = wrong_args (codes "string match pattern s")
+
+abbrev pub string_first : List (List ℕ) → Answer
+string_first (needle ∷ text ∷ []) = place (characters_before needle text)
+string_first _ = wrong_args (codes "string first needle s")
+
+abbrev pub string_repeat : List (List ℕ) → Answer
+string_repeat (text ∷ count ∷ []) = do
+  n ← integer_in count
+  answers (concat (replicate (from_zero n) text))
+string_repeat _ = wrong_args (codes "string repeat s n")
+
+abbrev pub string_tolower : List (List ℕ) → Answer
+string_tolower (text ∷ []) = answers (str_to_ascii_lowercase text)
+string_tolower _ = wrong_args (codes "string tolower s")
+
+abbrev pub string_toupper : List (List ℕ) → Answer
+string_toupper (text ∷ []) = answers (str_to_ascii_uppercase text)
+string_toupper _ = wrong_args (codes "string toupper s")
+
+abbrev pub string_trim : List (List ℕ) → Answer
+string_trim (text ∷ []) = answers (trimmed text)
+string_trim _ = wrong_args (codes "string trim s")
+
+-- the command of this name
+unfoldable pub string_command_named : List ℕ → Option StringCommand
+string_command_named name =
+    if bytes_eq name (codes "length") then Some string.Length
+    else (if bytes_eq name (codes "index") then Some string.Index
+    else (if bytes_eq name (codes "range") then Some string.Range
+    else (if bytes_eq name (codes "compare") then Some string.Compare
+    else (if bytes_eq name (codes "equal") then Some string.Equal
+    else (if bytes_eq name (codes "match") then Some string.Match
+    else (if bytes_eq name (codes "first") then Some string.First
+    else (if bytes_eq name (codes "repeat") then Some string.Repeat
+    else (if bytes_eq name (codes "tolower") then Some string.ToLower
+    else (if bytes_eq name (codes "toupper") then Some string.ToUpper
+    else (if bytes_eq name (codes "trim") then Some string.Trim
+    else None))))))))))
+
+abbrev pub string_command : StringCommand → List (List ℕ) → Answer
+string_command string.Length words = string_length words
+string_command string.Index words = string_index words
+string_command string.Range words = string_range words
+string_command string.Compare words = string_compare words
+string_command string.Equal words = string_equal words
+string_command string.Match words = string_match words
+string_command string.First words = string_first words
+string_command string.Repeat words = string_repeat words
+string_command string.ToLower words = string_tolower words
+string_command string.ToUpper words = string_toupper words
+string_command string.Trim words = string_trim words
+
+abbrev pub string_or_error : List ℕ → Option StringCommand → List (List ℕ) → Answer
+string_or_error name (Some command) words = string_command command words
+string_or_error name None words = bad_option name
+
+abbrev pub string_words : List (List ℕ) → Answer
+string_words [] = wrong_args (codes "string option ?arg ..?")
+string_words (name ∷ words) = string_or_error name (string_command_named name) words
+
+-- the words without white space around them, those that aren't empty, with a blank between each two
+abbrev pub concatenated : List (List ℕ) → List ℕ
+concatenated words = join_with_byte 32 (filter (λ word. not (length word == 0)) (map trimmed words))
+
+abbrev pub concat_words : List (List ℕ) → Answer
+concat_words words = answers (concatenated words)

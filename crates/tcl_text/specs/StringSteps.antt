@@ -1,0 +1,8 @@
+-- What the steps of the commands of string(n) and concat(n) say to one another.
+use Rattle.std.specs.Prelude.{ℕ, List, [], ◌∷◌, ◌++◌}
+
+-- the text with the word behind a blank, or as it is where the word is empty
+abbrev pub with_word : List ℕ → List ℕ → List ℕ
+with_word text [] = text
+with_word [] (c ∷ cs) = c ∷ cs
+with_word (t ∷ ts) (c ∷ cs) = (t ∷ ts) ++ 32 ∷ (c ∷ cs)

@@ -1,0 +1,80 @@
+ghost use Rattle.std.specs.Prelude.{◌≡◌, ◌∷◌, ◌↔◌, Bool, IsErr};
+ghost use Rattle.std.specs.Result.{result_ok};
+ghost use Rattle.tcl_text.specs.Readings as readings;
+
+use crate::integer::integer_in;
+use crate::text::Text;
+use thiserror::Error;
+
+/// The text is no boolean (2).
+#[derive(Clone, Copy, Debug, PartialEq, Eq, Drop, Error)]
+#[error("expected boolean value")]
+pub struct NotBoolean;
+
+impl Text {
+    /// The boolean that the text is, as Tcl_GetBoolean(3) reads one: an integer, of which 0 is false, or in any case of its
+    /// letters the beginning of exactly one of `yes`, `no`, `true`, `false`, `on` and `off`. It takes no memory.
+    pub fn boolean(&self) -> Result<bool, NotBoolean>
+        ensures read { (b : Bool) → (result ≡ Ok b) ↔ readings.IsBoolean self.now b }
+        ensures refused { IsErr result ↔ ((b : Bool) → ¬ (readings.IsBoolean self.now b)) }
+        ensures exact { result_ok result ≡ readings.boolean_of self.now }
+    {
+        boolean_in(self.as_str().as_bytes()).ok_or(NotBoolean)
+    }
+}
+
+#[tactic(auto, unfolding(crate::specs::Readings::boolean_of))]
+fn boolean_in(text: &[u8]) -> Option<bool>
+    ensures { result ≡ readings.boolean_of text.now }
+{
+    match integer_in(text) {
+        Some(number) => Some(number != 0),
+        None => boolean_word(text),
+    }
+}
+
+/// The value of the only word that begins with the text.
+#[tactic(auto, using(crate::proofs::BooleanLemmas::first_letters))]
+fn boolean_word(text: &[u8]) -> Option<bool>
+    ensures { result ≡ readings.only_word (readings.words_begun text.now) }
+{
+    let (first, others) = text.split_first()?;
+    match first.to_ascii_lowercase() {
+        b'y' => begins_word(others, b"es").then_some(true),
+        b'n' => begins_word(others, b"o").then_some(false),
+        b't' => begins_word(others, b"rue").then_some(true),
+        b'f' => begins_word(others, b"alse").then_some(false),
+        b'o' => on_or_off(others),
+        _ => None,
+    }
+}
+
+/// The value of the only word that begins with `o` and the text: `on` or `off`.
+#[tactic(auto, using(crate::proofs::BooleanLemmas::second_letters))]
+fn on_or_off(text: &[u8]) -> Option<bool>
+    ensures { result ≡ readings.only_word (readings.words_begun (111 ∷ text.now)) }
+{
+    let (first, others) = text.split_first()?;
+    match first.to_ascii_lowercase() {
+        b'n' => begins_word(others, b"").then_some(true),
+        b'f' => begins_word(others, b"f").then_some(false),
+        _ => None,
+    }
+}
+
+/// Whether the word begins with the text, ignoring the case of ASCII letters.
+fn begins_word(mut text: &[u8], mut word: &[u8]) -> bool
+    ensures { result ≡ readings.begins_word text.entry.now word.entry.now }
+{
+    while let Some((first, others)) = text.split_first() {
+        let Some((letter, letters)) = word.split_first() else {
+            return false;
+        };
+        if first.to_ascii_lowercase() != *letter {
+            return false;
+        }
+        text = others;
+        word = letters;
+    }
+    true
+}

@@ -1,0 +1,110 @@
+//! The commands on texts and lists alone: list(n), llength(n), lindex(n), lrange(n), linsert(n),
+//! lreplace(n), lsearch(n), lsort(n), join(n), split(n), concat(n) and string(n).
+ghost use Rattle.std.specs.Prelude.{◌≡◌, IfOk};
+ghost use Rattle.tcl_text.specs.Answers.{Gives};
+ghost use Rattle.tcl_text.specs.Commands as spec;
+
+mod answers;
+mod indices;
+mod integers;
+mod items;
+mod lists;
+mod sorting;
+mod splits;
+mod strings;
+#[cfg(test)]
+mod tests;
+
+use crate::text::Text;
+use answers::Refusal;
+use lists::{
+    join_words, lindex_words, linsert_words, list_words, llength_words, lrange_words,
+    lreplace_words, lsearch_words,
+};
+use sorting::lsort_words;
+use splits::split_words;
+use std::alloc::{AllocError, Global};
+use strings::{concat_words, string_words};
+
+/// A command on texts and lists.
+#[derive(Clone, Copy, Debug, PartialEq, Eq)]
+pub enum TextCommand {
+    List,
+    Llength,
+    Lindex,
+    Lrange,
+    Linsert,
+    Lreplace,
+    Lsearch,
+    Lsort,
+    Join,
+    Split,
+    Concat,
+    String,
+}
+
+impl Text {
+    /// What a command on texts and lists answers to its words, of which the first is its name: its
+    /// result, or the text of its error. None where the first word names no such command, or there
+    /// is no word. A result or an error's text past 65,536 bytes is the error `limit reached: value`.
+    pub fn text_command(
+        alloc: Global,
+        words: &[Text],
+    ) -> Result<Option<Result<Text, Text>>, AllocError>
+        ensures { IfOk result (λ answer. answer ≡ spec.text_command_of words.now) }
+    {
+        let Some((name, arguments)) = words.split_first() else {
+            return Ok(None);
+        };
+        let Some(command) = command_named(name.as_str()) else {
+            return Ok(None);
+        };
+        match answer_of(alloc, command, arguments) {
+            Ok(text) => Ok(Some(Ok(text))),
+            Err(Refusal::Error(message)) => Ok(Some(Err(message))),
+            Err(Refusal::NoMemory) => Err(AllocError),
+        }
+    }
+}
+
+/// The command of this name.
+#[tactic(auto, unfolding(crate::specs::Commands::command_named))]
+fn command_named(name: &str) -> Option<TextCommand>
+    ensures { result ≡ spec.command_named name.now }
+{
+    match name {
+        "list" => Some(TextCommand::List),
+        "llength" => Some(TextCommand::Llength),
+        "lindex" => Some(TextCommand::Lindex),
+        "lrange" => Some(TextCommand::Lrange),
+        "linsert" => Some(TextCommand::Linsert),
+        "lreplace" => Some(TextCommand::Lreplace),
+        "lsearch" => Some(TextCommand::Lsearch),
+        "lsort" => Some(TextCommand::Lsort),
+        "join" => Some(TextCommand::Join),
+        "split" => Some(TextCommand::Split),
+        "concat" => Some(TextCommand::Concat),
+        "string" => Some(TextCommand::String),
+        _ => None,
+    }
+}
+
+/// What a command answers to the words after its name.
+fn answer_of(alloc: Global, command: TextCommand, words: &[Text]) -> Result<Text, Refusal>
+    ensures { Gives result (spec.command_answer command words.now) }
+{
+    match command {
+        TextCommand::List => list_words(alloc, words),
+        TextCommand::Llength => llength_words(alloc, words),
+        TextCommand::Lindex => lindex_words(alloc, words),
+        TextCommand::Lrange => lrange_words(alloc, words),
+        TextCommand::Linsert => linsert_words(alloc, words),
+        TextCommand::Lreplace => lreplace_words(alloc, words),
+        TextCommand::Lsearch => lsearch_words(alloc, words),
+        TextCommand::Lsort => lsort_words(alloc, words),
+        TextCommand::Join => join_words(alloc, words),
+        TextCommand::Split => split_words(alloc, words),
+        TextCommand::Concat => concat_words(alloc, words),
+        TextCommand::String => string_words(alloc, words),
+    }
+}

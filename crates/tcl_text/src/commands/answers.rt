@@ -1,0 +1,168 @@
+//! What the steps of a command answer, and the texts of their errors.
+ghost use Rattle.std.specs.Prelude.{◌≡◌, ◌++◌, IfOk, string_bytes};
+ghost use Rattle.std.specs.Fmt.{decimal};
+ghost use Rattle.tcl_text.specs.Answers.{Gives, Refuses, answers, bounded, truth as truth_of, place as place_of, limit_text, quoted, wrong_args as wrong_args_of, bad_option as bad_option_of, bad_index as bad_index_of, expected_integer};
+
+use crate::text::{Text, TextFault};
+use itoa::Buffer;
+use std::alloc::{AllocError, AllocFailed, Global};
+
+/// Why a step of a command gave nothing.
+#[derive(Drop)]
+pub enum Refusal {
+    /// The command's error, with its text.
+    Error(Text),
+    /// Memory was refused.
+    NoMemory,
+}
+
+impl From<AllocError> for Refusal {
+    ghost use Rattle.std.specs.Prelude.{◌≡◌};
+    ghost use Rattle.tcl_text.specs.declared.commands.answers.Refusal.TheVariants.{NoMemory};
+
+    ghost from_gives = { λ _ e. e ≡ NoMemory };
+
+    fn from(_refused: AllocError) -> Refusal {
+        Refusal::NoMemory
+    }
+}
+
+impl<T: Drop> From<AllocFailed<T>> for Refusal {
+    ghost use Rattle.std.specs.Prelude.{◌≡◌};
+    ghost use Rattle.tcl_text.specs.declared.commands.answers.Refusal.TheVariants.{NoMemory};
+
+    ghost from_gives = { λ _ e. e ≡ NoMemory };
+
+    fn from(_refused: AllocFailed<T>) -> Refusal {
+        Refusal::NoMemory
+    }
+}
+
+/// An answer of these characters.
+#[tactic(auto, using(crate::proofs::AnswerLemmas::bounds))]
+pub fn text_answer(alloc: Global, characters: &str) -> Result<Text, Refusal>
+    ensures { Gives result (answers characters.now) }
+{
+    match Text::new(alloc, characters) {
+        Ok(text) => Ok(text),
+        Err(TextFault::TooLong) => Err(limit_reached(alloc)),
+        Err(TextFault::NoMemory) => Err(Refusal::NoMemory),
+    }
+}
+
+/// An answer of the characters of a string, which it takes over.
+#[tactic(auto, using(crate::proofs::AnswerLemmas::bounds))]
+pub fn string_answer(alloc: Global, string: String) -> Result<Text, Refusal>
+    ensures { Gives result (answers (string_bytes string)) }
+{
+    match Text::from_string(alloc, string) {
+        Ok(text) => Ok(text),
+        Err(TextFault::TooLong) => Err(limit_reached(alloc)),
+        Err(TextFault::NoMemory) => Err(Refusal::NoMemory),
+    }
+}
+
+/// A text as it is.
+#[tactic(auto, using(crate::proofs::AnswerLemmas::bounds))]
+pub fn copy_answer(text: &Text) -> Result<Text, Refusal>
+    ensures { Gives result (answers text.now) }
+{
+    let _characters = text.as_str();
+    Ok(text.copy()?)
+}
+
+/// A number in decimal.
+pub fn decimal_answer(alloc: Global, number: usize) -> Result<Text, Refusal>
+    ensures { Gives result (answers (decimal number)) }
+{
+    let mut buffer = Buffer::new();
+    text_answer(alloc, buffer.format(number))
+}
+
+/// A place in decimal, or -1 where there is none.
+pub fn place_answer(alloc: Global, place: Option<usize>) -> Result<Text, Refusal>
+    ensures { Gives result (place_of place) }
+{
+    match place {
+        Some(number) => decimal_answer(alloc, number),
+        None => text_answer(alloc, "-1"),
+    }
+}
+
+/// The answer 1 or 0.
+pub fn truth_answer(alloc: Global, truth: bool) -> Result<Text, Refusal>
+    ensures { Gives result (truth_of truth) }
+{
+    text_answer(alloc, if truth { "1" } else { "0" })
+}
+
+/// The error for a value past 65,536 bytes (4).
+pub fn limit_reached(alloc: Global) -> Refusal
+    ensures { Refuses result limit_text }
+{
+    match Text::new(alloc, "limit reached: value") {
+        Ok(text) => Refusal::Error(text),
+        Err(_) => Refusal::NoMemory,
+    }
+}
+
+#[tactic(auto, using(crate::proofs::AnswerLemmas::bounds))]
+/// An error with this text, or with the limit's where the text is past it.
+pub fn error(alloc: Global, message: &str) -> Refusal
+    ensures { Refuses result (bounded message.now) }
+{
+    match Text::new(alloc, message) {
+        Ok(text) => Refusal::Error(text),
+        Err(TextFault::TooLong) => limit_reached(alloc),
+        Err(TextFault::NoMemory) => Refusal::NoMemory,
+    }
+}
+
+/// The error for a wrong number of words.
+pub fn wrong_args<T>(alloc: Global, usage: &str) -> Result<T, Refusal>
+    ensures { Gives result (wrong_args_of usage.now) }
+{
+    Err(quoting_error(alloc, "wrong # args: should be ", usage))
+}
+
+/// The error for a word in the place of a sub-command or switch that is none.
+pub fn bad_option<T>(alloc: Global, word: &Text) -> Result<T, Refusal>
+    ensures { Gives result (bad_option_of word.now) }
+{
+    Err(quoting_error(alloc, "bad option ", word.as_str()))
+}
+
+/// The error for a word that is no index.
+pub fn bad_index<T>(alloc: Global, word: &Text) -> Result<T, Refusal>
+    ensures { Gives result (bad_index_of word.now) }
+{
+    Err(quoting_error(alloc, "bad index ", word.as_str()))
+}
+
+/// The error for a word that is no integer (1).
+pub fn not_integer<T>(alloc: Global, word: &Text) -> Result<T, Refusal>
+    ensures { Gives result (expected_integer word.now) }
+{
+    Err(quoting_error(alloc, "expected integer but got ", word.as_str()))
+}
+
+/// An error that ends with a word in quotation marks.
+fn quoting_error(alloc: Global, message: &str, word: &str) -> Refusal
+    ensures { Refuses result (bounded (message.now ++ quoted word.now)) }
+{
+    match with_quoted(alloc, message, word) {
+        Ok(text) => error(alloc, text.as_str()),
+        Err(AllocError) => Refusal::NoMemory,
+    }
+}
+
+/// The message followed by the word in quotation marks.
+fn with_quoted(alloc: Global, message: &str, word: &str) -> Result<String, AllocError>
+    ensures { IfOk result (λ string. string_bytes string ≡ message.now ++ quoted word.now) }
+{
+    let mut string = String::from_str(alloc, message)?;
+    string.push_str("\"")?;
+    string.push_str(word)?;
+    string.push_str("\"")?;
+    Ok(string)
+}

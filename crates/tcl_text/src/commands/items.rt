@@ -1,0 +1,45 @@
+//! Lists among the words of a command and as its answer.
+ghost use Rattle.std.specs.Prelude.{◌≡◌};
+ghost use Rattle.tcl_text.specs.Answers.{Gives, answers, list_fault_text, items_in as items_of};
+ghost use Rattle.tcl_text.specs.Readings.{list_form};
+
+use crate::commands::answers::{Refusal, error, limit_reached};
+use crate::list::TextList;
+use crate::splitting::{ListFault, SplitFault};
+use crate::text::{Text, TextFault};
+use std::alloc::Global;
+
+/// The items of the list that a word is, or the error that it is none (3).
+#[tactic(auto, using(crate::proofs::AnswerLemmas::list_faults), unfolding(crate::specs::Answers::items_in))]
+pub fn items_in(alloc: Global, list: &Text) -> Result<TextList, Refusal>
+    ensures { Gives result (items_of list.now) }
+{
+    match list.split_list(alloc) {
+        Ok(items) => Ok(items),
+        Err(SplitFault::BadList(fault)) => Err(error(alloc, fault_text(fault))),
+        Err(SplitFault::NoMemory) => Err(Refusal::NoMemory),
+    }
+}
+
+/// The error's text for what keeps a text from being a list.
+fn fault_text(fault: ListFault) -> &'static str
+    ensures { result.now ≡ list_fault_text fault }
+{
+    match fault {
+        ListFault::OpenBrace => "unmatched open brace in list",
+        ListFault::OpenQuote => "unmatched open quote in list",
+        ListFault::ExtraCharacters => "extra characters after list element",
+    }
+}
+
+/// The list of these items.
+#[tactic(auto, using(crate::proofs::AnswerLemmas::bounds))]
+pub fn list_answer(alloc: Global, items: &[Text]) -> Result<Text, Refusal>
+    ensures { Gives result (answers (list_form items.now)) }
+{
+    match Text::join_list(alloc, items) {
+        Ok(list) => Ok(list),
+        Err(TextFault::TooLong) => Err(limit_reached(alloc)),
+        Err(TextFault::NoMemory) => Err(Refusal::NoMemory),
+    }
+}

@@ -1,0 +1,105 @@
+//! The command of split(n).
+ghost use Rattle.std.specs.Prelude.{◌≡◌, ◌≤◌, ◌<◌, ◌++◌, ◌∷◌, [], length, map, option_map, IfOk, IfSome, OnOk};
+ghost use Rattle.std.specs.Option.{option_copied};
+ghost use Rattle.std.specs.Str.{chars, encode_utf8_all};
+ghost use Rattle.tcl_text.specs.Answers.{Gives};
+ghost use Rattle.tcl_text.specs.ListCommands as spec;
+ghost use Rattle.tcl_text.specs.ListSteps.{cut_once};
+
+use crate::characters::split_first_char;
+use crate::commands::answers::{Refusal, wrong_args};
+use crate::commands::items::list_answer;
+use crate::text::Text;
+use std::alloc::{AllocError, Global};
+
+/// `split text ?chars?`: the parts of the text between the characters, or between white space; with
+/// no characters at all, each character of the text.
+pub fn split_words(alloc: Global, words: &[Text]) -> Result<Text, Refusal>
+    ensures { Gives result (spec.split_words words.now) }
+{
+    match words {
+        [text] => split_at_white(alloc, text.as_str()),
+        [text, separators] => split_text(alloc, text.as_str(), separators.as_str()),
+        _ => wrong_args(alloc, "split text ?chars?"),
+    }
+}
+
+fn split_at_white(alloc: Global, text: &str) -> Result<Text, Refusal>
+    requires { length text.now ≤ 65536 }
+    ensures { Gives result (spec.split_text text.now spec.white_characters) }
+{
+    split_text(alloc, text, " \t\n\u{b}\u{c}\r")
+}
+
+fn split_text(alloc: Global, text: &str, separators: &str) -> Result<Text, Refusal>
+    requires { length text.now ≤ 65536 }
+    ensures { Gives result (spec.split_text text.now (chars separators.now)) }
+{
+    if text.is_empty() {
+        return list_answer(alloc, &[]);
+    }
+    if separators.is_empty() {
+        let characters = characters_of(alloc, text)?;
+        return list_answer(alloc, characters.as_slice());
+    }
+    let pieces = pieces_of(alloc, text, separators)?;
+    list_answer(alloc, pieces.as_slice())
+}
+
+/// Each character as a text.
+fn characters_of(alloc: Global, text: &str) -> Result<Vec<Text>, AllocError>
+    requires { length text.now ≤ 65536 }
+    ensures { IfOk result (λ pieces. pieces.items ≡ spec.characters_of text.now) }
+{
+    let mut pieces = Vec::new(alloc);
+    let mut rest = text;
+    while let Some((_first, after)) = split_first_char(rest) {
+        let (character, _after) = rest.split_at(rest.len() - after.len());
+        pieces.push(Text::of_short(alloc, character)?)?;
+        rest = after;
+    }
+    Ok(pieces)
+}
+
+/// The parts of the text between separators.
+fn pieces_of(alloc: Global, text: &str, separators: &str) -> Result<Vec<Text>, AllocError>
+    requires { length text.now ≤ 65536 }
+    ensures { IfOk result (λ pieces. pieces.items ≡ spec.pieces_of text.now (chars separators.now)) }
+{
+    let mut pieces = Vec::new(alloc);
+    let mut rest = text;
+    loop {
+        let (piece, after) = cut_piece(rest, separators);
+        pieces.push(Text::of_short(alloc, piece)?)?;
+        match after {
+            Some(after) => rest = after,
+            None => return Ok(pieces),
+        }
+    }
+}
+
+/// The text up to its first separator, and what follows that, if it has one.
+fn cut_piece<'t>(text: &'t str, separators: &str) -> (&'t str, Option<&'t str>)
+    ensures cut { spec.cut_at (spec.is_one_of (chars separators.now)) (chars text.now)
+        ≡ cut_once (spec.is_one_of (chars separators.now)) (chars result.0.now)
+        (option_map chars (option_copied result.1)) }
+    ensures short { length result.0.now ≤ length text.now }
+    ensures shorter { IfSome result.1 (λ rest. length rest.now < length text.now) }
+{
+    let mut rest = text;
+    while let Some((first, after)) = split_first_char(rest) {
+        if is_one_of(separators, first) {
+            let (piece, _from) = text.split_at(text.len() - rest.len());
+            return (piece, Some(after));
+        }
+        rest = after;
+    }
+    (text, None)
+}
+
+/// Whether the character is one of the separators.
+fn is_one_of(separators: &str, character: char) -> bool
+    ensures { result ≡ spec.is_one_of (chars separators.now) character }
+{
+    separators.chars().any(|separator| separator == character)
+}

@@ -1,0 +1,303 @@
+//! The commands of string(n), and concat(n).
+ghost use Rattle.std.specs.Prelude.{◌≡◌, min, replicate, IfOk, OnOk, string_bytes, length, ◌≤◌, ◌*◌};
+ghost use Rattle.std.specs.List.{concat};
+ghost use Rattle.std.specs.Str.{chars, encode_utf8_all};
+ghost use Rattle.memchr.specs.Find.{FindsNeedle};
+ghost use Rattle.tcl_text.specs.Answers.{Gives, answers};
+ghost use Rattle.tcl_text.specs.Indices.{part, from_zero};
+ghost use Rattle.tcl_text.specs.StringCommands as spec;
+ghost use Rattle.tcl_text.specs.StringSteps.{with_word};
+
+use crate::characters::{character_count, split_characters, trimmed};
+use crate::commands::answers::{
+    Refusal, bad_option, decimal_answer, limit_reached, place_answer, string_answer, text_answer,
+    truth_answer, wrong_args,
+};
+use crate::commands::indices::{Index, index_in};
+use crate::commands::integers::integer_of;
+use crate::text::{MAX_BYTES, Text};
+use memchr::memmem;
+use std::alloc::{AllocError, Global};
+use std::cmp::Ordering;
+
+/// A command of `string`.
+#[derive(Clone, Copy, Debug, PartialEq, Eq)]
+pub enum StringCommand {
+    Length,
+    Index,
+    Range,
+    Compare,
+    Equal,
+    Match,
+    First,
+    Repeat,
+    ToLower,
+    ToUpper,
+    Trim,
+}
+
+fn string_length(alloc: Global, words: &[Text]) -> Result<Text, Refusal>
+    ensures { Gives result (spec.string_length words.now) }
+{
+    match words {
+        [text] => decimal_answer(alloc, character_count(text.as_str())),
+        _ => wrong_args(alloc, "string length s"),
+    }
+}
+
+fn string_index(alloc: Global, words: &[Text]) -> Result<Text, Refusal>
+    ensures { Gives result (spec.string_index words.now) }
+{
+    match words {
+        [text, index] => {
+            let index = index_in(alloc, index)?;
+            text_answer(alloc, characters_in(text.as_str(), index, index))
+        }
+        _ => wrong_args(alloc, "string index s i"),
+    }
+}
+
+fn string_range(alloc: Global, words: &[Text]) -> Result<Text, Refusal>
+    ensures { Gives result (spec.string_range words.now) }
+{
+    match words {
+        [text, first, last] => {
+            let first = index_in(alloc, first)?;
+            let last = index_in(alloc, last)?;
+            text_answer(alloc, characters_in(text.as_str(), first, last))
+        }
+        _ => wrong_args(alloc, "string range s first last"),
+    }
+}
+
+/// The characters from the first index to the last, as far as they are there.
+fn characters_in(text: &str, first: Index, last: Index) -> &str
+    ensures { result.now ≡ encode_utf8_all (part first last (chars text.now)) }
+{
+    let count = character_count(text);
+    let (front, _behind) = split_characters(text, last.through(count));
+    let (_before, part) = split_characters(front, first.before(count));
+    part
+}
+
+fn string_compare(alloc: Global, words: &[Text]) -> Result<Text, Refusal>
+    ensures { Gives result (spec.string_compare words.now) }
+{
+    match words {
+        [a, b] => text_answer(alloc, sign_of(a.as_str().cmp(b.as_str()))),
+        _ => wrong_args(alloc, "string compare a b"),
+    }
+}
+
+fn sign_of(ordering: Ordering) -> &'static str
+    ensures { result.now ≡ spec.sign_of ordering }
+{
+    match ordering {
+        Ordering::Less => "-1",
+        Ordering::Equal => "0",
+        Ordering::Greater => "1",
+    }
+}
+
+fn string_equal(alloc: Global, words: &[Text]) -> Result<Text, Refusal>
+    ensures { Gives result (spec.string_equal words.now) }
+{
+    match words {
+        [a, b] => truth_answer(alloc, a.as_str() == b.as_str()),
+        _ => wrong_args(alloc, "string equal a b"),
+    }
+}
+
+fn string_match(alloc: Global, words: &[Text]) -> Result<Text, Refusal>
+    ensures { Gives result (spec.string_match words.now) }
+{
+    match words {
+        [pattern, text] => truth_answer(alloc, Text::glob_match(pattern, text)),
+        _ => wrong_args(alloc, "string match pattern s"),
+    }
+}
+
+fn string_tolower(alloc: Global, words: &[Text]) -> Result<Text, Refusal>
+    ensures { Gives result (spec.string_tolower words.now) }
+{
+    match words {
+        [text] => {
+            let mut string = String::from_str(alloc, text.as_str())?;
+            string.make_ascii_lowercase();
+            string_answer(alloc, string)
+        }
+        _ => wrong_args(alloc, "string tolower s"),
+    }
+}
+
+fn string_toupper(alloc: Global, words: &[Text]) -> Result<Text, Refusal>
+    ensures { Gives result (spec.string_toupper words.now) }
+{
+    match words {
+        [text] => {
+            let mut string = String::from_str(alloc, text.as_str())?;
+            string.make_ascii_uppercase();
+            string_answer(alloc, string)
+        }
+        _ => wrong_args(alloc, "string toupper s"),
+    }
+}
+
+fn string_trim(alloc: Global, words: &[Text]) -> Result<Text, Refusal>
+    ensures { Gives result (spec.string_trim words.now) }
+{
+    match words {
+        [text] => text_answer(alloc, trimmed(text.as_str())),
+        _ => wrong_args(alloc, "string trim s"),
+    }
+}
+
+fn string_first(alloc: Global, words: &[Text]) -> Result<Text, Refusal>
+    ensures { Gives result (spec.string_first words.now) }
+{
+    match words {
+        [needle, text] => { place_answer(alloc, characters_before(needle.as_str(), text.as_str())) }
+        _ => wrong_args(alloc, "string first needle s"),
+    }
+}
+
+/// How many characters stand before the needle's first place in the text.
+fn characters_before(needle: &str, text: &str) -> Option<usize>
+    ensures { result ≡ spec.characters_before needle.now text.now }
+{
+    if needle.is_empty() {
+        return None;
+    }
+    let place = find_text(text, needle)?;
+    let (before, _from) = text.split_at(place);
+    Some(character_count(before))
+}
+
+/// The byte at which the needle first stands in the text.
+fn find_text(text: &str, needle: &str) -> Option<usize>
+    ensures { FindsNeedle text.now needle.now 0 result }
+{
+    memmem::find(text.as_bytes(), needle.as_bytes())
+}
+
+fn string_repeat(alloc: Global, words: &[Text]) -> Result<Text, Refusal>
+    ensures { Gives result (spec.string_repeat words.now) }
+{
+    match words {
+        [text, count] => {
+            let count = integer_of(alloc, count)?;
+            repeated(alloc, text.as_str(), u64::try_from(count).unwrap_or(0))
+        }
+        _ => wrong_args(alloc, "string repeat s n"),
+    }
+}
+
+/// So many copies of a text, one after another.
+#[tactic(auto, using(crate::proofs::StringLemmas::repeats))]
+fn repeated(alloc: Global, text: &str, count: u64) -> Result<Text, Refusal>
+    ensures { Gives result (answers (concat (replicate count text.now))) }
+{
+    if text.is_empty() {
+        return text_answer(alloc, "");
+    }
+    if count > MAX_BYTES as u64 / text.len() as u64 {
+        return Err(limit_reached(alloc));
+    }
+    let string = copies(alloc, text, count)?;
+    string_answer(alloc, string)
+}
+
+fn copies(alloc: Global, text: &str, count: u64) -> Result<String, AllocError>
+    ensures { IfOk result (λ string. string_bytes string ≡ concat (replicate count text.now)) }
+{
+    let mut string = String::new(alloc);
+    for _copy in 0..count {
+        string.push_str(text)?;
+    }
+    Ok(string)
+}
+
+/// `concat ?arg ..?`: the words without white space around them, those that aren't empty, with a
+/// blank between each two.
+pub fn concat_words(alloc: Global, words: &[Text]) -> Result<Text, Refusal>
+    ensures { Gives result (spec.concat_words words.now) }
+{
+    let string = concatenated(alloc, words)?;
+    string_answer(alloc, string)
+}
+
+fn concatenated(alloc: Global, words: &[Text]) -> Result<String, AllocError>
+    ensures { IfOk result (λ string. string_bytes string ≡ spec.concatenated words.now) }
+{
+    let mut string = String::new(alloc);
+    for word in words {
+        push_word(&mut string, trimmed(word.as_str()))?;
+    }
+    Ok(string)
+}
+
+/// Adds a word behind a blank; an empty word adds nothing, and the first has no blank.
+fn push_word(string: &mut String, word: &str) -> Result<(), AllocError>
+    ensures { OnOk result (string_bytes string.new ≡ with_word (string_bytes string.old) word.now) }
+{
+    if word.is_empty() {
+        return Ok(());
+    }
+    if !string.is_empty() {
+        string.push(' ')?;
+    }
+    string.push_str(word)?;
+    Ok(())
+}
+
+/// The command of `string` with this name.
+#[tactic(auto, unfolding(crate::specs::StringCommands::string_command_named))]
+fn string_command_named(name: &str) -> Option<StringCommand>
+    ensures { result ≡ spec.string_command_named name.now }
+{
+    match name {
+        "length" => Some(StringCommand::Length),
+        "index" => Some(StringCommand::Index),
+        "range" => Some(StringCommand::Range),
+        "compare" => Some(StringCommand::Compare),
+        "equal" => Some(StringCommand::Equal),
+        "match" => Some(StringCommand::Match),
+        "first" => Some(StringCommand::First),
+        "repeat" => Some(StringCommand::Repeat),
+        "tolower" => Some(StringCommand::ToLower),
+        "toupper" => Some(StringCommand::ToUpper),
+        "trim" => Some(StringCommand::Trim),
+        _ => None,
+    }
+}
+
+/// `string NAME ?arg ..?`: what the command of that name answers to the words after it.
+pub fn string_words(alloc: Global, words: &[Text]) -> Result<Text, Refusal>
+    ensures { Gives result (spec.string_words words.now) }
+{
+    match words {
+        [name, arguments @ ..] => match string_command_named(name.as_str()) {
+            Some(command) => string_command(alloc, command, arguments),
+            None => bad_option(alloc, name),
+        },
+        [] => wrong_args(alloc, "string option ?arg ..?"),
+    }
+}
+
+fn string_command(alloc: Global, command: StringCommand, words: &[Text]) -> Result<Text, Refusal>
+    ensures { Gives result (spec.string_command command words.now) }
+{
+    match command {
+        StringCommand::Length => string_length(alloc, words),
+        StringCommand::Index => string_index(alloc, words),
+        StringCommand::Range => string_range(alloc, words),
+        StringCommand::Compare => string_compare(alloc, words),
+        StringCommand::Equal => string_equal(alloc, words),
+        StringCommand::Match => string_match(alloc, words),
+        StringCommand::First => string_first(alloc, words),
+        StringCommand::Repeat => string_repeat(alloc, words),
+        StringCommand::ToLower => string_tolower(alloc, words),
+        StringCommand::ToUpper => string_toupper(alloc, words),
+        StringCommand::Trim => string_trim(alloc, words),
+    }
+}

@@ -1,0 +1,163 @@
+//! Glob patterns, as `string match` of string(n) has them.
+ghost use Rattle.std.specs.Prelude.{◌≡◌, ◌<◌, ◌↔◌, [], List, ℕ, ◌∷◌, ◌+◌, length, IsTrue, IfSome, IfNone};
+ghost use Rattle.std.specs.Str.{chars};
+ghost use Rattle.tcl_text.specs.Glob.{in_class, AllowsByClass, AllowsFirst, GlobMatches, glob_matches};
+ghost use Rattle.tcl_text.specs.GlobSteps.{HasPart, Stops, Runs};
+
+use crate::characters::split_first_char;
+use crate::text::Text;
+
+impl Text {
+    /// Whether the pattern matches the whole text: `*` stands for any text, `?` for one character,
+    /// `[..]` for one of its characters and ranges, `\x` for x itself. A pattern whose class isn't
+    /// closed, or that ends with a lone backslash, matches nothing. It takes no memory, and at most
+    /// as many steps as the pattern's length times the text's.
+    pub fn glob_match(pattern: &Text, text: &Text) -> bool
+        ensures matches { IsTrue result ↔ GlobMatches (chars pattern.now) (chars text.now) }
+        ensures value { result ≡ glob_matches (chars pattern.now) (chars text.now) }
+    {
+        matches_whole(pattern.as_str(), text.as_str())
+    }
+}
+
+/// Whether the pattern matches the whole text: run by run, each at the first place where it matches
+/// behind the one before, since a `*` takes what stands between.
+fn matches_whole(pattern: &str, text: &str) -> bool
+    ensures { IsTrue result ↔ GlobMatches (chars pattern.now) (chars text.now) }
+{
+    let Some((mut pattern, mut text)) = match_run(pattern, text) else {
+        return false;
+    };
+    while let Some((_star, after)) = split_first_char(pattern) {
+        match find_run(after, text) {
+            Some((rest, left)) => {
+                pattern = rest;
+                text = left;
+            }
+            None => return false,
+        }
+    }
+    true
+}
+
+/// Finds the first place in the text from which the pattern's parts, up to its next `*` or its end,
+/// match. Answers what is left of both there.
+fn find_run<'p, 't>(pattern: &'p str, text: &'t str) -> Option<(&'p str, &'t str)>
+    ensures found { IfSome result (λ rests.
+        GlobMatches (chars rests.0.now) (chars rests.1.now)
+        ↔ GlobMatches (42 ∷ chars pattern.now) (chars text.now)) }
+    ensures stops { IfSome result (λ rests. Stops (chars rests.0.now) (chars rests.1.now)) }
+    ensures none { IfNone result (GlobMatches (42 ∷ chars pattern.now) (chars text.now) → ⊥) }
+    ensures shorter { IfSome result (λ rests. length rests.0.now < length pattern.now + 1) }
+{
+    let mut from = text;
+    loop {
+        if let Some((rest, left)) = match_run(pattern, from) {
+            return Some((rest, left));
+        }
+        let (_skipped, next) = split_first_char(from)?;
+        from = next;
+    }
+}
+
+/// Matches the pattern's parts up to its next `*` or its end against the text's front. Answers what
+/// is left of both.
+fn match_run<'p, 't>(pattern: &'p str, text: &'t str) -> Option<(&'p str, &'t str)>
+    ensures found { IfSome result (λ rests.
+        Runs (chars pattern.now) (chars text.now) (chars rests.0.now) (chars rests.1.now)) }
+    ensures stops { IfSome result (λ rests. Stops (chars rests.0.now) (chars rests.1.now)) }
+    ensures none { IfNone result (GlobMatches (chars pattern.now) (chars text.now) → ⊥) }
+    ensures shorter { IfSome result (λ rests. length rests.0.now < length pattern.now + 1) }
+{
+    let mut rest = pattern;
+    let mut left = text;
+    while has_part(rest) {
+        let (character, next) = split_first_char(left)?;
+        rest = after_first(rest, character)?;
+        left = next;
+    }
+    if rest.is_empty() && !left.is_empty() {
+        return None;
+    }
+    Some((rest, left))
+}
+
+/// Whether the pattern begins with a part for one character.
+fn has_part(pattern: &str) -> bool
+    ensures { IsTrue result ↔ HasPart (chars pattern.now) }
+{
+    match split_first_char(pattern) {
+        Some((first, _after)) => first != '*',
+        None => false,
+    }
+}
+
+/// The pattern after its first part, if that part allows the character.
+fn after_first(pattern: &str, character: char) -> Option<&str>
+    ensures allowed { IfSome result (λ rest. AllowsFirst (chars pattern.now) character (chars rest.now)) }
+    ensures none { IfNone result ((rest : List ℕ) → AllowsFirst (chars pattern.now) character rest → ⊥) }
+    ensures shorter { IfSome result (λ rest. length rest.now < length pattern.now) }
+{
+    let (first, after) = split_first_char(pattern)?;
+    match first {
+        '?' => Some(after),
+        '\\' => after_character(after, character),
+        '[' => after_class(after, character),
+        '*' => None,
+        _ => (first == character).then_some(after),
+    }
+}
+
+/// What follows the character, if the text begins with it.
+fn after_character(text: &str, character: char) -> Option<&str>
+    ensures next { IfSome result (λ rest. chars text.now ≡ character ∷ chars rest.now) }
+    ensures none { IfNone result ((rest : List ℕ) → chars text.now ≡ character ∷ rest → ⊥) }
+    ensures shorter { IfSome result (λ rest. length rest.now < length text.now) }
+{
+    let (first, rest) = split_first_char(text)?;
+    (first == character).then_some(rest)
+}
+
+/// What follows the class whose text this is up to the first `]`, if the class has the character.
+fn after_class(text: &str, character: char) -> Option<&str>
+    ensures allowed { IfSome result (λ rest. AllowsByClass (chars text.now) character (chars rest.now)) }
+    ensures none { IfNone result ((rest : List ℕ) → AllowsByClass (chars text.now) character rest → ⊥) }
+    ensures shorter { IfSome result (λ rest. length rest.now < length text.now) }
+{
+    let (class, rest) = text.split_once(']')?;
+    class_has(class, character).then_some(rest)
+}
+
+/// Whether a class of this text has the character.
+fn class_has(class: &str, character: char) -> bool
+    ensures { result ≡ in_class (chars class.now) character }
+{
+    let mut rest = class;
+    while let Some((low, after)) = split_first_char(rest) {
+        match range_end(after) {
+            Some((high, next)) => {
+                if low <= character && character <= high {
+                    return true;
+                }
+                rest = next;
+            }
+            None => {
+                if low == character {
+                    return true;
+                }
+                rest = after;
+            }
+        }
+    }
+    false
+}
+
+/// The upper end of a range whose lower end stands before this text, and what follows it.
+fn range_end(after: &str) -> Option<(char, &str)>
+    ensures found { IfSome result (λ parts. chars after.now ≡ 45 ∷ parts.0 ∷ chars parts.1.now) }
+    ensures none { IfNone result ((high : ℕ) (rest : List ℕ) → chars after.now ≡ 45 ∷ high ∷ rest → ⊥) }
+    ensures shorter { IfSome result (λ parts. length parts.1.now < length after.now) }
+{
+    let end = after_character(after, '-')?;
+    split_first_char(end)
+}

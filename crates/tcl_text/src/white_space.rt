@@ -1,0 +1,33 @@
+ghost use Rattle.std.specs.Prelude.{◌≡◌};
+ghost use Rattle.std.specs.List.{list_all};
+ghost use Rattle.tcl_text.specs.Backslash as backslash;
+ghost use Rattle.tcl_text.specs.Readings as readings;
+
+/// Whether the byte is white space: blank, tab, newline, vertical tab, form feed or carriage return.
+#[inline]
+pub fn is_white(byte: u8) -> bool
+    ensures { result ≡ backslash.is_white byte }
+{
+    byte == b' ' || (9 <= byte && byte <= 13)
+}
+
+/// The bytes behind the white space in front.
+pub fn skip_white(text: &[u8]) -> &[u8]
+    ensures { result.now ≡ readings.skip_white text.now }
+{
+    let mut rest = text;
+    while let [first, others @ ..] = rest {
+        if !is_white(*first) {
+            break;
+        }
+        rest = others;
+    }
+    rest
+}
+
+/// Whether the bytes are white space and nothing else.
+pub fn is_blank(text: &[u8]) -> bool
+    ensures { result ≡ list_all backslash.is_white text.now }
+{
+    text.iter().all(|byte| is_white(*byte))
+}

@@ -19,3 +19,6 @@ pub mod Utf8Lemmas
 pub mod ElementLemmas
 pub mod ListFormLemmas
 pub mod SortLemmas
+pub mod ListReading
+pub mod RoundTrip
+pub mod WrittenIntegers

@@ -13,3 +13,4 @@ pub mod ListCommands
 pub mod StringSteps
 pub mod ListSteps
 pub mod Splitting
+pub mod TextForm

@@ -12,6 +12,8 @@ mod lists;
 mod sorting;
 mod splits;
 mod strings;
+#[cfg(test)]
+mod tests;
 
 use crate::text::Text;
 use answers::Refusal;

@@ -1,4 +1,4 @@
-ghost use Rattle.std.specs.Prelude.{◌≡◌, ◌+◌, ◌<◌, ◌≤◌, ◌++◌, ◌^◌, take, drop, length, codes, IfOk, OnOk, true, false, slice_index};
+ghost use Rattle.std.specs.Prelude.{◌≡◌, ◌+◌, ◌<◌, ◌≤◌, ◌++◌, ◌^◌, take, drop, length, codes, IfOk, List, ℕ, OnOk, Ok, Err, true, false, slice_index};
 ghost use Rattle.tcl_text.specs.Backslash as backslash;
 ghost use Rattle.tcl_text.specs.Escaped.{bytes_meant};
 ghost use Rattle.tcl_text.specs.Readings as readings;
@@ -280,19 +280,33 @@ fn trimmed(text: &str) -> &str
     &text[text.len() - behind.len()..]
 }
 
+/// The items of the list that the text is.
+fn items_of(alloc: Global, text: &str) -> Result<TextList, SplitFault>
+    requires { length text.now ≤ 65536 }
+    ensures { Splits result (readings.list_of text.now) }
+{
+    let mut items = TextList::new(alloc);
+    let mut rest = trimmed(text);
+    while !rest.is_empty() {
+        let (item, behind) = first_element(alloc, rest)?;
+        items.push(item)?;
+        rest = trimmed(behind);
+    }
+    Ok(items)
+}
+
 impl Text {
     /// The elements of the list that the text is, by the rules of Tcl's lindex(n): in braces, in quotes or bare, with white
-    /// space between them.
+    /// space between them. `BadList` (3) says which is the first fault.
     pub fn split_list(&self, alloc: Global) -> Result<TextList, SplitFault>
-        ensures { Splits result (readings.list_of self.now) }
+        ensures read { IfOk result (λ items. readings.IsList self.now items) }
+        ensures only { (items : List (List ℕ)) → readings.IsList self.now items → Splits result (Ok items) }
+        ensures refused { (fault : ListFault) → result ≡ Err (SplitFault.BadList fault)
+            → (items : List (List ℕ)) → ¬ (readings.IsList self.now items) }
+
+        // Which fault it is.
+        ensures exact { Splits result (readings.list_of self.now) }
     {
-        let mut items = TextList::new(alloc);
-        let mut rest = trimmed(self.as_str());
-        while !rest.is_empty() {
-            let (item, behind) = first_element(alloc, rest)?;
-            items.push(item)?;
-            rest = trimmed(behind);
-        }
-        Ok(items)
+        items_of(alloc, self.as_str())
     }
 }

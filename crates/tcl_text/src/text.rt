@@ -1,5 +1,6 @@
 ghost use Rattle.std.specs.Prelude.{◌≡◌, ◌<◌, ◌≤◌, ◌↔◌, length, IfOk, IsErrOf, IsUtf8, string_bytes, string_len};
 
+use crate::short::{SHORT_BYTES, ShortText};
 use std::alloc::{AllocError, AllocFailed, Global};
 use std::marker::Model;
 use std::rc::Rc;
@@ -41,20 +42,31 @@ impl<T: Drop> From<AllocFailed<T>> for TextFault {
     }
 }
 
-/// A value of a Tcl script: at most 65,536 bytes of UTF-8, shared by its copies.
+/// How a text keeps its characters.
+#[derive(Drop)]
+enum TextForm {
+    /// In place, where they are few.
+    Short(ShortText),
+    /// In memory that copies share.
+    Shared(Rc<String>),
+}
+
+/// A value of a Tcl script: at most 65,536 bytes of UTF-8. Short ones are kept in place, and others are shared by their copies.
 #[derive(Drop)]
 pub struct Text {
-    string: Rc<String>,
+    form: TextForm,
 }
 
 impl Model for Text {
-    ghost use Rattle.std.specs.Prelude.{ℕ, List, ◌≤◌, length, string_bytes};
+    ghost use Rattle.std.specs.Prelude.{ℕ, List, ◌≤◌, length};
 
     ghost Value = { List ℕ };
 
-    ghost view = { λ t. string_bytes t.string.value };
+    ghost use Rattle.tcl_text.specs.TextForm.{form_bytes};
 
-    ghost invariant = { λ t. length (string_bytes t.string.value) ≤ 65536 };
+    ghost view = { λ t. form_bytes t.form };
+
+    ghost invariant = { λ t. length (form_bytes t.form) ≤ 65536 };
 }
 
 impl Text {
@@ -74,9 +86,14 @@ impl Text {
         requires { length characters.now ≤ 65536 }
         ensures { IfOk result (λ text. text ≡ characters.now) }
     {
+        if characters.len() <= SHORT_BYTES {
+            return Ok(Text {
+                form: TextForm::Short(ShortText::new(characters)),
+            });
+        }
         let string = String::from_str(alloc, characters)?;
         Ok(Text {
-            string: Rc::new(alloc, string)?,
+            form: TextForm::Shared(Rc::new(alloc, string)?),
         })
     }
 
@@ -100,13 +117,18 @@ impl Text {
         Text::of_string(alloc, String::from_utf8(bytes).unwrap())
     }
 
-    /// A text of characters that are known to be few enough.
+    /// A text of the characters of a string, which are known to be few enough.
     pub(crate) fn of_string(alloc: Global, string: String) -> Result<Text, AllocError>
         requires { string_len string ≤ 65536 }
         ensures { IfOk result (λ text. text ≡ string_bytes string) }
     {
+        if string.len() <= SHORT_BYTES {
+            return Ok(Text {
+                form: TextForm::Short(ShortText::new(string.as_str())),
+            });
+        }
         Ok(Text {
-            string: Rc::new(alloc, string)?,
+            form: TextForm::Shared(Rc::new(alloc, string)?),
         })
     }
 
@@ -115,15 +137,20 @@ impl Text {
         ensures bytes { result.now ≡ self.now }
         ensures short { length self.now ≤ 65536 }
     {
-        self.string.as_ref().as_str()
+        match &self.form {
+            TextForm::Short(short) => short.as_str(),
+            TextForm::Shared(string) => string.as_ref().as_str(),
+        }
     }
 
     /// An equal text, which shares the characters.
     pub fn copy(&self) -> Result<Text, AllocError>
         ensures ok { IfOk result (λ text. text ≡ self.now) }
     {
-        Ok(Text {
-            string: self.string.clone()?,
-        })
+        let form = match &self.form {
+            TextForm::Short(short) => TextForm::Short(*short),
+            TextForm::Shared(string) => TextForm::Shared(string.clone()?),
+        };
+        Ok(Text { form })
     }
 }

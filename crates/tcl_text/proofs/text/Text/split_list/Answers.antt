@@ -1,29 +1,17 @@
-use Rattle.std.proofs.Common.{◌≡◌, ◌<◌, ◌≤◌, ◌∙◌, ap, sym, length, arith}
-use Rattle.std.proofs.lemmas.Bool.{eqb-true}
-use Rattle.tcl_text.specs.Readings.{skip_white}
-use Rattle.tcl_text.proofs.ElementLemmas.{skip_white_within, SplitsTo-start, SplitsTo-item, SplitsTo-end}
+use Rattle.std.proofs.Common.{subst}
+use Rattle.tcl_text.specs.Readings.{list_of}
+use Rattle.tcl_text.specs.Splitting.{Splits}
+use Rattle.tcl_text.proofs.ListReading.{splits_read, splits_only, splits_refused}
 use Rattle.tcl_text.proofs.text.Text.split_list.Goals as goal
 
-pub loop-rest-init : goal.loop-rest-init
-loop-rest-init c = record {
-  splits = SplitsTo-start c.args.self.now c.trimmed-rest.result.now c.new-items.result c.new-items.ensures c.as_str.ensures.short (c.trimmed-rest.ensures ∙ ap skip_white c.as_str.ensures.bytes);
-  utf8 = c.trimmed-rest.utf8;
-}
+pub returns-clause-read : goal.returns-clause-read
+returns-clause-read c =
+    splits_read c.items_of.result c.args.self.now (subst (λ text. Splits c.items_of.result (list_of text)) c.as_str.ensures.bytes c.items_of.ensures)
 
-pub loop-rest-smaller : goal.loop-rest-smaller
-loop-rest-smaller c =
-    let behind = c.in_ok-item.behind.now in
-    let shorter : length behind < length c.loop-rest.rest.now = c.in_ok-item.ensures.0 in
-    let trimmed : length (skip_white behind) ≤ length behind = skip_white_within behind in
-    omega (arith, ap length c.trimmed-rest-in-loop-rest.ensures)
+pub returns-clause-only : goal.returns-clause-only
+returns-clause-only c =
+    splits_only c.items_of.result c.args.self.now (subst (λ text. Splits c.items_of.result (list_of text)) c.as_str.ensures.bytes c.items_of.ensures)
 
-pub loop-rest-preserved : goal.loop-rest-preserved
-loop-rest-preserved c = record {
-  splits =
-      SplitsTo-item c.args.self.now c.loop-rest.items c.push.new.self c.loop-rest.rest.now c.in_ok-item.item c.in_ok-item.behind.now c.trimmed-rest-in-loop-rest.result.now
-      c.loop-rest.invariant.splits c.in_ok-item.ensures.0 c.in_ok-item.ensures.1 c.in_ok-push.ensures.ok c.trimmed-rest-in-loop-rest.ensures;
-  utf8 = c.trimmed-rest-in-loop-rest.utf8;
-}
-
-pub returns : goal.returns
-returns c = SplitsTo-end c.args.self.now c.loop-rest.items c.loop-rest.rest.now c.loop-rest.invariant.splits (eqb-true (length c.loop-rest.rest.now) 0 (sym c.is_empty.ensures ∙ c.loop-rest-test.false))
+pub returns-clause-refused : goal.returns-clause-refused
+returns-clause-refused c =
+    splits_refused c.items_of.result c.args.self.now (subst (λ text. Splits c.items_of.result (list_of text)) c.as_str.ensures.bytes c.items_of.ensures)

@@ -1,0 +1,12 @@
+-- The bytes of a text, however it keeps them.
+use Rattle.std.specs.Prelude.{ℕ, List, take, string_bytes}
+use Rattle.tcl_text.specs.declared.short.ShortText.{ShortText}
+use Rattle.tcl_text.specs.declared.text.TextForm.{TextForm}
+use Rattle.tcl_text.specs.declared.text.TextForm.TheVariants.{Short, Shared}
+
+abbrev pub short_bytes : ShortText → List ℕ
+short_bytes s = take s.length s.bytes
+
+abbrev pub form_bytes : TextForm → List ℕ
+form_bytes (Short s) = short_bytes s
+form_bytes (Shared r) = string_bytes r.value

@@ -1,0 +1,40 @@
+ghost use Rattle.std.specs.Prelude.{◌≤◌, take, length, IsUtf8};
+
+/// How many bytes are kept in place: enough for each integer of 64 bits.
+pub const SHORT_BYTES: usize = 22;
+
+/// A few characters that are kept in place, without memory of their own.
+#[derive(Clone, Copy)]
+pub struct ShortText {
+    bytes: [u8; 22],
+    length: u8,
+    ghost fits: { length ≤ 22 },
+    ghost utf8: { ∥ IsUtf8 (take length bytes) ∥₁ },
+}
+
+impl ShortText {
+    ghost use Rattle.std.specs.Prelude.{◌≡◌, ◌≤◌, length};
+    ghost use Rattle.tcl_text.specs.TextForm.{short_bytes};
+
+    /// These characters.
+    pub fn new(characters: &str) -> ShortText
+        requires { length characters.now ≤ 22 }
+        ensures { short_bytes result ≡ characters.now }
+    {
+        let mut bytes = [0; 22];
+        bytes[..characters.len()].copy_from_slice(characters.as_bytes());
+        ShortText {
+            bytes,
+            length: characters.len() as u8,
+        }
+    }
+
+    /// The characters.
+    pub fn as_str(&self) -> &str
+        ensures { result.now ≡ short_bytes self.now }
+    {
+        let bytes = &self.bytes[..usize::from(self.length)];
+        // SAFETY: the bytes are UTF-8, as the type's field `utf8` says.
+        unsafe { str::from_utf8_unchecked(bytes) }
+    }
+}

@@ -1,0 +1,221 @@
+-- Steps never rise, so the number of turns that bounds a loop or a task doesn't matter.
+use Rattle.std.proofs.Common.{◌≡◌, ℕ, zero, suc, ◌≤◌, ◌<◌, Bool, true, false, cond, List, [], ◌∷◌, ◌++◌, length, nat_le, Option, Some, None, Result, Ok, Err, refl, ap, sym, ◌∙◌, arith}
+use Rattle.tcl_words.specs.declared.script.Command.{Command}
+use Rattle.tcl_words.specs.declared.script.Word.{Word}
+use Rattle.tcl_words.specs.declared.script.Piece.{Piece}
+use Rattle.tcl_words.specs.declared.script.Piece.TheVariants.{Literal, Variable, Element, Bracket}
+use Rattle.tcl_words.specs.declared.fault.ParseFault.{ParseFault}
+use Rattle.tcl_vars.specs.Store.{Store, variable_in, with_variable}
+use Rattle.tcl_vars.specs.declared.fault.ReadFault.{ReadFault}
+use Rattle.tcl_vars.specs.declared.fault.SetFault.{SetFault}
+use Rattle.tcl_interp.specs.declared.commands.Builtin.{Builtin}
+use Rattle.tcl_interp.specs.declared.commands.Builtin.TheVariants.{Set, While}
+use Rattle.tcl_interp.specs.declared.loops.Condition.{Condition}
+use Rattle.tcl_interp.specs.declared.tasks.Code.{Code}
+use Rattle.tcl_interp.specs.declared.tasks.Code.TheVariants.{Normal, Error, Return, Break, Continue}
+use Rattle.tcl_interp.specs.declared.tasks.Act.{Act}
+use Rattle.tcl_interp.specs.declared.tasks.Act.TheVariants.{Done, Step, Run, Unknown}
+use Rattle.tcl_interp.specs.Outside.{Outside, Told, Falls, RunsBelow}
+use Rattle.tcl_interp.specs.Evaluation.{State, Outcome, Ended, OutOfSteps, and_then, on_normal, stepped, with_step, on_read, with_joined, piece_meaning, pieces_meaning, words_meaning, called, commands_meaning}
+use Rattle.tcl_interp.specs.Commands.{command_of, plain_name, condition_of, condition_value, on_test, after_body, turns_meaning, while_meaning, builtin_meaning}
+use Rattle.tcl_interp.specs.Scripts.{out_of_global, on_act, told_state, resumed, after_step, task_meaning, act_meaning, outside_meaning, by_name, call_meaning, script_of, on_parsed, script_meaning}
+
+-- where something ends, at most so many steps are left
+abbrev pub Within : {S : Type 0} → ℕ → Outcome S → Type 0
+Within n (Ended state code text) = state.steps ≤ n
+Within n (OutOfSteps state) = Unit {0}
+
+-- how a script is run, or a command called, lets steps only fall
+abbrev pub Bounded : {S A : Type 0} → (ℕ → A → State S → Outcome S) → Type 0
+Bounded {S} {A} run = (n level : ℕ) (x : A) (state : State S) → state.steps ≤ n → Within n (run level x state)
+
+pub within_and_then : {S : Type 0} (n : ℕ) (o : Outcome S) (f : State S → Code → List ℕ → Outcome S) → Within n o → ((state : State S) (code : Code) (text : List ℕ) → state.steps ≤ n → Within n (f state code text)) → Within n (and_then o f)
+within_and_then n (Ended state code text) f w h = h state code text w
+within_and_then n (OutOfSteps state) f w h = tt
+
+pub within_on_normal : {S : Type 0} (n : ℕ) (f : State S → List ℕ → Outcome S) → ((state : State S) (text : List ℕ) → state.steps ≤ n → Within n (f state text)) → (state : State S) (code : Code) (text : List ℕ) → state.steps ≤ n → Within n (on_normal f state code text)
+within_on_normal n f h state Normal text w = h state text w
+within_on_normal n f h state Error text w = w
+within_on_normal n f h state (Return code) text w = w
+within_on_normal n f h state Break text w = w
+within_on_normal n f h state Continue text w = w
+
+pub within_stepped : {S : Type 0} (n left : ℕ) (state : State S) (f : State S → Outcome S) → left ≤ n → ((state : State S) → state.steps ≤ n → Within n (f state)) → Within n (stepped left state f)
+within_stepped n zero state f w h = tt
+within_stepped n (suc left) state f w h = h (record state { steps = left }) (omega arith)
+
+pub within_on_read : {S : Type 0} (n : ℕ) (name : List ℕ) (state : State S) (f : State S → List ℕ → Outcome S) (value : Result (List ℕ) ReadFault) → state.steps ≤ n → ((text : List ℕ) → Within n (f state text)) → Within n (on_read name state f value)
+within_on_read n name state f (Ok value) w h = h value
+within_on_read n name state f (Err fault) w h = w
+
+within_cond : {S : Type 0} (n : ℕ) (b : Bool) (o p : Outcome S) → Within n o → Within n p → Within n (cond b o p)
+within_cond n true o p w v = w
+within_cond n false o p w v = v
+
+module _ {S : Type 0} (run : ℕ → List ℕ → State S → Outcome S) (call : ℕ → List (List ℕ) → State S → Outcome S) (run_falls : Bounded run) where
+  pub within_piece : (n level : ℕ) (piece : Piece) (state : State S) (f : State S → List ℕ → Outcome S) → state.steps ≤ n → ((state' : State S) (text : List ℕ) → state'.steps ≤ n → Within n (f state' text)) → Within n (piece_meaning run call level piece state f)
+  within_piece n level (Literal text) state f w h = h state text w
+  within_piece n level (Variable name) state f w h = within_on_read n name state f (variable_in state.store level name) w (λ text. h state text w)
+  within_piece n level (Element name index) state f w h = w
+  within_piece n level (Bracket script) state f w h = within_and_then n (run level script state) (on_normal f) (run_falls n level script state w) (within_on_normal n f h)
+
+  pub within_pieces : (n level : ℕ) (pieces : List Piece) (so_far : List ℕ) (state : State S) (f : State S → List ℕ → Outcome S) → state.steps ≤ n → ((state' : State S) (text : List ℕ) → state'.steps ≤ n → Within n (f state' text)) → Within n (pieces_meaning run call level pieces so_far state f)
+  within_pieces n level [] so_far state f w h = h state so_far w
+  within_pieces n level (piece ∷ pieces) so_far state f w h =
+      within_piece n level piece state _ w (λ state' text w'.
+      within_cond n (nat_le (length (so_far ++ text)) 65536) _ _ (within_pieces n level pieces (so_far ++ text) state' f w' h) w')
+
+  pub within_words : (n level : ℕ) (words : List Word) (whole : List (List ℕ)) (state : State S) (f : State S → List (List ℕ) → Outcome S) → state.steps ≤ n → ((state' : State S) (all : List (List ℕ)) → state'.steps ≤ n → Within n (f state' all)) → Within n (words_meaning run call level words whole state f)
+  within_words n level [] whole state f w h = h state whole w
+  within_words n level (word ∷ words) whole state f w h =
+      within_pieces n level word.pieces [] state _ w (λ state' text w'. within_words n level words (whole ++ text ∷ []) state' f w' h)
+
+  pub within_called : Bounded call → (n level : ℕ) (state : State S) (words : List (List ℕ)) → state.steps ≤ n → Within n (called run call level state words)
+  within_called c n level state [] w = w
+  within_called c n level state (name ∷ arguments) w = within_stepped n state.steps state _ w (λ state' w'. c n level (name ∷ arguments) state' w')
+
+  pub within_commands : Bounded call → (n level : ℕ) (commands : List Command) (result : List ℕ) (state : State S) → state.steps ≤ n → Within n (commands_meaning run call level commands result state)
+  within_commands c n level [] result state w = w
+  within_commands c n level (command ∷ commands) result state w =
+      within_and_then n _ _ (within_words n level command.words [] state _ w (λ state' all w'. within_called c n level state' all w'))
+      (within_on_normal n _ (λ state' text w'. within_commands c n level commands text state' w'))
+
+within_on_test : {S : Type 0} (n : ℕ) (state : State S) (f : State S → Outcome S) (test : Result Bool (List ℕ)) → state.steps ≤ n → Within n (f state) → Within n (on_test state f test)
+within_on_test n state f (Ok true) w h = h
+within_on_test n state f (Ok false) w h = w
+within_on_test n state f (Err text) w h = w
+
+within_after_body : {S : Type 0} (n : ℕ) (again : State S → Outcome S) → ((state : State S) → state.steps ≤ n → Within n (again state)) → (state : State S) (code : Code) (text : List ℕ) → state.steps ≤ n → Within n (after_body again state code text)
+within_after_body n again h state Normal text w = h state w
+within_after_body n again h state Continue text w = h state w
+within_after_body n again h state Break text w = w
+within_after_body n again h state Error text w = w
+within_after_body n again h state (Return code) text w = w
+
+module _ {S : Type 0} (run : ℕ → List ℕ → State S → Outcome S) (run_falls : Bounded run) where
+  pub within_turns : (n level : ℕ) (condition : Condition) (body : List ℕ) (turns : ℕ) (state : State S) → state.steps ≤ n → Within n (turns_meaning run level condition body turns state)
+  within_turns n level condition body zero state w = tt
+  within_turns n level condition body (suc turns) state w =
+      within_stepped n state.steps state _ w (λ state' w'.
+      within_on_test n state' (λ state''. and_then (run level body state'') (after_body (turns_meaning run level condition body turns))) (condition_value level condition state'.store) w'
+      (within_and_then n _ _ (run_falls n level body state' w') (within_after_body n _ (λ state'' w''. within_turns n level condition body turns state'' w''))))
+
+  within_while : (n level : ℕ) (arguments : List (List ℕ)) (state : State S) → state.steps ≤ n → Within n (while_meaning run level arguments state)
+  within_while n level [] state w = w
+  within_while n level (a ∷ []) state w = w
+  within_while n level (condition ∷ body ∷ []) state w = within_turns n level (condition_of condition) body state.steps state w
+  within_while n level (a ∷ b ∷ c ∷ rest) state w = w
+
+  within_builtin : (builtin : Builtin) (n level : ℕ) (arguments : List (List ℕ)) (state : State S) → state.steps ≤ n → Within n (builtin_meaning run builtin level arguments state)
+  within_builtin Set n level arguments state w = w
+  within_builtin While n level arguments state w = within_while n level arguments state w
+
+-- ── the same turns ──
+
+pub stepped_same : {S : Type 0} (left : ℕ) (state : State S) (f g : State S → Outcome S) → ((state : State S) → state.steps < left → f state ≡ g state) → stepped left state f ≡ stepped left state g
+stepped_same zero state f g h = refl
+stepped_same (suc left) state f g h = h (record state { steps = left }) (omega arith)
+
+stepped_none : {S : Type 0} (left : ℕ) (state : State S) (f : State S → Outcome S) → left ≤ 0 → stepped left state f ≡ OutOfSteps state
+stepped_none zero state f w = refl
+stepped_none (suc left) state f w = absurd (omega arith)
+
+pub and_then_same : {S : Type 0} (n : ℕ) (o : Outcome S) (f g : State S → Code → List ℕ → Outcome S) → Within n o → ((state : State S) (code : Code) (text : List ℕ) → state.steps ≤ n → f state code text ≡ g state code text) → and_then o f ≡ and_then o g
+and_then_same n (Ended state code text) f g w h = h state code text w
+and_then_same n (OutOfSteps state) f g w h = refl
+
+on_test_same : {S : Type 0} (state : State S) (f g : State S → Outcome S) (test : Result Bool (List ℕ)) → f state ≡ g state → on_test state f test ≡ on_test state g test
+on_test_same state f g (Ok true) e = e
+on_test_same state f g (Ok false) e = refl
+on_test_same state f g (Err text) e = refl
+
+pub after_body_same : {S : Type 0} (f g : State S → Outcome S) (state : State S) (code : Code) (text : List ℕ) → f state ≡ g state → after_body f state code text ≡ after_body g state code text
+after_body_same f g state Normal text e = e
+after_body_same f g state Continue text e = e
+after_body_same f g state Break text e = refl
+after_body_same f g state Error text e = refl
+after_body_same f g state (Return code) text e = refl
+
+module _ {S : Type 0} (run : ℕ → List ℕ → State S → Outcome S) (run_falls : Bounded run) where
+  -- the number of turns doesn't matter where it is at least that of the steps
+  pub turns_same : (level : ℕ) (condition : Condition) (body : List ℕ) (t u : ℕ) (state : State S) → state.steps ≤ t → state.steps ≤ u → turns_meaning run level condition body t state ≡ turns_meaning run level condition body u state
+  turns_same level condition body zero zero state v w = refl
+  turns_same level condition body zero (suc u) state v w = sym (stepped_none state.steps state _ v)
+  turns_same level condition body (suc t) zero state v w = stepped_none state.steps state _ w
+  turns_same level condition body (suc t) (suc u) state v w =
+      let again_t : State S → Outcome S = turns_meaning run level condition body t in
+      let again_u : State S → Outcome S = turns_meaning run level condition body u in
+      stepped_same state.steps state _ _ (λ state' less.
+      on_test_same state' (λ state''. and_then (run level body state'') (after_body again_t)) (λ state''. and_then (run level body state'') (after_body again_u)) (condition_value level condition state'.store)
+      (and_then_same state'.steps (run level body state') (after_body again_t) (after_body again_u) (run_falls state'.steps level body state' (omega arith))
+      (λ state'' code text le. after_body_same again_t again_u state'' code text (turns_same level condition body t u state'' (omega arith) (omega arith)))))
+
+module _ {S K : Type 0} (outside : Outside S K) (run : ℕ → List ℕ → State S → Outcome S) (run_falls : Bounded run) where
+  within_on_act : (n : ℕ) (f : K → State S → Outcome S) (g : K → State S → Code → List ℕ → Outcome S) → ((task : K) (state : State S) → state.steps ≤ n → Within n (f task state)) → ((task : K) (state : State S) (code : Code) (text : List ℕ) → state.steps ≤ n → Within n (g task state code text)) → (name : List ℕ) (state : State S) (act : Act K) → state.steps ≤ n → Within n (on_act run f g name state act)
+  within_on_act n f g h k name state (Done code text) w = w
+  within_on_act n f g h k name state (Step task) w = within_stepped n state.steps state (f task) w (h task)
+  within_on_act n f g h k name state (Run script task) w =
+      within_and_then n (run 0 script state) (λ state' code text. g task state' (out_of_global code) text) (run_falls n 0 script state w) (λ state' code text w'. k task state' (out_of_global code) text w')
+  within_on_act n f g h k name state Unknown w = w
+
+  within_resumed : (n : ℕ) (f : K → State S → Outcome S) → ((task : K) (state : State S) → state.steps ≤ n → Within n (f task state)) → (size : ℕ) (task : K) (state : State S) (code : Code) (text : List ℕ) → state.steps ≤ n → Within n (resumed outside run f size task state code text)
+  within_resumed n f h zero task state code text w =
+      within_on_act n f (λ _ state' _ _. OutOfSteps state') h (λ task' state' code' text' w'. tt) [] _ (outside.resumes state.shows state.store task code text).act w
+  within_resumed n f h (suc size) task state code text w =
+      within_on_act n f (resumed outside run f size) h (λ task' state' code' text' w'. within_resumed n f h size task' state' code' text' w') [] _ (outside.resumes state.shows state.store task code text).act w
+
+  within_after_step : (n turns : ℕ) (task : K) (state : State S) → state.steps ≤ n → Within n (after_step outside run turns task state)
+  within_after_step n zero task state w = tt
+  within_after_step n (suc turns) task state w = within_resumed n (after_step outside run turns) (within_after_step n turns) (outside.size task) task state Normal [] w
+
+  pub within_task : (n : ℕ) (task : K) (state : State S) (code : Code) (text : List ℕ) → state.steps ≤ n → Within n (task_meaning outside run task state code text)
+  within_task n task state code text w = within_resumed n (after_step outside run state.steps) (within_after_step n state.steps) (outside.size task) task state code text w
+
+  within_act : (n : ℕ) (name : List ℕ) (state : State S) (act : Act K) → state.steps ≤ n → Within n (act_meaning outside run name state act)
+  within_act n name state act w = within_on_act n (after_step outside run state.steps) (task_meaning outside run) (within_after_step n state.steps) (within_task n) name state act w
+
+  within_by_name : (n : ℕ) (name : List ℕ) (arguments : List (List ℕ)) (level : ℕ) (state : State S) (builtin : Option Builtin) → state.steps ≤ n → Within n (by_name outside run name arguments level state builtin)
+  within_by_name n name arguments level state (Some builtin) w = within_builtin run run_falls builtin n level arguments state w
+  within_by_name n name arguments level state None w =
+      within_act n name _ (outside.calls state.shows state.store (plain_name name ∷ arguments)).act w
+
+  pub within_call : (replaced : List (List ℕ)) → Bounded (call_meaning outside run replaced)
+  within_call replaced n level [] state w = w
+  within_call replaced n level (name ∷ arguments) state w = within_by_name n name arguments level state (command_of replaced (plain_name name)) w
+
+  pub on_act_same : (n bound : ℕ) (f g : K → State S → Outcome S) (p q : K → State S → Code → List ℕ → Outcome S) → ((task : K) (state : State S) → state.steps < n → f task state ≡ g task state) → ((task : K) (state : State S) (code : Code) (text : List ℕ) → outside.size task < bound → state.steps ≤ n → p task state code text ≡ q task state code text) → (name : List ℕ) (state : State S) (act : Act K) → RunsBelow outside.size bound act → state.steps ≤ n → on_act run f p name state act ≡ on_act run g q name state act
+  on_act_same n bound f g p q fg pq name state (Done code text) below w = refl
+  on_act_same n bound f g p q fg pq name state (Step task) below w = stepped_same state.steps state (f task) (g task) (λ state' less. fg task state' (omega arith))
+  on_act_same n bound f g p q fg pq name state (Run script task) below w =
+      and_then_same n (run 0 script state) _ _ (run_falls n 0 script state w) (λ state' code text le. pq task state' (out_of_global code) text below le)
+  on_act_same n bound f g p q fg pq name state Unknown below w = refl
+
+  module _ (falls : Falls outside) where
+    pub resumed_same : (n : ℕ) (f g : K → State S → Outcome S) → ((task : K) (state : State S) → state.steps < n → f task state ≡ g task state) → (m k : ℕ) (task : K) (state : State S) (code : Code) (text : List ℕ) → outside.size task ≤ m → outside.size task ≤ k → state.steps ≤ n → resumed outside run f m task state code text ≡ resumed outside run g k task state code text
+    resumed_same n f g fg zero zero task state code text v u w =
+        on_act_same n (outside.size task) f g (λ _ state' _ _. OutOfSteps state') (λ _ state' _ _. OutOfSteps state') fg (λ task' state' code' text' less le. refl) [] _ (outside.resumes state.shows state.store task code text).act (falls state.shows state.store task code text) w
+    resumed_same n f g fg zero (suc k) task state code text v u w =
+        on_act_same n (outside.size task) f g (λ _ state' _ _. OutOfSteps state') (resumed outside run g k) fg (λ task' state' code' text' less le. absurd (omega arith)) [] _ (outside.resumes state.shows state.store task code text).act (falls state.shows state.store task code text) w
+    resumed_same n f g fg (suc m) zero task state code text v u w =
+        on_act_same n (outside.size task) f g (resumed outside run f m) (λ _ state' _ _. OutOfSteps state') fg (λ task' state' code' text' less le. absurd (omega arith)) [] _ (outside.resumes state.shows state.store task code text).act (falls state.shows state.store task code text) w
+    resumed_same n f g fg (suc m) (suc k) task state code text v u w =
+        on_act_same n (outside.size task) f g (resumed outside run f m) (resumed outside run g k) fg (λ task' state' code' text' less le. resumed_same n f g fg m k task' state' code' text' (omega arith) (omega arith) le) [] _ (outside.resumes state.shows state.store task code text).act (falls state.shows state.store task code text) w
+
+    pub after_step_same : (t u : ℕ) (task : K) (state : State S) → state.steps < t → state.steps < u → after_step outside run t task state ≡ after_step outside run u task state
+    after_step_same zero u task state v w = absurd (omega arith)
+    after_step_same (suc t) zero task state v w = absurd (omega arith)
+    after_step_same (suc t) (suc u) task state v w =
+        resumed_same state.steps (after_step outside run t) (after_step outside run u) (λ task' state' less. after_step_same t u task' state' (omega arith) (omega arith)) (outside.size task) (outside.size task) task state Normal [] (omega arith) (omega arith) (omega arith)
+
+within_on_parsed : {S : Type 0} (n : ℕ) (f : List Command → Outcome S) (state : State S) (script : Result (List Command) ParseFault) → state.steps ≤ n → ((commands : List Command) → Within n (f commands)) → Within n (on_parsed f state script)
+within_on_parsed n f state (Ok commands) w h = h commands
+within_on_parsed n f state (Err fault) w h = w
+
+module _ {S K : Type 0} (outside : Outside S K) (replaced : List (List ℕ)) where
+  -- the evaluation of a script lets steps only fall
+  pub within_script : (room : ℕ) → Bounded (script_meaning outside replaced room)
+  within_script zero n level text state w = w
+  within_script (suc room) n level text state w =
+      within_on_parsed n _ state (script_of text) w (λ commands.
+      within_commands (script_meaning outside replaced room) (call_meaning outside (script_meaning outside replaced room) replaced) (within_script room)
+      (within_call outside (script_meaning outside replaced room) (within_script room) replaced) n level commands [] state w)

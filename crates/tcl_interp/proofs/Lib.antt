@@ -1,0 +1,7 @@
+-- What the proofs share.
+pub mod Bounds
+pub mod Same
+pub mod Settled
+pub mod Stepping
+pub mod Weights
+pub mod WordLemmas

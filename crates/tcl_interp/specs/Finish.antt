@@ -1,0 +1,127 @@
+-- What an interpreter still has to do, and the outcome of doing it, innermost first.
+use Rattle.std.specs.Prelude.{ℕ, zero, suc, List, [], ◌∷◌, ◌++◌, codes}
+use Rattle.tcl_words.specs.declared.script.Command.{Command}
+use Rattle.tcl_words.specs.declared.script.Word.{Word}
+use Rattle.tcl_words.specs.declared.script.Piece.{Piece}
+use Rattle.tcl_interp.specs.declared.loops.Condition.{Condition}
+use Rattle.tcl_interp.specs.declared.tasks.Code.{Code}
+use Rattle.tcl_interp.specs.declared.tasks.Code.TheVariants.{Normal, Error, Return, Break, Continue}
+use Rattle.tcl_interp.specs.Outside.{Outside}
+use Rattle.tcl_interp.specs.Evaluation.{State, Outcome, Ended, OutOfSteps, and_then, on_normal, with_step, with_joined, pieces_meaning, words_meaning, called, commands_meaning}
+use Rattle.tcl_interp.specs.Commands.{turns_meaning, after_body}
+use Rattle.tcl_interp.specs.Scripts.{script_meaning, call_meaning, task_meaning, after_step, out_of_global}
+
+-- a loop, and the room for scripts in it
+pub record Turning : Type 0 where
+  pub room : ℕ
+  pub condition : Condition
+  pub body : List ℕ
+
+-- a command whose words are being put together: the commands after it, the words that are whole, what there is of the next
+-- one, and what is left of it and after it
+pub record Wording : Type 0 where
+  pub room : ℕ
+  pub after : List Command
+  pub whole : List (List ℕ)
+  pub so_far : List ℕ
+  pub pieces : List Piece
+  pub words : List Word
+
+-- what is done now, with the room for scripts in it
+pub data Doing (K : Type 0) : Type 0 where
+  Begins : ℕ → List ℕ → Doing K
+  GoesOn : ℕ → List Command → List ℕ → Doing K
+  Calls : ℕ → List (List ℕ) → Doing K
+  Tests : Turning → Doing K
+  Steps : ℕ → K → Doing K
+  Resumes : ℕ → K → Code → List ℕ → Doing K
+  Ends : Code → List ℕ → Doing K
+
+-- what waits for something to end
+pub data Waiting (K : Type 0) : Type 0 where
+  -- a script, for a command of it
+  ForCommand : ℕ → List Command → Waiting K
+  -- a command, for a bracket in its words
+  ForBracket : Wording → Waiting K
+  -- a loop, for its body
+  ForBody : Turning → Waiting K
+  -- a task, for its script
+  ForScript : ℕ → K → Waiting K
+  -- the interpreter, for the script at global level that it began
+  ForAll : Waiting K
+
+-- all that is still to do, innermost first
+pub data Rest (K : Type 0) : Type 0 where
+  Idle : Rest K
+  Running : Doing K → List (Waiting K) → Rest K
+  Spent : Rest K
+  Broken : Rest K
+
+-- a script alone at global level, with room for 200 scripts one in another
+abbrev pub rest_of_script : {K : Type 0} → List ℕ → Rest K
+rest_of_script text = Running (Begins 200 text) (ForAll ∷ [])
+
+-- a task alone
+abbrev pub rest_of_task : {K : Type 0} → K → Rest K
+rest_of_task task = Running (Resumes 200 task Normal []) []
+
+-- how a script at global level ends: there is no loop around it, and a return has become its -code
+abbrev pub at_global : {S : Type 0} → State S → Code → List ℕ → Outcome S
+at_global state Break text = Ended state Error (codes "invoked \"break\" outside of a loop")
+at_global state Continue text = Ended state Error (codes "invoked \"continue\" outside of a loop")
+at_global state code text = Ended state code text
+
+module _ {S K : Type 0} (outside : Outside S K) (replaced : List (List ℕ)) where
+  -- the commands that are left of a script
+  abbrev pub script_rest : ℕ → List Command → List ℕ → State S → Outcome S
+  script_rest room commands result state =
+      commands_meaning (script_meaning outside replaced room) (call_meaning outside (script_meaning outside replaced room) replaced) 0 commands result state
+
+  -- what is left of the words of a command, and then its call
+  abbrev pub words_rest : ℕ → List Word → List (List ℕ) → State S → Outcome S
+  words_rest room words whole state =
+      words_meaning (script_meaning outside replaced room) (call_meaning outside (script_meaning outside replaced room) replaced) 0 words whole state
+      (called (script_meaning outside replaced room) (call_meaning outside (script_meaning outside replaced room) replaced) 0)
+
+  -- what is left of a word, and then of the words behind it
+  abbrev pub word_rest : ℕ → List Piece → List ℕ → List Word → List (List ℕ) → State S → Outcome S
+  word_rest room pieces so_far words whole state =
+      pieces_meaning (script_meaning outside replaced room) (call_meaning outside (script_meaning outside replaced room) replaced) 0 pieces so_far state
+      (λ state' text. words_rest room words (whole ++ text ∷ []) state')
+
+  abbrev pub loop_rest : Turning → State S → Outcome S
+  loop_rest turning state = turns_meaning (script_meaning outside replaced turning.room) 0 turning.condition turning.body state.steps state
+
+  abbrev pub task_rest : ℕ → K → State S → Code → List ℕ → Outcome S
+  task_rest room task state code text = task_meaning outside (script_meaning outside replaced room) task state code text
+
+  abbrev pub doing_meaning : Doing K → State S → Outcome S
+  doing_meaning (Begins room text) state = script_meaning outside replaced room 0 text state
+  doing_meaning (GoesOn room commands result) state = script_rest room commands result state
+  doing_meaning (Calls room words) state = with_step state (call_meaning outside (script_meaning outside replaced room) replaced 0 words)
+  doing_meaning (Tests turning) state = loop_rest turning state
+  doing_meaning (Steps room task) state = with_step state (after_step outside (script_meaning outside replaced room) state.steps task)
+  doing_meaning (Resumes room task code text) state = task_rest room task state code text
+  doing_meaning (Ends code text) state = Ended state code text
+
+  abbrev pub waiting_meaning : Waiting K → State S → Code → List ℕ → Outcome S
+  waiting_meaning (ForCommand room after) state code text = on_normal (λ state' result. script_rest room after result state') state code text
+  waiting_meaning (ForBracket w) state code text =
+      on_normal (λ state' piece.
+      and_then (with_joined w.so_far piece state' (λ state'' joined. word_rest w.room w.pieces joined w.words w.whole state''))
+      (on_normal (λ state'' result. script_rest w.room w.after result state'')))
+      state code text
+  waiting_meaning (ForBody turning) state code text = after_body (loop_rest turning) state code text
+  waiting_meaning (ForScript room task) state code text = task_rest room task state (out_of_global code) text
+  waiting_meaning ForAll state code text = at_global state (out_of_global code) text
+
+  abbrev pub waits_meaning : List (Waiting K) → State S → Code → List ℕ → Outcome S
+  waits_meaning [] state code text = Ended state code text
+  waits_meaning (waiting ∷ waits) state code text = and_then (waiting_meaning waiting state code text) (waits_meaning waits)
+
+  -- the outcome of doing all that is still to do
+  abbrev pub finish : Rest K → State S → Outcome S
+  finish Idle state = OutOfSteps state
+  finish (Running doing waits) state = and_then (doing_meaning doing state) (waits_meaning waits)
+  finish Spent state = OutOfSteps state
+  finish Broken state = OutOfSteps state

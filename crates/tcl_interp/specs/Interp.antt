@@ -1,0 +1,57 @@
+-- What an interpreter stands for, and what a slice of it reaches.
+use Rattle.std.specs.Prelude.{◌≡◌, ◌≢◌, ◌+◌, ℕ, List, ◌<◌}
+use Rattle.tcl_vars.specs.Store.{Store}
+use Rattle.tcl_interp.specs.declared.interp.Interp.{Interp}
+use Rattle.tcl_interp.specs.declared.interp.SliceEnd.{SliceEnd}
+use Rattle.tcl_interp.specs.declared.interp.SliceEnd.TheVariants.{Done, More, Exhausted}
+use Rattle.tcl_interp.specs.Evaluation.{State, Outcome, Ended, OutOfSteps}
+use Rattle.tcl_interp.specs.Finish.{Doing, Waiting, Rest, Idle, Running, Spent, Broken}
+use Rattle.tcl_interp.specs.Rests.{rest_by, waits_of}
+
+module _ {K : Type 0} where
+  -- what it still has to do
+  abbrev pub rest_of : Interp K → Rest K
+  rest_of interp = rest_by interp.machine (waits_of interp.frames.items)
+
+  -- how many steps are left
+  abbrev pub left_of : Interp K → ℕ
+  left_of interp = interp.left
+
+  -- how many there are in all
+  abbrev pub budget_of : Interp K → ℕ
+  budget_of interp = interp.budget
+
+  -- the built-in commands that are replaced
+  abbrev pub replaced_in : Interp K → List (List ℕ)
+  replaced_in interp = interp.replaced
+
+  -- the state that it acts on, with the object of the outside commands and the variables
+  abbrev pub state_of : {S : Type 0} → Interp K → S → Store → State S
+  state_of interp shows store = record { shows = shows; store = store; steps = interp.left }
+
+  abbrev pub IsRunning : Rest K → Type 0
+  IsRunning rest = (doing : Doing K) × (waits : List (Waiting K)) × (rest ≡ Running doing waits)
+
+  -- what is left to do after a slice
+  abbrev pub LeavesRest : SliceEnd → Rest K → Type 0
+  LeavesRest (Done code text) rest = rest ≡ Idle
+  LeavesRest More rest = IsRunning rest
+  LeavesRest Exhausted rest = rest ≡ Spent
+
+  -- what is left to do after slices
+  abbrev pub LeavesAfter : SliceEnd → Rest K → Type 0
+  LeavesAfter (Done code text) rest = rest ≡ Idle
+  LeavesAfter More rest = rest ≢ Idle
+  LeavesAfter Exhausted rest = rest ≡ Spent
+
+-- The end of all slices is the outcome, in the state that they leave.
+abbrev pub IsWhole : {S : Type 0} → SliceEnd → Outcome S → State S → Type 0
+IsWhole (Done code text) outcome state = outcome ≡ Ended state code text
+IsWhole More outcome state = ⊥
+IsWhole Exhausted outcome state = (outcome ≡ OutOfSteps state) × (state.steps ≡ 0)
+
+-- What a slice reaches: the outcome, in the state that it leaves, or a rest that has the same outcome.
+abbrev pub Reaches : {S : Type 0} → SliceEnd → Outcome S → State S → Outcome S → Type 0
+Reaches (Done code text) outcome state after = outcome ≡ Ended state code text
+Reaches More outcome state after = outcome ≡ after
+Reaches Exhausted outcome state after = outcome ≡ OutOfSteps state

@@ -1,0 +1,112 @@
+-- What the parts of the interpreter stand for.
+use Rattle.std.specs.Prelude.{ℕ, suc, ◌+◌, List, [], ◌∷◌, map, reverse, drop, slice_get, Option, Some, None, Result, Ok, Err, string_bytes}
+use Rattle.tcl_words.specs.declared.script.Command.{Command}
+use Rattle.tcl_words.specs.declared.script.Word.{Word}
+use Rattle.tcl_words.specs.declared.script.Piece.{Piece}
+use Rattle.tcl_words.specs.declared.fault.ParseFault.{ParseFault}
+use Rattle.tcl_interp.specs.declared.loops.Source.{Source}
+use Rattle.tcl_interp.specs.declared.loops.Source.TheVariants.{Text as AsText, Parsed as AsParsed}
+use Rattle.tcl_interp.specs.declared.loops.Turning.{Turning as LoopPart}
+use Rattle.tcl_interp.specs.declared.machine.Place.{Place}
+use Rattle.tcl_interp.specs.declared.machine.Joined.{Joined}
+use Rattle.tcl_interp.specs.declared.machine.Joined.TheVariants.{Nothing, Shared, Own}
+use Rattle.tcl_interp.specs.declared.machine.Wording.{Wording as WordsPart}
+use Rattle.tcl_interp.specs.declared.machine.Now.{Now}
+use Rattle.tcl_interp.specs.declared.machine.Now.TheVariants as now
+use Rattle.tcl_interp.specs.declared.machine.Frame.{Frame}
+use Rattle.tcl_interp.specs.declared.machine.Frame.TheVariants as frame
+use Rattle.tcl_interp.specs.declared.machine.Machine.{Machine}
+use Rattle.tcl_interp.specs.declared.machine.Machine.TheVariants as machine
+use Rattle.tcl_interp.specs.Finish.{Turning, Wording, Doing, Begins, GoesOn, Calls, Tests, Steps, Resumes, Ends, Waiting, ForCommand, ForBracket, ForBody, ForScript, ForAll, Rest, Idle, Running, Spent, Broken}
+use Rattle.tcl_interp.specs.Moves.{Moved, PieceText, Plain, Fails, Script, WordEnd, Whole, Failed, AtBracket}
+use Rattle.tcl_interp.specs.Scripts.{script_of}
+use Rattle.tcl_interp.specs.declared.words.Value.{Value}
+use Rattle.tcl_interp.specs.declared.words.Value.TheVariants as value
+use Rattle.tcl_interp.specs.declared.words.Put.{Put}
+use Rattle.tcl_interp.specs.declared.words.Put.TheVariants as put
+
+abbrev pub source_text : Source → List ℕ
+source_text (AsText text) = text
+source_text (AsParsed script) = script
+
+abbrev pub turning_of : LoopPart → Turning
+turning_of part = record { room = part.room; condition = part.condition; body = source_text part.body }
+
+-- the commands of a script that has been read
+abbrev pub read_commands : Result (List Command) ParseFault → List Command
+read_commands (Ok commands) = commands
+read_commands (Err fault) = []
+
+abbrev pub commands_in : List ℕ → List Command
+commands_in text = read_commands (script_of text)
+
+-- the commands that are left
+abbrev pub left_in : Place → List Command
+left_in place = drop place.next (commands_in place.script)
+
+abbrev pub joined_text : Joined → List ℕ
+joined_text Nothing = []
+joined_text (Shared text) = text
+joined_text (Own short) = string_bytes short.string
+
+-- the words of the command in front, and the pieces of the word in front
+abbrev pub words_in_front : List Command → List Word
+words_in_front [] = []
+words_in_front (command ∷ commands) = command.words
+
+abbrev pub pieces_in_front : List Word → List Piece
+pieces_in_front [] = []
+pieces_in_front (word ∷ words) = word.pieces
+
+abbrev pub wording_of : WordsPart → Wording
+wording_of part =
+    let words = words_in_front (left_in part.place) in
+    record {
+      room = part.place.room;
+      after = drop (part.place.next + 1) (commands_in part.place.script);
+      whole = part.whole;
+      so_far = joined_text part.so_far;
+      pieces = drop part.piece (pieces_in_front (drop part.word words));
+      words = drop (part.word + 1) words;
+    }
+
+abbrev pub value_of : Value → PieceText
+value_of (value.Plain text) = Plain text
+value_of (value.Fails text) = Fails text
+value_of (value.Script script) = Script script
+
+-- how far a word came, of these pieces
+abbrev pub put_end : List Piece → Put → WordEnd
+put_end pieces (put.Whole text) = Whole text
+put_end pieces (put.Failed text) = Failed text
+put_end pieces (put.Bracket script next so_far) = AtBracket script (drop next pieces) (joined_text so_far)
+
+module _ {K : Type 0} where
+  abbrev pub doing_of : Now K → Doing K
+  doing_of (now.Begins room script) = Begins room (source_text script)
+  doing_of (now.GoesOn place result) = GoesOn place.room (left_in place) result
+  doing_of (now.Calls room words) = Calls room words
+  doing_of (now.Tests part) = Tests (turning_of part)
+  doing_of (now.Steps room task) = Steps room task
+  doing_of (now.Resumes room task code text) = Resumes room task code text
+  doing_of (now.Ends code text) = Ends code text
+
+  abbrev pub waiting_of : Frame K → Waiting K
+  waiting_of (frame.ForCommand place) = ForCommand place.room (left_in place)
+  waiting_of (frame.ForBracket part) = ForBracket (wording_of part)
+  waiting_of (frame.ForBody part) = ForBody (turning_of part)
+  waiting_of (frame.ForScript room task) = ForScript room task
+  waiting_of frame.ForAll = ForAll
+
+  -- what waits, innermost first: the last frame
+  unfoldable pub waits_of : List (Frame K) → List (Waiting K)
+  waits_of frames = reverse (map waiting_of frames)
+
+  abbrev pub moved_of : Now K → List (Frame K) → Moved K
+  moved_of now frames = record { doing = doing_of now; waits = waits_of frames }
+
+  abbrev pub rest_by : Machine K → List (Waiting K) → Rest K
+  rest_by machine.Idle waits = Idle
+  rest_by (machine.Running now) waits = Running (doing_of now) waits
+  rest_by machine.Spent waits = Spent
+  rest_by machine.Broken waits = Broken

@@ -1,0 +1,99 @@
+-- The evaluation of a script.
+use Rattle.std.specs.Prelude.{ℕ, zero, suc, List, [], ◌∷◌, Option, Some, None, Result, Ok, Err, codes}
+use Rattle.tcl_words.specs.Reading.{commands_of}
+use Rattle.tcl_words.specs.declared.script.Command.{Command}
+use Rattle.tcl_words.specs.declared.fault.ParseFault.{ParseFault}
+use Rattle.tcl_interp.specs.declared.commands.Builtin.{Builtin}
+use Rattle.tcl_interp.specs.declared.tasks.Code.{Code}
+use Rattle.tcl_interp.specs.declared.tasks.Code.TheVariants.{Normal, Error, Return, Break, Continue}
+use Rattle.tcl_interp.specs.declared.tasks.ReturnCode.{ReturnCode}
+use Rattle.tcl_interp.specs.declared.tasks.ReturnCode.TheVariants.{Normal as AsNormal, Error as AsError, Return as AsReturn, Break as AsBreak, Continue as AsContinue}
+use Rattle.tcl_interp.specs.declared.tasks.Act.{Act}
+use Rattle.tcl_interp.specs.declared.tasks.Act.TheVariants.{Done, Step, Run, Unknown}
+use Rattle.tcl_interp.specs.Outside.{Outside, Told}
+use Rattle.tcl_interp.specs.Texts.{nesting_text, unknown_command, fault_text}
+use Rattle.tcl_interp.specs.Evaluation.{State, Outcome, Ended, OutOfSteps, and_then, with_step, commands_meaning}
+use Rattle.tcl_interp.specs.Commands.{command_of, plain_name, builtin_meaning}
+
+-- ── the outside commands ──
+
+-- what a return becomes where it leaves a script at global level, where return by itself counts as normal
+abbrev pub onward : ReturnCode → Code
+onward AsNormal = Normal
+onward AsError = Error
+onward AsReturn = Normal
+onward AsBreak = Break
+onward AsContinue = Continue
+
+abbrev pub out_of_global : Code → Code
+out_of_global Normal = Normal
+out_of_global Error = Error
+out_of_global (Return code) = onward code
+out_of_global Break = Break
+out_of_global Continue = Continue
+
+-- what an act comes to, where it is given how a script is run, and how a task goes on after a step and after a script
+abbrev pub on_act : {S K : Type 0} → (ℕ → List ℕ → State S → Outcome S) → (K → State S → Outcome S) → (K → State S → Code → List ℕ → Outcome S) → List ℕ → State S → Act K → Outcome S
+on_act run after_step after_script name state (Done code text) = Ended state code text
+on_act run after_step after_script name state (Step task) = with_step state (after_step task)
+on_act run after_step after_script name state (Run script task) = and_then (run 0 script state) (λ state' code text. after_script task state' (out_of_global code) text)
+on_act run after_step after_script name state Unknown = Ended state Error (unknown_command name)
+
+abbrev pub told_state : {S K : Type 0} → Told S K → ℕ → State S
+told_state told steps = record { shows = told.shows; store = told.store; steps = steps }
+
+module _ {S K : Type 0} (outside : Outside S K) (run : ℕ → List ℕ → State S → Outcome S) where
+  -- A task goes on, given how it goes on after a step. Each script that it runs makes it smaller, and one of size 0 runs none.
+  abbrev pub resumed : (K → State S → Outcome S) → ℕ → K → State S → Code → List ℕ → Outcome S
+  resumed after_step zero task state code text =
+      (let told : Told S K = outside.resumes state.shows state.store task code text in
+      on_act run after_step (λ _ state' _ _. OutOfSteps state') [] (told_state told state.steps) told.act)
+  resumed after_step (suc size) task state code text =
+      (let told : Told S K = outside.resumes state.shows state.store task code text in
+      on_act run after_step (resumed after_step size) [] (told_state told state.steps) told.act)
+
+  -- A task goes on after a step. There are no more such turns than steps are left.
+  abbrev pub after_step : ℕ → K → State S → Outcome S
+  after_step zero task state = OutOfSteps state
+  after_step (suc turns) task state = resumed (after_step turns) (outside.size task) task state Normal []
+
+  -- a task goes on
+  abbrev pub task_meaning : K → State S → Code → List ℕ → Outcome S
+  task_meaning task state code text = resumed (after_step state.steps) (outside.size task) task state code text
+
+  -- what an act of the outside commands comes to, for a command of this name
+  abbrev pub act_meaning : List ℕ → State S → Act K → Outcome S
+  act_meaning name state act = on_act run (after_step state.steps) task_meaning name state act
+
+  -- an outside command is called: its words begin with its plain name
+  abbrev pub outside_meaning : List ℕ → List (List ℕ) → State S → Outcome S
+  outside_meaning name arguments state =
+      (let told : Told S K = outside.calls state.shows state.store (plain_name name ∷ arguments) in
+      act_meaning name (told_state told state.steps) told.act)
+
+  abbrev pub by_name : List ℕ → List (List ℕ) → ℕ → State S → Option Builtin → Outcome S
+  by_name name arguments level state (Some builtin) = builtin_meaning run builtin level arguments state
+  by_name name arguments level state None = outside_meaning name arguments state
+
+  -- a command is called
+  abbrev pub call_meaning : List (List ℕ) → ℕ → List (List ℕ) → State S → Outcome S
+  call_meaning replaced level [] state = Ended state Normal []
+  call_meaning replaced level (name ∷ arguments) state = by_name name arguments level state (command_of replaced (plain_name name))
+
+-- ── scripts ──
+
+-- the commands of a script, or its fault
+unfoldable pub script_of : List ℕ → Result (List Command) ParseFault
+script_of text = commands_of text
+
+-- a script is read whole before its first command runs
+abbrev pub on_parsed : {S : Type 0} → (List Command → Outcome S) → State S → Result (List Command) ParseFault → Outcome S
+on_parsed commands state (Ok script) = commands script
+on_parsed commands state (Err fault) = Ended state Error (fault_text fault)
+
+module _ {S K : Type 0} (outside : Outside S K) (replaced : List (List ℕ)) where
+  -- A script, with room for so many scripts that are begun and not ended, itself among them.
+  abbrev pub script_meaning : ℕ → ℕ → List ℕ → State S → Outcome S
+  script_meaning zero level text state = Ended state Error nesting_text
+  script_meaning (suc room) level text state =
+      on_parsed (λ commands. commands_meaning (script_meaning room) (call_meaning outside (script_meaning room) replaced) level commands [] state) state (script_of text)

@@ -1,0 +1,231 @@
+ghost use Rattle.std.specs.Prelude.{◌≡◌, ◌≤◌};
+ghost use Rattle.tcl_interp.specs.declared.machine.Machine.TheVariants.{Spent as MachineSpent};
+
+use crate::commands::replaced_by;
+use crate::loops::Source;
+use crate::machine::{Frame, Machine, Now};
+use crate::slices::{Ran, run};
+use crate::tasks::{Code, Tasks};
+use crate::texts::fixed;
+use std::alloc::{AllocError, Global};
+use std::mem::replace;
+use tcl_text::{Text, TextList};
+use tcl_vars::Scopes;
+
+/// How a slice ended.
+#[derive(Drop)]
+pub enum SliceEnd {
+    /// All is done, with a code and a result or an error's text.
+    Done(Code, Text),
+    /// The slice's steps are taken, and there is more to do.
+    More,
+    /// A step is needed, and none is left.
+    Exhausted,
+}
+
+/// An interpreter, whose tasks are of the type `K`.
+#[derive(Drop)]
+pub struct Interp<K> {
+    alloc: Global,
+    replaced: TextList,
+    budget: u64,
+    left: u64,
+    machine: Machine<K>,
+    frames: Vec<Frame<K>>,
+    ghost within: { left ≤ budget },
+    ghost spent: { machine ≡ MachineSpent → left ≡ 0 },
+}
+
+impl<K: Drop> Interp<K> {
+    ghost use Rattle.std.specs.Prelude.{◌≡◌, ◌≢◌, ◌<◌, ◌≤◌, ◌+◌, [], Ok, IfOk, OnOk, OnErr, IsErr, All, sum};
+    ghost use Rattle.tcl_interp.specs.Commands.{replaced_by};
+    ghost use Rattle.tcl_interp.specs.Finish.{finish, Idle, Running, Spent, Broken, rest_of_script, rest_of_task};
+    ghost use Rattle.tcl_interp.specs.Interp.{rest_of, left_of, budget_of, replaced_in, state_of, LeavesRest, Reaches, LeavesAfter, IsWhole};
+
+    /// An interpreter that takes at most so many steps, where outside commands have these names.
+    pub fn new(alloc: Global, budget: u64, outside_names: &[Text]) -> Result<Interp<K>, AllocError>
+        ensures rest { IfOk result (λ interp. rest_of interp ≡ Idle) }
+        ensures left { IfOk result (λ interp. left_of interp ≡ budget) }
+        ensures budget { IfOk result (λ interp. budget_of interp ≡ budget) }
+        ensures replaced { IfOk result (λ interp. replaced_in interp ≡ replaced_by outside_names.now) }
+    {
+        Ok(Interp {
+            alloc,
+            replaced: replaced_by(alloc, outside_names)?,
+            budget,
+            left: budget,
+            machine: Machine::Idle,
+            frames: Vec::new(alloc),
+        })
+    }
+
+    /// Begins a script at global level. It takes no step, and is read in the first slice.
+    #[tactic(auto, unfolding(crate::specs::Rests::waits_of))]
+    pub fn begin(&mut self, script: Text) -> Result<(), AllocError>
+        requires { rest_of self.old ≡ Idle }
+        ensures ok { OnOk result (rest_of self.new ≡ rest_of_script script) }
+        ensures err { OnErr result (rest_of self.new ≡ Idle) }
+        ensures left { left_of self.new ≡ left_of self.old }
+        ensures replaced { replaced_in self.new ≡ replaced_in self.old }
+        ensures budget { budget_of self.new ≡ budget_of self.old }
+    {
+        self.frames.clear();
+        self.frames.push(Frame::ForAll)?;
+        self.machine = Machine::Running(Now::Begins {
+            room: 200,
+            script: Source::Text(script),
+        });
+        Ok(())
+    }
+
+    /// Begins a task, which is resumed with the normal code and the empty text.
+    #[tactic(auto, unfolding(crate::specs::Rests::waits_of))]
+    pub fn begin_task(&mut self, task: K) -> Result<(), AllocError>
+        requires { rest_of self.old ≡ Idle }
+        ensures ok { OnOk result (rest_of self.new ≡ rest_of_task task) }
+        ensures err { OnErr result (rest_of self.new ≡ Idle) }
+        ensures left { left_of self.new ≡ left_of self.old }
+        ensures replaced { replaced_in self.new ≡ replaced_in self.old }
+        ensures budget { budget_of self.new ≡ budget_of self.old }
+    {
+        let text = fixed(self.alloc, "")?;
+        self.frames.clear();
+        self.machine = Machine::Running(Now::Resumes {
+            room: 200,
+            task,
+            code: Code::Normal,
+            text,
+        });
+        Ok(())
+    }
+
+    /// The steps that are left. It takes no memory.
+    pub fn steps_left(&self) -> u64
+        ensures { result ≡ left_of self.now }
+    {
+        self.left
+    }
+
+    /// The steps that were taken. It takes no memory.
+    pub fn steps_used(&self) -> u64
+        ensures { result + left_of self.now ≡ budget_of self.now }
+    {
+        self.budget - self.left
+    }
+
+    /// Does what is to be done, for at most so many steps. A step is taken for each command that is called, each test of a
+    /// loop and each step of a task. After refused memory every further slice is refused too.
+    pub fn run_slice<T: Tasks<Task = K>>(
+        &mut self,
+        tasks: &mut T,
+        scopes: &mut Scopes,
+        steps: u64,
+    ) -> Result<SliceEnd, AllocError>
+        requires positive { 0 < steps }
+        requires begun { rest_of self.old ≢ Idle }
+        ensures reached { IfOk result (λ end. Reaches end (finish T.outside (replaced_in self.old) (rest_of self.old) (state_of self.old tasks.old scopes.old)) (state_of self.new tasks.new scopes.new) (finish T.outside (replaced_in self.new) (rest_of self.new) (state_of self.new tasks.new scopes.new))) }
+        ensures rest { IfOk result (λ end. LeavesRest end (rest_of self.new)) }
+        ensures more { result ≡ Ok SliceEnd.More → left_of self.new + steps ≡ left_of self.old }
+        ensures exhausted { result ≡ Ok SliceEnd.Exhausted → left_of self.new ≡ 0 }
+        ensures most { left_of self.old ≤ left_of self.new + steps }
+        ensures taken { left_of self.new ≤ left_of self.old }
+        ensures replaced { replaced_in self.new ≡ replaced_in self.old }
+        ensures budget { budget_of self.new ≡ budget_of self.old }
+        ensures refused { OnErr result (rest_of self.new ≡ Broken) }
+        ensures broken { rest_of self.old ≡ Broken → IsErr result }
+        ensures left_alone { T.left_alone tasks.new ≡ T.left_alone tasks.old }
+    {
+        match replace(&mut self.machine, Machine::Broken) {
+            Machine::Running(now) => {
+                let ran = run(
+                    self.alloc,
+                    tasks,
+                    scopes,
+                    &mut self.frames,
+                    &self.replaced,
+                    &mut self.left,
+                    now,
+                    steps,
+                )?;
+                match ran {
+                    Ran::Ended(code, text) => {
+                        self.machine = Machine::Idle;
+                        Ok(SliceEnd::Done(code, text))
+                    }
+                    Ran::Paused(now) => {
+                        self.machine = Machine::Running(now);
+                        Ok(SliceEnd::More)
+                    }
+                    Ran::Spent => {
+                        self.machine = Machine::Spent;
+                        self.frames.clear();
+                        Ok(SliceEnd::Exhausted)
+                    }
+                }
+            }
+            Machine::Spent => {
+                self.machine = Machine::Spent;
+                Ok(SliceEnd::Exhausted)
+            }
+            Machine::Broken => Err(AllocError),
+            Machine::Idle => unreachable!(),
+        }
+    }
+
+    /// Runs slices of these sizes in turn, as long as there is more to do: they are as one slice of all their steps.
+    pub fn run_slices<T: Tasks<Task = K>>(
+        &mut self,
+        tasks: &mut T,
+        scopes: &mut Scopes,
+        sizes: &[u64],
+    ) -> Result<SliceEnd, AllocError>
+        requires positive { All (λ size. 0 < size) sizes.now }
+        requires begun { rest_of self.old ≢ Idle }
+        ensures reached { IfOk result (λ end. Reaches end (finish T.outside (replaced_in self.old) (rest_of self.old) (state_of self.old tasks.old scopes.old)) (state_of self.new tasks.new scopes.new) (finish T.outside (replaced_in self.new) (rest_of self.new) (state_of self.new tasks.new scopes.new))) }
+        ensures rest { IfOk result (λ end. LeavesAfter end (rest_of self.new)) }
+        ensures more { result ≡ Ok SliceEnd.More → left_of self.new + sum sizes.now ≡ left_of self.old }
+        ensures exhausted { result ≡ Ok SliceEnd.Exhausted → left_of self.new ≡ 0 }
+        ensures most { left_of self.old ≤ left_of self.new + sum sizes.now }
+        ensures taken { left_of self.new ≤ left_of self.old }
+        ensures replaced { replaced_in self.new ≡ replaced_in self.old }
+        ensures budget { budget_of self.new ≡ budget_of self.old }
+        ensures left_alone { T.left_alone tasks.new ≡ T.left_alone tasks.old }
+    {
+        for size in sizes {
+            match self.run_slice(tasks, scopes, *size)? {
+                SliceEnd::More => {}
+                end => return Ok(end),
+            }
+        }
+        Ok(SliceEnd::More)
+    }
+
+    /// Runs slices of these sizes, and then of one size, to the end: whatever the sizes, it is the outcome of the evaluation.
+    pub fn run_to_end<T: Tasks<Task = K>>(
+        &mut self,
+        tasks: &mut T,
+        scopes: &mut Scopes,
+        sizes: &[u64],
+        then: u64,
+    ) -> Result<SliceEnd, AllocError>
+        requires each { All (λ size. 0 < size) sizes.now }
+        requires positive { 0 < then }
+        requires begun { rest_of self.old ≢ Idle }
+        ensures whole { IfOk result (λ end. IsWhole end (finish T.outside (replaced_in self.old) (rest_of self.old) (state_of self.old tasks.old scopes.old)) (state_of self.new tasks.new scopes.new)) }
+        ensures taken { left_of self.new ≤ left_of self.old }
+        ensures replaced { replaced_in self.new ≡ replaced_in self.old }
+        ensures budget { budget_of self.new ≡ budget_of self.old }
+        ensures left_alone { T.left_alone tasks.new ≡ T.left_alone tasks.old }
+    {
+        match self.run_slices(tasks, scopes, sizes)? {
+            SliceEnd::More => {}
+            end => return Ok(end),
+        }
+        'slices: loop {
+            match self.run_slice(tasks, scopes, then)? {
+                SliceEnd::More => {}
+                end => return Ok(end),
+            }
+        }
+    }
+}

@@ -1,0 +1,153 @@
+ghost use Rattle.std.specs.Prelude.{◌≡◌, ◌<◌, ◌≤◌, ◌+◌, ◌-◌, ℕ, List, [], IfOk, OnErr};
+ghost use Rattle.tcl_interp.specs.Finish.{Waiting};
+ghost use Rattle.tcl_interp.specs.Moves.{moved};
+ghost use Rattle.tcl_interp.specs.Rests.{moved_of, waits_of, doing_of};
+ghost use Rattle.tcl_interp.specs.Runs.{Comes, IfPaused};
+ghost use Rattle.tcl_interp.specs.Steps.{NeedsStep, IsSettled, TakesStep, TakesNone, finish_from, state_with};
+
+use crate::machine::{Frame, Now};
+use crate::moves::quiet;
+use crate::steps::{call, resume, test};
+use crate::tasks::{Code, Tasks};
+use crate::texts::fixed;
+use std::alloc::{AllocError, Global};
+use tcl_text::{Text, TextList};
+use tcl_vars::Scopes;
+
+/// Moves on without a step, through tasks too, up to where a step is needed or all has ended.
+fn settle<T: Tasks>(
+    alloc: Global,
+    tasks: &mut T,
+    scopes: &mut Scopes,
+    frames: &mut Vec<Frame<T::Task>>,
+    now: Now<T::Task>,
+) -> Result<Now<T::Task>, AllocError>
+    ensures ok { IfOk result (λ settled. (replaced : List (List ℕ)) → TakesNone T.outside replaced (moved_of now frames.old.items) tasks.old scopes.old (moved_of settled frames.new.items) tasks.new scopes.new) }
+    ensures settled { IfOk result (λ settled. IsSettled (moved_of settled frames.new.items)) }
+    ensures left { T.left_alone tasks.new ≡ T.left_alone tasks.old }
+{
+    let mut doing = now;
+    'moves: loop {
+        match quiet(alloc, scopes, frames, doing)? {
+            Now::Resumes {
+                room,
+                task,
+                code,
+                text,
+            } => doing = resume(alloc, tasks, scopes, frames, room, task, code, text)?,
+            settled => return Ok(settled),
+        }
+    }
+}
+
+/// Takes a step.
+fn take_step<T: Tasks>(
+    alloc: Global,
+    tasks: &mut T,
+    scopes: &mut Scopes,
+    frames: &mut Vec<Frame<T::Task>>,
+    replaced: &TextList,
+    now: Now<T::Task>,
+) -> Result<Now<T::Task>, AllocError>
+    requires { NeedsStep (doing_of now) }
+    ensures ok { IfOk result (λ next. TakesStep T.outside replaced.now (moved_of now frames.old.items) tasks.old scopes.old (moved_of next frames.new.items) tasks.new scopes.new) }
+    ensures left { T.left_alone tasks.new ≡ T.left_alone tasks.old }
+{
+    match now {
+        Now::Calls { room, words } => {
+            let next = call(
+                alloc,
+                tasks,
+                scopes,
+                frames,
+                replaced,
+                words.as_slice(),
+                room,
+            )?;
+            Ok(next)
+        }
+        Now::Tests(turning) => {
+            let next = test(alloc, scopes, frames, turning)?;
+            Ok(next)
+        }
+        Now::Steps { room, task } => Ok(Now::Resumes {
+            room,
+            task,
+            code: Code::Normal,
+            text: fixed(alloc, "")?,
+        }),
+        _ => unreachable!(),
+    }
+}
+
+/// Takes a step, and moves on up to where the next one is needed.
+fn step_on<T: Tasks>(
+    alloc: Global,
+    tasks: &mut T,
+    scopes: &mut Scopes,
+    frames: &mut Vec<Frame<T::Task>>,
+    replaced: &TextList,
+    now: Now<T::Task>,
+) -> Result<Now<T::Task>, AllocError>
+    requires { NeedsStep (doing_of now) }
+    ensures ok { IfOk result (λ next. TakesStep T.outside replaced.now (moved_of now frames.old.items) tasks.old scopes.old (moved_of next frames.new.items) tasks.new scopes.new) }
+    ensures settled { IfOk result (λ next. IsSettled (moved_of next frames.new.items)) }
+    ensures left { T.left_alone tasks.new ≡ T.left_alone tasks.old }
+{
+    let next = take_step(alloc, tasks, scopes, frames, replaced, now)?;
+    let settled = settle(alloc, tasks, scopes, frames, next)?;
+    Ok(settled)
+}
+
+/// How far a slice came.
+#[derive(Drop)]
+pub enum Ran<K> {
+    /// All has ended.
+    Ended(Code, Text),
+    /// The slice's steps are taken, and this is to be done next.
+    Paused(Now<K>),
+    /// A step is needed, and none is left.
+    Spent,
+}
+
+/// Runs what is to be done, for at most so many steps, of which so many are left in all.
+pub fn run<T: Tasks>(
+    alloc: Global,
+    tasks: &mut T,
+    scopes: &mut Scopes,
+    frames: &mut Vec<Frame<T::Task>>,
+    replaced: &TextList,
+    left: &mut u64,
+    now: Now<T::Task>,
+    steps: u64,
+) -> Result<Ran<T::Task>, AllocError>
+    ensures comes { IfOk result (λ ran. Comes ran (finish_from T.outside replaced.now (moved_of now frames.old.items) (state_with tasks.old scopes.old left.old)) (state_with tasks.new scopes.new left.new) (λ next. finish_from T.outside replaced.now (moved_of next frames.new.items) (state_with tasks.new scopes.new left.new))) }
+    ensures paused { IfOk result (λ ran. IfPaused ran (left.new + steps ≡ left.old)) }
+    ensures most { left.old ≤ left.new + steps }
+    ensures taken { left.new ≤ left.old }
+    ensures left_alone { T.left_alone tasks.new ≡ T.left_alone tasks.old }
+{
+    let mut doing = settle(alloc, tasks, scopes, frames, now)?;
+    for taken in 0..steps {
+        match doing {
+            Now::Ends { code, text } => return Ok(Ran::Ended(code, text)),
+            needed => {
+                if *left == 0 {
+                    return Ok(Ran::Spent);
+                }
+                *left -= 1;
+                doing = step_on(alloc, tasks, scopes, frames, replaced, needed)?;
+            }
+        }
+    }
+    match doing {
+        Now::Ends { code, text } => Ok(Ran::Ended(code, text)),
+        needed => {
+            if *left == 0 {
+                Ok(Ran::Spent)
+            } else {
+                Ok(Ran::Paused(needed))
+            }
+        }
+    }
+}

@@ -1,0 +1,76 @@
+ghost use Rattle.std.specs.Prelude.{◌≡◌, IfOk};
+
+use std::alloc::AllocError;
+use tcl_text::Text;
+use tcl_vars::Scopes;
+
+/// What a return becomes where it leaves a procedure or a script at global level: its `-code`.
+#[derive(Clone, Copy, Debug, PartialEq, Eq)]
+pub enum ReturnCode {
+    Normal,
+    Error,
+    Return,
+    Break,
+    Continue,
+}
+
+/// How a script or a command ended: Tcl's codes 0 to 4.
+#[derive(Clone, Copy, Debug, PartialEq, Eq)]
+pub enum Code {
+    Normal,
+    Error,
+    Return(ReturnCode),
+    Break,
+    Continue,
+}
+
+/// What an outside command, or a task that it began, does next.
+#[derive(Drop)]
+pub enum Act<K> {
+    /// It has ended, with a code and a result or an error's text.
+    Done(Code, Text),
+    /// It takes one step, and then goes on with `resume`, given the normal code and the empty text.
+    Step(K),
+    /// A script runs at global level, and then it goes on with `resume`, given the code and the text of the script. A return
+    /// of the script has become its `-code`; what a break or a continue means is the task's to say.
+    Run { script: Text, task: K },
+    /// No command has this name.
+    Unknown,
+}
+
+/// Serves the commands that the interpreter doesn't have itself.
+pub trait Tasks {
+    /// What a command keeps while it takes a step or a script of its runs.
+    type Task: Drop;
+
+    ghost use Rattle.std.specs.Prelude.{ℕ, ◌<◌};
+    ghost use Rattle.tcl_interp.specs.Outside.{Outside, Falls};
+
+    /// What the two calls answer, show and leave, and the size of each task.
+    ghost outside: { Outside Self Self.Task };
+
+    /// The type of what both calls leave alone.
+    ghost Left: { Type 0 };
+
+    /// What both calls leave alone, whatever they answer.
+    ghost left_alone: { Self → Left };
+
+    /// Calls a command. The words begin with its name.
+    fn call(&mut self, scopes: &mut Scopes, words: &[Text]) -> Result<Act<Self::Task>, AllocError>
+        ensures ok { IfOk result (λ act. record { shows = self.new; store = scopes.new; act = act } ≡ outside.calls self.old scopes.old words.now) }
+        ensures left { left_alone self.new ≡ left_alone self.old };
+
+    /// Goes on with a task, after its step or its script.
+    fn resume(
+        &mut self,
+        scopes: &mut Scopes,
+        task: Self::Task,
+        code: Code,
+        text: Text,
+    ) -> Result<Act<Self::Task>, AllocError>
+        ensures ok { IfOk result (λ act. record { shows = self.new; store = scopes.new; act = act } ≡ outside.resumes self.old scopes.old task code text) }
+        ensures left { left_alone self.new ≡ left_alone self.old };
+
+    /// A task that runs one script after another comes to an end: each time what is left of it is smaller.
+    ghost falls: { Falls outside };
+}

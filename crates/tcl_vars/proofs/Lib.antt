@@ -1,0 +1,14 @@
+pub mod ArrayLemmas
+pub mod BelowLemmas
+pub mod CountLemmas
+pub mod GiveLemmas
+pub mod LawLemmas
+pub mod LinkLemmas
+pub mod MadeLemmas
+pub mod NameLemmas
+pub mod NamedLemmas
+pub mod PutLemmas
+pub mod ShortLemmas
+pub mod StoreLemmas
+pub mod TableLemmas
+pub mod UnsetLemmas

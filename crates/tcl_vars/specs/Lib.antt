@@ -1,0 +1,11 @@
+pub mod Name
+pub mod Named
+pub mod Owned
+pub mod Put
+pub mod Short
+pub mod Shown
+pub mod Sound
+pub mod Store
+pub mod Table
+pub mod Unset
+pub mod Way

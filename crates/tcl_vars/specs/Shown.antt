@@ -1,0 +1,7 @@
+-- What a place of the code points to.
+use Rattle.std.specs.Option.{option_copied}
+use Rattle.tcl_vars.specs.declared.name.Place.{Place as BorrowedPlace}
+use Rattle.tcl_vars.specs.Name.{Place}
+
+abbrev pub shown : BorrowedPlace → Place
+shown place = record { level = place.level; variable = place.variable.now; element = option_copied place.element }

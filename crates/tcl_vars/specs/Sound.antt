@@ -1,0 +1,31 @@
+-- What holds of every store.
+use Rattle.std.specs.Prelude.{◌≡◌, ℕ, ◌<◌, ◌≤◌, List, [], ◌∷◌, Some, length}
+use Rattle.tcl_vars.specs.declared.content.Content.{Content}
+use Rattle.tcl_vars.specs.declared.content.Content.TheVariants.{Scalar, Array, Link}
+use Rattle.tcl_vars.specs.Name.{Place}
+use Rattle.tcl_vars.specs.Store.{Store, Frame, frame_at, content_at, link_of, variable_count}
+
+-- a content may stand in the frame at a level: a link leads to an earlier one
+abbrev pub IsBelow : ℕ → Content → Type 0
+IsBelow level (Scalar text) = Unit {0}
+IsBelow level (Array elements) = Unit {0}
+IsBelow level (Link to name) = to < level
+
+abbrev pub AllBelow : ℕ → Frame → Type 0
+AllBelow level [] = Unit {0}
+AllBelow level (e ∷ es) = IsBelow level e.1 × AllBelow level es
+
+-- each link leads to an earlier frame
+abbrev pub FramesDescend : Store → Type 0
+FramesDescend store = (level : ℕ) → AllBelow level (frame_at store level)
+
+-- the same of the links that a look-up finds
+abbrev pub LinksDescend : Store → Type 0
+LinksDescend store = (place : Place) (link : ℕ × List ℕ) → link_of (content_at store place) ≡ Some link → link.0 < place.level
+
+pub record IsSound (store : Store) (count : ℕ) : Type 0 where
+  -- the global frame is there
+  pub rooted : 0 < length store
+  pub counted : count ≡ variable_count store
+  pub limited : count ≤ 4096
+  pub descending : FramesDescend store

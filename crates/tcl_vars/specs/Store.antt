@@ -1,0 +1,255 @@
+-- The variables of an application: a list of frames, the global one first, each a list of (name, content).
+use Rattle.std.specs.Prelude.{Bool, true, false, not, ◌&&◌, is_none, nat_eq, codes, ℕ, zero, suc, ◌+◌, nat_le, List, [], ◌∷◌, Option, None, Some, Result, Ok, Err, length, sum_by, is_some, ok_or, option_and_then, slice_index_or, slice_set, if◌then◌else◌}
+use Rattle.std.specs.List.{starts_with}
+use Rattle.tcl_vars.specs.declared.content.Content.{Content}
+use Rattle.tcl_vars.specs.declared.content.Content.TheVariants.{Scalar, Array, Link}
+use Rattle.tcl_vars.specs.declared.fault.ReadFault.{ReadFault}
+use Rattle.tcl_vars.specs.declared.fault.ReadFault.TheVariants as reads
+use Rattle.tcl_vars.specs.declared.fault.SetFault.{SetFault}
+use Rattle.tcl_vars.specs.declared.fault.SetFault.TheVariants as sets
+use Rattle.tcl_vars.specs.declared.fault.LinkFault.{LinkFault}
+use Rattle.tcl_vars.specs.declared.fault.LinkFault.TheVariants as links
+use Rattle.tcl_vars.specs.declared.fault.UnsetFault.{UnsetFault}
+use Rattle.tcl_vars.specs.declared.fault.UnsetFault.TheVariants as unsets
+use Rattle.tcl_vars.specs.Name.{Place, element_of, place_of}
+use Rattle.tcl_vars.specs.Table.{Table, value_at, with_value, without}
+
+-- what the names of one procedure's call, or the global ones, stand for
+abbrev pub Frame : Type 0
+Frame = Table Content
+
+abbrev pub Store : Type 0
+Store = List Frame
+
+-- the frame at a level
+abbrev pub frame_at : Store → ℕ → Frame
+frame_at store level = slice_index_or store level []
+
+-- what the variable of a place stands for
+abbrev pub content_at : Store → Place → Option Content
+content_at store place = value_at (frame_at store place.level) place.variable
+
+-- the store in which the variable of a place stands for this content
+abbrev pub with_content : Store → Place → Content → Store
+with_content store place content = slice_set store place.level (with_value (frame_at store place.level) place.variable content)
+
+-- Links
+
+-- the level and the name that a link gives
+abbrev pub link_of : Option Content → Option (ℕ × List ℕ)
+link_of None = None
+link_of (Some (Scalar text)) = None
+link_of (Some (Array elements)) = None
+link_of (Some (Link level name)) = Some (level, name)
+
+-- an element of a place, or the place itself; an element has no elements
+abbrev pub indexed : Place → Option (List ℕ) → Option Place
+indexed place None = Some place
+indexed place (Some index) = if is_some place.element then None else Some (record { level = place.level; variable = place.variable; element = Some index })
+
+-- where a place leads whose variable is this link, if any, given where the place leads that the link names
+abbrev pub led_by : Place → Option (ℕ × List ℕ) → (Place → Option Place) → Option Place
+led_by place None lead = Some place
+led_by place (Some link) lead = option_and_then lead (indexed (place_of link.0 link.1) place.element)
+
+-- where a place leads through at most so many links; nowhere if an element is used as an array
+unfoldable pub led : Store → ℕ → Place → Option Place
+led store zero place = Some place
+led store (suc links) place = led_by place (link_of (content_at store place)) (λ next. led store links next)
+
+-- where a place leads. A link leads to an earlier frame, so there are at most as many in a row as there are frames before
+abbrev pub end_of : Store → Place → Option Place
+end_of store place = led store place.level place
+
+-- where a name leads that is used in the frame at a level
+abbrev pub place_in : Store → ℕ → List ℕ → Option Place
+place_in store level name = end_of store (place_of level name)
+
+-- where the element leads that an index gives of the array of a name
+abbrev pub element_place_in : Store → ℕ → List ℕ → List ℕ → Option Place
+element_place_in store level name index = option_and_then (end_of store) (indexed (place_of level name) (Some index))
+
+-- Reading
+
+-- the text of a content, or of its element
+abbrev pub text_of : Option Content → Option (List ℕ) → Result (List ℕ) ReadFault
+text_of None element = Err reads.NoVariable
+text_of (Some (Scalar text)) None = Ok text
+text_of (Some (Scalar text)) (Some index) = Err reads.NotArray
+text_of (Some (Array elements)) None = Err reads.IsArray
+text_of (Some (Array elements)) (Some index) = ok_or (value_at elements index) reads.NoElement
+text_of (Some (Link level name)) element = Err reads.NoVariable
+
+abbrev pub text_at : Store → Option Place → Result (List ℕ) ReadFault
+text_at store None = Err reads.NotArray
+text_at store (Some place) = text_of (content_at store place) place.element
+
+-- the value of the variable or element that a name means in the frame at a level
+unfoldable pub variable_in : Store → ℕ → List ℕ → Result (List ℕ) ReadFault
+variable_in store level name = text_at store (place_in store level name)
+
+-- the value of the element that an index gives of the array that a name means
+unfoldable pub element_in : Store → ℕ → List ℕ → List ℕ → Result (List ℕ) ReadFault
+element_in store level name index = text_at store (element_place_in store level name index)
+
+-- whether there is a content, or its element
+abbrev pub is_there : Option Content → Option (List ℕ) → Bool
+is_there None element = false
+is_there (Some (Scalar text)) None = true
+is_there (Some (Scalar text)) (Some index) = false
+is_there (Some (Array elements)) None = true
+is_there (Some (Array elements)) (Some index) = is_some (value_at elements index)
+is_there (Some (Link level name)) element = false
+
+abbrev pub is_there_at : Store → Option Place → Bool
+is_there_at store None = false
+is_there_at store (Some place) = is_there (content_at store place) place.element
+
+-- whether there is the variable or element that a name means in the frame at a level
+unfoldable pub has_variable : Store → ℕ → List ℕ → Bool
+has_variable store level name = is_there_at store (place_in store level name)
+
+-- the elements of a content that is an array
+abbrev pub elements_of : Option Content → Option (List ℕ) → Option (Table (List ℕ))
+elements_of None element = None
+elements_of (Some (Scalar text)) element = None
+elements_of (Some (Array elements)) None = Some elements
+elements_of (Some (Array elements)) (Some index) = None
+elements_of (Some (Link level name)) element = None
+
+abbrev pub elements_at : Store → Option Place → Option (Table (List ℕ))
+elements_at store None = None
+elements_at store (Some place) = elements_of (content_at store place) place.element
+
+-- the elements of the array that a name means in the frame at a level, in the order in which they were made; none if it means no array
+unfoldable pub elements_in : Store → ℕ → List ℕ → Option (Table (List ℕ))
+elements_in store level name = elements_at store (place_in store level name)
+
+-- indices and values in turn
+abbrev pub pairs_of : Table (List ℕ) → List (List ℕ)
+pairs_of [] = []
+pairs_of (e ∷ es) = e.0 ∷ e.1 ∷ pairs_of es
+
+-- How many there are
+
+-- a name counts one, and each element one more
+abbrev pub content_count : Content → ℕ
+content_count (Scalar text) = 1
+content_count (Array elements) = 1 + length elements
+content_count (Link level name) = 1
+
+abbrev pub frame_count : Frame → ℕ
+frame_count frame = sum_by (λ e. content_count e.1) frame
+
+abbrev pub variable_count : Store → ℕ
+variable_count store = sum_by frame_count store
+
+-- Replacing
+
+-- a content after its text, or that of its element, is set
+abbrev pub content_with : Option Content → Option (List ℕ) → List ℕ → Result Content SetFault
+content_with None None value = Ok (Scalar value)
+content_with None (Some index) value = Ok (Array ((index, value) ∷ []))
+content_with (Some (Scalar text)) None value = Ok (Scalar value)
+content_with (Some (Scalar text)) (Some index) value = Err sets.NotArray
+content_with (Some (Array elements)) None value = Err sets.IsArray
+content_with (Some (Array elements)) (Some index) value = Ok (Array (with_value elements index value))
+content_with (Some (Link level name)) element value = Err sets.NotArray
+
+-- a store of at most 4,096 variables
+abbrev pub within_limit : {F : Type 0} → F → Store → Result Store F
+within_limit full store = if nat_le (variable_count store) 4096 then Ok store else Err full
+
+abbrev pub with_new_content : Store → Place → Result Content SetFault → Result Store SetFault
+with_new_content store place (Ok content) = within_limit sets.Full (with_content store place content)
+with_new_content store place (Err fault) = Err fault
+
+abbrev pub with_text_at : Store → Option Place → List ℕ → Result Store SetFault
+with_text_at store None value = Err sets.NotArray
+with_text_at store (Some place) value = with_new_content store place (content_with (content_at store place) place.element value)
+
+-- the store after the variable or element that a name means in the frame at a level is set
+unfoldable pub with_variable : Store → ℕ → List ℕ → List ℕ → Result Store SetFault
+with_variable store level name value = with_text_at store (place_in store level name) value
+
+-- the store after the element that an index gives of the array that a name means is set
+unfoldable pub with_element : Store → ℕ → List ℕ → List ℕ → List ℕ → Result Store SetFault
+with_element store level name index value = with_text_at store (element_place_in store level name index) value
+
+-- whether a content is an array; nothing where it can't become one
+abbrev pub array_state : Option Content → Option (List ℕ) → Option Bool
+array_state None None = Some false
+array_state None (Some index) = None
+array_state (Some (Array elements)) None = Some true
+array_state (Some (Array elements)) (Some index) = None
+array_state (Some (Scalar text)) element = None
+array_state (Some (Link level name)) element = None
+
+-- an array without elements, where there is no variable; an array stays
+abbrev pub with_array_of : Store → Place → Option Bool → Result Store SetFault
+with_array_of store place None = Err sets.NotArray
+with_array_of store place (Some true) = Ok store
+with_array_of store place (Some false) = within_limit sets.Full (with_content store place (Array []))
+
+abbrev pub with_array_at : Store → Option Place → Result Store SetFault
+with_array_at store None = Err sets.NotArray
+with_array_at store (Some place) = with_array_of store place (array_state (content_at store place) place.element)
+
+-- the store in which a name means an array in the frame at a level
+unfoldable pub with_array : Store → ℕ → List ℕ → Result Store SetFault
+with_array store level name = with_array_at store (place_in store level name)
+
+-- Linking
+
+-- a name is plain where it means a variable of the frame that it is used in
+abbrev pub is_plain : List ℕ → Bool
+is_plain name = not (starts_with nat_eq name (codes "::")) && is_none (element_of name)
+
+-- a content that is no link
+abbrev pub holds_value : Option Content → Bool
+holds_value None = false
+holds_value (Some (Scalar text)) = true
+holds_value (Some (Array elements)) = true
+holds_value (Some (Link level name)) = false
+
+abbrev pub variable_place : ℕ → List ℕ → Place
+variable_place level variable = record { level = level; variable = variable; element = None }
+
+-- the store in which a name of the frame at a level is a link to a name in an earlier frame
+unfoldable pub with_link : Store → ℕ → List ℕ → ℕ → List ℕ → Result Store LinkFault
+with_link store level name to_level to_name =
+    if not (is_plain name) then Err links.BadName
+    else if holds_value (content_at store (variable_place level name)) then Err links.Exists
+    else within_limit links.Full (with_content store (variable_place level name) (Link to_level to_name))
+
+-- Removing
+
+-- what is left of a content after its text, or that of its element, is unset; nothing of a scalar or a whole array
+abbrev pub content_without : Option Content → Option (List ℕ) → Result (Option Content) UnsetFault
+content_without None element = Err unsets.NoVariable
+content_without (Some (Scalar text)) None = Ok None
+content_without (Some (Scalar text)) (Some index) = Err unsets.NotArray
+content_without (Some (Array elements)) None = Ok None
+content_without (Some (Array elements)) (Some index) = if is_some (value_at elements index) then Ok (Some (Array (without elements index))) else Err unsets.NoElement
+content_without (Some (Link level name)) element = Err unsets.NoVariable
+
+-- the frame in which this is left of the content of a variable
+abbrev pub frame_with_rest : Frame → List ℕ → Option Content → Frame
+frame_with_rest frame variable None = without frame variable
+frame_with_rest frame variable (Some content) = with_value frame variable content
+
+abbrev pub with_rest : Store → Place → Result (Option Content) UnsetFault → Result Store UnsetFault
+with_rest store place (Ok rest) = Ok (slice_set store place.level (frame_with_rest (frame_at store place.level) place.variable rest))
+with_rest store place (Err fault) = Err fault
+
+abbrev pub without_text_at : Store → Option Place → Result Store UnsetFault
+without_text_at store None = Err unsets.NotArray
+without_text_at store (Some place) = with_rest store place (content_without (content_at store place) place.element)
+
+-- the store after the variable or element that a name means in the frame at a level is unset
+unfoldable pub without_variable : Store → ℕ → List ℕ → Result Store UnsetFault
+without_variable store level name = without_text_at store (place_in store level name)
+
+-- the store after the element that an index gives of the array that a name means is unset
+unfoldable pub without_element : Store → ℕ → List ℕ → List ℕ → Result Store UnsetFault
+without_element store level name index = without_text_at store (element_place_in store level name index)

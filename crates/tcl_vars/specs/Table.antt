@@ -1,0 +1,27 @@
+-- Values by name, as a list of (name, value) in the order in which the names came.
+use Rattle.std.specs.Prelude.{ℕ, List, Option, None, Some}
+use Rattle.std.specs.Str.{bytes_eq}
+use Rattle.std.specs.Map.{lookup, remove_entry}
+use Rattle.indexmap.specs.IndexMap.{insert_entry}
+
+-- a name is the bytes of a text
+abbrev pub Table : Type 0 → Type 0
+Table V = List (List ℕ × V)
+
+module _ {V : Type 0} where
+  -- the value at a name
+  abbrev pub value_at : Table V → List ℕ → Option V
+  value_at table name = lookup (bytes_eq name) table
+
+  -- the table with a value at a name: a name that is there keeps its place, and a new one comes last
+  abbrev pub with_value : Table V → List ℕ → V → Table V
+  with_value table name value = insert_entry bytes_eq table name value
+
+  -- the table without a name
+  abbrev pub without : Table V → List ℕ → Table V
+  without table name = remove_entry (bytes_eq name) table
+
+-- what a value weighs, if there is one
+abbrev pub weight_of : {V : Type 0} → (V → ℕ) → Option V → ℕ
+weight_of weigh None = 0
+weight_of weigh (Some value) = weigh value

@@ -1,0 +1,45 @@
+-- What unsetting does in one content, in one frame and in the store.
+use Rattle.std.specs.Prelude.{◌≡◌, ◌≢◌, ℕ, ◌+◌, List, Option, None, Some, Result, Ok, Err}
+use Rattle.tcl_vars.specs.declared.content.Content.{Content}
+use Rattle.tcl_vars.specs.declared.content.Removal.{Removal}
+use Rattle.tcl_vars.specs.declared.content.Removal.TheVariants.{Whole, Element, Linked}
+use Rattle.tcl_vars.specs.declared.fault.UnsetFault.{UnsetFault}
+use Rattle.tcl_vars.specs.Name.{Place}
+use Rattle.tcl_vars.specs.Store.{Store, Frame, content_at, content_count, frame_count, content_without, frame_with_rest, without_text_at, link_of}
+use Rattle.tcl_vars.specs.Table.{value_at}
+
+-- the whole goes, which counts so many
+pub record UnsetsWhole (old : Content) (element : Option (List ℕ)) (count : ℕ) (new : Content) : Type 0 where
+  pub linkless : link_of (Some old) ≡ None
+  pub given : content_without (Some old) element ≡ Ok None
+  pub counted : count ≡ content_count old
+  pub kept : new ≡ old
+
+-- an element is gone
+pub record UnsetsElement (old : Content) (element : Option (List ℕ)) (new : Content) : Type 0 where
+  pub linkless : link_of (Some old) ≡ None
+  pub given : content_without (Some old) element ≡ Ok (Some new)
+  pub counted : content_count new + 1 ≡ content_count old
+
+abbrev pub AfterUnset : Content → Option (List ℕ) → Removal → Content → Type 0
+AfterUnset old element (Whole count) new = UnsetsWhole old element count new
+AfterUnset old element Element new = UnsetsElement old element new
+AfterUnset old element Linked new = (link_of (Some old) ≢ None) × (new ≡ old)
+
+-- the variable of the place is no link, and this is left of the frame, which has so many variables fewer
+pub record UnsetsText (old : Frame) (place : Place) (removed : ℕ) (new : Frame) : Type 0 where
+  pub linkless : link_of (value_at old place.variable) ≡ None
+  pub rest : Option Content
+  pub given : content_without (value_at old place.variable) place.element ≡ Ok rest
+  pub frame : new ≡ frame_with_rest old place.variable rest
+  pub counted : frame_count new + removed ≡ frame_count old
+
+-- why a frame doesn't unset a text
+pub record RefusesUnset (old : Frame) (place : Place) (fault : UnsetFault) : Type 0 where
+  pub linkless : link_of (value_at old place.variable) ≡ None
+  pub given : content_without (value_at old place.variable) place.element ≡ Err fault
+
+-- the variable of the place is no link, and unsetting its text, or that of its element, gives this store or this fault
+pub record Unsets (old : Store) (place : Place) (gives : Result Store UnsetFault) : Type 0 where
+  pub linkless : link_of (content_at old place) ≡ None
+  pub given : without_text_at old (Some place) ≡ gives

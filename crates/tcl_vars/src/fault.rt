@@ -1,0 +1,114 @@
+use std::alloc::{AllocError, AllocFailed};
+use thiserror::Error;
+
+/// Why a variable can't be read.
+#[derive(Clone, Copy, Debug, PartialEq, Eq, Drop, Error)]
+pub enum ReadFault {
+    /// There is no such variable (15).
+    #[error("no such variable")]
+    NoVariable,
+    /// The array has no such element (16).
+    #[error("no such element in array")]
+    NoElement,
+    /// An array is read without an index (17).
+    #[error("variable is array")]
+    IsArray,
+    /// An element is meant of what is no array (18).
+    #[error("variable isn't array")]
+    NotArray,
+}
+
+/// Why a variable can't be set.
+#[derive(Clone, Copy, Debug, PartialEq, Eq, Drop, Error)]
+pub enum SetFault {
+    /// An array is set without an index (17).
+    #[error("variable is array")]
+    IsArray,
+    /// An element is meant of what is no array (18).
+    #[error("variable isn't array")]
+    NotArray,
+    /// There would be more than 4,096 variables (19).
+    #[error("limit reached: variables")]
+    Full,
+    /// Memory was refused.
+    #[error("out of memory")]
+    NoMemory,
+}
+
+impl From<AllocError> for SetFault {
+    ghost use Rattle.std.specs.Prelude.{◌≡◌};
+    ghost use Rattle.tcl_vars.specs.declared.fault.SetFault.TheVariants.{NoMemory};
+
+    ghost from_gives = { λ _ e. e ≡ NoMemory };
+
+    fn from(_refused: AllocError) -> SetFault {
+        SetFault::NoMemory
+    }
+}
+
+impl<T: Drop> From<AllocFailed<T>> for SetFault {
+    ghost use Rattle.std.specs.Prelude.{◌≡◌};
+    ghost use Rattle.tcl_vars.specs.declared.fault.SetFault.TheVariants.{NoMemory};
+
+    ghost from_gives = { λ _ e. e ≡ NoMemory };
+
+    fn from(_refused: AllocFailed<T>) -> SetFault {
+        SetFault::NoMemory
+    }
+}
+
+/// Why a variable can't be unset.
+#[derive(Clone, Copy, Debug, PartialEq, Eq, Drop, Error)]
+pub enum UnsetFault {
+    /// There is no such variable (15).
+    #[error("no such variable")]
+    NoVariable,
+    /// The array has no such element (16).
+    #[error("no such element in array")]
+    NoElement,
+    /// An element is meant of what is no array (18).
+    #[error("variable isn't array")]
+    NotArray,
+    /// Memory was refused.
+    #[error("out of memory")]
+    NoMemory,
+}
+
+impl From<AllocError> for UnsetFault {
+    ghost use Rattle.std.specs.Prelude.{◌≡◌};
+    ghost use Rattle.tcl_vars.specs.declared.fault.UnsetFault.TheVariants.{NoMemory};
+
+    ghost from_gives = { λ _ e. e ≡ NoMemory };
+
+    fn from(_refused: AllocError) -> UnsetFault {
+        UnsetFault::NoMemory
+    }
+}
+
+/// Why a link can't be made.
+#[derive(Clone, Copy, Debug, PartialEq, Eq, Drop, Error)]
+pub enum LinkFault {
+    /// The name means an element, or a variable of the global frame by a leading `::`.
+    #[error("can't use name")]
+    BadName,
+    /// There is a variable of this name that is no link.
+    #[error("already exists")]
+    Exists,
+    /// There would be more than 4,096 variables (19).
+    #[error("limit reached: variables")]
+    Full,
+    /// Memory was refused.
+    #[error("out of memory")]
+    NoMemory,
+}
+
+impl From<AllocError> for LinkFault {
+    ghost use Rattle.std.specs.Prelude.{◌≡◌};
+    ghost use Rattle.tcl_vars.specs.declared.fault.LinkFault.TheVariants.{NoMemory};
+
+    ghost from_gives = { λ _ e. e ≡ NoMemory };
+
+    fn from(_refused: AllocError) -> LinkFault {
+        LinkFault::NoMemory
+    }
+}

@@ -1,0 +1,149 @@
+ghost use Rattle.std.specs.Prelude.{◌≡◌, ◌≢◌, ◌+◌, ◌<◌, ◌≤◌, None, Ok, IfOk, IfErr, IfSome, MatchOption, OnErr};
+ghost use Rattle.std.specs.Option.{option_copied};
+ghost use Rattle.tcl_vars.specs.Put.{RefusesText, AfterPut, new_count};
+ghost use Rattle.tcl_vars.specs.Short.{IsShort, IsShortPlace};
+ghost use Rattle.tcl_vars.specs.Shown.{shown};
+ghost use Rattle.tcl_vars.specs.Store.{content_count, content_with, frame_count, link_of};
+ghost use Rattle.tcl_vars.specs.Unset.{UnsetsText, RefusesUnset};
+ghost use Rattle.tcl_vars.specs.Table.{value_at, with_value, weight_of};
+
+use crate::content::{Content, Outcome, Removal};
+use crate::fault::{SetFault, UnsetFault};
+use crate::name::Place;
+use crate::table::Table;
+use std::alloc::{AllocError, Global};
+use tcl_text::Text;
+
+/// The names of one frame, in the order in which they came.
+pub(crate) type Frame = Table<Content>;
+
+/// How many variables a frame has.
+pub(crate) fn variable_count(frame: &Frame) -> usize
+    requires { frame_count frame.now ≤ 4096 }
+    ensures { result ≡ frame_count frame.now }
+{
+    let mut count = 0;
+    for index in 0..frame.len() {
+        let (_, content) = frame.at(index);
+        count += content.count();
+    }
+    count
+}
+
+/// Sets the text of a place of the frame, with room for so many more variables.
+pub(crate) fn put(
+    alloc: Global,
+    frame: &mut Frame,
+    place: Place<'_>,
+    value: Text,
+    room: usize,
+) -> Result<Outcome, SetFault>
+    requires { IsShortPlace (shown place) }
+    ensures ok { IfOk result (λ done. AfterPut frame.old (shown place.entry) value room done frame.new) }
+    ensures refused { IfErr result (λ fault. fault ≢ SetFault.NoMemory → RefusesText frame.old (shown place.entry) value room fault) }
+    ensures err { OnErr result (frame.new ≡ frame.old) }
+{
+    match frame.get_mut(place.variable) {
+        None => put_new(alloc, frame, place, value, room),
+        Some(content) => {
+            let outcome = content.put(place.element, value, room)?;
+            Ok(outcome)
+        }
+    }
+}
+
+/// Unsets the text of a place of the frame, and gives how many variables are gone; none where the variable is a link.
+pub(crate) fn unset(frame: &mut Frame, place: Place<'_>) -> Result<Option<usize>, UnsetFault>
+    ensures ok { IfOk result (λ removed. MatchOption removed
+        ((link_of (value_at frame.old place.entry.variable.now) ≢ None) × (frame.new ≡ frame.old))
+        (λ count. UnsetsText frame.old (shown place.entry) count frame.new)) }
+    ensures refused { IfErr result (RefusesUnset frame.old (shown place.entry)) }
+    ensures err { OnErr result (frame.new ≡ frame.old) }
+{
+    let Some(content) = frame.get_mut(place.variable) else {
+        return Err(UnsetFault::NoVariable);
+    };
+    match content.unset(place.element)? {
+        Removal::Whole(count) => {
+            frame.remove(place.variable);
+            Ok(Some(count))
+        }
+        Removal::Element => Ok(Some(1)),
+        Removal::Linked => Ok(None),
+    }
+}
+
+/// Gives a variable, which isn't there or counts one, a content that counts one. Gives how many variables came; none, and nothing is
+/// done, where there is no room for the one that would come.
+pub(crate) fn give(
+    frame: &mut Frame,
+    variable: &str,
+    content: Content,
+    room: usize,
+) -> Result<Option<usize>, AllocError>
+    requires short { IsShort variable.now }
+    requires light { content_count content ≡ 1 }
+    requires replaceable { weight_of content_count (value_at frame.old variable.now) ≤ 1 }
+    ensures ok { IfOk result (λ added. MatchOption added
+        ((frame.new ≡ frame.old) × (frame_count frame.old + room < frame_count (with_value frame.old variable.now content)))
+        (λ count. (frame.new ≡ with_value frame.old variable.now content) × (frame_count frame.new ≡ frame_count frame.old + count) × (count ≤ room))) }
+    ensures err { OnErr result (frame.new ≡ frame.old) }
+{
+    if let Some(held) = frame.get_mut(variable) {
+        *held = content;
+        return Ok(Some(0));
+    }
+    if room == 0 {
+        return Ok(None);
+    }
+    frame.insert(variable, content)?;
+    Ok(Some(1))
+}
+
+// Sets the text of a place of the frame whose variable isn't there.
+fn put_new(
+    alloc: Global,
+    frame: &mut Frame,
+    place: Place<'_>,
+    value: Text,
+    room: usize,
+) -> Result<Outcome, SetFault>
+    requires absent { value_at frame.old place.variable.now ≡ None }
+    requires short { IsShortPlace (shown place) }
+    ensures ok { IfOk result (λ done. AfterPut frame.old (shown place.entry) value room done frame.new) }
+    ensures refused { IfErr result (λ fault. fault ≢ SetFault.NoMemory → RefusesText frame.old (shown place.entry) value room fault) }
+    ensures err { OnErr result (frame.new ≡ frame.old) }
+{
+    let added = new_count(place.element);
+    if room < added {
+        return Err(SetFault::Full);
+    }
+    let content = new_content(alloc, place.element, value)?;
+    frame.insert(place.variable, content)?;
+    Ok(Outcome::Added(added))
+}
+
+// How many variables a new variable counts: an array comes with its first element.
+fn new_count(element: Option<&str>) -> usize
+    ensures { result ≡ new_count (option_copied element.entry) }
+{
+    match element {
+        None => 1,
+        Some(_) => 2,
+    }
+}
+
+// A new variable of this text, or of an element of it.
+fn new_content(alloc: Global, element: Option<&str>, value: Text) -> Result<Content, AllocError>
+    requires { IfSome (option_copied element) IsShort }
+    ensures { IfOk result (λ content. content_with None (option_copied element.entry) value ≡ Ok content) }
+{
+    match element {
+        None => Ok(Content::Scalar(value)),
+        Some(index) => {
+            let mut elements = Table::new(alloc);
+            elements.insert(index, value)?;
+            Ok(Content::Array(elements))
+        }
+    }
+}

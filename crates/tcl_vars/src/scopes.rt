@@ -1,0 +1,484 @@
+ghost use Rattle.std.specs.Prelude.{◌≡◌, ◌≢◌, ◌<◌, ◌≤◌, ◌-◌, [], ◌∷◌, ◌++◌, length, take, IfOk, IfErr, OnOk, OnErr, map, unwrap_or, is_some, MatchResult, MatchOption, MatchBool, Ok, Err, Some, None};
+ghost use Rattle.std.specs.Option.{option_copied};
+ghost use Rattle.tcl_vars.specs.Put.{Sets};
+ghost use Rattle.tcl_vars.specs.Short.{IsShortPlace};
+ghost use Rattle.tcl_vars.specs.Shown.{shown};
+ghost use Rattle.tcl_vars.specs.Sound.{IsBelow};
+ghost use Rattle.tcl_vars.specs.Table.{weight_of};
+ghost use Rattle.tcl_vars.specs.Unset.{Unsets};
+ghost use Rattle.tcl_vars.specs.Store.{content_at, link_of, end_of, text_at, variable_in, element_in, with_text_at, with_variable, with_element, without_text_at, without_variable, without_element, content_count, variable_count, with_content, with_link, with_array, has_variable, elements_in, pairs_of};
+
+use crate::arrays::{names_of, pairs_of};
+use crate::content::{
+    Content, Outcome, array_state, elements_of, holds_value, is_there, link_of, text_of,
+};
+use crate::fault::{LinkFault, ReadFault, SetFault, UnsetFault};
+use crate::frame::{Frame, give, put, unset, variable_count};
+use crate::name::{
+    OwnPlace, Place, element_place, is_plain, place_of, place_of_text, variable_place,
+};
+use crate::table::Table;
+use std::alloc::{AllocError, Global};
+use std::marker::Model;
+use tcl_text::{Text, TextList};
+
+/// How many variables there are at most: every name of every frame counts, and every element of an array.
+pub const MAX_VARIABLES: usize = 4096;
+
+/// The variables of one application: the global frame, and one for each procedure that runs.
+#[derive(Drop)]
+pub struct Scopes {
+    frames: Vec<Frame>,
+    count: usize,
+    alloc: Global,
+}
+
+impl Model for Scopes {
+    ghost use Rattle.std.specs.Prelude.{ℕ, List};
+    ghost use Rattle.tcl_vars.specs.declared.content.Content.{Content};
+
+    ghost Value = { List (List (List ℕ × Content)) };
+
+    ghost use Rattle.tcl_vars.specs.Sound.{IsSound};
+
+    ghost view = { λ s. s.frames.items };
+
+    ghost invariant = { λ s. IsSound s.frames.items s.count };
+}
+
+/// Where links end, with what the variable there stands for.
+#[derive(Clone, Copy)]
+struct Found<'s, 'n> {
+    place: Place<'n>,
+    content: Option<&'s Content>,
+}
+
+impl Scopes {
+    /// The global frame, without variables.
+    pub fn new(alloc: Global) -> Result<Scopes, AllocError>
+        ensures { IfOk result (λ scopes. scopes ≡ [] ∷ []) }
+    {
+        let mut frames = Vec::new(alloc);
+        frames.push(Table::new(alloc))?;
+        Ok(Scopes {
+            frames,
+            count: 0,
+            alloc,
+        })
+    }
+
+    /// How many frames there are: the global one at least.
+    pub fn levels(&self) -> usize
+        ensures value { result ≡ length self.now }
+        ensures rooted { 0 < length self.now }
+    {
+        self.frames.len()
+    }
+
+    /// Adds a frame without variables, for a procedure that begins.
+    pub fn push_frame(&mut self) -> Result<(), AllocError>
+        ensures ok { OnOk result (self.new ≡ self.old ++ [] ∷ []) }
+        ensures err { OnErr result (self.new ≡ self.old) }
+    {
+        self.frames.push(Table::new(self.alloc))?;
+        Ok(())
+    }
+
+    /// Drops the last frame with its variables, where a procedure ends. It takes no memory.
+    pub fn pop_frame(&mut self)
+        requires { 1 < length self.old }
+        ensures { self.new ≡ take (length self.old - 1) self.old }
+    {
+        let frame = self.frames.pop().unwrap();
+        self.count -= variable_count(&frame);
+    }
+
+    /// The text of the variable or element that a name means in the frame at a level (Tcl(n), set(n)). It takes no memory.
+    pub fn get(&self, level: usize, name: &Text) -> Result<&Text, ReadFault>
+        requires { level < length self.now }
+        ensures { MatchResult result
+            (λ text. variable_in self.now level name.now ≡ Ok text.now)
+            (λ fault. variable_in self.now level name.now ≡ Err fault) }
+    {
+        self.read(place_of_text(level, name))
+    }
+
+    /// The text of the element that an index gives of the array that a name means. It takes no memory.
+    pub fn get_element(&self, level: usize, name: &Text, index: &Text) -> Result<&Text, ReadFault>
+        requires { level < length self.now }
+        ensures { MatchResult result
+            (λ text. element_in self.now level name.now index.now ≡ Ok text.now)
+            (λ fault. element_in self.now level name.now index.now ≡ Err fault) }
+    {
+        match element_place(level, name, index) {
+            Some(place) => self.read(place),
+            None => Err(ReadFault::NotArray),
+        }
+    }
+
+    /// Sets the variable or element that a name means in the frame at a level (set(n)).
+    pub fn set(&mut self, level: usize, name: &Text, value: Text) -> Result<(), SetFault>
+        requires { level < length self.old }
+        ensures ok { OnOk result (with_variable self.old level name.now value ≡ Ok self.new) }
+        ensures refused { IfErr result (λ fault. fault ≢ SetFault.NoMemory → with_variable self.old level name.now value ≡ Err fault) }
+        ensures err { OnErr result (self.new ≡ self.old) }
+        ensures read { OnOk result (variable_in self.new level name.now ≡ Ok value) }
+        ensures levels { length self.new ≡ length self.old }
+    {
+        self.write(place_of_text(level, name), value)?;
+        Ok(())
+    }
+
+    /// Sets the element that an index gives of the array that a name means (array(n), `array set`).
+    pub fn set_element(
+        &mut self,
+        level: usize,
+        name: &Text,
+        index: &Text,
+        value: Text,
+    ) -> Result<(), SetFault>
+        requires { level < length self.old }
+        ensures ok { OnOk result (with_element self.old level name.now index.now value ≡ Ok self.new) }
+        ensures refused { IfErr result (λ fault. fault ≢ SetFault.NoMemory → with_element self.old level name.now index.now value ≡ Err fault) }
+        ensures err { OnErr result (self.new ≡ self.old) }
+        ensures read { OnOk result (element_in self.new level name.now index.now ≡ Ok value) }
+        ensures levels { length self.new ≡ length self.old }
+    {
+        match element_place(level, name, index) {
+            Some(place) => {
+                self.write(place, value)?;
+                Ok(())
+            }
+            None => Err(SetFault::NotArray),
+        }
+    }
+
+    /// Unsets the variable or element that a name means in the frame at a level; an array with its elements (unset(n)). A link stays.
+    pub fn unset(&mut self, level: usize, name: &Text) -> Result<(), UnsetFault>
+        requires { level < length self.old }
+        ensures ok { OnOk result (without_variable self.old level name.now ≡ Ok self.new) }
+        ensures refused { IfErr result (λ fault. fault ≢ UnsetFault.NoMemory → without_variable self.old level name.now ≡ Err fault) }
+        ensures err { OnErr result (self.new ≡ self.old) }
+        ensures levels { length self.new ≡ length self.old }
+    {
+        self.erase(place_of_text(level, name))?;
+        Ok(())
+    }
+
+    /// Unsets the element that an index gives of the array that a name means (array(n), `array unset`).
+    pub fn unset_element(
+        &mut self,
+        level: usize,
+        name: &Text,
+        index: &Text,
+    ) -> Result<(), UnsetFault>
+        requires { level < length self.old }
+        ensures ok { OnOk result (without_element self.old level name.now index.now ≡ Ok self.new) }
+        ensures refused { IfErr result (λ fault. fault ≢ UnsetFault.NoMemory → without_element self.old level name.now index.now ≡ Err fault) }
+        ensures err { OnErr result (self.new ≡ self.old) }
+        ensures levels { length self.new ≡ length self.old }
+    {
+        match element_place(level, name, index) {
+            Some(place) => {
+                self.erase(place)?;
+                Ok(())
+            }
+            None => Err(UnsetFault::NotArray),
+        }
+    }
+
+    /// Whether there is the variable or element that a name means in the frame at a level (info(n), `info exists`). It takes no memory.
+    pub fn exists(&self, level: usize, name: &Text) -> bool
+        requires { level < length self.now }
+        ensures { result ≡ has_variable self.now level name.now }
+    {
+        match self.lead(place_of_text(level, name)) {
+            Some(found) => is_there(found.content, found.place.element),
+            None => false,
+        }
+    }
+
+    /// Makes a name of the frame at a level a link to a name in an earlier frame (upvar(n), global(n)). A link is replaced.
+    pub fn link(
+        &mut self,
+        level: usize,
+        name: &Text,
+        to_level: usize,
+        to_name: &Text,
+    ) -> Result<(), LinkFault>
+        requires level { level < length self.old }
+        requires earlier { to_level < level }
+        ensures ok { OnOk result (with_link self.old level name.now to_level to_name.now ≡ Ok self.new) }
+        ensures refused { IfErr result (λ fault. fault ≢ LinkFault.NoMemory → with_link self.old level name.now to_level to_name.now ≡ Err fault) }
+        ensures err { OnErr result (self.new ≡ self.old) }
+        ensures levels { length self.new ≡ length self.old }
+    {
+        if !is_plain(name.as_str()) {
+            return Err(LinkFault::BadName);
+        }
+        let place = variable_place(level, name.as_str());
+        if holds_value(self.content(place)) {
+            return Err(LinkFault::Exists);
+        }
+        let link = Content::Link(to_level, to_name.copy()?);
+        if self.give(place, link)? {
+            Ok(())
+        } else {
+            Err(LinkFault::Full)
+        }
+    }
+
+    /// Makes the variable that a name means in the frame at a level an array without elements, if it isn't there; an array stays.
+    pub fn make_array(&mut self, level: usize, name: &Text) -> Result<(), SetFault>
+        requires { level < length self.old }
+        ensures ok { OnOk result (with_array self.old level name.now ≡ Ok self.new) }
+        ensures refused { IfErr result (λ fault. fault ≢ SetFault.NoMemory → with_array self.old level name.now ≡ Err fault) }
+        ensures err { OnErr result (self.new ≡ self.old) }
+        ensures levels { length self.new ≡ length self.old }
+    {
+        let Some(found) = self.lead(place_of_text(level, name)) else {
+            return Err(SetFault::NotArray);
+        };
+        match array_state(found.content, found.place.element) {
+            None => return Err(SetFault::NotArray),
+            Some(true) => return Ok(()),
+            Some(false) => {}
+        }
+        let end = OwnPlace::of(self.alloc, found.place)?;
+        if self.give(end.place(), Content::Array(Table::new(self.alloc)))? {
+            Ok(())
+        } else {
+            Err(SetFault::Full)
+        }
+    }
+
+    /// Whether a name means an array in the frame at a level (array(n), `array exists`). It takes no memory.
+    pub fn has_array(&self, level: usize, name: &Text) -> bool
+        requires { level < length self.now }
+        ensures { result ≡ is_some (elements_in self.now level name.now) }
+    {
+        self.elements(level, name).is_some()
+    }
+
+    /// How many elements the array has that a name means in the frame at a level; 0 if there is none (array(n), `array size`). It takes no
+    /// memory.
+    pub fn array_size(&self, level: usize, name: &Text) -> usize
+        requires { level < length self.now }
+        ensures { result ≡ length (unwrap_or (elements_in self.now level name.now) []) }
+    {
+        match self.elements(level, name) {
+            Some(elements) => elements.len(),
+            None => 0,
+        }
+    }
+
+    /// The indices of the array that a name means in the frame at a level, in the order in which the elements were made; none if there is no
+    /// array (array(n), `array names`).
+    pub fn array_names(&self, level: usize, name: &Text) -> Result<TextList, AllocError>
+        requires { level < length self.now }
+        ensures { IfOk result (λ names. names ≡ map (λ e. e.0) (unwrap_or (elements_in self.now level name.now) [])) }
+    {
+        match self.elements(level, name) {
+            Some(elements) => names_of(self.alloc, elements),
+            None => Ok(TextList::new(self.alloc)),
+        }
+    }
+
+    /// The indices and values of the array that a name means in the frame at a level, in turn, in the order in which the elements were made;
+    /// none if there is no array (array(n), `array get`).
+    pub fn array_pairs(&self, level: usize, name: &Text) -> Result<TextList, AllocError>
+        requires { level < length self.now }
+        ensures { IfOk result (λ pairs. pairs ≡ pairs_of (unwrap_or (elements_in self.now level name.now) [])) }
+    {
+        match self.elements(level, name) {
+            Some(elements) => pairs_of(self.alloc, elements),
+            None => Ok(TextList::new(self.alloc)),
+        }
+    }
+
+    // The elements of the array that a name means.
+    fn elements(&self, level: usize, name: &Text) -> Option<&Table<Text>>
+        requires { level < length self.now }
+        ensures { option_copied result ≡ elements_in self.now level name.now }
+    {
+        match self.lead(place_of_text(level, name)) {
+            Some(found) => elements_of(found.content, found.place.element),
+            None => None,
+        }
+    }
+
+    // Gives the variable of a place, which isn't there or counts one, a content that counts one; false, and nothing is done, where there
+    // is no room.
+    fn give(&mut self, place: Place<'_>, content: Content) -> Result<bool, AllocError>
+        requires level { place.level < length self.old }
+        requires short { IsShortPlace (shown place) }
+        requires light { content_count content ≡ 1 }
+        requires replaceable { weight_of content_count (content_at self.old (shown place)) ≤ 1 }
+        requires below { IsBelow place.level content }
+        ensures ok { IfOk result (λ given. MatchBool given
+            ((self.new ≡ with_content self.old (shown place.entry) content) × (variable_count self.new ≤ 4096))
+            ((self.new ≡ self.old) × (4096 < variable_count (with_content self.old (shown place.entry) content)))) }
+        ensures err { OnErr result (self.new ≡ self.old) }
+    {
+        let room = MAX_VARIABLES - self.count;
+        let frame = &mut self.frames[place.level];
+        match give(frame, place.variable, content, room)? {
+            Some(added) => {
+                self.count += added;
+                Ok(true)
+            }
+            None => Ok(false),
+        }
+    }
+
+    // What the variable of a place stands for.
+    fn content(&self, place: Place<'_>) -> Option<&Content>
+        requires { place.level < length self.now }
+        ensures { option_copied result ≡ content_at self.now (shown place.entry) }
+    {
+        self.frames[place.level].get(place.variable)
+    }
+
+    // Follows links, each to an earlier frame, and gives where they end; none where an element is used as an array.
+    fn lead<'s: 'n, 'n>(&'s self, mut place: Place<'n>) -> Option<Found<'s, 'n>>
+        requires level { place.level < length self.now }
+        requires short { IsShortPlace (shown place) }
+        ensures { MatchOption result
+            (end_of self.now (shown place.entry) ≡ None)
+            (λ found. (found.place.level < length self.now) × (end_of self.now (shown place.entry) ≡ Some (shown found.place))
+            × (option_copied found.content ≡ content_at self.now (shown found.place)) × IsShortPlace (shown found.place)) }
+    {
+        let _ = &self.frames;
+        loop {
+            let content = self.content(place);
+            let Some((level, name)) = link_of(content) else {
+                return Some(Found { place, content });
+            };
+            place = place_of(level, name).indexed(place.element)?;
+        }
+    }
+
+    // The text to which a place leads.
+    fn read(&self, place: Place<'_>) -> Result<&Text, ReadFault>
+        requires level { place.level < length self.now }
+        requires short { IsShortPlace (shown place) }
+        ensures { MatchResult result
+            (λ text. text_at self.now (end_of self.now (shown place.entry)) ≡ Ok text.now)
+            (λ fault. text_at self.now (end_of self.now (shown place.entry)) ≡ Err fault) }
+    {
+        let Some(found) = self.lead(place) else {
+            return Err(ReadFault::NotArray);
+        };
+        text_of(found.content, found.place.element)
+    }
+
+    // Sets the text to which a place leads.
+    fn write(&mut self, place: Place<'_>, value: Text) -> Result<(), SetFault>
+        requires level { place.level < length self.old }
+        requires short { IsShortPlace (shown place) }
+        ensures ok { OnOk result (with_text_at self.old (end_of self.old (shown place.entry)) value ≡ Ok self.new) }
+        ensures refused { IfErr result (λ fault. fault ≢ SetFault.NoMemory → with_text_at self.old (end_of self.old (shown place.entry)) value ≡ Err fault) }
+        ensures err { OnErr result (self.new ≡ self.old) }
+        ensures read { OnOk result (text_at self.new (end_of self.new (shown place.entry)) ≡ Ok value) }
+    {
+        let _ = &self.frames;
+        match self.put(place, value)? {
+            None => Ok(()),
+            Some(value) => {
+                self.write_linked(place, value)?;
+                Ok(())
+            }
+        }
+    }
+
+    // Sets the text to which the link of a place leads.
+    fn write_linked(&mut self, place: Place<'_>, value: Text) -> Result<(), SetFault>
+        requires level { place.level < length self.old }
+        requires short { IsShortPlace (shown place) }
+        ensures ok { OnOk result (with_text_at self.old (end_of self.old (shown place.entry)) value ≡ Ok self.new) }
+        ensures refused { IfErr result (λ fault. fault ≢ SetFault.NoMemory → with_text_at self.old (end_of self.old (shown place.entry)) value ≡ Err fault) }
+        ensures err { OnErr result (self.new ≡ self.old) }
+        ensures read { OnOk result (text_at self.new (end_of self.new (shown place.entry)) ≡ Ok value) }
+    {
+        let _ = &self.frames;
+        let end = match self.lead(place) {
+            Some(found) => OwnPlace::of(self.alloc, found.place)?,
+            None => return Err(SetFault::NotArray),
+        };
+        self.put(end.place(), value)?;
+        Ok(())
+    }
+
+    // Sets the text of a place, or gives it back where the variable is a link.
+    fn put(&mut self, place: Place<'_>, value: Text) -> Result<Option<Text>, SetFault>
+        requires level { place.level < length self.old }
+        requires short { IsShortPlace (shown place) }
+        ensures ok { IfOk result (λ back. MatchOption back
+            (Sets self.old (shown place.entry) value (Ok self.new))
+            (λ text. (link_of (content_at self.old (shown place.entry)) ≢ None) × (text ≡ value) × (self.new ≡ self.old))) }
+        ensures refused { IfErr result (λ fault. fault ≢ SetFault.NoMemory → Sets self.old (shown place.entry) value (Err fault)) }
+        ensures err { OnErr result (self.new ≡ self.old) }
+    {
+        let alloc = self.alloc;
+        let room = MAX_VARIABLES - self.count;
+        let frame = &mut self.frames[place.level];
+        match put(alloc, frame, place, value, room)? {
+            Outcome::Added(added) => {
+                self.count += added;
+                Ok(None)
+            }
+            Outcome::Linked(value) => Ok(Some(value)),
+        }
+    }
+
+    // Unsets the text to which a place leads.
+    fn erase(&mut self, place: Place<'_>) -> Result<(), UnsetFault>
+        requires level { place.level < length self.old }
+        requires short { IsShortPlace (shown place) }
+        ensures ok { OnOk result (without_text_at self.old (end_of self.old (shown place.entry)) ≡ Ok self.new) }
+        ensures refused { IfErr result (λ fault. fault ≢ UnsetFault.NoMemory → without_text_at self.old (end_of self.old (shown place.entry)) ≡ Err fault) }
+        ensures err { OnErr result (self.new ≡ self.old) }
+    {
+        if self.take(place)? {
+            return Ok(());
+        }
+        self.erase_linked(place)?;
+        Ok(())
+    }
+
+    // Unsets the text to which the link of a place leads.
+    fn erase_linked(&mut self, place: Place<'_>) -> Result<(), UnsetFault>
+        requires level { place.level < length self.old }
+        requires short { IsShortPlace (shown place) }
+        ensures ok { OnOk result (without_text_at self.old (end_of self.old (shown place.entry)) ≡ Ok self.new) }
+        ensures refused { IfErr result (λ fault. fault ≢ UnsetFault.NoMemory → without_text_at self.old (end_of self.old (shown place.entry)) ≡ Err fault) }
+        ensures err { OnErr result (self.new ≡ self.old) }
+    {
+        let _ = &self.frames;
+        let end = match self.lead(place) {
+            Some(found) => OwnPlace::of(self.alloc, found.place)?,
+            None => return Err(UnsetFault::NotArray),
+        };
+        self.take(end.place())?;
+        Ok(())
+    }
+
+    // Unsets the text of a place; false, and nothing is done, where the variable is a link.
+    fn take(&mut self, place: Place<'_>) -> Result<bool, UnsetFault>
+        requires { place.level < length self.old }
+        ensures ok { IfOk result (λ done. MatchBool done
+            (Unsets self.old (shown place.entry) (Ok self.new))
+            ((link_of (content_at self.old (shown place.entry)) ≢ None) × (self.new ≡ self.old))) }
+        ensures refused { IfErr result (λ fault. Unsets self.old (shown place.entry) (Err fault)) }
+        ensures err { OnErr result (self.new ≡ self.old) }
+    {
+        let frame = &mut self.frames[place.level];
+        match unset(frame, place)? {
+            Some(removed) => {
+                self.count -= removed;
+                Ok(true)
+            }
+            None => Ok(false),
+        }
+    }
+}

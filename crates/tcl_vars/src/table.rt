@@ -1,0 +1,100 @@
+ghost use Rattle.std.specs.Prelude.{◌≡◌, ◌<◌, ◌^◌, [], length, slice_get, Some, OnOk, OnErr};
+ghost use Rattle.std.specs.Option.{option_copied};
+ghost use Rattle.std.specs.Borrow.{LendsIf, sem};
+ghost use Rattle.std.specs.Option.{option_copied_mut};
+ghost use Rattle.tcl_vars.specs.contracts.table.Table.{the_row};
+ghost use Rattle.tcl_vars.specs.Short.{IsShort};
+ghost use Rattle.tcl_vars.specs.Table.{value_at, with_value, without};
+
+use indexmap::IndexMap;
+use std::alloc::{AllocError, Global};
+use std::marker::Model;
+
+/// Values by name, in the order in which the names came.
+#[derive(Drop)]
+pub struct Table<V> {
+    entries: IndexMap<String, V>,
+    alloc: Global,
+}
+
+impl<V> Model for Table<V> {
+    ghost use Rattle.std.specs.Prelude.{ℕ, List};
+    ghost use Rattle.tcl_vars.specs.Named.{named};
+
+    ghost Value = { List (List ℕ × V) };
+
+    ghost view = { λ t. named t.entries.entries };
+
+    ghost use Rattle.tcl_vars.specs.Short.{ShortNames};
+
+    ghost invariant = { λ t. ShortNames (named t.entries.entries) };
+}
+
+impl<V> Table<V> {
+    /// No names. It takes no memory.
+    pub(crate) fn new(alloc: Global) -> Table<V>
+        ensures { result ≡ [] }
+    {
+        Table {
+            entries: IndexMap::new(alloc),
+            alloc,
+        }
+    }
+
+    /// How many names there are.
+    pub(crate) fn len(&self) -> usize
+        ensures len { result ≡ length self.now }
+        ensures small { result < 2 ^ 63 }
+    {
+        self.entries.len()
+    }
+
+    /// The name and the value at a place of the order.
+    pub(crate) fn at(&self, index: usize) -> (&str, &V)
+        requires { index < length self.now }
+        ensures entry { slice_get self.now index ≡ Some (result.0.now, result.1.now) }
+        ensures short { IsShort result.0.now }
+    {
+        let (name, value) = self.entries.get_index(index).unwrap();
+        (name.as_str(), value)
+    }
+
+    /// The value at a name.
+    pub(crate) fn get(&self, name: &str) -> Option<&V>
+        ensures { option_copied result ≡ value_at self.now name.now }
+    {
+        self.entries.get(name)
+    }
+}
+
+impl<V: Drop> Table<V> {
+    /// Gives a name a value. A new name comes last; the other names keep their places and values.
+    pub(crate) fn insert(&mut self, name: &str, value: V) -> Result<(), AllocError>
+        requires { IsShort name.now }
+        ensures ok { OnOk result (self.new ≡ with_value self.old name.now value) }
+        ensures err { OnErr result (self.new ≡ self.old) }
+    {
+        let name = String::from_str(self.alloc, name)?;
+        self.entries.insert(name, value)?;
+        Ok(())
+    }
+
+    /// The value at a name, to write.
+    pub(crate) fn get_mut(&mut self, name: &str) -> Option<&mut V>
+        ensures* writes_back { sem 𝓛 (LendsIf (the_row V.row) V.row self.entry result (with_value self.old name.now) self.old) }
+        ensures value { option_copied_mut result ≡ value_at self.old name.now }
+    {
+        match self.entries.get_index_of(name) {
+            Some(index) => self.entries.get_index_mut(index),
+            None => None,
+        }
+    }
+
+    /// Takes a name out, with its value. Those behind it move up.
+    pub(crate) fn remove(&mut self, name: &str) -> Option<V>
+        ensures value { result ≡ value_at self.old name.now }
+        ensures rest { self.new ≡ without self.old name.now }
+    {
+        self.entries.shift_remove(name)
+    }
+}

@@ -1,0 +1,93 @@
+use std::alloc::{AllocError, AllocFailed};
+use tcl_text::TextFault;
+use thiserror::Error;
+
+/// Why a text is no script.
+#[derive(Clone, Copy, Debug, PartialEq, Eq, Drop, Error)]
+pub enum ParseFault {
+    /// More than 65,536 bytes, or bytes that are not UTF-8 (4).
+    #[error("limit reached: value")]
+    TooLong,
+    /// A word in braces never ends (5).
+    #[error("missing close-brace")]
+    MissingBrace,
+    /// A bracketed script never ends (6).
+    #[error("missing close-bracket")]
+    MissingBracket,
+    /// A word in quotes never ends (7).
+    #[error("missing quote")]
+    MissingQuote,
+    /// Something follows the brace that ends a word (8).
+    #[error("extra characters after close-brace")]
+    ExtraAfterBrace,
+    /// Something follows the quote that ends a word (9).
+    #[error("extra characters after close-quote")]
+    ExtraAfterQuote,
+    /// The index of an element never ends (10).
+    #[error("missing parenthesis")]
+    MissingParen,
+    /// The script has a form of the language that is not read yet.
+    #[error("not yet")]
+    NotYet,
+    /// Memory was refused.
+    #[error("out of memory")]
+    NoMemory,
+}
+
+impl ParseFault {
+    ghost use Rattle.std.specs.Prelude.{◌≡◌};
+    ghost use Rattle.tcl_words.specs.Faults.{text_of};
+
+    /// The fault as an application is told of it. Refused memory has no such text: it is empty.
+    pub fn text(&self) -> &'static str
+        ensures { result.now ≡ text_of self.now }
+    {
+        match self {
+            ParseFault::TooLong => "limit reached: value",
+            ParseFault::MissingBrace => "missing close-brace",
+            ParseFault::MissingBracket => "missing close-bracket",
+            ParseFault::MissingQuote => "missing \"",
+            ParseFault::ExtraAfterBrace => "extra characters after close-brace",
+            ParseFault::ExtraAfterQuote => "extra characters after close-quote",
+            ParseFault::MissingParen => "missing )",
+            ParseFault::NotYet => "not yet",
+            ParseFault::NoMemory => "",
+        }
+    }
+}
+
+impl From<AllocError> for ParseFault {
+    ghost use Rattle.std.specs.Prelude.{◌≡◌};
+    ghost use Rattle.tcl_words.specs.declared.fault.ParseFault.TheVariants.{NoMemory};
+
+    ghost from_gives = { λ _ e. e ≡ NoMemory };
+
+    fn from(_refused: AllocError) -> ParseFault {
+        ParseFault::NoMemory
+    }
+}
+
+impl<T: Drop> From<AllocFailed<T>> for ParseFault {
+    ghost use Rattle.std.specs.Prelude.{◌≡◌};
+    ghost use Rattle.tcl_words.specs.declared.fault.ParseFault.TheVariants.{NoMemory};
+
+    ghost from_gives = { λ _ e. e ≡ NoMemory };
+
+    fn from(_refused: AllocFailed<T>) -> ParseFault {
+        ParseFault::NoMemory
+    }
+}
+
+impl From<TextFault> for ParseFault {
+    ghost use Rattle.std.specs.Prelude.{◌≡◌};
+    ghost use Rattle.tcl_words.specs.Faults.{fault_of};
+
+    ghost from_gives = { λ fault e. e ≡ fault_of fault };
+
+    fn from(fault: TextFault) -> ParseFault {
+        match fault {
+            TextFault::TooLong => ParseFault::TooLong,
+            TextFault::NoMemory => ParseFault::NoMemory,
+        }
+    }
+}

@@ -1,0 +1,261 @@
+ghost use Rattle.std.specs.Prelude.{◌≡◌, ◌⊎◌, length, IfOk, IfErr, IsOk};
+
+use crate::fault::ParseFault;
+use std::alloc::{AllocError, Global};
+use std::marker::Model;
+use std::rc::Rc;
+use tcl_text::Text;
+
+/// A stretch of the source, from its first byte up to the byte after its last.
+#[derive(Clone, Copy, Debug, PartialEq, Eq, Drop)]
+pub struct Span {
+    /// The place of the first byte.
+    pub start: usize,
+    /// The place past the last byte.
+    pub end: usize,
+}
+
+/// How a word is written.
+#[derive(Clone, Copy, Debug, PartialEq, Eq, Drop)]
+pub enum WordForm {
+    /// In braces: its text is one literal, also where it is empty.
+    Braced,
+    /// In quotes.
+    Quoted,
+    /// Without either.
+    Bare,
+}
+
+/// A command. Its span goes from its first word's first byte up to its last word's end.
+#[derive(Drop)]
+#[cycle(script)]
+pub struct Command {
+    pub words: Words,
+    pub span: Span,
+}
+
+/// A word. Its value is its pieces' values, one after another; `expand` says that the value is a list whose
+/// elements are words, as `{*}` asks for. The span has the braces, the quotes and the `{*}` too.
+#[derive(Drop)]
+#[cycle(script)]
+pub struct Word {
+    pub form: WordForm,
+    pub expand: bool,
+    pub pieces: Pieces,
+    pub span: Span,
+}
+
+/// A part of a word.
+#[derive(Drop)]
+#[cycle(script)]
+pub enum Piece {
+    /// The text itself. No two stand side by side.
+    Literal(Text),
+    /// The value of the variable of this name.
+    Variable(Text),
+    /// The value of an element: the array's name, and the index that gives the key.
+    Element(Text, Index),
+    /// The result of a script in brackets.
+    Bracket(Script),
+}
+
+/// Words in order.
+#[derive(Drop)]
+#[cycle(script)]
+pub struct Words {
+    words: Vec<Word>,
+}
+
+impl Model for Words {
+    ghost use Rattle.std.specs.Prelude.{ℕ, List};
+    ghost use Rattle.tcl_words.specs.declared.script.Word.{Word};
+
+    ghost Value = { List Word };
+
+    ghost view = { λ w. w.words.items };
+
+    ghost use Rattle.tcl_words.specs.Room.{words_room};
+
+    ghost size = { words_room };
+
+    ghost use Rattle.tcl_words.specs.Falls.{words_fall};
+
+    ghost size_decreases = { λ a h. words_fall a };
+}
+
+/// Pieces in order.
+#[derive(Drop)]
+#[cycle(script)]
+pub struct Pieces {
+    pieces: Vec<Piece>,
+}
+
+impl Model for Pieces {
+    ghost use Rattle.std.specs.Prelude.{ℕ, List};
+    ghost use Rattle.tcl_words.specs.declared.script.Piece.{Piece};
+
+    ghost Value = { List Piece };
+
+    ghost view = { λ w. w.pieces.items };
+
+    ghost use Rattle.tcl_words.specs.Room.{pieces_room};
+
+    ghost size = { pieces_room };
+
+    ghost use Rattle.tcl_words.specs.Falls.{pieces_fall};
+
+    ghost size_decreases = { λ a h. pieces_fall a };
+}
+
+/// What stands between the parentheses of `$name(index)`. Contracts see its source.
+#[derive(Drop)]
+#[cycle(script)]
+pub struct Index {
+    text: Text,
+    pieces: Pieces,
+}
+
+impl Model for Index {
+    ghost use Rattle.std.specs.Prelude.{ℕ, List, length};
+
+    ghost Value = { List ℕ };
+
+    ghost view = { λ i. i.text };
+
+    ghost use Rattle.std.specs.Prelude.{◌<◌};
+    ghost use Rattle.tcl_words.specs.Room.{text_room, pieces_room};
+
+    ghost invariant = { λ i. pieces_room i.pieces < text_room i.text };
+
+    ghost size = { text_room };
+
+    ghost use Rattle.tcl_words.specs.Falls.{index_falls};
+
+    ghost size_decreases = { λ a h. index_falls a h };
+}
+
+/// A script, read and shared by its copies. Contracts see its source alone, of which the commands are the parse:
+/// the script in a bracket is as its text, also where that text is read by itself.
+#[derive(Drop)]
+#[cycle(script)]
+pub struct Script {
+    parsed: Rc<Parsed>,
+}
+
+#[derive(Drop)]
+#[cycle(script)]
+struct Parsed {
+    text: Text,
+    commands: Vec<Command>,
+}
+
+impl Model for Script {
+    ghost use Rattle.std.specs.Prelude.{ℕ, List, length};
+
+    ghost Value = { List ℕ };
+
+    ghost view = { λ s. s.parsed.value.text };
+
+    ghost use Rattle.std.specs.Prelude.{◌≡◌, ◌≤◌, Ok};
+    ghost use Rattle.tcl_words.specs.Reading.{commands_of};
+    ghost use Rattle.tcl_words.specs.Room.{text_room, commands_room};
+
+    ghost invariant = { λ s.
+        (commands_of s.parsed.value.text ≡ Ok s.parsed.value.commands.items) × (commands_room s.parsed.value.commands.items ≤ text_room s.parsed.value.text) };
+
+    ghost size = { text_room };
+
+    ghost use Rattle.tcl_words.specs.Falls.{script_falls};
+
+    ghost size_decreases = { λ a h. script_falls a h.1 };
+}
+
+impl Words {
+    /// These words. It takes no memory.
+    pub(crate) fn from_vec(words: Vec<Word>) -> Words
+        ensures { result ≡ words.items }
+    {
+        Words { words }
+    }
+
+    /// The words, in order.
+    pub fn as_slice(&self) -> &[Word]
+        ensures { result.now ≡ self.now }
+    {
+        self.words.as_slice()
+    }
+}
+
+impl Pieces {
+    /// These pieces. It takes no memory.
+    pub(crate) fn from_vec(pieces: Vec<Piece>) -> Pieces
+        ensures { result ≡ pieces.items }
+    {
+        Pieces { pieces }
+    }
+
+    /// The pieces, in order.
+    pub fn as_slice(&self) -> &[Piece]
+        ensures { result.now ≡ self.now }
+    {
+        self.pieces.as_slice()
+    }
+}
+
+impl Script {
+    ghost use Rattle.std.specs.Prelude.{◌≡◌, ◌≤◌, Ok, IfOk};
+    ghost use Rattle.tcl_words.specs.Room.{text_room, commands_room};
+    ghost use Rattle.tcl_words.specs.Reading.{commands_of};
+
+    /// The commands, in order.
+    pub fn commands(&self) -> &[Command]
+        ensures { commands_of self.now ≡ Ok result.now }
+    {
+        self.parsed.commands.as_slice()
+    }
+
+    /// The source.
+    pub fn text(&self) -> &Text
+        ensures { result.now ≡ self.now }
+    {
+        &self.parsed.text
+    }
+
+    /// A script of this text, of which these are the commands.
+    pub(crate) fn new(
+        alloc: Global,
+        text: Text,
+        commands: Vec<Command>,
+    ) -> Result<Script, AllocError>
+        requires parsed { commands_of text ≡ Ok commands.items }
+        requires room { commands_room commands.items ≤ text_room text }
+        ensures { IfOk result (λ script. script ≡ text) }
+    {
+        Ok(Script {
+            parsed: Rc::new(alloc, Parsed { text, commands })?,
+        })
+    }
+
+    /// The same script, shared.
+    pub fn copy(&self) -> Result<Script, AllocError>
+        ensures ok { IfOk result (λ script. script ≡ self.now) }
+    {
+        Ok(Script {
+            parsed: self.parsed.clone()?,
+        })
+    }
+}
+
+impl Index {
+    /// The source, that is what stands between the parentheses.
+    pub fn text(&self) -> &Text
+        ensures { result.now ≡ self.now }
+    {
+        &self.text
+    }
+
+    /// The pieces that give the element's key, in order.
+    pub fn pieces(&self) -> &Pieces {
+        &self.pieces
+    }
+}

@@ -1,0 +1,5 @@
+pub mod Dues
+pub mod Earliest
+pub mod Names
+pub mod Numbers
+pub mod Owners

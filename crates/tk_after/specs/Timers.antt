@@ -1,0 +1,130 @@
+-- Timers and idle scripts: what one application has waiting, and where it stands among those of all applications.
+use Rattle.std.specs.Prelude.{◌≡◌, ◌≢◌, ℕ, ◌+◌, ◌-◌, ◌^◌, ◌<◌, ◌≤◌, Bool, false, ◌||◌, ◌==◌, not, nat_le, if◌then◌else◌, List, [], ◌∷◌, ◌++◌, length, map, filter, find, min, All, AllPairs, Contains, Option, Some, None, is_none, option_and_then, IfSome, slice_get}
+use Rattle.std.specs.List.{filter_map}
+use Rattle.std.specs.Option.{option_map_or}
+use Rattle.tk_after.specs.declared.entry.Entry.{Entry}
+
+-- what one application has waiting, in the order of its numbers, and the number that comes next
+pub record Own : Type 0 where
+  pub next_number : ℕ
+  pub entries : List Entry
+
+-- the same beside the application's number
+pub record Row : Type 0 where
+  pub owner : ℕ
+  pub own : Own
+
+-- nothing was ever waiting
+abbrev pub fresh : Own
+fresh = record { next_number = 0; entries = [] }
+
+-- what one application has in a table
+abbrev pub own_of : ℕ → List Row → Own
+own_of owner [] = fresh
+own_of owner (row ∷ rows) = if row.owner == owner then row.own else own_of owner rows
+
+abbrev pub entries_of : ℕ → List Row → List Entry
+entries_of owner rows = (own_of owner rows).entries
+
+-- ---- one application
+
+-- 256 are listed, or the last number, 2^64 - 2, was given
+abbrev pub is_full : Own → Bool
+is_full own = nat_le 256 (length own.entries) || nat_le (2 ^ 64 - 1) own.next_number
+
+-- one more at the end, with the next number; an idle script has no due moment
+abbrev pub with_entry : Option ℕ → List ℕ → Own → Own
+with_entry due script own = record own { next_number = own.next_number + 1; entries = own.entries ++ record { id = own.next_number; due = due; script = script } ∷ [] }
+
+-- the one with this number, if it is listed
+abbrev pub entry_with : ℕ → List Entry → Option Entry
+entry_with id entries = find (λ entry. entry.id == id) entries
+
+-- all but the one with this number
+abbrev pub without : ℕ → Own → Own
+without id own = record own { entries = filter (λ entry. not (entry.id == id)) own.entries }
+
+-- the numbers that are listed, and those of them that are idle scripts
+abbrev pub ids : List Entry → List ℕ
+ids entries = map (λ entry. entry.id) entries
+
+abbrev pub idle_ids : List Entry → List ℕ
+idle_ids entries = ids (filter (λ entry. is_none entry.due) entries)
+
+-- when the timers are due
+abbrev pub due_moments : List Entry → List ℕ
+due_moments entries = filter_map (λ entry. entry.due) entries
+
+-- the lesser of two numbers, of which there may be none
+abbrev pub lesser : Option ℕ → Option ℕ → Option ℕ
+lesser None other = other
+lesser (Some x) other = Some (option_map_or (min x) other x)
+
+-- the least of some numbers
+abbrev pub least : List ℕ → Option ℕ
+least [] = None
+least (x ∷ xs) = lesser (Some x) (least xs)
+
+-- a number that is among them, and that none is below
+pub record IsLeastOf (xs : List ℕ) (m : ℕ) : Type 0 where
+  pub among : Contains xs m
+  pub least : All (λ x. m ≤ x) xs
+
+-- the place at which something stands
+abbrev pub IsPlaceOf : Option Entry → List Entry → ℕ → Type 0
+IsPlaceOf wanted entries place = (place < length entries) × (slice_get entries place ≡ wanted)
+
+-- whether it is a timer that is due at this very moment
+abbrev pub is_due_at : ℕ → Entry → Bool
+is_due_at moment entry = option_map_or (λ due. due == moment) entry.due false
+
+-- what runs first of what is due by a moment: of the timers with the earliest due moment the first made
+abbrev pub first_due : ℕ → List Entry → Option Entry
+first_due moment entries = option_and_then (λ due. if nat_le due moment then find (is_due_at due) entries else None) (least (due_moments entries))
+
+-- a timer goes no later than another: it is due earlier, or at the same moment with a number that is no higher; idle scripts don't count
+abbrev pub GoesBy : ℕ → ℕ → Entry → Type 0
+GoesBy due id other = IfSome other.due (λ its_due. (due ≤ its_due) × (due ≡ its_due → id ≤ other.id))
+
+-- a timer with this number and script is listed and due by the moment, and goes no later than any that is listed
+pub record IsFirstDue (moment : ℕ) (entries : List Entry) (id : ℕ) (script : List ℕ) : Type 0 where
+  pub due : ℕ
+  pub in_time : due ≤ moment
+  pub listed : Contains entries (record { id = id; due = Some due; script = script })
+  pub least : All (GoesBy due id) entries
+
+-- no timer is due by the moment
+abbrev pub NothingDue : ℕ → List Entry → Type 0
+NothingDue moment entries = All (λ entry. IfSome entry.due (λ due. moment < due)) entries
+
+-- ---- all applications
+
+-- the earliest due moment of them all
+abbrev pub earliest_of : List Row → Option ℕ
+earliest_of [] = None
+earliest_of (row ∷ rows) = lesser (least (due_moments row.own.entries)) (earliest_of rows)
+
+-- some application has a timer due at this moment, and none has one due before it
+pub record IsNextDue (rows : List Row) (moment : ℕ) : Type 0 where
+  pub owner : ℕ
+  pub among : Contains (due_moments (entries_of owner rows)) moment
+  pub least : (other : ℕ) → All (λ its_due. moment ≤ its_due) (due_moments (entries_of other rows))
+
+-- every application but one has what it had
+abbrev pub LeavesOthers : ℕ → List Row → List Row → Type 0
+LeavesOthers owner old new = (other : ℕ) → other ≢ owner → own_of other new ≡ own_of other old
+
+-- ---- what is kept
+
+-- each application stands once
+abbrev pub IsOncePerOwner : List Row → Type 0
+IsOncePerOwner rows = AllPairs (λ one other. one.owner ≢ other.owner) rows
+
+-- numbers rise along the list, from low on, and all have been given
+abbrev pub IsNumbered : ℕ → List Entry → ℕ → Type 0
+IsNumbered low [] next_number = low ≤ next_number
+IsNumbered low (entry ∷ entries) next_number = (low ≤ entry.id) × IsNumbered (entry.id + 1) entries next_number
+
+pub record IsKept (own : Own) : Type 0 where
+  pub numbered : IsNumbered 0 own.entries own.next_number
+  pub few : length own.entries ≤ 256

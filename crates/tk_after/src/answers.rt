@@ -1,0 +1,95 @@
+//! The texts of names, answers and errors.
+ghost use Rattle.std.specs.Prelude.{◌≡◌, [], ◌++◌, IfOk, Ok, Err, codes, string_bytes};
+ghost use Rattle.std.specs.Str.{bytes_eq};
+ghost use Rattle.tcl_text.specs.Answers.{bounded, limit_text, quoted, fails, wrong_args as wrong_args_of, bad_option as bad_option_of};
+ghost use Rattle.tk_after.specs.After.{name_of};
+
+use itoa::Buffer;
+use std::alloc::{AllocError, Global};
+use tcl_text::{Text, TextFault};
+
+/// A command's result, or the text of its error.
+pub type Answer = Result<Text, Text>;
+
+/// The name that scripts have for a number.
+#[tactic(auto, unfolding(crate::specs::After::name_of))]
+pub fn name_of(alloc: Global, id: u64) -> Result<Text, AllocError>
+    ensures { IfOk result (λ text. text ≡ name_of id) }
+{
+    let mut name = String::from_str(alloc, "after#")?;
+    let mut buffer = Buffer::new();
+    name.push_str(buffer.format(id))?;
+    short_text(alloc, name.as_str())
+}
+
+/// Whether the characters are the name of a number.
+pub fn is_name_of(characters: &str, id: u64) -> bool
+    ensures { result ≡ bytes_eq (name_of id) characters.now }
+{
+    match characters.as_bytes().strip_prefix(b"after#".as_slice()) {
+        Some(digits) => {
+            let mut buffer = Buffer::new();
+            buffer.format(id).as_bytes() == digits
+        }
+        None => false,
+    }
+}
+
+/// A text of characters that are known to be few enough.
+pub fn short_text(alloc: Global, characters: &str) -> Result<Text, AllocError>
+    ensures { IfOk result (λ text. text ≡ characters.now) }
+{
+    match Text::new(alloc, characters) {
+        Ok(text) => Ok(text),
+        Err(_) => Err(AllocError),
+    }
+}
+
+/// The text of an error, or the limit's where it is past 65,536 bytes (4).
+#[tactic(auto, using(crate::proofs::Names::bounds))]
+pub fn error_text(alloc: Global, message: &str) -> Result<Text, AllocError>
+    ensures { IfOk result (λ text. text ≡ bounded message.now) }
+{
+    match Text::new(alloc, message) {
+        Ok(text) => Ok(text),
+        Err(TextFault::TooLong) => short_text(alloc, "limit reached: value"),
+        Err(TextFault::NoMemory) => Err(AllocError),
+    }
+}
+
+/// The error for a wrong number of words.
+pub fn wrong_args(alloc: Global, usage: &str) -> Result<Answer, AllocError>
+    ensures { IfOk result (λ answer. answer ≡ wrong_args_of usage.now) }
+{
+    let message = with_quoted(alloc, "wrong # args: should be ", usage)?;
+    Ok(Err(error_text(alloc, message.as_str())?))
+}
+
+/// The error for a first word that is neither a sub-command nor an integer.
+pub fn bad_option(alloc: Global, word: &str) -> Result<Answer, AllocError>
+    ensures { IfOk result (λ answer. answer ≡ bad_option_of word.now) }
+{
+    let message = with_quoted(alloc, "bad option ", word)?;
+    Ok(Err(error_text(alloc, message.as_str())?))
+}
+
+/// The error for a name under which nothing is listed.
+pub fn no_event(alloc: Global, name: &str) -> Result<Answer, AllocError>
+    ensures { IfOk result (λ answer.
+        answer ≡ fails (codes "event " ++ quoted name.now ++ codes " doesn't exist")) }
+{
+    let mut message = with_quoted(alloc, "event ", name)?;
+    message.push_str(" doesn't exist")?;
+    Ok(Err(error_text(alloc, message.as_str())?))
+}
+
+/// The message followed by a word in quotation marks.
+fn with_quoted(alloc: Global, message: &str, word: &str) -> Result<String, AllocError>
+    ensures { IfOk result (λ string. string_bytes string ≡ message.now ++ quoted word.now) }
+{
+    let mut string = String::from_str(alloc, message)?;
+    string.push_str("\"")?;
+    string.push_str(word)?;
+    string.push_str("\"")?;
+    Ok(string)
+}

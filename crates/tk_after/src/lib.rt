@@ -1,0 +1,17 @@
+//! Timers and idle scripts of Tcl applications (`after` of Tcl's manual), each application's apart from the others'.
+#![tactic(auto)]
+
+mod after;
+mod answers;
+mod entry;
+mod own;
+mod timers;
+
+pub use after::after_command;
+pub use entry::Entry;
+pub use timers::Timers;
+
+#[cfg(test)]
+mod after_tests;
+#[cfg(test)]
+mod tests;

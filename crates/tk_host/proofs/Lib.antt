@@ -1,0 +1,5 @@
+mod Escapes
+mod History
+mod Order
+mod Runs
+mod Words

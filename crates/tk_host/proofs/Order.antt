@@ -1,0 +1,57 @@
+-- Which fault of adding an application is the first.
+use Rattle.std.proofs.Common.{◌≡◌, IsTrue, List, [], ◌∷◌, Result, Ok, Err, MatchResult, sym, ◌∙◌, subst, inl, inr}
+use Rattle.tk_host.specs.declared.fault.HostFault.{HostFault}
+use Rattle.tk_host.specs.declared.fault.HostFault.TheVariants.{Overlap, TimeBack, BadValue, NoApp, TooManyApps, NameTaken, Started, Ended, Broken, NoMemory}
+use Rattle.tk_host.specs.declared.phase.Phase.{Phase}
+use Rattle.tk_host.specs.declared.phase.Phase.TheVariants.{Adding}
+use Rattle.tk_host.specs.Held.{Held}
+use Rattle.tk_host.specs.Spec.{Given}
+use Rattle.tk_host.specs.Refusals.{IsFirst, NoneApplies, IsRefusal, OneRefusal, PhaseRefuses, PartsRefuse, RefusesApp, app_faults, add_faults}
+
+-- while applications are added the phase refuses nothing
+pub not_past : (phase : Phase) (fault : HostFault) → phase ≡ Adding → ¬ PhaseRefuses phase fault
+not_past phase fault adding refused = let P : Phase → Type 0 = λ p. PhaseRefuses p fault in subst P adding refused
+
+-- while applications are added those that are there decide
+pub first_of_parts : (held : Held) (app : Given) (fault : HostFault) → held.phase ≡ Adding
+    → IsFirst (PartsRefuse held.parts app) app_faults fault → IsFirst (RefusesApp held app) add_faults fault
+first_of_parts held app fault adding first =
+    inr (not_past held.phase Broken adding, inr (not_past held.phase Ended adding, inr (not_past held.phase Started adding, first)))
+
+pub none_of_parts : (held : Held) (app : Given) → held.phase ≡ Adding
+    → NoneApplies (PartsRefuse held.parts app) app_faults → NoneApplies (RefusesApp held app) add_faults
+none_of_parts held app adding none =
+    (not_past held.phase Broken adding, (not_past held.phase Ended adding, (not_past held.phase Started adding, none)))
+
+-- what the applications that are there decide is decided
+pub decided_by_parts : {T : Type 0} (held : Held) (app : Given) (answer : Result T HostFault) → held.phase ≡ Adding
+    → MatchResult answer (λ _. NoneApplies (PartsRefuse held.parts app) app_faults) (IsRefusal (PartsRefuse held.parts app) app_faults)
+    → MatchResult answer (λ _. NoneApplies (RefusesApp held app) add_faults) (IsRefusal (RefusesApp held app) add_faults)
+decided_by_parts held app (Ok x) adding none = none_of_parts held app adding none
+decided_by_parts held app (Err NoMemory) adding none = none_of_parts held app adding none
+decided_by_parts held app (Err Overlap) adding first = first_of_parts held app Overlap adding first
+decided_by_parts held app (Err TimeBack) adding first = first_of_parts held app TimeBack adding first
+decided_by_parts held app (Err BadValue) adding first = first_of_parts held app BadValue adding first
+decided_by_parts held app (Err NoApp) adding first = first_of_parts held app NoApp adding first
+decided_by_parts held app (Err TooManyApps) adding first = first_of_parts held app TooManyApps adding first
+decided_by_parts held app (Err NameTaken) adding first = first_of_parts held app NameTaken adding first
+decided_by_parts held app (Err Started) adding first = first_of_parts held app Started adding first
+decided_by_parts held app (Err Ended) adding first = first_of_parts held app Ended adding first
+decided_by_parts held app (Err Broken) adding first = first_of_parts held app Broken adding first
+
+only_first : (Applies : HostFault → Type 0) (faults : List HostFault) (one other : HostFault) → IsFirst Applies faults one → IsFirst Applies faults other → one ≡ other
+only_first Applies [] one other first next = absurd first
+only_first Applies (fault ∷ faults) one other (inl first) (inl next) = first.1 ∙ sym next.1
+only_first Applies (fault ∷ faults) one other (inl first) (inr next) = absurd (next.0 first.0)
+only_first Applies (fault ∷ faults) one other (inr first) (inl next) = absurd (first.0 next.0)
+only_first Applies (fault ∷ faults) one other (inr first) (inr next) = only_first Applies faults one other first.1 next.1
+
+first_applies : (Applies : HostFault → Type 0) (faults : List HostFault) (one : HostFault) → IsFirst Applies faults one → ¬ NoneApplies Applies faults
+first_applies Applies [] one first none = first
+first_applies Applies (fault ∷ faults) one (inl first) none = none.0 first.0
+first_applies Applies (fault ∷ faults) one (inr first) none = first_applies Applies faults one first.1 none.1
+
+pub one_refusal_holds : OneRefusal
+one_refusal_holds Applies faults one other first =
+    let applies : HostFault → Type 0 = λ fault. IsTrue (Applies fault) in
+    (only_first applies faults one other first, first_applies applies faults one first)

@@ -1,0 +1,5 @@
+use Rattle.tk_host.proofs.History.{each_by_itself_holds}
+use Rattle.tk_host.proofs.laws.each_by_itself.Goals as goal
+
+pub returns : goal.returns
+returns c = each_by_itself_holds

@@ -1,0 +1,41 @@
+-- An application as lists and values.
+use Rattle.std.specs.Prelude.{ℕ, true, false, List, [], ◌∷◌}
+use Rattle.tk_host.specs.declared.window.Window.{Window}
+use Rattle.tk_host.specs.declared.transcript.Line.{Line}
+use Rattle.tk_host.specs.declared.state.AppState.{AppState}
+use Rattle.tk_host.specs.declared.state.AppState.TheVariants.{Running}
+use Rattle.tk_host.specs.Spec.{Spec}
+use Rattle.tcl_vars.specs.Store.{Store}
+
+-- a window that was never laid out
+abbrev pub unlaid : Window
+unlaid = record { place = record { x = 0; y = 0; width = 1; height = 1 }; mapped = false }
+
+-- a main window that fills a rectangle of this size
+abbrev pub laid_out : ℕ → ℕ → Window
+laid_out width height = record { place = record { x = 0; y = 0; width = width; height = height }; mapped = true }
+
+pub record Application : Type 0 where
+  pub name : List ℕ
+  pub width : ℕ
+  pub height : ℕ
+  pub store : Store
+  pub transcript : List Line
+  pub window : Window
+  pub title : List ℕ
+  pub steps : ℕ
+  pub state : AppState
+
+-- an application before its script, with no variables
+abbrev pub fresh : Spec → Application
+fresh spec = record {
+  name = spec.name;
+  width = spec.width;
+  height = spec.height;
+  store = [] ∷ [];
+  transcript = [];
+  window = unlaid;
+  title = spec.name;
+  steps = spec.budget;
+  state = Running;
+}

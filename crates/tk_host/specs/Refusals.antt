@@ -1,0 +1,84 @@
+-- When the calls of a host are refused, and with which fault.
+use Rattle.std.specs.Prelude.{Bool, IsTrue, ◌≡◌, ℕ, ◌<◌, ◌≤◌, ◌⊎◌, List, [], ◌∷◌, length, Any}
+use Rattle.tk_host.specs.declared.fault.HostFault.{HostFault}
+use Rattle.tk_host.specs.declared.fault.HostFault.TheVariants.{Overlap, TimeBack, BadValue, NoApp, TooManyApps, NameTaken, Started, Ended, Broken, NoMemory}
+use Rattle.tk_host.specs.declared.phase.Phase.{Phase}
+use Rattle.tk_host.specs.declared.phase.Phase.TheVariants.{Reached, Finished, Lost}
+use Rattle.tk_host.specs.Rect.{SharePixel}
+use Rattle.tk_host.specs.Spec.{Given, IsInRange, rect_of}
+use Rattle.tk_host.specs.Held.{Held, Part, reached}
+
+-- the first of these faults that applies is this one
+abbrev pub IsFirst : (HostFault → Type 0) → List HostFault → HostFault → Type 0
+IsFirst Applies [] found = ⊥
+IsFirst Applies (fault ∷ faults) found = (Applies fault × (found ≡ fault)) ⊎ (¬ Applies fault × IsFirst Applies faults found)
+
+abbrev pub NoneApplies : (HostFault → Type 0) → List HostFault → Type 0
+NoneApplies Applies [] = Unit {0}
+NoneApplies Applies (fault ∷ faults) = ¬ Applies fault × NoneApplies Applies faults
+
+-- A call is refused with the first fault that applies. Memory is asked for only where none does.
+abbrev pub IsRefusal : (HostFault → Type 0) → List HostFault → HostFault → Type 0
+IsRefusal Applies faults NoMemory = NoneApplies Applies faults
+IsRefusal Applies faults found = IsFirst Applies faults found
+
+-- what a phase alone refuses
+abbrev pub PhaseRefuses : Phase → HostFault → Type 0
+PhaseRefuses Lost Broken = Unit {0}
+PhaseRefuses (Finished moment) Ended = Unit {0}
+PhaseRefuses (Reached moment) Started = Unit {0}
+PhaseRefuses phase found = ⊥
+
+-- A refused call leaves a host as it was, but for want of memory while applications run.
+abbrev pub LeftBy : HostFault → Held → Held → Type 0
+LeftBy NoMemory old new = new.phase ≡ Lost
+LeftBy found old new = new ≡ old
+
+-- what the applications that are there refuse in one more, in the order of the tests
+abbrev pub app_faults : List HostFault
+app_faults = BadValue ∷ TooManyApps ∷ NameTaken ∷ Overlap ∷ []
+
+abbrev pub PartsRefuse : List Part → Given → HostFault → Type 0
+PartsRefuse parts app BadValue = ¬ IsInRange app
+PartsRefuse parts app TooManyApps = 16 ≤ length parts
+PartsRefuse parts app NameTaken = Any (λ part. part.application.name ≡ app.spec.name) parts
+PartsRefuse parts app Overlap = Any (λ part. SharePixel part.rect (rect_of app)) parts
+PartsRefuse parts app found = ⊥
+
+-- adding an application
+abbrev pub add_faults : List HostFault
+add_faults = Broken ∷ Ended ∷ Started ∷ app_faults
+
+abbrev pub RefusesApp : Held → Given → HostFault → Type 0
+RefusesApp held app Broken = PhaseRefuses held.phase Broken
+RefusesApp held app Ended = PhaseRefuses held.phase Ended
+RefusesApp held app Started = PhaseRefuses held.phase Started
+RefusesApp held app found = PartsRefuse held.parts app found
+
+-- starting the applications
+abbrev pub start_faults : List HostFault
+start_faults = Broken ∷ Ended ∷ Started ∷ []
+
+-- ending at a moment
+abbrev pub end_faults : List HostFault
+end_faults = Broken ∷ Ended ∷ BadValue ∷ TimeBack ∷ []
+
+abbrev pub RefusesEnd : Held → ℕ → HostFault → Type 0
+RefusesEnd held moment BadValue = 1000000000000 < moment
+RefusesEnd held moment TimeBack = moment < reached held.phase
+RefusesEnd held moment found = PhaseRefuses held.phase found
+
+-- the section of a slot
+abbrev pub section_faults : List HostFault
+section_faults = Broken ∷ NoApp ∷ []
+
+abbrev pub RefusesSection : Held → ℕ → HostFault → Type 0
+RefusesSection held slot NoApp = length held.parts ≤ slot
+RefusesSection held slot found = PhaseRefuses held.phase found
+
+-- a fault of a list is the only one that is the first to apply, and none is where none applies
+abbrev pub OneRefusal : Type 0
+OneRefusal =
+    (Applies : HostFault → Bool) (faults : List HostFault) (one other : HostFault)
+    → IsFirst (λ fault. IsTrue (Applies fault)) faults one
+    → (IsFirst (λ fault. IsTrue (Applies fault)) faults other → one ≡ other) × ¬ NoneApplies (λ fault. IsTrue (Applies fault)) faults

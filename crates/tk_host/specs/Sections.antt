@@ -1,0 +1,17 @@
+-- The sections of all applications.
+use Rattle.std.specs.Prelude.{◌≡◌, ℕ, List, map, slice_get, Some}
+use Rattle.tk_host.specs.declared.phase.Phase.TheVariants.{Adding}
+use Rattle.tk_host.specs.Spec.{Given}
+use Rattle.tk_host.specs.Held.{Call, given_by, phase_after, application_in}
+use Rattle.tk_host.specs.Section.{section}
+
+-- After these calls the section of each application is that of the application by itself, up to the moment that the calls reach.
+abbrev pub sections_after : List Call → List (List ℕ)
+sections_after calls = map (λ app. section (application_in (phase_after Adding calls) app.spec)) (given_by calls)
+
+-- Two lists of calls that reach the same phase and have the same application in a slot, be it in two places, give it one section.
+abbrev pub EachByItself : Type 0
+EachByItself =
+    (calls others : List Call) (slot : ℕ) (app other : Given) → phase_after Adding calls ≡ phase_after Adding others
+    → slice_get (given_by calls) slot ≡ Some app → slice_get (given_by others) slot ≡ Some other → app.spec ≡ other.spec
+    → slice_get (sections_after calls) slot ≡ slice_get (sections_after others) slot

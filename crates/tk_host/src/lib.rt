@@ -1,0 +1,26 @@
+//! Applications side by side in one host, and the section that each of them ends with.
+#![tactic(auto)]
+
+mod application;
+mod console;
+mod fault;
+mod host;
+mod laws;
+mod message;
+mod phase;
+mod rect;
+mod running;
+mod section;
+mod spec;
+mod state;
+#[cfg(test)]
+mod tests;
+mod transcript;
+mod window;
+
+pub use fault::HostFault;
+pub use host::{Host, MAX_APPLICATIONS, MAX_MOMENT};
+pub use laws::{each_by_itself, one_refusal};
+pub use phase::Phase;
+pub use rect::Rect;
+pub use spec::{MAX_BUDGET, MAX_PIXELS, is_name};

@@ -1,0 +1,12 @@
+/// How far a host has come.
+#[derive(Clone, Copy, Debug, PartialEq, Eq)]
+pub enum Phase {
+    /// Applications are added.
+    Adding,
+    /// The applications run, and this moment is reached.
+    Reached(u64),
+    /// The end came at this moment.
+    Finished(u64),
+    /// Memory was refused while applications ran.
+    Lost,
+}

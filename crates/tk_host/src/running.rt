@@ -1,0 +1,78 @@
+ghost use Rattle.std.specs.Prelude.{◌≡◌, ◌≢◌, ◌<◌, [], IfOk, OnOk};
+ghost use Rattle.tcl_interp.specs.Finish.{Idle, finish};
+ghost use Rattle.tcl_interp.specs.Interp.{replaced_in, rest_of, state_of};
+ghost use Rattle.tk_host.specs.Alone.{reported, script_at_global};
+ghost use Rattle.tk_host.specs.Outside.{outside};
+ghost use Rattle.tk_host.specs.Running.{ComesTo, Leaves};
+
+use crate::console::{Console, NoTask};
+use crate::transcript::Stream;
+use std::alloc::AllocError;
+use tcl_interp::{Code, Interp, SliceEnd};
+use tcl_text::Text;
+use tcl_vars::Scopes;
+
+/// How a script at global level ended.
+#[derive(Drop)]
+pub enum ScriptEnd {
+    /// With a code, and a result or an error's text.
+    Ended(Code, Text),
+    /// A step was needed, and none was left.
+    OutOfSteps,
+}
+
+/// Does all that an interpreter still has to do, at most `slice` steps at a time.
+fn run_to_end(
+    interp: &mut Interp<NoTask>,
+    console: &mut Console,
+    scopes: &mut Scopes,
+    slice: u64,
+) -> Result<ScriptEnd, AllocError>
+    requires positive { 0 < slice }
+    requires begun { rest_of interp.old ≢ Idle }
+    requires own { replaced_in interp.old ≡ [] }
+    ensures end { IfOk result (λ end. ComesTo end (finish outside [] (rest_of interp.old) (state_of interp.old console.old scopes.old)) (state_of interp.new console.new scopes.new)) }
+    ensures own { replaced_in interp.new ≡ [] }
+{
+    'slices: loop {
+        match interp.run_slice(console, scopes, slice)? {
+            SliceEnd::Done(code, text) => return Ok(ScriptEnd::Ended(code, text)),
+            SliceEnd::Exhausted => return Ok(ScriptEnd::OutOfSteps),
+            SliceEnd::More => {}
+        }
+    }
+}
+
+/// Tells the error that a script at global level ended with.
+fn report(console: &mut Console, code: Code, text: Text) -> Result<(), AllocError>
+    ensures { OnOk result (console.new ≡ reported code text console.old) }
+{
+    if let Code::Error = code {
+        console.write(Stream::Err, text)?;
+    }
+    Ok(())
+}
+
+/// Runs a script at global level and tells its error. It answers whether there were steps enough.
+pub fn run_script(
+    interp: &mut Interp<NoTask>,
+    console: &mut Console,
+    scopes: &mut Scopes,
+    script: Text,
+    slice: u64,
+) -> Result<bool, AllocError>
+    requires positive { 0 < slice }
+    requires idle { rest_of interp.old ≡ Idle }
+    requires own { replaced_in interp.old ≡ [] }
+    ensures left { IfOk result (λ enough. Leaves (script_at_global script (state_of interp.old console.old scopes.old)) enough (state_of interp.new console.new scopes.new)) }
+    ensures own { replaced_in interp.new ≡ [] }
+{
+    interp.begin(script)?;
+    match run_to_end(interp, console, scopes, slice)? {
+        ScriptEnd::Ended(code, text) => {
+            report(console, code, text)?;
+            Ok(true)
+        }
+        ScriptEnd::OutOfSteps => Ok(false),
+    }
+}

@@ -1,0 +1,209 @@
+//! Whole runs of a host, byte for byte, and the refusals in their order.
+
+ghost use Rattle.std.specs.Prelude.{◌≢◌};
+
+use crate::{Host, HostFault, Phase, Rect};
+use std::alloc::Global;
+use std::test::Fail;
+use tcl_text::Text;
+
+const LEFT: Rect = Rect {
+    x: 0,
+    y: 0,
+    width: 100,
+    height: 50,
+};
+
+const RIGHT: Rect = Rect {
+    x: 100,
+    y: 0,
+    width: 100,
+    height: 50,
+};
+
+/// Adds an application, and answers the number of its refusal.
+fn add(
+    host: &mut Host,
+    alloc: Global,
+    name: &str,
+    rect: Rect,
+    script: &str,
+    budget: u64,
+) -> Result<Option<u32>, Fail> {
+    let name = Text::new(alloc, name)?;
+    let script = Text::new(alloc, script)?;
+    Ok(number_of(host.add_app(name, rect, script, budget)))
+}
+
+fn number_of(answer: Result<(), HostFault>) -> Option<u32> {
+    match answer {
+        Ok(()) => None,
+        Err(fault) => fault.number(),
+    }
+}
+
+/// Goes on to the end, and answers the number of the refusal.
+fn end(host: &mut Host, moment: u64) -> Option<u32>
+    requires { host.old.phase ≢ Phase.Adding }
+    ensures { host.new.phase ≢ Phase.Adding }
+{
+    number_of(host.end(moment))
+}
+
+/// Scripts of a first application with its budget and its section, whatever the slice; a second one beside it says bye.
+#[test]
+fn runs_each_by_itself(rt: HostRuntime) -> Result<(), Fail> {
+    let alloc = rt.alloc();
+    let cases = [
+        (
+            "puts hello",
+            100,
+            "app a running 99\nout 0 hello\ntree\nwin . Tk 0 0 100 50 1\ntimers\ndone\n",
+        ),
+        (
+            "while 1 {}",
+            5,
+            "app a exhausted 0\ntree\nwin . Tk 0 0 1 1 0\ntimers\ndone\n",
+        ),
+        (
+            "",
+            100,
+            "app a running 100\ntree\nwin . Tk 0 0 100 50 1\ntimers\ndone\n",
+        ),
+        (
+            "puts a; puts {",
+            100,
+            "app a running 100\nerr 0 missing close-brace\ntree\nwin . Tk 0 0 100 50 1\ntimers\ndone\n",
+        ),
+        (
+            "puts stdout {a\nb\rc}\nputs stderr x\nputs y",
+            100,
+            "app a running 98\nout 0 a\\nb\\rc\nerr 0 bad option \"stderr\"\ntree\nwin . Tk 0 0 100 50 1\ntimers\ndone\n",
+        ),
+        (
+            "puts",
+            1,
+            "app a running 0\nerr 0 wrong # args: should be \"puts ?stdout? text\"\ntree\nwin . Tk 0 0 100 50 1\ntimers\ndone\n",
+        ),
+        (
+            "set x 5; puts $x; nosuch",
+            100,
+            "app a running 97\nout 0 5\nerr 0 invalid command name \"nosuch\"\ntree\nwin . Tk 0 0 100 50 1\ntimers\ndone\n",
+        ),
+    ];
+    for slice in [1, 2, 64] {
+        for (script, budget, expected) in cases.iter() {
+            let mut host = Host::new(alloc, slice);
+            assert_eq!(rt; add(&mut host, alloc, "a", LEFT, script, *budget)?, None);
+            assert_eq!(rt; add(&mut host, alloc, "b", RIGHT, "puts bye", 100)?, None);
+            host.start()?;
+            assert_eq!(rt;
+                host.section(0)?.as_slice(),
+                expected.as_bytes(),
+                "{script} by {slice}"
+            );
+            assert_eq!(rt;
+                host.section(1)?.as_slice(),
+                b"app b running 99\nout 0 bye\ntree\nwin . Tk 0 0 100 50 1\ntimers\ndone\n".as_slice()
+            );
+            assert_eq!(rt; end(&mut host, 7), None);
+            assert_eq!(rt;
+                host.section(0)?.as_slice(),
+                expected.as_bytes(),
+                "{script} at the end"
+            );
+        }
+    }
+    Ok(())
+}
+
+#[test]
+fn refuses_in_order(rt: HostRuntime) -> Result<(), Fail> {
+    let alloc = rt.alloc();
+    let mut host = Host::new(alloc, 64);
+    let others = [
+        ("c", 200),
+        ("d", 300),
+        ("e", 400),
+        ("f", 500),
+        ("g", 600),
+        ("h", 700),
+        ("i", 800),
+        ("j", 900),
+        ("k", 1000),
+        ("l", 1100),
+        ("m", 1200),
+        ("n", 1300),
+        ("o", 1400),
+        ("p_9", 1500),
+    ];
+    let adds = [
+        ("a", LEFT, 100, None),
+        ("1a", RIGHT, 100, Some(36)),
+        ("", RIGHT, 100, Some(36)),
+        ("a-b", RIGHT, 100, Some(36)),
+        ("abcdefghijklmnopqrstuvwxyz_123456", RIGHT, 100, Some(36)),
+        ("b", Rect { width: 0, ..RIGHT }, 100, Some(36)),
+        (
+            "b",
+            Rect {
+                height: 32_768,
+                ..RIGHT
+            },
+            100,
+            Some(36),
+        ),
+        ("b", Rect { x: 32_768, ..RIGHT }, 100, Some(36)),
+        ("a", LEFT, 10_000_001, Some(36)),
+        ("a", LEFT, 100, Some(39)),
+        (
+            "b",
+            Rect {
+                x: 99,
+                y: 49,
+                ..RIGHT
+            },
+            100,
+            Some(34),
+        ),
+        ("b", RIGHT, 10_000_000, None),
+    ];
+    for (name, rect, budget, refusal) in adds {
+        assert_eq!(rt;
+            add(&mut host, alloc, name, rect, "", budget)?,
+            refusal,
+            "{name}"
+        );
+    }
+    assert_eq!(rt;
+        host.section(0)?.as_slice(),
+        b"app a running 100\ntree\nwin . Tk 0 0 1 1 0\ntimers\ndone\n".as_slice()
+    );
+    for (name, x) in others {
+        assert_eq!(rt;
+            add(&mut host, alloc, name, Rect { x, ..RIGHT }, "", 0)?,
+            None,
+            "{name}"
+        );
+    }
+    assert_eq!(rt; add(&mut host, alloc, "a", LEFT, "", 0)?, Some(38));
+    assert_eq!(rt; add(&mut host, alloc, "7", LEFT, "", 0)?, Some(36));
+    host.start()?;
+    assert_eq!(rt; end(&mut host, 1_000_000_000_001), Some(36));
+    assert_eq!(rt; add(&mut host, alloc, "q", LEFT, "", 0)?, Some(40));
+    assert_eq!(rt; number_of(host.start()), Some(40));
+    Ok(())
+}
+
+#[test]
+fn ends_once(rt: HostRuntime) -> Result<(), Fail> {
+    let alloc = rt.alloc();
+    let mut host = Host::new(alloc, 1);
+    host.start()?;
+    assert_eq!(rt; end(&mut host, 1_000_000_000_000), None);
+    assert_eq!(rt; end(&mut host, 1_000_000_000_001), Some(41));
+    assert_eq!(rt; number_of(host.start()), Some(41));
+    assert_eq!(rt; add(&mut host, alloc, "", LEFT, "", 0)?, Some(41));
+    assert!(rt; matches!(&host.section(0), Err(HostFault::NoApp)));
+    Ok(())
+}

@@ -1,0 +1,4 @@
+pub mod Session
+pub mod Reading
+pub mod Output
+pub mod Play

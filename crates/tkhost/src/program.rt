@@ -1,0 +1,55 @@
+ghost use Rattle.std.specs.Prelude.{◌≡◌, ℕ, IfSome};
+ghost use Rattle.std.specs.Io.KnownBytes.{Appends};
+ghost use Rattle.tkhost.specs.declared.fault.LineFault.{LineFault};
+ghost use Rattle.tkhost.specs.Output.{AppendsFront, number_of_fault};
+ghost use Rattle.tkhost.specs.Play.{sections_of};
+ghost use Rattle.tkhost.specs.Session.{Plan, IsSession, HasFault};
+
+use crate::fault::SessionFault;
+use crate::input::{InputFault, read_input};
+use crate::outcome::Outcome;
+use crate::playing::{PlayFault, play};
+use crate::reading::read_session;
+use std::alloc::Global;
+use std::io::{Read, Write};
+
+/// How many steps an application takes at most before the next one's turn.
+const SLICE: u64 = 64;
+
+/// What the program does without arguments: reads a session, plays it and writes its sections.
+pub fn run<R: Read, W: Write>(alloc: Global, reader: &mut R, writer: &mut W) -> Outcome
+    ensures done { result ≡ Outcome.Done → (plan : Plan)
+        × IfSome (R.remaining reader.old) (λ input. IsSession input plan)
+        × Appends (W.contents writer.old) (W.contents writer.new) (sections_of plan) }
+    ensures refused { (number line : ℕ) → result ≡ Outcome.Refused number line → (fault : LineFault)
+        × IfSome (R.remaining reader.old) (λ input. HasFault input fault line)
+        × (number ≡ number_of_fault fault)
+        × (writer.new ≡ writer.old) }
+    ensures write { result ≡ Outcome.Write → (plan : Plan)
+        × IfSome (R.remaining reader.old) (λ input. IsSession input plan)
+        × AppendsFront (W.contents writer.old) (W.contents writer.new) (sections_of plan) }
+    ensures read { result ≡ Outcome.Read → writer.new ≡ writer.old }
+    ensures no_memory { result ≡ Outcome.NoMemory → writer.new ≡ writer.old }
+    ensures argued { result ≡ Outcome.Usage → ⊥ }
+{
+    let input = match read_input(alloc, reader) {
+        Ok(input) => input,
+        Err(InputFault::Read) => return Outcome::Read,
+        Err(InputFault::NoMemory) => return Outcome::NoMemory,
+    };
+    let session = match read_session(alloc, input.as_slice()) {
+        Ok(session) => session,
+        Err(SessionFault::Refused { fault, line }) => {
+            return Outcome::Refused {
+                number: fault.number(),
+                line,
+            };
+        }
+        Err(SessionFault::NoMemory) => return Outcome::NoMemory,
+    };
+    match play(alloc, &session, SLICE, writer) {
+        Ok(()) => Outcome::Done,
+        Err(PlayFault::Write) => Outcome::Write,
+        Err(PlayFault::NoMemory) => Outcome::NoMemory,
+    }
+}

@@ -1,0 +1,22 @@
+//! A session from standard input, played; its sections to standard output.
+#![tactic(auto)]
+
+use std::env::{Env, FillError};
+use std::process::ExitCode;
+use tkhost::{Outcome, run};
+
+/// Whether the program was given an argument.
+fn has_argument(rt: &impl Env) -> bool {
+    !matches!(rt.arg(1, &mut []), Err(FillError::NotPresent))
+}
+
+fn main(rt: HostRuntime) -> ExitCode {
+    let outcome = if has_argument(&rt) {
+        Outcome::Usage
+    } else {
+        run(rt.alloc(), &mut rt.stdin(), &mut rt.stdout())
+    };
+    // where standard error takes nothing, the status alone tells
+    let _ = outcome.write_to(&mut rt.stderr());
+    ExitCode::from(outcome.status())
+}

@@ -1,14 +1,14 @@
 -- Unsetting in a frame, by what it does in the content, and in a store, by what it does in the frame.
-use Rattle.std.proofs.Common.{◌≡◌, ◌≢◌, ℕ, ◌+◌, ◌-◌, ◌<◌, ◌≤◌, Bool, true, false, cond, List, Option, None, Some, is_some, if◌then◌else◌, MatchBool, Ok, Err, Result, length, set, refl, sym, ap, ◌∙◌, subst, arith, length-set}
+use Rattle.std.proofs.Common.{◌≡◌, ◌≢◌, ℕ, ◌+◌, ◌-◌, ◌<◌, Bool, true, false, cond, List, Option, None, Some, is_some, if◌then◌else◌, MatchBool, Ok, Err, Result, length, set, refl, sym, ap, ◌∙◌, subst, arith, length-set}
 use Rattle.tcl_vars.specs.declared.content.Content.{Content}
 use Rattle.tcl_vars.specs.declared.content.Content.TheVariants.{Scalar, Array, Link}
 use Rattle.tcl_vars.specs.declared.fault.UnsetFault.{UnsetFault}
 use Rattle.tcl_vars.specs.declared.fault.UnsetFault.TheVariants.{NoElement}
 use Rattle.tcl_vars.specs.Name.{Place}
 use Rattle.tcl_vars.specs.Sound.{IsBelow, AllBelow, IsSound}
-use Rattle.tcl_vars.specs.Store.{Store, Frame, frame_at, content_at, content_count, frame_count, variable_count, content_without, frame_with_rest, with_rest, without_text_at, end_of, is_there, link_of}
+use Rattle.tcl_vars.specs.Store.{Store, Frame, frame_at, content_at, content_count, frame_count, variable_count, content_without, frame_with_rest, without_text_at, end_of, is_there, link_of}
 use Rattle.tcl_vars.specs.Table.{value_at, with_value, without, weight_of}
-use Rattle.tcl_vars.specs.Unset.{UnsetsWhole, UnsetsElement, UnsetsText, RefusesUnset, Unsets}
+use Rattle.tcl_vars.specs.Unset.{UnsetsWhole, UnsetsElement, UnsetsText, Unsets}
 use Rattle.tcl_vars.proofs.BelowLemmas.{AllBelow-with_value, AllBelow-without}
 use Rattle.tcl_vars.proofs.LinkLemmas.{led-here}
 use Rattle.tcl_vars.proofs.StoreLemmas.{variable_count-set, FramesDescend-set}
@@ -101,20 +101,6 @@ module _ (store : Store) (count : ℕ) (sound : IsSound store count) (place : Pl
       limited = omega (arith, sound.limited);
       descending = FramesDescend-set store place.level within new sound.descending below;
     }
-
-    pub removed-le : removed ≤ count
-    removed-le = omega (arith, counted-set)
-
-  -- the definition gives the store too
-  pub Unsets-ok : (removed : ℕ) (new : Frame) → UnsetsText (frame_at store place.level) place removed new → Unsets store place (Ok (set store place.level new))
-  Unsets-ok removed new unsets = record {
-    linkless = unsets.linkless;
-    given = ap (with_rest store place) unsets.given ∙ ap (λ f. Ok (set store place.level f)) (sym unsets.frame);
-  }
-
-  -- and the refusal
-  pub Unsets-err : (fault : UnsetFault) → RefusesUnset (frame_at store place.level) place fault → Unsets store place (Err fault)
-  Unsets-err fault refuses = record { linkless = refuses.linkless; given = ap (with_rest store place) refuses.given }
 
 module _ (store : Store) (place : Place) (gives : Result Store UnsetFault) where
   -- a place whose variable is no link

@@ -56,9 +56,11 @@ fn is_as_expected<R: Files + AllocGlobal>(rt: &R, name: &str) -> Result<bool> {
     };
     let (sections, fault) = told(rt.alloc(), session.as_slice())?;
     if let Some(expected) = stored(rt, name, "expected")? {
-        return Ok(fault.is_empty()
-            && sections == expected
-            && same_at_each_slice(rt.alloc(), session.as_slice(), expected.as_slice())?);
+        return Ok(
+            fault.is_empty()
+                && sections == expected
+                && same_at_each_slice(rt.alloc(), session.as_slice(), expected.as_slice())?,
+        );
     }
     let Some(expected) = stored(rt, name, "fault")? else {
         bail!("nothing is expected of it");
@@ -69,8 +71,14 @@ fn is_as_expected<R: Files + AllocGlobal>(rt: &R, name: &str) -> Result<bool> {
 fn main(rt: HostRuntime) -> Result<()> {
     let mut differs = false;
     for name in env::args(&rt)?.skip(1) {
-        let as_expected = is_as_expected(&rt, name.as_str()).context(format_args!("session {name}"))?;
-        let verdict = if as_expected { "as expected" } else { "differs" };
+        let as_expected = is_as_expected(&rt, name.as_str()).context(format_args!(
+            "session {name}"
+        ))?;
+        let verdict = if as_expected {
+            "as expected"
+        } else {
+            "differs"
+        };
         println!(rt; "{name}: {verdict}")?;
         differs = differs || !as_expected;
     }

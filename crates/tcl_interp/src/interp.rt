@@ -212,6 +212,7 @@ impl<K: Drop> Interp<K> {
         requires positive { 0 < then }
         requires begun { rest_of self.old ≢ Idle }
         ensures whole { IfOk result (λ end. IsWhole end (finish T.outside (replaced_in self.old) (rest_of self.old) (state_of self.old tasks.old scopes.old)) (state_of self.new tasks.new scopes.new)) }
+        ensures rest { IfOk result (λ end. LeavesAfter end (rest_of self.new)) }
         ensures taken { left_of self.new ≤ left_of self.old }
         ensures replaced { replaced_in self.new ≡ replaced_in self.old }
         ensures budget { budget_of self.new ≡ budget_of self.old }

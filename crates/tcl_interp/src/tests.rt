@@ -1,4 +1,6 @@
-ghost use Rattle.std.specs.Prelude.{◌≡◌, ◌<◌, ◌≤◌, length, IfOk};
+ghost use Rattle.std.specs.Prelude.{◌≡◌, ◌<◌, ◌≤◌, length, IfOk, OnOk};
+ghost use Rattle.tcl_interp.specs.Finish.{Idle};
+ghost use Rattle.tcl_interp.specs.Interp.{rest_of};
 ghost use Rattle.tcl_interp.specs.Sample.{alone_act, sample_act, resumed_act};
 
 use crate::tasks::{Act, Code, ReturnCode, Tasks};
@@ -74,6 +76,7 @@ fn resumed(alloc: Global, task: u64, code: Code, text: Text) -> Result<Act<u64>,
 }
 
 /// Serves the sample's commands.
+#[derive(Drop)]
 struct Panel {
     alloc: Global,
 }
@@ -148,10 +151,24 @@ fn ends_in_slices(
     Ok(())
 }
 
-/// What scripts of ten steps at most come to, and the steps that are left; set(n) and while(n) as Tcl 8.6 has them, messages
-/// apart.
+/// A script of which ten steps may be taken ends so, in slices of any size.
+fn ends_alike(
+    rt: &impl Abort,
+    alloc: Global,
+    script: &str,
+    code: Code,
+    text: &str,
+    left: u64,
+) -> Result<(), Fail> {
+    for slice in 1..4 {
+        ends_in_slices(rt, alloc, script, code, text, left, slice)?;
+    }
+    ends_in_slices(rt, alloc, script, code, text, left, 1000)
+}
+
+/// `set`, as set(n) has it, messages apart.
 #[test]
-fn scripts_end_alike_in_all_slices(rt: HostRuntime) -> Result<(), Fail> {
+fn set_reads_and_writes(rt: HostRuntime) -> Result<(), Fail> {
     let cases = [
         ("", Code::Normal, "", 10),
         ("set x 5", Code::Normal, "5", 9),
@@ -163,6 +180,17 @@ fn scripts_end_alike_in_all_slices(rt: HostRuntime) -> Result<(), Fail> {
             "wrong # args: should be \"set name ?value?\"",
             9,
         ),
+    ];
+    for (script, code, text, left) in cases {
+        ends_alike(&rt, rt.alloc(), script, code, text, left)?;
+    }
+    Ok(())
+}
+
+/// Words that `set` refuses, and variables that aren't there.
+#[test]
+fn faults_of_set(rt: HostRuntime) -> Result<(), Fail> {
+    let cases = [
         (
             "set x 1 2",
             Code::Error,
@@ -182,6 +210,17 @@ fn scripts_end_alike_in_all_slices(rt: HostRuntime) -> Result<(), Fail> {
             10,
         ),
         ("set x 1; set y a$x-$x", Code::Normal, "a1-1", 8),
+    ];
+    for (script, code, text, left) in cases {
+        ends_alike(&rt, rt.alloc(), script, code, text, left)?;
+    }
+    Ok(())
+}
+
+/// `while`, as while(n) has it, messages apart.
+#[test]
+fn loops_test_their_conditions(rt: HostRuntime) -> Result<(), Fail> {
+    let cases = [
         (
             "while 1",
             Code::Error,
@@ -196,18 +235,29 @@ fn scripts_end_alike_in_all_slices(rt: HostRuntime) -> Result<(), Fail> {
             8,
         ),
         (
-            "while $n {}",
+            "while {$n} {}",
             Code::Error,
             "can't read \"n\": no such variable",
             8,
         ),
-        ("set i yes; while $i {set i no}", Code::Normal, "", 5),
+        ("set i yes; while {$i} {set i no}", Code::Normal, "", 5),
         (
-            "set i on; while $::i {set i off; go; fail}",
+            "set i on; while {$::i} {set i off; go; fail}",
             Code::Normal,
             "",
             4,
         ),
+    ];
+    for (script, code, text, left) in cases {
+        ends_alike(&rt, rt.alloc(), script, code, text, left)?;
+    }
+    Ok(())
+}
+
+/// Break, continue and errors of a loop's body.
+#[test]
+fn codes_of_bodies(rt: HostRuntime) -> Result<(), Fail> {
+    let cases = [
         ("while 1 {stop}; ask", Code::Normal, "answer", 6),
         (
             "while 1 {while 1 {stop}; stop}; ask",
@@ -216,13 +266,23 @@ fn scripts_end_alike_in_all_slices(rt: HostRuntime) -> Result<(), Fail> {
             3,
         ),
         ("while 1 {fail}; ask", Code::Error, "failed", 7),
-        ("while 1 {set x \"}", Code::Error, "not yet", 10),
         (
             "stop",
             Code::Error,
             "invoked \"break\" outside of a loop",
             9,
         ),
+    ];
+    for (script, code, text, left) in cases {
+        ends_alike(&rt, rt.alloc(), script, code, text, left)?;
+    }
+    Ok(())
+}
+
+/// Codes that no loop takes.
+#[test]
+fn codes_at_global_level(rt: HostRuntime) -> Result<(), Fail> {
+    let cases = [
         (
             "go",
             Code::Error,
@@ -232,6 +292,17 @@ fn scripts_end_alike_in_all_slices(rt: HostRuntime) -> Result<(), Fail> {
         ("leave; ask", Code::Normal, "left", 9),
         ("fail; ask", Code::Error, "failed", 9),
         ("ask", Code::Normal, "answer", 9),
+    ];
+    for (script, code, text, left) in cases {
+        ends_alike(&rt, rt.alloc(), script, code, text, left)?;
+    }
+    Ok(())
+}
+
+/// Commands of the object's, by their plain names.
+#[test]
+fn outside_commands(rt: HostRuntime) -> Result<(), Fail> {
+    let cases = [
         ("::ask", Code::Normal, "answer", 9),
         (
             "ask me; ask",
@@ -241,16 +312,24 @@ fn scripts_end_alike_in_all_slices(rt: HostRuntime) -> Result<(), Fail> {
         ),
         ("::none", Code::Error, "invalid command name \"::none\"", 9),
         ("rest", Code::Normal, "rested", 6),
+    ];
+    for (script, code, text, left) in cases {
+        ends_alike(&rt, rt.alloc(), script, code, text, left)?;
+    }
+    Ok(())
+}
+
+/// Tasks of several steps, and of several scripts.
+#[test]
+fn tasks_take_steps_and_run_scripts(rt: HostRuntime) -> Result<(), Fail> {
+    let cases = [
         ("again {set x 1}", Code::Normal, "answer", 5),
         ("again {leave; fail}", Code::Normal, "answer", 5),
         ("again stop; ask", Code::Normal, "answer", 4),
         ("ask; {", Code::Error, "missing close-brace", 10),
     ];
     for (script, code, text, left) in cases {
-        for slice in 1..4 {
-            ends_in_slices(&rt, rt.alloc(), script, code, text, left, slice)?;
-        }
-        ends_in_slices(&rt, rt.alloc(), script, code, text, left, 1000)?;
+        ends_alike(&rt, rt.alloc(), script, code, text, left)?;
     }
     Ok(())
 }
@@ -302,27 +381,55 @@ fn slices_of_an_endless_loop(rt: HostRuntime) -> Result<(), Fail> {
     Ok(())
 }
 
-/// A task alone; and a script behind it, which finds the variables as they are.
+/// A task alone, which takes the steps that it needs.
 #[test]
-fn tasks_and_scripts_in_turn(rt: HostRuntime) -> Result<(), Fail> {
+fn a_task_alone(rt: HostRuntime) -> Result<(), Fail> {
     let mut interp: Interp<u64> = Interp::new(rt.alloc(), 9, &[])?;
-    let mut panel = Panel { alloc: rt.alloc() };
     let mut scopes = Scopes::new(rt.alloc())?;
     interp.begin_task(11)?;
-    let SliceEnd::Done(_, text) = interp.run_slice(&mut panel, &mut scopes, 9)? else {
+    let end = interp.run_slice(&mut Panel { alloc: rt.alloc() }, &mut scopes, 9)?;
+    let SliceEnd::Done(_, text) = end else {
         panic!(rt; "the task has no end");
     };
     assert_eq!(rt; text.as_str(), "rested");
     assert_eq!(rt; interp.steps_left(), 8);
-    interp.begin(Text::new(rt.alloc(), "set x kept")?)?;
-    let SliceEnd::Done(_, _) = interp.run_slices(&mut panel, &mut scopes, &[1, 1])? else {
-        panic!(rt; "the script has no end");
-    };
-    interp.begin(Text::new(rt.alloc(), "set x")?)?;
-    let SliceEnd::Done(_, text) = interp.run_slice(&mut panel, &mut scopes, 1)? else {
-        panic!(rt; "the script has no end");
-    };
-    assert_eq!(rt; text.as_str(), "kept");
+    Ok(())
+}
+
+/// The result of one more script.
+fn result_of(
+    rt: &impl Abort,
+    alloc: Global,
+    interp: &mut Interp<u64>,
+    scopes: &mut Scopes,
+    script: &str,
+) -> Result<Text, Fail>
+    requires { rest_of interp.old ≡ Idle }
+    ensures { OnOk result (rest_of interp.new ≡ Idle) }
+{
+    interp.begin(Text::new(alloc, script)?)?;
+    match interp.run_to_end(&mut Panel { alloc }, scopes, &[1, 1], 2)? {
+        SliceEnd::Done(_, text) => Ok(text),
+        _ => panic!(rt; "{script} has no end"),
+    }
+}
+
+/// Scripts one after another find the variables as they are.
+#[test]
+fn scripts_in_turn(rt: HostRuntime) -> Result<(), Fail> {
+    let mut interp: Interp<u64> = Interp::new(rt.alloc(), 9, &[])?;
+    let mut scopes = Scopes::new(rt.alloc())?;
+    let first = result_of(
+        &rt,
+        rt.alloc(),
+        &mut interp,
+        &mut scopes,
+        "set x kept; set y 2",
+    )?;
+    assert_eq!(rt; first.as_str(), "2");
+    let second = result_of(&rt, rt.alloc(), &mut interp, &mut scopes, "set x")?;
+    assert_eq!(rt; second.as_str(), "kept");
+    assert_eq!(rt; interp.steps_left(), 6);
     Ok(())
 }
 

@@ -1,5 +1,5 @@
 -- Digits behind a backslash, one by one.
-use Rattle.std.proofs.Common.{◌≡◌, ℕ, zero, suc, ◌+◌, ◌-◌, ◌*◌, ◌^◌, ◌<◌, ◌≤◌, List, [], ◌∷◌, length, ◌⊎◌, nat_lt, refl, arith, ap, sym, ◌∙◌, inl, inr, Option, Some, None, unwrap_or, encode_utf8, pow-suc, false}
+use Rattle.std.proofs.Common.{◌≡◌, ℕ, zero, suc, ◌+◌, ◌-◌, ◌*◌, ◌^◌, ◌<◌, ◌≤◌, List, [], ◌∷◌, length, nat_lt, refl, arith, ap, sym, ◌∙◌, inl, inr, Option, Some, None, unwrap_or, encode_utf8, pow-suc, false}
 use Rattle.std.specs.Prelude.{nat_le, nat_eq, ◌&&◌, ◌||◌, MatchOption, SomeIff}
 use Rattle.std.specs.Char.{digit_value, len_utf8, IsScalar, OutOfScalarRange, InScalarRange}
 use Rattle.std.proofs.lemmas.Bool.{lt-ltb, le-leb, le-ltb, lt-leb, and_right, and_parts, ltb-true, cases_Bool, cond_both}

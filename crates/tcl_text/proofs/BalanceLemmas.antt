@@ -1,7 +1,7 @@
 -- Braces in balance, mark by mark.
-use Rattle.std.proofs.Common.{◌≡◌, ◌≢◌, ℕ, zero, suc, ◌+◌, ◌-◌, ◌<◌, ◌≤◌, Bool, true, false, List, [], ◌∷◌, take, drop, length, get_or, nat_eq, add-one, Option, Some, None, refl, arith, ap, sym, ◌∙◌}
+use Rattle.std.proofs.Common.{◌≡◌, ◌≢◌, ℕ, zero, suc, ◌+◌, ◌-◌, ◌<◌, ◌≤◌, Bool, false, List, [], ◌∷◌, drop, length, get_or, nat_eq, add-one, Option, Some, None, refl, arith, ap, sym, ◌∙◌}
 use Rattle.std.specs.Option.{option_map_or}
-use Rattle.std.proofs.lemmas.List.{drop_more, drop-drop, drop_all, take_rest}
+use Rattle.std.proofs.lemmas.List.{drop-drop, drop_all}
 use Rattle.tcl_text.specs.Backslash.{kind_of, escape, byte_mark, escape_mark, marks, Mark}
 use Rattle.tcl_text.specs.Readings.{are_balanced, depth_after}
 use Rattle.tcl_text.specs.Splitting.{KeepsBalance}

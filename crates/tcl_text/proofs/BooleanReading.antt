@@ -1,10 +1,10 @@
 -- The relation of a text to its boolean is the function, both ways.
-use Rattle.std.proofs.Common.{◌≡◌, ℕ, ◌+◌, ◌<◌, ◌≤◌, Bool, true, false, List, [], ◌∷◌, Option, Some, None, ◌⊎◌, refl, arith, ap, sym, ◌∙◌, inl, inr}
+use Rattle.std.proofs.Common.{◌≡◌, ℕ, ◌≤◌, Bool, List, [], ◌∷◌, Option, Some, None, refl, arith, ap, sym, ◌∙◌, inl, inr}
 use Rattle.std.specs.Prelude.{ℤ}
 use Rattle.std.specs.Char.{to_ascii_lowercase}
-use Rattle.std.proofs.lemmas.Bool.{cases_lt, ltb-true}
+use Rattle.std.proofs.lemmas.Bool.{cases_lt}
 use Rattle.std.proofs.lemmas.Bool.Decides.{nat_tests}
-use Rattle.tcl_text.specs.Readings.{IsInteger, integer_of, IsBoolean, boolean_by, boolean_of, is_nonzero, only_word, words_begun}
+use Rattle.tcl_text.specs.Readings.{integer_of, IsBoolean, boolean_by, boolean_of, is_nonzero, only_word, words_begun}
 use Rattle.tcl_text.proofs.IntegerReading.{IsInteger-from_integer_of, integer_of-from_IsInteger, integer_of-letter}
 use Rattle.tcl_text.proofs.BooleanLemmas.{at_other}
 

@@ -22,3 +22,4 @@ pub mod SortLemmas
 pub mod ListReading
 pub mod RoundTrip
 pub mod WrittenIntegers
+pub mod CommandExamples

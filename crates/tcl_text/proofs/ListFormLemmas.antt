@@ -1,6 +1,6 @@
 -- The form of a list, step by step.
-use Rattle.std.proofs.Common.{◌≡◌, ℕ, zero, suc, ◌+◌, ◌<◌, ◌≤◌, Bool, true, false, not, List, [], ◌∷◌, ◌++◌, append_assoc, append-nil, take, drop, length, get_or, Some, None, refl, arith, ap, sym, ◌∙◌}
-use Rattle.std.proofs.lemmas.List.{drop_more, take_more, drop_all, take_all}
+use Rattle.std.proofs.Common.{◌≡◌, ℕ, ◌+◌, ◌<◌, ◌≤◌, true, false, List, [], ◌∷◌, ◌++◌, append_assoc, append-nil, take, drop, length, get_or, refl, arith, ap, sym, ◌∙◌}
+use Rattle.std.proofs.lemmas.List.{drop_more, take_more}
 use Rattle.std.proofs.lemmas.Bool.Decides.{nat_tests}
 use Rattle.tcl_text.specs.ListForm.{StopsAtSpecial}
 use Rattle.tcl_text.specs.Readings.{element_form, is_special, list_form, with_backslashes}

@@ -1,8 +1,16 @@
 -- Facts about the commands of list(n) and its kin.
-use Rattle.std.proofs.Common.{◌≡◌, ℕ, zero, suc, ◌+◌, ◌-◌, ◌<◌, ◌≤◌, min, Bool, true, false, List, [], ◌∷◌, ◌++◌, Option, Some, None, Result, Ok, Err, length, take, drop, get_or, map, refl, sym, ap, subst, ◌∙◌, inl, inr, arith, add-one}
-use Rattle.std.proofs.lemmas.Bool.{cases_lt}
-use Rattle.std.proofs.lemmas.List.{append-nil, append_assoc, length-append, length-take, length-drop, take_more, drop_all, drop-take}
-use Rattle.std.specs.Prelude.{if◌then◌else◌}
+use Rattle.std.proofs.Common.{◌≡◌, ℕ, zero, suc, ◌+◌, ◌-◌, ◌<◌, ◌≤◌, min, Bool, true, false, List, [], ◌∷◌, ◌++◌, Option, Some, None, Result, Ok, Err, length, take, drop, get_or, map, refl, sym, ap, subst, ◌∙◌, inl, inr, arith, add-one, eqb, ltb}
+use Rattle.std.proofs.lemmas.Bool.{cases_lt, ne_eqb, false≢true}
+use Rattle.std.proofs.lemmas.List.{append-nil, append_assoc, length-append, length-take, length-drop, take_more, drop_all, drop-take, take-append-drop, get_or-take}
+use Rattle.std.specs.Prelude.{if◌then◌else◌, ◌≢◌}
+use Rattle.std.specs.Char.{encode_utf8}
+use Rattle.tcl_text.specs.Glob.{Lacks}
+use Rattle.std.proofs.lemmas.Str.{encode_ascii, IsCharBoundary-after_ascii, IsCharBoundary-before_ascii, IsUtf8-take, chars-append, chars-nil}
+use Rattle.std.proofs.Math.Seq.{drop-cons}
+use Rattle.std.specs.Str.{IsCharBoundary}
+use Rattle.memchr.specs.Find.{IsFirstByte, is_byte}
+use Rattle.tcl_text.proofs.GlobLemmas.{chars-ascii_cons}
+use Rattle.std.proofs.lemmas.Bool.Decides.{eqb_tells, nat_tests}
 use Rattle.tcl_text.specs.ListCommands.{joined, cut_at, with_first, is_one_of, characters_of, pieces_of, parts_of}
 use Rattle.std.specs.Str.{chars, IsUtf8, encode_utf8_all}
 use Rattle.std.proofs.lemmas.Str.{encodes-chars}
@@ -104,3 +112,86 @@ parts-pieces (b ∷ bs) (s ∷ separators) some seps = refl
 pub white_separators : chars (32 ∷ 9 ∷ 10 ∷ 11 ∷ 12 ∷ 13 ∷ []) ≡ 32 ∷ 9 ∷ 10 ∷ 11 ∷ 12 ∷ 13 ∷ []
 unfolding chars
 white_separators = refl
+
+-- characters that are bytes: what a text's bytes lack its characters lack
+Lacks-parts : (b : ℕ) (xs ys : List ℕ) → Lacks b (xs ++ ys) → Lacks b xs × Lacks b ys
+Lacks-parts b [] ys h = (tt, h)
+Lacks-parts b (x ∷ xs) ys h = let parts = Lacks-parts b xs ys h.1 in ((h.0, parts.0), parts.1)
+
+chars-lack : (b : ℕ) (cs : List ℕ) → b < 128 → Lacks b (encode_utf8_all cs) → Lacks b cs
+chars-lack b [] ascii h = tt
+chars-lack b (c ∷ cs) ascii h =
+    let parts = Lacks-parts b (encode_utf8 c) (encode_utf8_all cs) h in (
+      λ same.
+          let one : encode_utf8 c ≡ b ∷ [] = ap encode_utf8 same ∙ encode_ascii b ascii in
+          let lacks : Lacks b (b ∷ []) = subst (Lacks b) one parts.0 in
+          lacks.0 refl,
+      chars-lack b cs ascii parts.1,
+    )
+
+Lacks-from_places : (b : ℕ) (xs : List ℕ) → ((k : ℕ) → k < length xs → get_or xs k 0 ≡ b → ⊥) → Lacks b xs
+Lacks-from_places b [] h = tt
+Lacks-from_places b (x ∷ xs) h = (h 0 (omega arith), Lacks-from_places b xs (λ k within. h (suc k) (omega arith)))
+
+eqb_itself : (b : ℕ) → eqb b b ≡ true
+eqb_itself b = elim (eqb_tells b b) [ inl w ↦ w.0 | inr w ↦ absurd (w.1 refl) ]
+
+cut_at-lacking : (b : ℕ) (front rest : List ℕ) → Lacks b front → cut_at (is_one_of (b ∷ [])) (front ++ b ∷ rest) ≡ front ∷ cut_at (is_one_of (b ∷ [])) rest
+cut_at-lacking b [] rest h = rw (eqb_itself b) refl
+cut_at-lacking b (c ∷ cs) rest h = rw (ne_eqb b c (λ e. h.0 (sym e)), cut_at-lacking b cs rest h.1) refl
+
+cut_at-none : (b : ℕ) (cs : List ℕ) → Lacks b cs → cut_at (is_one_of (b ∷ [])) cs ≡ cs ∷ []
+cut_at-none b [] h = refl
+cut_at-none b (c ∷ cs) h = rw (ne_eqb b c (λ e. h.0 (sym e)), cut_at-none b cs h.1) refl
+
+byte_is : (b x : ℕ) → eqb x b ≡ true → x ≡ b
+byte_is b x e = elim (eqb_tells x b) [ inl w ↦ w.1 | inr w ↦ absurd (false≢true (sym w.0 ∙ e)) ]
+
+is_byte_at : (b x : ℕ) → x ≡ b → eqb x b ≡ true
+is_byte_at b x e = elim (eqb_tells x b) [ inl w ↦ w.0 | inr w ↦ absurd (w.1 e) ]
+
+-- one separator that is a byte, by its bytes
+pub one_separator : (b : ℕ) (bytes : List ℕ) → b < 128 → bytes ≡ b ∷ [] → chars bytes ≡ b ∷ []
+one_separator b bytes ascii is =
+    let ascii_test : ltb b 128 ≡ true = grind (arith, nat_tests) in
+    ap chars is ∙ chars-ascii_cons b [] ascii_test ∙ ap (λ (t : List ℕ). b ∷ t) chars-nil
+
+-- the first byte that is the separator cuts the characters
+pub byte-found : (b : ℕ) (text : List ℕ) (place : ℕ) (front rest : List ℕ) → b < 128 → IsUtf8 text → IsFirstByte (is_byte b) text (Some place) → front ≡ take place text → rest ≡ drop (place + 1) text → cut_at (is_one_of (b ∷ [])) (chars text) ≡ chars front ∷ cut_at (is_one_of (b ∷ [])) (chars rest)
+byte-found b text place front rest ascii utf8 h is_front is_rest =
+    let high = h.0.high in
+    let here : get_or text place 0 ≡ b = byte_is b (get_or text place 0) h.1 in
+    let low : get_or text place 0 < 128 = omega arith in
+    let boundary = IsCharBoundary-before_ascii text place high low in
+    let front_utf8 : IsUtf8 front = subst IsUtf8 (sym is_front) (IsUtf8-take text place utf8 boundary) in
+    let next : drop place text ≡ b ∷ rest =
+    drop-cons text place 0 high ∙ ap (λ (x : ℕ). x ∷ drop (suc place) text) here ∙ ap (λ (n : ℕ). b ∷ drop n text) (sym (add-one place)) ∙ ap (λ (t : List ℕ). b ∷ t) (sym is_rest)
+    in
+    let whole : text ≡ front ++ b ∷ rest =
+    sym (take-append-drop place text) ∙ ap (λ (t : List ℕ). t ++ drop place text) (sym is_front) ∙ ap (λ (t : List ℕ). front ++ t) next
+    in
+    let ascii_test : ltb b 128 ≡ true = grind (arith, nat_tests) in
+    let cut : chars text ≡ chars front ++ b ∷ chars rest =
+    ap chars whole ∙ chars-append front (b ∷ rest) front_utf8 ∙ ap (λ (t : List ℕ). chars front ++ t) (chars-ascii_cons b rest ascii_test)
+    in
+    let front_lacks : Lacks b front =
+    subst (Lacks b) (sym is_front) (Lacks-from_places b (take place text) (λ k within e.
+    let below : k < place = omega (arith, length-take place text) in
+    h.0.before k (omega arith) below (is_byte_at b (get_or text k 0) (sym (get_or-take place text k 0 below) ∙ e))))
+    in
+    let lacks = chars-lack b (chars front) ascii (subst (Lacks b) (sym (encodes-chars front front_utf8)) front_lacks) in
+    ap (cut_at (is_one_of (b ∷ []))) cut ∙ cut_at-lacking b (chars front) (chars rest) lacks
+
+pub byte-none : (b : ℕ) (text : List ℕ) → b < 128 → IsUtf8 text → IsFirstByte (is_byte b) text None → cut_at (is_one_of (b ∷ [])) (chars text) ≡ chars text ∷ []
+byte-none b text ascii utf8 h = cut_at-none b (chars text) (chars-lack b (chars text) ascii (subst (Lacks b) (sym (encodes-chars text utf8)) (Lacks-from_places b text (λ k within e. h k (omega arith) within (is_byte_at b (get_or text k 0) e)))))
+
+pub byte-after : (b : ℕ) (text : List ℕ) (place : ℕ) → b < 128 → IsUtf8 text → IsFirstByte (is_byte b) text (Some place) → IsCharBoundary text (place + 1)
+byte-after b text place ascii utf8 h =
+    let high = h.0.high in
+    let here : get_or text place 0 ≡ b = byte_is b (get_or text place 0) h.1 in
+    IsCharBoundary-after_ascii text place utf8 high (omega arith)
+
+pub only_byte : (bytes : List ℕ) → length bytes ≡ 1 → bytes ≡ get_or bytes 0 0 ∷ []
+only_byte [] e = absurd (omega arith)
+only_byte (b ∷ []) e = refl
+only_byte (b ∷ c ∷ cs) e = absurd (omega arith)

@@ -1,12 +1,12 @@
 -- What the form of a list reads as: its items.
-use Rattle.std.proofs.Common.{◌≡◌, ◌≢◌, ℕ, zero, suc, ◌+◌, ◌*◌, ◌<◌, ◌≤◌, Bool, true, false, not, cond, List, [], ◌∷◌, ◌++◌, append_assoc, append-nil, take, drop, length, nat_eq, nat_lt, subst, Ok, Err, refl, arith, ap, sym, ◌∙◌, inl, inr}
-use Rattle.std.specs.Prelude.{nat_le, ◌&&◌, ◌||◌, ◌==◌, codes}
+use Rattle.std.proofs.Common.{◌≡◌, ◌≢◌, ℕ, zero, suc, ◌+◌, ◌*◌, ◌≤◌, Bool, true, false, not, cond, List, [], ◌∷◌, ◌++◌, append_assoc, append-nil, take, drop, length, nat_eq, nat_lt, subst, Ok, refl, arith, ap, sym, ◌∙◌, inl, inr}
+use Rattle.std.specs.Prelude.{nat_le, ◌&&◌, ◌==◌}
 use Rattle.std.specs.List.{list_all}
 use Rattle.std.specs.Char.{digit_value}
-use Rattle.std.proofs.lemmas.Bool.{cases_Bool, and_parts, and_from, or_parts, or_cases, eqb-true, both_ways, not-true, cases_eq, leb-true, le-ltb, ne_eqb}
+use Rattle.std.proofs.lemmas.Bool.{cases_Bool, and_parts, or_parts, or_cases, eqb-true, both_ways, not-true, cases_eq, leb-true, le-ltb}
 use Rattle.std.proofs.lemmas.List.{take-append-le, take-append-drop}
-use Rattle.tcl_text.specs.Backslash.{Digits, Escape, Mark, blanks, byte_mark, digits_from, escape, escape_mark, is_white, kind_of, marks, marks_past, named, numbered}
-use Rattle.tcl_text.specs.Readings.{AreElements, IsElement, IsElementEnd, are_balanced, bare, Reading, begins_comment, begun, between, braced, can_be_bare, can_be_braced, element_form, elements, has_joined_line, is_special, is_white_mark, letter_of, list_form, list_of, meant, onto, reading, with_backslashes, written}
+use Rattle.tcl_text.specs.Backslash.{Digits, Escape, Mark, byte_mark, digits_from, escape, escape_mark, is_white, kind_of, marks, marks_past, numbered}
+use Rattle.tcl_text.specs.Readings.{IsElement, IsElementEnd, are_balanced, bare, Reading, begins_comment, begun, between, braced, can_be_bare, can_be_braced, element_form, elements, has_joined_line, is_special, is_white_mark, letter_of, list_form, list_of, meant, onto, reading, with_backslashes, written}
 use Rattle.tcl_text.proofs.BackslashLemmas.{escape_within}
 use Rattle.tcl_text.proofs.ListFormLemmas.{list_form-cons, others_form}
 use Rattle.tcl_text.proofs.ListReading.{reads_element}

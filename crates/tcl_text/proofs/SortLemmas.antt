@@ -177,3 +177,20 @@ keyed-refused e items pairs i item within is whole h =
     refused e (keyed (item ∷ others)) (λ rest. Ok (pairs ++ rest)) first
     in
     subst (λ (r : Result (List (ℤ × List ℕ)) (List ℕ)). Gives {T = List (ℤ × List ℕ)} (Err e) r) (sym (whole ∙ ap (λ (t : List (List ℕ)). keyed t >>= λ rest. Ok (pairs ++ rest)) here)) all
+
+module _ {X : Type 0} (lt : X → X → Bool) (o : IsStrictWeakOrder lt) where
+  neighbours : (ys : List X) → Ascends lt o ys → (k : ℕ) (d : X) → suc k < length ys → lt (get_or ys (suc k) d) (get_or ys k d) ≡ false
+  unfolding Ascends NoneBelow
+  neighbours [] a k d within = absurd (omega arith)
+  neighbours (y ∷ []) a k d within = absurd (omega arith)
+  neighbours (y ∷ z ∷ zs) a zero d within = a.0.0
+  neighbours (y ∷ z ∷ zs) a (suc k) d within = neighbours (z ∷ zs) a.1 k d (omega arith)
+
+  -- what is put in order ascends, and items that tie keep theirs
+  pub sorted-ascends : (xs : List X) → IsSortedBy lt (sorted lt xs)
+  sorted-ascends xs k d low within =
+      let one : k + 1 ≡ suc k = add-one k in
+      subst (λ (n : ℕ). lt (get_or (sorted lt xs) n d) (get_or (sorted lt xs) k d) ≡ false) (sym one) (neighbours (sorted lt xs) (Ascends-sorted lt o xs) k d (omega arith))
+
+  pub sorted-stable : (xs : List X) → IsStableBy lt xs (sorted lt xs)
+  sorted-stable xs a = filter-sorted lt o a xs

@@ -1,8 +1,7 @@
 -- Where a text may be cut, and that what a backslash stands for leaves it one.
-use Rattle.std.proofs.Common.{◌≡◌, ℕ, zero, suc, ◌+◌, ◌*◌, ◌<◌, ◌≤◌, Bool, true, false, List, [], ◌∷◌, ◌++◌, append_assoc, take, drop, length, get_or, nat_eq, nat_lt, cond, refl, arith, ap, sym, ◌∙◌, subst, inl, inr, IsUtf8, encode_utf8, add-one}
+use Rattle.std.proofs.Common.{◌≡◌, ℕ, zero, suc, ◌+◌, ◌*◌, ◌<◌, ◌≤◌, true, false, List, [], ◌∷◌, ◌++◌, append_assoc, drop, length, get_or, nat_eq, nat_lt, refl, arith, ap, sym, ◌∙◌, subst, inl, inr, IsUtf8, encode_utf8}
 use Rattle.std.specs.Prelude.{nat_le, ◌&&◌, ◌||◌}
 use Rattle.std.specs.Char.{digit_value, IsScalar}
-use Rattle.std.specs.Str.{IsCharBoundary}
 use Rattle.std.proofs.lemmas.Bool.{cases_Bool, cond_both, eqb-true, and_parts, or_cases, ltb-true, leb-true, cases_lt, leb-false, and_cases, lt-ltb, le-ltb, le-leb}
 use Rattle.std.proofs.lemmas.Bool.Decides.{nat_tests}
 use Rattle.std.proofs.lemmas.List.{take_at, drop_at, drop-drop, get_or_at, length-append}

@@ -1,5 +1,5 @@
 -- A written integer reads as itself.
-use Rattle.std.proofs.Common.{◌≡◌, ◌≢◌, ℕ, zero, suc, ◌+◌, ◌^◌, ◌<◌, ◌≤◌, Bool, true, false, List, [], ◌∷◌, get_or, length, nat_eq, Some, refl, arith, sym, ◌∙◌, ap, subst, inr, append-nil, ℤ, pos, negsuc}
+use Rattle.std.proofs.Common.{◌≡◌, ℕ, zero, suc, ◌^◌, ◌<◌, ◌≤◌, true, false, List, [], ◌∷◌, get_or, refl, arith, sym, ap, subst, inr, append-nil, ℤ, pos, negsuc}
 use Rattle.std.specs.Prelude.{FitsSigned}
 use Rattle.std.specs.Fmt.{decimal, signed_decimal}
 use Rattle.std.specs.Int.{w64}

@@ -2,7 +2,7 @@
 use Rattle.std.specs.Prelude.{◌≡◌, ◌≢◌, ◌⊎◌, ℕ, zero, suc, ◌+◌, ◌*◌, ◌^◌, ℤ, pos, neg_ℤ, Bool, true, false, not, ◌&&◌, ◌||◌, ◌==◌, nat_lt, nat_le, if◌then◌else◌, List, [], ◌∷◌, ◌++◌, map, filter, IsTrue, Option, Some, None, Result, Ok, Err, codes, ⊤}
 use Rattle.std.specs.Char.{digit_value, to_ascii_lowercase}
 use Rattle.std.specs.Option.{option_map_or}
-use Rattle.std.specs.List.{starts_with, list_all, join_with_byte, flat_map}
+use Rattle.std.specs.List.{list_all, join_with_byte, flat_map}
 use Rattle.std.specs.Str.Parse.{AllDigits, digits_value}
 use Rattle.tcl_text.specs.Backslash.{is_white, Mark, marks}
 use Rattle.tcl_text.specs.declared.splitting.ByteKind.{ByteKind}

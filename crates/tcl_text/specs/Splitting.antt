@@ -1,5 +1,5 @@
 -- What the steps of splitting a list say, in the words of the readings.
-use Rattle.std.specs.Prelude.{◌≡◌, ℕ, ◌+◌, ◌<◌, ◌≤◌, ◌==◌, ◌⊎◌, IsUtf8, codes, Bool, true, false, List, [], ◌∷◌, ◌++◌, take, drop, length, slice_index, IsTrue, Option, Some, None, Result, Ok, Err, ⊤}
+use Rattle.std.specs.Prelude.{◌≡◌, ℕ, ◌+◌, ◌<◌, ◌≤◌, ◌==◌, ◌⊎◌, IsUtf8, codes, Bool, true, false, List, [], ◌∷◌, ◌++◌, take, drop, length, slice_index, Option, Some, None, Result, Ok, Err, ⊤}
 use Rattle.std.specs.Borrow.{Bor}
 use Rattle.tcl_text.specs.Backslash.{is_white, marks}
 use Rattle.tcl_text.specs.Readings.{Place, in_braces, in_quotes, in_bare, closed, Reading, onto, reading, list_of, are_balanced}

@@ -8,6 +8,7 @@ mod answers;
 mod indices;
 mod integers;
 mod items;
+pub mod laws;
 mod lists;
 mod sorting;
 mod splits;

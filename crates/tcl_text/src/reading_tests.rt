@@ -262,6 +262,47 @@ fn joined_lists(rt: HostRuntime) -> Result<(), Fail> {
 }
 
 #[test]
+fn lists_of_texts(rt: HostRuntime) -> Result<(), Fail> {
+    let mut texts = Vec::new(rt.alloc());
+    texts.push(Text::new(rt.alloc(), "")?)?;
+    let mut list = TextList::from_vec(texts);
+    list.push(Text::new(rt.alloc(), "a b")?)?;
+    assert_eq!(rt; list.len(), 2);
+    assert!(rt; !list.is_empty());
+    let joined = Text::join_list(rt.alloc(), list.as_slice())?;
+    assert_eq!(rt; joined.as_str(), "{} {a b}");
+    assert_eq!(rt; list.into_vec().len(), 2);
+    assert!(rt; TextList::new(rt.alloc()).is_empty());
+    Ok(())
+}
+
+// Texts of up to 22 bytes are kept in place, longer ones in shared memory.
+#[test]
+fn short_and_long(rt: HostRuntime) -> Result<(), Fail> {
+    let cases = [
+        "",
+        "a",
+        "é",
+        "12345678901234567890123",
+        "1234567890123456789012",
+        "ééééééééééé",
+        "éééééééééééé",
+        "zz",
+    ];
+    let mut last = Text::new(rt.alloc(), "")?;
+    for characters in cases {
+        let text = Text::new(rt.alloc(), characters)?;
+        assert_eq!(rt; text.as_str(), characters);
+        let copy = text.copy()?;
+        assert_eq!(rt; copy.as_str(), characters);
+        assert!(rt; copy == text);
+        assert_eq!(rt; text < last, characters < last.as_str());
+        last = copy;
+    }
+    Ok(())
+}
+
+#[test]
 fn limits(rt: HostRuntime) -> Result<(), Fail> {
     let mut characters = String::new(rt.alloc());
     for _ in 0..65_536 {
@@ -271,12 +312,11 @@ fn limits(rt: HostRuntime) -> Result<(), Fail> {
     assert_eq!(rt; longest.as_str().len(), 65_536);
     let alone = Text::join_list(rt.alloc(), [longest].as_slice())?;
     let two = [alone, Text::new(rt.alloc(), "b")?];
-    assert!(rt;
-        matches!(
-            Text::join_list(rt.alloc(), two.as_slice()),
-            Err(TextFault::TooLong)
-        )
-    );
+    match Text::join_list(rt.alloc(), two.as_slice()) {
+        Err(TextFault::TooLong) => {}
+        Err(fault) => return Err(fault.into()),
+        Ok(_) => panic!(rt; "too long a list"),
+    }
     characters.push('a')?;
     assert!(rt;
         matches!(

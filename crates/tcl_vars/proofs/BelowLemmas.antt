@@ -1,5 +1,5 @@
 -- Links lead to earlier frames.
-use Rattle.std.proofs.Common.{◌≡◌, ℕ, zero, suc, ◌<◌, Bool, true, false, cond, List, [], ◌∷◌, ◌++◌, take, Option, None, Some, Ok, bytes_eq, refl, sym, subst}
+use Rattle.std.proofs.Common.{◌≡◌, ℕ, zero, suc, ◌<◌, Bool, true, false, cond, List, [], ◌∷◌, take, Option, None, Some, Ok, bytes_eq, subst}
 use Rattle.tcl_vars.specs.declared.content.Content.{Content}
 use Rattle.tcl_vars.specs.declared.content.Content.TheVariants.{Scalar, Array, Link}
 use Rattle.tcl_vars.specs.Sound.{IsBelow, AllBelow, FramesDescend, LinksDescend}
@@ -50,15 +50,6 @@ content_with-below level (Some (Scalar text)) (Some index) value (Link to name) 
 content_with-below level (Some (Array elements)) None value (Link to name) e = absurd (cc)
 content_with-below level (Some (Array elements)) (Some index) value (Link to name) e = absurd (cc)
 content_with-below level (Some (Link from there)) element value (Link to name) e = absurd (cc)
-
-frame_at-push : (store : Store) (level : ℕ) → frame_at (store ++ [] ∷ []) level ≡ frame_at store level
-frame_at-push [] zero = refl
-frame_at-push [] (suc level) = refl
-frame_at-push (f ∷ fs) zero = refl
-frame_at-push (f ∷ fs) (suc level) = frame_at-push fs level
-
-pub FramesDescend-push : (store : Store) → FramesDescend store → FramesDescend (store ++ [] ∷ [])
-FramesDescend-push store down level = subst (AllBelow level) (sym (frame_at-push store level)) (down level)
 
 below-take : (base n level : ℕ) (store : Store) → AllBelow base (frame_at store level) → AllBelow base (frame_at (take n store) level)
 below-take base zero level store h = tt

@@ -22,10 +22,6 @@ module _ (store rest : Store) (last : Frame) (count : ℕ) (sound : IsSound stor
   variable_count-rest : variable_count store ≡ variable_count rest + frame_count last
   variable_count-rest = ap variable_count ends ∙ sum_by_push frame_count rest last
 
-  -- the last frame's count is within the limit
-  pub last-count : frame_count last ≤ count
-  last-count = omega (arith, variable_count-rest, sound.counted)
-
   -- the store without its last frame
   pub IsSound-rest : 1 < length store → IsSound rest (count - frame_count last)
   IsSound-rest some = record {

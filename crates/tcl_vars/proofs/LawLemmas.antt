@@ -1,5 +1,6 @@
 -- Laws of the store: the frames stay, and what is set is read.
-use Rattle.std.proofs.Common.{◌≡◌, ◌≢◌, ℕ, zero, suc, ◌<◌, ◌≤◌, Bool, true, false, cond, nat_eq, nat_le, not, if◌then◌else◌, List, [], ◌∷◌, length, set, Option, None, Some, Ok, Err, Result, option_and_then, bytes_eq, ◌⊎◌, inl, inr, refl, sym, ap, ◌∙◌, arith, length-set, ok_or, le_refl}
+use Rattle.std.proofs.Common.{◌≡◌, ◌≢◌, ℕ, zero, suc, ◌<◌, ◌≤◌, Bool, true, false, cond, nat_eq, nat_le, not, MatchBool, if◌then◌else◌, List, [], ◌∷◌, length, set, Option, None, Some, Ok, Err, Result, option_and_then, bytes_eq, ◌⊎◌, inl, inr, refl, sym, ap, ◌∙◌, arith, length-set, ok_or, le_refl}
+use Rattle.std.specs.Bool.{OnTrue}
 use Rattle.std.specs.Cmp.Lexicographic.{bytes_decides}
 use Rattle.std.proofs.lemmas.List.{get_or-set_other}
 use Rattle.std.proofs.lemmas.Grind.{get_or-set_at}
@@ -13,10 +14,11 @@ use Rattle.tcl_vars.specs.declared.fault.UnsetFault.{UnsetFault}
 use Rattle.tcl_vars.specs.declared.fault.LinkFault.TheVariants as links
 use Rattle.tcl_vars.specs.Name.{Place, place_of}
 use Rattle.tcl_vars.specs.Sound.{LinksDescend}
-use Rattle.tcl_vars.specs.Store.{Store, frame_at, content_at, with_content, variable_count, link_of, indexed, led_by, led, end_of, place_in, element_place_in, text_of, text_at, content_with, within_limit, with_new_content, with_text_at, with_variable, with_element, content_without, frame_with_rest, with_rest, without_text_at, without_variable, without_element, array_state, with_array_of, with_array_at, with_array, is_plain, holds_value, variable_place, with_link}
+use Rattle.tcl_vars.specs.Store.{Store, Frame, frame_with_rest, frame_at, content_at, with_content, variable_count, link_of, indexed, led_by, led, end_of, place_in, element_place_in, text_of, text_at, content_with, within_limit, with_new_content, with_text_at, with_variable, with_element, content_without, with_rest, without_text_at, without_variable, without_element, array_state, with_array_of, with_array_at, with_array, is_plain, holds_value, variable_place, with_link, is_there, is_there_at}
 use Rattle.tcl_vars.specs.Table.{value_at, with_value}
+use Rattle.tcl_vars.specs.Unset.{UnsetsText, Unsets, IsGone}
 use Rattle.tcl_vars.proofs.LinkLemmas.{led-end, next_below}
-use Rattle.tcl_vars.proofs.TableLemmas.{value_at-with_value, bytes_eq-refl}
+use Rattle.tcl_vars.proofs.TableLemmas.{value_at-with_value, value_at-without-other, bytes_eq-refl}
 
 -- the frames stay
 
@@ -119,6 +121,14 @@ content_with-linkless (Some (Array elements)) None value content e = absurd (cc)
 content_with-linkless (Some (Array elements)) (Some index) value content e = let is : content ≡ Array (with_value elements index value) = cc in ap (λ c. link_of (Some c)) is
 content_with-linkless (Some (Link level name)) element value content e = absurd (cc)
 
+led_by-same : (place : Place) (link : Option (ℕ × List ℕ)) (f g : Place → Option Place) → ((next : Place) → f next ≡ g next) → led_by place link f ≡ led_by place link g
+led_by-same place None f g h = refl
+led_by-same place (Some link) f g h = by (indexed (place_of link.0 link.1) place.element)
+  where
+    by : (o : Option Place) → option_and_then f o ≡ option_and_then g o
+    by None = refl
+    by (Some next) = h next
+
 module _ (store : Store) (end : Place) (within : end.level < length store) (content : Content) where
   -- the content of a variable after another, or this one, is given one
   content_at-with_content : (place : Place) → content_at (with_content store end content) place
@@ -169,14 +179,6 @@ module _ (store : Store) (end : Place) (within : end.level < length store) (cont
         by (inr there) =
             ap (λ b. link_of (if b then cond (bytes_eq place.variable end.variable) (Some content) (content_at store place) else content_at store place)) there.0
 
-    led_by-same : (place : Place) (link : Option (ℕ × List ℕ)) (f g : Place → Option Place) → ((next : Place) → f next ≡ g next) → led_by place link f ≡ led_by place link g
-    led_by-same place None f g h = refl
-    led_by-same place (Some link) f g h = by (indexed (place_of link.0 link.1) place.element)
-      where
-        by : (o : Option Place) → option_and_then f o ≡ option_and_then g o
-        by None = refl
-        by (Some next) = h next
-
     -- and lead where they led
     pub led-with_content : (n : ℕ) (place : Place) → led (with_content store end content) n place ≡ led store n place
     unfolding led
@@ -216,3 +218,61 @@ text_at-with_text_at store down place within value new e = by (end_of store plac
         ∙ ap (text_at (with_content store end is.0)) (led-with_content store end low is.0 (led-end store down place.level place end (le_refl _) leads) linkless place.level place ∙ leads)
         ∙ ap (λ c. text_of c end.element) (content_at-there store end low is.0)
         ∙ text_of-content_with (content_at store end) end.element value is.0 is.1
+
+-- what is unset is gone
+
+-- stores with the same links lead alike
+led-same : (old new : Store) → ((place : Place) → link_of (content_at new place) ≡ link_of (content_at old place)) → (n : ℕ) (place : Place) → led new n place ≡ led old n place
+unfolding led
+led-same old new same zero place = refl
+led-same old new same (suc n) place =
+    ap (λ l. led_by place l (λ next. led new n next)) (same place)
+    ∙ led_by-same place (link_of (content_at old place)) (λ next. led new n next) (λ next. led old n next) (led-same old new same n)
+
+pub is_there_at-IsGone : (old new : Store) (place end : Place) → end_of old place ≡ Some end → IsGone old new end → is_there_at new (end_of new place) ≡ false
+is_there_at-IsGone old new place end leads gone =
+    ap (is_there_at new) (led-same old new gone.links place.level place ∙ leads) ∙ gone.gone
+
+-- the links of a frame in which one name, which is no link before and after, has changed
+SameElsewhere : Frame → List ℕ → Frame → Type 0
+SameElsewhere old name new = (other : List ℕ) → bytes_eq other name ≡ false → value_at new other ≡ value_at old other
+
+-- a store in which the text of a place is unset
+pub IsGone-set : (store : Store) (place : Place) → place.level < length store → (removed : ℕ) (new : Frame) → UnsetsText (frame_at store place.level) place removed new
+    → IsGone store (set store place.level new) place
+unfolding SameElsewhere
+IsGone-set store place within removed new unsets = record {
+  gone = ap (λ f. is_there (value_at f place.variable) place.element) (get_or-set_at store place.level place.level new [] refl within) ∙ unsets.gone;
+  links = links;
+}
+  where
+    elsewhere : SameElsewhere (frame_at store place.level) place.variable new
+    elsewhere other differs =
+        ap (λ f. value_at f other) unsets.frame ∙ by unsets.rest
+      where
+        by : (rest : Option Content) → value_at (frame_with_rest (frame_at store place.level) place.variable rest) other ≡ value_at (frame_at store place.level) other
+        by None = value_at-without-other (frame_at store place.level) place.variable other differs
+        by (Some content) = value_at-with_value place.variable content (frame_at store place.level) other ∙ ap (λ b. cond b (Some content) (value_at (frame_at store place.level) other)) differs
+
+    links : (other : Place) → link_of (content_at (set store place.level new) other) ≡ link_of (content_at store other)
+    links other = level_by (eqb_tells other.level place.level)
+      where
+        name_by : (b : Bool) → bytes_eq other.variable place.variable ≡ b → link_of (value_at new other.variable) ≡ link_of (value_at (frame_at store place.level) other.variable)
+        name_by true is =
+            let same : other.variable ≡ place.variable = (bytes_decides other.variable place.variable).0 is in
+            ap (λ n. link_of (value_at new n)) same ∙ unsets.linkless_then ∙ sym (ap (λ n. link_of (value_at (frame_at store place.level) n)) same ∙ unsets.linkless)
+        name_by false is = ap link_of (elsewhere other.variable is)
+
+        level_by : ((nat_eq other.level place.level ≡ true) × (other.level ≡ place.level)) ⊎ ((nat_eq other.level place.level ≡ false) × (other.level ≢ place.level))
+            → link_of (content_at (set store place.level new) other) ≡ link_of (content_at store other)
+        level_by (inl here) =
+            ap (λ f. link_of (value_at f other.variable)) (get_or-set_at store place.level other.level new [] here.1 within)
+            ∙ name_by (bytes_eq other.variable place.variable) refl
+            ∙ ap (λ l. link_of (value_at (frame_at store l) other.variable)) (sym here.1)
+        level_by (inr there) = ap (λ f. link_of (value_at f other.variable)) (get_or-set_other store place.level other.level new [] there.1)
+
+-- where links end the text is gone
+pub gone_at_end : (store new : Store) (place : Place) (done : Bool) → link_of (content_at store place) ≡ None
+    → MatchBool done (Unsets store place (Ok new)) ((link_of (content_at store place) ≢ None) × (new ≡ store)) → OnTrue done (IsGone store new place) → IsGone store new place
+gone_at_end store new place true linkless h gone = gone
+gone_at_end store new place false linkless h gone = absurd (h.0 linkless)

@@ -6,14 +6,11 @@ use Rattle.std.proofs.lemmas.Grind.{get_or-set_at}
 use Rattle.std.proofs.lemmas.Bool.{true_from_ne_false, false_from_ne_true}
 use Rattle.std.proofs.lemmas.Bool.Decides.{eqb_tells, nat_tests}
 use Rattle.std.proofs.lemmas.List.Sums.{sum_by-set}
-use Rattle.tcl_vars.specs.declared.content.Content.{Content}
 use Rattle.tcl_vars.specs.declared.fault.SetFault.{SetFault}
-use Rattle.tcl_vars.specs.declared.fault.SetFault.TheVariants.{Full}
 use Rattle.tcl_vars.specs.Name.{Place}
-use Rattle.tcl_vars.specs.Put.{PutsText, RefusesText, IsReason, Sets}
+use Rattle.tcl_vars.specs.Put.{PutsText, Sets}
 use Rattle.tcl_vars.specs.Sound.{AllBelow, FramesDescend, IsSound}
-use Rattle.tcl_vars.specs.Store.{Store, Frame, frame_at, content_at, with_content, link_of, frame_count, variable_count, content_with, within_limit, with_new_content, with_text_at, end_of}
-use Rattle.tcl_vars.specs.Table.{with_value}
+use Rattle.tcl_vars.specs.Store.{Store, Frame, frame_at, content_at, link_of, frame_count, variable_count, within_limit, with_text_at, end_of}
 use Rattle.tcl_vars.proofs.BelowLemmas.{AllBelow-with_value, content_with-below}
 use Rattle.tcl_vars.proofs.LinkLemmas.{led-here}
 
@@ -55,29 +52,6 @@ module _ (store : Store) (count : ℕ) (sound : IsSound store count) (place : Pl
       limited = omega (arith, puts.fits, sound.limited);
       descending = FramesDescend-set store place.level within new sound.descending below;
     }
-
-    -- and is the one that the definition gives
-    pub Sets-ok : Sets store place value (Ok (set store place.level new))
-    Sets-ok = record {
-      linkless = puts.linkless;
-      given = ap (with_new_content store place) puts.given
-          ∙ ap (λ f. within_limit Full (set store place.level f)) (sym puts.frame)
-          ∙ within_limit-ok Full (set store place.level new) (omega (arith, counted-set, puts.fits, sound.limited));
-    }
-
-  -- the definition gives the refusal too
-  pub Sets-err : (fault : SetFault) → RefusesText (frame_at store place.level) place value (4096 - count) fault → Sets store place value (Err fault)
-  Sets-err fault refuses = record {
-    linkless = refuses.linkless;
-    given = by (content_with (content_at store place) place.element value) refuses.reason;
-  }
-    where
-      by : (r : Result Content SetFault) → IsReason (frame_at store place.level) place (4096 - count) fault r → with_new_content store place r ≡ Err fault
-      by (Ok content) h =
-          within_limit-full Full (with_content store place content)
-          (omega (arith, h.1, variable_count-set store place.level within (with_value (frame_at store place.level) place.variable content), sound.counted, sound.limited))
-          ∙ ap Err (sym h.0)
-      by (Err refusal) h = ap Err (sym h)
 
 module _ (store : Store) (place : Place) (value : List ℕ) where
   -- a place whose variable is no link

@@ -111,3 +111,13 @@ module _ {V : Type 0} where
       by : (b : Bool) → IsSome (cond b (Some e.1) (value_at es name)) → (IsSome (value_at es name) → length (without es name) + 1 ≡ length es) → length (cond b es (e ∷ without es name)) + 1 ≡ length (e ∷ es)
       by true h rest = omega arith
       by false h rest = omega (arith, rest h)
+
+  -- the other names keep their values
+  pub value_at-without-other : (table : Table V) (name other : List ℕ) → bytes_eq other name ≡ false → value_at (without table name) other ≡ value_at table other
+  value_at-without-other [] name other differs = refl
+  value_at-without-other (e ∷ es) name other differs = by (bytes_eq name e.0) (λ h. (bytes_decides name e.0).0 h) (value_at-without-other es name other differs)
+    where
+      by : (b : Bool) → (b ≡ true → name ≡ e.0) → value_at (without es name) other ≡ value_at es other
+          → value_at (cond b es (e ∷ without es name)) other ≡ cond (bytes_eq other e.0) (Some e.1) (value_at es other)
+      by true same rest = sym (ap (λ b. cond b (Some e.1) (value_at es other)) (ap (bytes_eq other) (sym (same refl)) ∙ differs))
+      by false same rest = ap (cond (bytes_eq other e.0) (Some e.1)) rest

@@ -1,24 +1,36 @@
 -- Unsetting in a frame, by what it does in the content, and in a store, by what it does in the frame.
-use Rattle.std.proofs.Common.{◌≡◌, ◌≢◌, ℕ, ◌+◌, ◌-◌, ◌<◌, ◌≤◌, Bool, true, false, List, Option, None, Some, is_some, if◌then◌else◌, MatchBool, Ok, Err, Result, length, set, refl, sym, ap, ◌∙◌, subst, arith, length-set}
+use Rattle.std.proofs.Common.{◌≡◌, ◌≢◌, ℕ, ◌+◌, ◌-◌, ◌<◌, Bool, true, false, cond, List, Option, None, Some, is_some, if◌then◌else◌, MatchBool, Ok, Err, Result, length, set, refl, sym, ap, ◌∙◌, subst, arith, length-set}
 use Rattle.tcl_vars.specs.declared.content.Content.{Content}
 use Rattle.tcl_vars.specs.declared.content.Content.TheVariants.{Scalar, Array, Link}
 use Rattle.tcl_vars.specs.declared.fault.UnsetFault.{UnsetFault}
 use Rattle.tcl_vars.specs.declared.fault.UnsetFault.TheVariants.{NoElement}
 use Rattle.tcl_vars.specs.Name.{Place}
 use Rattle.tcl_vars.specs.Sound.{IsBelow, AllBelow, IsSound}
-use Rattle.tcl_vars.specs.Store.{Store, Frame, frame_at, content_at, content_count, frame_count, variable_count, content_without, frame_with_rest, with_rest, without_text_at, end_of, link_of}
+use Rattle.tcl_vars.specs.Store.{Store, Frame, frame_at, content_at, content_count, frame_count, variable_count, content_without, frame_with_rest, without_text_at, end_of, is_there, link_of}
 use Rattle.tcl_vars.specs.Table.{value_at, with_value, without, weight_of}
-use Rattle.tcl_vars.specs.Unset.{UnsetsWhole, UnsetsElement, UnsetsText, RefusesUnset, Unsets}
+use Rattle.tcl_vars.specs.Unset.{UnsetsWhole, UnsetsElement, UnsetsText, Unsets}
 use Rattle.tcl_vars.proofs.BelowLemmas.{AllBelow-with_value, AllBelow-without}
 use Rattle.tcl_vars.proofs.LinkLemmas.{led-here}
 use Rattle.tcl_vars.proofs.StoreLemmas.{variable_count-set, FramesDescend-set}
-use Rattle.tcl_vars.proofs.TableLemmas.{weights-with_value, weights-without, with_value-same}
+use Rattle.tcl_vars.proofs.TableLemmas.{value_at-with_value, bytes_eq-refl, weights-with_value, weights-without, with_value-same}
+
+-- what is left of a content is no link
+linkless_rest : (held : Content) (element : Option (List ℕ)) (rest : Content) → content_without (Some held) element ≡ Ok (Some rest) → link_of (Some rest) ≡ None
+linkless_rest (Scalar text) None rest e = absurd (cc)
+linkless_rest (Scalar text) (Some index) rest e = absurd (cc)
+linkless_rest (Array elements) None rest e = absurd (cc)
+linkless_rest (Array elements) (Some index) rest e = by (is_some (value_at elements index)) e
+  where
+    by : (b : Bool) → (if b then Ok (Some (Array (without elements index))) else Err NoElement) ≡ Ok (Some rest) → link_of (Some rest) ≡ None
+    by true h = let is : rest ≡ Array (without elements index) = cc in ap (λ c. link_of (Some c)) is
+    by false h = absurd (cc)
+linkless_rest (Link to name) element rest e = absurd (cc)
 
 module _ (frame : Frame) (place : Place) (held : Content) (known : value_at frame place.variable ≡ Some held) where
   -- a whole variable
   pub UnsetsText-whole : (count : ℕ) (new : Content) → UnsetsWhole held place.element count new → (after : Frame) → after ≡ without (with_value frame place.variable new) place.variable
-      → UnsetsText frame place count after
-  UnsetsText-whole count new h after is = record {
+      → value_at after place.variable ≡ None → UnsetsText frame place count after
+  UnsetsText-whole count new h after is absent = record {
     linkless = ap link_of known ∙ h.linkless;
     rest = None;
     given = ap (λ o. content_without o place.element) known ∙ h.given;
@@ -26,6 +38,8 @@ module _ (frame : Frame) (place : Place) (held : Content) (known : value_at fram
     counted =
         let all : frame_count (without frame place.variable) + weight_of content_count (value_at frame place.variable) ≡ frame_count frame = weights-without content_count frame place.variable in
         omega (arith, rw known at all, h.counted, ap frame_count gone);
+    gone = ap (λ o. is_there o place.element) absent;
+    linkless_then = ap link_of absent;
   }
     where
       gone : after ≡ without frame place.variable
@@ -42,7 +56,12 @@ module _ (frame : Frame) (place : Place) (held : Content) (known : value_at fram
         let all : frame_count (with_value frame place.variable new) + weight_of content_count (value_at frame place.variable) ≡ frame_count frame + content_count new
         = weights-with_value place.variable new content_count frame in
         omega (arith, rw known at all, h.counted);
+    gone = ap (λ o. is_there o place.element) there ∙ h.gone;
+    linkless_then = ap link_of there ∙ linkless_rest held place.element new h.given;
   }
+    where
+      there : value_at (with_value frame place.variable new) place.variable ≡ Some new
+      there = value_at-with_value place.variable new frame place.variable ∙ ap (λ b. cond b (Some new) (value_at frame place.variable)) (bytes_eq-refl place.variable)
 
 -- what is left of a content is no link
 content_without-below : (level : ℕ) (held : Option Content) (element : Option (List ℕ)) (rest : Content) → content_without held element ≡ Ok (Some rest) → IsBelow level rest
@@ -82,20 +101,6 @@ module _ (store : Store) (count : ℕ) (sound : IsSound store count) (place : Pl
       limited = omega (arith, sound.limited);
       descending = FramesDescend-set store place.level within new sound.descending below;
     }
-
-    pub removed-le : removed ≤ count
-    removed-le = omega (arith, counted-set)
-
-  -- the definition gives the store too
-  pub Unsets-ok : (removed : ℕ) (new : Frame) → UnsetsText (frame_at store place.level) place removed new → Unsets store place (Ok (set store place.level new))
-  Unsets-ok removed new unsets = record {
-    linkless = unsets.linkless;
-    given = ap (with_rest store place) unsets.given ∙ ap (λ f. Ok (set store place.level f)) (sym unsets.frame);
-  }
-
-  -- and the refusal
-  pub Unsets-err : (fault : UnsetFault) → RefusesUnset (frame_at store place.level) place fault → Unsets store place (Err fault)
-  Unsets-err fault refuses = record { linkless = refuses.linkless; given = ap (with_rest store place) refuses.given }
 
 module _ (store : Store) (place : Place) (gives : Result Store UnsetFault) where
   -- a place whose variable is no link

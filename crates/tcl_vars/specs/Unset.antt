@@ -1,11 +1,11 @@
 -- What unsetting does in one content, in one frame and in the store.
-use Rattle.std.specs.Prelude.{◌≡◌, ◌≢◌, ℕ, ◌+◌, List, Option, None, Some, Result, Ok, Err}
+use Rattle.std.specs.Prelude.{false, ◌≡◌, ◌≢◌, ℕ, ◌+◌, List, Option, None, Some, Result, Ok, Err}
 use Rattle.tcl_vars.specs.declared.content.Content.{Content}
 use Rattle.tcl_vars.specs.declared.content.Removal.{Removal}
 use Rattle.tcl_vars.specs.declared.content.Removal.TheVariants.{Whole, Element, Linked}
 use Rattle.tcl_vars.specs.declared.fault.UnsetFault.{UnsetFault}
 use Rattle.tcl_vars.specs.Name.{Place}
-use Rattle.tcl_vars.specs.Store.{Store, Frame, content_at, content_count, frame_count, content_without, frame_with_rest, without_text_at, link_of}
+use Rattle.tcl_vars.specs.Store.{Store, Frame, content_at, content_count, frame_count, content_without, frame_with_rest, without_text_at, is_there, link_of}
 use Rattle.tcl_vars.specs.Table.{value_at}
 
 -- the whole goes, which counts so many
@@ -20,6 +20,7 @@ pub record UnsetsElement (old : Content) (element : Option (List ℕ)) (new : Co
   pub linkless : link_of (Some old) ≡ None
   pub given : content_without (Some old) element ≡ Ok (Some new)
   pub counted : content_count new + 1 ≡ content_count old
+  pub gone : is_there (Some new) element ≡ false
 
 abbrev pub AfterUnset : Content → Option (List ℕ) → Removal → Content → Type 0
 AfterUnset old element (Whole count) new = UnsetsWhole old element count new
@@ -33,6 +34,8 @@ pub record UnsetsText (old : Frame) (place : Place) (removed : ℕ) (new : Frame
   pub given : content_without (value_at old place.variable) place.element ≡ Ok rest
   pub frame : new ≡ frame_with_rest old place.variable rest
   pub counted : frame_count new + removed ≡ frame_count old
+  pub gone : is_there (value_at new place.variable) place.element ≡ false
+  pub linkless_then : link_of (value_at new place.variable) ≡ None
 
 -- why a frame doesn't unset a text
 pub record RefusesUnset (old : Frame) (place : Place) (fault : UnsetFault) : Type 0 where
@@ -43,3 +46,8 @@ pub record RefusesUnset (old : Frame) (place : Place) (fault : UnsetFault) : Typ
 pub record Unsets (old : Store) (place : Place) (gives : Result Store UnsetFault) : Type 0 where
   pub linkless : link_of (content_at old place) ≡ None
   pub given : without_text_at old (Some place) ≡ gives
+
+-- what a place means is gone, and the links are as before
+pub record IsGone (old new : Store) (place : Place) : Type 0 where
+  pub gone : is_there (content_at new place) place.element ≡ false
+  pub links : (other : Place) → link_of (content_at new other) ≡ link_of (content_at old other)

@@ -221,6 +221,7 @@ fn put_element(
 fn remove_element(elements: &mut Table<Text>, index: &str) -> Result<(), UnsetFault>
     ensures there { IsOk result ↔ IsSome (value_at elements.old index.now) }
     ensures ok { OnOk result ((elements.new ≡ without elements.old index.now) × (length elements.new + 1 ≡ length elements.old)) }
+    ensures gone { OnOk result (value_at elements.new index.now ≡ None) }
     ensures absent { IfErr result (λ fault. fault ≡ UnsetFault.NoElement) }
     ensures err { OnErr result (elements.new ≡ elements.old) }
 {

@@ -1,12 +1,13 @@
-ghost use Rattle.std.specs.Prelude.{◌≡◌, ◌≢◌, ◌<◌, ◌≤◌, ◌-◌, [], ◌∷◌, ◌++◌, length, take, IfOk, IfErr, OnOk, OnErr, map, unwrap_or, is_some, MatchResult, MatchOption, MatchBool, Ok, Err, Some, None};
+ghost use Rattle.std.specs.Prelude.{◌≡◌, ◌≢◌, ◌<◌, ◌≤◌, ◌-◌, [], ◌∷◌, ◌++◌, length, take, IfOk, IfErr, OnOk, OnErr, map, unwrap_or, is_some, false, MatchResult, MatchOption, MatchBool, Ok, Err, Some, None};
 ghost use Rattle.std.specs.Option.{option_copied};
+ghost use Rattle.std.specs.Bool.{OnTrue};
 ghost use Rattle.tcl_vars.specs.Put.{Sets};
 ghost use Rattle.tcl_vars.specs.Short.{IsShortPlace};
 ghost use Rattle.tcl_vars.specs.Shown.{shown};
 ghost use Rattle.tcl_vars.specs.Sound.{IsBelow};
 ghost use Rattle.tcl_vars.specs.Table.{weight_of};
-ghost use Rattle.tcl_vars.specs.Unset.{Unsets};
-ghost use Rattle.tcl_vars.specs.Store.{content_at, link_of, end_of, text_at, variable_in, element_in, with_text_at, with_variable, with_element, without_text_at, without_variable, without_element, content_count, variable_count, with_content, with_link, with_array, has_variable, elements_in, pairs_of};
+ghost use Rattle.tcl_vars.specs.Unset.{IsGone, Unsets};
+ghost use Rattle.tcl_vars.specs.Store.{content_at, link_of, end_of, text_at, variable_in, element_in, with_text_at, with_variable, with_element, without_text_at, without_variable, without_element, is_there_at, content_count, variable_count, with_content, with_link, with_array, has_variable, elements_in, pairs_of};
 
 use crate::arrays::{names_of, pairs_of};
 use crate::content::{
@@ -159,6 +160,7 @@ impl Scopes {
         ensures ok { OnOk result (without_variable self.old level name.now ≡ Ok self.new) }
         ensures refused { IfErr result (λ fault. fault ≢ UnsetFault.NoMemory → without_variable self.old level name.now ≡ Err fault) }
         ensures err { OnErr result (self.new ≡ self.old) }
+        ensures gone { OnOk result (has_variable self.new level name.now ≡ false) }
         ensures levels { length self.new ≡ length self.old }
     {
         self.erase(place_of_text(level, name))?;
@@ -438,7 +440,9 @@ impl Scopes {
         ensures ok { OnOk result (without_text_at self.old (end_of self.old (shown place.entry)) ≡ Ok self.new) }
         ensures refused { IfErr result (λ fault. fault ≢ UnsetFault.NoMemory → without_text_at self.old (end_of self.old (shown place.entry)) ≡ Err fault) }
         ensures err { OnErr result (self.new ≡ self.old) }
+        ensures gone { OnOk result (is_there_at self.new (end_of self.new (shown place.entry)) ≡ false) }
     {
+        let _ = &self.frames;
         if self.take(place)? {
             return Ok(());
         }
@@ -453,6 +457,7 @@ impl Scopes {
         ensures ok { OnOk result (without_text_at self.old (end_of self.old (shown place.entry)) ≡ Ok self.new) }
         ensures refused { IfErr result (λ fault. fault ≢ UnsetFault.NoMemory → without_text_at self.old (end_of self.old (shown place.entry)) ≡ Err fault) }
         ensures err { OnErr result (self.new ≡ self.old) }
+        ensures gone { OnOk result (is_there_at self.new (end_of self.new (shown place.entry)) ≡ false) }
     {
         let _ = &self.frames;
         let end = match self.lead(place) {
@@ -469,6 +474,7 @@ impl Scopes {
         ensures ok { IfOk result (λ done. MatchBool done
             (Unsets self.old (shown place.entry) (Ok self.new))
             ((link_of (content_at self.old (shown place.entry)) ≢ None) × (self.new ≡ self.old))) }
+        ensures gone { IfOk result (λ done. OnTrue done (IsGone self.old self.new (shown place.entry))) }
         ensures refused { IfErr result (λ fault. Unsets self.old (shown place.entry) (Err fault)) }
         ensures err { OnErr result (self.new ≡ self.old) }
     {

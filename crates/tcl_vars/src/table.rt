@@ -1,4 +1,4 @@
-ghost use Rattle.std.specs.Prelude.{◌≡◌, ◌<◌, ◌^◌, [], length, slice_get, Some, OnOk, OnErr};
+ghost use Rattle.std.specs.Prelude.{◌≡◌, ◌<◌, ◌^◌, [], length, slice_get, None, Some, OnOk, OnErr};
 ghost use Rattle.std.specs.Option.{option_copied};
 ghost use Rattle.std.specs.Borrow.{LendsIf, sem};
 ghost use Rattle.std.specs.Option.{option_copied_mut};
@@ -94,6 +94,7 @@ impl<V: Drop> Table<V> {
     pub(crate) fn remove(&mut self, name: &str) -> Option<V>
         ensures value { result ≡ value_at self.old name.now }
         ensures rest { self.new ≡ without self.old name.now }
+        ensures gone { value_at self.new name.now ≡ None }
     {
         self.entries.shift_remove(name)
     }

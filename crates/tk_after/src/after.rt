@@ -23,9 +23,9 @@ const CANCEL_USAGE: &str = "after cancel id|script ?script ..?";
 
 const INFO_USAGE: &str = "after info ?id?";
 
-#[tactic(auto, unfolding(crate::specs::After::after_words))]
 /// The command `after` (after(n) of Tcl's manual), which an application calls at a moment. `words` are those
 /// after the command's name. The answer is the command's result, or the text of its error.
+#[tactic(auto, unfolding(crate::specs::After::after_words))]
 pub fn after_command(
     alloc: Global,
     timers: &mut Timers,
@@ -34,8 +34,10 @@ pub fn after_command(
     words: &[Text],
 ) -> Result<Result<Text, Text>, AllocError>
     requires { moment ≤ 1000000000000 }
-    ensures answer { IfOk result (λ answer. answer ≡ (after_words moment words.now (own_of owner timers.old)).1) }
-    ensures own { OnOk result (own_of owner timers.new ≡ (after_words moment words.now (own_of owner timers.old)).0) }
+    ensures answer { IfOk result (λ answer.
+        answer ≡ (after_words moment words.now (own_of owner timers.old)).1) }
+    ensures own { OnOk result (own_of owner timers.new
+        ≡ (after_words moment words.now (own_of owner timers.old)).0) }
     ensures others { LeavesOthers owner timers.old timers.new }
     ensures err { OnErr result (timers.new ≡ timers.old) }
 {
@@ -60,8 +62,10 @@ fn add_delayed(
     scripts: &[Text],
 ) -> Result<Answer, AllocError>
     requires { moment ≤ 1000000000000 }
-    ensures answer { IfOk result (λ answer. answer ≡ (delay_words moment delay.now (integer_of delay.now) scripts.now (own_of owner timers.old)).1) }
-    ensures own { OnOk result (own_of owner timers.new ≡ (delay_words moment delay.now (integer_of delay.now) scripts.now (own_of owner timers.old)).0) }
+    ensures answer { IfOk result (λ answer.
+        answer ≡ (delay_words moment delay.now (integer_of delay.now) scripts.now (own_of owner timers.old)).1) }
+    ensures own { OnOk result (own_of owner timers.new
+        ≡ (delay_words moment delay.now (integer_of delay.now) scripts.now (own_of owner timers.old)).0) }
     ensures others { LeavesOthers owner timers.old timers.new }
     ensures err { OnErr result (timers.new ≡ timers.old) }
 {
@@ -91,8 +95,10 @@ fn add(
     usage: &str,
     scripts: &[Text],
 ) -> Result<Answer, AllocError>
-    ensures answer { IfOk result (λ answer. answer ≡ (add_words due usage.now scripts.now (own_of owner timers.old)).1) }
-    ensures own { OnOk result (own_of owner timers.new ≡ (add_words due usage.now scripts.now (own_of owner timers.old)).0) }
+    ensures answer { IfOk result (λ answer.
+        answer ≡ (add_words due usage.now scripts.now (own_of owner timers.old)).1) }
+    ensures own { OnOk result (own_of owner timers.new
+        ≡ (add_words due usage.now scripts.now (own_of owner timers.old)).0) }
     ensures others { LeavesOthers owner timers.old timers.new }
     ensures err { OnErr result (timers.new ≡ timers.old) }
 {
@@ -112,8 +118,10 @@ fn add_joined(
     due: Option<u64>,
     script: Text,
 ) -> Result<Answer, AllocError>
-    ensures answer { IfOk result (λ answer. answer ≡ (add_script due (Ok script) (own_of owner timers.old)).1) }
-    ensures own { OnOk result (own_of owner timers.new ≡ (add_script due (Ok script) (own_of owner timers.old)).0) }
+    ensures answer { IfOk result (λ answer.
+        answer ≡ (add_script due (Ok script) (own_of owner timers.old)).1) }
+    ensures own { OnOk result (own_of owner timers.new
+        ≡ (add_script due (Ok script) (own_of owner timers.old)).0) }
     ensures others { LeavesOthers owner timers.old timers.new }
     ensures err { OnErr result (timers.new ≡ timers.old) }
 {
@@ -132,8 +140,10 @@ fn cancel(
     owner: usize,
     words: &[Text],
 ) -> Result<Answer, AllocError>
-    ensures answer { IfOk result (λ answer. answer ≡ (cancel_words words.now (own_of owner timers.old)).1) }
-    ensures own { OnOk result (own_of owner timers.new ≡ (cancel_words words.now (own_of owner timers.old)).0) }
+    ensures answer { IfOk result (λ answer.
+        answer ≡ (cancel_words words.now (own_of owner timers.old)).1) }
+    ensures own { OnOk result (own_of owner timers.new
+        ≡ (cancel_words words.now (own_of owner timers.old)).0) }
     ensures others { LeavesOthers owner timers.old timers.new }
     ensures err { OnErr result (timers.new ≡ timers.old) }
 {
@@ -152,7 +162,8 @@ fn cancel(
 
 /// The names of what is listed, or what is listed under a name.
 fn info(alloc: Global, timers: &Timers, owner: usize, words: &[Text]) -> Result<Answer, AllocError>
-    ensures { IfOk result (λ answer. answer ≡ info_words words.now (entries_of owner timers.now)) }
+    ensures { IfOk result (λ answer.
+        answer ≡ info_words words.now (entries_of owner timers.now)) }
 {
     match words {
         [] => list_text(alloc, names(alloc, timers, owner)?.as_slice()),
@@ -177,7 +188,8 @@ fn names(alloc: Global, timers: &Timers, owner: usize) -> Result<Vec<Text>, Allo
 
 /// The script and whether it is a timer's or an idle one.
 fn entry_info(alloc: Global, entry: &Entry) -> Result<Answer, AllocError>
-    ensures { IfOk result (λ answer. answer ≡ answers (list_form (entry.now.script ∷ kind_of entry.now.due ∷ []))) }
+    ensures { IfOk result (λ answer.
+        answer ≡ answers (list_form (entry.now.script ∷ kind_of entry.now.due ∷ []))) }
 {
     let kind = match entry.due {
         Some(_) => "timer",

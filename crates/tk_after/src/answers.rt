@@ -45,8 +45,8 @@ pub fn short_text(alloc: Global, characters: &str) -> Result<Text, AllocError>
     }
 }
 
-#[tactic(auto, using(crate::proofs::Names::bounds))]
 /// The text of an error, or the limit's where it is past 65,536 bytes (4).
+#[tactic(auto, using(crate::proofs::Names::bounds))]
 pub fn error_text(alloc: Global, message: &str) -> Result<Text, AllocError>
     ensures { IfOk result (λ text. text ≡ bounded message.now) }
 {
@@ -75,7 +75,8 @@ pub fn bad_option(alloc: Global, word: &str) -> Result<Answer, AllocError>
 
 /// The error for a name under which nothing is listed.
 pub fn no_event(alloc: Global, name: &str) -> Result<Answer, AllocError>
-    ensures { IfOk result (λ answer. answer ≡ fails (codes "event " ++ quoted name.now ++ codes " doesn't exist")) }
+    ensures { IfOk result (λ answer.
+        answer ≡ fails (codes "event " ++ quoted name.now ++ codes " doesn't exist")) }
 {
     let mut message = with_quoted(alloc, "event ", name)?;
     message.push_str(" doesn't exist")?;

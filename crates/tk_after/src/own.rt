@@ -104,7 +104,8 @@ impl OwnTimers {
 
     /// The first that is listed with a script.
     pub fn entry_running(&self, script: &str) -> Option<&Entry>
-        ensures { option_copied result ≡ find (λ entry. bytes_eq entry.script script.now) self.now.own.entries }
+        ensures { option_copied result
+            ≡ find (λ entry. bytes_eq entry.script script.now) self.now.own.entries }
     {
         self.entries.iter().find(|entry| entry.has_script(script))
     }
@@ -157,10 +158,12 @@ impl OwnTimers {
 
     /// Takes out the timer that goes first of those due by a moment, and gives its number and script.
     pub fn take_due(&mut self, moment: u64) -> Option<(u64, Text)>
-        ensures taken { result ≡ option_map (λ entry. (entry.id, entry.script)) (first_due moment self.old.own.entries) }
+        ensures taken { result
+            ≡ option_map (λ entry. (entry.id, entry.script)) (first_due moment self.old.own.entries) }
         ensures first { IfSome result (λ taken. IsFirstDue moment self.old.own.entries taken.0 taken.1) }
         ensures none { IfNone result (NothingDue moment self.old.own.entries) }
-        ensures rest { self.new.own ≡ option_map_or (λ taken. without taken.0 self.old.own) result self.old.own }
+        ensures rest { self.new.own
+            ≡ option_map_or (λ taken. without taken.0 self.old.own) result self.old.own }
         ensures owner { self.new.owner ≡ self.old.owner }
     {
         let place = place_of_first(&self.entries, moment)?;
@@ -228,7 +231,8 @@ fn place_of_due(entries: &[Entry], due: u64) -> Option<usize>
 }
 
 fn place_of_first(entries: &[Entry], moment: u64) -> Option<usize>
-    ensures { MatchOption result (first_due moment entries.now ≡ None) (IsPlaceOf (first_due moment entries.now) entries.now) }
+    ensures { MatchOption result (first_due moment entries.now ≡ None)
+        (IsPlaceOf (first_due moment entries.now) entries.now) }
 {
     let due = next_due_of(entries)?;
     if due > moment {

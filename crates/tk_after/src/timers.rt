@@ -66,7 +66,8 @@ impl Timers {
     pub fn add(&mut self, owner: usize, due: u64, script: Text) -> Result<u64, AllocError>
         requires { is_full (own_of owner self.old) ≡ false }
         ensures id { IfOk result (λ id. id ≡ (own_of owner self.old).next_number) }
-        ensures ok { OnOk result (own_of owner self.new ≡ with_entry (Some due) script (own_of owner self.old)) }
+        ensures ok { OnOk result (own_of owner self.new
+            ≡ with_entry (Some due) script (own_of owner self.old)) }
         ensures others { LeavesOthers owner self.old self.new }
         ensures err { OnErr result (self.new ≡ self.old) }
     {
@@ -77,7 +78,8 @@ impl Timers {
     pub fn idle_add(&mut self, owner: usize, script: Text) -> Result<u64, AllocError>
         requires { is_full (own_of owner self.old) ≡ false }
         ensures id { IfOk result (λ id. id ≡ (own_of owner self.old).next_number) }
-        ensures ok { OnOk result (own_of owner self.new ≡ with_entry None script (own_of owner self.old)) }
+        ensures ok { OnOk result (own_of owner self.new
+            ≡ with_entry None script (own_of owner self.old)) }
         ensures others { LeavesOthers owner self.old self.new }
         ensures err { OnErr result (self.new ≡ self.old) }
     {
@@ -87,7 +89,8 @@ impl Timers {
     /// Takes out what the application has listed under a number, and gives its script; nothing where it has
     /// none such. A timer's number and an idle script's serve alike. It takes no memory.
     pub fn cancel(&mut self, owner: usize, id: u64) -> Option<Text>
-        ensures script { result ≡ option_map (λ entry. entry.script) (entry_with id (entries_of owner self.old)) }
+        ensures script { result
+            ≡ option_map (λ entry. entry.script) (entry_with id (entries_of owner self.old)) }
         ensures own { own_of owner self.new ≡ without id (own_of owner self.old) }
         ensures others { LeavesOthers owner self.old self.new }
     {
@@ -132,10 +135,13 @@ impl Timers {
     /// Takes out the timer that goes first of those that the application has due by a moment, and gives its
     /// number and script. It takes no memory.
     pub fn take_due(&mut self, owner: usize, moment: u64) -> Option<(u64, Text)>
-        ensures taken { result ≡ option_map (λ entry. (entry.id, entry.script)) (first_due moment (entries_of owner self.old)) }
-        ensures first { IfSome result (λ taken. IsFirstDue moment (entries_of owner self.old) taken.0 taken.1) }
+        ensures taken { result
+            ≡ option_map (λ entry. (entry.id, entry.script)) (first_due moment (entries_of owner self.old)) }
+        ensures first { IfSome result (λ taken.
+            IsFirstDue moment (entries_of owner self.old) taken.0 taken.1) }
         ensures none { IfNone result (NothingDue moment (entries_of owner self.old)) }
-        ensures own { own_of owner self.new ≡ option_map_or (λ taken. without taken.0 (own_of owner self.old)) result (own_of owner self.old) }
+        ensures own { own_of owner self.new
+            ≡ option_map_or (λ taken. without taken.0 (own_of owner self.old)) result (own_of owner self.old) }
         ensures others { LeavesOthers owner self.old self.new }
     {
         let place = place_of(&self.owners, owner)?;
@@ -180,7 +186,8 @@ impl Timers {
     }
 
     fn id_meant(&self, owner: usize, text: &str) -> Option<u64>
-        ensures { result ≡ option_map (λ entry. entry.id) (entry_meant text.now (entries_of owner self.now)) }
+        ensures { result
+            ≡ option_map (λ entry. entry.id) (entry_meant text.now (entries_of owner self.now)) }
     {
         let entry = self.own(owner)?.entry_meant(text)?;
         Some(entry.id)
@@ -201,7 +208,8 @@ impl Timers {
     ) -> Result<u64, AllocError>
         requires { is_full (own_of owner self.old) ≡ false }
         ensures id { IfOk result (λ id. id ≡ (own_of owner self.old).next_number) }
-        ensures ok { OnOk result (own_of owner self.new ≡ with_entry due script (own_of owner self.old)) }
+        ensures ok { OnOk result (own_of owner self.new
+            ≡ with_entry due script (own_of owner self.old)) }
         ensures others { LeavesOthers owner self.old self.new }
         ensures err { OnErr result (self.new ≡ self.old) }
     {

@@ -23,10 +23,14 @@ failed text shown store = record { shows = shown; store = store; act = Done Erro
 abbrev pub unknown : Shown → Store → Told Shown NoTask
 unknown shown store = record { shows = shown; store = store; act = Unknown }
 
+-- a line for a channel: there is none but stdout
+abbrev pub put_told : List ℕ → List ℕ → Shown → Store → Told Shown NoTask
+put_told channel text = if bytes_eq channel (codes "stdout") then written text else failed (bad_option channel)
+
 -- puts ?stdout? text
 abbrev pub puts_told : List (List ℕ) → Shown → Store → Told Shown NoTask
 puts_told (text ∷ []) = written text
-puts_told (channel ∷ text ∷ []) = if bytes_eq channel (codes "stdout") then written text else failed (bad_option channel)
+puts_told (channel ∷ text ∷ []) = put_told channel text
 puts_told arguments = failed (wrong_words (codes "puts ?stdout? text"))
 
 -- a command by its name

@@ -34,7 +34,7 @@ impl Console {
     ghost use Rattle.std.specs.Prelude.{◌≡◌, [], IfOk, OnOk, OnErr};
     ghost use Rattle.tk_host.specs.Shown.{with_line};
     ghost use Rattle.tcl_vars.specs.Store.{Store};
-    ghost use Rattle.tk_host.specs.Outside.{puts_told, written};
+    ghost use Rattle.tk_host.specs.Outside.{puts_told, put_told, written};
 
     /// Nothing was written, at moment 0.
     pub fn new(alloc: Global) -> Result<Console, AllocError>
@@ -88,22 +88,34 @@ impl Console {
         Ok(Act::Done(Code::Normal, empty))
     }
 
+    /// Writes a line to a channel: to `stdout` alone.
+    fn put_to(&mut self, channel: &Text, text: &Text) -> Result<Act<NoTask>, AllocError>
+        ensures ok { IfOk result (λ act. (store : Store) → record { shows = self.new; store = store; act = act } ≡ put_told channel.now text.now self.old store) }
+        ensures moment { self.new.moment ≡ self.old.moment }
+    {
+        if channel.as_str() == "stdout" {
+            return self.write_out(text);
+        }
+        let fault = bad_option_text(self.alloc, channel)?;
+        Ok(Act::Done(Code::Error, fault))
+    }
+
     /// The command `puts` (puts(n)), with the words behind its name.
     fn puts(&mut self, arguments: &[Text]) -> Result<Act<NoTask>, AllocError>
         ensures ok { IfOk result (λ act. (store : Store) → record { shows = self.new; store = store; act = act } ≡ puts_told arguments.now self.old store) }
         ensures moment { self.new.moment ≡ self.old.moment }
     {
-        let fault = match arguments {
-            [text] => return self.write_out(text),
-            [channel, text] => {
-                if channel.as_str() == "stdout" {
-                    return self.write_out(text);
-                }
-                bad_option_text(self.alloc, channel)?
+        match arguments {
+            [text] => self.write_out(text),
+            [channel, text] => self.put_to(channel, text),
+            _ => {
+                let usage = short_text(
+                    self.alloc,
+                    "wrong # args: should be \"puts ?stdout? text\"",
+                )?;
+                Ok(Act::Done(Code::Error, usage))
             }
-            _ => short_text(self.alloc, "wrong # args: should be \"puts ?stdout? text\"")?,
-        };
-        Ok(Act::Done(Code::Error, fault))
+        }
     }
 }
 

@@ -2,6 +2,7 @@
 ghost use Rattle.std.specs.Prelude.{◌≡◌, ◌≤◌, ◌<◌, ◌++◌, ◌∷◌, [], length, map, option_map, IfOk, IfSome, OnOk};
 ghost use Rattle.std.specs.Option.{option_copied};
 ghost use Rattle.std.specs.Str.{chars, encode_utf8_all};
+ghost use Rattle.memchr.specs.Find.{IsFirstByte, is_byte};
 ghost use Rattle.tcl_text.specs.Answers.{Gives};
 ghost use Rattle.tcl_text.specs.ListCommands as spec;
 ghost use Rattle.tcl_text.specs.ListSteps.{cut_once};
@@ -10,6 +11,7 @@ use crate::characters::split_first_char;
 use crate::commands::answers::{Refusal, wrong_args};
 use crate::commands::items::list_answer;
 use crate::text::Text;
+use memchr::memchr;
 use std::alloc::{AllocError, Global};
 
 /// `split text ?chars?`: the parts of the text between the characters, or between white space; with
@@ -80,6 +82,44 @@ fn pieces_of(alloc: Global, text: &str, separators: &str) -> Result<Vec<Text>, A
 
 /// The text up to its first separator, and what follows that, if it has one.
 fn cut_piece<'t>(text: &'t str, separators: &str) -> (&'t str, Option<&'t str>)
+    ensures cut { spec.cut_at (spec.is_one_of (chars separators.now)) (chars text.now)
+        ≡ cut_once (spec.is_one_of (chars separators.now)) (chars result.0.now)
+        (option_map chars (option_copied result.1)) }
+    ensures short { length result.0.now ≤ length text.now }
+    ensures shorter { IfSome result.1 (λ rest. length rest.now < length text.now) }
+{
+    if let [separator] = separators.as_bytes() {
+        if separator.is_ascii() {
+            return cut_at_byte(text, *separator);
+        }
+    }
+    cut_at_character(text, separators)
+}
+
+/// The same for one separator that is a byte.
+fn cut_at_byte(text: &str, separator: u8) -> (&str, Option<&str>)
+    requires { separator < 128 }
+    ensures cut { spec.cut_at (spec.is_one_of (separator ∷ [])) (chars text.now)
+        ≡ cut_once (spec.is_one_of (separator ∷ [])) (chars result.0.now)
+        (option_map chars (option_copied result.1)) }
+    ensures short { length result.0.now ≤ length text.now }
+    ensures shorter { IfSome result.1 (λ rest. length rest.now < length text.now) }
+{
+    match find_byte(text, separator) {
+        Some(place) => (&text[..place], Some(&text[place + 1..])),
+        None => (text, None),
+    }
+}
+
+/// The first place of the byte.
+fn find_byte(text: &str, byte: u8) -> Option<usize>
+    ensures { IsFirstByte (is_byte byte) text.now result }
+{
+    memchr(byte, text.as_bytes())
+}
+
+/// The same for any separators, by the characters one after another.
+fn cut_at_character<'t>(text: &'t str, separators: &str) -> (&'t str, Option<&'t str>)
     ensures cut { spec.cut_at (spec.is_one_of (chars separators.now)) (chars text.now)
         ≡ cut_once (spec.is_one_of (chars separators.now)) (chars result.0.now)
         (option_map chars (option_copied result.1)) }

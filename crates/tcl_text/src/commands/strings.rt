@@ -1,7 +1,7 @@
 //! The commands of string(n), and concat(n).
 ghost use Rattle.std.specs.Prelude.{◌≡◌, min, replicate, IfOk, OnOk, string_bytes, length, ◌≤◌, ◌*◌};
 ghost use Rattle.std.specs.List.{concat};
-ghost use Rattle.std.specs.Str.{chars, encode_utf8_all};
+ghost use Rattle.std.specs.Str.{chars, encode_utf8_all, IsAscii};
 ghost use Rattle.memchr.specs.Find.{FindsNeedle};
 ghost use Rattle.tcl_text.specs.Answers.{Gives, answers};
 ghost use Rattle.tcl_text.specs.Indices.{part, from_zero};
@@ -70,14 +70,28 @@ fn string_range(alloc: Global, words: &[Text]) -> Result<Text, Refusal>
     }
 }
 
-/// The characters from the first index to the last, as far as they are there.
+/// The characters from the first index to the last, as far as they are there. It walks over them
+/// unless all are ASCII.
 fn characters_in(text: &str, first: Index, last: Index) -> &str
     ensures { result.now ≡ encode_utf8_all (part first last (chars text.now)) }
 {
+    if text.is_ascii() {
+        return bytes_in(text, first, last);
+    }
     let count = character_count(text);
     let (front, _behind) = split_characters(text, last.through(count));
     let (_before, part) = split_characters(front, first.before(count));
     part
+}
+
+/// The same of a text whose characters are bytes.
+fn bytes_in(text: &str, first: Index, last: Index) -> &str
+    requires { IsAscii text.now }
+    ensures { result.now ≡ encode_utf8_all (part first last (chars text.now)) }
+{
+    let end = last.through(text.len());
+    let start = first.before(text.len()).min(end);
+    &text[start..end]
 }
 
 fn string_compare(alloc: Global, words: &[Text]) -> Result<Text, Refusal>

@@ -1,4 +1,4 @@
-use Rattle.std.proofs.Common.{arith, ap, sym, ◌∙◌, false, ◌^◌}
+use Rattle.std.proofs.Common.{arith, ap, sym, ◌∙◌, false}
 use Rattle.tcl_text.specs.Readings.{integer_of, numeral_of, signed_numeral, signed_option}
 use Rattle.tcl_text.proofs.IntegerLemmas.{signed_option-below, signed_numeral-unsigned}
 use Rattle.tcl_text.proofs.integer.integer_in.Goals as goal

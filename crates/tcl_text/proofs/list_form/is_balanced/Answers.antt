@@ -1,4 +1,3 @@
-use Rattle.std.proofs.Common.{sym, ◌∙◌}
 use Rattle.tcl_text.proofs.BalanceLemmas.{balance_end}
 use Rattle.tcl_text.proofs.list_form.is_balanced.Goals as goal
 

@@ -1,4 +1,4 @@
-use Rattle.std.proofs.Common.{◌≡◌, ◌∙◌, ap, sym, subst, Some, ◌+◌}
+use Rattle.std.proofs.Common.{◌∙◌, ap, sym, subst, Some, ◌+◌}
 use Rattle.std.proofs.lemmas.List.{take_rest}
 use Rattle.tcl_text.specs.Backslash.{escape}
 use Rattle.tcl_text.specs.Splitting.{KeepsBalance, StepsInBraces}

@@ -1,4 +1,3 @@
-use Rattle.std.proofs.Common.{subst, IsUtf8, sym}
 use Rattle.tcl_text.proofs.ElementLemmas.{unescaped_utf8}
 use Rattle.tcl_text.proofs.splitting.item_in.Goals as goal
 

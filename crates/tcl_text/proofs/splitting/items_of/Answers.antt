@@ -1,4 +1,4 @@
-use Rattle.std.proofs.Common.{◌≡◌, ◌<◌, ◌≤◌, ◌∙◌, ap, sym, length, arith}
+use Rattle.std.proofs.Common.{◌<◌, ◌≤◌, ◌∙◌, ap, sym, length, arith}
 use Rattle.std.proofs.lemmas.Bool.{eqb-true}
 use Rattle.tcl_text.specs.Readings.{skip_white}
 use Rattle.tcl_text.proofs.ElementLemmas.{skip_white_within, SplitsTo-start, SplitsTo-item, SplitsTo-end}

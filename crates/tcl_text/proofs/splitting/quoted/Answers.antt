@@ -1,4 +1,4 @@
-use Rattle.std.proofs.Common.{◌<◌, ◌≤◌, length, arith}
+use Rattle.std.proofs.Common.{◌≤◌, length, arith}
 use Rattle.tcl_text.proofs.ElementLemmas.{quoted_item, quoted_extra, quote_missing}
 use Rattle.tcl_text.proofs.splitting.quoted.Goals as goal
 

@@ -1,4 +1,4 @@
-use Rattle.std.proofs.Common.{◌≡◌, ◌≤◌, ◌∙◌, ap, arith, length, drop, ◌-◌, subst, sym}
+use Rattle.std.proofs.Common.{◌≡◌, ◌∙◌, ap, arith, length, drop, ◌-◌}
 use Rattle.tcl_text.specs.Readings.{skip_white}
 use Rattle.tcl_text.proofs.ElementLemmas.{skip_white_within, skip_white_is_drop, skip_white_boundary}
 use Rattle.tcl_text.proofs.splitting.trimmed.Goals as goal

@@ -1,4 +1,4 @@
-use Rattle.std.proofs.Common.{◌≡◌, ◌+◌, ◌<◌, ◌≤◌, length, arith}
+use Rattle.std.proofs.Common.{◌+◌, ◌<◌, ◌≤◌, length, arith}
 use Rattle.std.proofs.lemmas.List.{take_rest}
 use Rattle.tcl_text.specs.Escaped.{escape_seen}
 use Rattle.tcl_text.specs.Splitting.{Unescapes}

@@ -17,7 +17,7 @@ returns-in_err-count-clause-err c =
 pub returns-in-Whole-clause-ok : goal.returns-in-Whole-clause-ok
 returns-in-Whole-clause-ok c =
     UnsetsText-whole c.args.frame.now (shown c.args.place) c.in-Some.content.now (sym c.in-Some.ensures.value) c.in-Whole.count c.unset.new.self
-    (rw c.in-Whole.is at c.in_ok-count.ensures.ok) c.remove.new.self c.remove.ensures.rest
+    (rw c.in-Whole.is at c.in_ok-count.ensures.ok) c.remove.new.self c.remove.ensures.rest c.remove.ensures.gone
 
 pub returns-in-Element-clause-ok : goal.returns-in-Element-clause-ok
 returns-in-Element-clause-ok c =

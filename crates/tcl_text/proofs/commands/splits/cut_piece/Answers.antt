@@ -1,32 +1,20 @@
-use Rattle.std.proofs.Common.{◌+◌, refl, rules, sym, ◌∙◌}
+use Rattle.std.proofs.Common.{◌≡◌, ◌<◌, ◌∷◌, [], ◌∙◌, sym, ap, subst, ℕ, List, get_or, length, arith, rules}
 use Rattle.std.specs.Str.{chars}
-use Rattle.tcl_text.specs.ListCommands.{is_one_of}
-use Rattle.tcl_text.proofs.CharacterLemmas.{IsEnd-whole, IsEnd-past, IsEnd-boundary, IsEnd-front}
-use Rattle.tcl_text.proofs.GlobLemmas.{drop_past}
-use Rattle.tcl_text.proofs.ListLemmas.{cut-nothing_passed, cut-passed, cut-found}
+use Rattle.std.specs.Option.{option_map, option_copied}
+use Rattle.std.proofs.lemmas.Bool.Decides.{nat_tests}
+use Rattle.tcl_text.specs.ListCommands.{cut_at, is_one_of}
+use Rattle.tcl_text.specs.ListSteps.{cut_once}
+use Rattle.tcl_text.proofs.ListLemmas.{one_separator, only_byte}
 use Rattle.tcl_text.proofs.commands.splits.cut_piece.Goals as goal
 
-pub loop-first-init : goal.loop-first-init
-loop-first-init c = (search rules, IsEnd-whole _, (0, refl, cut-nothing_passed (is_one_of (chars c.args.separators.now)) (chars c.args.text.now)))
-
-pub split_at-requires : goal.split_at-requires
-split_at-requires c = IsEnd-boundary _ _ c.loop-first.invariant.1 (search rules)
-
-pub loop-first-preserved : goal.loop-first-preserved
-loop-first-preserved c =
-    let test = is_one_of (chars c.args.separators.now) in
-    let passed = c.loop-first.invariant.2 in (
-      search rules,
-      IsEnd-past _ _ _ _ c.loop-first.invariant.1 c.in-Some.ensures.bytes,
-      (
-        passed.0 + 1,
-        drop_past (chars c.args.text.now) _ passed.0 _ (sym passed.1 ∙ c.in-Some.ensures.cut),
-        cut-passed test _ (chars c.args.text.now) _ passed.0 _ _ (sym c.if-is_one_of.ensures) c.in-Some.ensures.cut passed.1 passed.2,
-      ),
-    )
-
-pub returns-then-is_one_of-clause-cut : goal.returns-then-is_one_of-clause-cut
-returns-then-is_one_of-clause-cut c =
-    let test = is_one_of (chars c.args.separators.now) in
-    let passed = c.loop-first.invariant.2 in
-    cut-found test _ (chars c.args.text.now) _ passed.0 _ _ _ (sym c.if-is_one_of.ensures) c.in-Some.ensures.cut (IsEnd-front _ _ _ passed.0 c.loop-first.invariant.1 c.utf8.text (search rules) c.split_at.ensures.front passed.1) passed.2
+pub returns-then-is_ascii-clause-cut : goal.returns-then-is_ascii-clause-cut
+returns-then-is_ascii-clause-cut c =
+    let bytes = c.as_bytes.result.now in
+    let b = get_or bytes 0 0 in
+    let one : length bytes ≡ 1 = omega (arith, c.in-len1.len_at_least, c.in-len1.len_below) in
+    let ascii : b < 128 = grind (arith, nat_tests, c.if-is_ascii.ensures) in
+    let separators : chars c.args.separators.now ≡ b ∷ [] =
+    one_separator b c.args.separators.now ascii (sym c.as_bytes.ensures.value ∙ only_byte bytes one)
+    in
+    let P : List ℕ → Type 0 = λ t. cut_at (is_one_of t) (chars c.args.text.now) ≡ cut_once (is_one_of t) (chars c.cut_at_byte.result.0.now) (option_map chars (option_copied c.cut_at_byte.result.1)) in
+    subst P (sym separators) c.cut_at_byte.ensures.cut

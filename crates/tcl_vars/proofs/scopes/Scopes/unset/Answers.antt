@@ -3,6 +3,7 @@ use Rattle.std.proofs.Common.{◌∙◌, sym, ap}
 use Rattle.std.proofs.lemmas.Result.{err_from_is_err_and}
 use Rattle.tcl_vars.specs.Store.{end_of, without_text_at, without_variable}
 use Rattle.tcl_vars.proofs.LawLemmas.{length-without_variable}
+use Rattle.tcl_vars.specs.Store.{is_there_at, has_variable}
 use Rattle.tcl_vars.proofs.scopes.Scopes.unset.Goals as goal
 
 pub returns-clause-ok : goal.returns-clause-ok
@@ -19,3 +20,7 @@ returns-in_err-erase-clause-refused c =
 
 pub returns-clause-levels : goal.returns-clause-levels
 returns-clause-levels c = length-without_variable c.args.self.now c.erase.new.self c.args.level c.args.name.now (returns-clause-ok c)
+
+pub returns-clause-gone : goal.returns-clause-gone
+unfolding has_variable
+returns-clause-gone c = ap (λ p. is_there_at c.erase.new.self (end_of c.erase.new.self p)) (sym c.place_of_text.ensures.place) ∙ c.in_ok-erase.ensures.gone

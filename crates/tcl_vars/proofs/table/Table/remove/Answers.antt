@@ -15,6 +15,9 @@ pub returns-clause-rest : goal.returns-clause-rest
 returns-clause-rest g c =
     ap named c.shift_remove.ensures.entries ∙ named-remove_entry c.args.name.now c.self.inside.entries.entries ∙ ap (λ t. without t c.args.name.now) c.self.view_is
 
+pub returns-clause-gone : goal.returns-clause-gone
+returns-clause-gone g c = lookup-named c.args.name.now c.shift_remove.new.self.entries ∙ c.shift_remove.ensures.updates.1
+
 pub invariant_of-self : goal.invariant_of-self
 invariant_of-self g c =
     subst ShortNames (sym (ap named c.shift_remove.ensures.entries ∙ named-remove_entry c.args.name.now c.self.inside.entries.entries))

@@ -5,7 +5,7 @@ use Rattle.std.specs.Str.{chars}
 use Rattle.tcl_text.specs.ListCommands.{cut_at, is_one_of}
 use Rattle.tcl_text.specs.ListSteps.{onto_first}
 use Rattle.tcl_text.proofs.CharacterLemmas.{IsEnd}
-use Rattle.tcl_text.proofs.commands.splits.cut_piece.Given as goal
+use Rattle.tcl_text.proofs.commands.splits.cut_at_character.Given as goal
 
 -- none of the characters passed is a separator
 abbrev pub invariant-loop-first : goal.invariant-loop-first

@@ -24,7 +24,7 @@ const PLAYED: [(&[u8], &[u8]); 6] = [
     // variables of one name in two applications
     (
         b"tkhost 1\napp a 0 0 10 10 9\nscript 2\nset x 1\nputs $x\napp b 10 0 10 10 9\nscript 1\nputs $x\nevents\n7 end",
-        b"app a running 7\nout 0 1\ntree\nwin . Tk 0 0 10 10 1\ntimers\ndone\napp b running 8\nerr 0 can't read \"x\": no such variable\ntree\nwin . Tk 0 0 10 10 1\ntimers\ndone\n",
+        b"app a running 7\nout 0 1\ntree\nwin . Tk 0 0 10 10 1\ntimers\ndone\napp b running 9\nerr 0 can't read \"x\": no such variable\ntree\nwin . Tk 0 0 10 10 1\ntimers\ndone\n",
     ),
     (b"tkhost 1\nevents\n0 end\n", b""),
 ];

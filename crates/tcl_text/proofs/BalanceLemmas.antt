@@ -1,7 +1,7 @@
 -- Braces in balance, mark by mark.
 use Rattle.std.proofs.Common.{◌≡◌, ◌≢◌, ℕ, zero, suc, ◌+◌, ◌-◌, ◌<◌, ◌≤◌, Bool, false, List, [], ◌∷◌, drop, length, get_or, nat_eq, add-one, Option, Some, None, refl, arith, ap, sym, ◌∙◌}
 use Rattle.std.specs.Option.{option_map_or}
-use Rattle.std.proofs.lemmas.List.{drop-drop, drop_all}
+use Rattle.std.proofs.lemmas.List.{drop_all}
 use Rattle.tcl_text.specs.Backslash.{kind_of, escape, byte_mark, escape_mark, marks, Mark}
 use Rattle.tcl_text.specs.Readings.{are_balanced, depth_after}
 use Rattle.tcl_text.specs.Splitting.{KeepsBalance}
@@ -55,13 +55,6 @@ balance_close zero (b ∷ bs) some is none =
 
 -- one step of braces in balance
 pub ruleset brace_balances = (balance_other, balance_escape, balance_open, balance_inner, balance_close)
-
-pub balance_turn : (text slice : List ℕ) (at depth : ℕ) → slice ≡ drop at text → are_balanced depth (marks (drop at text)) ≡ are_balanced 0 (marks text) → (n next : ℕ) → KeepsBalance depth slice (Some (n, next)) → are_balanced next (marks (drop (at + n) text)) ≡ are_balanced 0 (marks text)
-balance_turn text slice at depth is before n next step =
-    ap (λ rest. are_balanced next (marks rest)) (sym (ap (drop n) is ∙ drop-drop n at text)) ∙ sym step ∙ ap (λ rest. are_balanced depth (marks rest)) is ∙ before
-
-pub balance_lost : (text slice : List ℕ) (at depth : ℕ) → slice ≡ drop at text → are_balanced depth (marks (drop at text)) ≡ are_balanced 0 (marks text) → KeepsBalance depth slice None → are_balanced 0 (marks text) ≡ false
-balance_lost text slice at depth is before step = sym before ∙ ap (λ rest. are_balanced depth (marks rest)) (sym is) ∙ step
 
 pub balance_end : (text : List ℕ) (at depth : ℕ) → length text ≤ at → are_balanced depth (marks (drop at text)) ≡ are_balanced 0 (marks text) → nat_eq depth 0 ≡ are_balanced 0 (marks text)
 unfolding marks

@@ -1,11 +1,11 @@
 -- The elements of a list, one by one.
-use Rattle.std.proofs.Common.{◌≡◌, ◌≢◌, ℕ, zero, suc, ◌+◌, ◌-◌, ◌<◌, ◌≤◌, Bool, true, false, List, [], ◌∷◌, ◌++◌, append-nil, append_assoc, take, drop, length, get_or, nat_eq, cond, IsUtf8, subst, Some, None, Ok, Err, Result, refl, arith, ap, sym, ◌∙◌, inl, inr}
+use Rattle.std.proofs.Common.{◌≡◌, ◌≢◌, ℕ, zero, suc, ◌+◌, ◌-◌, ◌<◌, ◌≤◌, Bool, true, false, List, [], ◌∷◌, ◌++◌, append-nil, append_assoc, drop, length, get_or, nat_eq, cond, IsUtf8, subst, Some, None, Ok, Err, Result, refl, arith, ap, sym, ◌∙◌, inl, inr}
 use Rattle.std.specs.Borrow.{Bor}
 use Rattle.std.proofs.lemmas.Bool.{cases_Bool, cases_lt, eqb-true, both_ways, false_from_ne_true}
 use Rattle.std.proofs.lemmas.List.{drop_more, drop_all, length-drop}
 use Rattle.tcl_text.specs.Backslash.{is_white, kind_of, escape, byte_mark, escape_mark, marks_past, marks, Mark}
 use Rattle.tcl_text.specs.Readings.{Place, between, in_braces, in_quotes, in_bare, closed, place_after, Reading, onto, begun, with_mark, reading, elements, skip_white, list_of}
-use Rattle.tcl_text.specs.Splitting.{FindsBrace, GivesBehind, GivesItem, GivesElement, IsAtEnd, Unescapes, begins_bare, ends, ended, is_behind_element, items_before}
+use Rattle.tcl_text.specs.Splitting.{GivesBehind, GivesItem, GivesElement, IsAtEnd, Unescapes, begins_bare, ends, ended, is_behind_element, items_before}
 use Rattle.std.specs.Str.{IsCharBoundary}
 use Rattle.std.proofs.lemmas.Str.{IsCharBoundary-from_drop}
 use Rattle.tcl_text.proofs.IntegerReading.{white_low}
@@ -145,16 +145,6 @@ closed_item place text item at behind inside closing h =
 closed_extra : (place : Place) (text item : List ℕ) (at : ℕ) → reading place (marks text) ≡ onto item (reading closed (marks (drop (at + 1) text))) → GivesBehind text at None → reading place (marks text) ≡ Err ExtraCharacters
 closed_extra place text item at closing h = closing ∙ ap (onto item) h
 
-pub braced_item : (text slice : List ℕ) (at : ℕ) (item : List ℕ) (behind : Bor (List ℕ)) → slice ≡ text → FindsBrace slice (Some at) → item ≡ take at text → GivesBehind text at (Some behind) → GivesItem (in_braces 0) text (Ok (item, behind))
-braced_item text slice at item behind same found is h =
-    let found_here : FindsBrace text (Some at) = subst (λ xs. FindsBrace xs (Some at)) same found in
-    closed_item (in_braces 0) text item at behind found_here.0 (found_here.2 ∙ ap (λ xs. onto xs (reading closed (marks (drop (at + 1) text)))) (sym is)) h
-
-pub braced_extra : (text slice : List ℕ) (at : ℕ) → slice ≡ text → FindsBrace slice (Some at) → GivesBehind text at None → reading (in_braces 0) (marks text) ≡ Err ExtraCharacters
-braced_extra text slice at same found h =
-    let found_here : FindsBrace text (Some at) = subst (λ xs. FindsBrace xs (Some at)) same found in
-    closed_extra (in_braces 0) text (take at text) at found_here.2 h
-
 -- a quote that closes an element
 quote_found : (text item : List ℕ) (at : ℕ) → at < length text → Unescapes true text item at → IsAtEnd true text at → reading in_quotes (marks text) ≡ onto item (reading closed (marks (drop (at + 1) text)))
 unfolding kind_of
@@ -289,7 +279,3 @@ pub SplitsTo-end : (text : List ℕ) (items : List (List ℕ)) (rest : List ℕ)
 unfolding list_of marks
 SplitsTo-end text items [] h none = sym h.reads ∙ ap (λ (zs : List (List ℕ)). let list : Result (List (List ℕ)) ListFault = Ok zs in list) (append-nil items)
 SplitsTo-end text items (c ∷ cs) h none = absurd (omega arith)
-
--- or a fault
-pub SplitsTo-fault : (text : List ℕ) (items : List (List ℕ)) (rest : List ℕ) (fault : ListFault) → SplitsTo text items rest → list_of rest ≡ Err fault → list_of text ≡ Err fault
-SplitsTo-fault text items rest fault h e = sym h.reads ∙ ap (items_before items) e

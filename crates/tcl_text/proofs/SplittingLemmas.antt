@@ -1,10 +1,10 @@
 -- The readings of a list, mark by mark.
 use Rattle.std.proofs.Common.{◌≡◌, ◌≢◌, ℕ, zero, suc, ◌+◌, ◌-◌, ◌<◌, ◌≤◌, Bool, true, false, List, [], ◌∷◌, ◌++◌, append_assoc, take, drop, length, get_or, IsUtf8, nat_eq, cond, subst, Some, None, Ok, Err, refl, arith, ap, sym, add-one, ◌∙◌, inl, inr}
 use Rattle.std.proofs.lemmas.Bool.{cases_Bool, eqb-true, both_ways}
-use Rattle.std.proofs.lemmas.List.{drop_more, take_more, drop-drop, take-take, drop-take, take-append-drop, get_or-drop, drop_all, length-drop, length-take, length-append}
+use Rattle.std.proofs.lemmas.List.{drop_more, take_more, drop-drop, take-take, drop-take, take-append-drop, drop_all, length-drop, length-take, length-append}
 use Rattle.std.proofs.lemmas.Str.{IsUtf8-append}
 use Rattle.tcl_text.specs.Backslash.{is_white, kind_of, Escape, escape, byte_mark, escape_mark, marks_past, marks, Mark}
-use Rattle.tcl_text.specs.Readings.{Place, between, in_braces, in_quotes, in_bare, closed, place_after, Reading, onto, begun, with_mark, reading, elements}
+use Rattle.tcl_text.specs.Readings.{Place, between, in_braces, in_quotes, in_bare, place_after, Reading, onto, begun, with_mark, reading, elements}
 use Rattle.tcl_text.specs.Splitting.{ReadsTo, StepsInBraces, FindsBrace, Unescapes, within, ends, ended}
 use Rattle.tcl_text.proofs.BackslashLemmas.{escape_within, escape_short}
 use Rattle.tcl_text.proofs.Utf8Lemmas.{cut_at_ascii, escape_utf8}
@@ -164,14 +164,6 @@ module _ (text slice : List ℕ) (at depth : ℕ) (is : slice ≡ drop at text) 
       let h : StepsInBraces depth (drop at text) (Some (n, next)) = subst (λ rest. StepsInBraces depth rest (Some (n, next))) is step in
       subst (λ bytes. ReadsTo (in_braces 0) text (at + n) bytes (in_braces next)) (take_add at n text)
       (ReadsTo-step (in_braces 0) (in_braces depth) (in_braces next) text (take at text) (take n (drop at text)) at n reads h.3)
-
-  pub brace_found : at < length text → StepsInBraces depth slice None → FindsBrace text (Some at)
-  brace_found within closing =
-      let h : StepsInBraces depth (drop at text) None = subst (λ rest. StepsInBraces depth rest None) is closing in (
-        within,
-        (let e : get_or (drop at text) 0 0 ≡ get_or text (at + 0) 0 = get_or-drop at text 0 0 in let z : at + 0 ≡ at = omega arith in sym (e ∙ ap (λ i. get_or text i 0) z) ∙ h.0),
-        reads ∙ ap (onto (take at text)) (h.1 ∙ ap (λ rest. reading closed (marks rest)) (drop-drop 1 at text)),
-      )
 
   pub brace_missing : length text ≤ at → FindsBrace text None
   unfolding marks

@@ -211,6 +211,14 @@ fn split_lists(rt: HostRuntime) -> Result<(), Fail> {
     Ok(())
 }
 
+fn texts_of(rt: &HostRuntime, items: &[&str]) -> Result<Vec<Text>, Fail> {
+    let mut texts = Vec::new(rt.alloc());
+    for item in items {
+        texts.push(Text::new(rt.alloc(), item)?)?;
+    }
+    Ok(texts)
+}
+
 #[test]
 fn joined_lists(rt: HostRuntime) -> Result<(), Fail> {
     let cases = [
@@ -249,14 +257,11 @@ fn joined_lists(rt: HostRuntime) -> Result<(), Fail> {
         (["a\\b"].as_slice(), "{a\\b}"),
     ];
     for (items, form) in cases {
-        let mut texts = Vec::new(rt.alloc());
-        for item in items {
-            texts.push(Text::new(rt.alloc(), item)?)?;
-        }
+        let texts = texts_of(&rt, items)?;
         let list = Text::join_list(rt.alloc(), texts.as_slice())?;
         assert_eq!(rt; list.as_str(), form);
         let again = list.split_list(rt.alloc())?;
-        assert!(rt; again.as_slice() == texts.as_slice(), "{form:?}");
+        assert!(rt; again.as_slice() == texts.as_slice());
     }
     Ok(())
 }

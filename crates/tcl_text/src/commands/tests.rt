@@ -4,7 +4,7 @@ use std::alloc::Global;
 use std::test::Fail;
 
 /// Words with `|` between each two, and the result of their command in tclsh 8.6.
-static RESULTS: [(&str, &str); 111] = [
+static RESULTS: [(&str, &str); 112] = [
     ("list", ""),
     ("list|a b", "{a b}"),
     ("list|a|b c|", "a {b c} {}"),
@@ -12,6 +12,7 @@ static RESULTS: [(&str, &str); 111] = [
     ("list|#a|b#", "{#a} b#"),
     ("list|a\\", "a\\\\"),
     ("llength|", "0"),
+    ("llength|a b", "2"),
     ("llength|a b c", "3"),
     ("llength|a {b c} d", "3"),
     ("llength| a  b ", "2"),

@@ -22,7 +22,7 @@ use Rattle.tcl_vars.proofs.TableLemmas.{value_at-with_value, value_at-without-ot
 
 -- the frames stay
 
-within_limit-is : {F : Type 0} (full : F) (store new : Store) → within_limit full store ≡ Ok new → new ≡ store
+pub within_limit-is : {F : Type 0} (full : F) (store new : Store) → within_limit full store ≡ Ok new → new ≡ store
 within_limit-is full store new e = by (nat_le (variable_count store) 4096) e
   where
     by : (b : Bool) → (if b then Ok store else Err full) ≡ Ok new → new ≡ store
@@ -188,7 +188,7 @@ module _ (store : Store) (end : Place) (within : end.level < length store) (cont
         ∙ led_by-same place (link_of (content_at store place)) (λ next. led (with_content store end content) n next) (λ next. led store n next) (led-with_content n)
 
 -- a place leads no further from the global frame than it is
-led-level : (store : Store) → LinksDescend store → (n : ℕ) (place end : Place) → led store n place ≡ Some end → end.level ≤ place.level
+pub led-level : (store : Store) → LinksDescend store → (n : ℕ) (place end : Place) → led store n place ≡ Some end → end.level ≤ place.level
 unfolding led
 led-level store down zero place end e = let same : place ≡ end = cc in omega (arith, ap (λ p. p.level) same)
 led-level store down (suc n) place end e = by (link_of (content_at store place)) refl e (λ next h. led-level store down n next end h)

@@ -3,6 +3,7 @@ pub mod BelowLemmas
 pub mod CountLemmas
 pub mod GiveLemmas
 pub mod LawLemmas
+pub mod LeadLemmas
 pub mod LinkLemmas
 pub mod MadeLemmas
 pub mod NameLemmas

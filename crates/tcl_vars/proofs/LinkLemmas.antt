@@ -39,7 +39,7 @@ module _ (store : Store) (down : LinksDescend store) where
       omega (arith, down place link held, indexed-level (place_of link.0 link.1) next place.element leads, place_of-level link.0 link.1)
 
   -- how many links are allowed doesn't matter, where they are as many as there are earlier frames
-  led_enough : (n m : ℕ) (place : Place) → place.level ≤ n → place.level ≤ m → led store n place ≡ led store m place
+  pub led_enough : (n m : ℕ) (place : Place) → place.level ≤ n → place.level ≤ m → led store n place ≡ led store m place
   unfolding led
   led_enough zero zero place p q = refl
   led_enough zero (suc m) place p q = by (link_of (content_at store place)) refl

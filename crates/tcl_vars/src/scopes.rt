@@ -213,8 +213,10 @@ impl Scopes {
         ensures ok { OnOk result (with_link self.old level name.now to_level to_name.now ≡ Ok self.new) }
         ensures refused { IfErr result (λ fault. fault ≢ LinkFault.NoMemory → with_link self.old level name.now to_level to_name.now ≡ Err fault) }
         ensures err { OnErr result (self.new ≡ self.old) }
+        ensures leads { OnOk result (variable_in self.new level name.now ≡ variable_in self.old to_level to_name.now) }
         ensures levels { length self.new ≡ length self.old }
     {
+        let _ = &self.frames;
         if !is_plain(name.as_str()) {
             return Err(LinkFault::BadName);
         }

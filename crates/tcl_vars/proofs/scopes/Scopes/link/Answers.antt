@@ -5,6 +5,10 @@ use Rattle.tcl_vars.specs.Shown.{shown}
 use Rattle.tcl_vars.specs.Store.{is_plain, holds_value, variable_place, with_content}
 use Rattle.tcl_vars.proofs.MadeLemmas.{with_link-bad, with_link-exists, with_link-ok, with_link-full}
 use Rattle.tcl_vars.proofs.LawLemmas.{length-with_link}
+use Rattle.std.proofs.Common.{subst}
+use Rattle.tcl_vars.specs.Sound.{FramesDescend}
+use Rattle.tcl_vars.proofs.BelowLemmas.{LinksDescend-frames}
+use Rattle.tcl_vars.proofs.LeadLemmas.{variable_in-with_link}
 use Rattle.tcl_vars.proofs.scopes.Scopes.link.Goals as goal
 
 pub returns-then-not-is_plain-clause-refused : goal.returns-then-not-is_plain-clause-refused
@@ -39,3 +43,8 @@ returns-else-branch-clause-refused c = λ _.
 pub returns-then-branch-clause-levels : goal.returns-then-branch-clause-levels
 returns-then-branch-clause-levels c =
     length-with_link c.args.self.now c.give.new.self c.args.level c.args.name.now c.args.to_level c.args.to_name.now (returns-then-branch-clause-ok c)
+
+pub returns-then-branch-clause-leads : goal.returns-then-branch-clause-leads
+returns-then-branch-clause-leads c =
+    variable_in-with_link c.args.self.now (LinksDescend-frames c.args.self.now (subst FramesDescend c.self.view_is c.self.invariant.descending)) c.args.level c.requires.level
+    c.args.name.now c.args.to_level c.args.to_name.now c.requires.earlier c.give.new.self (returns-then-branch-clause-ok c)

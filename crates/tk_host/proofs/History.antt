@@ -97,10 +97,10 @@ sections_of_held calls held e =
     ∙ map-map (λ (part : Part). section part.application) (part_in (phase_after Adding calls)) (given_by calls)
 
 pub each_by_itself_holds : EachByItself
-each_by_itself_holds calls others slot app other phases is there same =
+each_by_itself_holds calls others slot other_slot app other phases is there same =
     let section_in : Phase → Given → List ℕ = λ phase app. section (application_in phase app.spec) in
     let here : Phase = phase_after Adding calls in
     let elsewhere : Phase = phase_after Adding others in
     slice_get-map (section_in here) (given_by calls) slot ∙ ap (option_map (section_in here)) is
     ∙ ap (λ phase. Some (section (application_in phase app.spec))) phases ∙ ap (λ spec. Some (section (application_in elsewhere spec))) same
-    ∙ sym (slice_get-map (section_in elsewhere) (given_by others) slot ∙ ap (option_map (section_in elsewhere)) there)
+    ∙ sym (slice_get-map (section_in elsewhere) (given_by others) other_slot ∙ ap (option_map (section_in elsewhere)) there)

@@ -9,9 +9,10 @@ use Rattle.tk_host.specs.Section.{section}
 abbrev pub sections_after : List Call → List (List ℕ)
 sections_after calls = map (λ app. section (application_in (phase_after Adding calls) app.spec)) (given_by calls)
 
--- Two lists of calls that reach the same phase and have the same application in a slot, be it in two places, give it one section.
+-- Two lists of calls that reach the same phase, and have an application with the same spec each in a slot of its own, be it in two places, give
+-- it one section.
 abbrev pub EachByItself : Type 0
 EachByItself =
-    (calls others : List Call) (slot : ℕ) (app other : Given) → phase_after Adding calls ≡ phase_after Adding others
-    → slice_get (given_by calls) slot ≡ Some app → slice_get (given_by others) slot ≡ Some other → app.spec ≡ other.spec
-    → slice_get (sections_after calls) slot ≡ slice_get (sections_after others) slot
+    (calls others : List Call) (slot other_slot : ℕ) (app other : Given) → phase_after Adding calls ≡ phase_after Adding others
+    → slice_get (given_by calls) slot ≡ Some app → slice_get (given_by others) other_slot ≡ Some other → app.spec ≡ other.spec
+    → slice_get (sections_after calls) slot ≡ slice_get (sections_after others) other_slot

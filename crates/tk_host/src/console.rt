@@ -26,9 +26,12 @@ impl Model for Console {
     ghost invariant = { λ c. c.empty ≡ [] };
 }
 
-/// What a command keeps while it waits: no command of the host's waits.
+/// What a command keeps while it waits. No command of the host's waits yet.
 #[derive(Drop)]
-pub enum NoTask {}
+pub enum NoTask {
+    /// It waits for nothing: what is resumed with it is no command.
+    Nothing,
+}
 
 impl Console {
     ghost use Rattle.std.specs.Prelude.{◌≡◌, [], IfOk, OnOk, OnErr};
@@ -141,11 +144,11 @@ impl Tasks for Console {
     fn resume(
         &mut self,
         _scopes: &mut Scopes,
-        task: NoTask,
+        _task: NoTask,
         _code: Code,
         _text: Text,
     ) -> Result<Act<NoTask>, AllocError> {
-        match task {}
+        Ok(Act::Unknown)
     }
 
     ghost falls = { λ shows store task code text. tt };

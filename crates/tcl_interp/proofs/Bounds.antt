@@ -1,13 +1,12 @@
 -- Steps never rise, so the number of turns that bounds a loop or a task doesn't matter.
-use Rattle.std.proofs.Common.{◌≡◌, ℕ, zero, suc, ◌≤◌, ◌<◌, Bool, true, false, cond, List, [], ◌∷◌, ◌++◌, length, nat_le, Option, Some, None, Result, Ok, Err, refl, ap, sym, ◌∙◌, arith}
+use Rattle.std.proofs.Common.{◌≡◌, ℕ, zero, suc, ◌≤◌, ◌<◌, Bool, true, false, cond, List, [], ◌∷◌, ◌++◌, length, nat_le, Option, Some, None, Result, Ok, Err, refl, sym, arith}
 use Rattle.tcl_words.specs.declared.script.Command.{Command}
 use Rattle.tcl_words.specs.declared.script.Word.{Word}
 use Rattle.tcl_words.specs.declared.script.Piece.{Piece}
 use Rattle.tcl_words.specs.declared.script.Piece.TheVariants.{Literal, Variable, Element, Bracket}
 use Rattle.tcl_words.specs.declared.fault.ParseFault.{ParseFault}
-use Rattle.tcl_vars.specs.Store.{Store, variable_in, with_variable}
+use Rattle.tcl_vars.specs.Store.{variable_in}
 use Rattle.tcl_vars.specs.declared.fault.ReadFault.{ReadFault}
-use Rattle.tcl_vars.specs.declared.fault.SetFault.{SetFault}
 use Rattle.tcl_interp.specs.declared.commands.Builtin.{Builtin}
 use Rattle.tcl_interp.specs.declared.commands.Builtin.TheVariants.{Set, While}
 use Rattle.tcl_interp.specs.declared.loops.Condition.{Condition}
@@ -15,10 +14,10 @@ use Rattle.tcl_interp.specs.declared.tasks.Code.{Code}
 use Rattle.tcl_interp.specs.declared.tasks.Code.TheVariants.{Normal, Error, Return, Break, Continue}
 use Rattle.tcl_interp.specs.declared.tasks.Act.{Act}
 use Rattle.tcl_interp.specs.declared.tasks.Act.TheVariants.{Done, Step, Run, Unknown}
-use Rattle.tcl_interp.specs.Outside.{Outside, Told, Falls, RunsBelow}
-use Rattle.tcl_interp.specs.Evaluation.{State, Outcome, Ended, OutOfSteps, and_then, on_normal, stepped, with_step, on_read, with_joined, piece_meaning, pieces_meaning, words_meaning, called, commands_meaning}
+use Rattle.tcl_interp.specs.Outside.{Outside, Falls, RunsBelow}
+use Rattle.tcl_interp.specs.Evaluation.{State, Outcome, Ended, OutOfSteps, and_then, on_normal, stepped, on_read, piece_meaning, pieces_meaning, words_meaning, called, commands_meaning}
 use Rattle.tcl_interp.specs.Commands.{command_of, plain_name, condition_of, condition_value, on_test, after_body, turns_meaning, while_meaning, builtin_meaning}
-use Rattle.tcl_interp.specs.Scripts.{out_of_global, on_act, told_state, resumed, after_step, task_meaning, act_meaning, outside_meaning, by_name, call_meaning, script_of, on_parsed, script_meaning}
+use Rattle.tcl_interp.specs.Scripts.{out_of_global, on_act, resumed, after_step, task_meaning, act_meaning, by_name, call_meaning, script_of, on_parsed, script_meaning}
 
 -- where something ends, at most so many steps are left
 abbrev pub Within : {S : Type 0} → ℕ → Outcome S → Type 0

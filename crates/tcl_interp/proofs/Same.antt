@@ -1,25 +1,22 @@
 -- The moves that take no step keep the outcome of all that is still to do.
-use Rattle.std.proofs.Common.{◌≡◌, ℕ, zero, suc, ◌-◌, ◌==◌, ◌≤◌, ◌<◌, Bool, true, false, cond, List, [], ◌∷◌, ◌++◌, length, nat_le, Option, Some, None, Result, Ok, Err, refl, ap, sym, ◌∙◌, arith}
+use Rattle.std.proofs.Common.{◌≡◌, ℕ, zero, suc, ◌-◌, ◌==◌, Bool, true, false, cond, List, [], ◌∷◌, ◌++◌, length, nat_le, Result, Ok, Err, refl, ap, sym, ◌∙◌, arith}
 use Rattle.std.proofs.lemmas.Bool.Decides.{nat_tests}
 use Rattle.tcl_words.specs.declared.script.Command.{Command}
 use Rattle.tcl_words.specs.declared.script.Word.{Word}
 use Rattle.tcl_words.specs.declared.script.Piece.{Piece}
 use Rattle.tcl_words.specs.declared.script.Piece.TheVariants.{Literal, Variable, Element, Bracket}
 use Rattle.tcl_words.specs.declared.fault.ParseFault.{ParseFault}
-use Rattle.tcl_vars.specs.Store.{Store, variable_in}
+use Rattle.tcl_vars.specs.Store.{variable_in}
 use Rattle.tcl_vars.specs.declared.fault.ReadFault.{ReadFault}
-use Rattle.tcl_interp.specs.declared.loops.Condition.{Condition}
 use Rattle.tcl_interp.specs.declared.tasks.Code.{Code}
 use Rattle.tcl_interp.specs.declared.tasks.Code.TheVariants.{Normal, Error, Return, Break, Continue}
-use Rattle.tcl_interp.specs.declared.tasks.Act.{Act}
-use Rattle.tcl_interp.specs.declared.tasks.Act.TheVariants.{Done, Step, Run, Unknown}
-use Rattle.tcl_interp.specs.Outside.{Outside, Told, Falls, RunsBelow}
+use Rattle.tcl_interp.specs.Outside.{Outside}
 use Rattle.tcl_interp.specs.Texts.{limit_text}
-use Rattle.tcl_interp.specs.Evaluation.{State, Outcome, Ended, OutOfSteps, and_then, on_normal, stepped, with_step, on_read, with_joined, piece_meaning, pieces_meaning, words_meaning, called, commands_meaning}
-use Rattle.tcl_interp.specs.Scripts.{out_of_global, on_act, told_state, resumed, after_step, task_meaning, act_meaning, call_meaning, script_of, on_parsed, script_meaning}
-use Rattle.tcl_interp.specs.Finish.{Turning, Wording, Doing, Begins, GoesOn, Calls, Tests, Steps, Resumes, Ends, Waiting, ForCommand, ForBracket, ForBody, ForScript, ForAll, Rest, Running, at_global, script_rest, words_rest, word_rest, loop_rest, task_rest, doing_meaning, waiting_meaning, waits_meaning, finish}
-use Rattle.tcl_interp.specs.Quiet.{quiet_by, quiet_move, quiet_moves, Leads}
-use Rattle.tcl_interp.specs.Moves.{Moved, PieceText, Plain, Fails, Script, value_text, piece_text, WordEnd, Whole, Failed, AtBracket, join_end, piece_end, word_end, moved, called_move, word_move, words_move, parsed_move, begin_move, go_on_move, after_command, bracket_move, after_bracket, after_body_move, global_end, end_move}
+use Rattle.tcl_interp.specs.Evaluation.{State, Outcome, Ended, OutOfSteps, and_then, on_normal, with_step, on_read, with_joined, pieces_meaning}
+use Rattle.tcl_interp.specs.Scripts.{out_of_global, call_meaning, script_of, on_parsed, script_meaning}
+use Rattle.tcl_interp.specs.Finish.{Turning, Wording, Doing, Begins, GoesOn, Calls, Tests, Steps, Resumes, Ends, Waiting, ForCommand, ForBracket, ForBody, ForScript, ForAll, Running, at_global, script_rest, words_rest, waiting_meaning, waits_meaning, finish}
+use Rattle.tcl_interp.specs.Quiet.{quiet_by, quiet_moves, Leads}
+use Rattle.tcl_interp.specs.Moves.{Moved, value_text, WordEnd, Whole, Failed, AtBracket, join_end, piece_end, word_end, moved, word_move, words_move, parsed_move, begin_move, go_on_move, after_command, after_bracket, after_body_move, global_end, end_move}
 
 pub and_then_assoc : {S : Type 0} (o : Outcome S) (f g : State S → Code → List ℕ → Outcome S) → and_then (and_then o f) g ≡ and_then o (λ state code text. and_then (f state code text) g)
 and_then_assoc (Ended state code text) f g = refl

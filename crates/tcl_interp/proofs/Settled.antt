@@ -1,5 +1,5 @@
 -- What is due, other than a task, is a step or the end.
-use Rattle.std.proofs.Common.{◌≡◌, ℕ, List, [], refl}
+use Rattle.std.proofs.Common.{◌≡◌, ℕ, List, refl}
 use Rattle.tcl_interp.specs.declared.tasks.Code.{Code}
 use Rattle.tcl_interp.specs.declared.machine.Now.{Now}
 use Rattle.tcl_interp.specs.declared.machine.Now.TheVariants.{Begins, GoesOn, Calls, Tests, Steps, Resumes, Ends}

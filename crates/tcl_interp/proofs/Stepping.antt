@@ -1,19 +1,18 @@
 -- The moves that take a step or resume a task keep the outcome of all that is still to do.
-use Rattle.std.proofs.Common.{◌≡◌, ℕ, zero, suc, ◌+◌, ◌≤◌, ◌<◌, Bool, true, false, drop, slice_get, List, [], ◌∷◌, Option, Some, None, Result, Ok, Err, refl, ap, sym, ◌∙◌, subst, arith}
+use Rattle.std.proofs.Common.{◌≡◌, ℕ, zero, suc, ◌+◌, ◌≤◌, ◌<◌, Bool, true, false, drop, slice_get, List, [], ◌∷◌, Some, Result, Ok, Err, refl, ap, sym, ◌∙◌, subst, arith}
 use Rattle.tcl_vars.specs.Store.{Store}
-use Rattle.tcl_interp.specs.declared.commands.Builtin.{Builtin}
-use Rattle.tcl_interp.specs.declared.commands.Builtin.TheVariants.{Set, While}
+use Rattle.tcl_interp.specs.declared.commands.Builtin.TheVariants.{While}
 use Rattle.tcl_interp.specs.declared.tasks.Code.{Code}
 use Rattle.tcl_interp.specs.declared.tasks.Code.TheVariants.{Normal}
 use Rattle.tcl_interp.specs.declared.tasks.Act.{Act}
 use Rattle.tcl_interp.specs.declared.tasks.Act.TheVariants.{Done, Step, Run, Unknown}
 use Rattle.tcl_interp.specs.Outside.{Outside, Told, Falls, RunsBelow}
 use Rattle.tcl_interp.specs.Evaluation.{State, Outcome, OutOfSteps, and_then}
-use Rattle.tcl_interp.specs.Commands.{plain_name, command_of, condition_value, on_test, after_body, turns_meaning, while_meaning, set_ending, Ending}
-use Rattle.tcl_interp.specs.Scripts.{out_of_global, told_state, on_act, resumed, after_step, task_meaning, act_meaning, by_name, call_meaning, script_meaning}
-use Rattle.tcl_interp.specs.Finish.{Turning, Doing, Calls, Tests, Steps, Resumes, Ends, Waiting, ForScript, ForBody, Running, loop_rest, waits_meaning, finish}
+use Rattle.tcl_interp.specs.Commands.{plain_name, command_of, condition_value, on_test, after_body, turns_meaning, while_meaning}
+use Rattle.tcl_interp.specs.Scripts.{out_of_global, told_state, resumed, after_step, task_meaning, act_meaning, by_name}
+use Rattle.tcl_interp.specs.Finish.{Turning, Calls, Tests, Steps, Resumes, Waiting, loop_rest, waits_meaning}
 use Rattle.tcl_interp.specs.Moves.{Moved, moved, while_move, test_move, act_move}
-use Rattle.tcl_interp.specs.Steps.{state_with, plain_words, TakesStep, TakesNone, Resumed}
+use Rattle.tcl_interp.specs.Steps.{state_with, TakesStep, TakesNone, Resumed}
 use Rattle.tcl_interp.specs.Quiet.{Leads}
 use Rattle.tcl_interp.proofs.Bounds.{and_then_same, after_body_same, turns_same, resumed_same, after_step_same, on_act_same, within_script}
 use Rattle.tcl_interp.proofs.Same.{and_then_assoc, finish_moved, run_in, leads_same}

@@ -1,5 +1,5 @@
 -- What a move that takes no step comes nearer to: each makes what is to do before the next step, or the next task, lighter.
-use Rattle.std.proofs.Common.{◌≡◌, ℕ, zero, suc, ◌+◌, ◌-◌, ◌==◌, ◌≤◌, ◌<◌, Bool, true, false, cond, List, [], ◌∷◌, ◌++◌, length, nat_le, Result, Ok, Err, refl, ap, sym, ◌∙◌, arith}
+use Rattle.std.proofs.Common.{◌≡◌, ℕ, zero, suc, ◌+◌, ◌≤◌, ◌<◌, Bool, true, false, cond, List, [], ◌∷◌, ◌++◌, length, nat_le, Result, Ok, Err, refl, ap, sym, ◌∙◌, arith}
 use Rattle.tcl_words.specs.declared.script.Command.{Command}
 use Rattle.tcl_words.specs.declared.script.Word.{Word}
 use Rattle.tcl_words.specs.declared.script.Piece.{Piece}
@@ -11,8 +11,8 @@ use Rattle.tcl_interp.specs.declared.tasks.Code.{Code}
 use Rattle.tcl_interp.specs.declared.tasks.Code.TheVariants.{Normal, Error, Return, Break, Continue}
 use Rattle.tcl_interp.specs.Texts.{limit_text}
 use Rattle.tcl_interp.specs.Scripts.{out_of_global, script_of}
-use Rattle.tcl_interp.specs.Finish.{Turning, Wording, Doing, Begins, GoesOn, Calls, Tests, Steps, Resumes, Ends, Waiting, ForCommand, ForBracket, ForBody, ForScript, ForAll}
-use Rattle.tcl_interp.specs.Moves.{Moved, PieceText, value_text, piece_text, WordEnd, Whole, Failed, AtBracket, join_end, piece_end, word_end, moved, word_move, words_move, parsed_move, begin_move, go_on_move, after_command, bracket_move, after_bracket, after_body_move, global_end, end_move}
+use Rattle.tcl_interp.specs.Finish.{Doing, Begins, GoesOn, Calls, Tests, Steps, Resumes, Ends, Waiting, ForCommand, ForBracket, ForBody, ForScript, ForAll}
+use Rattle.tcl_interp.specs.Moves.{Moved, value_text, WordEnd, Whole, Failed, AtBracket, join_end, piece_end, word_end, moved, word_move, words_move, parsed_move, begin_move, go_on_move, bracket_move, global_end, end_move}
 use Rattle.tcl_interp.specs.Quiet.{quiet_by, quiet_move, quiet_moves, Leads, IsQuietBy, IsQuiet}
 use Rattle.tcl_interp.proofs.Same.{begin_some}
 

@@ -1,11 +1,11 @@
 -- The word, and the command, at an index of a list.
-use Rattle.std.proofs.Common.{◌≡◌, ℕ, zero, suc, ◌+◌, ◌<◌, ◌≤◌, List, [], ◌∷◌, ◌++◌, length, drop, Result, IfOk, refl, ap, sym, ◌∙◌, subst, arith, add-one}
+use Rattle.std.proofs.Common.{◌≡◌, ℕ, zero, suc, ◌+◌, ◌<◌, List, [], ◌∷◌, ◌++◌, length, drop, Result, IfOk, refl, ap, sym, ◌∙◌, subst, arith, add-one}
 use Rattle.tcl_words.specs.declared.script.Command.{Command}
 use Rattle.tcl_words.specs.declared.script.Word.{Word}
 use Rattle.tcl_words.specs.declared.script.Piece.{Piece}
 use Rattle.tcl_vars.specs.Store.{Store}
 use Rattle.tcl_interp.specs.Finish.{Waiting}
-use Rattle.tcl_interp.specs.Moves.{Moved, WordEnd, Whole, AtBracket, word_end, called_move, bracket_begins, word_move, words_move, go_on_move}
+use Rattle.tcl_interp.specs.Moves.{Whole, AtBracket, word_end, bracket_begins, word_move, words_move, go_on_move}
 use Rattle.tcl_interp.specs.Rests.{words_in_front, pieces_in_front}
 
 module _ {K : Type 0} (store : Store) (room : ℕ) (waits : List (Waiting K)) where

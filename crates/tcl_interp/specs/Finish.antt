@@ -1,11 +1,11 @@
 -- What an interpreter still has to do, and the outcome of doing it, innermost first.
-use Rattle.std.specs.Prelude.{ℕ, zero, suc, List, [], ◌∷◌, ◌++◌, codes}
+use Rattle.std.specs.Prelude.{ℕ, List, [], ◌∷◌, ◌++◌, codes}
 use Rattle.tcl_words.specs.declared.script.Command.{Command}
 use Rattle.tcl_words.specs.declared.script.Word.{Word}
 use Rattle.tcl_words.specs.declared.script.Piece.{Piece}
 use Rattle.tcl_interp.specs.declared.loops.Condition.{Condition}
 use Rattle.tcl_interp.specs.declared.tasks.Code.{Code}
-use Rattle.tcl_interp.specs.declared.tasks.Code.TheVariants.{Normal, Error, Return, Break, Continue}
+use Rattle.tcl_interp.specs.declared.tasks.Code.TheVariants.{Normal, Error, Break, Continue}
 use Rattle.tcl_interp.specs.Outside.{Outside}
 use Rattle.tcl_interp.specs.Evaluation.{State, Outcome, Ended, OutOfSteps, and_then, on_normal, with_step, with_joined, pieces_meaning, words_meaning, called, commands_meaning}
 use Rattle.tcl_interp.specs.Commands.{turns_meaning, after_body}

@@ -1,11 +1,11 @@
 -- What an interpreter stands for, and what a slice of it reaches.
-use Rattle.std.specs.Prelude.{◌≡◌, ◌≢◌, ◌+◌, ℕ, List, ◌<◌}
+use Rattle.std.specs.Prelude.{◌≡◌, ◌≢◌, ℕ, List}
 use Rattle.tcl_vars.specs.Store.{Store}
 use Rattle.tcl_interp.specs.declared.interp.Interp.{Interp}
 use Rattle.tcl_interp.specs.declared.interp.SliceEnd.{SliceEnd}
 use Rattle.tcl_interp.specs.declared.interp.SliceEnd.TheVariants.{Done, More, Exhausted}
 use Rattle.tcl_interp.specs.Evaluation.{State, Outcome, Ended, OutOfSteps}
-use Rattle.tcl_interp.specs.Finish.{Doing, Waiting, Rest, Idle, Running, Spent, Broken}
+use Rattle.tcl_interp.specs.Finish.{Doing, Waiting, Rest, Idle, Running, Spent}
 use Rattle.tcl_interp.specs.Rests.{rest_by, waits_of}
 
 module _ {K : Type 0} where

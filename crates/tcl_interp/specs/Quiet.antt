@@ -2,7 +2,7 @@
 use Rattle.std.specs.Prelude.{◌≡◌, ◌≢◌, ℕ, zero, suc, List, [], ◌∷◌}
 use Rattle.tcl_vars.specs.Store.{Store}
 use Rattle.tcl_interp.specs.declared.tasks.Code.{Code}
-use Rattle.tcl_interp.specs.Finish.{Doing, Begins, GoesOn, Calls, Tests, Steps, Resumes, Ends, Waiting}
+use Rattle.tcl_interp.specs.Finish.{Doing, Begins, GoesOn, Ends, Waiting}
 use Rattle.tcl_interp.specs.Moves.{Moved, moved, begin_move, go_on_move, end_move}
 
 module _ {K : Type 0} where

@@ -1,5 +1,5 @@
 -- What the parts of the interpreter stand for.
-use Rattle.std.specs.Prelude.{ℕ, suc, ◌+◌, List, [], ◌∷◌, map, reverse, drop, slice_get, Option, Some, None, Result, Ok, Err, string_bytes}
+use Rattle.std.specs.Prelude.{ℕ, ◌+◌, List, [], ◌∷◌, map, reverse, drop, Result, Ok, Err, string_bytes}
 use Rattle.tcl_words.specs.declared.script.Command.{Command}
 use Rattle.tcl_words.specs.declared.script.Word.{Word}
 use Rattle.tcl_words.specs.declared.script.Piece.{Piece}

@@ -1,5 +1,5 @@
 -- How far a slice comes.
-use Rattle.std.specs.Prelude.{◌≡◌, ℕ}
+use Rattle.std.specs.Prelude.{◌≡◌}
 use Rattle.tcl_interp.specs.declared.machine.Now.{Now}
 use Rattle.tcl_interp.specs.declared.slices.Ran.{Ran}
 use Rattle.tcl_interp.specs.declared.slices.Ran.TheVariants as ran

@@ -5,7 +5,7 @@ use Rattle.tcl_interp.specs.declared.tasks.Code.TheVariants.{Normal, Error, Retu
 use Rattle.tcl_interp.specs.declared.tasks.ReturnCode.TheVariants.{Normal as AsNormal}
 use Rattle.tcl_interp.specs.declared.tasks.Act.{Act}
 use Rattle.tcl_interp.specs.declared.tasks.Act.TheVariants.{Done, Step, Run, Unknown}
-use Rattle.tcl_interp.specs.Outside.{Outside, Told}
+use Rattle.tcl_interp.specs.Outside.{Outside}
 
 -- a command alone
 abbrev pub alone_act : List ℕ → Act ℕ

@@ -1,10 +1,10 @@
 -- Steps: what needs one, and what it leads to.
 use Rattle.std.specs.Prelude.{◌≡◌, ℕ, suc, List, [], ◌∷◌}
 use Rattle.tcl_vars.specs.Store.{Store}
-use Rattle.tcl_interp.specs.Outside.{Outside, Told}
+use Rattle.tcl_interp.specs.Outside.{Outside}
 use Rattle.tcl_interp.specs.Evaluation.{State, Outcome}
 use Rattle.tcl_interp.specs.Commands.{plain_name}
-use Rattle.tcl_interp.specs.Finish.{Doing, Begins, GoesOn, Calls, Tests, Steps, Resumes, Ends, Waiting, Running, finish}
+use Rattle.tcl_interp.specs.Finish.{Doing, Calls, Tests, Steps, Ends, Waiting, Running, finish}
 use Rattle.tcl_interp.specs.declared.tasks.Code.{Code}
 use Rattle.tcl_interp.specs.declared.tasks.Act.{Act}
 use Rattle.tcl_interp.specs.Moves.{Moved, act_move}

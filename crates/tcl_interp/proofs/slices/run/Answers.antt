@@ -1,4 +1,4 @@
-use Rattle.std.proofs.Common.{◌≡◌, ◌-◌, suc, ap, sym, ◌∙◌, arith}
+use Rattle.std.proofs.Common.{◌≡◌, ◌-◌, suc, ap, ◌∙◌, arith}
 use Rattle.tcl_interp.specs.Rests.{moved_of}
 use Rattle.tcl_interp.specs.Steps.{finish_from, state_with}
 use Rattle.tcl_interp.proofs.slices.run.Goals as goal

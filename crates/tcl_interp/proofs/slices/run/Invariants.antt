@@ -1,4 +1,4 @@
-use Rattle.std.proofs.Common.{◌≡◌, ◌+◌, ℕ, List}
+use Rattle.std.proofs.Common.{◌≡◌, ◌+◌}
 use Rattle.tcl_interp.specs.Rests.{moved_of}
 use Rattle.tcl_interp.specs.Steps.{IsSettled, finish_from, state_with}
 use Rattle.tcl_interp.proofs.slices.run.Given as goal

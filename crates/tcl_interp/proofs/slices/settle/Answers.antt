@@ -1,6 +1,6 @@
-use Rattle.std.proofs.Common.{◌≡◌, ◌<◌, ◌+◌, suc, ◌∙◌, arith}
+use Rattle.std.proofs.Common.{◌<◌, ◌+◌, suc, ◌∙◌, arith}
 use Rattle.tcl_interp.specs.Finish.{Resumes}
-use Rattle.tcl_interp.specs.Moves.{Moved, moved}
+use Rattle.tcl_interp.specs.Moves.{moved}
 use Rattle.tcl_interp.specs.Quiet.{Leads}
 use Rattle.tcl_interp.specs.Rests.{moved_of, waits_of}
 use Rattle.tcl_interp.proofs.Settled.{due_settled}

@@ -1,7 +1,6 @@
-use Rattle.std.proofs.Common.{◌≡◌, ◌∷◌, [], Some, slice_get, drop, sym, ap, ◌∙◌}
+use Rattle.std.proofs.Common.{◌≡◌, Some, slice_get, sym, ap, ◌∙◌}
 use Rattle.tcl_interp.specs.declared.commands.Builtin.TheVariants.{While}
 use Rattle.tcl_interp.specs.Commands.{command_of, plain_name}
-use Rattle.tcl_interp.specs.Moves.{while_move}
 use Rattle.tcl_interp.specs.Rests.{moved_of, waits_of}
 use Rattle.tcl_interp.proofs.Stepping.{call_while}
 use Rattle.tcl_interp.proofs.steps.call.Goals as goal

@@ -1,4 +1,4 @@
-use Rattle.std.proofs.Common.{◌≡◌, ◌<◌, ◌+◌, [], length, drop, arith, ap, sym, ◌∙◌}
+use Rattle.std.proofs.Common.{◌<◌, ◌+◌, length, drop, ap, sym, ◌∙◌}
 use Rattle.tcl_interp.specs.Rests.{commands_in, left_in, words_in_front, moved_of, waits_of}
 use Rattle.tcl_interp.specs.Moves.{words_move}
 use Rattle.tcl_interp.proofs.WordLemmas.{command_at, ok_along}

@@ -1,4 +1,4 @@
-use Rattle.std.proofs.Common.{◌≡◌, ◌<◌, ◌+◌, [], length, drop, arith, ap, ◌∙◌}
+use Rattle.std.proofs.Common.{◌≡◌, ◌<◌, ◌+◌, [], length, drop, ap, ◌∙◌}
 use Rattle.tcl_interp.specs.Moves.{Whole, AtBracket, word_end, words_move}
 use Rattle.tcl_interp.specs.Rests.{commands_in, left_in, words_in_front, moved_of, waits_of, joined_text}
 use Rattle.tcl_interp.proofs.WordLemmas.{word_whole, word_bracket, ok_along}

@@ -1,4 +1,4 @@
-use Rattle.std.proofs.Common.{◌≡◌, ◌-◌, ◌+◌, ◌≤◌, drop, length}
+use Rattle.std.proofs.Common.{◌≡◌, ◌-◌, ◌+◌, drop, length}
 use Rattle.tcl_interp.specs.Moves.{words_move}
 use Rattle.tcl_interp.specs.Rests.{commands_in, left_in, words_in_front, waits_of}
 use Rattle.tcl_interp.proofs.words.put_words.Given as goal

@@ -1,4 +1,4 @@
-use Rattle.std.proofs.Common.{◌≡◌, ◌≢◌, ◌≤◌, ◌+◌}
+use Rattle.std.proofs.Common.{◌≡◌, ◌≢◌, ◌≤◌}
 use Rattle.tcl_interp.specs.Finish.{finish, Idle}
 use Rattle.tcl_interp.specs.Interp.{rest_of, left_of, budget_of, replaced_in, state_of}
 use Rattle.tcl_interp.proofs.interp.Interp.run_to_end.Given as goal

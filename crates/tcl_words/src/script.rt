@@ -253,9 +253,4 @@ impl Index {
     {
         &self.text
     }
-
-    /// The pieces that give the element's key, in order.
-    pub fn pieces(&self) -> &Pieces {
-        &self.pieces
-    }
 }

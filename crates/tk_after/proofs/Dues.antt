@@ -130,7 +130,7 @@ least_found_more id (Some x) script entries due rest is none = pick (least (due_
         test true e none = absurd (none-some _ (sym (rw e at none)))
         test false e none = let y_is : y ≡ due = grind (arith, nat_tests) in rest due (r ∙ ap Some y_is) (rw e at none)
 
-least_found : (entries : List Entry) (due : ℕ) → least (due_moments entries) ≡ Some due → find (is_due_at due) entries ≡ None → ⊥
+pub least_found : (entries : List Entry) (due : ℕ) → least (due_moments entries) ≡ Some due → find (is_due_at due) entries ≡ None → ⊥
 least_found [] due is none = cc
 least_found (e ∷ entries) due is none = least_found_more e.id e.due e.script entries due (λ y. least_found entries y) is none
 

@@ -100,7 +100,8 @@ impl Timers {
 
     /// The numbers that are listed, in order.
     pub fn info(&self, owner: usize) -> Result<Vec<u64>, AllocError>
-        ensures { IfOk result (λ list. list.items ≡ ids (entries_of owner self.now)) }
+        ensures list { IfOk result (λ list. list.items ≡ ids (entries_of owner self.now)) }
+        ensures kept { IsKept (own_of owner self.now) }
     {
         match self.own(owner) {
             Some(own) => own.ids(),

@@ -1,5 +1,9 @@
+mod Dues
 mod Escapes
+mod Falls
 mod History
 mod Order
+mod Passing
 mod Runs
+mod Settling
 mod Words

@@ -1,19 +1,23 @@
--- A script at global level, from its first slice to its end.
-use Rattle.std.proofs.Common.{◌≡◌, ℕ, Bool, true, false, Option, Some, None, List, [], refl, sym, ap, ◌∙◌, subst}
+-- What was begun at global level, from its first slice to its end.
+use Rattle.std.proofs.Common.{◌≡◌, ℕ, Bool, true, false, List, [], refl, sym, ap, ◌∙◌, subst, arith}
 use Rattle.tcl_interp.specs.declared.tasks.Code.{Code}
 use Rattle.tcl_interp.specs.Evaluation.{State, Outcome, Ended, OutOfSteps, and_then}
-use Rattle.tcl_interp.specs.Scripts.{script_meaning, out_of_global}
-use Rattle.tcl_interp.specs.Finish.{Rest, at_global, finish, rest_of_script, waits_meaning}
+use Rattle.tcl_interp.specs.Scripts.{script_meaning, task_meaning, out_of_global}
+use Rattle.tcl_interp.specs.declared.tasks.Code.TheVariants.{Normal}
+use Rattle.tcl_interp.specs.Finish.{Rest, at_global, finish, rest_of_script, rest_of_task, waits_meaning}
 use Rattle.tcl_vars.specs.Store.{Store}
-use Rattle.tk_host.specs.declared.console.NoTask.{NoTask}
+use Rattle.tk_host.specs.declared.settling.Settling.{Settling}
+use Rattle.tk_host.specs.declared.settling.Settling.TheVariants.{Rest as RestOfRound}
 use Rattle.tk_host.specs.Shown.{Shown}
 use Rattle.tk_host.specs.Outside.{outside}
-use Rattle.tk_host.specs.declared.rect.Rect.{Rect}
-use Rattle.tk_host.specs.declared.state.AppState.TheVariants.{Exhausted}
+use Rattle.tk_host.specs.declared.state.AppState.{AppState}
+use Rattle.tk_host.specs.declared.state.AppState.TheVariants.{Running, Exhausted}
 use Rattle.tk_host.specs.Application.{Application}
-use Rattle.tk_host.specs.Alone.{reported, script_at_global, with_left, after_outcome, after_script, settled}
-use Rattle.tk_host.specs.Held.{Part, started}
+use Rattle.tk_host.specs.Global.{script_at_global, with_report}
+use Rattle.tk_host.specs.Settle.{settle_meaning}
+use Rattle.tk_host.specs.Alone.{shown_at, state_at, with_left, after_outcome, after_script, settled_as, settled}
 use Rattle.tk_host.specs.Running.{Leaves}
+use Rattle.tk_host.proofs.Settling.{comes}
 
 -- nothing comes behind the end
 ended_alone : (outcome : Outcome Shown) → and_then outcome (waits_meaning outside [] []) ≡ outcome
@@ -27,7 +31,7 @@ at_the_end (Ended state code text) = ended_alone (at_global state (out_of_global
 at_the_end (OutOfSteps state) = refl
 
 -- an interpreter that has begun a script finishes as the script does
-pub finish_of_script : (rest : Rest NoTask) (script : List ℕ) (shown : Shown) (store : Store) (before steps : ℕ) → rest ≡ rest_of_script script → steps ≡ before
+pub finish_of_script : (rest : Rest Settling) (script : List ℕ) (shown : Shown) (store : Store) (before steps : ℕ) → rest ≡ rest_of_script script → steps ≡ before
     → finish outside [] rest (record { shows = shown; store = store; steps = steps }) ≡ script_at_global script (record { shows = shown; store = store; steps = before })
 finish_of_script rest script shown store before steps begun same =
     let state : ℕ → State Shown = λ n. record { shows = shown; store = store; steps = n } in
@@ -35,9 +39,19 @@ finish_of_script rest script shown store before steps begun same =
     ∙ ap (λ n. finish outside [] (rest_of_script script) (state n)) same
     ∙ at_the_end (script_meaning outside [] 200 0 script (state before))
 
+-- an interpreter that has begun to settle finishes as settling does
+pub finish_of_settling : (rest : Rest Settling) (moment : ℕ) (shown : Shown) (store : Store) (before steps : ℕ) → rest ≡ rest_of_task (RestOfRound moment []) → steps ≡ before
+    → finish outside [] rest (record { shows = shown; store = store; steps = steps }) ≡ settle_meaning moment (record { shows = shown; store = store; steps = before })
+finish_of_settling rest moment shown store before steps begun same =
+    let state : ℕ → State Shown = λ n. record { shows = shown; store = store; steps = n } in
+    ap (λ r. finish outside [] r (state steps)) begun
+    ∙ ap (λ n. finish outside [] (rest_of_task (RestOfRound moment [])) (state n)) same
+    ∙ ended_alone (task_meaning outside (script_meaning outside [] 200) (RestOfRound moment []) (state before) Normal [])
+    ∙ comes moment before (before + 1) [] shown store before (omega arith) (omega arith)
+
 -- what is left, by how it ended
 pub leaves_ended : (outcome : Outcome Shown) (left : State Shown) (code : Code) (text : List ℕ) (shown : Shown) → outcome ≡ Ended left code text
-    → shown ≡ reported code text left.shows → Leaves outcome true (record left { shows = shown })
+    → shown ≡ (with_report code text left).shows → Leaves outcome true (record left { shows = shown })
 leaves_ended outcome left code text shown ended told =
     let P : Outcome Shown → Type 0 = λ o. Leaves o true (record left { shows = shown }) in
     subst P (sym ended) (refl, ap (λ s. record left { shows = s }) told)
@@ -59,18 +73,36 @@ left_of_outcome (Ended state code text) enough left application leaves =
 left_of_outcome (OutOfSteps state) enough left application leaves =
     ap (λ e. run_left e left application) leaves.0 ∙ ap (λ l. run_left false l application) leaves.1
 
--- an application whose script has run, and what comes of it is done, has been started
-pub started_by_run : (rect : Rect) (application : Application) (script : List ℕ) (waiting after : Option (List ℕ)) (enough told : Bool) (shown : Shown) (left : State Shown)
-    → waiting ≡ Some script → after ≡ None → enough ≡ told → shown ≡ record { moment = 0; transcript = application.transcript }
+-- an application whose script has run
+pub left_by_script : (application : Application) (moment : ℕ) (script : List ℕ) (enough told : Bool) (shown : Shown) (left : State Shown)
+    → enough ≡ told → shown ≡ shown_at moment application
     → Leaves (script_at_global script (record { shows = shown; store = application.store; steps = application.steps })) enough left
-    → let run : Part = record { rect = rect; application = settled (run_left told left application); waiting = after } in
-    run ≡ started (record { rect = rect; application = application; waiting = waiting })
+    → run_left told left application ≡ after_script moment script application
 unfolding after_script
-started_by_run rect application script waiting after enough told shown left waited none same clock leaves =
+left_by_script application moment script enough told shown left same clock leaves =
     let outcome : Shown → Outcome Shown = λ s. script_at_global script (record { shows = s; store = application.store; steps = application.steps }) in
-    let part : Application → Option (List ℕ) → Part = λ a w. record { rect = rect; application = a; waiting = w } in
-    ap (part (settled (run_left told left application))) none
-    ∙ ap (λ e. part (settled (run_left e left application)) None) (sym same)
-    ∙ ap (λ a. part (settled a) None) (left_of_outcome (outcome shown) enough left application leaves)
-    ∙ ap (λ s. part (settled (after_outcome (outcome s) application)) None) clock
-    ∙ ap (λ w. started (part application w)) (sym waited)
+    ap (λ e. run_left e left application) (sym same)
+    ∙ left_of_outcome (outcome shown) enough left application leaves
+    ∙ ap (λ s. after_outcome (outcome s) application) clock
+
+-- an application that has done what is due at a moment
+pub left_by_settling : (application : Application) (moment : ℕ) (enough told : Bool) (shown : Shown) (left : State Shown)
+    → application.state ≡ Running → enough ≡ told → shown ≡ shown_at moment application
+    → Leaves (settle_meaning moment (record { shows = shown; store = application.store; steps = application.steps })) enough left
+    → run_left told left application ≡ settled moment application
+unfolding settled
+left_by_settling application moment enough told shown left running same clock leaves =
+    let outcome : Shown → Outcome Shown = λ s. settle_meaning moment (record { shows = s; store = application.store; steps = application.steps }) in
+    ap (λ e. run_left e left application) (sym same)
+    ∙ left_of_outcome (outcome shown) enough left application leaves
+    ∙ ap (λ s. after_outcome (outcome s) application) clock
+    ∙ ap (λ s. settled_as s moment application) (sym running)
+
+-- what an application finds at a moment, where its own size is that of its rectangle
+pub clock_at : (application : Application) (moment : ℕ) (shown : Shown) → shown.size ≡ record { width = application.width; height = application.height }
+    → shown.transcript ≡ application.transcript → shown.window ≡ application.window → shown.own ≡ application.own → record shown { moment = moment } ≡ shown_at moment application
+clock_at application moment shown size transcript window own =
+    ap (λ s. record shown { moment = moment; size = s }) size
+    ∙ ap (λ t. record (shown_at moment application) { transcript = t; window = shown.window; own = shown.own }) transcript
+    ∙ ap (λ w. record (shown_at moment application) { window = w; own = shown.own }) window
+    ∙ ap (λ o. record (shown_at moment application) { own = o }) own

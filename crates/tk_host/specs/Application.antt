@@ -1,19 +1,16 @@
 -- An application as lists and values.
-use Rattle.std.specs.Prelude.{ℕ, true, false, List, [], ◌∷◌}
+use Rattle.std.specs.Prelude.{ℕ, false, List, [], ◌∷◌}
 use Rattle.tk_host.specs.declared.window.Window.{Window}
 use Rattle.tk_host.specs.declared.transcript.Line.{Line}
 use Rattle.tk_host.specs.declared.state.AppState.{AppState}
 use Rattle.tk_host.specs.declared.state.AppState.TheVariants.{Running}
 use Rattle.tk_host.specs.Spec.{Spec}
 use Rattle.tcl_vars.specs.Store.{Store}
+use Rattle.tk_after.specs.Timers.{Own, fresh as nothing_waits}
 
 -- a window that was never laid out
 abbrev pub unlaid : Window
 unlaid = record { place = record { x = 0; y = 0; width = 1; height = 1 }; mapped = false }
-
--- a main window that fills a rectangle of this size
-abbrev pub laid_out : ℕ → ℕ → Window
-laid_out width height = record { place = record { x = 0; y = 0; width = width; height = height }; mapped = true }
 
 pub record Application : Type 0 where
   pub name : List ℕ
@@ -23,10 +20,11 @@ pub record Application : Type 0 where
   pub transcript : List Line
   pub window : Window
   pub title : List ℕ
+  pub own : Own
   pub steps : ℕ
   pub state : AppState
 
--- an application before its script, with no variables
+-- an application before its script, with no variables and nothing that waits
 abbrev pub fresh : Spec → Application
 fresh spec = record {
   name = spec.name;
@@ -36,6 +34,7 @@ fresh spec = record {
   transcript = [];
   window = unlaid;
   title = spec.name;
+  own = nothing_waits;
   steps = spec.budget;
   state = Running;
 }

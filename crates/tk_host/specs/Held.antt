@@ -5,7 +5,7 @@ use Rattle.tk_host.specs.declared.phase.Phase.TheVariants.{Adding, Reached, Fini
 use Rattle.tk_host.specs.declared.rect.Rect.{Rect}
 use Rattle.tk_host.specs.Spec.{Spec, Given, rect_of}
 use Rattle.tk_host.specs.Application.{Application, fresh}
-use Rattle.tk_host.specs.Alone.{settled, after_script, alone}
+use Rattle.tk_host.specs.Alone.{settled, after_script, passed, alone}
 
 -- what a host holds for an application: its rectangle on the screen, itself, and the script that it still has to run
 pub record Part : Type 0 where
@@ -29,7 +29,7 @@ added app = record { rect = rect_of app; application = fresh app.spec; waiting =
 -- an application that has run the script that waited, and done what comes of it
 abbrev pub begun : Option (List ℕ) → Application → Application
 begun None application = application
-begun (Some script) application = settled (after_script 0 script application)
+begun (Some script) application = settled 0 (after_script 0 script application)
 
 abbrev pub started : Part → Part
 started part = record part { application = begun part.waiting part.application; waiting = None }
@@ -42,14 +42,23 @@ with_app app held = record held { parts = held.parts ++ added app ∷ [] }
 abbrev pub after_start : Held → Held
 after_start held = record { phase = Reached 0; parts = map started held.parts }
 
--- a host that has come to its end at a moment
+-- an application that has done what is due of its own up to a moment
+abbrev pub brought : ℕ → Part → Part
+brought moment part = record part { application = passed moment part.application }
+
+-- a host whose applications have come to a moment, each by itself
+abbrev pub after_advance : ℕ → Held → Held
+after_advance moment held = record { phase = Reached moment; parts = map (brought moment) held.parts }
+
+-- and one that has come to its end there
 abbrev pub after_end : ℕ → Held → Held
-after_end moment held = record held { phase = Finished moment }
+after_end moment held = record { phase = Finished moment; parts = map (brought moment) held.parts }
 
 -- a call that was not refused
 pub data Call : Type 0 where
   AddApp : Given → Call
   Start : Call
+  AdvanceTo : ℕ → Call
   End : ℕ → Call
 
 -- the applications that calls add, by their slots
@@ -57,6 +66,7 @@ abbrev pub given_by : List Call → List Given
 given_by [] = []
 given_by (AddApp app ∷ calls) = app ∷ given_by calls
 given_by (Start ∷ calls) = given_by calls
+given_by (AdvanceTo moment ∷ calls) = given_by calls
 given_by (End moment ∷ calls) = given_by calls
 
 -- how far calls lead from a phase
@@ -64,6 +74,7 @@ abbrev pub phase_after : Phase → List Call → Phase
 phase_after phase [] = phase
 phase_after phase (AddApp app ∷ calls) = phase_after phase calls
 phase_after phase (Start ∷ calls) = phase_after (Reached 0) calls
+phase_after phase (AdvanceTo moment ∷ calls) = phase_after (Reached moment) calls
 phase_after phase (End moment ∷ calls) = phase_after (Finished moment) calls
 
 -- the moment that a host has come to

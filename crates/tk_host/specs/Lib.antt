@@ -2,6 +2,7 @@
 pub mod Alone
 pub mod Application
 pub mod Fault
+pub mod Global
 pub mod Held
 pub mod Rect
 pub mod Refusals
@@ -9,5 +10,6 @@ pub mod Running
 pub mod Section
 pub mod Sections
 pub mod Outside
+pub mod Settle
 pub mod Shown
 pub mod Spec

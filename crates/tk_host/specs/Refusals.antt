@@ -59,14 +59,14 @@ RefusesApp held app found = PartsRefuse held.parts app found
 abbrev pub start_faults : List HostFault
 start_faults = Broken ∷ Ended ∷ Started ∷ []
 
--- ending at a moment
-abbrev pub end_faults : List HostFault
-end_faults = Broken ∷ Ended ∷ BadValue ∷ TimeBack ∷ []
+-- going on to a moment, be it the last
+abbrev pub moment_faults : List HostFault
+moment_faults = Broken ∷ Ended ∷ BadValue ∷ TimeBack ∷ []
 
-abbrev pub RefusesEnd : Held → ℕ → HostFault → Type 0
-RefusesEnd held moment BadValue = 1000000000000 < moment
-RefusesEnd held moment TimeBack = moment < reached held.phase
-RefusesEnd held moment found = PhaseRefuses held.phase found
+abbrev pub RefusesMoment : Held → ℕ → HostFault → Type 0
+RefusesMoment held moment BadValue = 1000000000000 < moment
+RefusesMoment held moment TimeBack = moment < reached held.phase
+RefusesMoment held moment found = PhaseRefuses held.phase found
 
 -- the section of a slot
 abbrev pub section_faults : List HostFault

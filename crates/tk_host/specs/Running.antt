@@ -1,17 +1,21 @@
--- How a script at global level is run to its end.
+-- How what was begun is run to its end.
 use Rattle.std.specs.Prelude.{◌≡◌, Bool, true, false}
 use Rattle.tcl_interp.specs.Evaluation.{State, Outcome, Ended, OutOfSteps}
-use Rattle.tk_host.specs.declared.running.ScriptEnd.{ScriptEnd}
-use Rattle.tk_host.specs.declared.running.ScriptEnd.TheVariants as script
+use Rattle.tk_host.specs.declared.running.RunEnd.{RunEnd}
+use Rattle.tk_host.specs.declared.running.RunEnd.TheVariants as run
 use Rattle.tk_host.specs.Shown.{Shown}
-use Rattle.tk_host.specs.Alone.{reported}
+use Rattle.tk_host.specs.Global.{with_report}
 
 -- a run has come to an outcome, in the state that it left
-abbrev pub ComesTo : ScriptEnd → Outcome Shown → State Shown → Type 0
-ComesTo (script.Ended code text) outcome left = outcome ≡ Ended left code text
-ComesTo script.OutOfSteps outcome left = outcome ≡ OutOfSteps left
+abbrev pub ComesTo : RunEnd → Outcome Shown → State Shown → Type 0
+ComesTo (run.Ended code text) outcome left = outcome ≡ Ended left code text
+ComesTo run.OutOfSteps outcome left = outcome ≡ OutOfSteps left
+
+abbrev pub IfEnded : RunEnd → Type 0 → Type 0
+IfEnded (run.Ended code text) fact = fact
+IfEnded run.OutOfSteps fact = Unit {0}
 
 -- what an outcome leaves, once an error has been told: whether there were steps enough, and the state
 abbrev pub Leaves : Outcome Shown → Bool → State Shown → Type 0
-Leaves (Ended left code text) enough after = (enough ≡ true) × (after ≡ record left { shows = reported code text left.shows })
+Leaves (Ended left code text) enough after = (enough ≡ true) × (after ≡ with_report code text left)
 Leaves (OutOfSteps left) enough after = (enough ≡ false) × (after ≡ left)

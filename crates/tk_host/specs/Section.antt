@@ -1,11 +1,12 @@
 -- The bytes that an application ends with.
-use Rattle.std.specs.Prelude.{ℕ, Bool, true, false, List, [], ◌∷◌, ◌++◌, ◌==◌, if◌then◌else◌, codes, decimal, flat_map}
+use Rattle.std.specs.Prelude.{ℕ, Bool, true, false, List, [], ◌∷◌, ◌++◌, ◌==◌, if◌then◌else◌, Option, Some, None, codes, decimal, flat_map}
 use Rattle.tk_host.specs.declared.state.AppState.{AppState}
 use Rattle.tk_host.specs.declared.state.AppState.TheVariants.{Running, Exhausted, Closed}
 use Rattle.tk_host.specs.declared.transcript.Stream.{Stream}
 use Rattle.tk_host.specs.declared.transcript.Stream.TheVariants.{Out, Err}
 use Rattle.tk_host.specs.declared.transcript.Line.{Line}
 use Rattle.tk_host.specs.declared.window.Window.{Window}
+use Rattle.tk_after.specs.declared.entry.Entry.{Entry}
 use Rattle.tk_host.specs.Application.{Application}
 
 abbrev pub state_name : AppState → List ℕ
@@ -46,8 +47,20 @@ window_line window =
 abbrev pub head_line : List ℕ → AppState → ℕ → List ℕ
 head_line name state steps = codes "app " ++ name ++ codes " " ++ state_name state ++ field steps ++ codes "\n"
 
--- what an application wrote, its windows, and its timers, of which there are none
+-- a timer or an idle script up to its script: `timer ID DUE`, `idle ID`
+abbrev pub name_field : ℕ → List ℕ
+name_field id = codes " after#" ++ decimal id
+
+abbrev pub kind_fields : Option ℕ → ℕ → List ℕ
+kind_fields (Some due) id = codes "timer" ++ name_field id ++ field due
+kind_fields None id = codes "idle" ++ name_field id
+
+-- `timer ID DUE SCRIPT` or `idle ID SCRIPT`
+abbrev pub entry_line : Entry → List ℕ
+entry_line entry = kind_fields entry.due entry.id ++ codes " " ++ escaped entry.script ++ codes "\n"
+
+-- what an application wrote, its windows, and what it has waiting in the order of the numbers
 unfoldable pub section : Application → List ℕ
 section application =
     head_line application.name application.state application.steps ++ flat_map transcript_line application.transcript ++ codes "tree\n"
-    ++ window_line application.window ++ codes "timers\n" ++ codes "done\n"
+    ++ window_line application.window ++ codes "timers\n" ++ flat_map entry_line application.own.entries ++ codes "done\n"

@@ -1,10 +1,11 @@
-use crate::console::{Console, NoTask};
+use crate::console::Console;
 use crate::message::short_text;
 use crate::rect::Rect;
-use crate::running::run_script;
-use crate::section::{push_head, push_transcript, push_window};
+use crate::running::{run_script, run_settling};
+use crate::section::{push_head, push_timers, push_transcript, push_window};
+use crate::settling::Settling;
 use crate::state::AppState;
-use crate::window::Window;
+use crate::window::Size;
 use std::alloc::{AllocError, Global};
 use std::marker::Model;
 use tcl_interp::Interp;
@@ -14,20 +15,21 @@ use tcl_vars::Scopes;
 /// An application, with the script that it still has to run.
 #[derive(Drop)]
 pub struct Application {
+    alloc: Global,
     name: Text,
     rect: Rect,
     scopes: Scopes,
-    interp: Interp<NoTask>,
+    interp: Interp<Settling>,
     console: Console,
-    window: Window,
     title: Text,
     state: AppState,
     script: Option<Text>,
+    /// Whether nothing is under way. It is no longer so once a step or memory was lacking.
+    at_rest: bool,
 }
 
 impl Model for Application {
-    ghost use Rattle.std.specs.Option.{ForSome};
-    ghost use Rattle.std.specs.Prelude.{◌≡◌, []};
+    ghost use Rattle.std.specs.Prelude.{◌≡◌, true, []};
     ghost use Rattle.tcl_interp.specs.Finish.{Idle};
     ghost use Rattle.tcl_interp.specs.Interp.{left_of, replaced_in, rest_of};
     ghost use Rattle.tk_host.specs.Held.{Part};
@@ -42,21 +44,22 @@ impl Model for Application {
         height = a.rect.height;
         store = a.scopes;
         transcript = a.console.transcript;
-        window = a.window;
+        window = a.console.window;
         title = a.title;
+        own = a.console.own;
         steps = left_of a.interp;
         state = a.state;
       };
       waiting = a.script;
     } };
 
-    ghost invariant = { λ a. (replaced_in a.interp ≡ []) × ForSome a.script (λ _. rest_of a.interp ≡ Idle) };
+    ghost invariant = { λ a. (replaced_in a.interp ≡ []) × (a.at_rest ≡ true → rest_of a.interp ≡ Idle) × (a.console.size ≡ record { width = a.rect.width; height = a.rect.height }) };
 }
 
 impl Application {
-    ghost use Rattle.std.specs.Prelude.{◌≡◌, ◌<◌, ◌↔◌, IsTrue, IfOk, OnOk, OnErr};
-    ghost use Rattle.tk_host.specs.Alone.{settled};
-    ghost use Rattle.tk_host.specs.Held.{added, started};
+    ghost use Rattle.std.specs.Prelude.{◌≡◌, ◌<◌, ◌≤◌, ◌↔◌, IsTrue, IfOk, OnOk, OnErr};
+    ghost use Rattle.tk_host.specs.Alone.{after_script, next_due, settled};
+    ghost use Rattle.tk_host.specs.Held.{added, brought, started};
     ghost use Rattle.tk_host.specs.Rect.{SharePixel};
     ghost use Rattle.tk_host.specs.Section.{section};
     ghost use Rattle.tk_host.specs.Spec.{given};
@@ -72,17 +75,22 @@ impl Application {
         ensures { IfOk result (λ application. application ≡ added (given name rect script budget)) }
     {
         let title = name.copy()?;
-        let puts = short_text(alloc, "puts")?;
+        let commands = [short_text(alloc, "puts")?, short_text(alloc, "after")?];
+        let size = Size {
+            width: rect.width,
+            height: rect.height,
+        };
         Ok(Application {
+            alloc,
             name,
             rect,
             scopes: Scopes::new(alloc)?,
-            interp: Interp::new(alloc, budget, &[puts])?,
-            console: Console::new(alloc)?,
-            window: Window::new(),
+            interp: Interp::new(alloc, budget, &commands)?,
+            console: Console::new(alloc, size)?,
             title,
             state: AppState::Running,
             script: Some(script),
+            at_rest: true,
         })
     }
 
@@ -108,7 +116,21 @@ impl Application {
         let Some(script) = self.script.take() else {
             return Ok(());
         };
-        self.console.set_moment(0);
+        self.run(0, script, slice)?;
+        self.settle(0, slice)
+    }
+
+    /// Runs a script at a moment.
+    fn run(&mut self, moment: u64, script: Text, slice: u64) -> Result<(), AllocError>
+        requires positive { 0 < slice }
+        requires in_time { moment ≤ 1000000000000 }
+        ensures { OnOk result (self.new ≡ record self.old { application = after_script moment script self.old.application }) }
+    {
+        if !self.at_rest {
+            return Err(AllocError);
+        }
+        self.at_rest = false;
+        self.console.set_moment(moment);
         let enough = run_script(
             &mut self.interp,
             &mut self.console,
@@ -116,20 +138,67 @@ impl Application {
             script,
             slice,
         )?;
-        if !enough {
+        if enough {
+            self.at_rest = true;
+        } else {
             self.state = AppState::Exhausted;
         }
-        self.settle();
         Ok(())
     }
 
-    /// Does what is to be done at the moment: the layout of a running application.
-    fn settle(&mut self)
-        ensures { self.new ≡ record self.old { application = settled self.old.application } }
+    /// Does what is due at a moment, while it runs.
+    fn settle(&mut self, moment: u64, slice: u64) -> Result<(), AllocError>
+        requires positive { 0 < slice }
+        requires in_time { moment ≤ 1000000000000 }
+        ensures { OnOk result (self.new ≡ record self.old { application = settled moment self.old.application }) }
     {
-        if let AppState::Running = self.state {
-            self.window = Window::filling(self.rect.width, self.rect.height);
+        if self.state != AppState::Running {
+            return Ok(());
         }
+        if !self.at_rest {
+            return Err(AllocError);
+        }
+        self.at_rest = false;
+        self.console.set_moment(moment);
+        let enough = run_settling(
+            self.alloc,
+            &mut self.interp,
+            &mut self.console,
+            &mut self.scopes,
+            moment,
+            slice,
+        )?;
+        if enough {
+            self.at_rest = true;
+        } else {
+            self.state = AppState::Exhausted;
+        }
+        Ok(())
+    }
+
+    /// When something of its own is due next, while it runs.
+    fn next_due(&self) -> Option<u64>
+        ensures { result ≡ next_due self.now.application }
+    {
+        match self.state {
+            AppState::Running => self.console.next_due(),
+            AppState::Exhausted | AppState::Closed => None,
+        }
+    }
+
+    /// Does what is due of its own up to a moment, each at its moment.
+    pub fn bring_to(&mut self, moment: u64, slice: u64) -> Result<(), AllocError>
+        requires positive { 0 < slice }
+        requires in_time { moment ≤ 1000000000000 }
+        ensures { OnOk result (self.new ≡ brought moment self.old) }
+    {
+        'moments: while let Some(due) = self.next_due() {
+            if due > moment {
+                return Ok(());
+            }
+            self.settle(due, slice)?;
+        }
+        Ok(())
     }
 
     /// What it wrote and what is left of it.
@@ -146,8 +215,9 @@ impl Application {
         )?;
         push_transcript(&mut out, self.console.transcript())?;
         out.extend_from_slice(b"tree\n")?;
-        push_window(&mut out, self.window)?;
+        push_window(&mut out, self.console.window())?;
         out.extend_from_slice(b"timers\n")?;
+        push_timers(&mut out, self.console.timers())?;
         out.extend_from_slice(b"done\n")?;
         Ok(out)
     }

@@ -1,53 +1,62 @@
 use crate::message::{bad_option_text, short_text};
+use crate::round::Round;
+use crate::settling::Settling;
 use crate::transcript::{Line, Stream};
+use crate::window::{Size, Window};
 use std::alloc::{AllocError, Global};
 use std::marker::Model;
 use tcl_interp::{Act, Code, Tasks};
 use tcl_text::Text;
 use tcl_vars::Scopes;
+use tk_after::{Timers, after_command};
 
-/// What the commands of a script see of their application beside its variables: the moment, and what was written up to it.
+/// The application's number in its table of timers, which holds its own alone.
+const OWN: usize = 0;
+
+/// What the commands of a script, and the settling of a moment, see of their application beside its variables.
 #[derive(Drop)]
 pub struct Console {
     alloc: Global,
     empty: Text,
     moment: u64,
+    size: Size,
     transcript: Vec<Line>,
+    window: Window,
+    timers: Timers,
 }
 
 impl Model for Console {
-    ghost use Rattle.std.specs.Prelude.{◌≡◌, []};
+    ghost use Rattle.std.specs.Prelude.{◌≡◌, ◌≤◌, []};
+    ghost use Rattle.tk_after.specs.Timers.{own_of};
     ghost use Rattle.tk_host.specs.Shown.{Shown};
 
     ghost Value = { Shown };
 
-    ghost view = { λ c. record { moment = c.moment; transcript = c.transcript.items } };
+    ghost view = { λ c. record { moment = c.moment; size = c.size; transcript = c.transcript.items; window = c.window; own = own_of 0 c.timers } };
 
-    ghost invariant = { λ c. c.empty ≡ [] };
-}
-
-/// What a command keeps while it waits. No command of the host's waits yet.
-#[derive(Drop)]
-pub enum NoTask {
-    /// It waits for nothing: what is resumed with it is no command.
-    Nothing,
+    ghost invariant = { λ c. (c.empty ≡ []) × (c.moment ≤ 1000000000000) };
 }
 
 impl Console {
-    ghost use Rattle.std.specs.Prelude.{◌≡◌, [], IfOk, OnOk, OnErr};
-    ghost use Rattle.tk_host.specs.Shown.{with_line};
+    ghost use Rattle.std.specs.Prelude.{◌≡◌, ◌≤◌, Bool, [], IfOk, OnOk, OnErr};
     ghost use Rattle.tcl_vars.specs.Store.{Store};
-    ghost use Rattle.tk_host.specs.Outside.{puts_told, put_told, written};
+    ghost use Rattle.tk_after.specs.Timers.{own_of, due_moments, entry_with, first_due, fresh, least};
+    ghost use Rattle.tk_host.specs.Application.{unlaid};
+    ghost use Rattle.tk_host.specs.Outside.{after_told, idle_told, is_due, next_told, puts_told, put_told, rest_told, started_told, timer_told, with_end, written};
+    ghost use Rattle.tk_host.specs.Shown.{laid, setting_of, with_line};
 
-    /// Nothing was written, at moment 0.
-    pub fn new(alloc: Global) -> Result<Console, AllocError>
-        ensures { IfOk result (λ console. console ≡ record { moment = 0; transcript = [] }) }
+    /// Nothing was written and nothing waits, at moment 0.
+    pub fn new(alloc: Global, size: Size) -> Result<Console, AllocError>
+        ensures { IfOk result (λ console. console ≡ record { moment = 0; size = size; transcript = []; window = unlaid; own = fresh }) }
     {
         Ok(Console {
             alloc,
             empty: short_text(alloc, "")?,
             moment: 0,
+            size,
             transcript: Vec::new(alloc),
+            window: Window::new(),
+            timers: Timers::new(alloc),
         })
     }
 
@@ -58,8 +67,23 @@ impl Console {
         self.transcript.as_slice()
     }
 
+    /// The main window.
+    pub fn window(&self) -> Window
+        ensures { result ≡ self.now.window }
+    {
+        self.window
+    }
+
+    /// What waits.
+    pub fn timers(&self) -> &Timers
+        ensures { own_of 0 result.now ≡ self.now.own }
+    {
+        &self.timers
+    }
+
     /// The clock goes on to a moment.
     pub fn set_moment(&mut self, moment: u64)
+        requires { moment ≤ 1000000000000 }
         ensures { self.new ≡ record self.old { moment = moment } }
     {
         self.moment = moment;
@@ -81,9 +105,9 @@ impl Console {
     }
 
     /// Writes a line, and answers the empty text.
-    fn write_out(&mut self, text: &Text) -> Result<Act<NoTask>, AllocError>
+    fn write_out(&mut self, text: &Text) -> Result<Act<Settling>, AllocError>
         ensures ok { IfOk result (λ act. (store : Store) → record { shows = self.new; store = store; act = act } ≡ written text.now self.old store) }
-        ensures moment { self.new.moment ≡ self.old.moment }
+        ensures setting { setting_of self.new ≡ setting_of self.old }
     {
         let line = text.copy()?;
         let empty = self.empty.copy()?;
@@ -92,9 +116,9 @@ impl Console {
     }
 
     /// Writes a line to a channel: to `stdout` alone.
-    fn put_to(&mut self, channel: &Text, text: &Text) -> Result<Act<NoTask>, AllocError>
+    fn put_to(&mut self, channel: &Text, text: &Text) -> Result<Act<Settling>, AllocError>
         ensures ok { IfOk result (λ act. (store : Store) → record { shows = self.new; store = store; act = act } ≡ put_told channel.now text.now self.old store) }
-        ensures moment { self.new.moment ≡ self.old.moment }
+        ensures setting { setting_of self.new ≡ setting_of self.old }
     {
         if channel.as_str() == "stdout" {
             return self.write_out(text);
@@ -104,9 +128,9 @@ impl Console {
     }
 
     /// The command `puts` (puts(n)), with the words behind its name.
-    fn puts(&mut self, arguments: &[Text]) -> Result<Act<NoTask>, AllocError>
+    fn puts(&mut self, arguments: &[Text]) -> Result<Act<Settling>, AllocError>
         ensures ok { IfOk result (λ act. (store : Store) → record { shows = self.new; store = store; act = act } ≡ puts_told arguments.now self.old store) }
-        ensures moment { self.new.moment ≡ self.old.moment }
+        ensures setting { setting_of self.new ≡ setting_of self.old }
     {
         match arguments {
             [text] => self.write_out(text),
@@ -120,35 +144,170 @@ impl Console {
             }
         }
     }
+
+    /// The command `after` (after(n)), with the words behind its name.
+    fn after(&mut self, arguments: &[Text]) -> Result<Act<Settling>, AllocError>
+        ensures ok { IfOk result (λ act. (store : Store) → record { shows = self.new; store = store; act = act } ≡ after_told arguments.now self.old store) }
+        ensures setting { setting_of self.new ≡ setting_of self.old }
+    {
+        let answer = after_command(
+            self.alloc,
+            &mut self.timers,
+            OWN,
+            self.moment,
+            arguments,
+        )?;
+        match answer {
+            Ok(text) => Ok(Act::Done(Code::Normal, text)),
+            Err(text) => Ok(Act::Done(Code::Error, text)),
+        }
+    }
+
+    /// Tells how a script at global level has ended, where it tells of a fault.
+    fn tell_end(&mut self, code: Code, text: Text) -> Result<(), AllocError>
+        ensures ok { OnOk result (self.new ≡ with_end code text self.old) }
+        ensures setting { setting_of self.new ≡ setting_of self.old }
+    {
+        match code {
+            Code::Normal | Code::Return(_) => Ok(()),
+            Code::Error => self.write(Stream::Err, text),
+            Code::Break => {
+                let fault = short_text(
+                    self.alloc,
+                    "invoked \"break\" outside of a loop",
+                )?;
+                self.write(Stream::Err, fault)
+            }
+            Code::Continue => {
+                let fault = short_text(
+                    self.alloc,
+                    "invoked \"continue\" outside of a loop",
+                )?;
+                self.write(Stream::Err, fault)
+            }
+        }
+    }
+
+    /// When the earliest timer is due.
+    pub fn next_due(&self) -> Option<u64>
+        ensures { result ≡ least (due_moments self.now.own.entries) }
+    {
+        self.timers.next_due_of(OWN)
+    }
+
+    /// Whether a timer is due by a moment.
+    fn is_due(&self, moment: u64) -> bool
+        ensures { result ≡ is_due moment self.now.own.entries }
+    {
+        match self.next_due() {
+            Some(due) => due <= moment,
+            None => false,
+        }
+    }
+
+    /// Lays the main window out, and begins a round of the idle scripts that wait.
+    fn begin_round(&mut self, moment: u64) -> Result<Act<Settling>, AllocError>
+        ensures ok { IfOk result (λ act. (store : Store) → record { shows = self.new; store = store; act = act } ≡ next_told Bool.false moment self.old store) }
+        ensures setting { setting_of self.new ≡ setting_of self.old }
+    {
+        self.window = Window::filling(self.size);
+        let mut round = Round::of(self.timers.idle_round(OWN)?);
+        match round.next() {
+            Some(id) => Ok(Act::Step(Settling::Idle { moment, id, round })),
+            None => Ok(Act::Done(Code::Normal, self.empty.copy()?)),
+        }
+    }
+
+    /// Goes on with what is left of a round, and then with what comes next.
+    fn go_on(&mut self, moment: u64, round: Round) -> Result<Act<Settling>, AllocError>
+        ensures ok { IfOk result (λ act. (store : Store) → record { shows = self.new; store = store; act = act } ≡ rest_told moment round self.old store) }
+        ensures setting { setting_of self.new ≡ setting_of self.old }
+    {
+        let mut round = round;
+        while let Some(id) = round.next() {
+            if self.timers.entry(OWN, id).is_some() {
+                return Ok(Act::Step(Settling::Idle { moment, id, round }));
+            }
+        }
+        if self.is_due(moment) {
+            return Ok(Act::Step(Settling::Timer { moment }));
+        }
+        self.begin_round(moment)
+    }
+
+    /// The timer that goes first leaves the table and runs.
+    fn start_timer(&mut self, moment: u64) -> Result<Act<Settling>, AllocError>
+        ensures ok { IfOk result (λ act. (store : Store) → record { shows = self.new; store = store; act = act } ≡ timer_told moment (first_due moment self.old.own.entries) self.old store) }
+        ensures setting { setting_of self.new ≡ setting_of self.old }
+    {
+        let round = Round::none(self.alloc);
+        match self.timers.take_due(OWN, moment) {
+            Some((_id, script)) => Ok(
+                Act::Run {
+                    script,
+                    task: Settling::Rest { moment, round },
+                },
+            ),
+            None => self.go_on(moment, round),
+        }
+    }
+
+    /// An idle script leaves the table and runs.
+    fn start_idle(&mut self, moment: u64, id: u64, round: Round) -> Result<Act<Settling>, AllocError>
+        ensures ok { IfOk result (λ act. (store : Store) → record { shows = self.new; store = store; act = act } ≡ started_told moment id round (entry_with id self.old.own.entries) self.old store) }
+        ensures setting { setting_of self.new ≡ setting_of self.old }
+    {
+        match self.timers.cancel(OWN, id) {
+            Some(script) => Ok(
+                Act::Run {
+                    script,
+                    task: Settling::Rest { moment, round },
+                },
+            ),
+            None => self.go_on(moment, round),
+        }
+    }
 }
 
 impl Tasks for Console {
     ghost use Rattle.std.specs.Prelude.{ℕ};
     ghost use Rattle.tk_host.specs.Outside.{outside as host_commands};
+    ghost use Rattle.tk_host.specs.Shown.{Setting, setting_of};
 
-    type Task = NoTask;
+    type Task = Settling;
 
     ghost outside = { host_commands };
 
-    ghost Left = { ℕ };
+    ghost Left = { Setting };
 
-    ghost left_alone = { λ c. c.moment };
+    ghost left_alone = { λ c. setting_of c };
 
-    fn call(&mut self, _scopes: &mut Scopes, words: &[Text]) -> Result<Act<NoTask>, AllocError> {
+    fn call(&mut self, _scopes: &mut Scopes, words: &[Text]) -> Result<Act<Settling>, AllocError> {
         match words {
-            [name, arguments @ ..] if name.as_str() == "puts" => self.puts(arguments),
-            _ => Ok(Act::Unknown),
+            [name, arguments @ ..] => match name.as_str() {
+                "puts" => self.puts(arguments),
+                "after" => self.after(arguments),
+                _ => Ok(Act::Unknown),
+            },
+            [] => Ok(Act::Unknown),
         }
     }
 
     fn resume(
         &mut self,
         _scopes: &mut Scopes,
-        _task: NoTask,
-        _code: Code,
-        _text: Text,
-    ) -> Result<Act<NoTask>, AllocError> {
-        Ok(Act::Unknown)
+        task: Settling,
+        code: Code,
+        text: Text,
+    ) -> Result<Act<Settling>, AllocError> {
+        match task {
+            Settling::Rest { moment, round } => {
+                self.tell_end(code, text)?;
+                self.go_on(moment, round)
+            }
+            Settling::Timer { moment } => self.start_timer(moment),
+            Settling::Idle { moment, id, round } => self.start_idle(moment, id, round),
+        }
     }
 
     ghost falls = { λ shows store task code text. tt };

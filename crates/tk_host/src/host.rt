@@ -1,5 +1,5 @@
-ghost use Rattle.std.specs.Prelude.{◌≡◌, ◌<◌, ◌↔◌, ℕ, List, map, IsTrue, Any, OnOk, MatchResult};
-ghost use Rattle.tk_host.specs.Held.{started};
+ghost use Rattle.std.specs.Prelude.{◌≡◌, ◌<◌, ◌≤◌, ◌↔◌, ℕ, List, map, IsTrue, Any, OnOk, MatchResult};
+ghost use Rattle.tk_host.specs.Held.{brought, started};
 ghost use Rattle.tk_host.specs.Rect.{SharePixel};
 ghost use Rattle.tk_host.specs.Refusals.{IsRefusal, NoneApplies, app_faults, PartsRefuse};
 ghost use Rattle.tk_host.specs.Spec.{given};
@@ -41,10 +41,10 @@ impl Model for Host {
 
 impl Host {
     ghost use Rattle.std.specs.Prelude.{◌≡◌, ◌≢◌, ◌≤◌, ℕ, List, [], ◌∷◌, ◌++◌, map, slice_get, IfOk, IfErr, OnOk, OnErr, MatchResult};
-    ghost use Rattle.tk_host.specs.Held.{AddApp, Call, End, Start, after_end, after_start, held_after, with_app};
+    ghost use Rattle.tk_host.specs.Held.{AddApp, AdvanceTo, Call, End, Start, after_advance, after_end, after_start, held_after, with_app};
     ghost use Rattle.tk_host.specs.Sections.{sections_after};
     ghost use Rattle.tk_host.specs.Spec.{given};
-    ghost use Rattle.tk_host.specs.Refusals.{IsRefusal, LeftBy, NoneApplies, PhaseRefuses, RefusesApp, RefusesEnd, RefusesSection, add_faults, end_faults, section_faults, start_faults};
+    ghost use Rattle.tk_host.specs.Refusals.{IsRefusal, LeftBy, NoneApplies, PhaseRefuses, RefusesApp, RefusesMoment, RefusesSection, add_faults, moment_faults, section_faults, start_faults};
     ghost use Rattle.tk_host.specs.Section.{section};
 
     /// A host without applications, whose applications take turns of at most `slice` steps.
@@ -100,27 +100,34 @@ impl Host {
         Ok(())
     }
 
-    /// Goes on to the last moment. After a want of memory the host is broken.
+    /// Goes on to a moment: what is due by then is done, each at its moment. After a want of memory the host is broken.
+    pub fn advance_to(&mut self, moment: u64) -> Result<(), HostFault>
+        requires { self.old.phase ≢ Phase.Adding }
+        ensures advanced { OnOk result (self.new ≡ after_advance moment self.old) }
+        ensures unless { OnOk result (NoneApplies (RefusesMoment self.old moment) moment_faults) }
+        ensures refused { IfErr result (IsRefusal (RefusesMoment self.old moment) moment_faults) }
+        ensures left { IfErr result (λ fault. LeftBy fault self.old self.new) }
+        ensures history { (calls : List Call) → self.old ≡ held_after calls → OnOk result (self.new ≡ held_after (calls ++ AdvanceTo moment ∷ [])) }
+    {
+        self.may_go_to(moment)?;
+        self.phase = Phase::Lost;
+        bring_all(self.applications.as_mut_slice(), moment, self.slice)?;
+        self.phase = Phase::Reached(moment);
+        Ok(())
+    }
+
+    /// Goes on to the last moment: what is due by then is done, each at its moment. After a want of memory the host is broken.
     pub fn end(&mut self, moment: u64) -> Result<(), HostFault>
         requires { self.old.phase ≢ Phase.Adding }
         ensures ended { OnOk result (self.new ≡ after_end moment self.old) }
-        ensures unless { OnOk result (NoneApplies (RefusesEnd self.old moment) end_faults) }
-        ensures refused { IfErr result (IsRefusal (RefusesEnd self.old moment) end_faults) }
+        ensures unless { OnOk result (NoneApplies (RefusesMoment self.old moment) moment_faults) }
+        ensures refused { IfErr result (IsRefusal (RefusesMoment self.old moment) moment_faults) }
         ensures left { IfErr result (λ fault. LeftBy fault self.old self.new) }
         ensures history { (calls : List Call) → self.old ≡ held_after calls → OnOk result (self.new ≡ held_after (calls ++ End moment ∷ [])) }
     {
-        let reached = match self.phase {
-            Phase::Adding => unreachable!(),
-            Phase::Reached(reached) => reached,
-            Phase::Finished(_) => return Err(HostFault::Ended),
-            Phase::Lost => return Err(HostFault::Broken),
-        };
-        if moment > MAX_MOMENT {
-            return Err(HostFault::BadValue);
-        }
-        if moment < reached {
-            return Err(HostFault::TimeBack);
-        }
+        self.may_go_to(moment)?;
+        self.phase = Phase::Lost;
+        bring_all(self.applications.as_mut_slice(), moment, self.slice)?;
         self.phase = Phase::Finished(moment);
         Ok(())
     }
@@ -139,6 +146,26 @@ impl Host {
             Some(application) => Ok(application.section(self.alloc)?),
             None => Err(HostFault::NoApp),
         }
+    }
+
+    /// Why the host can't go on to a moment, if it can't.
+    fn may_go_to(&self, moment: u64) -> Result<(), HostFault>
+        requires { self.now.phase ≢ Phase.Adding }
+        ensures { MatchResult result (λ _. NoneApplies (RefusesMoment self.now moment) moment_faults) (IsRefusal (RefusesMoment self.now moment) moment_faults) }
+    {
+        let reached = match self.phase {
+            Phase::Adding => unreachable!(),
+            Phase::Reached(reached) => reached,
+            Phase::Finished(_) => return Err(HostFault::Ended),
+            Phase::Lost => return Err(HostFault::Broken),
+        };
+        if moment > MAX_MOMENT {
+            return Err(HostFault::BadValue);
+        }
+        if moment < reached {
+            return Err(HostFault::TimeBack);
+        }
+        Ok(())
     }
 
     /// Why an application can't be added, if it can't.
@@ -207,6 +234,18 @@ fn start_all(applications: &mut [Application], slice: u64) -> Result<(), AllocEr
 {
     for application in applications.iter_mut() {
         application.start(slice)?;
+    }
+    Ok(())
+}
+
+/// Brings each application to a moment.
+fn bring_all(applications: &mut [Application], moment: u64, slice: u64) -> Result<(), AllocError>
+    requires positive { 0 < slice }
+    requires in_time { moment ≤ 1000000000000 }
+    ensures { OnOk result (applications.new ≡ map (brought moment) applications.old) }
+{
+    for application in applications.iter_mut() {
+        application.bring_to(moment, slice)?;
     }
     Ok(())
 }

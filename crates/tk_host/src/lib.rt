@@ -9,8 +9,10 @@ mod laws;
 mod message;
 mod phase;
 mod rect;
+mod round;
 mod running;
 mod section;
+mod settling;
 mod spec;
 mod state;
 #[cfg(test)]

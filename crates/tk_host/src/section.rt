@@ -1,5 +1,6 @@
 ghost use Rattle.std.specs.Prelude.{◌≡◌, ◌++◌, OnOk, codes, decimal, flat_map};
-ghost use Rattle.tk_host.specs.Section.{escaped_byte, escaped, field, head_line, transcript_line, window_line};
+ghost use Rattle.tk_after.specs.Timers.{entries_of};
+ghost use Rattle.tk_host.specs.Section.{entry_line, escaped_byte, escaped, field, head_line, kind_fields, name_field, transcript_line, window_line};
 
 use crate::state::AppState;
 use crate::transcript::Line;
@@ -7,6 +8,7 @@ use crate::window::Window;
 use itoa::Buffer;
 use memchr::memchr3;
 use std::alloc::AllocError;
+use tk_after::{Entry, Timers};
 
 /// Adds a number in decimal.
 fn push_number(out: &mut Vec<u8>, number: u64) -> Result<(), AllocError>
@@ -99,4 +101,52 @@ pub fn push_head(
     out.extend_from_slice(state.as_str().as_bytes())?;
     push_field(out, steps)?;
     Ok(out.push(b'\n')?)
+}
+
+/// Adds the name of a timer or an idle script after a blank.
+fn push_name(out: &mut Vec<u8>, id: u64) -> Result<(), AllocError>
+    ensures { OnOk result (out.new.items ≡ out.old.items ++ name_field id) }
+{
+    out.extend_from_slice(b" after#")?;
+    push_number(out, id)
+}
+
+/// Adds what a line tells of a timer or an idle script beside its script.
+fn push_kind(out: &mut Vec<u8>, due: Option<u64>, id: u64) -> Result<(), AllocError>
+    ensures { OnOk result (out.new.items ≡ out.old.items ++ kind_fields due id) }
+{
+    match due {
+        Some(due) => {
+            out.extend_from_slice(b"timer")?;
+            push_name(out, id)?;
+            push_field(out, due)
+        }
+        None => {
+            out.extend_from_slice(b"idle")?;
+            push_name(out, id)
+        }
+    }
+}
+
+/// Adds the line of a timer or an idle script.
+fn push_entry(out: &mut Vec<u8>, entry: &Entry) -> Result<(), AllocError>
+    ensures { OnOk result (out.new.items ≡ out.old.items ++ entry_line entry.now) }
+{
+    push_kind(out, entry.due, entry.id)?;
+    out.push(b' ')?;
+    push_escaped(out, entry.script.as_str().as_bytes())?;
+    Ok(out.push(b'\n')?)
+}
+
+/// Adds the lines of what an application has waiting.
+pub fn push_timers(out: &mut Vec<u8>, timers: &Timers) -> Result<(), AllocError>
+    ensures { OnOk result (out.new.items ≡ out.old.items ++ flat_map entry_line (entries_of 0 timers.now)) }
+{
+    let ids = timers.info(0)?;
+    for id in ids.as_slice() {
+        if let Some(entry) = timers.entry(0, *id) {
+            push_entry(out, entry)?;
+        }
+    }
+    Ok(())
 }

@@ -1,7 +1,15 @@
 ghost use Rattle.std.specs.Prelude.{◌≡◌};
-ghost use Rattle.tk_host.specs.Application.{unlaid, laid_out};
+ghost use Rattle.tk_host.specs.Application.{unlaid};
+ghost use Rattle.tk_host.specs.Shown.{filled};
 
 use crate::rect::Rect;
+
+/// How large an application's rectangle is, in pixels.
+#[derive(Clone, Copy, Debug, PartialEq, Eq)]
+pub struct Size {
+    pub width: u32,
+    pub height: u32,
+}
 
 /// Where a window is in its application, and whether it is shown.
 #[derive(Clone, Copy, Debug, PartialEq, Eq)]
@@ -27,15 +35,15 @@ impl Window {
     }
 
     /// A main window that fills its application's rectangle.
-    pub fn filling(width: u32, height: u32) -> Window
-        ensures { result ≡ laid_out width height }
+    pub fn filling(size: Size) -> Window
+        ensures { result ≡ filled size }
     {
         Window {
             place: Rect {
                 x: 0,
                 y: 0,
-                width,
-                height,
+                width: size.width,
+                height: size.height,
             },
             mapped: true,
         }

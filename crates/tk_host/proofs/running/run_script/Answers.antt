@@ -9,7 +9,7 @@ returns-in_ok-report-in-Ended-clause-left c =
     let left = state_of c.run_to_end.new.interp c.run_to_end.new.console c.run_to_end.new.scopes in
     let same = finish_of_script (rest_of begun) c.args.script c.args.console.now c.args.scopes.now (left_of c.args.interp.now) (left_of begun)
     c.in_ok-begin.ensures.ok c.in_ok-begin.ensures.left in
-    leaves_ended _ left c.in-Ended.code c.in-Ended.text c.report.new.console (sym same ∙ rw c.in-Ended.is at c.in_ok-code.ensures.end) c.in_ok-report-in-Ended.ensures
+    leaves_ended _ left c.in-Ended.code c.in-Ended.text c.report.new.console (sym same ∙ rw c.in-Ended.is at c.in_ok-code.ensures.end) c.in_ok-report-in-Ended.ensures.told
 
 pub returns-in-OutOfSteps-clause-left : goal.returns-in-OutOfSteps-clause-left
 returns-in-OutOfSteps-clause-left c =

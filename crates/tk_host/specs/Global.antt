@@ -1,0 +1,22 @@
+-- A script at global level.
+use Rattle.std.specs.Prelude.{ℕ, List, []}
+use Rattle.tcl_interp.specs.declared.tasks.Code.{Code}
+use Rattle.tcl_interp.specs.declared.tasks.Code.TheVariants.{Error}
+use Rattle.tcl_interp.specs.Evaluation.{State, Outcome, and_then}
+use Rattle.tcl_interp.specs.Scripts.{script_meaning, out_of_global}
+use Rattle.tcl_interp.specs.Finish.{at_global}
+use Rattle.tk_host.specs.Outside.{outside}
+use Rattle.tk_host.specs.declared.transcript.Stream.TheVariants.{Err}
+use Rattle.tk_host.specs.Shown.{Shown, with_line}
+
+-- What it comes to, with room for 200 scripts one in another. There is no loop around it, and a return has become its -code.
+abbrev pub script_at_global : List ℕ → State Shown → Outcome Shown
+script_at_global script state = and_then (script_meaning outside [] 200 0 script state) (λ left code text. at_global left (out_of_global code) text)
+
+-- what is told when it has ended: an error
+abbrev pub reported : Code → List ℕ → Shown → Shown
+reported Error text shown = with_line Err text shown
+reported code text shown = shown
+
+abbrev pub with_report : Code → List ℕ → State Shown → State Shown
+with_report code text state = record state { shows = reported code text state.shows }

@@ -122,7 +122,8 @@ impl OwnTimers {
 
     /// The numbers in order.
     pub fn ids(&self) -> Result<Vec<u64>, AllocError>
-        ensures { IfOk result (λ list. list.items ≡ ids self.now.own.entries) }
+        ensures list { IfOk result (λ list. list.items ≡ ids self.now.own.entries) }
+        ensures kept { IsKept self.now.own }
     {
         ids_of(*self.entries.allocator(), &self.entries)
     }

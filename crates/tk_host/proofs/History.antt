@@ -1,5 +1,5 @@
 -- One call more after a list of calls.
-use Rattle.std.proofs.Common.{◌≡◌, ◌≢◌, ℕ, ◌≤◌, List, [], ◌∷◌, ◌++◌, map, refl, sym, ap, ◌∙◌}
+use Rattle.std.proofs.Common.{◌≡◌, ◌≢◌, ℕ, ◌≤◌, ◌<◌, List, [], ◌∷◌, ◌++◌, map, refl, sym, ap, ◌∙◌, subst, arith}
 use Rattle.std.proofs.lemmas.List.{map-append, append-nil}
 use Rattle.std.proofs.lemmas.Option.{slice_get-map}
 use Rattle.std.specs.Prelude.{Some, option_map}
@@ -9,7 +9,7 @@ use Rattle.tk_host.specs.declared.phase.Phase.TheVariants.{Adding, Reached, Fini
 use Rattle.tk_host.specs.Spec.{Given}
 use Rattle.tk_host.specs.Alone.{alone, settled, after_script}
 use Rattle.tk_host.specs.Application.{Application, fresh}
-use Rattle.tk_host.specs.Held.{Held, Part, Call, AddApp, Start, AdvanceTo, End, started, brought, with_app, after_start, after_advance, after_end, given_by, phase_after, application_in, part_in, held_after}
+use Rattle.tk_host.specs.Held.{Held, Part, Call, AddApp, Start, AdvanceTo, End, started, brought, with_app, after_start, after_advance, after_end, given_by, phase_after, application_in, part_in, reached, held_after}
 use Rattle.tk_host.proofs.Passing.{passed_passed, passed_settled}
 use Rattle.tk_host.specs.Refusals.{PhaseRefuses}
 use Rattle.tk_host.specs.Section.{section}
@@ -28,6 +28,13 @@ reached_if_not_refused Adding begun lost finished = absurd (begun refl)
 reached_if_not_refused (Reached moment) begun lost finished = (moment, refl)
 reached_if_not_refused (Finished moment) begun lost finished = absurd (finished tt)
 reached_if_not_refused Lost begun lost finished = absurd (lost tt)
+
+-- going on to a moment doesn't go back
+pub not_back : (phase : Phase) (before moment : ℕ) → phase ≡ Reached before → ¬ (moment < reached phase) → before ≤ moment
+not_back phase before moment is forward =
+    let P : Phase → Type 0 = λ p. ¬ (moment < reached p) in
+    let ahead : ¬ (moment < before) = subst P is forward in
+    omega (arith, ahead)
 
 given_by-append : (calls more : List Call) → given_by (calls ++ more) ≡ given_by calls ++ given_by more
 given_by-append [] more = refl

@@ -2,6 +2,7 @@ mod Dues
 mod Escapes
 mod Falls
 mod History
+mod Listed
 mod Order
 mod Passing
 mod Runs

@@ -16,7 +16,7 @@ use Rattle.tk_host.specs.Application.{Application}
 use Rattle.tk_host.specs.Global.{script_at_global, with_report}
 use Rattle.tk_host.specs.Settle.{settle_meaning}
 use Rattle.tk_host.specs.Alone.{shown_at, state_at, with_left, after_outcome, after_script, settled_as, settled}
-use Rattle.tk_host.specs.Running.{Leaves}
+use Rattle.tk_host.specs.Running.{Leaves, state_left}
 use Rattle.tk_host.proofs.Settling.{comes}
 
 -- nothing comes behind the end
@@ -63,8 +63,7 @@ leaves_out outcome left out =
 
 -- the application that a run leaves, by whether there were steps enough
 abbrev pub run_left : Bool → State Shown → Application → Application
-run_left true left application = with_left left application
-run_left false left application = record (with_left left application) { state = Exhausted }
+run_left enough left application = record (with_left left application) { state = state_left enough application.state }
 
 left_of_outcome : (outcome : Outcome Shown) (enough : Bool) (left : State Shown) (application : Application) → Leaves outcome enough left
     → run_left enough left application ≡ after_outcome outcome application
@@ -74,27 +73,25 @@ left_of_outcome (OutOfSteps state) enough left application leaves =
     ap (λ e. run_left e left application) leaves.0 ∙ ap (λ l. run_left false l application) leaves.1
 
 -- an application whose script has run
-pub left_by_script : (application : Application) (moment : ℕ) (script : List ℕ) (enough told : Bool) (shown : Shown) (left : State Shown)
-    → enough ≡ told → shown ≡ shown_at moment application
+pub left_by_script : (application : Application) (moment : ℕ) (script : List ℕ) (enough : Bool) (shown : Shown) (left : State Shown)
+    → shown ≡ shown_at moment application
     → Leaves (script_at_global script (record { shows = shown; store = application.store; steps = application.steps })) enough left
-    → run_left told left application ≡ after_script moment script application
+    → run_left enough left application ≡ after_script moment script application
 unfolding after_script
-left_by_script application moment script enough told shown left same clock leaves =
+left_by_script application moment script enough shown left clock leaves =
     let outcome : Shown → Outcome Shown = λ s. script_at_global script (record { shows = s; store = application.store; steps = application.steps }) in
-    ap (λ e. run_left e left application) (sym same)
-    ∙ left_of_outcome (outcome shown) enough left application leaves
+    left_of_outcome (outcome shown) enough left application leaves
     ∙ ap (λ s. after_outcome (outcome s) application) clock
 
 -- an application that has done what is due at a moment
-pub left_by_settling : (application : Application) (moment : ℕ) (enough told : Bool) (shown : Shown) (left : State Shown)
-    → application.state ≡ Running → enough ≡ told → shown ≡ shown_at moment application
+pub left_by_settling : (application : Application) (moment : ℕ) (enough : Bool) (shown : Shown) (left : State Shown)
+    → application.state ≡ Running → shown ≡ shown_at moment application
     → Leaves (settle_meaning moment (record { shows = shown; store = application.store; steps = application.steps })) enough left
-    → run_left told left application ≡ settled moment application
+    → run_left enough left application ≡ settled moment application
 unfolding settled
-left_by_settling application moment enough told shown left running same clock leaves =
+left_by_settling application moment enough shown left running clock leaves =
     let outcome : Shown → Outcome Shown = λ s. settle_meaning moment (record { shows = s; store = application.store; steps = application.steps }) in
-    ap (λ e. run_left e left application) (sym same)
-    ∙ left_of_outcome (outcome shown) enough left application leaves
+    left_of_outcome (outcome shown) enough left application leaves
     ∙ ap (λ s. after_outcome (outcome s) application) clock
     ∙ ap (λ s. settled_as s moment application) (sym running)
 

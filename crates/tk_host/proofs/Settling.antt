@@ -16,7 +16,7 @@ use Rattle.tk_after.specs.Timers.{entry_with, first_due, idle_ids}
 use Rattle.tk_host.specs.declared.settling.Settling.{Settling}
 use Rattle.tk_host.specs.declared.settling.Settling.TheVariants.{Rest, Timer, Idle}
 use Rattle.tk_host.specs.Shown.{Shown, laid, taken}
-use Rattle.tk_host.specs.Outside.{outside, told, with_end, is_due, idle_told, next_told, rest_told, resumed_told, size_of}
+use Rattle.tk_host.specs.Outside.{outside, told, with_end, is_due, idle_told, next_told, rest_told, timer_told, started_told, resumed_told, size_of}
 use Rattle.tk_host.specs.Global.{script_at_global, with_report}
 use Rattle.tk_host.specs.Settle.{done, entries_in, started_script, started_if, round_meaning, on_idle, on_due, settle_turns}
 use Rattle.tk_host.proofs.Dues.{due_is_first, first_is_due, idle_is_listed}
@@ -100,7 +100,7 @@ module _ (moment : ℕ) where
       let there = idle_is_listed shows.own.entries id ids are in
       let state : State Shown = state_with shows store steps in
       start m before n (Idle moment id ids) id there.0.script ids shows store steps enough more refl
-      (ap (λ (o : Option Entry). Rattle.tk_host.specs.Outside.started_told moment id ids o shows store) there.1)
+      (ap (λ (o : Option Entry). started_told moment id ids o shows store) there.1)
       ∙ sym (assoc (started_script id there.0.script state) (round_meaning ids) (settle_turns moment n))
       ∙ ap (λ (o : Option Entry). and_then (and_then (started_if id o state) (λ after _ _. round_meaning ids after)) (λ after _ _. settle_turns moment n after)) (sym there.1)
 
@@ -110,7 +110,7 @@ module _ (moment : ℕ) where
       → act_comes m (next_told b moment shows store) steps ≡ on_due (settle_turns moment n) o (state_with shows store steps)
   next m before n true (Some entry) shows store steps enough more due first =
       start m before n (Timer moment) entry.id entry.script [] shows store steps enough more refl
-      (ap (λ (o : Option Entry). Rattle.tk_host.specs.Outside.timer_told moment o shows store) first)
+      (ap (λ (o : Option Entry). timer_told moment o shows store) first)
   next m before n true None shows store steps enough more due first = absurd (due_is_first moment shows.own.entries due first)
   next m before n false (Some entry) shows store steps enough more due first = absurd (first_is_due moment shows.own.entries entry due first)
   next m before n false None shows store steps enough more due first = first_idle m before n (idle_ids shows.own.entries) (laid shows) store steps enough more refl
@@ -124,7 +124,7 @@ module _ (moment : ℕ) where
   on_listed m before n id ids None shows store steps enough more is later = later
   on_listed m before n id ids (Some entry) shows store steps enough more is later =
       start m before n (Idle moment id ids) id entry.script ids shows store steps enough more refl
-      (ap (λ (o : Option Entry). Rattle.tk_host.specs.Outside.started_told moment id ids o shows store) is)
+      (ap (λ (o : Option Entry). started_told moment id ids o shows store) is)
       ∙ sym (assoc (started_script id entry.script (state_with shows store steps)) (round_meaning ids) (settle_turns moment n))
 
   turn : (m : ℕ) → Before m → Comes m

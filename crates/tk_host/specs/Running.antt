@@ -3,6 +3,8 @@ use Rattle.std.specs.Prelude.{◌≡◌, Bool, true, false}
 use Rattle.tcl_interp.specs.Evaluation.{State, Outcome, Ended, OutOfSteps}
 use Rattle.tk_host.specs.declared.running.RunEnd.{RunEnd}
 use Rattle.tk_host.specs.declared.running.RunEnd.TheVariants as run
+use Rattle.tk_host.specs.declared.state.AppState.{AppState}
+use Rattle.tk_host.specs.declared.state.AppState.TheVariants.{Exhausted}
 use Rattle.tk_host.specs.Shown.{Shown}
 use Rattle.tk_host.specs.Global.{with_report}
 
@@ -19,3 +21,8 @@ IfEnded run.OutOfSteps fact = Unit {0}
 abbrev pub Leaves : Outcome Shown → Bool → State Shown → Type 0
 Leaves (Ended left code text) enough after = (enough ≡ true) × (after ≡ with_report code text left)
 Leaves (OutOfSteps left) enough after = (enough ≡ false) × (after ≡ left)
+
+-- what has become of an application, by whether there were steps enough
+abbrev pub state_left : Bool → AppState → AppState
+state_left true state = state
+state_left false state = Exhausted

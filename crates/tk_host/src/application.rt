@@ -15,7 +15,6 @@ use tcl_vars::Scopes;
 /// An application, with the script that it still has to run.
 #[derive(Drop)]
 pub struct Application {
-    alloc: Global,
     name: Text,
     rect: Rect,
     scopes: Scopes,
@@ -81,7 +80,6 @@ impl Application {
             height: rect.height,
         };
         Ok(Application {
-            alloc,
             name,
             rect,
             scopes: Scopes::new(alloc)?,
@@ -138,11 +136,8 @@ impl Application {
             script,
             slice,
         )?;
-        if enough {
-            self.at_rest = true;
-        } else {
-            self.state = AppState::Exhausted;
-        }
+        self.at_rest = enough;
+        self.state = self.state.unless_spent(enough);
         Ok(())
     }
 
@@ -152,8 +147,9 @@ impl Application {
         requires in_time { moment ≤ 1000000000000 }
         ensures { OnOk result (self.new ≡ record self.old { application = settled moment self.old.application }) }
     {
-        if self.state != AppState::Running {
-            return Ok(());
+        match self.state {
+            AppState::Running => {}
+            AppState::Exhausted | AppState::Closed => return Ok(()),
         }
         if !self.at_rest {
             return Err(AllocError);
@@ -161,18 +157,14 @@ impl Application {
         self.at_rest = false;
         self.console.set_moment(moment);
         let enough = run_settling(
-            self.alloc,
             &mut self.interp,
             &mut self.console,
             &mut self.scopes,
             moment,
             slice,
         )?;
-        if enough {
-            self.at_rest = true;
-        } else {
-            self.state = AppState::Exhausted;
-        }
+        self.at_rest = enough;
+        self.state = self.state.unless_spent(enough);
         Ok(())
     }
 

@@ -150,13 +150,7 @@ impl Console {
         ensures ok { IfOk result (λ act. (store : Store) → record { shows = self.new; store = store; act = act } ≡ after_told arguments.now self.old store) }
         ensures setting { setting_of self.new ≡ setting_of self.old }
     {
-        let answer = after_command(
-            self.alloc,
-            &mut self.timers,
-            OWN,
-            self.moment,
-            arguments,
-        )?;
+        let answer = after_command(self.alloc, &mut self.timers, OWN, self.moment, arguments)?;
         match answer {
             Ok(text) => Ok(Act::Done(Code::Normal, text)),
             Err(text) => Ok(Act::Done(Code::Error, text)),
@@ -172,19 +166,30 @@ impl Console {
             Code::Normal | Code::Return(_) => Ok(()),
             Code::Error => self.write(Stream::Err, text),
             Code::Break => {
-                let fault = short_text(
-                    self.alloc,
-                    "invoked \"break\" outside of a loop",
-                )?;
+                let fault = short_text(self.alloc, "invoked \"break\" outside of a loop")?;
                 self.write(Stream::Err, fault)
             }
             Code::Continue => {
-                let fault = short_text(
-                    self.alloc,
-                    "invoked \"continue\" outside of a loop",
-                )?;
+                let fault = short_text(self.alloc, "invoked \"continue\" outside of a loop")?;
                 self.write(Stream::Err, fault)
             }
+        }
+    }
+
+    /// Layout: the main window fills the rectangle.
+    pub fn lay_out(&mut self)
+        ensures { self.new ≡ laid self.old }
+    {
+        self.window = Window::filling(self.size);
+    }
+
+    /// The task of doing what is due at a moment.
+    pub fn settling(&self, moment: u64) -> Settling
+        ensures { result ≡ Settling.Rest moment [] }
+    {
+        Settling::Rest {
+            moment,
+            round: Round::none(self.alloc),
         }
     }
 
@@ -210,7 +215,7 @@ impl Console {
         ensures ok { IfOk result (λ act. (store : Store) → record { shows = self.new; store = store; act = act } ≡ next_told Bool.false moment self.old store) }
         ensures setting { setting_of self.new ≡ setting_of self.old }
     {
-        self.window = Window::filling(self.size);
+        self.lay_out();
         let mut round = Round::of(self.timers.idle_round(OWN)?);
         match round.next() {
             Some(id) => Ok(Act::Step(Settling::Idle { moment, id, round })),
@@ -242,28 +247,29 @@ impl Console {
     {
         let round = Round::none(self.alloc);
         match self.timers.take_due(OWN, moment) {
-            Some((_id, script)) => Ok(
-                Act::Run {
-                    script,
-                    task: Settling::Rest { moment, round },
-                },
-            ),
+            Some((_id, script)) => Ok(Act::Run {
+                script,
+                task: Settling::Rest { moment, round },
+            }),
             None => self.go_on(moment, round),
         }
     }
 
     /// An idle script leaves the table and runs.
-    fn start_idle(&mut self, moment: u64, id: u64, round: Round) -> Result<Act<Settling>, AllocError>
+    fn start_idle(
+        &mut self,
+        moment: u64,
+        id: u64,
+        round: Round,
+    ) -> Result<Act<Settling>, AllocError>
         ensures ok { IfOk result (λ act. (store : Store) → record { shows = self.new; store = store; act = act } ≡ started_told moment id round (entry_with id self.old.own.entries) self.old store) }
         ensures setting { setting_of self.new ≡ setting_of self.old }
     {
         match self.timers.cancel(OWN, id) {
-            Some(script) => Ok(
-                Act::Run {
-                    script,
-                    task: Settling::Rest { moment, round },
-                },
-            ),
+            Some(script) => Ok(Act::Run {
+                script,
+                task: Settling::Rest { moment, round },
+            }),
             None => self.go_on(moment, round),
         }
     }

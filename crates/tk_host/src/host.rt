@@ -41,7 +41,7 @@ impl Model for Host {
 
 impl Host {
     ghost use Rattle.std.specs.Prelude.{◌≡◌, ◌≢◌, ◌≤◌, ℕ, List, [], ◌∷◌, ◌++◌, map, slice_get, IfOk, IfErr, OnOk, OnErr, MatchResult};
-    ghost use Rattle.tk_host.specs.Held.{AddApp, AdvanceTo, Call, End, Start, after_advance, after_end, after_start, held_after, with_app};
+    ghost use Rattle.tk_host.specs.Held.{AddApp, AdvanceTo, Call, End, Start, after_advance, after_end, brought, after_start, held_after, with_app};
     ghost use Rattle.tk_host.specs.Sections.{sections_after};
     ghost use Rattle.tk_host.specs.Spec.{given};
     ghost use Rattle.tk_host.specs.Refusals.{IsRefusal, LeftBy, NoneApplies, PhaseRefuses, RefusesApp, RefusesMoment, RefusesSection, add_faults, moment_faults, section_faults, start_faults};
@@ -109,11 +109,7 @@ impl Host {
         ensures left { IfErr result (λ fault. LeftBy fault self.old self.new) }
         ensures history { (calls : List Call) → self.old ≡ held_after calls → OnOk result (self.new ≡ held_after (calls ++ AdvanceTo moment ∷ [])) }
     {
-        self.may_go_to(moment)?;
-        self.phase = Phase::Lost;
-        bring_all(self.applications.as_mut_slice(), moment, self.slice)?;
-        self.phase = Phase::Reached(moment);
-        Ok(())
+        self.go_to(moment, Phase::Reached(moment))
     }
 
     /// Goes on to the last moment: what is due by then is done, each at its moment. After a want of memory the host is broken.
@@ -125,11 +121,7 @@ impl Host {
         ensures left { IfErr result (λ fault. LeftBy fault self.old self.new) }
         ensures history { (calls : List Call) → self.old ≡ held_after calls → OnOk result (self.new ≡ held_after (calls ++ End moment ∷ [])) }
     {
-        self.may_go_to(moment)?;
-        self.phase = Phase::Lost;
-        bring_all(self.applications.as_mut_slice(), moment, self.slice)?;
-        self.phase = Phase::Finished(moment);
-        Ok(())
+        self.go_to(moment, Phase::Finished(moment))
     }
 
     /// What the application in the slot wrote, and what there is of it.
@@ -146,6 +138,21 @@ impl Host {
             Some(application) => Ok(application.section(self.alloc)?),
             None => Err(HostFault::NoApp),
         }
+    }
+
+    /// Goes on to a moment, and to a phase there.
+    fn go_to(&mut self, moment: u64, phase: Phase) -> Result<(), HostFault>
+        requires { self.old.phase ≢ Phase.Adding }
+        ensures gone { OnOk result (self.new ≡ record { phase = phase; parts = map (brought moment) self.old.parts }) }
+        ensures unless { OnOk result (NoneApplies (RefusesMoment self.old moment) moment_faults) }
+        ensures refused { IfErr result (IsRefusal (RefusesMoment self.old moment) moment_faults) }
+        ensures left { IfErr result (λ fault. LeftBy fault self.old self.new) }
+    {
+        self.may_go_to(moment)?;
+        self.phase = Phase::Lost;
+        bring_all(self.applications.as_mut_slice(), moment, self.slice)?;
+        self.phase = phase;
+        Ok(())
     }
 
     /// Why the host can't go on to a moment, if it can't.

@@ -1,4 +1,4 @@
-ghost use Rattle.std.specs.Prelude.{◌≡◌, [], ◌∷◌, drop, option_to_list, ◌++◌};
+ghost use Rattle.std.specs.Prelude.{◌≡◌, [], ◌++◌, IfNone, option_to_list};
 
 use std::alloc::Global;
 use std::marker::Model;
@@ -11,7 +11,7 @@ pub struct Round {
 }
 
 impl Model for Round {
-    ghost use Rattle.std.specs.Prelude.{ℕ, List, drop, length, ◌≤◌};
+    ghost use Rattle.std.specs.Prelude.{ℕ, List, drop};
 
     ghost Value = { List ℕ };
 
@@ -38,7 +38,8 @@ impl Round {
 
     /// The next of them, which is then no longer among those left.
     pub fn next(&mut self) -> Option<u64>
-        ensures { self.old ≡ option_to_list result ++ self.new }
+        ensures next { self.old ≡ option_to_list result ++ self.new }
+        ensures none { IfNone result (self.old ≡ []) }
     {
         let id = *self.ids.get(self.gone)?;
         self.gone += 1;

@@ -8,10 +8,9 @@ ghost use Rattle.tk_host.specs.Settle.{settle_meaning};
 ghost use Rattle.tk_host.specs.Shown.{setting_of};
 
 use crate::console::Console;
-use crate::round::Round;
 use crate::settling::Settling;
 use crate::transcript::Stream;
-use std::alloc::{AllocError, Global};
+use std::alloc::AllocError;
 use tcl_interp::{Code, Interp, SliceEnd};
 use tcl_text::Text;
 use tcl_vars::Scopes;
@@ -60,6 +59,30 @@ fn report(console: &mut Console, code: Code, text: Text) -> Result<(), AllocErro
     Ok(())
 }
 
+/// Does all that an interpreter still has to do, and tells an error that it ends with. It answers whether there were steps enough.
+fn run_begun(
+    interp: &mut Interp<Settling>,
+    console: &mut Console,
+    scopes: &mut Scopes,
+    slice: u64,
+) -> Result<bool, AllocError>
+    requires positive { 0 < slice }
+    requires begun { rest_of interp.old ≢ Idle }
+    requires own { replaced_in interp.old ≡ [] }
+    ensures left { IfOk result (λ enough. Leaves (finish outside [] (rest_of interp.old) (state_of interp.old console.old scopes.old)) enough (state_of interp.new console.new scopes.new)) }
+    ensures idle { IfOk result (λ enough. enough ≡ true → rest_of interp.new ≡ Idle) }
+    ensures own { replaced_in interp.new ≡ [] }
+    ensures setting { setting_of console.new ≡ setting_of console.old }
+{
+    match run_to_end(interp, console, scopes, slice)? {
+        RunEnd::Ended(code, text) => {
+            report(console, code, text)?;
+            Ok(true)
+        }
+        RunEnd::OutOfSteps => Ok(false),
+    }
+}
+
 /// Runs a script at global level and tells its error. It answers whether there were steps enough.
 pub fn run_script(
     interp: &mut Interp<Settling>,
@@ -77,18 +100,12 @@ pub fn run_script(
     ensures setting { setting_of console.new ≡ setting_of console.old }
 {
     interp.begin(script)?;
-    match run_to_end(interp, console, scopes, slice)? {
-        RunEnd::Ended(code, text) => {
-            report(console, code, text)?;
-            Ok(true)
-        }
-        RunEnd::OutOfSteps => Ok(false),
-    }
+    let enough = run_begun(interp, console, scopes, slice)?;
+    Ok(enough)
 }
 
 /// Does what is due at a moment: timers, layout and idle scripts. It answers whether there were steps enough.
 pub fn run_settling(
-    alloc: Global,
     interp: &mut Interp<Settling>,
     console: &mut Console,
     scopes: &mut Scopes,
@@ -103,13 +120,7 @@ pub fn run_settling(
     ensures own { replaced_in interp.new ≡ [] }
     ensures setting { setting_of console.new ≡ setting_of console.old }
 {
-    let round = Round::none(alloc);
-    interp.begin_task(Settling::Rest { moment, round })?;
-    match run_to_end(interp, console, scopes, slice)? {
-        RunEnd::Ended(code, text) => {
-            report(console, code, text)?;
-            Ok(true)
-        }
-        RunEnd::OutOfSteps => Ok(false),
-    }
+    interp.begin_task(console.settling(moment))?;
+    let enough = run_begun(interp, console, scopes, slice)?;
+    Ok(enough)
 }

@@ -9,9 +9,5 @@ pub enum Settling {
     /// The timer that goes first of those due starts: its step is taken.
     Timer { moment: u64 },
     /// An idle script starts, with what is left of its round behind it: its step is taken.
-    Idle {
-        moment: u64,
-        id: u64,
-        round: Round,
-    },
+    Idle { moment: u64, id: u64, round: Round },
 }

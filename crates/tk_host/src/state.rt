@@ -1,4 +1,5 @@
 ghost use Rattle.std.specs.Prelude.{◌≡◌};
+ghost use Rattle.tk_host.specs.Running.{state_left};
 ghost use Rattle.tk_host.specs.Section.{state_name};
 
 /// What has become of an application.
@@ -22,5 +23,12 @@ impl AppState {
             AppState::Exhausted => "exhausted",
             AppState::Closed => "closed",
         }
+    }
+
+    /// What has become of an application that did something, by whether there were steps enough for it.
+    pub fn unless_spent(self, enough: bool) -> AppState
+        ensures { result ≡ state_left enough self }
+    {
+        if enough { self } else { AppState::Exhausted }
     }
 }

@@ -50,6 +50,14 @@ fn end(host: &mut Host, moment: u64) -> Option<u32>
     number_of(host.end(moment))
 }
 
+/// Goes on to a moment, and answers the number of the refusal.
+fn advance(host: &mut Host, moment: u64) -> Option<u32>
+    requires { host.old.phase ≢ Phase.Adding }
+    ensures { host.new.phase ≢ Phase.Adding }
+{
+    number_of(host.advance_to(moment))
+}
+
 /// Scripts of a first application with its budget and its section, whatever the slice; a second one beside it says bye.
 #[test]
 fn runs_each_by_itself(rt: HostRuntime) -> Result<(), Fail> {
@@ -205,5 +213,54 @@ fn ends_once(rt: HostRuntime) -> Result<(), Fail> {
     assert_eq!(rt; number_of(host.start()), Some(41));
     assert_eq!(rt; add(&mut host, alloc, "", LEFT, "", 0)?, Some(41));
     assert!(rt; matches!(&host.section(0), Err(HostFault::NoApp)));
+    Ok(())
+}
+
+/// Timers of two applications, at the moments that a host is brought to, whatever the slice.
+#[test]
+fn goes_on_to_moments(rt: HostRuntime) -> Result<(), Fail> {
+    let alloc = rt.alloc();
+    for slice in [1, 3, 64] {
+        let mut host = Host::new(alloc, slice);
+        let script =
+            "after 5 {puts a; after idle {puts b}}; after 8 {puts {c\nd}}; after idle {puts e}";
+        assert_eq!(rt; add(&mut host, alloc, "a", LEFT, script, 100)?, None);
+        assert_eq!(rt;
+            add(
+                &mut host,
+                alloc,
+                "b",
+                RIGHT,
+                "after 6 {while 1 {}}; after 6 {puts f}; after idle {after 9 x}",
+                20
+            )?,
+            None
+        );
+        host.start()?;
+        assert_eq!(rt;
+            host.section(0)?.as_slice(),
+            b"app a running 95\nout 0 e\ntree\nwin . Tk 0 0 100 50 1\ntimers\ntimer after#0 5 puts a; after idle {puts b}\ntimer after#1 8 puts {c\\nd}\ndone\n".as_slice()
+        );
+        assert_eq!(rt; advance(&mut host, 4), None);
+        assert_eq!(rt; advance(&mut host, 3), Some(35));
+        assert_eq!(rt; advance(&mut host, 1_000_000_000_001), Some(36));
+        assert_eq!(rt; advance(&mut host, 5), None);
+        assert_eq!(rt; advance(&mut host, 5), None);
+        assert_eq!(rt;
+            host.section(0)?.as_slice(),
+            b"app a running 90\nout 0 e\nout 5 a\nout 5 b\ntree\nwin . Tk 0 0 100 50 1\ntimers\ntimer after#1 8 puts {c\\nd}\ndone\n".as_slice()
+        );
+        assert_eq!(rt; add(&mut host, alloc, "c", LEFT, "", 1)?, Some(40));
+        assert_eq!(rt; end(&mut host, 8), None);
+        assert_eq!(rt; advance(&mut host, 9), Some(41));
+        assert_eq!(rt;
+            host.section(0)?.as_slice(),
+            b"app a running 88\nout 0 e\nout 5 a\nout 5 b\nout 8 c\\nd\ntree\nwin . Tk 0 0 100 50 1\ntimers\ndone\n".as_slice()
+        );
+        assert_eq!(rt;
+            host.section(1)?.as_slice(),
+            b"app b exhausted 0\ntree\nwin . Tk 0 0 100 50 1\ntimers\ntimer after#1 6 puts f\ntimer after#2 9 x\ndone\n".as_slice()
+        );
+    }
     Ok(())
 }

@@ -13,7 +13,7 @@ use Rattle.tk_host.specs.declared.rect.Rect.{Rect}
 use Rattle.tk_host.specs.Alone.{alone}
 use Rattle.tk_host.specs.Held.{Call, AddApp, Start, End, Held, held_after, given_by, phase_after, part_in, application_in}
 use Rattle.tk_host.specs.Rect.{SharePixel}
-use Rattle.tk_host.specs.Refusals.{IsFirst, NoneApplies, IsRefusal, RefusesApp, RefusesEnd, RefusesSection, PhaseRefuses, add_faults, start_faults, end_faults, section_faults}
+use Rattle.tk_host.specs.Refusals.{IsFirst, NoneApplies, IsRefusal, RefusesApp, RefusesMoment, RefusesSection, PhaseRefuses, add_faults, start_faults, moment_faults, section_faults}
 use Rattle.tk_host.specs.Section.{section}
 use Rattle.tk_host.specs.Sections.{sections_after}
 use Rattle.tk_host.specs.Spec.{IsInRange}
@@ -130,9 +130,9 @@ none_refuses_start apps =
     let P : Held → Type 0 = λ held. NoneApplies (PhaseRefuses held.phase) start_faults in
     subst P (sym (held_after-adding apps)) (λ refuses. refuses, (λ refuses. refuses, (λ refuses. refuses, tt)))
 
-pub none_refuses_end : (apps : List AppBlock) (moment : ℕ) → moment ≤ 1000000000000 → NoneApplies (RefusesEnd (held_after (adding apps ++ Start ∷ [])) moment) end_faults
+pub none_refuses_end : (apps : List AppBlock) (moment : ℕ) → moment ≤ 1000000000000 → NoneApplies (RefusesMoment (held_after (adding apps ++ Start ∷ [])) moment) moment_faults
 none_refuses_end apps moment fits =
-    let P : Held → Type 0 = λ held. NoneApplies (RefusesEnd held moment) end_faults in
+    let P : Held → Type 0 = λ held. NoneApplies (RefusesMoment held moment) moment_faults in
     subst P (sym (held-adding apps (Start ∷ []) refl)) (λ refuses. refuses, (λ refuses. refuses, (λ refuses. omega (arith, fits, refuses), (λ refuses. omega (arith, refuses), tt))))
 
 pub held-started : (apps : List AppBlock) → held_after (adding apps ++ Start ∷ []) ≡ held_in (Reached 0) apps

@@ -1,6 +1,5 @@
-use Rattle.std.proofs.Common.{◌≡◌, sym, ap, ◌∙◌, rules}
-use Rattle.tk_host.specs.declared.phase.Phase.TheVariants.{Reached}
-use Rattle.tk_host.proofs.History.{history_of_end}
+use Rattle.std.proofs.Common.{rules}
+use Rattle.tk_host.proofs.History.{history_of_end, not_back, reached_if_not_refused}
 use Rattle.tk_host.proofs.host.Host.end.Goals as goal
 
 pub returns-clause-ended : goal.returns-clause-ended
@@ -8,6 +7,6 @@ returns-clause-ended c = search rules
 
 pub returns-clause-history : goal.returns-clause-history
 returns-clause-history c = λ calls held.
-    let before = c.in-Reached.reached in
-    let reached : c.args.self.now.phase ≡ Reached before = sym (ap (λ h. h.phase) c.self.view_is) ∙ c.in-Reached.is in
-    history_of_end calls before c.args.moment c.args.self.now _ held reached (returns-clause-ended c)
+    let none = c.in_ok-may_go_to.ensures in
+    let from = reached_if_not_refused c.args.self.now.phase c.requires none.0 none.1.0 in
+    history_of_end calls from.0 c.args.moment c.args.self.now _ held from.1 (not_back c.args.self.now.phase from.0 c.args.moment from.1 none.1.1.1.0) (returns-clause-ended c)

@@ -1,3 +1,4 @@
+mod Acts
 mod Dues
 mod Escapes
 mod Falls
@@ -6,5 +7,5 @@ mod Listed
 mod Order
 mod Passing
 mod Runs
-mod Settling
+mod Started
 mod Words

@@ -121,17 +121,17 @@ passed_step last due application next in_time =
 
 pass_then : (first last turns : ℕ) (application : Application) → first ≤ last → passed last (pass_turns first turns application) ≡ passed last application
 pass_then first last zero application le = refl
-pass_then first last (suc turns) application le = by_next (next_due application) refl
+pass_then first last (suc turns) application le = by_next (next_due application) refl (λ due. pass_then first last turns (settled due application) le)
   where
-    by : (due : ℕ) (b : Bool) → next_due application ≡ Some due → nat_le due first ≡ b → passed last (if b then pass_turns first turns (settled due application) else application) ≡ passed last application
-    by due true next is =
-        let in_time : due ≤ first = leb-true due first is in
-        pass_then first last turns (settled due application) le ∙ sym (passed_step last due application next (omega (arith, in_time, le)))
-    by due false next is = refl
+    by : (due : ℕ) (b : Bool) → next_due application ≡ Some due → nat_le due first ≡ b → passed last (pass_turns first turns (settled due application)) ≡ passed last (settled due application)
+        → passed last (if b then pass_turns first turns (settled due application) else application) ≡ passed last application
+    by due true next is later = let in_time : due ≤ first = leb-true due first is in later ∙ sym (passed_step last due application next (omega (arith, in_time, le)))
+    by due false next is later = refl
 
-    by_next : (o : Option ℕ) → next_due application ≡ o → passed last (on_next (λ due there. pass_turns first turns (settled due there)) first o application) ≡ passed last application
-    by_next None next = refl
-    by_next (Some due) next = by due (nat_le due first) next refl
+    by_next : (o : Option ℕ) → next_due application ≡ o → ((due : ℕ) → passed last (pass_turns first turns (settled due application)) ≡ passed last (settled due application))
+        → passed last (on_next (λ due there. pass_turns first turns (settled due there)) first o application) ≡ passed last application
+    by_next None next later = refl
+    by_next (Some due) next later = by due (nat_le due first) next refl (later due)
 
 -- passing to a moment and then on to a later one is passing to the later one
 pub passed_passed : (first last : ℕ) (application : Application) → first ≤ last → passed last (passed first application) ≡ passed last application

@@ -1,5 +1,5 @@
 -- What was begun at global level, from its first slice to its end.
-use Rattle.std.proofs.Common.{◌≡◌, ℕ, Bool, true, false, List, [], refl, sym, ap, ◌∙◌, subst, arith}
+use Rattle.std.proofs.Common.{◌≡◌, ℕ, suc, Bool, true, false, List, [], refl, sym, ap, ◌∙◌, subst, arith}
 use Rattle.tcl_interp.specs.declared.tasks.Code.{Code}
 use Rattle.tcl_interp.specs.Evaluation.{State, Outcome, Ended, OutOfSteps, and_then}
 use Rattle.tcl_interp.specs.Scripts.{script_meaning, task_meaning, out_of_global}
@@ -17,7 +17,7 @@ use Rattle.tk_host.specs.Global.{script_at_global, with_report}
 use Rattle.tk_host.specs.Settle.{settle_meaning}
 use Rattle.tk_host.specs.Alone.{shown_at, state_at, with_left, after_outcome, after_script, settled_as, settled}
 use Rattle.tk_host.specs.Running.{Leaves, state_left}
-use Rattle.tk_host.proofs.Settling.{comes}
+use Rattle.tk_host.proofs.Acts.{comes}
 
 -- nothing comes behind the end
 ended_alone : (outcome : Outcome Shown) → and_then outcome (waits_meaning outside [] []) ≡ outcome
@@ -47,7 +47,7 @@ finish_of_settling rest moment shown store before steps begun same =
     ap (λ r. finish outside [] r (state steps)) begun
     ∙ ap (λ n. finish outside [] (rest_of_task (RestOfRound moment [])) (state n)) same
     ∙ ended_alone (task_meaning outside (script_meaning outside [] 200) (RestOfRound moment []) (state before) Normal [])
-    ∙ comes moment before (before + 1) [] shown store before (omega arith) (omega arith)
+    ∙ comes moment before (suc before) [] shown store before (omega arith) (omega arith)
 
 -- what is left, by how it ended
 pub leaves_ended : (outcome : Outcome Shown) (left : State Shown) (code : Code) (text : List ℕ) (shown : Shown) → outcome ≡ Ended left code text

@@ -12,4 +12,5 @@ pub mod Sections
 pub mod Outside
 pub mod Settle
 pub mod Shown
+pub mod Smaller
 pub mod Spec

@@ -251,7 +251,10 @@ impl Console {
                 script,
                 task: Settling::Rest { moment, round },
             }),
-            None => self.go_on(moment, round),
+            None => {
+                let act = self.go_on(moment, round)?;
+                Ok(act)
+            }
         }
     }
 
@@ -270,7 +273,10 @@ impl Console {
                 script,
                 task: Settling::Rest { moment, round },
             }),
-            None => self.go_on(moment, round),
+            None => {
+                let act = self.go_on(moment, round)?;
+                Ok(act)
+            }
         }
     }
 }
@@ -279,6 +285,7 @@ impl Tasks for Console {
     ghost use Rattle.std.specs.Prelude.{ℕ};
     ghost use Rattle.tk_host.specs.Outside.{outside as host_commands};
     ghost use Rattle.tk_host.specs.Shown.{Setting, setting_of};
+    ghost use Rattle.tk_host.specs.Smaller.{settling_falls};
 
     type Task = Settling;
 
@@ -292,7 +299,10 @@ impl Tasks for Console {
         match words {
             [name, arguments @ ..] => match name.as_str() {
                 "puts" => self.puts(arguments),
-                "after" => self.after(arguments),
+                "after" => {
+                    let act = self.after(arguments)?;
+                    Ok(act)
+                }
                 _ => Ok(Act::Unknown),
             },
             [] => Ok(Act::Unknown),
@@ -309,12 +319,19 @@ impl Tasks for Console {
         match task {
             Settling::Rest { moment, round } => {
                 self.tell_end(code, text)?;
-                self.go_on(moment, round)
+                let act = self.go_on(moment, round)?;
+                Ok(act)
             }
-            Settling::Timer { moment } => self.start_timer(moment),
-            Settling::Idle { moment, id, round } => self.start_idle(moment, id, round),
+            Settling::Timer { moment } => {
+                let act = self.start_timer(moment)?;
+                Ok(act)
+            }
+            Settling::Idle { moment, id, round } => {
+                let act = self.start_idle(moment, id, round)?;
+                Ok(act)
+            }
         }
     }
 
-    ghost falls = { λ shows store task code text. tt };
+    ghost falls = { settling_falls };
 }

@@ -1,5 +1,7 @@
 //! What is done at a moment, one act after another: timers that are due, layout, and rounds of idle scripts.
 
+use crate::round::Round;
+
 /// What settling does when it is resumed. Nothing but a step lies between finding what goes next and its start, so what was
 /// found is still there.
 #[derive(Drop)]

@@ -1,3 +1,5 @@
+use Rattle.std.proofs.Common.{ap, ◌∙◌}
+use Rattle.tcl_interp.specs.Finish.{rest_of_task}
 use Rattle.tcl_interp.specs.Interp.{rest_of, left_of}
 use Rattle.tk_host.proofs.Runs.{finish_of_settling}
 use Rattle.tk_host.proofs.running.run_settling.Goals as goal
@@ -6,5 +8,5 @@ pub returns-clause-left : goal.returns-clause-left
 returns-clause-left c =
     let begun = c.begin_task.new.self in
     let same = finish_of_settling (rest_of begun) c.args.moment c.args.console.now c.args.scopes.now (left_of c.args.interp.now) (left_of begun)
-    c.in_ok-begin_task.ensures.ok c.in_ok-begin_task.ensures.left in
+    (c.in_ok-begin_task.ensures.ok ∙ ap rest_of_task c.settling.ensures) c.in_ok-begin_task.ensures.left in
     rw same at c.in_ok-enough.ensures.left

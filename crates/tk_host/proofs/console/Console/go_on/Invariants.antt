@@ -5,7 +5,7 @@ use Rattle.tk_host.proofs.console.Console.go_on.Given as goal
 
 -- those that were passed over no longer wait
 abbrev pub invariant-loop-id : goal.invariant-loop-id
-invariant-loop-id l = (store : Store) → rest_told l.moment l.round l.self store ≡ rest_told l.moment l.fn.round l.self store
+invariant-loop-id l = (store : Store) → rest_told l.moment l.round l.fn.self store ≡ rest_told l.moment l.fn.round l.fn.self store
 
 abbrev pub decreases-loop-id : goal.decreases-loop-id
 decreases-loop-id l = length l.round

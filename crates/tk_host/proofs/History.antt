@@ -2,7 +2,7 @@
 use Rattle.std.proofs.Common.{◌≡◌, ◌≢◌, ℕ, ◌≤◌, ◌<◌, List, [], ◌∷◌, ◌++◌, map, refl, sym, ap, ◌∙◌, subst, arith}
 use Rattle.std.proofs.lemmas.List.{map-append, append-nil}
 use Rattle.std.proofs.lemmas.Option.{slice_get-map}
-use Rattle.std.specs.Prelude.{Some, option_map}
+use Rattle.std.specs.Prelude.{Some, Result, Ok, Err, OnOk, option_map}
 use Rattle.tk_host.specs.declared.fault.HostFault.TheVariants.{Started, Ended, Broken}
 use Rattle.tk_host.specs.declared.phase.Phase.{Phase}
 use Rattle.tk_host.specs.declared.phase.Phase.TheVariants.{Adding, Reached, Finished, Lost}
@@ -28,6 +28,11 @@ reached_if_not_refused Adding begun lost finished = absurd (begun refl)
 reached_if_not_refused (Reached moment) begun lost finished = (moment, refl)
 reached_if_not_refused (Finished moment) begun lost finished = absurd (finished tt)
 reached_if_not_refused Lost begun lost finished = absurd (lost tt)
+
+-- what follows from two facts of an Ok
+pub on_ok : {T E A B C : Type 0} (r : Result T E) → OnOk r A → OnOk r B → (A → B → C) → OnOk r C
+on_ok (Ok x) a b f = f a b
+on_ok (Err e) a b f = tt
 
 -- going on to a moment doesn't go back
 pub not_back : (phase : Phase) (before moment : ℕ) → phase ≡ Reached before → ¬ (moment < reached phase) → before ≤ moment

@@ -3,6 +3,8 @@ use Rattle.std.proofs.Common.{◌≡◌, ℕ, zero, suc, ◌≤◌, ◌<◌, Boo
 use Rattle.std.specs.Prelude.{nat_le, if◌then◌else◌, find}
 use Rattle.std.proofs.lemmas.Option.{none-some}
 use Rattle.std.proofs.lemmas.Bool.{leb-true, leb-false, le-leb, lt-leb}
+use Rattle.tcl_interp.specs.declared.tasks.Code.{Code}
+use Rattle.tcl_interp.specs.declared.tasks.Code.TheVariants.{Normal, Error, Return, Break, Continue}
 use Rattle.tcl_interp.specs.Evaluation.{State, Outcome, Ended, OutOfSteps}
 use Rattle.tk_after.specs.declared.entry.Entry.{Entry}
 use Rattle.tk_after.specs.Timers.{Own, due_moments, first_due, is_due_at, least}
@@ -11,6 +13,7 @@ use Rattle.tk_host.specs.declared.state.AppState.{AppState}
 use Rattle.tk_host.specs.declared.state.AppState.TheVariants.{Running, Exhausted, Closed}
 use Rattle.tk_host.specs.Shown.{Shown}
 use Rattle.tk_host.specs.Application.{Application}
+use Rattle.tk_host.specs.Global.{reported}
 use Rattle.tk_host.specs.Settle.{settle_meaning}
 use Rattle.tk_host.specs.Alone.{state_at, with_left, after_outcome, settled_as, settled, next_due_as, next_due, on_next, pass_turns, passed}
 use Rattle.tk_host.proofs.Falls.{Below, below_settle, Quiet, quiet_settle}
@@ -139,6 +142,14 @@ passed_passed first last application le = unfold passed in pass_then first last 
 
 -- ── a moment at which all is done ──
 
+-- telling of an end changes nothing that waits
+own_reported : (code : Code) (text : List ℕ) (shown : Shown) → (reported code text shown).own ≡ shown.own
+own_reported Normal text shown = refl
+own_reported Error text shown = refl
+own_reported (Return code) text shown = refl
+own_reported Break text shown = refl
+own_reported Continue text shown = refl
+
 next_by : (moment : ℕ) (o : Outcome Shown) (application : Application) → application.state ≡ Running → Quiet moment o → passed moment (after_outcome o application) ≡ after_outcome o application
 next_by moment (Ended state code text) application running quiet = by (least (due_moments state.shows.own.entries)) refl
   where
@@ -146,7 +157,7 @@ next_by moment (Ended state code text) application running quiet = by (least (du
     there = after_outcome (Ended state code text) application
 
     next : next_due there ≡ least (due_moments state.shows.own.entries)
-    next = ap (λ s. next_due_as s state.shows.own) running
+    next = ap (λ s. next_due_as s (reported code text state.shows).own) running ∙ ap (λ (o : Own). least (due_moments o.entries)) (own_reported code text state.shows)
 
     by : (o : Option ℕ) → least (due_moments state.shows.own.entries) ≡ o → passed moment (after_outcome (Ended state code text) application) ≡ after_outcome (Ended state code text) application
     by None is = passed_stops moment (after_outcome (Ended state code text) application) (next ∙ is)

@@ -11,7 +11,7 @@ use Rattle.tk_host.specs.declared.settling.Settling.TheVariants.{Rest as RestOfR
 use Rattle.tk_host.specs.Shown.{Shown}
 use Rattle.tk_host.specs.Outside.{outside}
 use Rattle.tk_host.specs.declared.state.AppState.{AppState}
-use Rattle.tk_host.specs.declared.state.AppState.TheVariants.{Running, Exhausted}
+use Rattle.tk_host.specs.declared.state.AppState.TheVariants.{Running, Exhausted, Closed}
 use Rattle.tk_host.specs.Application.{Application}
 use Rattle.tk_host.specs.Global.{script_at_global, with_report}
 use Rattle.tk_host.specs.Settle.{settle_meaning}
@@ -103,3 +103,13 @@ clock_at application moment shown size transcript window own =
     ∙ ap (λ t. record (shown_at moment application) { transcript = t; window = shown.window; own = shown.own }) transcript
     ∙ ap (λ w. record (shown_at moment application) { window = w; own = shown.own }) window
     ∙ ap (λ o. record (shown_at moment application) { own = o }) own
+
+stopped_as : (state : AppState) (moment : ℕ) (application : Application) → (state ≡ Running → ⊥) → settled_as state moment application ≡ application
+stopped_as Running moment application stopped = absurd (stopped refl)
+stopped_as Exhausted moment application stopped = refl
+stopped_as Closed moment application stopped = refl
+
+-- an application that doesn't run does nothing
+pub settled_stopped : (moment : ℕ) (application : Application) → (application.state ≡ Running → ⊥) → settled moment application ≡ application
+unfolding settled
+settled_stopped moment application stopped = stopped_as application.state moment application stopped

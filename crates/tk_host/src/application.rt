@@ -149,7 +149,7 @@ impl Application {
     {
         match self.state {
             AppState::Running => {}
-            AppState::Exhausted | AppState::Closed => return Ok(()),
+            _ => return Ok(()),
         }
         if !self.at_rest {
             return Err(AllocError);

@@ -158,7 +158,8 @@ impl Host {
     /// Why the host can't go on to a moment, if it can't.
     fn may_go_to(&self, moment: u64) -> Result<(), HostFault>
         requires { self.now.phase ≢ Phase.Adding }
-        ensures { MatchResult result (λ _. NoneApplies (RefusesMoment self.now moment) moment_faults) (IsRefusal (RefusesMoment self.now moment) moment_faults) }
+        ensures answer { MatchResult result (λ _. NoneApplies (RefusesMoment self.now moment) moment_faults) (IsRefusal (RefusesMoment self.now moment) moment_faults) }
+        ensures left { IfErr result (λ fault. LeftBy fault self.now self.now) }
     {
         let reached = match self.phase {
             Phase::Adding => unreachable!(),

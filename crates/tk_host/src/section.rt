@@ -1,4 +1,5 @@
-ghost use Rattle.std.specs.Prelude.{◌≡◌, ◌++◌, OnOk, codes, decimal, flat_map};
+ghost use Rattle.std.specs.Prelude.{◌≡◌, [], ◌++◌, OnOk, codes, decimal, flat_map};
+ghost use Rattle.std.specs.Option.{option_copied, option_map_or};
 ghost use Rattle.tk_after.specs.Timers.{entries_of};
 ghost use Rattle.tk_host.specs.Section.{entry_line, escaped_byte, escaped, field, head_line, kind_fields, name_field, transcript_line, window_line};
 
@@ -138,15 +139,23 @@ fn push_entry(out: &mut Vec<u8>, entry: &Entry) -> Result<(), AllocError>
     Ok(out.push(b'\n')?)
 }
 
+/// Adds the line of what is listed, if anything.
+fn push_listed(out: &mut Vec<u8>, entry: Option<&Entry>) -> Result<(), AllocError>
+    ensures { OnOk result (out.new.items ≡ out.old.items ++ option_map_or entry_line (option_copied entry) []) }
+{
+    match entry {
+        Some(entry) => push_entry(out, entry),
+        None => Ok(()),
+    }
+}
+
 /// Adds the lines of what an application has waiting.
 pub fn push_timers(out: &mut Vec<u8>, timers: &Timers) -> Result<(), AllocError>
     ensures { OnOk result (out.new.items ≡ out.old.items ++ flat_map entry_line (entries_of 0 timers.now)) }
 {
     let ids = timers.info(0)?;
     for id in ids.as_slice() {
-        if let Some(entry) = timers.entry(0, *id) {
-            push_entry(out, entry)?;
-        }
+        push_listed(out, timers.entry(0, *id))?;
     }
     Ok(())
 }

@@ -24,7 +24,7 @@ entry_at low (e ∷ entries) next_number (suc i) d numbered lt =
     by false is above later = rw is later
 
 -- the line of the entry at a place is the next line
-pub lines_more : (f : Entry → List ℕ) (entries : List Entry) (next_number i id : ℕ) → IsNumbered 0 entries next_number → i < length (ids entries) → id ≡ get_or (ids entries) i id
+pub lines_more : (f : Entry → List ℕ) (entries : List Entry) (next_number i id : ℕ) → IsNumbered 0 entries next_number → i < length (ids entries) → id ≡ get_or (ids entries) i 0
     → flat_map f (take i entries) ++ option_map_or f (entry_with id entries) [] ≡ flat_map f (take (i + 1) entries)
 lines_more f [] next_number i id numbered lt is = absurd (omega (arith, lt))
 lines_more f (e ∷ rest) next_number i id numbered lt is =
@@ -32,6 +32,6 @@ lines_more f (e ∷ rest) next_number i id numbered lt is =
     let id_of : Entry → ℕ = λ entry. entry.id in
     let within : i < length entries = omega (arith, lt, length-map entries id_of) in
     let there : Entry = get_or entries i e in
-    let found : entry_with id entries ≡ Some there = ap (λ n. entry_with n entries) (is ∙ get_or-map id_of entries i e id within) ∙ entry_at 0 entries next_number i e numbered within in
+    let found : entry_with id entries ≡ Some there = ap (λ n. entry_with n entries) (is ∙ get_or-map id_of entries i e 0 within) ∙ entry_at 0 entries next_number i e numbered within in
     ap (λ (o : Option Entry). flat_map f (take i entries) ++ option_map_or f o []) found
     ∙ sym (ap (flat_map f) (take_more entries i e within) ∙ flat_map-append f (take i entries) (there ∷ []) ∙ ap (λ r. flat_map f (take i entries) ++ r) (append-nil (f there)))

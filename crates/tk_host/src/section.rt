@@ -141,7 +141,7 @@ fn push_entry(out: &mut Vec<u8>, entry: &Entry) -> Result<(), AllocError>
 
 /// Adds the line of what is listed, if anything.
 fn push_listed(out: &mut Vec<u8>, entry: Option<&Entry>) -> Result<(), AllocError>
-    ensures { OnOk result (out.new.items ≡ out.old.items ++ option_map_or entry_line (option_copied entry) []) }
+    ensures { OnOk result (out.new.items ≡ out.old.items ++ option_map_or entry_line (option_copied entry.entry) []) }
 {
     match entry {
         Some(entry) => push_entry(out, entry),

@@ -17,6 +17,7 @@ mod text;
 mod white_space;
 
 pub use boolean::NotBoolean;
+pub use commands::{answers, integers, items};
 pub use integer::NotInteger;
 pub use list::TextList;
 pub use splitting::{ListFault, SplitFault};

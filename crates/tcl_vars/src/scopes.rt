@@ -7,7 +7,7 @@ ghost use Rattle.tcl_vars.specs.Shown.{shown};
 ghost use Rattle.tcl_vars.specs.Sound.{IsBelow};
 ghost use Rattle.tcl_vars.specs.Table.{weight_of};
 ghost use Rattle.tcl_vars.specs.Unset.{IsGone, Unsets};
-ghost use Rattle.tcl_vars.specs.Store.{content_at, link_of, end_of, text_at, variable_in, element_in, with_text_at, with_variable, with_element, without_text_at, without_variable, without_element, is_there_at, content_count, variable_count, with_content, with_link, with_array, has_variable, elements_in, pairs_of};
+ghost use Rattle.tcl_vars.specs.Store.{content_at, link_of, end_of, text_at, variable_in, element_in, with_text_at, with_variable, with_element, without_text_at, without_variable, without_element, is_there_at, content_count, variable_count, with_content, with_link, with_array, has_variable, is_element_in, elements_in, pairs_of};
 
 use crate::arrays::{names_of, pairs_of};
 use crate::content::{
@@ -16,7 +16,7 @@ use crate::content::{
 use crate::fault::{LinkFault, ReadFault, SetFault, UnsetFault};
 use crate::frame::{Frame, give, put, unset, variable_count};
 use crate::name::{
-    OwnPlace, Place, element_place, is_plain, place_of, place_of_text, variable_place,
+    OwnPlace, Place, element_place, is_given, is_plain, place_of, place_of_text, variable_place,
 };
 use crate::table::Table;
 use std::alloc::{AllocError, Global};
@@ -197,6 +197,17 @@ impl Scopes {
         match self.lead(place_of_text(level, name)) {
             Some(found) => is_there(found.content, found.place.element),
             None => false,
+        }
+    }
+
+    /// Whether a name means an element in the frame at a level, and so no variable. It takes no memory.
+    pub fn is_element(&self, level: usize, name: &Text) -> bool
+        requires { level < length self.now }
+        ensures { result ≡ is_element_in self.now level name.now }
+    {
+        match self.lead(place_of_text(level, name)) {
+            Some(found) => is_given(found.place.element),
+            None => true,
         }
     }
 

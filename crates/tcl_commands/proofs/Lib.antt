@@ -1,0 +1,5 @@
+-- Lemmas that several proofs share.
+pub mod ConcatLemmas
+pub mod DoneLemmas
+pub mod EachLemmas
+pub mod SumLemmas

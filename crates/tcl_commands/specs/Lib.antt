@@ -1,0 +1,9 @@
+-- What the contracts cite.
+pub mod Arrays
+pub mod Commands
+pub mod Done
+pub mod Links
+pub mod Texts
+pub mod Unset
+pub mod Usages
+pub mod Values

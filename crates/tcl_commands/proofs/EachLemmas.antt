@@ -1,21 +1,19 @@
 -- Facts about steps for each of several variables.
-use Rattle.std.proofs.Common.{◌≡◌, ℕ, ◌+◌, ◌<◌, List, [], ◌∷◌, length, get_or, drop, Ok, Err, Result, refl, sym, ap, ◌∙◌, add-one, drop-cons, drop-all}
+use Rattle.std.proofs.Common.{◌≡◌, ℕ, List, Ok, Err, Result, refl, sym, ap, ◌∙◌}
 use Rattle.tcl_text.specs.declared.commands.answers.Refusal.{Refusal}
 use Rattle.tcl_text.specs.declared.commands.answers.Refusal.TheVariants.{Error, NoMemory}
 use Rattle.tcl_vars.specs.Store.{Store}
-use Rattle.tcl_commands.specs.Done.{Done, keeps, Does, Steps, and_then, each_done}
+use Rattle.tcl_commands.specs.Done.{Done, Does, Steps, and_then}
 
-module _ {X : Type 0} (step : X → Store → Result Store (List ℕ)) (xs : List X) (i : ℕ) (x : X) (old new : Store) where
-  cut_at : i < length xs → x ≡ get_or xs i x → drop i xs ≡ x ∷ drop (i + 1) xs
-  cut_at within is = rw add-one (drop-cons xs i x within ∙ ap (λ y. y ∷ drop (suc i) xs) (sym is))
+-- a step that was done
+pub step_done : (others : Store → Done) (old new : Store) (step : Result Store (List ℕ)) → step ≡ Ok new → and_then others old step ≡ others new
+step_done others old new step done = ap (and_then others old) done
 
-  -- after a step the others are to do
-  pub each_after : i < length xs → x ≡ get_or xs i x → step x old ≡ Ok new → each_done step (drop (i + 1) xs) new ≡ each_done step (drop i xs) old
-  each_after within is done = rw (cut_at within is, done) refl
+-- a refused step is the whole command's refusal
+pub step_refused : (refusal : Refusal) (U : Type 0) (others : Store → Done) (old new : Store) (step : Result Store (List ℕ)) (done : Done)
+    → Steps {U = U} (Err refusal) old new step → and_then others old step ≡ done → Does (Err refusal) new done
+step_refused (Error message) U others old new step done refused rest =
+    sym rest ∙ ap (and_then others old) refused.0 ∙ ap (λ store. record { store = store; answer = Err message }) (sym refused.1)
+step_refused NoMemory U others old new step done refused rest = tt
 
-  -- a refused step is the whole command's refusal
-  pub each_refused : (refusal : Refusal) (U : Type 0) (done : Done) → i < length xs → x ≡ get_or xs i x → each_done step (drop i xs) old ≡ done
-      → Steps {U = U} (Err refusal) old new (step x old) → Does (Err refusal) new done
-  each_refused (Error message) U done within is rest refused =
-      sym rest ∙ rw (cut_at within is, refused.0, refused.1) refl
-  each_refused NoMemory U done within is rest refused = tt
+pub ruleset steps = (step_done, step_refused)

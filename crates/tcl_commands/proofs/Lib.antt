@@ -1,4 +1,5 @@
 -- Lemmas that several proofs share.
+pub mod ArrayLemmas
 pub mod ConcatLemmas
 pub mod DoneLemmas
 pub mod EachLemmas

@@ -1,5 +1,5 @@
 -- The commands of array(n): from the words after the sub-command. What is no array counts as an empty one, but for `array set`.
-use Rattle.std.specs.Prelude.{ℕ, nat_le, if◌then◌else◌, List, [], ◌∷◌, ◌++◌, length, map, filter, is_some, unwrap_or, Option, Some, None, Result, Ok, Err, codes}
+use Rattle.std.specs.Prelude.{ℕ, true, Bool, nat_le, if◌then◌else◌, List, [], ◌∷◌, ◌++◌, length, map, filter, is_some, unwrap_or, Option, Some, None, Result, Ok, Err, codes}
 use Rattle.std.specs.Fmt.{decimal}
 use Rattle.std.specs.Str.{bytes_eq, chars}
 use Rattle.tcl_text.specs.Answers.{Answer, answers, limit_text, bad_option, wrong_args, items_in, truth}
@@ -21,10 +21,14 @@ use Rattle.tcl_commands.specs.Usages.{usage_text}
 abbrev pub elements_named : ℕ → List ℕ → Store → Table (List ℕ)
 elements_named level name store = unwrap_or (elements_in store level name) []
 
+-- whether an index matches a pattern
+abbrev pub is_wanted : List ℕ → List ℕ → Bool
+is_wanted pattern index = glob_matches (chars pattern) (chars index)
+
 -- the elements whose indices match a pattern; without one all
 abbrev pub elements_wanted : Option (List ℕ) → Table (List ℕ) → Table (List ℕ)
 elements_wanted None elements = elements
-elements_wanted (Some pattern) elements = filter (λ e. glob_matches (chars pattern) (chars e.0)) elements
+elements_wanted (Some pattern) elements = filter (λ e. is_wanted pattern e.0) elements
 
 -- array exists name
 abbrev pub array_exists : ℕ → List (List ℕ) → Store → Answer

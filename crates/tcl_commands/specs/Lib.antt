@@ -1,5 +1,6 @@
 -- What the contracts cite.
 pub mod Arrays
+pub mod ArraySteps
 pub mod Commands
 pub mod Done
 pub mod Links

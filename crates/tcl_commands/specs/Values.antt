@@ -37,6 +37,10 @@ value_or absent name (Err NoElement) = Ok absent
 value_or absent name (Err IsArray) = cannot_read name IsArray
 value_or absent name (Err NotArray) = cannot_read name NotArray
 
+-- what becomes of a variable's value, where one that isn't there counts as this text
+abbrev pub value_changed : List ℕ → List ℕ → (List ℕ → Answer) → Result (List ℕ) ReadFault → Answer
+value_changed absent name change read = value_or absent name read >>= change
+
 -- a variable is set to what came of its value
 abbrev pub changed_to : ℕ → List ℕ → Store → Answer → Done
 changed_to level name store (Ok value) = value_set name value store (with_variable store level name value)
@@ -44,7 +48,7 @@ changed_to level name store (Err text) = keeps store (Err text)
 
 -- a variable is changed, where one that isn't there counts as this text
 abbrev pub changed : ℕ → List ℕ → List ℕ → (List ℕ → Answer) → Store → Done
-changed level name absent change store = changed_to level name store (value_or absent name (variable_in store level name) >>= change)
+changed level name absent change store = changed_to level name store (value_changed absent name change (variable_in store level name))
 
 -- a sum in 64 bits
 abbrev pub is_in_range : ℤ → Bool

@@ -1,11 +1,12 @@
 //! The commands of array(n).
-ghost use Rattle.std.specs.Prelude.{◌≡◌, ◌<◌, length, map, IfOk, string_bytes};
+ghost use Rattle.std.specs.Prelude.{◌≡◌, ◌<◌, length, map, filter, IfOk, string_bytes};
 ghost use Rattle.std.specs.Option.{option_copied};
 ghost use Rattle.tcl_text.specs.Answers.{Gives, items_in as items_of};
 ghost use Rattle.tcl_vars.specs.Store.{elements_in, pairs_of};
 ghost use Rattle.tcl_commands.specs.Done.{Does, Steps, each_done, pairs};
 ghost use Rattle.tcl_commands.specs.Texts.{cannot_set};
 ghost use Rattle.tcl_commands.specs.Arrays as spec;
+ghost use Rattle.tcl_commands.specs.ArraySteps.{pairs_matching};
 
 use crate::texts::{cannot_set, empty_answer, missing_value};
 use crate::unset::unset_one;
@@ -135,6 +136,7 @@ fn array_names(
 }
 
 /// The indices of an array that match a pattern.
+#[tactic(auto, using(crate::proofs::ArrayLemmas::names))]
 fn names_wanted(
     alloc: Global,
     scopes: &Scopes,
@@ -147,11 +149,20 @@ fn names_wanted(
         ≡ map (λ e. e.0) (spec.elements_wanted (Some pattern.now) (spec.elements_named level name.now scopes.now))) }
 {
     let names = scopes.array_names(level, name)?;
+    names_matching(alloc, pattern, names.as_slice())
+}
+
+/// The texts that match a pattern.
+fn names_matching(alloc: Global, pattern: &Text, names: &[Text]) -> Result<TextList, AllocError>
+    ensures { IfOk result (λ wanted. wanted ≡ filter (spec.is_wanted pattern.now) names.now) }
+{
     let mut wanted = TextList::new(alloc);
-    for index in names.as_slice() {
+    let mut rest = names;
+    while let [index, others @ ..] = rest {
         if Text::glob_match(pattern, index) {
             wanted.push(index.copy()?)?;
         }
+        rest = others;
     }
     Ok(wanted)
 }
@@ -174,6 +185,7 @@ fn array_get(alloc: Global, scopes: &Scopes, level: usize, words: &[Text]) -> Re
 }
 
 /// The indices of an array that match a pattern, each with its value behind it.
+#[tactic(auto, using(crate::proofs::ArrayLemmas::pairs))]
 fn pairs_wanted(
     alloc: Global,
     scopes: &Scopes,
@@ -186,8 +198,15 @@ fn pairs_wanted(
         ≡ pairs_of (spec.elements_wanted (Some pattern.now) (spec.elements_named level name.now scopes.now))) }
 {
     let pairs = scopes.array_pairs(level, name)?;
+    pairs_matching(alloc, pattern, pairs.as_slice())
+}
+
+/// Of indices and values in turn those of which the index matches a pattern.
+fn pairs_matching(alloc: Global, pattern: &Text, pairs: &[Text]) -> Result<TextList, AllocError>
+    ensures { IfOk result (λ wanted. wanted ≡ pairs_matching pattern.now pairs.now) }
+{
     let mut wanted = TextList::new(alloc);
-    let mut rest = pairs.as_slice();
+    let mut rest = pairs;
     while let [index, value, others @ ..] = rest {
         if Text::glob_match(pattern, index) {
             wanted.push(index.copy()?)?;
@@ -237,6 +256,7 @@ fn unset_array(
 }
 
 /// Unsets elements of an array.
+#[tactic(auto, using(crate::proofs::EachLemmas::steps))]
 fn unset_elements(
     alloc: Global,
     scopes: &mut Scopes,
@@ -248,8 +268,10 @@ fn unset_elements(
     ensures does { Does result scopes.new (each_done (spec.unset_element level name.now) indices.now scopes.old) }
     ensures levels { length scopes.new ≡ length scopes.old }
 {
-    for index in indices {
+    let mut rest = indices;
+    while let [index, others @ ..] = rest {
         unset_element(scopes, level, name, index)?;
+        rest = others;
     }
     empty_answer(alloc)
 }
@@ -368,6 +390,7 @@ fn make_array(alloc: Global, scopes: &mut Scopes, level: usize, name: &Text) -> 
     }
 }
 
+#[tactic(auto, using(crate::proofs::EachLemmas::steps))]
 fn set_each(
     alloc: Global,
     scopes: &mut Scopes,

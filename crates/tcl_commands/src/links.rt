@@ -1,14 +1,13 @@
 //! The commands of global(n) and upvar(n).
-ghost use Rattle.std.specs.Prelude.{◌≡◌, ◌<◌, length, Ok};
-ghost use Rattle.tcl_text.specs.Answers.{Gives};
+ghost use Rattle.std.specs.Prelude.{◌≡◌, ◌<◌, length, IfOk};
 ghost use Rattle.tcl_commands.specs.Done.{Does, Steps};
 ghost use Rattle.tcl_commands.specs.Links as spec;
 
 use crate::texts::{cannot_link, empty_answer};
 use crate::usages::{Usage, wrong_words};
-use std::alloc::Global;
-use tcl_text::Text;
-use tcl_text::answers::{Refusal, text_answer};
+use std::alloc::{AllocError, Global};
+use tcl_text::answers::Refusal;
+use tcl_text::{Text, TextFault};
 use tcl_vars::{LinkFault, Scopes};
 
 /// `global name ?name ..?`: each name of the frame becomes a link to the global variable of that name, up to the
@@ -33,6 +32,7 @@ pub fn global_words(
     link_globals(alloc, scopes, level, words)
 }
 
+#[tactic(auto, using(crate::proofs::EachLemmas::steps))]
 fn link_globals(
     alloc: Global,
     scopes: &mut Scopes,
@@ -44,8 +44,10 @@ fn link_globals(
     ensures does { Does result scopes.new (spec.link_globals level names.now scopes.old) }
     ensures levels { length scopes.new ≡ length scopes.old }
 {
-    for name in names {
+    let mut rest = names;
+    while let [name, others @ ..] = rest {
         link_global(alloc, scopes, level, name)?;
+        rest = others;
     }
     empty_answer(alloc)
 }
@@ -66,12 +68,16 @@ fn link_global(alloc: Global, scopes: &mut Scopes, level: usize, name: &Text) ->
 }
 
 /// A global variable's name without a leading `::`.
-fn global_name(alloc: Global, name: &Text) -> Result<Text, Refusal>
-    ensures { Gives result (Ok (spec.global_name name.now)) }
+fn global_name(alloc: Global, name: &Text) -> Result<Text, AllocError>
+    ensures { IfOk result (λ global. global ≡ spec.global_name name.now) }
 {
-    match name.as_str().strip_prefix("::") {
-        Some(rest) => text_answer(alloc, rest),
-        None => Ok(name.copy()?),
+    let Some(rest) = name.as_str().strip_prefix("::") else {
+        return name.copy();
+    };
+    match Text::new(alloc, rest) {
+        Ok(text) => Ok(text),
+        Err(TextFault::NoMemory) => Err(AllocError),
+        Err(TextFault::TooLong) => unreachable!(),
     }
 }
 
@@ -96,6 +102,7 @@ pub fn upvar_words(
     link_pairs(alloc, scopes, level, to_level, words)
 }
 
+#[tactic(auto, using(crate::proofs::EachLemmas::steps))]
 fn link_pairs(
     alloc: Global,
     scopes: &mut Scopes,

@@ -30,6 +30,7 @@ pub fn unset_words(
 }
 
 /// Unsets each of these, up to the first that can't be, or quietly each that can be.
+#[tactic(auto, using(crate::proofs::EachLemmas::steps))]
 fn unset_each(
     alloc: Global,
     scopes: &mut Scopes,
@@ -41,8 +42,10 @@ fn unset_each(
     ensures does { Does result scopes.new (spec.unset_each quiet level names.now scopes.old) }
     ensures levels { length scopes.new ≡ length scopes.old }
 {
-    for name in names {
+    let mut rest = names;
+    while let [name, others @ ..] = rest {
         unset_one(alloc, scopes, quiet, level, name)?;
+        rest = others;
     }
     empty_answer(alloc)
 }

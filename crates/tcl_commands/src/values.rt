@@ -2,7 +2,7 @@
 ghost use Rattle.std.specs.Prelude.{◌≡◌, ◌<◌, ◌≤◌, [], ◌++◌, length, IfOk, OnOk, codes, string_bytes};
 ghost use Rattle.std.specs.List.{concat};
 ghost use Rattle.std.specs.Option.{option_copied};
-ghost use Rattle.tcl_text.specs.Answers.{Gives, answers, ◌>>=◌};
+ghost use Rattle.tcl_text.specs.Answers.{Gives, answers};
 ghost use Rattle.tcl_vars.specs.Store.{variable_in, with_variable};
 ghost use Rattle.tcl_commands.specs.Done.{Does, IfNoMemory};
 ghost use Rattle.tcl_commands.specs.Values as spec;
@@ -119,7 +119,7 @@ fn increased(
 ) -> Result<Text, Refusal>
     requires { level < length scopes.now }
     ensures { Gives result
-        (spec.value_or (codes "0") name.now (variable_in scopes.now level name.now) >>= spec.increased (spec.amount_in (option_copied amount.entry))) }
+        (spec.value_changed (codes "0") name.now (spec.increased (spec.amount_in (option_copied amount.entry))) (variable_in scopes.now level name.now)) }
 {
     let value = value_or(alloc, scopes, level, name, "0")?;
     let held = integer_of(alloc, &value)?;
@@ -215,7 +215,7 @@ fn appended(
 ) -> Result<Text, Refusal>
     requires { level < length scopes.now }
     ensures { Gives result
-        (spec.value_or [] name.now (variable_in scopes.now level name.now) >>= (λ value. answers (value ++ concat values.now))) }
+        (spec.value_changed [] name.now (λ value. answers (value ++ concat values.now)) (variable_in scopes.now level name.now)) }
 {
     let value = value_or(alloc, scopes, level, name, "")?;
     let mut string = String::from_str(alloc, value.as_str())?;
@@ -280,7 +280,7 @@ fn with_items(
 ) -> Result<Text, Refusal>
     requires { level < length scopes.now }
     ensures { Gives result
-        (spec.value_or [] name.now (variable_in scopes.now level name.now) >>= spec.with_items values.now) }
+        (spec.value_changed [] name.now (spec.with_items values.now) (variable_in scopes.now level name.now)) }
 {
     let value = value_or(alloc, scopes, level, name, "")?;
     let items = items_in(alloc, &value)?;

@@ -13,3 +13,5 @@ pub concat_step : (texts : List (List ℕ)) (i : ℕ) (text : List ℕ) → i < 
 concat_step texts i text within is =
     ap concat (take_more texts i text within ∙ ap (λ (last : List ℕ). take i texts ++ last ∷ []) (sym is))
     ∙ concat-append (take i texts) (text ∷ []) ∙ ap (λ t. concat (take i texts) ++ t) (append-nil text)
+
+pub ruleset concats = (concat_step, append_assoc)

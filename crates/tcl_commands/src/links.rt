@@ -3,11 +3,11 @@ ghost use Rattle.std.specs.Prelude.{◌≡◌, ◌<◌, length, IfOk};
 ghost use Rattle.tcl_commands.specs.Done.{Does, Steps};
 ghost use Rattle.tcl_commands.specs.Links as spec;
 
-use crate::texts::{cannot_link, empty_answer};
+use crate::texts::{cannot_link, empty_answer, short_text};
 use crate::usages::{Usage, wrong_words};
 use std::alloc::{AllocError, Global};
+use tcl_text::Text;
 use tcl_text::answers::Refusal;
-use tcl_text::{Text, TextFault};
 use tcl_vars::{LinkFault, Scopes};
 
 /// `global name ?name ..?`: each name of the frame becomes a link to the global variable of that name, up to the
@@ -74,11 +74,7 @@ fn global_name(alloc: Global, name: &Text) -> Result<Text, AllocError>
     let Some(rest) = name.as_str().strip_prefix("::") else {
         return name.copy();
     };
-    match Text::new(alloc, rest) {
-        Ok(text) => Ok(text),
-        Err(TextFault::NoMemory) => Err(AllocError),
-        Err(TextFault::TooLong) => unreachable!(),
-    }
+    short_text(alloc, rest)
 }
 
 /// `upvar ?level? other mine ?other mine ..?` behind its level: each second name of the frame becomes a link to the

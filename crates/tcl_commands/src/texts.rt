@@ -1,11 +1,11 @@
 //! The errors of commands on variables.
-ghost use Rattle.std.specs.Prelude.{◌≡◌, [], ◌++◌, Ok, IfOk, string_bytes};
+ghost use Rattle.std.specs.Prelude.{◌≡◌, ◌≤◌, [], ◌++◌, length, Ok, IfOk, string_bytes};
 ghost use Rattle.tcl_text.specs.Answers.{Gives, Refuses, bounded, quoted};
 ghost use Rattle.tcl_commands.specs.Texts as spec;
 
 use std::alloc::{AllocError, Global};
-use tcl_text::Text;
-use tcl_text::answers::{Refusal, error, quoting_error, text_answer};
+use tcl_text::answers::{Refusal, error, quoting_error};
+use tcl_text::{Text, TextFault};
 use tcl_vars::{LinkFault, ReadFault, SetFault, UnsetFault};
 
 /// Why a variable can't be read, as its script is told of it.
@@ -77,11 +77,22 @@ pub fn missing_value<T>(alloc: Global, key: &str) -> Result<T, Refusal>
 }
 
 /// The empty result.
-#[tactic(auto, unfolding(tcl_text::specs::Answers::answers))]
 pub fn empty_answer(alloc: Global) -> Result<Text, Refusal>
     ensures { Gives result (Ok []) }
 {
-    text_answer(alloc, "")
+    Ok(short_text(alloc, "")?)
+}
+
+/// A text of characters that are known to be few enough.
+pub fn short_text(alloc: Global, characters: &str) -> Result<Text, AllocError>
+    requires { length characters.now ≤ 65536 }
+    ensures { IfOk result (λ text. text ≡ characters.now) }
+{
+    match Text::new(alloc, characters) {
+        Ok(text) => Ok(text),
+        Err(TextFault::NoMemory) => Err(AllocError),
+        Err(TextFault::TooLong) => unreachable!(),
+    }
 }
 
 // The error that there are as many variables as there may be (19).

@@ -7,10 +7,10 @@ ghost use Rattle.tcl_vars.specs.Store.{variable_in, with_variable};
 ghost use Rattle.tcl_commands.specs.Done.{Does, IfNoMemory};
 ghost use Rattle.tcl_commands.specs.Values as spec;
 
-use crate::texts::{cannot_read, cannot_set, too_large};
+use crate::texts::{cannot_read, cannot_set, short_text, too_large};
 use crate::usages::{Usage, wrong_words};
 use std::alloc::{AllocError, Global};
-use tcl_text::answers::{Refusal, string_answer, text_answer, truth_answer};
+use tcl_text::answers::{Refusal, string_answer, truth_answer};
 use tcl_text::integers::integer_of;
 use tcl_text::items::{items_in, list_answer};
 use tcl_text::{Text, TextList};
@@ -162,8 +162,8 @@ fn value_or(
 {
     match scopes.get(level, name) {
         Ok(value) => Ok(value.copy()?),
-        Err(ReadFault::NoVariable) => text_answer(alloc, absent),
-        Err(ReadFault::NoElement) => text_answer(alloc, absent),
+        Err(ReadFault::NoVariable) => Ok(short_text(alloc, absent)?),
+        Err(ReadFault::NoElement) => Ok(short_text(alloc, absent)?),
         Err(fault) => cannot_read(alloc, name.as_str(), fault),
     }
 }
@@ -224,6 +224,7 @@ fn appended(
 }
 
 /// Adds the characters of the texts.
+#[tactic(auto, using(crate::proofs::ConcatLemmas::concats))]
 fn push_all(string: &mut String, texts: &[Text]) -> Result<(), AllocError>
     ensures { OnOk result (string_bytes string.new ≡ string_bytes string.old ++ concat texts.now) }
 {

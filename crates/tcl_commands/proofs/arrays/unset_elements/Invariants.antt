@@ -8,3 +8,6 @@ invariant-loop-rest l = record {
   others : each_done (unset_element l.level l.name) l.rest l.scopes ≡ each_done (unset_element l.level l.name) l.indices l.initial.scopes;
   levels : length l.scopes ≡ length l.initial.scopes;
 }
+
+abbrev pub decreases-loop-rest : goal.decreases-loop-rest
+decreases-loop-rest l = length l.rest

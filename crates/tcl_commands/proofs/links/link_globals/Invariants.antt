@@ -7,3 +7,6 @@ invariant-loop-rest l = record {
   others : link_globals l.level l.rest l.scopes ≡ link_globals l.level l.names l.initial.scopes;
   levels : length l.scopes ≡ length l.initial.scopes;
 }
+
+abbrev pub decreases-loop-rest : goal.decreases-loop-rest
+decreases-loop-rest l = length l.rest

@@ -7,3 +7,6 @@ invariant-loop-rest l = record {
   others : unset_each l.quiet l.level l.rest l.scopes ≡ unset_each l.quiet l.level l.names l.initial.scopes;
   levels : length l.scopes ≡ length l.initial.scopes;
 }
+
+abbrev pub decreases-loop-rest : goal.decreases-loop-rest
+decreases-loop-rest l = length l.rest

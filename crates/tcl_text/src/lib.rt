@@ -6,6 +6,7 @@ mod boolean;
 mod characters;
 mod commands;
 mod compared;
+mod edit;
 mod glob;
 mod integer;
 pub mod laws;
@@ -18,6 +19,7 @@ mod white_space;
 
 pub use boolean::NotBoolean;
 pub use commands::{answers, integers, items};
+pub use edit::{Edit, EditFault};
 pub use integer::NotInteger;
 pub use list::TextList;
 pub use splitting::{ListFault, SplitFault};

@@ -1,6 +1,7 @@
 ghost use Rattle.std.specs.Prelude.{◌≡◌, ◌≢◌, ◌<◌, ◌≤◌, ◌-◌, [], ◌∷◌, ◌++◌, length, take, IfOk, IfErr, OnOk, OnErr, map, unwrap_or, is_some, false, MatchResult, MatchOption, MatchBool, Ok, Err, Some, None};
 ghost use Rattle.std.specs.Option.{option_copied};
 ghost use Rattle.std.specs.Bool.{OnTrue};
+ghost use Rattle.tcl_vars.specs.Change.{Changes, ChangesAt, ChangesHere, KeepsHere, changed_by};
 ghost use Rattle.tcl_vars.specs.Put.{Sets};
 ghost use Rattle.tcl_vars.specs.Short.{IsShortPlace};
 ghost use Rattle.tcl_vars.specs.Shown.{shown};
@@ -13,15 +14,15 @@ use crate::arrays::{names_of, pairs_of};
 use crate::content::{
     Content, Outcome, array_state, elements_of, holds_value, is_there, link_of, text_of,
 };
-use crate::fault::{LinkFault, ReadFault, SetFault, UnsetFault};
-use crate::frame::{Frame, give, put, unset, variable_count};
+use crate::fault::{ChangeFault, LinkFault, ReadFault, SetFault, UnsetFault};
+use crate::frame::{Frame, change, give, put, unset, variable_count};
 use crate::name::{
     OwnPlace, Place, element_place, is_given, is_plain, place_of, place_of_text, variable_place,
 };
 use crate::table::Table;
 use std::alloc::{AllocError, Global};
 use std::marker::Model;
-use tcl_text::{Text, TextList};
+use tcl_text::{Edit, Text, TextList};
 
 /// How many variables there are at most: every name of every frame counts, and every element of an array.
 pub const MAX_VARIABLES: usize = 4096;
@@ -152,6 +153,19 @@ impl Scopes {
             }
             None => Err(SetFault::NotArray),
         }
+    }
+
+    /// Changes the text of the variable or element that a name means in the frame at a level, which has to be there. Characters
+    /// that are added to a text which nobody else holds cost what they are long (append(n), lappend(n)).
+    pub fn change(&mut self, level: usize, name: &Text, edit: Edit<'_>) -> Result<(), ChangeFault>
+        requires { level < length self.old }
+        ensures ok { OnOk result (Changes self.old level name.now edit.entry self.new) }
+        ensures refused { IfErr result (λ fault. fault ≢ ChangeFault.NoMemory → changed_by edit.entry (variable_in self.old level name.now) ≡ Err fault) }
+        ensures err { OnErr result (self.new ≡ self.old) }
+        ensures levels { length self.new ≡ length self.old }
+    {
+        self.change_at(place_of_text(level, name), edit)?;
+        Ok(())
     }
 
     /// Unsets the variable or element that a name means in the frame at a level; an array with its elements (unset(n)). A link stays.
@@ -444,6 +458,55 @@ impl Scopes {
             }
             Outcome::Linked(value) => Ok(Some(value)),
         }
+    }
+
+    // Changes the text to which a place leads.
+    fn change_at(&mut self, place: Place<'_>, edit: Edit<'_>) -> Result<(), ChangeFault>
+        requires level { place.level < length self.old }
+        requires short { IsShortPlace (shown place) }
+        ensures ok { OnOk result (ChangesAt self.old (end_of self.old (shown place.entry)) edit.entry self.new) }
+        ensures refused { IfErr result (λ fault. fault ≢ ChangeFault.NoMemory → changed_by edit.entry (text_at self.old (end_of self.old (shown place.entry))) ≡ Err fault) }
+        ensures err { OnErr result (self.new ≡ self.old) }
+    {
+        let _ = &self.frames;
+        let done = self.change_here(place, edit)?;
+        if done {
+            return Ok(());
+        }
+        self.change_linked(place, edit)?;
+        Ok(())
+    }
+
+    // Changes the text to which the link of a place leads.
+    fn change_linked(&mut self, place: Place<'_>, edit: Edit<'_>) -> Result<(), ChangeFault>
+        requires level { place.level < length self.old }
+        requires short { IsShortPlace (shown place) }
+        ensures ok { OnOk result (ChangesAt self.old (end_of self.old (shown place.entry)) edit.entry self.new) }
+        ensures refused { IfErr result (λ fault. fault ≢ ChangeFault.NoMemory → changed_by edit.entry (text_at self.old (end_of self.old (shown place.entry))) ≡ Err fault) }
+        ensures err { OnErr result (self.new ≡ self.old) }
+    {
+        let _ = &self.frames;
+        let end = match self.lead(place) {
+            Some(found) => OwnPlace::of(self.alloc, found.place)?,
+            None => return Err(ChangeFault::Unread(ReadFault::NotArray)),
+        };
+        self.change_here(end.place(), edit)?;
+        Ok(())
+    }
+
+    // Changes the text of a place; false, and nothing is done, where the variable is a link.
+    fn change_here(&mut self, place: Place<'_>, edit: Edit<'_>) -> Result<bool, ChangeFault>
+        requires { place.level < length self.old }
+        ensures ok { IfOk result (λ done. MatchBool done
+            (ChangesHere self.old (shown place.entry) edit.entry self.new)
+            ((link_of (content_at self.old (shown place.entry)) ≢ None) × (self.new ≡ self.old))) }
+        ensures refused { IfErr result (λ fault. fault ≢ ChangeFault.NoMemory → KeepsHere self.old (shown place.entry) edit.entry fault) }
+        ensures err { OnErr result (self.new ≡ self.old) }
+    {
+        let alloc = self.alloc;
+        let frame = &mut self.frames[place.level];
+        let done = change(alloc, frame, place, edit)?;
+        Ok(done)
     }
 
     // Unsets the text to which a place leads.

@@ -70,3 +70,4 @@ pub record Changes (old : Store) (level : ℕ) (name : List ℕ) (edit : Edit) (
   pub value : List ℕ
   pub changed : changed_by edit (variable_in old level name) ≡ Ok value
   pub set : with_variable old level name value ≡ Ok new
+  pub read : variable_in new level name ≡ Ok value

@@ -164,6 +164,7 @@ impl Scopes {
         ensures err { OnErr result (self.new ≡ self.old) }
         ensures levels { length self.new ≡ length self.old }
     {
+        let _ = &self.frames;
         self.change_at(place_of_text(level, name), edit)?;
         Ok(())
     }

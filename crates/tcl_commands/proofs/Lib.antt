@@ -3,4 +3,5 @@ pub mod ArrayLemmas
 pub mod ConcatLemmas
 pub mod DoneLemmas
 pub mod EachLemmas
+pub mod EditLemmas
 pub mod SumLemmas

@@ -5,16 +5,17 @@ ghost use Rattle.std.specs.Option.{option_copied};
 ghost use Rattle.tcl_text.specs.Answers.{Gives, answers};
 ghost use Rattle.tcl_vars.specs.Store.{variable_in, with_variable};
 ghost use Rattle.tcl_commands.specs.Done.{Does, IfNoMemory};
+ghost use Rattle.tcl_commands.specs.Edits.{edit_answer};
 ghost use Rattle.tcl_commands.specs.Values as spec;
 
 use crate::texts::{cannot_read, cannot_set, short_text, too_large};
 use crate::usages::{Usage, wrong_words};
 use std::alloc::{AllocError, Global};
-use tcl_text::answers::{Refusal, string_answer, truth_answer};
+use tcl_text::answers::{Refusal, error, limit_reached, truth_answer};
 use tcl_text::integers::integer_of;
-use tcl_text::items::{items_in, list_answer};
-use tcl_text::{Text, TextList};
-use tcl_vars::{ReadFault, Scopes, SetFault};
+use tcl_text::items::items_in;
+use tcl_text::{Edit, EditFault, Text};
+use tcl_vars::{ChangeFault, ReadFault, Scopes, SetFault};
 
 /// `set name ?value?`: the variable's value, or the value that it is set to.
 #[tactic(auto, using(crate::proofs::DoneLemmas::kept))]
@@ -178,7 +179,6 @@ pub fn append_words(
 ) -> Result<Text, Refusal>
     requires { level < length scopes.old }
     ensures does { Does result scopes.new (spec.append_words level words.now scopes.old) }
-    ensures no_memory { IfNoMemory result (scopes.new ≡ scopes.old) }
     ensures levels { length scopes.new ≡ length scopes.old }
 {
     match words {
@@ -187,7 +187,7 @@ pub fn append_words(
     }
 }
 
-#[tactic(auto, using(crate::proofs::DoneLemmas::changes))]
+/// Adds values behind a variable.
 fn append(
     alloc: Global,
     scopes: &mut Scopes,
@@ -198,29 +198,68 @@ fn append(
     requires { level < length scopes.old }
     ensures does { Does result scopes.new
         (spec.changed level name.now [] (λ value. answers (value ++ concat values.now)) scopes.old) }
-    ensures no_memory { IfNoMemory result (scopes.new ≡ scopes.old) }
     ensures levels { length scopes.new ≡ length scopes.old }
 {
-    let whole = appended(alloc, scopes, level, name, values)?;
-    set_to(alloc, scopes, level, name, whole)
+    let mut more = String::new(alloc);
+    push_all(&mut more, values)?;
+    change(alloc, scopes, level, name, Edit::Characters(more.as_str()))
 }
 
-/// A variable's value with others behind it.
-fn appended(
+/// Changes a variable in place, where one that isn't there counts as empty.
+fn change(
     alloc: Global,
-    scopes: &Scopes,
+    scopes: &mut Scopes,
     level: usize,
     name: &Text,
-    values: &[Text],
+    edit: Edit<'_>,
 ) -> Result<Text, Refusal>
-    requires { level < length scopes.now }
-    ensures { Gives result
-        (spec.value_changed [] name.now (λ value. answers (value ++ concat values.now)) (variable_in scopes.now level name.now)) }
+    requires { level < length scopes.old }
+    ensures does { Does result scopes.new (spec.changed level name.now [] (edit_answer edit.entry) scopes.old) }
+    ensures levels { length scopes.new ≡ length scopes.old }
 {
-    let value = value_or(alloc, scopes, level, name, "")?;
-    let mut string = String::from_str(alloc, value.as_str())?;
-    push_all(&mut string, values)?;
-    string_answer(alloc, string)
+    match scopes.change(level, name, edit) {
+        Ok(()) => value_of(alloc, scopes, level, name),
+        Err(ChangeFault::Unread(ReadFault::NoVariable)) => {
+            set_edited(alloc, scopes, level, name, edit)
+        }
+        Err(ChangeFault::Unread(ReadFault::NoElement)) => {
+            set_edited(alloc, scopes, level, name, edit)
+        }
+        Err(ChangeFault::Unread(fault)) => cannot_read(alloc, name.as_str(), fault),
+        Err(ChangeFault::TooLong) => Err(limit_reached(alloc)),
+        Err(ChangeFault::BadList(fault)) => Err(error(alloc, fault.text())),
+        Err(ChangeFault::NoMemory) => Err(Refusal::NoMemory),
+    }
+}
+
+/// Sets a variable to what becomes of the empty text.
+#[tactic(auto, using(crate::proofs::DoneLemmas::changes))]
+fn set_edited(
+    alloc: Global,
+    scopes: &mut Scopes,
+    level: usize,
+    name: &Text,
+    edit: Edit<'_>,
+) -> Result<Text, Refusal>
+    requires { level < length scopes.old }
+    ensures does { Does result scopes.new (spec.changed_to level name.now scopes.old (edit_answer edit.entry [])) }
+    ensures levels { length scopes.new ≡ length scopes.old }
+{
+    let value = edited_empty(alloc, edit)?;
+    set_to(alloc, scopes, level, name, value)
+}
+
+/// What becomes of the empty text.
+fn edited_empty(alloc: Global, edit: Edit<'_>) -> Result<Text, Refusal>
+    ensures { Gives result (edit_answer edit.entry []) }
+{
+    let mut text = short_text(alloc, "")?;
+    match text.edit(alloc, edit) {
+        Ok(()) => Ok(text),
+        Err(EditFault::TooLong) => Err(limit_reached(alloc)),
+        Err(EditFault::BadList(fault)) => Err(error(alloc, fault.text())),
+        Err(EditFault::NoMemory) => Err(Refusal::NoMemory),
+    }
 }
 
 /// Adds the characters of the texts.
@@ -244,7 +283,6 @@ pub fn lappend_words(
 ) -> Result<Text, Refusal>
     requires { level < length scopes.old }
     ensures does { Does result scopes.new (spec.lappend_words level words.now scopes.old) }
-    ensures no_memory { IfNoMemory result (scopes.new ≡ scopes.old) }
     ensures levels { length scopes.new ≡ length scopes.old }
 {
     match words {
@@ -253,6 +291,7 @@ pub fn lappend_words(
     }
 }
 
+/// Adds values as items to the list that a variable is.
 #[tactic(auto, using(crate::proofs::DoneLemmas::changes))]
 fn lappend(
     alloc: Global,
@@ -264,49 +303,26 @@ fn lappend(
     requires { level < length scopes.old }
     ensures does { Does result scopes.new
         (spec.changed level name.now [] (spec.with_items values.now) scopes.old) }
-    ensures no_memory { IfNoMemory result (scopes.new ≡ scopes.old) }
     ensures levels { length scopes.new ≡ length scopes.old }
 {
-    let list = with_items(alloc, scopes, level, name, values)?;
-    set_to(alloc, scopes, level, name, list)
+    match values {
+        [] => {
+            let list = list_of(alloc, scopes, level, name)?;
+            set_to(alloc, scopes, level, name, list)
+        }
+        _ => change(alloc, scopes, level, name, Edit::Items(values)),
+    }
 }
 
-/// The list that a variable is with the values behind its items.
-fn with_items(
-    alloc: Global,
-    scopes: &Scopes,
-    level: usize,
-    name: &Text,
-    values: &[Text],
-) -> Result<Text, Refusal>
+/// The list that a variable is, as it is written.
+fn list_of(alloc: Global, scopes: &Scopes, level: usize, name: &Text) -> Result<Text, Refusal>
     requires { level < length scopes.now }
     ensures { Gives result
-        (spec.value_changed [] name.now (spec.with_items values.now) (variable_in scopes.now level name.now)) }
+        (spec.value_changed [] name.now (spec.with_items []) (variable_in scopes.now level name.now)) }
 {
     let value = value_or(alloc, scopes, level, name, "")?;
-    let items = items_in(alloc, &value)?;
-    lengthened(alloc, value, items, values)
-}
-
-/// The items with the values behind them as a list, or the text where there are no values.
-fn lengthened(alloc: Global, value: Text, items: TextList, values: &[Text]) -> Result<Text, Refusal>
-    ensures { Gives result (spec.lengthened value values.now items) }
-{
-    if values.is_empty() {
-        return Ok(value);
-    }
-    let items = with_copies(items, values)?;
-    list_answer(alloc, items.as_slice())
-}
-
-/// These texts, and copies of more.
-fn with_copies(mut texts: TextList, more: &[Text]) -> Result<TextList, AllocError>
-    ensures { IfOk result (λ all. all ≡ texts ++ more.now) }
-{
-    for text in more {
-        texts.push(text.copy()?)?;
-    }
-    Ok(texts)
+    let _items = items_in(alloc, &value)?;
+    Ok(value)
 }
 
 /// `info exists name`: whether there is a variable or element.

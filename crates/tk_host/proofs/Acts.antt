@@ -3,12 +3,13 @@ use Rattle.std.proofs.Common.{◌≡◌, ℕ, zero, suc, ◌≤◌, ◌<◌, Boo
 use Rattle.std.specs.Prelude.{is_some, if◌then◌else◌}
 use Rattle.tcl_interp.specs.declared.tasks.Code.{Code}
 use Rattle.tcl_interp.specs.declared.tasks.Code.TheVariants.{Normal, Error, Return, Break, Continue}
+use Rattle.tcl_interp.specs.declared.tasks.Act.{Act}
 use Rattle.tcl_interp.specs.declared.tasks.Act.TheVariants.{Step, Run}
 use Rattle.tcl_interp.specs.Outside.{Told}
 use Rattle.tcl_interp.specs.Evaluation.{State, Outcome, Ended, OutOfSteps, and_then, with_step}
 use Rattle.tcl_interp.specs.Scripts.{out_of_global, script_meaning, resumed, after_step, on_act, told_state}
 use Rattle.tcl_interp.specs.Finish.{at_global}
-use Rattle.tcl_interp.proofs.Bounds.{Within, within_script}
+use Rattle.tcl_interp.proofs.Bounds.{Within, and_then_same, within_script}
 use Rattle.tcl_vars.specs.Store.{Store}
 use Rattle.tk_after.specs.declared.entry.Entry.{Entry}
 use Rattle.tk_after.specs.Timers.{entry_with, first_due, idle_ids}
@@ -16,8 +17,8 @@ use Rattle.tk_host.specs.declared.settling.Settling.{Settling}
 use Rattle.tk_host.specs.declared.settling.Settling.TheVariants.{Rest, Timer, Idle}
 use Rattle.tk_host.specs.Shown.{Shown, laid, taken}
 use Rattle.tk_host.specs.Outside.{outside, told, with_end, is_due, idle_told, next_told, rest_told, timer_told, started_told, resumed_told, size_of}
-use Rattle.tk_host.specs.Global.{with_report}
-use Rattle.tk_host.specs.Settle.{done, started_script, started_if, round_meaning, on_idle, on_due, settle_turns}
+use Rattle.tk_host.specs.Global.{script_at_global, with_report}
+use Rattle.tk_host.specs.Settle.{done, entries_in, started_script, started_if, round_meaning, on_idle, on_due, settle_turns}
 use Rattle.tk_host.proofs.Dues.{due_is_first, first_is_due, idle_is_listed}
 
 -- how scripts are run

@@ -1,11 +1,12 @@
 -- What is due and what is idle, in a list of what waits.
-use Rattle.std.proofs.Common.{◌≡◌, ◌≢◌, ℕ, Bool, true, false, List, [], ◌∷◌, Option, Some, None, refl, sym, ap, ◌∙◌, eq-eqb}
-use Rattle.std.specs.Prelude.{find, ◌==◌, nat_le, if◌then◌else◌}
+use Rattle.std.proofs.Common.{◌≡◌, ◌≢◌, ℕ, zero, suc, ◌≤◌, ◌<◌, min, Bool, true, false, cond, List, [], ◌∷◌, Option, Some, None, refl, sym, ap, ◌∙◌, subst, eq-eqb, arith}
+use Rattle.std.specs.Prelude.{find, filter, ◌==◌, nat_le, is_none, if◌then◌else◌}
 use Rattle.std.specs.Option.{option_map_or, option_and_then}
-use Rattle.std.proofs.lemmas.Option.{none-some}
+use Rattle.std.proofs.lemmas.Option.{none-some, same_Some}
 use Rattle.std.proofs.lemmas.Bool.{false≢true}
+use Rattle.std.proofs.lemmas.Bool.Decides.{nat_tests}
 use Rattle.tk_after.specs.declared.entry.Entry.{Entry}
-use Rattle.tk_after.specs.Timers.{entry_with, first_due, idle_ids, least, due_moments, is_due_at}
+use Rattle.tk_after.specs.Timers.{entry_with, first_due, idle_ids, ids, least, lesser, due_moments, is_due_at}
 use Rattle.tk_after.proofs.Dues.{least_found}
 use Rattle.tk_host.specs.Outside.{is_due}
 

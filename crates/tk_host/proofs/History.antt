@@ -7,7 +7,7 @@ use Rattle.tk_host.specs.declared.fault.HostFault.TheVariants.{Started, Ended, B
 use Rattle.tk_host.specs.declared.phase.Phase.{Phase}
 use Rattle.tk_host.specs.declared.phase.Phase.TheVariants.{Adding, Reached, Finished, Lost}
 use Rattle.tk_host.specs.Spec.{Given}
-use Rattle.tk_host.specs.Alone.{settled, after_script}
+use Rattle.tk_host.specs.Alone.{alone, settled, after_script}
 use Rattle.tk_host.specs.Application.{Application, fresh}
 use Rattle.tk_host.specs.Held.{Held, Part, Call, AddApp, Start, AdvanceTo, End, started, brought, with_app, after_start, after_advance, after_end, given_by, phase_after, application_in, part_in, reached, held_after}
 use Rattle.tk_host.proofs.Passing.{passed_passed, passed_settled}

@@ -1,11 +1,11 @@
 -- Passing to a moment, and on to a later one.
-use Rattle.std.proofs.Common.{◌≡◌, ℕ, zero, suc, ◌≤◌, ◌<◌, Bool, true, false, List, Option, Some, None, refl, sym, ap, ◌∙◌, subst, arith}
+use Rattle.std.proofs.Common.{◌≡◌, ℕ, zero, suc, ◌≤◌, ◌<◌, Bool, true, false, List, [], Option, Some, None, refl, sym, ap, ◌∙◌, subst, arith}
 use Rattle.std.specs.Prelude.{nat_le, if◌then◌else◌, find}
 use Rattle.std.proofs.lemmas.Option.{none-some}
 use Rattle.std.proofs.lemmas.Bool.{leb-true, leb-false, le-leb, lt-leb}
 use Rattle.tcl_interp.specs.declared.tasks.Code.{Code}
 use Rattle.tcl_interp.specs.declared.tasks.Code.TheVariants.{Normal, Error, Return, Break, Continue}
-use Rattle.tcl_interp.specs.Evaluation.{Outcome, Ended, OutOfSteps}
+use Rattle.tcl_interp.specs.Evaluation.{State, Outcome, Ended, OutOfSteps}
 use Rattle.tk_after.specs.declared.entry.Entry.{Entry}
 use Rattle.tk_after.specs.Timers.{Own, due_moments, first_due, is_due_at, least}
 use Rattle.tk_after.proofs.Dues.{least_found}
@@ -15,7 +15,7 @@ use Rattle.tk_host.specs.Shown.{Shown}
 use Rattle.tk_host.specs.Application.{Application}
 use Rattle.tk_host.specs.Global.{reported}
 use Rattle.tk_host.specs.Settle.{settle_meaning}
-use Rattle.tk_host.specs.Alone.{state_at, after_outcome, settled_as, settled, next_due_as, next_due, on_next, pass_turns, passed}
+use Rattle.tk_host.specs.Alone.{state_at, with_left, after_outcome, settled_as, settled, next_due_as, next_due, on_next, pass_turns, passed}
 use Rattle.tk_host.proofs.Falls.{Below, below_settle, Quiet, quiet_settle}
 
 -- how many turns an application has at most

@@ -15,7 +15,7 @@ use Rattle.tk_host.specs.declared.state.AppState.TheVariants.{Running, Exhausted
 use Rattle.tk_host.specs.Application.{Application}
 use Rattle.tk_host.specs.Global.{script_at_global, with_report}
 use Rattle.tk_host.specs.Settle.{settle_meaning}
-use Rattle.tk_host.specs.Alone.{shown_at, with_left, after_outcome, after_script, settled_as, settled}
+use Rattle.tk_host.specs.Alone.{shown_at, state_at, with_left, after_outcome, after_script, settled_as, settled}
 use Rattle.tk_host.specs.Running.{Leaves, state_left}
 use Rattle.tk_host.proofs.Acts.{comes}
 

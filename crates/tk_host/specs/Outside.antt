@@ -1,5 +1,5 @@
 -- The commands that an application serves itself, and how what is due at a moment is done one act after another.
-use Rattle.std.specs.Prelude.{ℕ, Bool, true, false, List, [], ◌∷◌, ◌++◌, Option, Some, None, is_some, Ok, Err, if◌then◌else◌, codes, bytes_eq, nat_le}
+use Rattle.std.specs.Prelude.{ℕ, Bool, true, false, List, [], ◌∷◌, ◌++◌, Option, Some, None, is_some, Result, Ok, Err, if◌then◌else◌, codes, bytes_eq, nat_le}
 use Rattle.std.specs.Option.{option_map_or}
 use Rattle.tcl_text.specs.Answers.{Answer}
 use Rattle.tcl_vars.specs.Store.{Store}
@@ -10,7 +10,7 @@ use Rattle.tcl_interp.specs.declared.tasks.Code.TheVariants.{Normal, Error, Retu
 use Rattle.tcl_interp.specs.Outside.{Outside, Told}
 use Rattle.tcl_interp.specs.Texts.{message, wrong_words}
 use Rattle.tk_after.specs.declared.entry.Entry.{Entry}
-use Rattle.tk_after.specs.Timers.{due_moments, entry_with, first_due, idle_ids, least}
+use Rattle.tk_after.specs.Timers.{Own, due_moments, entry_with, first_due, idle_ids, least}
 use Rattle.tk_after.specs.After.{after_words}
 use Rattle.tk_host.specs.declared.settling.Settling.{Settling}
 use Rattle.tk_host.specs.declared.settling.Settling.TheVariants.{Rest, Timer, Idle}

@@ -1,3 +1,4 @@
+use Rattle.std.proofs.Common.{◌∙◌, sym}
 use Rattle.tcl_interp.specs.Interp.{state_of}
 use Rattle.tk_host.proofs.Runs.{leaves_ended, leaves_out}
 use Rattle.tk_host.proofs.running.run_begun.Goals as goal

@@ -1,4 +1,4 @@
-use Rattle.std.proofs.Common.{refl, ap, ◌∙◌}
+use Rattle.std.proofs.Common.{refl, sym, ap, ◌∙◌}
 use Rattle.tcl_interp.specs.Interp.{left_of, state_of}
 use Rattle.tk_host.specs.Application.{Application}
 use Rattle.tk_host.specs.Alone.{after_script, with_left}

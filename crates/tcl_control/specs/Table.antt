@@ -1,9 +1,9 @@
 -- The commands by their names.
-use Rattle.std.specs.Prelude.{ℕ, List, [], ◌∷◌, Option, nat_eq, if◌then◌else◌, Some, codes}
-use Rattle.std.specs.List.{starts_with}
+use Rattle.std.specs.Prelude.{ℕ, List, [], ◌∷◌, Option, if◌then◌else◌, Some, codes}
 use Rattle.std.specs.Str.{bytes_eq}
 use Rattle.std.specs.Map.{lookup, remove_entry}
 use Rattle.indexmap.specs.IndexMap.{insert_entry}
+use Rattle.tcl_control.specs.Names.{is_dotted}
 use Rattle.tcl_control.specs.declared.builtin.Builtin.{Builtin as BuiltinName}
 use Rattle.tcl_control.specs.declared.builtin.Builtin.TheVariants as builtin
 use Rattle.tcl_control.specs.declared.command.Command.{Command}
@@ -77,4 +77,4 @@ first_commands names = with_outside names (with_texts text_names (with_builtins 
 
 -- The command that a name calls. One that begins with a dot is always an outside command's.
 abbrev pub command_of : Table → List ℕ → Option Command
-command_of table name = if starts_with nat_eq name (codes ".") then Some (Outside name) else value_at table name
+command_of table name = if is_dotted name then Some (Outside name) else value_at table name

@@ -1,6 +1,6 @@
 ghost use Rattle.std.specs.Prelude.{◌≡◌, ◌≤◌, [], length, IfOk, OnOk, OnErr};
 ghost use Rattle.std.specs.Option.{option_copied};
-ghost use Rattle.tcl_control.specs.Names.{plain_name};
+ghost use Rattle.tcl_control.specs.Names.{is_dotted, plain_name};
 ghost use Rattle.tcl_control.specs.Table.{builtins, text_names, value_at, with_value, first_commands, with_builtins, with_texts, with_outside};
 
 use crate::builtin::Builtin;
@@ -29,6 +29,13 @@ pub fn plain_name(name: &str) -> &str
         Some(rest) => rest,
         None => name,
     }
+}
+
+/// Whether a name begins with a dot.
+pub fn is_dotted(name: &str) -> bool
+    ensures { result ≡ is_dotted name.now }
+{
+    name.starts_with(".")
 }
 
 /// The commands by their names.

@@ -8,7 +8,7 @@ ghost use Rattle.tcl_control.specs.Control.{builtin_call, by_command, call_of, k
 
 use crate::builtin::Builtin;
 use crate::code::{Code, ReturnCode};
-use crate::command::{Command, plain_name};
+use crate::command::{Command, is_dotted, plain_name};
 use crate::condition::Condition;
 use crate::context::Context;
 use crate::plan::Plan;
@@ -575,7 +575,7 @@ pub fn call_command(
     ensures { IfOk result (λ call. record { store = scopes.new; context = context.new; call = call } ≡ call_of name.now words.now scopes.old context.old) }
 {
     let plain = plain_name(name.as_str());
-    if plain.starts_with(".") {
+    if is_dotted(plain) {
         return Ok(Call::Outside(told(alloc, plain)?));
     }
     match context.commands.get(plain) {

@@ -52,10 +52,7 @@ fn continue_plan(alloc: Global, words: &[Text]) -> Result<Plan, AllocError>
 {
     match words {
         [] => Ok(Plan::Ends(Code::Continue, fixed(alloc, "")?)),
-        _ => Ok(fails(fixed(
-            alloc,
-            "wrong # args: should be \"continue\"",
-        )?)),
+        _ => Ok(fails(fixed(alloc, "wrong # args: should be \"continue\"")?)),
     }
 }
 
@@ -65,10 +62,7 @@ fn error_plan(alloc: Global, words: &[Text]) -> Result<Plan, AllocError>
 {
     match words {
         [text] => Ok(fails(text.copy()?)),
-        _ => Ok(fails(fixed(
-            alloc,
-            "wrong # args: should be \"error message\"",
-        )?)),
+        _ => Ok(fails(fixed(alloc, "wrong # args: should be \"error message\"")?)),
     }
 }
 
@@ -78,14 +72,8 @@ fn catch_plan(alloc: Global, words: &[Text]) -> Result<Plan, AllocError>
 {
     match words {
         [script] => Ok(Plan::Catches(Source::of_text(script.copy()?), None)),
-        [script, name] => Ok(Plan::Catches(
-            Source::of_text(script.copy()?),
-            Some(name.copy()?),
-        )),
-        _ => Ok(fails(fixed(
-            alloc,
-            "wrong # args: should be \"catch script ?name?\"",
-        )?)),
+        [script, name] => Ok(Plan::Catches(Source::of_text(script.copy()?), Some(name.copy()?))),
+        _ => Ok(fails(fixed(alloc, "wrong # args: should be \"catch script ?name?\"")?)),
     }
 }
 
@@ -99,10 +87,7 @@ fn while_plan(alloc: Global, words: &[Text]) -> Result<Plan, AllocError>
             body: Source::read_of(alloc, body)?,
             next: None,
         })),
-        _ => Ok(fails(fixed(
-            alloc,
-            "wrong # args: should be \"while cond body\"",
-        )?)),
+        _ => Ok(fails(fixed(alloc, "wrong # args: should be \"while cond body\"")?)),
     }
 }
 
@@ -155,10 +140,7 @@ fn eval_plan(alloc: Global, words: &[Text]) -> Result<Plan, AllocError>
     ensures { IfOk result (λ plan. plan ≡ eval_plan words.now) }
 {
     match words {
-        [] => Ok(fails(fixed(
-            alloc,
-            "wrong # args: should be \"eval arg ?arg ..?\"",
-        )?)),
+        [] => Ok(fails(fixed(alloc, "wrong # args: should be \"eval arg ?arg ..?\"")?)),
         [_, ..] => match concatenated(alloc, words)? {
             Ok(script) => Ok(Plan::Runs(Source::of_text(script))),
             Err(text) => Ok(fails(text)),
@@ -216,12 +198,7 @@ fn code_numbered(number: u64) -> Option<ReturnCode>
     }
 }
 
-fn returns_as(
-    alloc: Global,
-    option: &Text,
-    word: &Text,
-    text: Text,
-) -> Result<Plan, AllocError>
+fn returns_as(alloc: Global, option: &Text, word: &Text, text: Text) -> Result<Plan, AllocError>
     ensures { IfOk result (λ plan. plan ≡ returns_as option.now word.now text) }
 {
     if option.as_str() != "-code" {
@@ -229,11 +206,7 @@ fn returns_as(
     }
     match code_of(word) {
         Some(code) => Ok(Plan::Ends(Code::Return(code), text)),
-        None => Ok(fails(about(
-            alloc,
-            "bad completion code \"",
-            word.as_str(),
-        )?)),
+        None => Ok(fails(about(alloc, "bad completion code \"", word.as_str())?)),
     }
 }
 
@@ -253,10 +226,7 @@ fn return_plan(alloc: Global, words: &[Text]) -> Result<Plan, AllocError>
     ensures { IfOk result (λ plan. plan ≡ return_plan words.now) }
 {
     match words {
-        [] => Ok(Plan::Ends(
-            Code::Return(ReturnCode::Normal),
-            fixed(alloc, "")?,
-        )),
+        [] => Ok(Plan::Ends(Code::Return(ReturnCode::Normal), fixed(alloc, "")?)),
         [text] => returns_value(alloc, text),
         [option, word] => {
             let plan = returns_as(alloc, option, word, fixed(alloc, "")?)?;
@@ -381,10 +351,7 @@ fn level_plan(alloc: Global, count: usize, words: &[Text]) -> Result<Plan, Alloc
             let digits = format!(in alloc; "{number}")?;
             Ok(Plan::Ends(Code::Normal, told(alloc, digits.as_str())?))
         }
-        _ => Ok(fails(fixed(
-            alloc,
-            "wrong # args: should be \"info level\"",
-        )?)),
+        _ => Ok(fails(fixed(alloc, "wrong # args: should be \"info level\"")?)),
     }
 }
 
@@ -400,17 +367,10 @@ fn exists_plan(
 {
     match words {
         [name] => {
-            let answer = if scopes.exists(level, name) {
-                "1"
-            } else {
-                "0"
-            };
+            let answer = if scopes.exists(level, name) { "1" } else { "0" };
             Ok(Plan::Ends(Code::Normal, told(alloc, answer)?))
         }
-        _ => Ok(fails(fixed(
-            alloc,
-            "wrong # args: should be \"info exists name\"",
-        )?)),
+        _ => Ok(fails(fixed(alloc, "wrong # args: should be \"info exists name\"")?)),
     }
 }
 
@@ -426,10 +386,7 @@ fn info_plan(
     ensures { IfOk result (λ plan. plan ≡ info_plan count level scopes.now words.now) }
 {
     let [option, rest @ ..] = words else {
-        return Ok(fails(fixed(
-            alloc,
-            "wrong # args: should be \"info option ?arg ..?\"",
-        )?));
+        return Ok(fails(fixed(alloc, "wrong # args: should be \"info option ?arg ..?\"")?));
     };
     if option.as_str() == "level" {
         level_plan(alloc, count, rest)
@@ -457,12 +414,7 @@ fn error_end(text: Text) -> End
 }
 
 /// Reads a variable.
-fn set_read(
-    alloc: Global,
-    scopes: &Scopes,
-    level: usize,
-    name: &Text,
-) -> Result<End, AllocError>
+fn set_read(alloc: Global, scopes: &Scopes, level: usize, name: &Text) -> Result<End, AllocError>
     requires { level < length scopes.now }
     ensures { IfOk result (λ end. record { store = scopes.now; code = end.code; text = end.text } ≡ value_ending name.now scopes.now (variable_in scopes.now level name.now)) }
 {
@@ -497,22 +449,14 @@ fn set_write(
 }
 
 /// `set` (set(n)).
-fn set(
-    alloc: Global,
-    scopes: &mut Scopes,
-    level: usize,
-    words: &[Text],
-) -> Result<End, AllocError>
+fn set(alloc: Global, scopes: &mut Scopes, level: usize, words: &[Text]) -> Result<End, AllocError>
     requires { level < length scopes.old }
     ensures { IfOk result (λ end. record { store = scopes.new; code = end.code; text = end.text } ≡ set_ending level words.now scopes.old) }
 {
     match words {
         [name] => set_read(alloc, scopes, level, name),
         [name, value] => set_write(alloc, scopes, level, name, value),
-        _ => Ok(error_end(fixed(
-            alloc,
-            "wrong # args: should be \"set name ?value?\"",
-        )?)),
+        _ => Ok(error_end(fixed(alloc, "wrong # args: should be \"set name ?value?\"")?)),
     }
 }
 

@@ -10,8 +10,8 @@ mod control;
 mod levels;
 mod plan;
 mod source;
-mod turns;
 pub mod texts;
+mod turns;
 
 pub use builtin::Builtin;
 pub use code::{Code, ReturnCode};

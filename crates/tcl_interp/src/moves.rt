@@ -91,16 +91,6 @@ fn next_turn<K: Drop>(
     }
 }
 
-/// A loop has come to its end.
-fn loop_end<K: Drop>(alloc: Global) -> Result<Now<K>, AllocError>
-    ensures { IfOk result (λ now. (waits : List (Waiting K)) → moved (doing_of now) waits ≡ moved (Ends Code.Normal []) waits) }
-{
-    Ok(Now::Ends {
-        code: Code::Normal,
-        text: fixed(alloc, "")?,
-    })
-}
-
 /// The body of a loop has ended.
 fn after_body<K: Drop>(
     alloc: Global,
@@ -115,7 +105,10 @@ fn after_body<K: Drop>(
     match code {
         Code::Normal => next_turn(frames, room, turning),
         Code::Continue => next_turn(frames, room, turning),
-        Code::Break => loop_end(alloc),
+        Code::Break => Ok(Now::Ends {
+            code: Code::Normal,
+            text: fixed(alloc, "")?,
+        }),
         Code::Error => Ok(Now::Ends { code, text }),
         Code::Return(_) => Ok(Now::Ends { code, text }),
     }
@@ -133,7 +126,10 @@ fn after_next<K: Drop>(
 {
     match code {
         Code::Normal => Ok(Now::Tests { room, turning }),
-        Code::Break => loop_end(alloc),
+        Code::Break => Ok(Now::Ends {
+            code: Code::Normal,
+            text: fixed(alloc, "")?,
+        }),
         Code::Continue => Ok(Now::Ends { code, text }),
         Code::Error => Ok(Now::Ends { code, text }),
         Code::Return(_) => Ok(Now::Ends { code, text }),

@@ -34,7 +34,9 @@ fn settle<T: Tasks>(
                 task,
                 code,
                 text,
-            } => doing = resume(alloc, tasks, scopes, context, frames, room, task, code, text)?,
+            } => doing = resume(
+                alloc, tasks, scopes, context, frames, room, task, code, text,
+            )?,
             settled => return Ok(settled),
         }
     }

@@ -150,25 +150,20 @@ fn call_outside<T: Tasks>(
     tasks.call(scopes, words.as_slice())
 }
 
-/// Calls a command with these words, of which there is one at least.
-pub fn call<T: Tasks>(
+/// Calls a command of this name with these words behind it.
+fn call_named<T: Tasks>(
     alloc: Global,
     tasks: &mut T,
     scopes: &mut Scopes,
     context: &mut Context,
     frames: &mut Vec<Frame<T::Task>>,
-    words: &[Text],
+    name: &Text,
+    arguments: &[Text],
     room: u64,
 ) -> Result<Now<T::Task>, AllocError>
-    ensures ok { IfOk result (λ now. TakesStep T.outside (standing (moved (Calls room words.now) (waits_of frames.old.items)) scopes.old context.old) tasks.old (standing_of now frames.new.items scopes.new context.new) tasks.new) }
+    ensures ok { IfOk result (λ now. TakesStep T.outside (standing (moved (Calls room (name.now ∷ arguments.now)) (waits_of frames.old.items)) scopes.old context.old) tasks.old (standing_of now frames.new.items scopes.new context.new) tasks.new) }
     ensures left { T.left_alone tasks.new ≡ T.left_alone tasks.old }
 {
-    let [name, arguments @ ..] = words else {
-        return Ok(Now::Ends {
-            code: Code::Normal,
-            text: fixed(alloc, "")?,
-        });
-    };
     match call_command(alloc, scopes, context, name, arguments)? {
         Call::Plans(plan) => {
             let now = follow(alloc, context, frames, plan, room)?;
@@ -183,6 +178,31 @@ pub fn call<T: Tasks>(
             code: Code::Error,
             text: unknown_command(alloc, name.as_str())?,
         }),
+    }
+}
+
+/// Calls a command with these words, of which there is one at least.
+pub fn call<T: Tasks>(
+    alloc: Global,
+    tasks: &mut T,
+    scopes: &mut Scopes,
+    context: &mut Context,
+    frames: &mut Vec<Frame<T::Task>>,
+    words: &[Text],
+    room: u64,
+) -> Result<Now<T::Task>, AllocError>
+    ensures ok { IfOk result (λ now. TakesStep T.outside (standing (moved (Calls room words.now) (waits_of frames.old.items)) scopes.old context.old) tasks.old (standing_of now frames.new.items scopes.new context.new) tasks.new) }
+    ensures left { T.left_alone tasks.new ≡ T.left_alone tasks.old }
+{
+    match words {
+        [] => Ok(Now::Ends {
+            code: Code::Normal,
+            text: fixed(alloc, "")?,
+        }),
+        [name, arguments @ ..] => {
+            let now = call_named(alloc, tasks, scopes, context, frames, name, arguments, room)?;
+            Ok(now)
+        }
     }
 }
 

@@ -184,6 +184,19 @@ fn with_words(
     }
 }
 
+/// The words so far, and those that the word at an index gives, which has this text; or the error's text.
+fn with_word(
+    alloc: Global,
+    whole: TextList,
+    words: &[Word],
+    index: usize,
+    text: Text,
+) -> Result<Result<TextList, Text>, AllocError>
+    ensures { IfOk result (λ all. all ≡ with_more whole (words_of (expand_in_front (drop index words.now)) text)) }
+{
+    with_words(alloc, whole, expand_at(words, index), text)
+}
+
 /// The words so far, and the elements of a list.
 fn with_elements(
     alloc: Global,
@@ -195,8 +208,9 @@ fn with_elements(
     match list.split_list(alloc) {
         Ok(elements) => {
             let mut all = whole;
-            for element in elements.into_vec() {
-                all.push(element)?;
+            let items = elements.as_slice();
+            for element in items {
+                all.push(element.copy()?)?;
             }
             Ok(Ok(all))
         }
@@ -271,7 +285,8 @@ fn put_words<K: Drop>(
             Joined::Nothing,
         )? {
             Put::Whole(text) => {
-                match with_words(alloc, whole, expand_at(next_words(&place), word), text)? {
+                let more = with_word(alloc, whole, next_words(&place), word, text)?;
+                match more {
                     Ok(all) => whole = all,
                     Err(text) => {
                         return Ok(Now::Ends {
@@ -381,7 +396,8 @@ pub fn after_bracket<K: Drop>(
         so_far,
     )? {
         Put::Whole(text) => {
-            match with_words(alloc, whole, expand_at(next_words(&place), word), text)? {
+            let more = with_word(alloc, whole, next_words(&place), word, text)?;
+            match more {
                 Ok(whole) => put_words_past(alloc, scopes, level, frames, place, word, whole),
                 Err(text) => Ok(Now::Ends {
                     code: Code::Error,

@@ -1,22 +1,26 @@
 -- The moves that take no step keep the outcome of all that is still to do.
-use Rattle.std.proofs.Common.{◌≡◌, ℕ, zero, suc, ◌-◌, ◌==◌, Bool, true, false, cond, List, [], ◌∷◌, ◌++◌, length, nat_le, Result, Ok, Err, refl, ap, sym, ◌∙◌, arith}
+use Rattle.std.proofs.Common.{◌≡◌, ℕ, zero, suc, ◌-◌, ◌==◌, Bool, true, false, cond, List, [], ◌∷◌, ◌++◌, length, nat_le, Option, Some, None, Result, Ok, Err, refl, ap, sym, ◌∙◌, arith}
 use Rattle.std.proofs.lemmas.Bool.Decides.{nat_tests}
 use Rattle.tcl_words.specs.declared.script.Command.{Command}
 use Rattle.tcl_words.specs.declared.script.Word.{Word}
 use Rattle.tcl_words.specs.declared.script.Piece.{Piece}
 use Rattle.tcl_words.specs.declared.script.Piece.TheVariants.{Literal, Variable, Element, Bracket}
 use Rattle.tcl_words.specs.declared.fault.ParseFault.{ParseFault}
-use Rattle.tcl_vars.specs.Store.{variable_in}
+use Rattle.tcl_vars.specs.Store.{Store, variable_in}
 use Rattle.tcl_vars.specs.declared.fault.ReadFault.{ReadFault}
-use Rattle.tcl_interp.specs.declared.tasks.Code.{Code}
-use Rattle.tcl_interp.specs.declared.tasks.Code.TheVariants.{Normal, Error, Return, Break, Continue}
+use Rattle.tcl_control.specs.declared.code.Code.{Code}
+use Rattle.tcl_control.specs.declared.code.Code.TheVariants.{Normal, Error, Return, Break, Continue}
+use Rattle.tcl_control.specs.declared.context.Context.{Context}
+use Rattle.tcl_control.specs.declared.turns.Turning.{Turning}
+use Rattle.tcl_control.specs.Source.{script_of}
+use Rattle.tcl_control.specs.Texts.{limit_text}
 use Rattle.tcl_interp.specs.Outside.{Outside}
-use Rattle.tcl_interp.specs.Texts.{limit_text}
-use Rattle.tcl_interp.specs.Evaluation.{State, Outcome, Ended, OutOfSteps, and_then, on_normal, with_step, on_read, with_joined, pieces_meaning}
-use Rattle.tcl_interp.specs.Scripts.{out_of_global, call_meaning, script_of, on_parsed, script_meaning}
-use Rattle.tcl_interp.specs.Finish.{Turning, Wording, Doing, Begins, GoesOn, Calls, Tests, Steps, Resumes, Ends, Waiting, ForCommand, ForBracket, ForBody, ForScript, ForAll, Running, at_global, script_rest, words_rest, waiting_meaning, waits_meaning, finish}
-use Rattle.tcl_interp.specs.Quiet.{quiet_by, quiet_moves, Leads}
-use Rattle.tcl_interp.specs.Moves.{Moved, value_text, WordEnd, Whole, Failed, AtBracket, join_end, piece_end, word_end, moved, word_move, words_move, parsed_move, begin_move, go_on_move, after_command, after_bracket, after_body_move, global_end, end_move}
+use Rattle.tcl_interp.specs.Evaluation.{State, Outcome, Ended, OutOfSteps, level_of, and_then, on_normal, with_step, on_read, with_joined, words_of, on_words, pieces_meaning}
+use Rattle.tcl_interp.specs.Plans.{after_next, next_turn}
+use Rattle.tcl_interp.specs.Scripts.{out_of_global, call_meaning, on_parsed, script_meaning}
+use Rattle.tcl_interp.specs.Finish.{Wording, Doing, Begins, GoesOn, Calls, Tests, Steps, Resumes, Ends, Waiting, ForCommand, ForBracket, ForBody, ForNext, ForStart, ForCatch, ForLevels, ForProcedure, ForScript, ForAll, Running, at_global, script_rest, words_rest, word_done, loop_rest, waiting_meaning, waits_meaning, finish}
+use Rattle.tcl_interp.specs.Quiet.{quiet_by, quiet_move, quiet_moves, Leads}
+use Rattle.tcl_interp.specs.Moves.{Moved, Standing, value_text, WordEnd, Whole, Failed, AtBracket, join_end, piece_end, word_end, with_more, moved, standing, more_move, word_move, words_move, parsed_move, begin_move, go_on_move, after_command, after_bracket, next_move, after_body_move, after_next_move, after_start_move, global_end, end_move}
 
 pub and_then_assoc : {S : Type 0} (o : Outcome S) (f g : State S → Code → List ℕ → Outcome S) → and_then (and_then o f) g ≡ and_then o (λ state code text. and_then (f state code text) g)
 and_then_assoc (Ended state code text) f g = refl
@@ -26,13 +30,13 @@ pub and_then_cong : {S : Type 0} (o : Outcome S) (f g : State S → Code → Lis
 and_then_cong (Ended state code text) f g h = h state code text
 and_then_cong (OutOfSteps state) f g h = refl
 
-module _ {S : Type 0} (run : ℕ → List ℕ → State S → Outcome S) (call : ℕ → List (List ℕ) → State S → Outcome S) (f : State S → List ℕ → Outcome S) where
+module _ {S : Type 0} (run : List ℕ → State S → Outcome S) (call : List (List ℕ) → State S → Outcome S) (f : State S → List ℕ → Outcome S) where
   -- what follows where a word comes so far
   abbrev pub end_meaning : State S → WordEnd → Outcome S
   end_meaning state (Whole text) = f state text
   end_meaning state (Failed text) = Ended state Error text
   end_meaning state (AtBracket script pieces so_far) =
-      and_then (run 0 script state) (on_normal (λ state' text. with_joined so_far text state' (λ state'' joined. pieces_meaning run call 0 pieces joined state'' f)))
+      and_then (run script state) (on_normal (λ state' text. with_joined so_far text state' (λ state'' joined. pieces_meaning run call pieces joined state'' f)))
 
   joined_cases : (b : Bool) (state : State S) (o : Outcome S) (e : WordEnd) → o ≡ end_meaning state e → cond b o (Ended state Error limit_text) ≡ end_meaning state (cond b e (Failed limit_text))
   joined_cases true state o e h = h
@@ -43,15 +47,15 @@ module _ {S : Type 0} (run : ℕ → List ℕ → State S → Outcome S) (call :
   read_cases state name (Err fault) pieces so_far go after h = refl
 
   -- the pieces of a word mean what the word's end says
-  pub pieces_end : (pieces : List Piece) (so_far : List ℕ) (state : State S) → pieces_meaning run call 0 pieces so_far state f ≡ end_meaning state (word_end state.store pieces so_far)
+  pub pieces_end : (pieces : List Piece) (so_far : List ℕ) (state : State S) → pieces_meaning run call pieces so_far state f ≡ end_meaning state (word_end (level_of state) state.store pieces so_far)
   pieces_end [] so_far state = refl
   pieces_end (Literal text ∷ pieces) so_far state = joined_cases (nat_le (length (so_far ++ text)) 65536) state _ _ (pieces_end pieces (so_far ++ text) state)
   pieces_end (Variable name ∷ pieces) so_far state =
-      read_cases state name (variable_in state.store 0 name) pieces so_far (word_end state.store pieces) (λ state' text. with_joined so_far text state' (λ state'' joined. pieces_meaning run call 0 pieces joined state'' f)) (λ text. joined_cases (nat_le (length (so_far ++ text)) 65536) state _ _ (pieces_end pieces (so_far ++ text) state))
+      read_cases state name (variable_in state.store (level_of state) name) pieces so_far (word_end (level_of state) state.store pieces) (λ state' text. with_joined so_far text state' (λ state'' joined. pieces_meaning run call pieces joined state'' f)) (λ text. joined_cases (nat_le (length (so_far ++ text)) 65536) state _ _ (pieces_end pieces (so_far ++ text) state))
   pieces_end (Element name index ∷ pieces) so_far state = refl
   pieces_end (Bracket script ∷ pieces) so_far state = refl
 
-  pub joined_end : (pieces : List Piece) (so_far text : List ℕ) (state : State S) → with_joined so_far text state (λ state' joined. pieces_meaning run call 0 pieces joined state' f) ≡ end_meaning state (join_end so_far text (word_end state.store pieces))
+  pub joined_end : (pieces : List Piece) (so_far text : List ℕ) (state : State S) → with_joined so_far text state (λ state' joined. pieces_meaning run call pieces joined state' f) ≡ end_meaning state (join_end so_far text (word_end (level_of state) state.store pieces))
   joined_end pieces so_far text state = joined_cases (nat_le (length (so_far ++ text)) 65536) state _ _ (pieces_end pieces (so_far ++ text) state)
 
 pub begin_some : {K : Type 0} (room : ℕ) (text : List ℕ) (waits : List (Waiting K)) → begin_move (suc room) text waits ≡ parsed_move room waits (script_of text)
@@ -60,127 +64,162 @@ begin_some room text waits =
     let some : (suc room == 0) ≡ false = grind (arith, nat_tests) in
     rw (some, less) refl
 
-module _ {S K : Type 0} (outside : Outside S K) (replaced : List (List ℕ)) where
-  abbrev pub run_in : ℕ → ℕ → List ℕ → State S → Outcome S
-  run_in room = script_meaning outside replaced room
+module _ {S K : Type 0} (outside : Outside S K) where
+  abbrev pub run_in : ℕ → List ℕ → State S → Outcome S
+  run_in room = script_meaning outside room
 
-  abbrev call_in : ℕ → ℕ → List (List ℕ) → State S → Outcome S
-  call_in room = call_meaning outside (script_meaning outside replaced room) replaced
+  abbrev call_in : ℕ → List (List ℕ) → State S → Outcome S
+  call_in room = call_meaning outside (script_meaning outside room)
+
+  -- the outcome after a move of what is done and what waits
+  abbrev pub finish_moved : Moved K → State S → Outcome S
+  finish_moved m state = finish outside (Running m.doing m.waits) state
 
   -- the outcome after a move
-  abbrev pub finish_moved : Moved K → State S → Outcome S
-  finish_moved m state = finish outside replaced (Running m.doing m.waits) state
+  abbrev pub finish_standing : Standing K → State S → Outcome S
+  finish_standing m state = finish_moved m.moved (record state { store = m.store; context = m.context })
 
   abbrev next_in : ℕ → List Command → State S → Code → List ℕ → Outcome S
-  next_in room after = on_normal (λ state result. script_rest outside replaced room after result state)
+  next_in room after = on_normal (λ state result. script_rest outside room after result state)
 
   -- ── words ──
 
   after_bracket_same : (room : ℕ) (after : List Command) (waits : List (Waiting K)) (g : State S → List ℕ → Outcome S) (state : State S) (code : Code) (text : List ℕ) →
-      and_then (and_then (on_normal g state code text) (next_in room after)) (waits_meaning outside replaced waits)
-      ≡ and_then (on_normal (λ state' piece. and_then (g state' piece) (next_in room after)) state code text) (waits_meaning outside replaced waits)
+      and_then (and_then (on_normal g state code text) (next_in room after)) (waits_meaning outside waits)
+      ≡ and_then (on_normal (λ state' piece. and_then (g state' piece) (next_in room after)) state code text) (waits_meaning outside waits)
   after_bracket_same room after waits g state Normal text = refl
   after_bracket_same room after waits g state Error text = refl
   after_bracket_same room after waits g state (Return code) text = refl
   after_bracket_same room after waits g state Break text = refl
   after_bracket_same room after waits g state Continue text = refl
 
-  word_same : (room : ℕ) (after : List Command) (words : List Word) (whole : List (List ℕ)) (waits : List (Waiting K)) (state : State S) (go : List (List ℕ) → Moved K)
-      → ((more : List (List ℕ)) → and_then (and_then (words_rest outside replaced room words more state) (next_in room after)) (waits_meaning outside replaced waits) ≡ finish_moved (go more) state)
+  more_same : (room : ℕ) (after : List Command) (words : List Word) (whole : List (List ℕ)) (waits : List (Waiting K)) (state : State S) (go : List (List ℕ) → Moved K)
+      → ((more : List (List ℕ)) → and_then (and_then (words_rest outside room words more state) (next_in room after)) (waits_meaning outside waits) ≡ finish_moved (go more) state)
+      → (more : Result (List (List ℕ)) (List ℕ))
+      → and_then (and_then (on_words state (λ state' more. words_rest outside room words (whole ++ more) state') more) (next_in room after)) (waits_meaning outside waits)
+      ≡ finish_moved (more_move waits go (with_more whole more)) state
+  more_same room after words whole waits state go h (Ok more) = h (whole ++ more)
+  more_same room after words whole waits state go h (Err text) = refl
+
+  word_same : (room : ℕ) (after : List Command) (expand : Bool) (words : List Word) (whole : List (List ℕ)) (waits : List (Waiting K)) (state : State S) (go : List (List ℕ) → Moved K)
+      → ((more : List (List ℕ)) → and_then (and_then (words_rest outside room words more state) (next_in room after)) (waits_meaning outside waits) ≡ finish_moved (go more) state)
       → (end : WordEnd)
-      → and_then (and_then (end_meaning (run_in room) (call_in room) (λ state' text. words_rest outside replaced room words (whole ++ text ∷ []) state') state end) (next_in room after)) (waits_meaning outside replaced waits)
-      ≡ finish_moved (word_move room after words whole waits go end) state
-  word_same room after words whole waits state go h (Whole text) = h (whole ++ text ∷ [])
-  word_same room after words whole waits state go h (Failed text) = refl
-  word_same room after words whole waits state go h (AtBracket script pieces so_far) =
-      let f : State S → List ℕ → Outcome S = λ state' text. words_rest outside replaced room words (whole ++ text ∷ []) state' in
-      let g : State S → List ℕ → Outcome S = λ state' text. with_joined so_far text state' (λ state'' joined. pieces_meaning (run_in room) (call_in room) 0 pieces joined state'' f) in
-      and_then_assoc (and_then (run_in room 0 script state) (on_normal g)) (next_in room after) (waits_meaning outside replaced waits)
-      ∙ and_then_assoc (run_in room 0 script state) (on_normal g) (λ state' code text. and_then (next_in room after state' code text) (waits_meaning outside replaced waits))
-      ∙ and_then_cong (run_in room 0 script state) _ _ (λ state' code text.
-      sym (and_then_assoc (on_normal g state' code text) (next_in room after) (waits_meaning outside replaced waits)) ∙ after_bracket_same room after waits g state' code text)
+      → and_then (and_then (end_meaning (run_in room) (call_in room) (word_done outside room expand words whole) state end) (next_in room after)) (waits_meaning outside waits)
+      ≡ finish_moved (word_move room after expand words whole waits go end) state
+  word_same room after expand words whole waits state go h (Whole text) = more_same room after words whole waits state go h (words_of expand text)
+  word_same room after expand words whole waits state go h (Failed text) = refl
+  word_same room after expand words whole waits state go h (AtBracket script pieces so_far) =
+      let f : State S → List ℕ → Outcome S = word_done outside room expand words whole in
+      let g : State S → List ℕ → Outcome S = λ state' text. with_joined so_far text state' (λ state'' joined. pieces_meaning (run_in room) (call_in room) pieces joined state'' f) in
+      and_then_assoc (and_then (run_in room script state) (on_normal g)) (next_in room after) (waits_meaning outside waits)
+      ∙ and_then_assoc (run_in room script state) (on_normal g) (λ state' code text. and_then (next_in room after state' code text) (waits_meaning outside waits))
+      ∙ and_then_cong (run_in room script state) _ _ (λ state' code text.
+      sym (and_then_assoc (on_normal g state' code text) (next_in room after) (waits_meaning outside waits)) ∙ after_bracket_same room after waits g state' code text)
 
   pub words_same : (room : ℕ) (after : List Command) (words : List Word) (whole : List (List ℕ)) (waits : List (Waiting K)) (state : State S)
-      → and_then (and_then (words_rest outside replaced room words whole state) (next_in room after)) (waits_meaning outside replaced waits) ≡ finish_moved (words_move state.store room after words whole waits) state
+      → and_then (and_then (words_rest outside room words whole state) (next_in room after)) (waits_meaning outside waits) ≡ finish_moved (words_move (level_of state) state.store room after words whole waits) state
   words_same room after [] [] waits state = refl
-  words_same room after [] (name ∷ arguments) waits state = and_then_assoc (with_step state (call_in room 0 (name ∷ arguments))) (next_in room after) (waits_meaning outside replaced waits)
+  words_same room after [] (name ∷ arguments) waits state = and_then_assoc (with_step state (call_in room (name ∷ arguments))) (next_in room after) (waits_meaning outside waits)
   words_same room after (word ∷ words) whole waits state =
-      let f : State S → List ℕ → Outcome S = λ state' text. words_rest outside replaced room words (whole ++ text ∷ []) state' in
-      ap (λ o. and_then (and_then o (next_in room after)) (waits_meaning outside replaced waits)) (pieces_end (run_in room) (call_in room) f word.pieces [] state)
-      ∙ word_same room after words whole waits state (λ more. words_move state.store room after words more waits) (λ more. words_same room after words more waits state) (word_end state.store word.pieces [])
+      ap (λ o. and_then (and_then o (next_in room after)) (waits_meaning outside waits)) (pieces_end (run_in room) (call_in room) (word_done outside room word.expand words whole) word.pieces [] state)
+      ∙ word_same room after word.expand words whole waits state (λ more. words_move (level_of state) state.store room after words more waits) (λ more. words_same room after words more waits state) (word_end (level_of state) state.store word.pieces [])
 
   -- ── scripts ──
 
   parsed_same : (room : ℕ) (waits : List (Waiting K)) (state : State S) (script : Result (List Command) ParseFault)
-      → and_then (on_parsed (λ commands. script_rest outside replaced room commands [] state) state script) (waits_meaning outside replaced waits) ≡ finish_moved (parsed_move room waits script) state
+      → and_then (on_parsed (λ commands. script_rest outside room commands [] state) state script) (waits_meaning outside waits) ≡ finish_moved (parsed_move room waits script) state
   parsed_same room waits state (Ok commands) = refl
   parsed_same room waits state (Err fault) = refl
 
-  pub begin_same : (room : ℕ) (text : List ℕ) (waits : List (Waiting K)) (state : State S) → finish outside replaced (Running (Begins room text) waits) state ≡ finish_moved (begin_move room text waits) state
+  pub begin_same : (room : ℕ) (text : List ℕ) (waits : List (Waiting K)) (state : State S) → and_then (run_in room text state) (waits_meaning outside waits) ≡ finish_moved (begin_move room text waits) state
   begin_same zero text waits state = refl
   begin_same (suc room) text waits state = parsed_same room waits state (script_of text) ∙ ap (λ m. finish_moved m state) (sym (begin_some room text waits))
 
-  pub go_on_same : (room : ℕ) (commands : List Command) (result : List ℕ) (waits : List (Waiting K)) (state : State S) → finish outside replaced (Running (GoesOn room commands result) waits) state ≡ finish_moved (go_on_move state.store room commands result waits) state
+  pub go_on_same : (room : ℕ) (commands : List Command) (result : List ℕ) (waits : List (Waiting K)) (state : State S) → and_then (script_rest outside room commands result state) (waits_meaning outside waits) ≡ finish_moved (go_on_move (level_of state) state.store room commands result waits) state
   go_on_same room [] result waits state = refl
   go_on_same room (command ∷ after) result waits state = words_same room after command.words [] waits state
 
   -- ── something ends that was waited for ──
 
-  command_end_same : (room : ℕ) (after : List Command) (waits : List (Waiting K)) (state : State S) (code : Code) (text : List ℕ) → and_then (waiting_meaning outside replaced (ForCommand room after) state code text) (waits_meaning outside replaced waits) ≡ finish_moved (after_command room after waits code text) state
+  command_end_same : (room : ℕ) (after : List Command) (waits : List (Waiting K)) (state : State S) (code : Code) (text : List ℕ) → and_then (waiting_meaning outside (ForCommand room after) state code text) (waits_meaning outside waits) ≡ finish_moved (after_command room after waits code text) state
   command_end_same room after waits state Normal text = refl
   command_end_same room after waits state Error text = refl
   command_end_same room after waits state (Return code) text = refl
   command_end_same room after waits state Break text = refl
   command_end_same room after waits state Continue text = refl
 
-  bracket_end_same : (w : Wording) (waits : List (Waiting K)) (state : State S) (code : Code) (text : List ℕ) → and_then (waiting_meaning outside replaced (ForBracket w) state code text) (waits_meaning outside replaced waits) ≡ finish_moved (after_bracket state.store w waits code text) state
+  bracket_end_same : (w : Wording) (waits : List (Waiting K)) (state : State S) (code : Code) (text : List ℕ) → and_then (waiting_meaning outside (ForBracket w) state code text) (waits_meaning outside waits) ≡ finish_moved (after_bracket (level_of state) state.store w waits code text) state
   bracket_end_same w waits state Normal text =
-      let f : State S → List ℕ → Outcome S = λ state' text. words_rest outside replaced w.room w.words (w.whole ++ text ∷ []) state' in
-      ap (λ o. and_then (and_then o (next_in w.room w.after)) (waits_meaning outside replaced waits)) (joined_end (run_in w.room) (call_in w.room) f w.pieces w.so_far text state)
-      ∙ word_same w.room w.after w.words w.whole waits state (λ more. words_move state.store w.room w.after w.words more waits) (λ more. words_same w.room w.after w.words more waits state) (join_end w.so_far text (word_end state.store w.pieces))
+      ap (λ o. and_then (and_then o (next_in w.room w.after)) (waits_meaning outside waits)) (joined_end (run_in w.room) (call_in w.room) (word_done outside w.room w.expand w.words w.whole) w.pieces w.so_far text state)
+      ∙ word_same w.room w.after w.expand w.words w.whole waits state (λ more. words_move (level_of state) state.store w.room w.after w.words more waits) (λ more. words_same w.room w.after w.words more waits state) (join_end w.so_far text (word_end (level_of state) state.store w.pieces))
   bracket_end_same w waits state Error text = refl
   bracket_end_same w waits state (Return code) text = refl
   bracket_end_same w waits state Break text = refl
   bracket_end_same w waits state Continue text = refl
 
-  body_end_same : (turning : Turning) (waits : List (Waiting K)) (state : State S) (code : Code) (text : List ℕ) → and_then (waiting_meaning outside replaced (ForBody turning) state code text) (waits_meaning outside replaced waits) ≡ finish_moved (after_body_move turning waits code text) state
-  body_end_same turning waits state Normal text = refl
-  body_end_same turning waits state Error text = refl
-  body_end_same turning waits state (Return code) text = refl
-  body_end_same turning waits state Break text = refl
-  body_end_same turning waits state Continue text = refl
+  next_test_same : (room : ℕ) (turning : Turning) (waits : List (Waiting K)) (state : State S) (next : Option (List ℕ))
+      → and_then (next_turn (run_in room) next (loop_rest outside room turning) state) (waits_meaning outside waits) ≡ finish_moved (next_move room turning waits next) state
+  next_test_same room turning waits state None = refl
+  next_test_same room turning waits state (Some script) = and_then_assoc (run_in room script state) (after_next (loop_rest outside room turning)) (waits_meaning outside waits)
 
-  global_end_same : (waits : List (Waiting K)) (state : State S) (code : Code) (text : List ℕ) → and_then (at_global state code text) (waits_meaning outside replaced waits) ≡ finish_moved (moved (global_end code text) waits) state
+  body_end_same : (room : ℕ) (turning : Turning) (waits : List (Waiting K)) (state : State S) (code : Code) (text : List ℕ) → and_then (waiting_meaning outside (ForBody room turning) state code text) (waits_meaning outside waits) ≡ finish_moved (after_body_move room turning waits code text) state
+  body_end_same room turning waits state Normal text = next_test_same room turning waits state turning.next
+  body_end_same room turning waits state Error text = refl
+  body_end_same room turning waits state (Return code) text = refl
+  body_end_same room turning waits state Break text = refl
+  body_end_same room turning waits state Continue text = next_test_same room turning waits state turning.next
+
+  next_end_same : (room : ℕ) (turning : Turning) (waits : List (Waiting K)) (state : State S) (code : Code) (text : List ℕ) → and_then (waiting_meaning outside (ForNext room turning) state code text) (waits_meaning outside waits) ≡ finish_moved (after_next_move room turning waits code text) state
+  next_end_same room turning waits state Normal text = refl
+  next_end_same room turning waits state Error text = refl
+  next_end_same room turning waits state (Return code) text = refl
+  next_end_same room turning waits state Break text = refl
+  next_end_same room turning waits state Continue text = refl
+
+  start_end_same : (room : ℕ) (turning : Turning) (waits : List (Waiting K)) (state : State S) (code : Code) (text : List ℕ) → and_then (waiting_meaning outside (ForStart room turning) state code text) (waits_meaning outside waits) ≡ finish_moved (after_start_move room turning waits code text) state
+  start_end_same room turning waits state Normal text = refl
+  start_end_same room turning waits state Error text = refl
+  start_end_same room turning waits state (Return code) text = refl
+  start_end_same room turning waits state Break text = refl
+  start_end_same room turning waits state Continue text = refl
+
+  global_end_same : (waits : List (Waiting K)) (state : State S) (code : Code) (text : List ℕ) → and_then (at_global state code text) (waits_meaning outside waits) ≡ finish_moved (moved (global_end code text) waits) state
   global_end_same waits state Normal text = refl
   global_end_same waits state Error text = refl
   global_end_same waits state (Return code) text = refl
   global_end_same waits state Break text = refl
   global_end_same waits state Continue text = refl
 
-  pub end_same : (code : Code) (text : List ℕ) (waiting : Waiting K) (waits : List (Waiting K)) (state : State S) → finish outside replaced (Running (Ends code text) (waiting ∷ waits)) state ≡ finish_moved (end_move state.store code text waiting waits) state
+  pub end_same : (code : Code) (text : List ℕ) (waiting : Waiting K) (waits : List (Waiting K)) (state : State S) → finish outside (Running (Ends code text) (waiting ∷ waits)) state ≡ finish_standing (end_move state.store state.context code text waiting waits) state
   end_same code text (ForCommand room after) waits state = command_end_same room after waits state code text
   end_same code text (ForBracket w) waits state = bracket_end_same w waits state code text
-  end_same code text (ForBody turning) waits state = body_end_same turning waits state code text
+  end_same code text (ForBody room turning) waits state = body_end_same room turning waits state code text
+  end_same code text (ForNext room turning) waits state = next_end_same room turning waits state code text
+  end_same code text (ForStart room turning) waits state = start_end_same room turning waits state code text
+  end_same code text (ForCatch name) waits state = refl
+  end_same code text (ForLevels levels) waits state = refl
+  end_same code text ForProcedure waits state = refl
   end_same code text (ForScript room task) waits state = refl
   end_same code text ForAll waits state = global_end_same waits state (out_of_global code) text
 
   -- ── moves in a row ──
 
-  quiet_same_by : (doing : Doing K) (waits : List (Waiting K)) (state : State S) → finish_moved (moved doing waits) state ≡ finish_moved (quiet_by state.store doing waits) state
+  quiet_same_by : (doing : Doing K) (waits : List (Waiting K)) (state : State S) → finish_moved (moved doing waits) state ≡ finish_standing (quiet_by state.store state.context doing waits) state
   quiet_same_by (Begins room text) waits state = begin_same room text waits state
   quiet_same_by (GoesOn room commands result) waits state = go_on_same room commands result waits state
   quiet_same_by (Calls room words) waits state = refl
-  quiet_same_by (Tests turning) waits state = refl
+  quiet_same_by (Tests room turning) waits state = refl
   quiet_same_by (Steps room task) waits state = refl
   quiet_same_by (Resumes room task code text) waits state = refl
   quiet_same_by (Ends code text) [] state = refl
   quiet_same_by (Ends code text) (waiting ∷ waits) state = end_same code text waiting waits state
 
-  quiet_moves_same : (moves : ℕ) (m : Moved K) (state : State S) → finish_moved m state ≡ finish_moved (quiet_moves state.store moves m) state
+  quiet_moves_same : (moves : ℕ) (m : Standing K) (state : State S) → finish_standing m state ≡ finish_standing (quiet_moves moves m) state
   quiet_moves_same zero m state = refl
   quiet_moves_same (suc moves) m state =
-      quiet_moves_same moves m state ∙ quiet_same_by (quiet_moves state.store moves m).doing (quiet_moves state.store moves m).waits state
+      quiet_moves_same moves m state
+      ∙ quiet_same_by (quiet_moves moves m).moved.doing (quiet_moves moves m).moved.waits (record state { store = (quiet_moves moves m).store; context = (quiet_moves moves m).context })
 
   -- moves without a step keep the outcome
-  pub leads_same : (m n : Moved K) (state : State S) → Leads state.store m n → finish_moved m state ≡ finish_moved n state
-  leads_same m n state (moves, e) = quiet_moves_same moves m state ∙ ap (λ x. finish_moved x state) e
+  pub leads_same : (m n : Standing K) (state : State S) → Leads m n → finish_standing m state ≡ finish_standing n state
+  leads_same m n state (moves, e) = quiet_moves_same moves m state ∙ ap (λ x. finish_standing x state) e

@@ -1,5 +1,5 @@
 -- What a move that takes no step comes nearer to: each makes what is to do before the next step, or the next task, lighter.
-use Rattle.std.proofs.Common.{◌≡◌, ℕ, zero, suc, ◌+◌, ◌≤◌, ◌<◌, Bool, true, false, cond, List, [], ◌∷◌, ◌++◌, length, nat_le, Result, Ok, Err, refl, ap, sym, ◌∙◌, arith}
+use Rattle.std.proofs.Common.{◌≡◌, ℕ, zero, suc, ◌+◌, ◌≤◌, ◌<◌, Bool, true, false, cond, Option, Some, None, List, [], ◌∷◌, ◌++◌, length, nat_le, Result, Ok, Err, refl, ap, sym, ◌∙◌, arith}
 use Rattle.tcl_words.specs.declared.script.Command.{Command}
 use Rattle.tcl_words.specs.declared.script.Word.{Word}
 use Rattle.tcl_words.specs.declared.script.Piece.{Piece}
@@ -7,12 +7,17 @@ use Rattle.tcl_words.specs.declared.script.Piece.TheVariants.{Literal, Variable,
 use Rattle.tcl_words.specs.declared.fault.ParseFault.{ParseFault}
 use Rattle.tcl_vars.specs.Store.{Store, variable_in}
 use Rattle.tcl_vars.specs.declared.fault.ReadFault.{ReadFault}
-use Rattle.tcl_interp.specs.declared.tasks.Code.{Code}
-use Rattle.tcl_interp.specs.declared.tasks.Code.TheVariants.{Normal, Error, Return, Break, Continue}
-use Rattle.tcl_interp.specs.Texts.{limit_text}
-use Rattle.tcl_interp.specs.Scripts.{out_of_global, script_of}
-use Rattle.tcl_interp.specs.Finish.{Doing, Begins, GoesOn, Calls, Tests, Steps, Resumes, Ends, Waiting, ForCommand, ForBracket, ForBody, ForScript, ForAll}
-use Rattle.tcl_interp.specs.Moves.{Moved, value_text, WordEnd, Whole, Failed, AtBracket, join_end, piece_end, word_end, moved, word_move, words_move, parsed_move, begin_move, go_on_move, bracket_move, global_end, end_move}
+use Rattle.tcl_control.specs.declared.code.Code.{Code}
+use Rattle.tcl_control.specs.declared.code.Code.TheVariants.{Normal, Error, Return, Break, Continue}
+use Rattle.tcl_control.specs.declared.context.Context.{Context}
+use Rattle.tcl_control.specs.declared.turns.Turning.{Turning}
+use Rattle.tcl_control.specs.Levels.{here}
+use Rattle.tcl_control.specs.Source.{script_of}
+use Rattle.tcl_control.specs.Texts.{limit_text}
+use Rattle.tcl_interp.specs.Evaluation.{words_of}
+use Rattle.tcl_interp.specs.Scripts.{out_of_global}
+use Rattle.tcl_interp.specs.Finish.{Wording, Doing, Begins, GoesOn, Calls, Tests, Steps, Resumes, Ends, Waiting, ForCommand, ForBracket, ForBody, ForNext, ForStart, ForCatch, ForLevels, ForProcedure, ForScript, ForAll}
+use Rattle.tcl_interp.specs.Moves.{Moved, Standing, value_text, WordEnd, Whole, Failed, AtBracket, join_end, piece_end, word_end, with_more, moved, standing, more_move, word_move, words_move, parsed_move, begin_move, go_on_move, after_command, bracket_move, after_bracket, next_move, after_body_move, after_next_move, after_start_move, global_end, end_move}
 use Rattle.tcl_interp.specs.Quiet.{quiet_by, quiet_move, quiet_moves, Leads, IsQuietBy, IsQuiet}
 use Rattle.tcl_interp.proofs.Same.{begin_some}
 
@@ -61,27 +66,32 @@ module _ (script_weight : List ℕ → ℕ) where
   read_weighs bound name (Ok value) pieces so_far go h = join_weighs bound (nat_le (length (so_far ++ value)) 65536) (go (so_far ++ value)) (h (so_far ++ value))
   read_weighs bound name (Err fault) pieces so_far go h = tt
 
-  end_weighs : (store : Store) (pieces : List Piece) (so_far : List ℕ) → EndWeighs (pieces_weight pieces) (word_end store pieces so_far)
-  end_weighs store [] so_far = tt
-  end_weighs store (Literal text ∷ pieces) so_far =
-      join_weighs (1 + pieces_weight pieces) (nat_le (length (so_far ++ text)) 65536) _ (end_weighs_more (pieces_weight pieces) (1 + pieces_weight pieces) (word_end store pieces (so_far ++ text)) (omega arith) (end_weighs store pieces (so_far ++ text)))
-  end_weighs store (Variable name ∷ pieces) so_far =
-      read_weighs (1 + pieces_weight pieces) name (variable_in store 0 name) pieces so_far (word_end store pieces)
-      (λ text. end_weighs_more (pieces_weight pieces) (1 + pieces_weight pieces) (word_end store pieces text) (omega arith) (end_weighs store pieces text))
-  end_weighs store (Element name index ∷ pieces) so_far = tt
-  end_weighs store (Bracket script ∷ pieces) so_far = omega arith
+  end_weighs : (level : ℕ) (store : Store) (pieces : List Piece) (so_far : List ℕ) → EndWeighs (pieces_weight pieces) (word_end level store pieces so_far)
+  end_weighs level store [] so_far = tt
+  end_weighs level store (Literal text ∷ pieces) so_far =
+      join_weighs (1 + pieces_weight pieces) (nat_le (length (so_far ++ text)) 65536) _ (end_weighs_more (pieces_weight pieces) (1 + pieces_weight pieces) (word_end level store pieces (so_far ++ text)) (omega arith) (end_weighs level store pieces (so_far ++ text)))
+  end_weighs level store (Variable name ∷ pieces) so_far =
+      read_weighs (1 + pieces_weight pieces) name (variable_in store level name) pieces so_far (word_end level store pieces)
+      (λ text. end_weighs_more (pieces_weight pieces) (1 + pieces_weight pieces) (word_end level store pieces text) (omega arith) (end_weighs level store pieces text))
+  end_weighs level store (Element name index ∷ pieces) so_far = tt
+  end_weighs level store (Bracket script ∷ pieces) so_far = omega arith
 
 -- a script, with room for so many in it
 abbrev pub script_weight : ℕ → List ℕ → ℕ
 script_weight zero text = 2
 script_weight (suc room) text = parsed_weight (script_weight room) (script_of text)
 
+-- what `for` runs behind a body
+abbrev pub next_weight : (List ℕ → ℕ) → Option (List ℕ) → ℕ
+next_weight weigh None = 0
+next_weight weigh (Some script) = weigh script
+
 module _ {K : Type 0} where
   abbrev pub doing_weight : Doing K → ℕ
   doing_weight (Begins room text) = script_weight room text
   doing_weight (GoesOn room commands result) = 2 + commands_weight (script_weight room) commands
   doing_weight (Calls room words) = 0
-  doing_weight (Tests turning) = 0
+  doing_weight (Tests room turning) = 0
   doing_weight (Steps room task) = 0
   doing_weight (Resumes room task code text) = 0
   doing_weight (Ends code text) = 1
@@ -89,7 +99,12 @@ module _ {K : Type 0} where
   abbrev pub waiting_weight : Waiting K → ℕ
   waiting_weight (ForCommand room after) = 2 + commands_weight (script_weight room) after
   waiting_weight (ForBracket w) = 3 + (pieces_weight (script_weight w.room) w.pieces + (words_weight (script_weight w.room) w.words + commands_weight (script_weight w.room) w.after))
-  waiting_weight (ForBody turning) = 1
+  waiting_weight (ForBody room turning) = 2 + next_weight (script_weight room) turning.next
+  waiting_weight (ForNext room turning) = 1
+  waiting_weight (ForStart room turning) = 1
+  waiting_weight (ForCatch name) = 1
+  waiting_weight (ForLevels levels) = 1
+  waiting_weight ForProcedure = 1
   waiting_weight (ForScript room task) = 1
   waiting_weight ForAll = 1
 
@@ -100,21 +115,29 @@ module _ {K : Type 0} where
   abbrev pub weight : Moved K → ℕ
   weight m = doing_weight m.doing + waits_weight m.waits
 
-  word_light : (room : ℕ) (after : List Command) (words : List Word) (whole : List (List ℕ)) (waits : List (Waiting K)) (go : List (List ℕ) → Moved K) (bound : ℕ) (end : WordEnd)
+  more_light : (waits : List (Waiting K)) (whole : List (List ℕ)) (go : List (List ℕ) → Moved K) (bound : ℕ) (more : Result (List (List ℕ)) (List ℕ))
+      → ((all : List (List ℕ)) → weight (go all) ≤ 2 + (bound + waits_weight waits)) → weight (more_move waits go (with_more whole more)) ≤ 2 + (bound + waits_weight waits)
+  more_light waits whole go bound (Ok more) h = h (whole ++ more)
+  more_light waits whole go bound (Err text) h = omega arith
+
+  word_light : (room : ℕ) (after : List Command) (expand : Bool) (words : List Word) (whole : List (List ℕ)) (waits : List (Waiting K)) (go : List (List ℕ) → Moved K) (bound : ℕ) (end : WordEnd)
       → ((more : List (List ℕ)) → weight (go more) ≤ 2 + (words_weight (script_weight room) words + (commands_weight (script_weight room) after + waits_weight waits)))
       → EndWeighs (script_weight room) bound end
-      → weight (word_move room after words whole waits go end) ≤ 2 + (bound + (words_weight (script_weight room) words + (commands_weight (script_weight room) after + waits_weight waits)))
-  word_light room after words whole waits go bound (Whole text) h w = omega (arith, h (whole ++ text ∷ []))
-  word_light room after words whole waits go bound (Failed text) h w = omega arith
-  word_light room after words whole waits go bound (AtBracket script pieces so_far) h w = omega arith
+      → weight (word_move room after expand words whole waits go end) ≤ 2 + (bound + (words_weight (script_weight room) words + (commands_weight (script_weight room) after + waits_weight waits)))
+  word_light room after expand words whole waits go bound (Whole text) h w =
+      let light : weight (more_move waits go (with_more whole (words_of expand text))) ≤ 2 + ((words_weight (script_weight room) words + commands_weight (script_weight room) after) + waits_weight waits) =
+      more_light waits whole go (words_weight (script_weight room) words + commands_weight (script_weight room) after) (words_of expand text) (λ all. omega (arith, h all)) in
+      omega arith
+  word_light room after expand words whole waits go bound (Failed text) h w = omega arith
+  word_light room after expand words whole waits go bound (AtBracket script pieces so_far) h w = omega arith
 
-  words_light : (store : Store) (room : ℕ) (after : List Command) (words : List Word) (whole : List (List ℕ)) (waits : List (Waiting K))
-      → weight (words_move store room after words whole waits) ≤ 2 + (words_weight (script_weight room) words + (commands_weight (script_weight room) after + waits_weight waits))
-  words_light store room after [] [] waits = omega arith
-  words_light store room after [] (name ∷ arguments) waits = omega arith
-  words_light store room after (word ∷ words) whole waits =
-      let light : weight (words_move store room after (word ∷ words) whole waits) ≤ 2 + (pieces_weight (script_weight room) word.pieces + (words_weight (script_weight room) words + (commands_weight (script_weight room) after + waits_weight waits))) =
-      word_light room after words whole waits (λ more. words_move store room after words more waits) (pieces_weight (script_weight room) word.pieces) (word_end store word.pieces []) (λ more. words_light store room after words more waits) (end_weighs (script_weight room) store word.pieces []) in
+  words_light : (level : ℕ) (store : Store) (room : ℕ) (after : List Command) (words : List Word) (whole : List (List ℕ)) (waits : List (Waiting K))
+      → weight (words_move level store room after words whole waits) ≤ 2 + (words_weight (script_weight room) words + (commands_weight (script_weight room) after + waits_weight waits))
+  words_light level store room after [] [] waits = omega arith
+  words_light level store room after [] (name ∷ arguments) waits = omega arith
+  words_light level store room after (word ∷ words) whole waits =
+      let light : weight (words_move level store room after (word ∷ words) whole waits) ≤ 2 + (pieces_weight (script_weight room) word.pieces + (words_weight (script_weight room) words + (commands_weight (script_weight room) after + waits_weight waits))) =
+      word_light room after word.expand words whole waits (λ more. words_move level store room after words more waits) (pieces_weight (script_weight room) word.pieces) (word_end level store word.pieces []) (λ more. words_light level store room after words more waits) (end_weighs (script_weight room) level store word.pieces []) in
       omega arith
 
   parsed_light : (room : ℕ) (waits : List (Waiting K)) (script : Result (List Command) ParseFault) → weight (parsed_move room waits script) < parsed_weight (script_weight room) script + waits_weight waits
@@ -125,54 +148,81 @@ module _ {K : Type 0} where
   begin_lighter zero text waits = omega arith
   begin_lighter (suc room) text waits = rw (begin_some room text waits) (parsed_light room waits (script_of text))
 
-  pub go_on_lighter : (store : Store) (room : ℕ) (commands : List Command) (result : List ℕ) (waits : List (Waiting K)) → weight (go_on_move store room commands result waits) < 2 + (commands_weight (script_weight room) commands + waits_weight waits)
-  go_on_lighter store room [] result waits = omega arith
-  go_on_lighter store room (command ∷ after) result waits = omega (arith, words_light store room after command.words [] waits)
+  pub go_on_lighter : (level : ℕ) (store : Store) (room : ℕ) (commands : List Command) (result : List ℕ) (waits : List (Waiting K)) → weight (go_on_move level store room commands result waits) < 2 + (commands_weight (script_weight room) commands + waits_weight waits)
+  go_on_lighter level store room [] result waits = omega arith
+  go_on_lighter level store room (command ∷ after) result waits = omega (arith, words_light level store room after command.words [] waits)
 
-  pub end_lighter : (store : Store) (code : Code) (text : List ℕ) (waiting : Waiting K) (waits : List (Waiting K)) → weight (end_move store code text waiting waits) < 1 + (waiting_weight waiting + waits_weight waits)
-  end_lighter store Normal text (ForCommand room after) waits = omega arith
-  end_lighter store Error text (ForCommand room after) waits = omega arith
-  end_lighter store (Return code) text (ForCommand room after) waits = omega arith
-  end_lighter store Break text (ForCommand room after) waits = omega arith
-  end_lighter store Continue text (ForCommand room after) waits = omega arith
-  end_lighter store Normal text (ForBracket w) waits =
-      let light : weight (bracket_move store w waits text) ≤ 2 + (pieces_weight (script_weight w.room) w.pieces + (words_weight (script_weight w.room) w.words + (commands_weight (script_weight w.room) w.after + waits_weight waits))) =
-      word_light w.room w.after w.words w.whole waits (λ more. words_move store w.room w.after w.words more waits) (pieces_weight (script_weight w.room) w.pieces) (join_end w.so_far text (word_end store w.pieces))
-      (λ more. words_light store w.room w.after w.words more waits)
-      (join_weighs (script_weight w.room) (pieces_weight (script_weight w.room) w.pieces) (nat_le (length (w.so_far ++ text)) 65536) (word_end store w.pieces (w.so_far ++ text)) (end_weighs (script_weight w.room) store w.pieces (w.so_far ++ text))) in
+  next_lighter : (room : ℕ) (turning : Turning) (waits : List (Waiting K)) (next : Option (List ℕ)) → weight (next_move room turning waits next) ≤ 1 + (next_weight (script_weight room) next + waits_weight waits)
+  next_lighter room turning waits None = omega arith
+  next_lighter room turning waits (Some script) = omega arith
+
+  body_lighter : (room : ℕ) (turning : Turning) (waits : List (Waiting K)) (code : Code) (text : List ℕ) → weight (after_body_move room turning waits code text) < 1 + ((2 + next_weight (script_weight room) turning.next) + waits_weight waits)
+  body_lighter room turning waits Normal text = omega (arith, next_lighter room turning waits turning.next)
+  body_lighter room turning waits Error text = omega arith
+  body_lighter room turning waits (Return code) text = omega arith
+  body_lighter room turning waits Break text = omega arith
+  body_lighter room turning waits Continue text = omega (arith, next_lighter room turning waits turning.next)
+
+  after_next_lighter : (room : ℕ) (turning : Turning) (waits : List (Waiting K)) (code : Code) (text : List ℕ) → weight (after_next_move room turning waits code text) < 1 + (1 + waits_weight waits)
+  after_next_lighter room turning waits Normal text = omega arith
+  after_next_lighter room turning waits Error text = omega arith
+  after_next_lighter room turning waits (Return code) text = omega arith
+  after_next_lighter room turning waits Break text = omega arith
+  after_next_lighter room turning waits Continue text = omega arith
+
+  start_lighter : (room : ℕ) (turning : Turning) (waits : List (Waiting K)) (code : Code) (text : List ℕ) → weight (after_start_move room turning waits code text) < 1 + (1 + waits_weight waits)
+  start_lighter room turning waits Normal text = omega arith
+  start_lighter room turning waits Error text = omega arith
+  start_lighter room turning waits (Return code) text = omega arith
+  start_lighter room turning waits Break text = omega arith
+  start_lighter room turning waits Continue text = omega arith
+
+  global_lighter : (waits : List (Waiting K)) (code : Code) (text : List ℕ) → weight (moved (global_end code text) waits) < 1 + (1 + waits_weight waits)
+  global_lighter waits Normal text = omega arith
+  global_lighter waits Error text = omega arith
+  global_lighter waits (Return code) text = omega arith
+  global_lighter waits Break text = omega arith
+  global_lighter waits Continue text = omega arith
+
+  pub end_lighter : (store : Store) (context : Context) (code : Code) (text : List ℕ) (waiting : Waiting K) (waits : List (Waiting K)) → weight (end_move store context code text waiting waits).moved < 1 + (waiting_weight waiting + waits_weight waits)
+  end_lighter store context Normal text (ForCommand room after) waits = omega arith
+  end_lighter store context Error text (ForCommand room after) waits = omega arith
+  end_lighter store context (Return code) text (ForCommand room after) waits = omega arith
+  end_lighter store context Break text (ForCommand room after) waits = omega arith
+  end_lighter store context Continue text (ForCommand room after) waits = omega arith
+  end_lighter store context Normal text (ForBracket w) waits =
+      let level : ℕ = here context.levels store in
+      let light : weight (bracket_move level store w waits text) ≤ 2 + (pieces_weight (script_weight w.room) w.pieces + (words_weight (script_weight w.room) w.words + (commands_weight (script_weight w.room) w.after + waits_weight waits))) =
+      word_light w.room w.after w.expand w.words w.whole waits (λ more. words_move level store w.room w.after w.words more waits) (pieces_weight (script_weight w.room) w.pieces) (join_end w.so_far text (word_end level store w.pieces))
+      (λ more. words_light level store w.room w.after w.words more waits)
+      (join_weighs (script_weight w.room) (pieces_weight (script_weight w.room) w.pieces) (nat_le (length (w.so_far ++ text)) 65536) (word_end level store w.pieces (w.so_far ++ text)) (end_weighs (script_weight w.room) level store w.pieces (w.so_far ++ text))) in
       omega arith
-  end_lighter store Error text (ForBracket w) waits = omega arith
-  end_lighter store (Return code) text (ForBracket w) waits = omega arith
-  end_lighter store Break text (ForBracket w) waits = omega arith
-  end_lighter store Continue text (ForBracket w) waits = omega arith
-  end_lighter store Normal text (ForBody turning) waits = omega arith
-  end_lighter store Error text (ForBody turning) waits = omega arith
-  end_lighter store (Return code) text (ForBody turning) waits = omega arith
-  end_lighter store Break text (ForBody turning) waits = omega arith
-  end_lighter store Continue text (ForBody turning) waits = omega arith
-  end_lighter store code text (ForScript room task) waits = omega arith
-  end_lighter store code text ForAll waits = global_light (out_of_global code)
-    where
-      global_light : (code' : Code) → weight (moved (global_end code' text) waits) < 1 + (1 + waits_weight waits)
-      global_light Normal = omega arith
-      global_light Error = omega arith
-      global_light (Return code') = omega arith
-      global_light Break = omega arith
-      global_light Continue = omega arith
+  end_lighter store context Error text (ForBracket w) waits = omega arith
+  end_lighter store context (Return code) text (ForBracket w) waits = omega arith
+  end_lighter store context Break text (ForBracket w) waits = omega arith
+  end_lighter store context Continue text (ForBracket w) waits = omega arith
+  end_lighter store context code text (ForBody room turning) waits = body_lighter room turning waits code text
+  end_lighter store context code text (ForNext room turning) waits = after_next_lighter room turning waits code text
+  end_lighter store context code text (ForStart room turning) waits = start_lighter room turning waits code text
+  end_lighter store context code text (ForCatch name) waits = omega arith
+  end_lighter store context code text (ForLevels levels) waits = omega arith
+  end_lighter store context code text ForProcedure waits = omega arith
+  end_lighter store context code text (ForScript room task) waits = omega arith
+  end_lighter store context code text ForAll waits = global_lighter waits (out_of_global code) text
 
-  quiet_lighter_by : (store : Store) (doing : Doing K) (waits : List (Waiting K)) → IsQuietBy doing waits → weight (quiet_by store doing waits) < weight (moved doing waits)
-  quiet_lighter_by store (Begins room text) waits q = begin_lighter room text waits
-  quiet_lighter_by store (GoesOn room commands result) waits q = omega (arith, go_on_lighter store room commands result waits)
-  quiet_lighter_by store (Calls room words) waits q = absurd q
-  quiet_lighter_by store (Tests turning) waits q = absurd q
-  quiet_lighter_by store (Steps room task) waits q = absurd q
-  quiet_lighter_by store (Resumes room task code text) waits q = absurd q
-  quiet_lighter_by store (Ends code text) [] q = absurd (q refl)
-  quiet_lighter_by store (Ends code text) (waiting ∷ waits) q = end_lighter store code text waiting waits
+  quiet_lighter_by : (store : Store) (context : Context) (doing : Doing K) (waits : List (Waiting K)) → IsQuietBy doing waits → weight (quiet_by store context doing waits).moved < weight (moved doing waits)
+  quiet_lighter_by store context (Begins room text) waits q = begin_lighter room text waits
+  quiet_lighter_by store context (GoesOn room commands result) waits q = omega (arith, go_on_lighter (here context.levels store) store room commands result waits)
+  quiet_lighter_by store context (Calls room words) waits q = absurd q
+  quiet_lighter_by store context (Tests room turning) waits q = absurd q
+  quiet_lighter_by store context (Steps room task) waits q = absurd q
+  quiet_lighter_by store context (Resumes room task code text) waits q = absurd q
+  quiet_lighter_by store context (Ends code text) [] q = absurd (q refl)
+  quiet_lighter_by store context (Ends code text) (waiting ∷ waits) q = end_lighter store context code text waiting waits
 
   -- a move makes what is to do before the next step lighter
-  pub quiet_lighter : (store : Store) (m n : Moved K) → IsQuiet m → n ≡ quiet_move store m → weight n < weight m
-  quiet_lighter store m n q e = rw e (quiet_lighter_by store m.doing m.waits q)
+  pub quiet_lighter : (m n : Standing K) → IsQuiet m.moved → n ≡ quiet_move m → weight n.moved < weight m.moved
+  quiet_lighter m n q e = rw e (quiet_lighter_by m.store m.context m.moved.doing m.moved.waits q)
 
 -- ── tasks ──
 
@@ -192,17 +242,22 @@ module _ {K : Type 0} (size : K → ℕ) where
   abbrev pub tasks : Moved K → ℕ
   tasks m = doing_tasks m.doing + waits_tasks m.waits
 
-  word_tasks : (room : ℕ) (after : List Command) (words : List Word) (whole : List (List ℕ)) (waits : List (Waiting K)) (go : List (List ℕ) → Moved K) (end : WordEnd)
-      → ((more : List (List ℕ)) → tasks (go more) ≡ waits_tasks waits) → tasks (word_move room after words whole waits go end) ≡ waits_tasks waits
-  word_tasks room after words whole waits go (Whole text) h = h (whole ++ text ∷ [])
-  word_tasks room after words whole waits go (Failed text) h = omega arith
-  word_tasks room after words whole waits go (AtBracket script pieces so_far) h = omega arith
+  more_tasks : (waits : List (Waiting K)) (whole : List (List ℕ)) (go : List (List ℕ) → Moved K) (more : Result (List (List ℕ)) (List ℕ))
+      → ((all : List (List ℕ)) → tasks (go all) ≡ waits_tasks waits) → tasks (more_move waits go (with_more whole more)) ≡ waits_tasks waits
+  more_tasks waits whole go (Ok more) h = h (whole ++ more)
+  more_tasks waits whole go (Err text) h = omega arith
 
-  words_tasks : (store : Store) (room : ℕ) (after : List Command) (words : List Word) (whole : List (List ℕ)) (waits : List (Waiting K)) → tasks (words_move store room after words whole waits) ≡ waits_tasks waits
-  words_tasks store room after [] [] waits = omega arith
-  words_tasks store room after [] (name ∷ arguments) waits = omega arith
-  words_tasks store room after (word ∷ words) whole waits =
-      word_tasks room after words whole waits (λ more. words_move store room after words more waits) (word_end store word.pieces []) (λ more. words_tasks store room after words more waits)
+  word_tasks : (room : ℕ) (after : List Command) (expand : Bool) (words : List Word) (whole : List (List ℕ)) (waits : List (Waiting K)) (go : List (List ℕ) → Moved K) (end : WordEnd)
+      → ((more : List (List ℕ)) → tasks (go more) ≡ waits_tasks waits) → tasks (word_move room after expand words whole waits go end) ≡ waits_tasks waits
+  word_tasks room after expand words whole waits go (Whole text) h = more_tasks waits whole go (words_of expand text) h
+  word_tasks room after expand words whole waits go (Failed text) h = omega arith
+  word_tasks room after expand words whole waits go (AtBracket script pieces so_far) h = omega arith
+
+  words_tasks : (level : ℕ) (store : Store) (room : ℕ) (after : List Command) (words : List Word) (whole : List (List ℕ)) (waits : List (Waiting K)) → tasks (words_move level store room after words whole waits) ≡ waits_tasks waits
+  words_tasks level store room after [] [] waits = omega arith
+  words_tasks level store room after [] (name ∷ arguments) waits = omega arith
+  words_tasks level store room after (word ∷ words) whole waits =
+      word_tasks room after word.expand words whole waits (λ more. words_move level store room after words more waits) (word_end level store word.pieces []) (λ more. words_tasks level store room after words more waits)
 
   parsed_tasks : (room : ℕ) (waits : List (Waiting K)) (script : Result (List Command) ParseFault) → tasks (parsed_move room waits script) ≡ waits_tasks waits
   parsed_tasks room waits (Ok commands) = omega arith
@@ -212,57 +267,88 @@ module _ {K : Type 0} (size : K → ℕ) where
   begin_tasks zero text waits = omega arith
   begin_tasks (suc room) text waits = ap tasks (begin_some room text waits) ∙ parsed_tasks room waits (script_of text)
 
-  pub go_on_tasks : (store : Store) (room : ℕ) (commands : List Command) (result : List ℕ) (waits : List (Waiting K)) → tasks (go_on_move store room commands result waits) ≡ waits_tasks waits
-  go_on_tasks store room [] result waits = omega arith
-  go_on_tasks store room (command ∷ after) result waits = words_tasks store room after command.words [] waits
+  pub go_on_tasks : (level : ℕ) (store : Store) (room : ℕ) (commands : List Command) (result : List ℕ) (waits : List (Waiting K)) → tasks (go_on_move level store room commands result waits) ≡ waits_tasks waits
+  go_on_tasks level store room [] result waits = omega arith
+  go_on_tasks level store room (command ∷ after) result waits = words_tasks level store room after command.words [] waits
 
-  pub end_tasks : (store : Store) (code : Code) (text : List ℕ) (waiting : Waiting K) (waits : List (Waiting K)) → tasks (end_move store code text waiting waits) ≡ waits_tasks (waiting ∷ waits)
-  end_tasks store Normal text (ForCommand room after) waits = omega arith
-  end_tasks store Error text (ForCommand room after) waits = omega arith
-  end_tasks store (Return code) text (ForCommand room after) waits = omega arith
-  end_tasks store Break text (ForCommand room after) waits = omega arith
-  end_tasks store Continue text (ForCommand room after) waits = omega arith
-  end_tasks store Normal text (ForBracket w) waits =
-      let same : tasks (bracket_move store w waits text) ≡ waits_tasks waits =
-      word_tasks w.room w.after w.words w.whole waits (λ more. words_move store w.room w.after w.words more waits) (join_end w.so_far text (word_end store w.pieces)) (λ more. words_tasks store w.room w.after w.words more waits) in
-      omega arith
-  end_tasks store Error text (ForBracket w) waits = omega arith
-  end_tasks store (Return code) text (ForBracket w) waits = omega arith
-  end_tasks store Break text (ForBracket w) waits = omega arith
-  end_tasks store Continue text (ForBracket w) waits = omega arith
-  end_tasks store Normal text (ForBody turning) waits = omega arith
-  end_tasks store Error text (ForBody turning) waits = omega arith
-  end_tasks store (Return code) text (ForBody turning) waits = omega arith
-  end_tasks store Break text (ForBody turning) waits = omega arith
-  end_tasks store Continue text (ForBody turning) waits = omega arith
-  end_tasks store code text (ForScript room task) waits = refl
-  end_tasks store code text ForAll waits = global_tasks (out_of_global code)
-    where
-      global_tasks : (code' : Code) → tasks (moved (global_end code' text) waits) ≡ 0 + waits_tasks waits
-      global_tasks Normal = refl
-      global_tasks Error = refl
-      global_tasks (Return code') = refl
-      global_tasks Break = refl
-      global_tasks Continue = refl
+  command_tasks : (room : ℕ) (after : List Command) (waits : List (Waiting K)) (code : Code) (text : List ℕ) → tasks (after_command room after waits code text) ≡ 0 + waits_tasks waits
+  command_tasks room after waits Normal text = refl
+  command_tasks room after waits Error text = refl
+  command_tasks room after waits (Return code) text = refl
+  command_tasks room after waits Break text = refl
+  command_tasks room after waits Continue text = refl
 
-  quiet_tasks_by : (store : Store) (doing : Doing K) (waits : List (Waiting K)) → tasks (quiet_by store doing waits) ≡ tasks (moved doing waits)
-  quiet_tasks_by store (Begins room text) waits = begin_tasks room text waits ∙ omega arith
-  quiet_tasks_by store (GoesOn room commands result) waits = go_on_tasks store room commands result waits ∙ omega arith
-  quiet_tasks_by store (Calls room words) waits = refl
-  quiet_tasks_by store (Tests turning) waits = refl
-  quiet_tasks_by store (Steps room task) waits = refl
-  quiet_tasks_by store (Resumes room task code text) waits = refl
-  quiet_tasks_by store (Ends code text) [] = refl
-  quiet_tasks_by store (Ends code text) (waiting ∷ waits) = end_tasks store code text waiting waits ∙ omega arith
+  bracket_tasks : (level : ℕ) (store : Store) (w : Wording) (waits : List (Waiting K)) (code : Code) (text : List ℕ) → tasks (after_bracket level store w waits code text) ≡ waits_tasks waits
+  bracket_tasks level store w waits Normal text =
+      word_tasks w.room w.after w.expand w.words w.whole waits (λ more. words_move level store w.room w.after w.words more waits) (join_end w.so_far text (word_end level store w.pieces)) (λ more. words_tasks level store w.room w.after w.words more waits)
+  bracket_tasks level store w waits Error text = omega arith
+  bracket_tasks level store w waits (Return code) text = omega arith
+  bracket_tasks level store w waits Break text = omega arith
+  bracket_tasks level store w waits Continue text = omega arith
+
+  next_tasks : (room : ℕ) (turning : Turning) (waits : List (Waiting K)) (next : Option (List ℕ)) → tasks (next_move room turning waits next) ≡ waits_tasks waits
+  next_tasks room turning waits None = omega arith
+  next_tasks room turning waits (Some script) = omega arith
+
+  body_tasks : (room : ℕ) (turning : Turning) (waits : List (Waiting K)) (code : Code) (text : List ℕ) → tasks (after_body_move room turning waits code text) ≡ waits_tasks waits
+  body_tasks room turning waits Normal text = next_tasks room turning waits turning.next
+  body_tasks room turning waits Error text = omega arith
+  body_tasks room turning waits (Return code) text = omega arith
+  body_tasks room turning waits Break text = omega arith
+  body_tasks room turning waits Continue text = next_tasks room turning waits turning.next
+
+  after_next_tasks : (room : ℕ) (turning : Turning) (waits : List (Waiting K)) (code : Code) (text : List ℕ) → tasks (after_next_move room turning waits code text) ≡ waits_tasks waits
+  after_next_tasks room turning waits Normal text = omega arith
+  after_next_tasks room turning waits Error text = omega arith
+  after_next_tasks room turning waits (Return code) text = omega arith
+  after_next_tasks room turning waits Break text = omega arith
+  after_next_tasks room turning waits Continue text = omega arith
+
+  start_tasks : (room : ℕ) (turning : Turning) (waits : List (Waiting K)) (code : Code) (text : List ℕ) → tasks (after_start_move room turning waits code text) ≡ waits_tasks waits
+  start_tasks room turning waits Normal text = omega arith
+  start_tasks room turning waits Error text = omega arith
+  start_tasks room turning waits (Return code) text = omega arith
+  start_tasks room turning waits Break text = omega arith
+  start_tasks room turning waits Continue text = omega arith
+
+  global_tasks : (waits : List (Waiting K)) (code : Code) (text : List ℕ) → tasks (moved (global_end code text) waits) ≡ waits_tasks waits
+  global_tasks waits Normal text = omega arith
+  global_tasks waits Error text = omega arith
+  global_tasks waits (Return code) text = omega arith
+  global_tasks waits Break text = omega arith
+  global_tasks waits Continue text = omega arith
+
+  pub end_tasks : (store : Store) (context : Context) (code : Code) (text : List ℕ) (waiting : Waiting K) (waits : List (Waiting K)) → tasks (end_move store context code text waiting waits).moved ≡ waits_tasks (waiting ∷ waits)
+  end_tasks store context code text (ForCommand room after) waits = command_tasks room after waits code text
+  end_tasks store context code text (ForBracket w) waits = omega (arith, bracket_tasks (here context.levels store) store w waits code text)
+  end_tasks store context code text (ForBody room turning) waits = omega (arith, body_tasks room turning waits code text)
+  end_tasks store context code text (ForNext room turning) waits = omega (arith, after_next_tasks room turning waits code text)
+  end_tasks store context code text (ForStart room turning) waits = omega (arith, start_tasks room turning waits code text)
+  end_tasks store context code text (ForCatch name) waits = omega arith
+  end_tasks store context code text (ForLevels levels) waits = omega arith
+  end_tasks store context code text ForProcedure waits = omega arith
+  end_tasks store context code text (ForScript room task) waits = refl
+  end_tasks store context code text ForAll waits = omega (arith, global_tasks waits (out_of_global code) text)
+
+  quiet_tasks_by : (store : Store) (context : Context) (doing : Doing K) (waits : List (Waiting K)) → tasks (quiet_by store context doing waits).moved ≡ tasks (moved doing waits)
+  quiet_tasks_by store context (Begins room text) waits = begin_tasks room text waits ∙ omega arith
+  quiet_tasks_by store context (GoesOn room commands result) waits = go_on_tasks (here context.levels store) store room commands result waits ∙ omega arith
+  quiet_tasks_by store context (Calls room words) waits = refl
+  quiet_tasks_by store context (Tests room turning) waits = refl
+  quiet_tasks_by store context (Steps room task) waits = refl
+  quiet_tasks_by store context (Resumes room task code text) waits = refl
+  quiet_tasks_by store context (Ends code text) [] = refl
+  quiet_tasks_by store context (Ends code text) (waiting ∷ waits) = end_tasks store context code text waiting waits ∙ omega arith
 
   -- moves without a step leave the tasks alone
-  pub quiet_moves_tasks : (store : Store) (moves : ℕ) (m : Moved K) → tasks (quiet_moves store moves m) ≡ tasks m
-  quiet_moves_tasks store zero m = refl
-  quiet_moves_tasks store (suc moves) m = quiet_tasks_by store (quiet_moves store moves m).doing (quiet_moves store moves m).waits ∙ quiet_moves_tasks store moves m
+  pub quiet_moves_tasks : (moves : ℕ) (m : Standing K) → tasks (quiet_moves moves m).moved ≡ tasks m.moved
+  quiet_moves_tasks zero m = refl
+  quiet_moves_tasks (suc moves) m =
+      quiet_tasks_by (quiet_moves moves m).store (quiet_moves moves m).context (quiet_moves moves m).moved.doing (quiet_moves moves m).moved.waits ∙ quiet_moves_tasks moves m
 
-  pub leads_tasks : (store : Store) (m n : Moved K) → Leads store m n → tasks n ≡ tasks m
-  leads_tasks store m n (moves, e) = ap tasks (sym e) ∙ quiet_moves_tasks store moves m
+  pub leads_tasks : (m n : Standing K) → Leads m n → tasks n.moved ≡ tasks m.moved
+  leads_tasks m n (moves, e) = ap (λ (s : Standing K). tasks s.moved) (sym e) ∙ quiet_moves_tasks moves m
 
 -- one move more
-pub leads_on : {K : Type 0} (store : Store) (m n k : Moved K) → Leads store m n → k ≡ quiet_move store n → Leads store m k
-leads_on store m n k (moves, e) h = (suc moves, ap (quiet_move store) e ∙ sym h)
+pub leads_on : {K : Type 0} (m n k : Standing K) → Leads m n → k ≡ quiet_move n → Leads m k
+leads_on m n k (moves, e) h = (suc moves, ap quiet_move e ∙ sym h)

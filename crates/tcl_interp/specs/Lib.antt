@@ -1,11 +1,11 @@
 -- What the contracts cite.
 pub mod Advances
-pub mod Commands
 pub mod Evaluation
 pub mod Finish
 pub mod Interp
 pub mod Moves
 pub mod Outside
+pub mod Plans
 pub mod Quiet
 pub mod Rests
 pub mod Runs

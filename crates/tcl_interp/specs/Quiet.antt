@@ -1,34 +1,36 @@
 -- Moves in a row, up to where a step, a task or the end is due.
 use Rattle.std.specs.Prelude.{◌≡◌, ◌≢◌, ℕ, zero, suc, List, [], ◌∷◌}
 use Rattle.tcl_vars.specs.Store.{Store}
-use Rattle.tcl_interp.specs.declared.tasks.Code.{Code}
+use Rattle.tcl_control.specs.declared.code.Code.{Code}
+use Rattle.tcl_control.specs.declared.context.Context.{Context}
+use Rattle.tcl_control.specs.Levels.{here}
 use Rattle.tcl_interp.specs.Finish.{Doing, Begins, GoesOn, Ends, Waiting}
-use Rattle.tcl_interp.specs.Moves.{Moved, moved, begin_move, go_on_move, end_move}
+use Rattle.tcl_interp.specs.Moves.{Moved, Standing, moved, standing, begin_move, go_on_move, end_move}
 
 module _ {K : Type 0} where
   -- something ends, and what waited for it goes on
-  abbrev pub ends_move : Store → Code → List ℕ → List (Waiting K) → Moved K
-  ends_move store code text [] = moved (Ends code text) []
-  ends_move store code text (waiting ∷ waits) = end_move store code text waiting waits
+  abbrev pub ends_move : Store → Context → Code → List ℕ → List (Waiting K) → Standing K
+  ends_move store context code text [] = standing (moved (Ends code text) []) store context
+  ends_move store context code text (waiting ∷ waits) = end_move store context code text waiting waits
 
-  abbrev pub quiet_by : Store → Doing K → List (Waiting K) → Moved K
-  quiet_by store (Begins room text) waits = begin_move room text waits
-  quiet_by store (GoesOn room commands result) waits = go_on_move store room commands result waits
-  quiet_by store (Ends code text) waits = ends_move store code text waits
-  quiet_by store doing waits = moved doing waits
+  abbrev pub quiet_by : Store → Context → Doing K → List (Waiting K) → Standing K
+  quiet_by store context (Begins room text) waits = standing (begin_move room text waits) store context
+  quiet_by store context (GoesOn room commands result) waits = standing (go_on_move (here context.levels store) store room commands result waits) store context
+  quiet_by store context (Ends code text) waits = ends_move store context code text waits
+  quiet_by store context doing waits = standing (moved doing waits) store context
 
   -- one move
-  abbrev pub quiet_move : Store → Moved K → Moved K
-  quiet_move store m = quiet_by store m.doing m.waits
+  abbrev pub quiet_move : Standing K → Standing K
+  quiet_move m = quiet_by m.store m.context m.moved.doing m.moved.waits
 
   -- so many moves
-  abbrev pub quiet_moves : Store → ℕ → Moved K → Moved K
-  quiet_moves store zero m = m
-  quiet_moves store (suc moves) m = quiet_move store (quiet_moves store moves m)
+  abbrev pub quiet_moves : ℕ → Standing K → Standing K
+  quiet_moves zero m = m
+  quiet_moves (suc moves) m = quiet_move (quiet_moves moves m)
 
   -- some number of moves leads from one to the other
-  abbrev pub Leads : Store → Moved K → Moved K → Type 0
-  Leads store from to = (moves : ℕ) × (quiet_moves store moves from ≡ to)
+  abbrev pub Leads : Standing K → Standing K → Type 0
+  Leads from to = (moves : ℕ) × (quiet_moves moves from ≡ to)
 
   -- there is more to do without a step
   abbrev pub IsQuietBy : Doing K → List (Waiting K) → Type 0

@@ -2,7 +2,7 @@
 use Rattle.std.specs.Prelude.{◌≡◌, ℕ, ◌-◌, ◌==◌, ◌<◌, nat_lt, Bool, true, false, if◌then◌else◌, List, codes, refl}
 use Rattle.std.proofs.Common.{arith}
 use Rattle.std.proofs.lemmas.Bool.Decides.{nat_tests}
-use Rattle.tcl_interp.specs.declared.tasks.Code.{Code}
+use Rattle.tcl_control.specs.declared.code.Code.{Code}
 use Rattle.tcl_interp.specs.declared.tasks.Act.TheVariants.{Done, Step, Run}
 use Rattle.tcl_interp.specs.Outside.{RunsBelow, Falls}
 use Rattle.tcl_interp.specs.Sample.{sample}

@@ -1,7 +1,6 @@
 ghost use Rattle.std.specs.Prelude.{◌≤◌, string_len};
 
-use crate::loops::{Source, Turning};
-use crate::tasks::Code;
+use tcl_control::{Code, Levels, Source, Turning};
 use tcl_text::{Text, TextList};
 use tcl_words::Script;
 
@@ -54,7 +53,10 @@ pub enum Now<K> {
         room: u64,
         words: TextList,
     },
-    Tests(Turning),
+    Tests {
+        room: u64,
+        turning: Turning,
+    },
     Steps {
         room: u64,
         task: K,
@@ -76,7 +78,12 @@ pub enum Now<K> {
 pub enum Frame<K> {
     ForCommand(Place),
     ForBracket(Wording),
-    ForBody(Turning),
+    ForBody { room: u64, turning: Turning },
+    ForNext { room: u64, turning: Turning },
+    ForStart { room: u64, turning: Turning },
+    ForCatch(Option<Text>),
+    ForLevels(Levels),
+    ForProcedure,
     ForScript { room: u64, task: K },
     ForAll,
 }

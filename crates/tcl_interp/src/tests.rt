@@ -3,13 +3,13 @@ ghost use Rattle.tcl_interp.specs.Finish.{Idle};
 ghost use Rattle.tcl_interp.specs.Interp.{rest_of};
 ghost use Rattle.tcl_interp.specs.Sample.{alone_act, sample_act, resumed_act};
 
-use crate::tasks::{Act, Code, ReturnCode, Tasks};
-use crate::texts::fixed;
-use crate::{Interp, SliceEnd};
+use crate::tasks::{Act, Tasks};
+use crate::{Code, Interp, ReturnCode, SliceEnd};
 use std::alloc::{AllocError, Global};
 use std::process::Abort;
 use std::test::Fail;
-use tcl_text::Text;
+use tcl_control::texts::fixed;
+use tcl_text::{Text, TextList};
 use tcl_vars::Scopes;
 
 fn done(alloc: Global, code: Code, text: &str) -> Result<Act<u64>, AllocError>
@@ -110,6 +110,18 @@ impl Tasks for Panel {
     ghost falls = { sample_falls };
 }
 
+/// The names of the sample's commands, and more.
+fn names_with(alloc: Global, more: &[Text]) -> Result<TextList, Fail> {
+    let mut names = TextList::new(alloc);
+    for name in ["ask", "fail", "stop", "go", "leave", "rest", "again"] {
+        names.push(Text::new(alloc, name)?)?;
+    }
+    for name in more {
+        names.push(name.copy()?)?;
+    }
+    Ok(names)
+}
+
 /// How a script ends, and the steps that are left.
 fn ending(
     alloc: Global,
@@ -120,7 +132,8 @@ fn ending(
 ) -> Result<(SliceEnd, u64), Fail>
     requires { 0 < slice }
 {
-    let mut interp: Interp<u64> = Interp::new(alloc, budget, replaced)?;
+    let names = names_with(alloc, replaced)?;
+    let mut interp: Interp<u64> = Interp::new(alloc, budget, names.as_slice())?;
     let mut scopes = Scopes::new(alloc)?;
     interp.begin(Text::new(alloc, script)?)?;
     let end = interp.run_to_end(&mut Panel { alloc }, &mut scopes, &[], slice)?;

@@ -1,8 +1,10 @@
 ghost use Rattle.std.specs.Prelude.{◌≡◌, ◌≤◌, ◌++◌, length, IfOk};
-ghost use Rattle.tcl_interp.specs.Texts.{message, limit_text, fault_text, read_reason, cannot_read, cannot_set, not_boolean, unknown_command};
+ghost use Rattle.tcl_text.specs.Splitting.{fault_text as list_text};
+ghost use Rattle.tcl_words.specs.Faults.{text_of};
+ghost use Rattle.tcl_control.specs.Texts.{message, limit_text, read_reason, cannot_read, cannot_set, not_boolean, unknown_command, about};
 
 use std::alloc::{AllocError, Global};
-use tcl_text::{Text, TextFault};
+use tcl_text::{ListFault, Text, TextFault};
 use tcl_vars::{ReadFault, SetFault};
 use tcl_words::ParseFault;
 
@@ -97,26 +99,34 @@ pub fn unknown_command(alloc: Global, name: &str) -> Result<Text, AllocError>
     message(alloc, "invalid command name \"", name, "\"")
 }
 
-/// Why a text is no script, as its script is told of it.
-pub fn fault_text(alloc: Global, fault: ParseFault) -> Result<Text, AllocError>
-    ensures { IfOk result (λ text. text ≡ fault_text fault) }
+/// A message of these characters.
+pub fn told(alloc: Global, characters: &str) -> Result<Text, AllocError>
+    ensures { IfOk result (λ text. text ≡ message characters.now) }
 {
-    fixed(alloc, fault_characters(fault))
+    match Text::new(alloc, characters) {
+        Ok(text) => Ok(text),
+        Err(TextFault::TooLong) => limit(alloc),
+        Err(TextFault::NoMemory) => Err(AllocError),
+    }
 }
 
-fn fault_characters(fault: ParseFault) -> &'static str
-    ensures value { result.now ≡ fault_text fault }
-    ensures short { length result.now ≤ 65536 }
+/// Why a text is no script, as its script is told of it.
+pub fn fault_text(alloc: Global, fault: ParseFault) -> Result<Text, AllocError>
+    ensures { IfOk result (λ text. text ≡ message (text_of fault)) }
 {
-    match fault {
-        ParseFault::TooLong => "limit reached: value",
-        ParseFault::MissingBrace => "missing close-brace",
-        ParseFault::MissingBracket => "missing close-bracket",
-        ParseFault::MissingQuote => "missing \"",
-        ParseFault::ExtraAfterBrace => "extra characters after close-brace",
-        ParseFault::ExtraAfterQuote => "extra characters after close-quote",
-        ParseFault::MissingParen => "missing )",
-        ParseFault::NotYet => "not yet",
-        ParseFault::NoMemory => "",
-    }
+    told(alloc, fault.text())
+}
+
+/// Why a text is no list, as its script is told of it.
+pub fn list_fault(alloc: Global, fault: ListFault) -> Result<Text, AllocError>
+    ensures { IfOk result (λ text. text ≡ message (list_text fault)) }
+{
+    told(alloc, fault.text())
+}
+
+/// The error about a word, behind what stands before it.
+pub fn about(alloc: Global, before: &str, word: &str) -> Result<Text, AllocError>
+    ensures { IfOk result (λ text. text ≡ about before.now word.now) }
+{
+    message(alloc, before, word, "\"")
 }

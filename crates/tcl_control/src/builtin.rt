@@ -1,0 +1,15 @@
+/// The commands that the interpreter has itself, those on texts and lists aside.
+#[derive(Clone, Copy, Debug, PartialEq, Eq)]
+pub enum Builtin {
+    Break,
+    Catch,
+    Continue,
+    Error,
+    Eval,
+    For,
+    Info,
+    Return,
+    Set,
+    Uplevel,
+    While,
+}

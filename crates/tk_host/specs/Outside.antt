@@ -5,8 +5,8 @@ use Rattle.tcl_text.specs.Answers.{Answer}
 use Rattle.tcl_vars.specs.Store.{Store}
 use Rattle.tcl_interp.specs.declared.tasks.Act.{Act}
 use Rattle.tcl_interp.specs.declared.tasks.Act.TheVariants.{Done, Step, Run, Unknown}
-use Rattle.tcl_interp.specs.declared.tasks.Code.{Code}
-use Rattle.tcl_interp.specs.declared.tasks.Code.TheVariants.{Normal, Error, Return, Break, Continue}
+use Rattle.tcl_control.specs.declared.code.Code.{Code}
+use Rattle.tcl_control.specs.declared.code.Code.TheVariants.{Normal, Error, Return, Break, Continue}
 use Rattle.tcl_interp.specs.Outside.{Outside, Told}
 use Rattle.tcl_interp.specs.Texts.{message, wrong_words}
 use Rattle.tk_after.specs.declared.entry.Entry.{Entry}
@@ -55,6 +55,10 @@ abbrev pub after_told : List (List ℕ) → Shown → Store → Told Shown Settl
 after_told arguments shown =
     let answered = after_words shown.moment arguments shown.own in
     told (act_of answered.1) (record shown { own = answered.0 })
+
+-- the names of the commands
+abbrev pub served_names : List (List ℕ)
+served_names = codes "puts" ∷ codes "after" ∷ []
 
 -- a command by its name
 abbrev pub told_by : List (List ℕ) → Shown → Store → Told Shown Settling

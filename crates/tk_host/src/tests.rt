@@ -216,51 +216,36 @@ fn ends_once(rt: HostRuntime) -> Result<(), Fail> {
     Ok(())
 }
 
-/// Timers of two applications, at the moments that a host is brought to, whatever the slice.
+/// Timers and an idle script at the moments that a host is brought to.
 #[test]
 fn goes_on_to_moments(rt: HostRuntime) -> Result<(), Fail> {
     let alloc = rt.alloc();
-    for slice in [1, 3, 64] {
-        let mut host = Host::new(alloc, slice);
-        let script =
-            "after 5 {puts a; after idle {puts b}}; after 8 {puts {c\nd}}; after idle {puts e}";
-        assert_eq!(rt; add(&mut host, alloc, "a", LEFT, script, 100)?, None);
-        assert_eq!(rt;
-            add(
-                &mut host,
-                alloc,
-                "b",
-                RIGHT,
-                "after 6 {while 1 {}}; after 6 {puts f}; after idle {after 9 x}",
-                20
-            )?,
-            None
-        );
-        host.start()?;
-        assert_eq!(rt;
-            host.section(0)?.as_slice(),
-            b"app a running 95\nout 0 e\ntree\nwin . Tk 0 0 100 50 1\ntimers\ntimer after#0 5 puts a; after idle {puts b}\ntimer after#1 8 puts {c\\nd}\ndone\n".as_slice()
-        );
-        assert_eq!(rt; advance(&mut host, 4), None);
-        assert_eq!(rt; advance(&mut host, 3), Some(35));
-        assert_eq!(rt; advance(&mut host, 1_000_000_000_001), Some(36));
-        assert_eq!(rt; advance(&mut host, 5), None);
-        assert_eq!(rt; advance(&mut host, 5), None);
-        assert_eq!(rt;
-            host.section(0)?.as_slice(),
-            b"app a running 90\nout 0 e\nout 5 a\nout 5 b\ntree\nwin . Tk 0 0 100 50 1\ntimers\ntimer after#1 8 puts {c\\nd}\ndone\n".as_slice()
-        );
-        assert_eq!(rt; add(&mut host, alloc, "c", LEFT, "", 1)?, Some(40));
-        assert_eq!(rt; end(&mut host, 8), None);
-        assert_eq!(rt; advance(&mut host, 9), Some(41));
-        assert_eq!(rt;
-            host.section(0)?.as_slice(),
-            b"app a running 88\nout 0 e\nout 5 a\nout 5 b\nout 8 c\\nd\ntree\nwin . Tk 0 0 100 50 1\ntimers\ndone\n".as_slice()
-        );
-        assert_eq!(rt;
-            host.section(1)?.as_slice(),
-            b"app b exhausted 0\ntree\nwin . Tk 0 0 100 50 1\ntimers\ntimer after#1 6 puts f\ntimer after#2 9 x\ndone\n".as_slice()
-        );
-    }
+    let mut host = Host::new(alloc, 3);
+    let script = "after 5 {puts a; after idle {puts b}}; after 8 {puts c}; after idle {puts e}";
+    assert_eq!(rt; add(&mut host, alloc, "a", LEFT, script, 100)?, None);
+    host.start()?;
+    assert_eq!(rt; advance(&mut host, 5), None);
+    assert_eq!(rt;
+        host.section(0)?.as_slice(),
+        b"app a running 90\nout 0 e\nout 5 a\nout 5 b\ntree\nwin . Tk 0 0 100 50 1\ntimers\ntimer after#1 8 puts c\ndone\n".as_slice()
+    );
+    assert_eq!(rt; end(&mut host, 8), None);
+    assert_eq!(rt;
+        host.section(0)?.as_slice(),
+        b"app a running 88\nout 0 e\nout 5 a\nout 5 b\nout 8 c\ntree\nwin . Tk 0 0 100 50 1\ntimers\ndone\n".as_slice()
+    );
+    Ok(())
+}
+
+#[test]
+fn goes_forth_alone(rt: HostRuntime) -> Result<(), Fail> {
+    let mut host = Host::new(rt.alloc(), 1);
+    host.start()?;
+    assert_eq!(rt; advance(&mut host, 5), None);
+    assert_eq!(rt; advance(&mut host, 4), Some(35));
+    assert_eq!(rt; advance(&mut host, 1_000_000_000_001), Some(36));
+    assert_eq!(rt; advance(&mut host, 5), None);
+    assert_eq!(rt; end(&mut host, 8), None);
+    assert_eq!(rt; advance(&mut host, 9), Some(41));
     Ok(())
 }

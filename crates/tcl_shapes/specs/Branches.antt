@@ -35,11 +35,16 @@ choices_from (AtEnd body) (word ∷ words) = None
 unfoldable pub choices_of : List (List ℕ) → Option Choices
 choices_of words = choices_from AtTest words
 
--- The pairs of `switch`: patterns and bodies in turn; none where the last pattern has no body.
+-- the pairs of `switch`, behind a pattern or not
+abbrev pub arms_from : Option (List ℕ) → List (List ℕ) → Option (List Branch)
+arms_from None [] = Some []
+arms_from None (pattern ∷ items) = arms_from (Some pattern) items
+arms_from (Some pattern) [] = None
+arms_from (Some pattern) (body ∷ items) = option_map (λ arms. branch_of pattern body ∷ arms) (arms_from None items)
+
+-- patterns and bodies in turn; none where the last pattern has no body
 unfoldable pub arms_of : List (List ℕ) → Option (List Branch)
-arms_of [] = Some []
-arms_of (pattern ∷ []) = None
-arms_of (pattern ∷ body ∷ items) = option_map (λ arms. branch_of pattern body ∷ arms) (arms_of items)
+arms_of items = arms_from None items
 
 -- choices with branches in front
 abbrev pub front : List Branch → Option Choices → Option Choices
@@ -49,3 +54,7 @@ front branches choices = option_map (λ (c : Choices). record c { branches = bra
 abbrev pub Follows : Clause → List ℕ → List Branch → Option Clause → List Branch → Type 0
 Follows clause word branches (Some next) branches' = (words : List (List ℕ)) → front branches' (choices_from next words) ≡ front branches (choices_from clause (word ∷ words))
 Follows clause word branches None branches' = (words : List (List ℕ)) → choices_from clause (word ∷ words) ≡ None
+
+-- One more item leads to this, with these arms so far: for any items behind it, all that there is stays.
+abbrev pub FollowsArm : Option (List ℕ) → List ℕ → List Branch → Option (List ℕ) → List Branch → Type 0
+FollowsArm held item arms next arms' = (items : List (List ℕ)) → option_map (λ more. arms' ++ more) (arms_from next items) ≡ option_map (λ more. arms ++ more) (arms_from held (item ∷ items))

@@ -1,9 +1,10 @@
 -- The words of `foreach`: lists of names, each with a list of items.
-use Rattle.std.specs.Prelude.{ℕ, ◌+◌, ◌-◌, ◌%◌, ◌==◌, nat_lt, Bool, List, [], ◌∷◌, length, if◌then◌else◌, Result, Ok, Err, codes}
+use Rattle.std.specs.Prelude.{◌≡◌, ℕ, ◌+◌, ◌-◌, ◌%◌, ◌==◌, nat_lt, Bool, List, [], ◌∷◌, length, if◌then◌else◌, Option, Some, None, Result, Ok, Err, codes}
 use Rattle.tcl_text.specs.Readings.{list_of}
 use Rattle.tcl_text.specs.Splitting.{fault_text as list_text}
 use Rattle.tcl_text.specs.declared.splitting.ListFault.{ListFault}
 use Rattle.tcl_shapes.specs.declared.groups.Group.{Group}
+use Rattle.tcl_shapes.specs.Ahead.{ahead}
 use Rattle.tcl_shapes.specs.Texts.{message}
 
 abbrev pub group_named : List (List ℕ) → Result (List (List ℕ)) ListFault → Result Group (List ℕ)
@@ -21,11 +22,16 @@ behind_group (Ok group) (Ok groups) = Ok (group ∷ groups)
 behind_group (Ok group) (Err text) = Err text
 behind_group (Err text) groups = Err text
 
+-- names and items in turn, behind names or not
+abbrev pub groups_from : Option (List ℕ) → List (List ℕ) → Result (List Group) (List ℕ)
+groups_from None [] = Ok []
+groups_from None (names ∷ words) = groups_from (Some names) words
+groups_from (Some names) [] = Ok []
+groups_from (Some names) (items ∷ words) = behind_group (group_of (list_of names) (list_of items)) (groups_from None words)
+
 -- names and items in turn, up to a last word alone; or the first fault's text
 unfoldable pub groups_of : List (List ℕ) → Result (List Group) (List ℕ)
-groups_of [] = Ok []
-groups_of (body ∷ []) = Ok []
-groups_of (names ∷ items ∷ words) = behind_group (group_of (list_of names) (list_of items)) (groups_of words)
+groups_of words = groups_from None words
 
 -- so many words have a body behind names and items
 abbrev pub has_body : List (List ℕ) → Bool
@@ -42,3 +48,8 @@ advanced group = record group { next = next_place (length group.names) (length g
 -- there are items left
 abbrev pub has_more : Group → Bool
 has_more group = nat_lt group.next (length group.items)
+
+-- One more word leads to this, with these groups so far: for any words behind it, all that there is stays.
+abbrev pub FollowsGroup : Option (List ℕ) → List ℕ → List Group → Result (Option (List ℕ)) (List ℕ) → List Group → Type 0
+FollowsGroup held word groups (Ok next) groups' = (words : List (List ℕ)) → ahead groups' (groups_from next words) ≡ ahead groups (groups_from held (word ∷ words))
+FollowsGroup held word groups (Err text) groups' = (words : List (List ℕ)) → groups_from held (word ∷ words) ≡ Err text

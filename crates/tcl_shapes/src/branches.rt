@@ -1,5 +1,5 @@
 ghost use Rattle.std.specs.Prelude.{◌≡◌, [], ◌∷◌, ◌++◌, drop, IfOk, OnOk, OnErr};
-ghost use Rattle.tcl_shapes.specs.Branches.{branch_of, choices_of, choices_from, arms_of, Follows};
+ghost use Rattle.tcl_shapes.specs.Branches.{branch_of, choices_of, choices_from, arms_of, Follows, FollowsArm};
 
 use std::alloc::{AllocError, Global};
 use std::marker::Model;
@@ -137,19 +137,35 @@ pub fn if_choices(alloc: Global, words: &[Text]) -> Result<Option<Choices>, Allo
     }
 }
 
+/// One more item of the pairs of `switch`: a pattern is held until its body goes with it to the arms.
+fn next_arm(
+    arms: &mut Branches,
+    held: Option<Text>,
+    item: &Text,
+) -> Result<Option<Text>, AllocError>
+    ensures { IfOk result (λ next. FollowsArm held item.now arms.old next arms.new) }
+{
+    match held {
+        None => Ok(Some(item.copy()?)),
+        Some(pattern) => {
+            arms.push(pattern, item.copy()?)?;
+            Ok(None)
+        }
+    }
+}
+
 /// The pairs of `switch`; none where the last pattern has no body (switch(n)).
+#[tactic(auto, unfolding(crate::specs::Branches::arms_of))]
 pub fn switch_arms(alloc: Global, items: &[Text]) -> Result<Option<Branches>, AllocError>
     ensures { IfOk result (λ arms. arms ≡ arms_of items.now) }
 {
     let mut arms = Branches::new(alloc);
-    let mut rest = items;
-    'pairs: while let [pattern, body, behind @ ..] = rest {
-        arms.push(pattern.copy()?, body.copy()?)?;
-        rest = behind;
+    let mut held = None;
+    for item in items {
+        held = next_arm(&mut arms, held, item)?;
     }
-    if rest.is_empty() {
-        Ok(Some(arms))
-    } else {
-        Ok(None)
+    match held {
+        None => Ok(Some(arms)),
+        Some(_) => Ok(None),
     }
 }

@@ -1,7 +1,7 @@
 ghost use Rattle.std.specs.Prelude.{◌≡◌, [], ◌∷◌, ◌++◌, map, length, IfOk, OnOk, OnErr};
 ghost use Rattle.std.specs.List.{list_any};
 ghost use Rattle.tcl_text.specs.Readings.{list_of};
-ghost use Rattle.tcl_shapes.specs.Groups.{group_named, group_of, groups_of, has_body, next_place, advanced, has_more};
+ghost use Rattle.tcl_shapes.specs.Groups.{group_named, group_of, groups_from, groups_of, has_body, next_place, advanced, has_more, FollowsGroup};
 
 use crate::texts::{fixed, list_fault};
 use std::alloc::{AllocError, Global};
@@ -132,18 +132,42 @@ fn group_of(alloc: Global, names: &Text, items: &Text) -> Result<Result<Group, T
     }
 }
 
+/// One more word of `foreach`: names are held until their items go with them to the groups.
+fn next_group(
+    alloc: Global,
+    groups: &mut Groups,
+    held: Option<Text>,
+    word: &Text,
+) -> Result<Result<Option<Text>, Text>, AllocError>
+    ensures { IfOk result (λ next. FollowsGroup held word.now groups.old next groups.new) }
+{
+    match held {
+        None => Ok(Ok(Some(word.copy()?))),
+        Some(names) => match group_of(alloc, &names, word)? {
+            Ok(group) => {
+                groups.push(group)?;
+                Ok(Ok(None))
+            }
+            Err(text) => Ok(Err(text)),
+        },
+    }
+}
+
 /// The names and items of `foreach`, up to a last word alone, or the first error's text (foreach(n)).
-pub fn foreach_groups(alloc: Global, words: &[Text]) -> Result<Result<Groups, Text>, AllocError>
+#[tactic(auto, unfolding(crate::specs::Groups::groups_of))]
+pub fn foreach_groups(
+    alloc: Global,
+    words: &[Text],
+) -> Result<Result<Groups, Text>, AllocError>
     ensures { IfOk result (λ groups. groups ≡ groups_of words.now) }
 {
     let mut groups = Groups::new(alloc);
-    let mut rest = words;
-    'groups: while let [names, items, behind @ ..] = rest {
-        match group_of(alloc, names, items)? {
-            Ok(group) => groups.push(group)?,
+    let mut held = None;
+    for word in words {
+        match next_group(alloc, &mut groups, held, word)? {
+            Ok(next) => held = next,
             Err(text) => return Ok(Err(text)),
         }
-        rest = behind;
     }
     Ok(Ok(groups))
 }

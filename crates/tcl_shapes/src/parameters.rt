@@ -1,7 +1,7 @@
-ghost use Rattle.std.specs.Prelude.{◌≡◌, ◌==◌, [], ◌∷◌, ◌++◌, IfOk, OnOk, OnErr};
-ghost use Rattle.std.specs.List.{list_any};
+ghost use Rattle.std.specs.Prelude.{◌≡◌, [], ◌∷◌, ◌++◌, option_map, IfOk, OnOk, OnErr};
+ghost use Rattle.tcl_vars.specs.Name.{element_of};
 ghost use Rattle.tcl_text.specs.Readings.{list_of};
-ghost use Rattle.tcl_shapes.specs.Parameters.{has_colons, is_element, is_parameter_name, parameter_named, parameter_of, parameters_of, parameters_in};
+ghost use Rattle.tcl_shapes.specs.Parameters.{has_colons, is_element, is_parameter_name, parameter_named, parameter_parts, parameter_of, parameters_of, parameters_in};
 
 use crate::texts::{fixed, list_fault};
 use std::alloc::{AllocError, Global};
@@ -68,19 +68,17 @@ fn has_colons(name: &[u8]) -> bool
     false
 }
 
+/// The array and the index of a name `array(index)`.
+fn element_of<'a>(name: &'a str) -> Option<(&'a str, &'a str)>
+    ensures { option_map (λ p. (p.0.now, p.1.now)) result ≡ element_of name.now }
+{
+    name.strip_suffix(')')?.split_once('(')
+}
+
 fn is_element(name: &str) -> bool
     ensures { result ≡ is_element name.now }
 {
-    match name.strip_suffix(")") {
-        Some(before) => has_opening(before.as_bytes()),
-        None => false,
-    }
-}
-
-fn has_opening(bytes: &[u8]) -> bool
-    ensures { result ≡ list_any (λ byte. byte == 40) bytes.now }
-{
-    bytes.iter().any(|byte| *byte == b'(')
+    element_of(name).is_some()
 }
 
 fn is_parameter_name(name: &Text) -> bool
@@ -107,16 +105,31 @@ fn parameter_named(
     }
 }
 
+fn parameter_parts(alloc: Global, parts: &[Text]) -> Result<Result<Parameter, Text>, AllocError>
+    ensures { IfOk result (λ parameter. parameter ≡ parameter_parts parts.now) }
+{
+    match parts {
+        [name] => {
+            let parameter = parameter_named(alloc, name, None)?;
+            Ok(parameter)
+        }
+        [name, fallback] => {
+            let parameter = parameter_named(alloc, name, Some(fallback.copy()?))?;
+            Ok(parameter)
+        }
+        _ => Ok(Err(fixed(alloc, "bad parameter list")?)),
+    }
+}
+
 /// A parameter as a list of its name and perhaps a default, or the error's text.
 fn parameter_of(alloc: Global, item: &Text) -> Result<Result<Parameter, Text>, AllocError>
     ensures { IfOk result (λ parameter. parameter ≡ parameter_of (list_of item.now)) }
 {
     match item.split_list(alloc) {
-        Ok(parts) => match parts.as_slice() {
-            [name] => parameter_named(alloc, name, None),
-            [name, fallback] => parameter_named(alloc, name, Some(fallback.copy()?)),
-            _ => Ok(Err(fixed(alloc, "bad parameter list")?)),
-        },
+        Ok(parts) => {
+            let parameter = parameter_parts(alloc, parts.as_slice())?;
+            Ok(parameter)
+        }
         Err(SplitFault::BadList(fault)) => Ok(Err(list_fault(alloc, fault)?)),
         Err(SplitFault::NoMemory) => Err(AllocError),
     }

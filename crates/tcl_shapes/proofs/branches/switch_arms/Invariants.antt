@@ -1,9 +1,7 @@
-use Rattle.std.proofs.Common.{◌≡◌, ◌++◌, length, option_map}
-use Rattle.tcl_shapes.specs.Branches.{arms_of}
+use Rattle.std.proofs.Common.{◌≡◌, ◌++◌, None, option_map, drop}
+use Rattle.tcl_shapes.specs.Branches.{arms_from}
 use Rattle.tcl_shapes.proofs.branches.switch_arms.Given as goal
 
-abbrev pub invariant-pairs : goal.invariant-pairs
-invariant-pairs l = option_map (λ arms. l.arms ++ arms) (arms_of l.rest) ≡ arms_of l.items
-
-abbrev pub decreases-pairs : goal.decreases-pairs
-decreases-pairs l = length l.rest
+-- with the pairs that are left, there are all
+abbrev pub invariant-loop-item : goal.invariant-loop-item
+invariant-loop-item l = option_map (λ arms. l.arms ++ arms) (arms_from l.held (drop l.item-index l.items)) ≡ arms_from None l.items

@@ -3,6 +3,7 @@ pub mod GlobLemmas
 pub mod ReadingExamples
 pub mod IntegerLemmas
 pub mod AnswerLemmas
+pub mod EditLemmas
 pub mod CharacterLemmas
 pub mod GlobFunction
 pub mod FindLemmas

@@ -13,4 +13,5 @@ pub mod ListCommands
 pub mod StringSteps
 pub mod ListSteps
 pub mod Splitting
+pub mod Edit
 pub mod TextForm

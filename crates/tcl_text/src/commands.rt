@@ -4,10 +4,10 @@ ghost use Rattle.std.specs.Prelude.{◌≡◌, IfOk};
 ghost use Rattle.tcl_text.specs.Answers.{Gives};
 ghost use Rattle.tcl_text.specs.Commands as spec;
 
-mod answers;
+pub mod answers;
 mod indices;
-mod integers;
-mod items;
+pub mod integers;
+pub mod items;
 pub mod laws;
 mod lists;
 mod sorting;

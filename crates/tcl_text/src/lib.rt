@@ -6,6 +6,7 @@ mod boolean;
 mod characters;
 mod commands;
 mod compared;
+mod edit;
 mod glob;
 mod integer;
 pub mod laws;
@@ -17,6 +18,8 @@ mod text;
 mod white_space;
 
 pub use boolean::NotBoolean;
+pub use commands::{answers, integers, items};
+pub use edit::{Edit, EditFault};
 pub use integer::NotInteger;
 pub use list::TextList;
 pub use splitting::{ListFault, SplitFault};

@@ -1,4 +1,4 @@
-ghost use Rattle.std.specs.Prelude.{◌≡◌, ◌<◌, ◌≤◌, ◌↔◌, length, IfOk, IsErrOf, IsUtf8, string_bytes, string_len};
+ghost use Rattle.std.specs.Prelude.{◌≡◌, ◌≢◌, ◌<◌, ◌≤◌, ◌↔◌, ◌++◌, length, IfOk, IfErr, OnOk, OnErr, IsErrOf, IsUtf8, MatchBool, string_bytes, string_len};
 
 use crate::short::{SHORT_BYTES, ShortText};
 use std::alloc::{AllocError, AllocFailed, Global};
@@ -69,6 +69,69 @@ impl Model for Text {
     ghost invariant = { λ t. length (form_bytes t.form) ≤ 65536 };
 }
 
+impl TextForm {
+    ghost use Rattle.tcl_text.specs.TextForm.{form_bytes};
+
+    /// These characters, which it takes over.
+    fn of(alloc: Global, string: String) -> Result<TextForm, AllocError>
+        ensures { IfOk result (λ form. form_bytes form ≡ string_bytes string) }
+    {
+        if string.len() <= SHORT_BYTES {
+            return Ok(TextForm::Short(ShortText::new(string.as_str())));
+        }
+        Ok(TextForm::Shared(Rc::new(alloc, string)?))
+    }
+
+    /// The characters.
+    fn as_str(&self) -> &str
+        ensures { result.now ≡ form_bytes self.now }
+    {
+        match self {
+            TextForm::Short(short) => short.as_str(),
+            TextForm::Shared(string) => string.as_ref().as_str(),
+        }
+    }
+
+    /// Adds characters at the end; in place, where no copy shares the form.
+    fn push_str(&mut self, alloc: Global, characters: &str) -> Result<(), AllocError>
+        ensures ok { OnOk result (form_bytes self.new ≡ form_bytes self.old ++ characters.now) }
+        ensures err { OnErr result (form_bytes self.new ≡ form_bytes self.old) }
+    {
+        if let TextForm::Shared(string) = self
+            && push_alone(string, characters)?
+        {
+            return Ok(());
+        }
+        *self = self.longer(alloc, characters)?;
+        Ok(())
+    }
+
+    /// A form of these characters with more at the end.
+    fn longer(&self, alloc: Global, characters: &str) -> Result<TextForm, AllocError>
+        ensures { IfOk result (λ longer. form_bytes longer ≡ form_bytes self.now ++ characters.now) }
+    {
+        let mut string = String::from_str(alloc, self.as_str())?;
+        string.push_str(characters)?;
+        TextForm::of(alloc, string)
+    }
+}
+
+// Adds characters to a string that has no other owner; false, and nothing is done, where it has one.
+fn push_alone(string: &mut Rc<String>, characters: &str) -> Result<bool, AllocError>
+    ensures ok { IfOk result (λ done. MatchBool done
+        (string_bytes string.new.value ≡ string_bytes string.old.value ++ characters.now)
+        (string_bytes string.new.value ≡ string_bytes string.old.value)) }
+    ensures err { OnErr result (string_bytes string.new.value ≡ string_bytes string.old.value) }
+{
+    match Rc::get_mut(string) {
+        Some(string) => {
+            string.push_str(characters)?;
+            Ok(true)
+        }
+        None => Ok(false),
+    }
+}
+
 impl Text {
     /// A text of these characters.
     pub fn new(alloc: Global, characters: &str) -> Result<Text, TextFault>
@@ -122,13 +185,8 @@ impl Text {
         requires { string_len string ≤ 65536 }
         ensures { IfOk result (λ text. text ≡ string_bytes string) }
     {
-        if string.len() <= SHORT_BYTES {
-            return Ok(Text {
-                form: TextForm::Short(ShortText::new(string.as_str())),
-            });
-        }
         Ok(Text {
-            form: TextForm::Shared(Rc::new(alloc, string)?),
+            form: TextForm::of(alloc, string)?,
         })
     }
 
@@ -137,10 +195,23 @@ impl Text {
         ensures bytes { result.now ≡ self.now }
         ensures short { length self.now ≤ 65536 }
     {
-        match &self.form {
-            TextForm::Short(short) => short.as_str(),
-            TextForm::Shared(string) => string.as_ref().as_str(),
+        self.form.as_str()
+    }
+
+    /// Adds characters at the end; in place, where no copy shares the text. `TooLong` (4), and nothing is added, where the
+    /// text would pass 65,536 bytes.
+    pub fn push_str(&mut self, alloc: Global, characters: &str) -> Result<(), TextFault>
+        ensures ok { OnOk result (self.new ≡ self.old ++ characters.now) }
+        ensures short { OnOk result (length (self.old ++ characters.now) ≤ 65536) }
+        ensures too_long { IfErr result (λ fault. fault ≢ TextFault.NoMemory → 65536 < length (self.old ++ characters.now)) }
+        ensures err { OnErr result (self.new ≡ self.old) }
+    {
+        let length = self.as_str().len();
+        if MAX_BYTES - length < characters.len() {
+            return Err(TextFault::TooLong);
         }
+        self.form.push_str(alloc, characters)?;
+        Ok(())
     }
 
     /// An equal text, which shares the characters.

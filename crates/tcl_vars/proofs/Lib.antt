@@ -1,5 +1,6 @@
 pub mod ArrayLemmas
 pub mod BelowLemmas
+pub mod ChangeLemmas
 pub mod CountLemmas
 pub mod GiveLemmas
 pub mod LawLemmas

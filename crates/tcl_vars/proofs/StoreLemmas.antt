@@ -36,7 +36,7 @@ within_limit-full full store high = ap (λ b. if b then Ok store else Err full) 
 
 module _ (store : Store) (count : ℕ) (sound : IsSound store count) (place : Place) (within : place.level < length store) (value : List ℕ) where
   module _ (added : ℕ) (new : Frame) (puts : PutsText (frame_at store place.level) place value (4096 - count) added new) where
-    counted-set : count + added ≡ variable_count (set store place.level new)
+    pub counted-set : count + added ≡ variable_count (set store place.level new)
     counted-set = omega (arith, variable_count-set store place.level within new, puts.counted, sound.counted)
 
     below : AllBelow place.level new

@@ -1,3 +1,4 @@
+pub mod Change
 pub mod Name
 pub mod Named
 pub mod Owned

@@ -109,6 +109,15 @@ is_there_at store (Some place) = is_there (content_at store place) place.element
 unfoldable pub has_variable : Store → ℕ → List ℕ → Bool
 has_variable store level name = is_there_at store (place_in store level name)
 
+-- whether a place is that of an element; it is none of a variable either where it leads nowhere
+abbrev pub is_element_at : Option Place → Bool
+is_element_at None = true
+is_element_at (Some place) = is_some place.element
+
+-- whether a name means an element in the frame at a level, and so no variable
+unfoldable pub is_element_in : Store → ℕ → List ℕ → Bool
+is_element_in store level name = is_element_at (place_in store level name)
+
 -- the elements of a content that is an array
 abbrev pub elements_of : Option Content → Option (List ℕ) → Option (Table (List ℕ))
 elements_of None element = None

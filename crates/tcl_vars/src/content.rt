@@ -1,14 +1,16 @@
-ghost use Rattle.std.specs.Prelude.{◌≡◌, ◌≢◌, ◌+◌, ◌<◌, ◌≤◌, length, option_map, ◌↔◌, MatchResult, Ok, Err, Some, None, false, IsOk, IsSome, IfOk, IfErr, IfSome, OnOk, OnErr};
+ghost use Rattle.std.specs.Prelude.{◌≡◌, ◌≢◌, ◌+◌, ◌<◌, ◌≤◌, length, List, ℕ, ok_or, option_map, MatchBool, ◌↔◌, MatchResult, Ok, Err, Some, None, false, IsOk, IsSome, IfOk, IfErr, IfSome, OnOk, OnErr};
 ghost use Rattle.std.specs.Option.{option_copied};
+ghost use Rattle.tcl_vars.specs.Change.{ChangesContent, KeepsContent, changed_by};
 ghost use Rattle.tcl_vars.specs.Put.{AfterContent, RefusesContent};
 ghost use Rattle.tcl_vars.specs.Short.{IsShort};
 ghost use Rattle.tcl_vars.specs.Store.{array_state, content_count, content_without, elements_of, holds_value, is_there, link_of, text_of};
 ghost use Rattle.tcl_vars.specs.Unset.{AfterUnset};
 ghost use Rattle.tcl_vars.specs.Table.{value_at, with_value, without};
 
-use crate::fault::{ReadFault, SetFault, UnsetFault};
+use crate::fault::{ChangeFault, ReadFault, SetFault, UnsetFault};
 use crate::table::Table;
-use tcl_text::Text;
+use std::alloc::Global;
+use tcl_text::{Edit, EditFault, Text};
 
 /// What a name of a frame stands for.
 #[derive(Drop)]
@@ -170,6 +172,35 @@ impl Content {
         }
     }
 
+    /// Changes the text, or that of an element; false, and nothing is done, where the content is a link.
+    #[tactic(auto, using(crate::proofs::ChangeLemmas::contents))]
+    pub(crate) fn change(
+        &mut self,
+        alloc: Global,
+        element: Option<&str>,
+        edit: Edit<'_>,
+    ) -> Result<bool, ChangeFault>
+        ensures ok { IfOk result (λ done. MatchBool done
+            (ChangesContent self.old (option_copied element.entry) edit.entry self.new)
+            ((link_of (Some self.old) ≢ None) × (self.new ≡ self.old))) }
+        ensures refused { IfErr result (λ fault. fault ≢ ChangeFault.NoMemory → KeepsContent self.old (option_copied element.entry) edit.entry fault) }
+        ensures err { OnErr result (self.new ≡ self.old) }
+    {
+        match (self, element) {
+            (Content::Link(_, _), _) => Ok(false),
+            (Content::Scalar(text), None) => {
+                change_text(alloc, text, edit)?;
+                Ok(true)
+            }
+            (Content::Scalar(_), Some(_)) => Err(ChangeFault::Unread(ReadFault::NotArray)),
+            (Content::Array(_), None) => Err(ChangeFault::Unread(ReadFault::IsArray)),
+            (Content::Array(elements), Some(index)) => {
+                change_element(alloc, elements, index, edit)?;
+                Ok(true)
+            }
+        }
+    }
+
     /// Takes out an element, or tells how many variables go with the whole (unset(n)).
     pub(crate) fn unset(&mut self, element: Option<&str>) -> Result<Removal, UnsetFault>
         ensures ok { IfOk result (λ done. AfterUnset self.old (option_copied element.entry) done self.new) }
@@ -214,6 +245,44 @@ fn put_element(
             elements.insert(index, value)?;
             Ok(1)
         }
+    }
+}
+
+// Changes a text.
+#[tactic(auto, using(crate::proofs::ChangeLemmas::told))]
+fn change_text(alloc: Global, text: &mut Text, edit: Edit<'_>) -> Result<(), ChangeFault>
+    ensures ok { OnOk result (changed_by edit.entry (Ok text.old) ≡ Ok text.new) }
+    ensures refused { IfErr result (λ fault. fault ≢ ChangeFault.NoMemory → changed_by edit.entry (Ok text.old) ≡ Err fault) }
+    ensures err { OnErr result (text.new ≡ text.old) }
+{
+    match text.edit(alloc, edit) {
+        Ok(()) => Ok(()),
+        Err(EditFault::TooLong) => Err(ChangeFault::TooLong),
+        Err(EditFault::BadList(fault)) => Err(ChangeFault::BadList(fault)),
+        Err(EditFault::NoMemory) => Err(ChangeFault::NoMemory),
+    }
+}
+
+// Changes an element.
+fn change_element(
+    alloc: Global,
+    elements: &mut Table<Text>,
+    index: &str,
+    edit: Edit<'_>,
+) -> Result<(), ChangeFault>
+    ensures ok { OnOk result ((value : List ℕ)
+        × (changed_by edit.entry (ok_or (value_at elements.old index.now) ReadFault.NoElement) ≡ Ok value)
+        × (elements.new ≡ with_value elements.old index.now value) × (length elements.new ≡ length elements.old)) }
+    ensures refused { IfErr result (λ fault. fault ≢ ChangeFault.NoMemory →
+        changed_by edit.entry (ok_or (value_at elements.old index.now) ReadFault.NoElement) ≡ Err fault) }
+    ensures err { OnErr result (elements.new ≡ elements.old) }
+{
+    match elements.get_mut(index) {
+        Some(held) => {
+            change_text(alloc, held, edit)?;
+            Ok(())
+        }
+        None => Err(ChangeFault::Unread(ReadFault::NoElement)),
     }
 }
 

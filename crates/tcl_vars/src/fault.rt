@@ -1,4 +1,5 @@
 use std::alloc::{AllocError, AllocFailed};
+use tcl_text::ListFault;
 use thiserror::Error;
 
 /// Why a variable can't be read.
@@ -54,6 +55,34 @@ impl<T: Drop> From<AllocFailed<T>> for SetFault {
 
     fn from(_refused: AllocFailed<T>) -> SetFault {
         SetFault::NoMemory
+    }
+}
+
+/// Why the text of a variable can't be changed.
+#[derive(Clone, Copy, Debug, PartialEq, Eq, Drop, Error)]
+pub enum ChangeFault {
+    /// It can't be read (15 to 18).
+    #[error("{0}")]
+    Unread(ReadFault),
+    /// The value would pass 65,536 bytes (4).
+    #[error("limit reached: value")]
+    TooLong,
+    /// It is no list (3).
+    #[error("{0}")]
+    BadList(ListFault),
+    /// Memory was refused.
+    #[error("out of memory")]
+    NoMemory,
+}
+
+impl From<AllocError> for ChangeFault {
+    ghost use Rattle.std.specs.Prelude.{◌≡◌};
+    ghost use Rattle.tcl_vars.specs.declared.fault.ChangeFault.TheVariants.{NoMemory};
+
+    ghost from_gives = { λ _ e. e ≡ NoMemory };
+
+    fn from(_refused: AllocError) -> ChangeFault {
+        ChangeFault::NoMemory
     }
 }
 

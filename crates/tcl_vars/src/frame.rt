@@ -1,5 +1,6 @@
-ghost use Rattle.std.specs.Prelude.{◌≡◌, ◌≢◌, ◌+◌, ◌<◌, ◌≤◌, None, Ok, IfOk, IfErr, IfSome, MatchOption, OnErr};
+ghost use Rattle.std.specs.Prelude.{◌≡◌, ◌≢◌, ◌+◌, ◌<◌, ◌≤◌, None, Ok, IfOk, IfErr, IfSome, MatchBool, MatchOption, OnErr};
 ghost use Rattle.std.specs.Option.{option_copied};
+ghost use Rattle.tcl_vars.specs.Change.{ChangesText, KeepsText};
 ghost use Rattle.tcl_vars.specs.Put.{RefusesText, AfterPut, new_count};
 ghost use Rattle.tcl_vars.specs.Short.{IsShort, IsShortPlace};
 ghost use Rattle.tcl_vars.specs.Shown.{shown};
@@ -8,11 +9,11 @@ ghost use Rattle.tcl_vars.specs.Unset.{UnsetsText, RefusesUnset};
 ghost use Rattle.tcl_vars.specs.Table.{value_at, with_value, weight_of};
 
 use crate::content::{Content, Outcome, Removal};
-use crate::fault::{SetFault, UnsetFault};
+use crate::fault::{ChangeFault, ReadFault, SetFault, UnsetFault};
 use crate::name::Place;
 use crate::table::Table;
 use std::alloc::{AllocError, Global};
-use tcl_text::Text;
+use tcl_text::{Edit, Text};
 
 /// The names of one frame, in the order in which they came.
 pub(crate) type Frame = Table<Content>;
@@ -48,6 +49,28 @@ pub(crate) fn put(
         Some(content) => {
             let outcome = content.put(place.element, value, room)?;
             Ok(outcome)
+        }
+    }
+}
+
+/// Changes the text of a place of the frame; false, and nothing is done, where the variable is a link.
+pub(crate) fn change(
+    alloc: Global,
+    frame: &mut Frame,
+    place: Place<'_>,
+    edit: Edit<'_>,
+) -> Result<bool, ChangeFault>
+    ensures ok { IfOk result (λ done. MatchBool done
+        (ChangesText frame.old (shown place.entry) edit.entry frame.new)
+        ((link_of (value_at frame.old place.entry.variable.now) ≢ None) × (frame.new ≡ frame.old))) }
+    ensures refused { IfErr result (λ fault. fault ≢ ChangeFault.NoMemory → KeepsText frame.old (shown place.entry) edit.entry fault) }
+    ensures err { OnErr result (frame.new ≡ frame.old) }
+{
+    match frame.get_mut(place.variable) {
+        None => Err(ChangeFault::Unread(ReadFault::NoVariable)),
+        Some(content) => {
+            let done = content.change(alloc, place.element, edit)?;
+            Ok(done)
         }
     }
 }

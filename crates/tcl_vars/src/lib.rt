@@ -10,7 +10,7 @@ mod scopes;
 mod table;
 
 pub use content::Content;
-pub use fault::{LinkFault, ReadFault, SetFault, UnsetFault};
+pub use fault::{ChangeFault, LinkFault, ReadFault, SetFault, UnsetFault};
 pub use scopes::Scopes;
 pub use table::Table;
 

@@ -1,4 +1,4 @@
-ghost use Rattle.std.specs.Prelude.{◌≡◌, ◌≤◌, Some, option_map, IfOk, IfSome};
+ghost use Rattle.std.specs.Prelude.{◌≡◌, ◌≤◌, Some, is_some, option_map, IfOk, IfSome};
 ghost use Rattle.std.specs.Option.{option_copied};
 ghost use Rattle.tcl_vars.specs.Name.{element_of, place_in_frame, place_of};
 ghost use Rattle.tcl_vars.specs.Short.{IsShort, IsShortPlace};
@@ -83,6 +83,16 @@ pub(crate) fn variable_place<'a>(level: usize, variable: &'a str) -> Place<'a>
         level,
         variable,
         element: None,
+    }
+}
+
+/// Whether an index is given.
+pub(crate) fn is_given(element: Option<&str>) -> bool
+    ensures { result ≡ is_some (option_copied element.entry) }
+{
+    match element {
+        Some(_) => true,
+        None => false,
     }
 }
 

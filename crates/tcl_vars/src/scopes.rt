@@ -1,27 +1,28 @@
 ghost use Rattle.std.specs.Prelude.{◌≡◌, ◌≢◌, ◌<◌, ◌≤◌, ◌-◌, [], ◌∷◌, ◌++◌, length, take, IfOk, IfErr, OnOk, OnErr, map, unwrap_or, is_some, false, MatchResult, MatchOption, MatchBool, Ok, Err, Some, None};
 ghost use Rattle.std.specs.Option.{option_copied};
 ghost use Rattle.std.specs.Bool.{OnTrue};
+ghost use Rattle.tcl_vars.specs.Change.{Changes, ChangesAt, ChangesHere, KeepsHere, changed_by};
 ghost use Rattle.tcl_vars.specs.Put.{Sets};
 ghost use Rattle.tcl_vars.specs.Short.{IsShortPlace};
 ghost use Rattle.tcl_vars.specs.Shown.{shown};
 ghost use Rattle.tcl_vars.specs.Sound.{IsBelow};
 ghost use Rattle.tcl_vars.specs.Table.{weight_of};
 ghost use Rattle.tcl_vars.specs.Unset.{IsGone, Unsets};
-ghost use Rattle.tcl_vars.specs.Store.{content_at, link_of, end_of, text_at, variable_in, element_in, with_text_at, with_variable, with_element, without_text_at, without_variable, without_element, is_there_at, content_count, variable_count, with_content, with_link, with_array, has_variable, elements_in, pairs_of};
+ghost use Rattle.tcl_vars.specs.Store.{content_at, link_of, end_of, text_at, variable_in, element_in, with_text_at, with_variable, with_element, without_text_at, without_variable, without_element, is_there_at, content_count, variable_count, with_content, with_link, with_array, has_variable, is_element_in, elements_in, pairs_of};
 
 use crate::arrays::{names_of, pairs_of};
 use crate::content::{
     Content, Outcome, array_state, elements_of, holds_value, is_there, link_of, text_of,
 };
-use crate::fault::{LinkFault, ReadFault, SetFault, UnsetFault};
-use crate::frame::{Frame, give, put, unset, variable_count};
+use crate::fault::{ChangeFault, LinkFault, ReadFault, SetFault, UnsetFault};
+use crate::frame::{Frame, change, give, put, unset, variable_count};
 use crate::name::{
-    OwnPlace, Place, element_place, is_plain, place_of, place_of_text, variable_place,
+    OwnPlace, Place, element_place, is_given, is_plain, place_of, place_of_text, variable_place,
 };
 use crate::table::Table;
 use std::alloc::{AllocError, Global};
 use std::marker::Model;
-use tcl_text::{Text, TextList};
+use tcl_text::{Edit, Text, TextList};
 
 /// How many variables there are at most: every name of every frame counts, and every element of an array.
 pub const MAX_VARIABLES: usize = 4096;
@@ -154,6 +155,20 @@ impl Scopes {
         }
     }
 
+    /// Changes the text of the variable or element that a name means in the frame at a level, which has to be there. Characters
+    /// that are added to a text which nobody else holds cost what they are long (append(n), lappend(n)).
+    pub fn change(&mut self, level: usize, name: &Text, edit: Edit<'_>) -> Result<(), ChangeFault>
+        requires { level < length self.old }
+        ensures ok { OnOk result (Changes self.old level name.now edit.entry self.new) }
+        ensures refused { IfErr result (λ fault. fault ≢ ChangeFault.NoMemory → changed_by edit.entry (variable_in self.old level name.now) ≡ Err fault) }
+        ensures err { OnErr result (self.new ≡ self.old) }
+        ensures levels { length self.new ≡ length self.old }
+    {
+        let _ = &self.frames;
+        self.change_at(place_of_text(level, name), edit)?;
+        Ok(())
+    }
+
     /// Unsets the variable or element that a name means in the frame at a level; an array with its elements (unset(n)). A link stays.
     pub fn unset(&mut self, level: usize, name: &Text) -> Result<(), UnsetFault>
         requires { level < length self.old }
@@ -197,6 +212,17 @@ impl Scopes {
         match self.lead(place_of_text(level, name)) {
             Some(found) => is_there(found.content, found.place.element),
             None => false,
+        }
+    }
+
+    /// Whether a name means an element in the frame at a level, and so no variable. It takes no memory.
+    pub fn is_element(&self, level: usize, name: &Text) -> bool
+        requires { level < length self.now }
+        ensures { result ≡ is_element_in self.now level name.now }
+    {
+        match self.lead(place_of_text(level, name)) {
+            Some(found) => is_given(found.place.element),
+            None => true,
         }
     }
 
@@ -433,6 +459,55 @@ impl Scopes {
             }
             Outcome::Linked(value) => Ok(Some(value)),
         }
+    }
+
+    // Changes the text to which a place leads.
+    fn change_at(&mut self, place: Place<'_>, edit: Edit<'_>) -> Result<(), ChangeFault>
+        requires level { place.level < length self.old }
+        requires short { IsShortPlace (shown place) }
+        ensures ok { OnOk result (ChangesAt self.old (end_of self.old (shown place.entry)) edit.entry self.new) }
+        ensures refused { IfErr result (λ fault. fault ≢ ChangeFault.NoMemory → changed_by edit.entry (text_at self.old (end_of self.old (shown place.entry))) ≡ Err fault) }
+        ensures err { OnErr result (self.new ≡ self.old) }
+    {
+        let _ = &self.frames;
+        let done = self.change_here(place, edit)?;
+        if done {
+            return Ok(());
+        }
+        self.change_linked(place, edit)?;
+        Ok(())
+    }
+
+    // Changes the text to which the link of a place leads.
+    fn change_linked(&mut self, place: Place<'_>, edit: Edit<'_>) -> Result<(), ChangeFault>
+        requires level { place.level < length self.old }
+        requires short { IsShortPlace (shown place) }
+        ensures ok { OnOk result (ChangesAt self.old (end_of self.old (shown place.entry)) edit.entry self.new) }
+        ensures refused { IfErr result (λ fault. fault ≢ ChangeFault.NoMemory → changed_by edit.entry (text_at self.old (end_of self.old (shown place.entry))) ≡ Err fault) }
+        ensures err { OnErr result (self.new ≡ self.old) }
+    {
+        let _ = &self.frames;
+        let end = match self.lead(place) {
+            Some(found) => OwnPlace::of(self.alloc, found.place)?,
+            None => return Err(ChangeFault::Unread(ReadFault::NotArray)),
+        };
+        self.change_here(end.place(), edit)?;
+        Ok(())
+    }
+
+    // Changes the text of a place; false, and nothing is done, where the variable is a link.
+    fn change_here(&mut self, place: Place<'_>, edit: Edit<'_>) -> Result<bool, ChangeFault>
+        requires { place.level < length self.old }
+        ensures ok { IfOk result (λ done. MatchBool done
+            (ChangesHere self.old (shown place.entry) edit.entry self.new)
+            ((link_of (content_at self.old (shown place.entry)) ≢ None) × (self.new ≡ self.old))) }
+        ensures refused { IfErr result (λ fault. fault ≢ ChangeFault.NoMemory → KeepsHere self.old (shown place.entry) edit.entry fault) }
+        ensures err { OnErr result (self.new ≡ self.old) }
+    {
+        let alloc = self.alloc;
+        let frame = &mut self.frames[place.level];
+        let done = change(alloc, frame, place, edit)?;
+        Ok(done)
     }
 
     // Unsets the text to which a place leads.

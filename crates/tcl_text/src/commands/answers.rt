@@ -147,7 +147,7 @@ pub fn not_integer<T>(alloc: Global, word: &Text) -> Result<T, Refusal>
 }
 
 /// An error that ends with a word in quotation marks.
-fn quoting_error(alloc: Global, message: &str, word: &str) -> Refusal
+pub fn quoting_error(alloc: Global, message: &str, word: &str) -> Refusal
     ensures { Refuses result (bounded (message.now ++ quoted word.now)) }
 {
     match with_quoted(alloc, message, word) {

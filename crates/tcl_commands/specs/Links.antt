@@ -1,0 +1,53 @@
+-- The commands of global(n) and upvar(n), with the frame that is linked to given by its level.
+use Rattle.std.specs.Prelude.{ℕ, ◌==◌, nat_eq, if◌then◌else◌, List, [], ◌∷◌, length, drop, Result, Ok, Err, codes, ◌%◌}
+use Rattle.std.specs.List.{starts_with}
+use Rattle.tcl_text.specs.Answers.{wrong_args}
+use Rattle.tcl_vars.specs.Store.{Store, with_link}
+use Rattle.tcl_vars.specs.declared.fault.LinkFault.{LinkFault}
+use Rattle.tcl_vars.specs.declared.fault.LinkFault.TheVariants.{BadName, Exists, Full, NoMemory}
+use Rattle.tcl_commands.specs.Done.{Done, keeps, each_done, pairs}
+use Rattle.tcl_commands.specs.Texts.{cannot_link}
+use Rattle.tcl_commands.specs.Usages.{usage_text}
+use Rattle.tcl_commands.specs.declared.usages.Usage.TheVariants as usage
+
+-- a leading :: is dropped from a global variable's name
+abbrev pub global_name : List ℕ → List ℕ
+global_name name = if starts_with nat_eq name (codes "::") then drop 2 name else name
+
+-- a name that can't be used is told as it is written
+abbrev pub global_told : List ℕ → Result Store LinkFault → Result Store (List ℕ)
+global_told name (Ok new) = Ok new
+global_told name (Err BadName) = cannot_link name BadName
+global_told name (Err Exists) = cannot_link (global_name name) Exists
+global_told name (Err Full) = cannot_link (global_name name) Full
+global_told name (Err NoMemory) = cannot_link (global_name name) NoMemory
+
+-- the name of a frame is linked to the global variable of that name
+abbrev pub global_step : ℕ → List ℕ → Store → Result Store (List ℕ)
+global_step level name store = global_told name (with_link store level (global_name name) 0 (global_name name))
+
+abbrev pub link_globals : ℕ → List (List ℕ) → Store → Done
+link_globals level names store = each_done (global_step level) names store
+
+-- global name ?name ..?: in the global frame nothing is linked
+abbrev pub global_words : ℕ → List (List ℕ) → Store → Done
+global_words level [] store = keeps store (wrong_args (usage_text usage.Global))
+global_words level (name ∷ names) store = if level == 0 then keeps store (Ok []) else link_globals level (name ∷ names) store
+
+abbrev pub link_told : List ℕ → Result Store LinkFault → Result Store (List ℕ)
+link_told name (Ok new) = Ok new
+link_told name (Err fault) = cannot_link name fault
+
+-- the second name is linked to the first one in another frame
+abbrev pub upvar_step : ℕ → ℕ → List ℕ × List ℕ → Store → Result Store (List ℕ)
+upvar_step level to_level pair store = link_told pair.1 (with_link store level pair.1 to_level pair.0)
+
+abbrev pub link_pairs : ℕ → ℕ → List (List ℕ) → Store → Done
+link_pairs level to_level names store = each_done (upvar_step level to_level) (pairs names) store
+
+-- upvar ?level? other mine ?other mine ..?
+abbrev pub upvar_words : ℕ → ℕ → List (List ℕ) → Store → Done
+upvar_words level to_level [] store = keeps store (wrong_args (usage_text usage.Upvar))
+upvar_words level to_level (other ∷ names) store =
+    if length (other ∷ names) % 2 == 0 then link_pairs level to_level (other ∷ names) store
+    else keeps store (wrong_args (usage_text usage.Upvar))

@@ -1,0 +1,453 @@
+//! The commands of array(n).
+ghost use Rattle.std.specs.Prelude.{◌≡◌, ◌<◌, length, map, filter, IfOk, string_bytes};
+ghost use Rattle.std.specs.Option.{option_copied};
+ghost use Rattle.tcl_text.specs.Answers.{Gives, items_in as items_of};
+ghost use Rattle.tcl_vars.specs.Store.{elements_in, pairs_of};
+ghost use Rattle.tcl_commands.specs.Done.{Does, Steps, each_done, pairs};
+ghost use Rattle.tcl_commands.specs.Texts.{cannot_set};
+ghost use Rattle.tcl_commands.specs.Arrays as spec;
+ghost use Rattle.tcl_commands.specs.ArraySteps.{pairs_matching};
+
+use crate::texts::{cannot_set, empty_answer, missing_value};
+use crate::unset::unset_one;
+use crate::usages::{Usage, wrong_words};
+use std::alloc::{AllocError, Global};
+use tcl_text::answers::{Refusal, bad_option, decimal_answer, limit_reached, truth_answer};
+use tcl_text::items::{items_in, list_answer};
+use tcl_text::{Text, TextList};
+use tcl_vars::{Scopes, SetFault, UnsetFault};
+
+/// A command of `array`.
+#[derive(Clone, Copy, Debug, PartialEq, Eq)]
+pub enum ArrayCommand {
+    Exists,
+    Names,
+    Get,
+    Set,
+    Unset,
+    Size,
+}
+
+/// `array option ?arg ..?`.
+#[tactic(auto, using(crate::proofs::DoneLemmas::kept))]
+pub fn array_words(
+    alloc: Global,
+    scopes: &mut Scopes,
+    level: usize,
+    words: &[Text],
+) -> Result<Text, Refusal>
+    requires { level < length scopes.old }
+    ensures does { Does result scopes.new (spec.array_words level words.now scopes.old) }
+    ensures levels { length scopes.new ≡ length scopes.old }
+{
+    let Some((name, words)) = words.split_first() else {
+        return wrong_words(alloc, Usage::Array);
+    };
+    match array_command_named(name.as_str()) {
+        Some(command) => array_done(alloc, scopes, level, command, words),
+        None => bad_option(alloc, name),
+    }
+}
+
+/// The sub-command of this name.
+#[tactic(auto, unfolding(crate::specs::Arrays::array_command_named))]
+fn array_command_named(name: &str) -> Option<ArrayCommand>
+    ensures { result ≡ spec.array_command_named name.now }
+{
+    match name {
+        "exists" => Some(ArrayCommand::Exists),
+        "names" => Some(ArrayCommand::Names),
+        "get" => Some(ArrayCommand::Get),
+        "set" => Some(ArrayCommand::Set),
+        "unset" => Some(ArrayCommand::Unset),
+        "size" => Some(ArrayCommand::Size),
+        _ => None,
+    }
+}
+
+/// What a sub-command does, called with the words after its name.
+#[tactic(auto, using(crate::proofs::DoneLemmas::kept))]
+fn array_done(
+    alloc: Global,
+    scopes: &mut Scopes,
+    level: usize,
+    command: ArrayCommand,
+    words: &[Text],
+) -> Result<Text, Refusal>
+    requires { level < length scopes.old }
+    ensures does { Does result scopes.new (spec.array_done command level words.now scopes.old) }
+    ensures levels { length scopes.new ≡ length scopes.old }
+{
+    match command {
+        ArrayCommand::Exists => array_exists(alloc, scopes, level, words),
+        ArrayCommand::Names => array_names(alloc, scopes, level, words),
+        ArrayCommand::Get => array_get(alloc, scopes, level, words),
+        ArrayCommand::Set => array_set(alloc, scopes, level, words),
+        ArrayCommand::Unset => array_unset(alloc, scopes, level, words),
+        ArrayCommand::Size => array_size(alloc, scopes, level, words),
+    }
+}
+
+fn array_exists(
+    alloc: Global,
+    scopes: &Scopes,
+    level: usize,
+    words: &[Text],
+) -> Result<Text, Refusal>
+    requires { level < length scopes.now }
+    ensures { Gives result (spec.array_exists level words.now scopes.now) }
+{
+    match words {
+        [name] => truth_answer(alloc, scopes.has_array(level, name)),
+        _ => wrong_words(alloc, Usage::ArrayExists),
+    }
+}
+
+fn array_size(alloc: Global, scopes: &Scopes, level: usize, words: &[Text]) -> Result<Text, Refusal>
+    requires { level < length scopes.now }
+    ensures { Gives result (spec.array_size level words.now scopes.now) }
+{
+    match words {
+        [name] => decimal_answer(alloc, scopes.array_size(level, name)),
+        _ => wrong_words(alloc, Usage::ArraySize),
+    }
+}
+
+fn array_names(
+    alloc: Global,
+    scopes: &Scopes,
+    level: usize,
+    words: &[Text],
+) -> Result<Text, Refusal>
+    requires { level < length scopes.now }
+    ensures { Gives result (spec.array_names level words.now scopes.now) }
+{
+    match words {
+        [name] => {
+            let names = scopes.array_names(level, name)?;
+            list_answer(alloc, names.as_slice())
+        }
+        [name, pattern] => {
+            let names = names_wanted(alloc, scopes, level, name, pattern)?;
+            list_answer(alloc, names.as_slice())
+        }
+        _ => wrong_words(alloc, Usage::ArrayNames),
+    }
+}
+
+/// The indices of an array that match a pattern.
+#[tactic(auto, using(crate::proofs::ArrayLemmas::names))]
+fn names_wanted(
+    alloc: Global,
+    scopes: &Scopes,
+    level: usize,
+    name: &Text,
+    pattern: &Text,
+) -> Result<TextList, AllocError>
+    requires { level < length scopes.now }
+    ensures { IfOk result (λ names. names
+        ≡ map (λ e. e.0) (spec.elements_wanted (Some pattern.now) (spec.elements_named level name.now scopes.now))) }
+{
+    let names = scopes.array_names(level, name)?;
+    names_matching(alloc, pattern, names.as_slice())
+}
+
+/// The texts that match a pattern.
+fn names_matching(alloc: Global, pattern: &Text, names: &[Text]) -> Result<TextList, AllocError>
+    ensures { IfOk result (λ wanted. wanted ≡ filter (spec.is_wanted pattern.now) names.now) }
+{
+    let mut wanted = TextList::new(alloc);
+    let mut rest = names;
+    while let [index, others @ ..] = rest {
+        if Text::glob_match(pattern, index) {
+            wanted.push(index.copy()?)?;
+        }
+        rest = others;
+    }
+    Ok(wanted)
+}
+
+fn array_get(alloc: Global, scopes: &Scopes, level: usize, words: &[Text]) -> Result<Text, Refusal>
+    requires { level < length scopes.now }
+    ensures { Gives result (spec.array_get level words.now scopes.now) }
+{
+    match words {
+        [name] => {
+            let pairs = scopes.array_pairs(level, name)?;
+            list_answer(alloc, pairs.as_slice())
+        }
+        [name, pattern] => {
+            let pairs = pairs_wanted(alloc, scopes, level, name, pattern)?;
+            list_answer(alloc, pairs.as_slice())
+        }
+        _ => wrong_words(alloc, Usage::ArrayGet),
+    }
+}
+
+/// The indices of an array that match a pattern, each with its value behind it.
+#[tactic(auto, using(crate::proofs::ArrayLemmas::pairs))]
+fn pairs_wanted(
+    alloc: Global,
+    scopes: &Scopes,
+    level: usize,
+    name: &Text,
+    pattern: &Text,
+) -> Result<TextList, AllocError>
+    requires { level < length scopes.now }
+    ensures { IfOk result (λ pairs. pairs
+        ≡ pairs_of (spec.elements_wanted (Some pattern.now) (spec.elements_named level name.now scopes.now))) }
+{
+    let pairs = scopes.array_pairs(level, name)?;
+    pairs_matching(alloc, pattern, pairs.as_slice())
+}
+
+/// Of indices and values in turn those of which the index matches a pattern.
+fn pairs_matching(alloc: Global, pattern: &Text, pairs: &[Text]) -> Result<TextList, AllocError>
+    ensures { IfOk result (λ wanted. wanted ≡ pairs_matching pattern.now pairs.now) }
+{
+    let mut wanted = TextList::new(alloc);
+    let mut rest = pairs;
+    while let [index, value, others @ ..] = rest {
+        if Text::glob_match(pattern, index) {
+            wanted.push(index.copy()?)?;
+            wanted.push(value.copy()?)?;
+        }
+        rest = others;
+    }
+    Ok(wanted)
+}
+
+fn array_unset(
+    alloc: Global,
+    scopes: &mut Scopes,
+    level: usize,
+    words: &[Text],
+) -> Result<Text, Refusal>
+    requires { level < length scopes.old }
+    ensures does { Does result scopes.new (spec.array_unset level words.now scopes.old) }
+    ensures levels { length scopes.new ≡ length scopes.old }
+{
+    match words {
+        [name] => unset_array(alloc, scopes, level, name),
+        [name, pattern] => {
+            let names = names_wanted(alloc, scopes, level, name, pattern)?;
+            unset_elements(alloc, scopes, level, name, names.as_slice())
+        }
+        _ => wrong_words(alloc, Usage::ArrayUnset),
+    }
+}
+
+/// Unsets a variable, if it is an array.
+fn unset_array(
+    alloc: Global,
+    scopes: &mut Scopes,
+    level: usize,
+    name: &Text,
+) -> Result<Text, Refusal>
+    requires { level < length scopes.old }
+    ensures does { Does result scopes.new
+        (spec.unset_array level name.now scopes.old (elements_in scopes.old level name.now)) }
+    ensures levels { length scopes.new ≡ length scopes.old }
+{
+    if scopes.has_array(level, name) {
+        unset_one(alloc, scopes, true, level, name)?;
+    }
+    empty_answer(alloc)
+}
+
+/// Unsets elements of an array.
+#[tactic(auto, using(crate::proofs::EachLemmas::steps))]
+fn unset_elements(
+    alloc: Global,
+    scopes: &mut Scopes,
+    level: usize,
+    name: &Text,
+    indices: &[Text],
+) -> Result<Text, Refusal>
+    requires { level < length scopes.old }
+    ensures does { Does result scopes.new (each_done (spec.unset_element level name.now) indices.now scopes.old) }
+    ensures levels { length scopes.new ≡ length scopes.old }
+{
+    let mut rest = indices;
+    while let [index, others @ ..] = rest {
+        unset_element(scopes, level, name, index)?;
+        rest = others;
+    }
+    empty_answer(alloc)
+}
+
+/// Unsets an element, if it is there.
+fn unset_element(
+    scopes: &mut Scopes,
+    level: usize,
+    name: &Text,
+    index: &Text,
+) -> Result<(), Refusal>
+    requires { level < length scopes.old }
+    ensures steps { Steps result scopes.old scopes.new (spec.unset_element level name.now index.now scopes.old) }
+    ensures levels { length scopes.new ≡ length scopes.old }
+{
+    match scopes.unset_element(level, name, index) {
+        Ok(()) => Ok(()),
+        Err(UnsetFault::NoMemory) => Err(Refusal::NoMemory),
+        Err(_) => Ok(()),
+    }
+}
+
+fn array_set(
+    alloc: Global,
+    scopes: &mut Scopes,
+    level: usize,
+    words: &[Text],
+) -> Result<Text, Refusal>
+    requires { level < length scopes.old }
+    ensures does { Does result scopes.new (spec.array_set level words.now scopes.old) }
+    ensures levels { length scopes.new ≡ length scopes.old }
+{
+    match words {
+        [name, list] => set_list(alloc, scopes, level, name, list),
+        _ => wrong_words(alloc, Usage::ArraySet),
+    }
+}
+
+/// Sets the elements that a list gives, keys and values in turn.
+fn set_list(
+    alloc: Global,
+    scopes: &mut Scopes,
+    level: usize,
+    name: &Text,
+    list: &Text,
+) -> Result<Text, Refusal>
+    requires { level < length scopes.old }
+    ensures does { Does result scopes.new (spec.set_list level name.now scopes.old (items_of list.now)) }
+    ensures levels { length scopes.new ≡ length scopes.old }
+{
+    let items = items_in(alloc, list)?;
+    set_even(alloc, scopes, level, name, items.as_slice())
+}
+
+/// Sets elements, where there are as many values as keys.
+fn set_even(
+    alloc: Global,
+    scopes: &mut Scopes,
+    level: usize,
+    name: &Text,
+    items: &[Text],
+) -> Result<Text, Refusal>
+    requires { level < length scopes.old }
+    ensures does { Does result scopes.new
+        (spec.set_even level name.now items.now scopes.old (spec.odd_key items.now)) }
+    ensures levels { length scopes.new ≡ length scopes.old }
+{
+    match odd_key(items) {
+        Some(key) => missing_value(alloc, key.as_str()),
+        None => set_items(alloc, scopes, level, name, items),
+    }
+}
+
+/// The key that has no value behind it, if the items are odd.
+fn odd_key(items: &[Text]) -> Option<&Text>
+    ensures { option_copied result ≡ spec.odd_key items.now }
+{
+    let mut rest = items;
+    while let [_key, _value, others @ ..] = rest {
+        rest = others;
+    }
+    rest.first()
+}
+
+fn set_items(
+    alloc: Global,
+    scopes: &mut Scopes,
+    level: usize,
+    name: &Text,
+    items: &[Text],
+) -> Result<Text, Refusal>
+    requires { level < length scopes.old }
+    ensures does { Does result scopes.new (spec.set_items level name.now items.now scopes.old) }
+    ensures levels { length scopes.new ≡ length scopes.old }
+{
+    if items.is_empty() {
+        make_array(alloc, scopes, level, name)?;
+        return empty_answer(alloc);
+    }
+    if scopes.is_element(level, name) {
+        return cannot_set(alloc, name.as_str(), SetFault::NotArray);
+    }
+    set_each(alloc, scopes, level, name, items)
+}
+
+/// Makes an array without elements, where there is no variable.
+fn make_array(alloc: Global, scopes: &mut Scopes, level: usize, name: &Text) -> Result<(), Refusal>
+    requires { level < length scopes.old }
+    ensures steps { Steps result scopes.old scopes.new (spec.make_array level name.now scopes.old) }
+    ensures levels { length scopes.new ≡ length scopes.old }
+{
+    match scopes.make_array(level, name) {
+        Ok(()) => Ok(()),
+        Err(SetFault::NoMemory) => Err(Refusal::NoMemory),
+        Err(fault) => cannot_set(alloc, name.as_str(), fault),
+    }
+}
+
+#[tactic(auto, using(crate::proofs::EachLemmas::steps))]
+fn set_each(
+    alloc: Global,
+    scopes: &mut Scopes,
+    level: usize,
+    name: &Text,
+    items: &[Text],
+) -> Result<Text, Refusal>
+    requires { level < length scopes.old }
+    ensures does { Does result scopes.new (each_done (spec.set_element level name.now) (pairs items.now) scopes.old) }
+    ensures levels { length scopes.new ≡ length scopes.old }
+{
+    let mut rest = items;
+    while let [key, value, others @ ..] = rest {
+        set_element(alloc, scopes, level, name, key, value)?;
+        rest = others;
+    }
+    empty_answer(alloc)
+}
+
+/// Sets an element. A name that would be too long can't be set.
+fn set_element(
+    alloc: Global,
+    scopes: &mut Scopes,
+    level: usize,
+    name: &Text,
+    key: &Text,
+    value: &Text,
+) -> Result<(), Refusal>
+    requires { level < length scopes.old }
+    ensures steps { Steps result scopes.old scopes.new (spec.set_element level name.now (key.now, value.now) scopes.old) }
+    ensures levels { length scopes.new ≡ length scopes.old }
+{
+    if name.as_str().len() + key.as_str().len() + 2 > 65_536 {
+        return Err(limit_reached(alloc));
+    }
+    match scopes.set_element(level, name, key, value.copy()?) {
+        Ok(()) => Ok(()),
+        Err(SetFault::NoMemory) => Err(Refusal::NoMemory),
+        Err(fault) => cannot_set_element(alloc, name.as_str(), key.as_str(), fault),
+    }
+}
+
+/// Why an element can't be set.
+fn cannot_set_element(alloc: Global, name: &str, key: &str, fault: SetFault) -> Result<(), Refusal>
+    ensures { Gives result (cannot_set (spec.element_name name.now key.now) fault) }
+{
+    let element = element_name(alloc, name, key)?;
+    cannot_set(alloc, element.as_str(), fault)
+}
+
+/// An element as it is named.
+fn element_name(alloc: Global, name: &str, index: &str) -> Result<String, AllocError>
+    ensures { IfOk result (λ string. string_bytes string ≡ spec.element_name name.now index.now) }
+{
+    let mut string = String::from_str(alloc, name)?;
+    string.push_str("(")?;
+    string.push_str(index)?;
+    string.push_str(")")?;
+    Ok(string)
+}

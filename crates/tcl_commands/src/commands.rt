@@ -1,0 +1,132 @@
+//! The commands on variables, by their names.
+ghost use Rattle.std.specs.Prelude.{◌≡◌, ◌<◌, length, IfOk};
+ghost use Rattle.tcl_commands.specs.Commands as spec;
+ghost use Rattle.tcl_commands.specs.Done.{Does};
+ghost use Rattle.tcl_commands.specs.Links.{upvar_words};
+ghost use Rattle.tcl_commands.specs.Values.{exists_words};
+
+use crate::arrays::array_words;
+use crate::links::{global_words, upvar_words};
+use crate::unset::unset_words;
+use crate::values::{append_words, exists_words, incr_words, lappend_words, set_words};
+use std::alloc::{AllocError, Global};
+use tcl_text::Text;
+use tcl_text::answers::Refusal;
+use tcl_vars::Scopes;
+
+/// A command on variables.
+#[derive(Clone, Copy, Debug, PartialEq, Eq)]
+pub enum VariableCommand {
+    Set,
+    Unset,
+    Incr,
+    Append,
+    Lappend,
+    Array,
+    Global,
+}
+
+/// What a command on variables does, called in the frame at a level with words of which the first is its name: its
+/// result, or the text of its error. None, and nothing is done, where the first word names no such command, or there
+/// is no word. `info exists` and `upvar` stand apart, since other forms of theirs know more than variables.
+pub fn variable_command(
+    alloc: Global,
+    scopes: &mut Scopes,
+    level: usize,
+    words: &[Text],
+) -> Result<Option<Result<Text, Text>>, AllocError>
+    requires { level < length scopes.old }
+    ensures does { IfOk result (λ answer. record { store = scopes.new; answer = answer } ≡ spec.variable_command_of level words.now scopes.old) }
+    ensures levels { length scopes.new ≡ length scopes.old }
+{
+    let Some((name, arguments)) = words.split_first() else {
+        return Ok(None);
+    };
+    let Some(command) = command_named(name.as_str()) else {
+        return Ok(None);
+    };
+    match command_done(alloc, scopes, level, command, arguments) {
+        Ok(text) => Ok(Some(Ok(text))),
+        Err(Refusal::Error(message)) => Ok(Some(Err(message))),
+        Err(Refusal::NoMemory) => Err(AllocError),
+    }
+}
+
+/// The command of this name.
+#[tactic(auto, unfolding(crate::specs::Commands::command_named))]
+fn command_named(name: &str) -> Option<VariableCommand>
+    ensures { result ≡ spec.command_named name.now }
+{
+    match name {
+        "set" => Some(VariableCommand::Set),
+        "unset" => Some(VariableCommand::Unset),
+        "incr" => Some(VariableCommand::Incr),
+        "append" => Some(VariableCommand::Append),
+        "lappend" => Some(VariableCommand::Lappend),
+        "array" => Some(VariableCommand::Array),
+        "global" => Some(VariableCommand::Global),
+        _ => None,
+    }
+}
+
+/// What a command does, called with the words after its name.
+fn command_done(
+    alloc: Global,
+    scopes: &mut Scopes,
+    level: usize,
+    command: VariableCommand,
+    words: &[Text],
+) -> Result<Text, Refusal>
+    requires { level < length scopes.old }
+    ensures does { Does result scopes.new (spec.command_done command level words.now scopes.old) }
+    ensures levels { length scopes.new ≡ length scopes.old }
+{
+    match command {
+        VariableCommand::Set => set_words(alloc, scopes, level, words),
+        VariableCommand::Unset => unset_words(alloc, scopes, level, words),
+        VariableCommand::Incr => incr_words(alloc, scopes, level, words),
+        VariableCommand::Append => append_words(alloc, scopes, level, words),
+        VariableCommand::Lappend => lappend_words(alloc, scopes, level, words),
+        VariableCommand::Array => array_words(alloc, scopes, level, words),
+        VariableCommand::Global => global_words(alloc, scopes, level, words),
+    }
+}
+
+/// `info exists name`, with the words behind `exists`: whether there is a variable or element that a name means in the
+/// frame at a level (info(n)). The answer is the command's result, or the text of its error.
+pub fn info_exists(
+    alloc: Global,
+    scopes: &Scopes,
+    level: usize,
+    words: &[Text],
+) -> Result<Result<Text, Text>, AllocError>
+    requires { level < length scopes.now }
+    ensures { IfOk result (λ answer. answer ≡ exists_words level words.now scopes.now) }
+{
+    match exists_words(alloc, scopes, level, words) {
+        Ok(text) => Ok(Ok(text)),
+        Err(Refusal::Error(message)) => Ok(Err(message)),
+        Err(Refusal::NoMemory) => Err(AllocError),
+    }
+}
+
+/// `upvar` with the words behind its level: links names of the frame at a level to names of the frame at an earlier
+/// one (upvar(n)). The answer is the command's result, or the text of its error.
+pub fn upvar_command(
+    alloc: Global,
+    scopes: &mut Scopes,
+    level: usize,
+    to_level: usize,
+    words: &[Text],
+) -> Result<Result<Text, Text>, AllocError>
+    requires level { level < length scopes.old }
+    requires earlier { to_level < level }
+    ensures does { IfOk result (λ answer. record { store = scopes.new; answer = answer } ≡ upvar_words level to_level words.now scopes.old) }
+    ensures levels { length scopes.new ≡ length scopes.old }
+{
+    match upvar_words(alloc, scopes, level, to_level, words) {
+        Ok(text) => Ok(Ok(text)),
+        Err(Refusal::Error(message)) => Ok(Err(message)),
+        Err(Refusal::NoMemory) => Err(AllocError),
+    }
+}

@@ -1,0 +1,13 @@
+//! The commands that read and write variables alone.
+#![tactic(auto)]
+
+mod arrays;
+mod commands;
+mod links;
+mod texts;
+mod unset;
+mod usages;
+mod values;
+
+pub use commands::{VariableCommand, info_exists, upvar_command, variable_command};
+pub use texts::{cannot_link, cannot_read, cannot_set, cannot_unset};

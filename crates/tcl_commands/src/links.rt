@@ -1,0 +1,140 @@
+//! The commands of global(n) and upvar(n).
+ghost use Rattle.std.specs.Prelude.{◌≡◌, ◌<◌, length, IfOk};
+ghost use Rattle.tcl_commands.specs.Done.{Does, Steps};
+ghost use Rattle.tcl_commands.specs.Links as spec;
+
+use crate::texts::{cannot_link, empty_answer, short_text};
+use crate::usages::{Usage, wrong_words};
+use std::alloc::{AllocError, Global};
+use tcl_text::Text;
+use tcl_text::answers::Refusal;
+use tcl_vars::{LinkFault, Scopes};
+
+/// `global name ?name ..?`: each name of the frame becomes a link to the global variable of that name, up to the
+/// first that can't. In the global frame it does nothing.
+#[tactic(auto, using(crate::proofs::DoneLemmas::kept))]
+pub fn global_words(
+    alloc: Global,
+    scopes: &mut Scopes,
+    level: usize,
+    words: &[Text],
+) -> Result<Text, Refusal>
+    requires { level < length scopes.old }
+    ensures does { Does result scopes.new (spec.global_words level words.now scopes.old) }
+    ensures levels { length scopes.new ≡ length scopes.old }
+{
+    if words.is_empty() {
+        return wrong_words(alloc, Usage::Global);
+    }
+    if level == 0 {
+        return empty_answer(alloc);
+    }
+    link_globals(alloc, scopes, level, words)
+}
+
+#[tactic(auto, using(crate::proofs::EachLemmas::steps))]
+fn link_globals(
+    alloc: Global,
+    scopes: &mut Scopes,
+    level: usize,
+    names: &[Text],
+) -> Result<Text, Refusal>
+    requires above { 0 < level }
+    requires level { level < length scopes.old }
+    ensures does { Does result scopes.new (spec.link_globals level names.now scopes.old) }
+    ensures levels { length scopes.new ≡ length scopes.old }
+{
+    let mut rest = names;
+    while let [name, others @ ..] = rest {
+        link_global(alloc, scopes, level, name)?;
+        rest = others;
+    }
+    empty_answer(alloc)
+}
+
+fn link_global(alloc: Global, scopes: &mut Scopes, level: usize, name: &Text) -> Result<(), Refusal>
+    requires above { 0 < level }
+    requires level { level < length scopes.old }
+    ensures steps { Steps result scopes.old scopes.new (spec.global_step level name.now scopes.old) }
+    ensures levels { length scopes.new ≡ length scopes.old }
+{
+    let global = global_name(alloc, name)?;
+    match scopes.link(level, &global, 0, &global) {
+        Ok(()) => Ok(()),
+        Err(LinkFault::NoMemory) => Err(Refusal::NoMemory),
+        Err(LinkFault::BadName) => cannot_link(alloc, name.as_str(), LinkFault::BadName),
+        Err(fault) => cannot_link(alloc, global.as_str(), fault),
+    }
+}
+
+/// A global variable's name without a leading `::`.
+fn global_name(alloc: Global, name: &Text) -> Result<Text, AllocError>
+    ensures { IfOk result (λ global. global ≡ spec.global_name name.now) }
+{
+    let Some(rest) = name.as_str().strip_prefix("::") else {
+        return name.copy();
+    };
+    short_text(alloc, rest)
+}
+
+/// `upvar ?level? other mine ?other mine ..?` behind its level: each second name of the frame becomes a link to the
+/// name before it in the frame at another level, up to the first that can't.
+#[tactic(auto, using(crate::proofs::DoneLemmas::kept))]
+pub fn upvar_words(
+    alloc: Global,
+    scopes: &mut Scopes,
+    level: usize,
+    to_level: usize,
+    words: &[Text],
+) -> Result<Text, Refusal>
+    requires level { level < length scopes.old }
+    requires earlier { to_level < level }
+    ensures does { Does result scopes.new (spec.upvar_words level to_level words.now scopes.old) }
+    ensures levels { length scopes.new ≡ length scopes.old }
+{
+    if words.is_empty() || words.len() % 2 != 0 {
+        return wrong_words(alloc, Usage::Upvar);
+    }
+    link_pairs(alloc, scopes, level, to_level, words)
+}
+
+#[tactic(auto, using(crate::proofs::EachLemmas::steps))]
+fn link_pairs(
+    alloc: Global,
+    scopes: &mut Scopes,
+    level: usize,
+    to_level: usize,
+    names: &[Text],
+) -> Result<Text, Refusal>
+    requires level { level < length scopes.old }
+    requires earlier { to_level < level }
+    ensures does { Does result scopes.new (spec.link_pairs level to_level names.now scopes.old) }
+    ensures levels { length scopes.new ≡ length scopes.old }
+{
+    let mut rest = names;
+    while let [other, name, others @ ..] = rest {
+        link_one(alloc, scopes, level, to_level, other, name)?;
+        rest = others;
+    }
+    empty_answer(alloc)
+}
+
+fn link_one(
+    alloc: Global,
+    scopes: &mut Scopes,
+    level: usize,
+    to_level: usize,
+    other: &Text,
+    name: &Text,
+) -> Result<(), Refusal>
+    requires level { level < length scopes.old }
+    requires earlier { to_level < level }
+    ensures steps { Steps result scopes.old scopes.new (spec.upvar_step level to_level (other.now, name.now) scopes.old) }
+    ensures levels { length scopes.new ≡ length scopes.old }
+{
+    match scopes.link(level, name, to_level, other) {
+        Ok(()) => Ok(()),
+        Err(LinkFault::NoMemory) => Err(Refusal::NoMemory),
+        Err(fault) => cannot_link(alloc, name.as_str(), fault),
+    }
+}

@@ -1,0 +1,76 @@
+//! The command of unset(n).
+ghost use Rattle.std.specs.Prelude.{◌≡◌, ◌<◌, length};
+ghost use Rattle.tcl_commands.specs.Done.{Does, Steps};
+ghost use Rattle.tcl_commands.specs.Unset as spec;
+
+use crate::texts::{cannot_unset, empty_answer};
+use std::alloc::Global;
+use tcl_text::Text;
+use tcl_text::answers::Refusal;
+use tcl_vars::{Scopes, UnsetFault};
+
+/// `unset ?-nocomplain? ?name ..?`: each is unset up to the first that can't be; with the switch, each that can be.
+#[tactic(auto, unfolding(crate::specs::Unset::unset_words))]
+pub fn unset_words(
+    alloc: Global,
+    scopes: &mut Scopes,
+    level: usize,
+    words: &[Text],
+) -> Result<Text, Refusal>
+    requires { level < length scopes.old }
+    ensures does { Does result scopes.new (spec.unset_words level words.now scopes.old) }
+    ensures levels { length scopes.new ≡ length scopes.old }
+{
+    match words {
+        [first, others @ ..] if first.as_str() == "-nocomplain" => {
+            unset_each(alloc, scopes, true, level, others)
+        }
+        names => unset_each(alloc, scopes, false, level, names),
+    }
+}
+
+/// Unsets each of these, up to the first that can't be, or quietly each that can be.
+#[tactic(auto, using(crate::proofs::EachLemmas::steps))]
+fn unset_each(
+    alloc: Global,
+    scopes: &mut Scopes,
+    quiet: bool,
+    level: usize,
+    names: &[Text],
+) -> Result<Text, Refusal>
+    requires { level < length scopes.old }
+    ensures does { Does result scopes.new (spec.unset_each quiet level names.now scopes.old) }
+    ensures levels { length scopes.new ≡ length scopes.old }
+{
+    let mut rest = names;
+    while let [name, others @ ..] = rest {
+        unset_one(alloc, scopes, quiet, level, name)?;
+        rest = others;
+    }
+    empty_answer(alloc)
+}
+
+/// Unsets a variable, or quietly lets it be where it can't be unset.
+pub fn unset_one(
+    alloc: Global,
+    scopes: &mut Scopes,
+    quiet: bool,
+    level: usize,
+    name: &Text,
+) -> Result<(), Refusal>
+    requires { level < length scopes.old }
+    ensures steps { Steps result scopes.old scopes.new (spec.unset_step quiet level name.now scopes.old) }
+    ensures levels { length scopes.new ≡ length scopes.old }
+{
+    match scopes.unset(level, name) {
+        Ok(()) => Ok(()),
+        Err(UnsetFault::NoMemory) => Err(Refusal::NoMemory),
+        Err(fault) => {
+            if quiet {
+                Ok(())
+            } else {
+                cannot_unset(alloc, name.as_str(), fault)
+            }
+        }
+    }
+}

@@ -1,0 +1,342 @@
+//! The commands of set(n), incr(n), append(n) and lappend(n), and `info exists` of info(n).
+ghost use Rattle.std.specs.Prelude.{◌≡◌, ◌<◌, ◌≤◌, [], ◌++◌, length, IfOk, OnOk, codes, string_bytes};
+ghost use Rattle.std.specs.List.{concat};
+ghost use Rattle.std.specs.Option.{option_copied};
+ghost use Rattle.tcl_text.specs.Answers.{Gives, answers};
+ghost use Rattle.tcl_vars.specs.Store.{variable_in, with_variable};
+ghost use Rattle.tcl_commands.specs.Done.{Does, IfNoMemory};
+ghost use Rattle.tcl_commands.specs.Edits.{edit_answer};
+ghost use Rattle.tcl_commands.specs.Values as spec;
+
+use crate::texts::{cannot_read, cannot_set, short_text, too_large};
+use crate::usages::{Usage, wrong_words};
+use std::alloc::{AllocError, Global};
+use tcl_text::answers::{Refusal, error, limit_reached, truth_answer};
+use tcl_text::integers::integer_of;
+use tcl_text::items::items_in;
+use tcl_text::{Edit, EditFault, Text};
+use tcl_vars::{ChangeFault, ReadFault, Scopes, SetFault};
+
+/// `set name ?value?`: the variable's value, or the value that it is set to.
+#[tactic(auto, using(crate::proofs::DoneLemmas::kept))]
+pub fn set_words(
+    alloc: Global,
+    scopes: &mut Scopes,
+    level: usize,
+    words: &[Text],
+) -> Result<Text, Refusal>
+    requires { level < length scopes.old }
+    ensures does { Does result scopes.new (spec.set_words level words.now scopes.old) }
+    ensures no_memory { IfNoMemory result (scopes.new ≡ scopes.old) }
+    ensures levels { length scopes.new ≡ length scopes.old }
+{
+    match words {
+        [name] => value_of(alloc, scopes, level, name),
+        [name, value] => set_to(alloc, scopes, level, name, value.copy()?),
+        _ => wrong_words(alloc, Usage::Set),
+    }
+}
+
+/// The value of a variable.
+fn value_of(alloc: Global, scopes: &Scopes, level: usize, name: &Text) -> Result<Text, Refusal>
+    requires { level < length scopes.now }
+    ensures { Gives result (spec.value_read name.now (variable_in scopes.now level name.now)) }
+{
+    match scopes.get(level, name) {
+        Ok(value) => Ok(value.copy()?),
+        Err(fault) => cannot_read(alloc, name.as_str(), fault),
+    }
+}
+
+/// Sets a variable to a value, which is the answer.
+#[tactic(auto, using(crate::proofs::DoneLemmas::not_set))]
+fn set_to(
+    alloc: Global,
+    scopes: &mut Scopes,
+    level: usize,
+    name: &Text,
+    value: Text,
+) -> Result<Text, Refusal>
+    requires { level < length scopes.old }
+    ensures does { Does result scopes.new
+        (spec.value_set name.now value scopes.old (with_variable scopes.old level name.now value)) }
+    ensures no_memory { IfNoMemory result (scopes.new ≡ scopes.old) }
+    ensures levels { length scopes.new ≡ length scopes.old }
+{
+    let answer = value.copy()?;
+    match scopes.set(level, name, value) {
+        Ok(()) => Ok(answer),
+        Err(SetFault::NoMemory) => Err(Refusal::NoMemory),
+        Err(fault) => cannot_set(alloc, name.as_str(), fault),
+    }
+}
+
+/// `incr name ?n?`: the sum of the variable and n, to which the variable is set.
+#[tactic(auto, using(crate::proofs::DoneLemmas::kept))]
+pub fn incr_words(
+    alloc: Global,
+    scopes: &mut Scopes,
+    level: usize,
+    words: &[Text],
+) -> Result<Text, Refusal>
+    requires { level < length scopes.old }
+    ensures does { Does result scopes.new (spec.incr_words level words.now scopes.old) }
+    ensures no_memory { IfNoMemory result (scopes.new ≡ scopes.old) }
+    ensures levels { length scopes.new ≡ length scopes.old }
+{
+    match words {
+        [name] => increase(alloc, scopes, level, name, None),
+        [name, amount] => increase(alloc, scopes, level, name, Some(amount)),
+        _ => wrong_words(alloc, Usage::Incr),
+    }
+}
+
+/// Adds an amount, or 1, to a variable.
+#[tactic(auto, using(crate::proofs::DoneLemmas::changes))]
+fn increase(
+    alloc: Global,
+    scopes: &mut Scopes,
+    level: usize,
+    name: &Text,
+    amount: Option<&Text>,
+) -> Result<Text, Refusal>
+    requires { level < length scopes.old }
+    ensures does { Does result scopes.new
+        (spec.changed level name.now (codes "0") (spec.increased (spec.amount_in (option_copied amount.entry))) scopes.old) }
+    ensures no_memory { IfNoMemory result (scopes.new ≡ scopes.old) }
+    ensures levels { length scopes.new ≡ length scopes.old }
+{
+    let sum = increased(alloc, scopes, level, name, amount)?;
+    set_to(alloc, scopes, level, name, sum)
+}
+
+/// The sum of a variable and an amount, or 1.
+fn increased(
+    alloc: Global,
+    scopes: &Scopes,
+    level: usize,
+    name: &Text,
+    amount: Option<&Text>,
+) -> Result<Text, Refusal>
+    requires { level < length scopes.now }
+    ensures { Gives result
+        (spec.value_changed (codes "0") name.now (spec.increased (spec.amount_in (option_copied amount.entry))) (variable_in scopes.now level name.now)) }
+{
+    let value = value_or(alloc, scopes, level, name, "0")?;
+    let held = integer_of(alloc, &value)?;
+    let amount = amount_in(alloc, amount)?;
+    sum_of(alloc, held, amount)
+}
+
+/// The amount that a word is, or 1 without one.
+fn amount_in(alloc: Global, word: Option<&Text>) -> Result<i64, Refusal>
+    ensures { Gives result (spec.amount_in (option_copied word.entry)) }
+{
+    match word {
+        Some(word) => integer_of(alloc, word),
+        None => Ok(1),
+    }
+}
+
+/// A sum, where it fits 64 bits.
+#[tactic(auto, using(crate::proofs::SumLemmas::sums))]
+fn sum_of(alloc: Global, a: i64, b: i64) -> Result<Text, Refusal>
+    ensures { Gives result (spec.sum_of a b) }
+{
+    match a.checked_add(b) {
+        Some(sum) => Ok(Text::from_integer(alloc, sum)?),
+        None => too_large(alloc),
+    }
+}
+
+/// The value of a variable, where one that isn't there counts as these characters.
+fn value_or(
+    alloc: Global,
+    scopes: &Scopes,
+    level: usize,
+    name: &Text,
+    absent: &str,
+) -> Result<Text, Refusal>
+    requires level { level < length scopes.now }
+    requires short { length absent.now ≤ 22 }
+    ensures { Gives result (spec.value_or absent.now name.now (variable_in scopes.now level name.now)) }
+{
+    match scopes.get(level, name) {
+        Ok(value) => Ok(value.copy()?),
+        Err(ReadFault::NoVariable) => Ok(short_text(alloc, absent)?),
+        Err(ReadFault::NoElement) => Ok(short_text(alloc, absent)?),
+        Err(fault) => cannot_read(alloc, name.as_str(), fault),
+    }
+}
+
+/// `append name ?value ..?`: the variable with the values behind it, to which it is set.
+#[tactic(auto, using(crate::proofs::DoneLemmas::kept))]
+pub fn append_words(
+    alloc: Global,
+    scopes: &mut Scopes,
+    level: usize,
+    words: &[Text],
+) -> Result<Text, Refusal>
+    requires { level < length scopes.old }
+    ensures does { Does result scopes.new (spec.append_words level words.now scopes.old) }
+    ensures levels { length scopes.new ≡ length scopes.old }
+{
+    match words {
+        [name, values @ ..] => append(alloc, scopes, level, name, values),
+        [] => wrong_words(alloc, Usage::Append),
+    }
+}
+
+/// Adds values behind a variable.
+fn append(
+    alloc: Global,
+    scopes: &mut Scopes,
+    level: usize,
+    name: &Text,
+    values: &[Text],
+) -> Result<Text, Refusal>
+    requires { level < length scopes.old }
+    ensures does { Does result scopes.new
+        (spec.changed level name.now [] (λ value. answers (value ++ concat values.now)) scopes.old) }
+    ensures levels { length scopes.new ≡ length scopes.old }
+{
+    let mut more = String::new(alloc);
+    push_all(&mut more, values)?;
+    change(alloc, scopes, level, name, Edit::Characters(more.as_str()))
+}
+
+/// Changes a variable in place, where one that isn't there counts as empty.
+fn change(
+    alloc: Global,
+    scopes: &mut Scopes,
+    level: usize,
+    name: &Text,
+    edit: Edit<'_>,
+) -> Result<Text, Refusal>
+    requires { level < length scopes.old }
+    ensures does { Does result scopes.new (spec.changed level name.now [] (edit_answer edit.entry) scopes.old) }
+    ensures levels { length scopes.new ≡ length scopes.old }
+{
+    match scopes.change(level, name, edit) {
+        Ok(()) => value_of(alloc, scopes, level, name),
+        Err(ChangeFault::Unread(ReadFault::NoVariable)) => {
+            set_edited(alloc, scopes, level, name, edit)
+        }
+        Err(ChangeFault::Unread(ReadFault::NoElement)) => {
+            set_edited(alloc, scopes, level, name, edit)
+        }
+        Err(ChangeFault::Unread(fault)) => cannot_read(alloc, name.as_str(), fault),
+        Err(ChangeFault::TooLong) => Err(limit_reached(alloc)),
+        Err(ChangeFault::BadList(fault)) => Err(error(alloc, fault.text())),
+        Err(ChangeFault::NoMemory) => Err(Refusal::NoMemory),
+    }
+}
+
+/// Sets a variable to what becomes of the empty text.
+#[tactic(auto, using(crate::proofs::DoneLemmas::changes))]
+fn set_edited(
+    alloc: Global,
+    scopes: &mut Scopes,
+    level: usize,
+    name: &Text,
+    edit: Edit<'_>,
+) -> Result<Text, Refusal>
+    requires { level < length scopes.old }
+    ensures does { Does result scopes.new (spec.changed_to level name.now scopes.old (edit_answer edit.entry [])) }
+    ensures levels { length scopes.new ≡ length scopes.old }
+{
+    let value = edited_empty(alloc, edit)?;
+    set_to(alloc, scopes, level, name, value)
+}
+
+/// What becomes of the empty text.
+fn edited_empty(alloc: Global, edit: Edit<'_>) -> Result<Text, Refusal>
+    ensures { Gives result (edit_answer edit.entry []) }
+{
+    let mut text = short_text(alloc, "")?;
+    match text.edit(alloc, edit) {
+        Ok(()) => Ok(text),
+        Err(EditFault::TooLong) => Err(limit_reached(alloc)),
+        Err(EditFault::BadList(fault)) => Err(error(alloc, fault.text())),
+        Err(EditFault::NoMemory) => Err(Refusal::NoMemory),
+    }
+}
+
+/// Adds the characters of the texts.
+#[tactic(auto, using(crate::proofs::ConcatLemmas::concats))]
+fn push_all(string: &mut String, texts: &[Text]) -> Result<(), AllocError>
+    ensures { OnOk result (string_bytes string.new ≡ string_bytes string.old ++ concat texts.now) }
+{
+    for text in texts {
+        string.push_str(text.as_str())?;
+    }
+    Ok(())
+}
+
+/// `lappend name ?value ..?`: the list that the variable is with the values behind its items, to which it is set.
+#[tactic(auto, using(crate::proofs::DoneLemmas::kept))]
+pub fn lappend_words(
+    alloc: Global,
+    scopes: &mut Scopes,
+    level: usize,
+    words: &[Text],
+) -> Result<Text, Refusal>
+    requires { level < length scopes.old }
+    ensures does { Does result scopes.new (spec.lappend_words level words.now scopes.old) }
+    ensures levels { length scopes.new ≡ length scopes.old }
+{
+    match words {
+        [name, values @ ..] => lappend(alloc, scopes, level, name, values),
+        [] => wrong_words(alloc, Usage::Lappend),
+    }
+}
+
+/// Adds values as items to the list that a variable is.
+#[tactic(auto, using(crate::proofs::DoneLemmas::changes))]
+fn lappend(
+    alloc: Global,
+    scopes: &mut Scopes,
+    level: usize,
+    name: &Text,
+    values: &[Text],
+) -> Result<Text, Refusal>
+    requires { level < length scopes.old }
+    ensures does { Does result scopes.new
+        (spec.changed level name.now [] (spec.with_items values.now) scopes.old) }
+    ensures levels { length scopes.new ≡ length scopes.old }
+{
+    match values {
+        [] => {
+            let list = list_of(alloc, scopes, level, name)?;
+            set_to(alloc, scopes, level, name, list)
+        }
+        _ => change(alloc, scopes, level, name, Edit::Items(values)),
+    }
+}
+
+/// The list that a variable is, as it is written.
+fn list_of(alloc: Global, scopes: &Scopes, level: usize, name: &Text) -> Result<Text, Refusal>
+    requires { level < length scopes.now }
+    ensures { Gives result
+        (spec.value_changed [] name.now (spec.with_items []) (variable_in scopes.now level name.now)) }
+{
+    let value = value_or(alloc, scopes, level, name, "")?;
+    let _items = items_in(alloc, &value)?;
+    Ok(value)
+}
+
+/// `info exists name`: whether there is a variable or element.
+pub fn exists_words(
+    alloc: Global,
+    scopes: &Scopes,
+    level: usize,
+    words: &[Text],
+) -> Result<Text, Refusal>
+    requires { level < length scopes.now }
+    ensures { Gives result (spec.exists_words level words.now scopes.now) }
+{
+    match words {
+        [name] => truth_answer(alloc, scopes.exists(level, name)),
+        _ => wrong_words(alloc, Usage::InfoExists),
+    }
+}

@@ -6,3 +6,4 @@ pub mod Moves
 pub mod Reading
 pub mod Falls
 pub mod Room
+pub mod Grammar

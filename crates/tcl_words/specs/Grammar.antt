@@ -1,0 +1,311 @@
+-- The grammar of scripts, as a relation between a text and its commands. It cuts texts into gaps, commands, words and
+-- pieces, and says nothing of how a text is read. What stands at the front of a text is read with how that goes on: with
+-- a text that is left behind it, or with the fault of the text.
+use Rattle.std.specs.Prelude.{ℕ, zero, suc, ◌+◌, ◌≡◌, ◌≢◌, ◌≤◌, ◌⊎◌, Bool, true, false, not, ◌&&◌, ◌||◌, ◌==◌, nat_eq, List, [], ◌∷◌, ◌++◌, length, drop}
+use Rattle.std.specs.List.{starts_with}
+use Rattle.std.specs.Str.{IsUtf8}
+use Rattle.tcl_text.specs.Backslash.{escape}
+use Rattle.tcl_words.specs.Kinds.{class_of, is_letter, ends_word, begins_expansion}
+use Rattle.tcl_words.specs.Changes.{command_of, word_of}
+use Rattle.tcl_words.specs.declared.kind.Kind.{Kind}
+use Rattle.tcl_words.specs.declared.kind.Kind.TheVariants.{Blank, Newline, Semicolon, Hash, Dollar, Quote, OpenBracket, CloseBracket, OpenBrace, Expansion, CloseBrace, CloseParen, Backslash, Continuation, Other}
+use Rattle.tcl_words.specs.declared.script.WordForm.{WordForm}
+use Rattle.tcl_words.specs.declared.script.WordForm.TheVariants.{Bare, Quoted, Braced}
+use Rattle.tcl_words.specs.declared.script.Span.{Span}
+use Rattle.tcl_words.specs.declared.script.Piece.{Piece}
+use Rattle.tcl_words.specs.declared.script.Piece.TheVariants.{Literal, Variable, Element, Bracket}
+use Rattle.tcl_words.specs.declared.script.Word.{Word}
+use Rattle.tcl_words.specs.declared.script.Command.{Command}
+use Rattle.tcl_words.specs.declared.fault.ParseFault.{ParseFault}
+use Rattle.tcl_words.specs.declared.fault.ParseFault.TheVariants.{TooLong, MissingBrace, MissingBracket, MissingQuote, ExtraAfterBrace, ExtraAfterQuote, MissingParen}
+
+-- How a text goes on behind what stands at its front.
+pub data Ending : Type 0 where
+  -- this is left of it
+  leaves : List ℕ → Ending
+  -- it has this fault
+  fails : ParseFault → Ending
+
+-- What is read by itself within a script: a script in brackets, or the index of an element.
+pub data Inner : Type 0 where
+  script : Inner
+  index : Inner
+
+-- Where substitution goes on: in a bare word, in quotes and in an index.
+pub data Body : Type 0 where
+  bare : Body
+  quoted : Body
+  indexed : Body
+
+-- this byte is the first
+abbrev pub begins : ℕ → List ℕ → Bool
+begins b [] = false
+begins b (c ∷ text) = c == b
+
+abbrev pub begins_letter : List ℕ → Bool
+begins_letter [] = false
+begins_letter (b ∷ text) = is_letter b
+
+-- a name stands at the front: `::` or nothing, and then a letter, a digit or `_`
+abbrev pub begins_name : List ℕ → Bool
+begins_name text = begins_letter text || (starts_with nat_eq text (58 ∷ 58 ∷ []) && begins_letter (drop 2 text))
+
+-- a `{*}` stands at the front, before a character that doesn't end the word
+abbrev pub begins_mark : Bool → List ℕ → Bool
+begins_mark inside [] = false
+begins_mark inside (b ∷ text) = b == 123 && begins_expansion inside text
+
+-- letters, digits and `_`
+abbrev pub AreLetters : List ℕ → Type 0
+AreLetters [] = Unit {0}
+AreLetters (b ∷ text) = (is_letter b ≡ true) × AreLetters text
+
+-- a variable's name: at least one of these, and before that `::` or nothing
+abbrev pub IsName : List ℕ → Type 0
+IsName name = (b : ℕ) × (letters : List ℕ) × (is_letter b ≡ true) × AreLetters letters × ((name ≡ b ∷ letters) ⊎ (name ≡ 58 ∷ 58 ∷ b ∷ letters))
+
+-- no `}`
+abbrev pub HasNoBrace : List ℕ → Type 0
+HasNoBrace [] = Unit {0}
+HasNoBrace (b ∷ text) = (b ≢ 125) × HasNoBrace text
+
+-- an index ends at a parenthesis; read by itself it ends where the text does
+abbrev pub index_stops : Bool → List ℕ → Bool
+index_stops inside [] = not inside
+index_stops inside (b ∷ text) = inside && b == 41
+
+-- The body ends before this text. `inside` says that the script or the index ends at a closing bracket or parenthesis.
+abbrev pub stops : Bool → Body → List ℕ → Bool
+stops inside bare text = ends_word inside text
+stops inside quoted text = begins 34 text
+stops inside indexed text = index_stops inside text
+
+-- the fault of a body that never ends
+abbrev pub unended_fault : Body → ParseFault
+unended_fault bare = MissingBracket
+unended_fault quoted = MissingQuote
+unended_fault indexed = MissingParen
+
+-- what stands for itself where a body goes on
+abbrev pub is_plain : Kind → Bool
+is_plain Dollar = false
+is_plain OpenBracket = false
+is_plain Backslash = false
+is_plain Continuation = false
+is_plain kind = true
+
+-- what stands for itself goes together into literals, as long as can be
+abbrev pub with_bytes : List ℕ → List Piece → List Piece
+with_bytes [] pieces = pieces
+with_bytes (b ∷ bytes) [] = Literal (b ∷ bytes) ∷ []
+with_bytes (b ∷ bytes) (Literal text ∷ pieces) = Literal (b ∷ (bytes ++ text)) ∷ pieces
+with_bytes (b ∷ bytes) (Variable name ∷ pieces) = Literal (b ∷ bytes) ∷ Variable name ∷ pieces
+with_bytes (b ∷ bytes) (Element name key ∷ pieces) = Literal (b ∷ bytes) ∷ Element name key ∷ pieces
+with_bytes (b ∷ bytes) (Bracket own ∷ pieces) = Literal (b ∷ bytes) ∷ Bracket own ∷ pieces
+
+-- The pieces of a body at the front of a text, where `IsInner` says how scripts in brackets and indices are read. With a
+-- fault the pieces are those before it.
+pub data ArePieces (IsInner : Inner → List ℕ → Ending → Type 0) (inside : Bool) (body : Body) : List ℕ → List Piece → Ending → Type 0 where
+  stop : {text : List ℕ} → stops inside body text ≡ true → ArePieces IsInner inside body text [] (leaves text)
+  unended : stops inside body [] ≡ false → ArePieces IsInner inside body [] [] (fails (unended_fault body))
+  byte : {b : ℕ} {text : List ℕ} {pieces : List Piece} {ending : Ending} → stops inside body (b ∷ text) ≡ false → is_plain (class_of b) ≡ true →
+    ArePieces IsInner inside body text pieces ending → ArePieces IsInner inside body (b ∷ text) (with_bytes (b ∷ []) pieces) ending
+  backslash : {text : List ℕ} {pieces : List Piece} {ending : Ending} → stops inside body (92 ∷ text) ≡ false →
+    ArePieces IsInner inside body (drop (escape text).length text) pieces ending → ArePieces IsInner inside body (92 ∷ text) (with_bytes (escape text).meaning pieces) ending
+  -- a `$` that stands for itself
+  dollar : {text : List ℕ} {pieces : List Piece} {ending : Ending} → begins_name text ≡ false → begins 123 text ≡ false →
+    ArePieces IsInner inside body text pieces ending → ArePieces IsInner inside body (36 ∷ text) (with_bytes (36 ∷ []) pieces) ending
+  variable : (name : List ℕ) {text : List ℕ} {pieces : List Piece} {ending : Ending} → IsName name → begins_letter text ≡ false → begins 40 text ≡ false →
+    ArePieces IsInner inside body text pieces ending → ArePieces IsInner inside body (36 ∷ (name ++ text)) (Variable name ∷ pieces) ending
+  braced_name : (name : List ℕ) {text : List ℕ} {pieces : List Piece} {ending : Ending} → HasNoBrace name →
+    ArePieces IsInner inside body text pieces ending → ArePieces IsInner inside body (36 ∷ 123 ∷ (name ++ 125 ∷ text)) (Variable name ∷ pieces) ending
+  unclosed_name : {text : List ℕ} → HasNoBrace text → ArePieces IsInner inside body (36 ∷ 123 ∷ text) [] (fails MissingBrace)
+  element : (name own : List ℕ) {text : List ℕ} {pieces : List Piece} {ending : Ending} → IsName name → IsInner index (own ++ 41 ∷ text) (leaves (41 ∷ text)) →
+    ArePieces IsInner inside body text pieces ending → ArePieces IsInner inside body (36 ∷ (name ++ 40 ∷ (own ++ 41 ∷ text))) (Element name own ∷ pieces) ending
+  faulty_index : (name : List ℕ) {text : List ℕ} {fault : ParseFault} → IsName name → IsInner index text (fails fault) →
+    ArePieces IsInner inside body (36 ∷ (name ++ 40 ∷ text)) [] (fails fault)
+  bracket : (own : List ℕ) {text : List ℕ} {pieces : List Piece} {ending : Ending} → IsInner script (own ++ 93 ∷ text) (leaves (93 ∷ text)) →
+    ArePieces IsInner inside body text pieces ending → ArePieces IsInner inside body (91 ∷ (own ++ 93 ∷ text)) (Bracket own ∷ pieces) ending
+  faulty_script : {text : List ℕ} {fault : ParseFault} → IsInner script text (fails fault) → ArePieces IsInner inside body (91 ∷ text) [] (fails fault)
+
+-- a blank or a tab
+abbrev pub begins_space : List ℕ → Bool
+begins_space [] = false
+begins_space (b ∷ text) = b == 32 || b == 9
+
+abbrev pub AreSpaces : List ℕ → Type 0
+AreSpaces [] = Unit {0}
+AreSpaces (b ∷ text) = (begins_space (b ∷ text) ≡ true) × AreSpaces text
+
+-- What stands between braces, each of which has its match but where it follows a backslash, and the text that it is: a
+-- backslash before a newline gives a blank, with the blanks and tabs behind it.
+pub data IsBraced : List ℕ → List ℕ → Type 0 where
+  none : IsBraced [] []
+  byte : {b : ℕ} {text value : List ℕ} → b ≢ 123 → b ≢ 125 → b ≢ 92 → IsBraced text value → IsBraced (b ∷ text) (b ∷ value)
+  pair : {b : ℕ} {text value : List ℕ} → b ≢ 10 → IsBraced text value → IsBraced (92 ∷ b ∷ text) (92 ∷ b ∷ value)
+  continuation : (spaces : List ℕ) {text value : List ℕ} → AreSpaces spaces → begins_space text ≡ false → IsBraced text value → IsBraced (92 ∷ 10 ∷ (spaces ++ text)) (32 ∷ value)
+  braces : (own text : List ℕ) {inner value : List ℕ} → IsBraced own inner → IsBraced text value → IsBraced (123 ∷ (own ++ 125 ∷ text)) (123 ∷ (inner ++ 125 ∷ value))
+
+-- The text past an opening brace that has no match in it.
+pub data IsUnclosed : List ℕ → Type 0 where
+  ends : {text value : List ℕ} → IsBraced text value → IsUnclosed text
+  backslash : (text : List ℕ) {value : List ℕ} → IsBraced text value → IsUnclosed (text ++ 92 ∷ [])
+  opens : (before text : List ℕ) {value : List ℕ} → IsBraced before value → IsUnclosed text → IsUnclosed (before ++ 123 ∷ text)
+
+-- the first byte of a bare word
+abbrev pub begins_bare : Bool → List ℕ → Bool
+begins_bare inside text = not (ends_word inside text) && (not (begins 123 text) && not (begins 34 text))
+
+-- A word's own text, without a `{*}`, where `rest` follows it.
+pub data IsOwnWord (IsInner : Inner → List ℕ → Ending → Type 0) (inside : Bool) (rest : List ℕ) : List ℕ → WordForm → List Piece → Type 0 where
+  bare_word : {own : List ℕ} {pieces : List Piece} → begins_bare inside (own ++ rest) ≡ true → ArePieces IsInner inside bare (own ++ rest) pieces (leaves rest) →
+    IsOwnWord IsInner inside rest own Bare pieces
+  quoted_word : (own : List ℕ) {pieces : List Piece} → ArePieces IsInner inside quoted (own ++ 34 ∷ rest) pieces (leaves (34 ∷ rest)) →
+    IsOwnWord IsInner inside rest (34 ∷ (own ++ 34 ∷ [])) Quoted pieces
+  braced_word : (own : List ℕ) {value : List ℕ} → IsBraced own value → IsOwnWord IsInner inside rest (123 ∷ (own ++ 125 ∷ [])) Braced (Literal value ∷ [])
+
+-- The fault of a text at whose front a word would stand.
+pub data IsFaultyOwn (IsInner : Inner → List ℕ → Ending → Type 0) (inside : Bool) : List ℕ → ParseFault → Type 0 where
+  faulty_bare : {text : List ℕ} {pieces : List Piece} {fault : ParseFault} → begins_bare inside text ≡ true → ArePieces IsInner inside bare text pieces (fails fault) →
+    IsFaultyOwn IsInner inside text fault
+  faulty_quoted : {text : List ℕ} {pieces : List Piece} {fault : ParseFault} → ArePieces IsInner inside quoted text pieces (fails fault) →
+    IsFaultyOwn IsInner inside (34 ∷ text) fault
+  followed_quoted : (own rest : List ℕ) {pieces : List Piece} → ArePieces IsInner inside quoted (own ++ 34 ∷ rest) pieces (leaves (34 ∷ rest)) → ends_word inside rest ≡ false →
+    IsFaultyOwn IsInner inside (34 ∷ (own ++ 34 ∷ rest)) ExtraAfterQuote
+  unclosed_braced : {text : List ℕ} → IsUnclosed text → IsFaultyOwn IsInner inside (123 ∷ text) MissingBrace
+  followed_braced : (own rest : List ℕ) {value : List ℕ} → IsBraced own value → ends_word inside rest ≡ false → IsFaultyOwn IsInner inside (123 ∷ (own ++ 125 ∷ rest)) ExtraAfterBrace
+
+-- what stands before a word's own text: `{*}`, or nothing
+abbrev pub IsMark : Bool → Bool → List ℕ → List ℕ → Type 0
+IsMark inside false mark text = (mark ≡ []) × (begins_mark inside text ≡ false)
+IsMark inside true mark text = (mark ≡ 123 ∷ 42 ∷ 125 ∷ []) × (ends_word inside text ≡ false)
+
+-- A word at this position, where `rest` follows it.
+pub record IsWord (IsInner : Inner → List ℕ → Ending → Type 0) (inside : Bool) (rest : List ℕ) (at : ℕ) (text : List ℕ) (word : Word) : Type 0 where
+  pub expand : Bool
+  pub mark : List ℕ
+  pub own : List ℕ
+  pub form : WordForm
+  pub pieces : List Piece
+  pub cut : text ≡ mark ++ own
+  pub marked : IsMark inside expand mark (own ++ rest)
+  pub is : IsOwnWord IsInner inside rest own form pieces
+  pub ends : ends_word inside rest ≡ true
+  pub same : word ≡ word_of form expand at pieces (at + length text)
+
+pub record IsFaultyWord (IsInner : Inner → List ℕ → Ending → Type 0) (inside : Bool) (text : List ℕ) (fault : ParseFault) : Type 0 where
+  pub expand : Bool
+  pub mark : List ℕ
+  pub own : List ℕ
+  pub cut : text ≡ mark ++ own
+  pub marked : IsMark inside expand mark own
+  pub is : IsFaultyOwn IsInner inside own fault
+
+-- a newline or `;`
+abbrev pub IsSeparator : ℕ → Type 0
+IsSeparator b = (b ≡ 10) ⊎ (b ≡ 59)
+
+-- What parts the words of a command: blank characters, and backslashes before newlines.
+pub data AreBlanks : List ℕ → Type 0 where
+  none : AreBlanks []
+  blank : {b : ℕ} {text : List ℕ} → class_of b ≡ Blank → AreBlanks text → AreBlanks (b ∷ text)
+  continuation : {text : List ℕ} → AreBlanks text → AreBlanks (92 ∷ 10 ∷ text)
+
+-- A comment's text: a backslash goes with the byte behind it, and no newline stands for itself.
+pub data IsNote : List ℕ → Type 0 where
+  none : IsNote []
+  byte : {b : ℕ} {text : List ℕ} → b ≢ 10 → b ≢ 92 → IsNote text → IsNote (b ∷ text)
+  pair : {b : ℕ} {text : List ℕ} → IsNote text → IsNote (92 ∷ b ∷ text)
+
+-- a comment that goes on to the end of the text, where a backslash may be the last byte
+abbrev pub IsLastNote : List ℕ → Type 0
+IsLastNote text = IsNote text ⊎ ((front : List ℕ) × (text ≡ front ++ 92 ∷ []) × IsNote front)
+
+-- What may stand where a command could begin: blanks, separators, and comments that end.
+pub data IsGap : List ℕ → Type 0 where
+  none : IsGap []
+  blank : {b : ℕ} {text : List ℕ} → class_of b ≡ Blank → IsGap text → IsGap (b ∷ text)
+  continuation : {text : List ℕ} → IsGap text → IsGap (92 ∷ 10 ∷ text)
+  separator : {b : ℕ} {text : List ℕ} → IsSeparator b → IsGap text → IsGap (b ∷ text)
+  comment : (note text : List ℕ) → IsNote note → IsGap text → IsGap (35 ∷ (note ++ 10 ∷ text))
+
+-- how a script goes on at the end of the text
+abbrev pub end_of_text : Bool → Ending
+end_of_text true = fails MissingBracket
+end_of_text false = leaves []
+
+-- The end of a script: the bracket that closes it, or the end of the text.
+pub data IsEnd (inside : Bool) : List ℕ → Ending → Type 0 where
+  closes : {text : List ℕ} → inside ≡ true → IsEnd inside (93 ∷ text) (leaves (93 ∷ text))
+  stands : IsEnd inside [] (end_of_text inside)
+
+-- How a script ends where a word could begin.
+pub data IsEnding (IsInner : Inner → List ℕ → Ending → Type 0) (inside : Bool) : List ℕ → Ending → Type 0 where
+  ends : {text : List ℕ} {ending : Ending} → IsEnd inside text ending → IsEnding IsInner inside text ending
+  faulty : {text : List ℕ} {fault : ParseFault} → IsFaultyWord IsInner inside text fault → IsEnding IsInner inside text (fails fault)
+
+-- How a script ends where a command could begin.
+pub data IsLast (IsInner : Inner → List ℕ → Ending → Type 0) (inside : Bool) : List ℕ → Ending → Type 0 where
+  ends : {text : List ℕ} {ending : Ending} → IsEnd inside text ending → IsLast IsInner inside text ending
+  comment : {note : List ℕ} → IsLastNote note → IsLast IsInner inside (35 ∷ note) (end_of_text inside)
+  faulty : {text : List ℕ} {fault : ParseFault} → begins 35 text ≡ false → IsFaultyWord IsInner inside text fault → IsLast IsInner inside text (fails fault)
+
+-- The further words of a command, and then what comes after it.
+abbrev pub AreFurther : (Inner → List ℕ → Ending → Type 0) → Bool → (ℕ → List ℕ → Type 0) → ℕ → List ℕ → List Word → Type 0
+AreFurther IsInner inside IsAfter at text [] = IsAfter at text
+AreFurther IsInner inside IsAfter at text (word ∷ words) =
+    (blanks : List ℕ) × (own : List ℕ) × (rest : List ℕ) × (text ≡ blanks ++ (own ++ rest)) × AreBlanks blanks
+    × IsWord IsInner inside rest (at + length blanks) own word × AreFurther IsInner inside IsAfter (at + length blanks + length own) rest words
+
+-- Blanks, and then a separator before the rest of the script, or the end.
+abbrev pub IsRest : (ℕ → List ℕ → Type 0) → (List ℕ → Type 0) → ℕ → List ℕ → Type 0
+IsRest IsNext IsLastOf at text =
+    (blanks : List ℕ) × (rest : List ℕ) × (text ≡ blanks ++ rest) × AreBlanks blanks
+    × (((b : ℕ) × (after : List ℕ) × (rest ≡ b ∷ after) × IsSeparator b × IsNext (at + length blanks + 1) after) ⊎ IsLastOf rest)
+
+-- The commands of a script at the front of a text that begins at this position. Where there is a fault in a command, that
+-- command has the words before the fault.
+abbrev pub IsScript : (Inner → List ℕ → Ending → Type 0) → Bool → ℕ → List ℕ → List Command → Ending → Type 0
+IsScript IsInner inside at text [] ending = (gap : List ℕ) × (rest : List ℕ) × (text ≡ gap ++ rest) × IsGap gap × IsLast IsInner inside rest ending
+IsScript IsInner inside at text (command ∷ commands) ending =
+    (gap : List ℕ) × (own : List ℕ) × (rest : List ℕ) × (word : Word) × (words : List Word)
+    × (text ≡ gap ++ (own ++ rest)) × IsGap gap × (begins 35 own ≡ false)
+    × IsWord IsInner inside rest (at + length gap) own word
+    × AreFurther IsInner inside (IsRest (λ next after. IsScript IsInner inside next after commands ending) (λ last. (commands ≡ []) × IsEnding IsInner inside last ending)) (at + length gap + length own) rest words
+    × (command ≡ command_of (at + length gap) (word ∷ words))
+
+-- What brackets and indices hold where so many may still be opened in one another: a script, or the pieces of an index,
+-- with positions counted from its own first byte. Where none may be opened, that is a fault at the opener.
+abbrev pub IsInnerOf : ℕ → Inner → List ℕ → Ending → Type 0
+IsInnerOf zero inner text ending = ending ≡ fails TooLong
+IsInnerOf (suc room) script text ending = (commands : List Command) × IsScript (IsInnerOf room) true 0 text commands ending
+IsInnerOf (suc room) index text ending = (pieces : List Piece) × ArePieces (IsInnerOf room) true indexed text pieces ending
+
+-- a script's text: at most 65,536 bytes of UTF-8
+abbrev pub IsText : List ℕ → Type 0
+IsText text = (length text ≤ 65536) × IsUtf8 text
+
+-- The text is a script of these commands. At most 200 brackets and indices stand in one another.
+pub record IsScriptOf (text : List ℕ) (commands : List Command) : Type 0 where
+  pub is_text : IsText text
+  pub cut : IsScript (IsInnerOf 200) false 0 text commands (leaves [])
+
+-- The text is no script, and this is its first fault from the left. That it is no text of a script counts before all else.
+abbrev pub IsFaultOf : List ℕ → ParseFault → Type 0
+IsFaultOf text fault = ((fault ≡ TooLong) × (¬ IsText text)) ⊎ (IsText text × (commands : List Command) × IsScript (IsInnerOf 200) false 0 text commands (fails fault))
+
+-- the span is where this part stands in the text
+abbrev pub IsSlice : List ℕ → Span → List ℕ → Type 0
+IsSlice text span own = (before : List ℕ) × (after : List ℕ) × (text ≡ before ++ (own ++ after)) × (span ≡ record { start = length before; end = length before + length own })
+
+-- each word's span is where a text of that word stands
+abbrev pub WordsAreSlices : List ℕ → List Word → Type 0
+WordsAreSlices text [] = Unit {0}
+WordsAreSlices text (word ∷ words) =
+    ((own : List ℕ) × (rest : List ℕ) × IsSlice text word.span own × IsWord (IsInnerOf 200) false rest word.span.start own word) × WordsAreSlices text words
+
+-- likewise in each command, whose span goes from its first word to the end of its last
+abbrev pub CommandsAreSlices : List ℕ → List Command → Type 0
+CommandsAreSlices text [] = Unit {0}
+CommandsAreSlices text (command ∷ commands) =
+    WordsAreSlices text command.words × (command ≡ command_of command.span.start command.words) × ((own : List ℕ) × IsSlice text command.span own) × CommandsAreSlices text commands

@@ -5,4 +5,7 @@ pub mod NameLemmas
 pub mod StopLemmas
 pub mod PiecesRead
 pub mod BracesRead
+pub mod WordsRead
+pub mod GapsRead
+pub mod ScriptsRead
 mod ReadingExamples

@@ -269,7 +269,7 @@ abbrev pub IsScript : (Inner → List ℕ → Ending → Type 0) → Bool → �
 IsScript IsInner inside at text [] ending = (gap : List ℕ) × (rest : List ℕ) × (text ≡ gap ++ rest) × IsGap gap × IsLast IsInner inside rest ending
 IsScript IsInner inside at text (command ∷ commands) ending =
     (gap : List ℕ) × (own : List ℕ) × (rest : List ℕ) × (word : Word) × (words : List Word)
-    × (text ≡ gap ++ (own ++ rest)) × IsGap gap × (begins 35 own ≡ false)
+    × (text ≡ gap ++ (own ++ rest)) × IsGap gap × (begins 35 (own ++ rest) ≡ false)
     × IsWord IsInner inside rest (at + length gap) own word
     × AreFurther IsInner inside (IsRest (λ next after. IsScript IsInner inside next after commands ending) (λ last. (commands ≡ []) × IsEnding IsInner inside last ending)) (at + length gap + length own) rest words
     × (command ≡ command_of (at + length gap) (word ∷ words))

@@ -8,4 +8,7 @@ pub mod BracesRead
 pub mod WordsRead
 pub mod GapsRead
 pub mod ScriptsRead
+pub mod BracesCut
+pub mod NamesCut
+pub mod PiecesCut
 mod ReadingExamples

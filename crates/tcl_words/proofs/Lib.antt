@@ -11,4 +11,6 @@ pub mod ScriptsRead
 pub mod BracesCut
 pub mod NamesCut
 pub mod PiecesCut
+pub mod WordsCut
+pub mod ScriptsCut
 mod ReadingExamples

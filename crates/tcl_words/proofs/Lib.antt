@@ -13,4 +13,6 @@ pub mod NamesCut
 pub mod PiecesCut
 pub mod WordsCut
 pub mod ScriptsCut
+pub mod Grammars
+pub mod Slices
 mod ReadingExamples

@@ -3,7 +3,9 @@
 
 mod fault;
 mod kind;
+mod laws;
 mod script;
 
 pub use fault::ParseFault;
+pub use laws::{commands_are_read, faults_are_told, one_script_or_fault, spans_are_slices};
 pub use script::{Command, Index, Piece, Pieces, Script, Span, Word, WordForm, Words};

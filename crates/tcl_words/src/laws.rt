@@ -1,0 +1,31 @@
+//! Laws of the grammar, as contracts of functions that do nothing.
+
+ghost use Rattle.std.specs.Prelude.{◌≡◌, ℕ, List, Ok, Err};
+ghost use Rattle.tcl_words.specs.Reading.{commands_of};
+ghost use Rattle.tcl_words.specs.Grammar.{IsScriptOf, IsFaultOf, CommandsAreSlices};
+ghost use Rattle.tcl_words.specs.declared.script.Command.{Command};
+ghost use Rattle.tcl_words.specs.declared.fault.ParseFault.{ParseFault};
+
+/// The function that reads a text's commands is the grammar, both ways.
+pub fn commands_are_read()
+    ensures script { (text : List ℕ) (commands : List Command) → IsScriptOf text commands → commands_of text ≡ Ok commands }
+    ensures only { (text : List ℕ) (commands : List Command) → commands_of text ≡ Ok commands → IsScriptOf text commands }
+{}
+
+/// So are its faults.
+pub fn faults_are_told()
+    ensures fault { (text : List ℕ) (fault : ParseFault) → IsFaultOf text fault → commands_of text ≡ Err fault }
+    ensures only { (text : List ℕ) (fault : ParseFault) → commands_of text ≡ Err fault → IsFaultOf text fault }
+{}
+
+/// At most one script belongs to a text, or one fault, and never both.
+pub fn one_script_or_fault()
+    ensures one_script { (text : List ℕ) (commands others : List Command) → IsScriptOf text commands → IsScriptOf text others → commands ≡ others }
+    ensures one_fault { (text : List ℕ) (fault other : ParseFault) → IsFaultOf text fault → IsFaultOf text other → fault ≡ other }
+    ensures not_both { (text : List ℕ) (commands : List Command) (fault : ParseFault) → IsScriptOf text commands → ¬ IsFaultOf text fault }
+{}
+
+/// Each command and each word of a script stands in the text where its span says.
+pub fn spans_are_slices()
+    ensures { (text : List ℕ) (commands : List Command) → IsScriptOf text commands → CommandsAreSlices text commands }
+{}

@@ -1,2 +1,9 @@
 -- Lemmas.
+pub mod Ends
+pub mod Escapes
+pub mod Joins
+pub mod KindLemmas
+pub mod Nests
+pub mod Fronts
 mod ReadingExamples
+pub mod Steps

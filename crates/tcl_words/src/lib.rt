@@ -3,6 +3,10 @@
 
 mod fault;
 mod kind;
+mod look;
+mod nesting;
+mod open;
+mod read;
 mod script;
 
 pub use fault::ParseFault;

@@ -15,4 +15,11 @@ pub mod WordsCut
 pub mod ScriptsCut
 pub mod Grammars
 pub mod Slices
+pub mod Ends
+pub mod Escapes
+pub mod Joins
+pub mod KindLemmas
+pub mod Nests
+pub mod Fronts
 mod ReadingExamples
+pub mod Steps

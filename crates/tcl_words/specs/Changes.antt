@@ -3,7 +3,7 @@ use Rattle.std.specs.Prelude.{ℕ, Bool, List, [], ◌∷◌, ◌++◌, Result, 
 use Rattle.tcl_words.specs.declared.script.WordForm.{WordForm}
 use Rattle.tcl_words.specs.declared.script.WordForm.TheVariants.{Bare, Quoted, Braced}
 use Rattle.tcl_words.specs.declared.script.Piece.{Piece}
-use Rattle.tcl_words.specs.declared.script.Piece.TheVariants.{Literal}
+use Rattle.tcl_words.specs.declared.script.Piece.TheVariants.{Literal, Variable}
 use Rattle.tcl_words.specs.declared.script.Word.{Word}
 use Rattle.tcl_words.specs.declared.script.Command.{Command}
 use Rattle.tcl_words.specs.declared.fault.ParseFault.{ParseFault}
@@ -55,12 +55,16 @@ words_end end (word ∷ words) = words_end word.span.end words
 abbrev pub command_of : ℕ → List Word → Command
 command_of start words = record { words = words; span = record { start = start; end = words_end start words } }
 
+-- a piece, and then a literal
+abbrev pub piece_before : Piece → Rest → Rest
+piece_before own rest = record rest { bytes = []; pieces = own ∷ literal_before rest.bytes rest.pieces }
+
 -- What is put in front of a rest.
 pub data Change : Type 0 where
   -- bytes of the literal
   bytes : List ℕ → Change
-  -- a piece of the word
-  piece : Piece → Change
+  -- a variable of this name
+  name : List ℕ → Change
   -- the brace or the quote that ends a word: what follows is not of its text
   text_ends : Change
   -- a word ends at this position, and its command may go on
@@ -74,7 +78,7 @@ pub data Change : Type 0 where
 
 abbrev pub changed_by : Change → Rest → Rest
 changed_by (bytes own) rest = record rest { bytes = own ++ rest.bytes }
-changed_by (piece own) rest = record rest { bytes = []; pieces = own ∷ literal_before rest.bytes rest.pieces }
+changed_by (name own) rest = piece_before (Variable own) rest
 changed_by text_ends rest = record rest { bytes = []; pieces = [] }
 changed_by (word_ends at) rest = record rest { bytes = []; pieces = []; end = at }
 changed_by command_ends rest = record rest { bytes = []; pieces = []; end = 0; words = [] }

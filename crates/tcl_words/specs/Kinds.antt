@@ -1,5 +1,5 @@
 -- What a byte can mean in a script, by itself and by what stands behind it.
-use Rattle.std.specs.Prelude.{ℕ, zero, suc, ◌+◌, Bool, true, false, not, ◌==◌, nat_eq, nat_le, ◌&&◌, ◌||◌, if◌then◌else◌, List, [], ◌∷◌, drop, Option, Some, None}
+use Rattle.std.specs.Prelude.{ℕ, zero, suc, ◌+◌, Bool, ◌==◌, nat_eq, nat_le, ◌&&◌, ◌||◌, if◌then◌else◌, List, [], ◌∷◌, drop, Option, Some, None}
 use Rattle.std.specs.List.{starts_with}
 use Rattle.tcl_words.specs.declared.kind.Kind.{Kind}
 use Rattle.tcl_words.specs.declared.kind.Kind.TheVariants.{Blank, Newline, Semicolon, Hash, Dollar, Quote, OpenBracket, CloseBracket, OpenBrace, Expansion, CloseBrace, CloseParen, Backslash, Continuation, Other}
@@ -33,30 +33,15 @@ class_of b =
 
 -- a newline is the first byte
 abbrev pub begins_newline : List ℕ → Bool
-begins_newline [] = false
-begins_newline (b ∷ text) = b == 10
+begins_newline text = starts_with nat_eq text (10 ∷ [])
 
--- a byte of this class ends the word before it; `inside` says that a `]` does
-abbrev pub class_ends : Bool → Kind → List ℕ → Bool
-class_ends inside Blank behind = true
-class_ends inside Newline behind = true
-class_ends inside Semicolon behind = true
-class_ends inside CloseBracket behind = inside
-class_ends inside Backslash behind = begins_newline behind
-class_ends inside class behind = false
-
--- a word can end before this text
-abbrev pub ends_word : Bool → List ℕ → Bool
-ends_word inside [] = true
-ends_word inside (b ∷ text) = class_ends inside (class_of b) text
-
--- what stands behind the `{` of a `{*}` before a character that doesn't end the word
-abbrev pub begins_expansion : Bool → List ℕ → Bool
-begins_expansion inside behind = starts_with nat_eq behind (42 ∷ 125 ∷ []) && not (ends_word inside (drop 2 behind))
+-- what stands behind the `{` of a `{*}`
+abbrev pub begins_expansion : List ℕ → Bool
+begins_expansion text = starts_with nat_eq text (42 ∷ 125 ∷ [])
 
 -- what a byte of this class means before this text; `inside` says that the script or the index ends at a closing bracket or parenthesis
 abbrev pub class_means : Bool → Kind → List ℕ → Kind
-class_means inside OpenBrace behind = if begins_expansion inside behind then Expansion else OpenBrace
+class_means inside OpenBrace behind = if begins_expansion behind then Expansion else OpenBrace
 class_means inside Backslash behind = if begins_newline behind then Continuation else Backslash
 class_means inside CloseBracket behind = if inside then CloseBracket else Other
 class_means inside CloseParen behind = if inside then CloseParen else Other
@@ -79,14 +64,15 @@ past_colons (suc n) = suc n + 2
 abbrev pub name_length : List ℕ → ℕ
 name_length text = if starts_with nat_eq text (58 ∷ 58 ∷ []) then past_colons (letters (drop 2 text)) else letters text
 
+-- one byte further
+abbrev pub one_further : Option ℕ → Option ℕ
+one_further None = None
+one_further (Some n) = Some (suc n)
+
 -- how many bytes stand before the first `}`
 abbrev pub to_brace : List ℕ → Option ℕ
 to_brace [] = None
-to_brace (b ∷ text) = if b == 125 then Some 0 else further (to_brace text)
-  where
-    further : Option ℕ → Option ℕ
-    further None = None
-    further (Some n) = Some (suc n)
+to_brace (b ∷ text) = if b == 125 then Some 0 else one_further (to_brace text)
 
 abbrev pub dollar_braced : Option ℕ → DollarForm
 dollar_braced None = Unclosed

@@ -1,9 +1,11 @@
 -- What the contracts cite.
+pub mod Chain
 pub mod Changes
 pub mod Faults
 pub mod Kinds
 pub mod Moves
 pub mod Reading
 pub mod Falls
+pub mod Parts
 pub mod Room
 pub mod Grammar

@@ -4,10 +4,12 @@ use Rattle.std.specs.Prelude.{ℕ, suc, zero, ◌+◌, Bool, true, false, not, n
 use Rattle.std.specs.List.{slice_range}
 use Rattle.std.specs.Str.{is_utf8}
 use Rattle.tcl_words.specs.Kinds.{kind_of}
-use Rattle.tcl_words.specs.Changes.{Rest, Read, put, last_rest, literal_before, Change, piece, changed, changed_by}
-use Rattle.tcl_words.specs.Moves.{Move, move_of}
+use Rattle.tcl_words.specs.Changes.{Rest, Read, put, last_rest, literal_before, piece_before, changed}
+use Rattle.tcl_words.specs.Moves.{Move, lone, move_of}
 use Rattle.tcl_words.specs.declared.kind.Place.{Place}
-use Rattle.tcl_words.specs.declared.kind.Place.TheVariants.{Start, Comment, Between, Expanded, InBare, InQuotes, PastQuotes, InBraces, PastBraces, InIndex}
+use Rattle.tcl_words.specs.declared.kind.Place.TheVariants.{Start, Comment, Between, Expanded, Text, PastQuotes, InBraces, PastBraces}
+use Rattle.tcl_words.specs.declared.kind.Mode.{Mode}
+use Rattle.tcl_words.specs.declared.kind.Mode.TheVariants.{Bare, Quotes, Parens}
 use Rattle.tcl_words.specs.declared.kind.Opener.{Opener}
 use Rattle.tcl_words.specs.declared.kind.Opener.TheVariants.{Bracket as BracketOpener, Index as IndexOpener}
 use Rattle.tcl_words.specs.declared.kind.Step.{Step}
@@ -35,7 +37,7 @@ within room = record { inside = true; room = room }
 -- what a bracket opens is a script; an index begins past the name before it
 abbrev pub first_place : Opener → Place
 first_place BracketOpener = Start
-first_place (IndexOpener n) = InIndex
+first_place (IndexOpener n) = Text Parens
 
 abbrev pub first_skip : Opener → ℕ
 first_skip BracketOpener = 0
@@ -47,15 +49,15 @@ opened_piece BracketOpener behind close = Bracket (take close behind)
 opened_piece (IndexOpener n) behind close = Element (take n behind) (slice_range behind (suc n) close)
 
 -- what the text behind an opener gives, by how it is read within; `go` reads on past what it took
-abbrev pub past_opened : Opener → Place → List ℕ → (ℕ → Place → Read) → Read → Read
-past_opened opener place behind go (Ok rest) = put (changed_by (piece (opened_piece opener behind rest.close))) (go (suc rest.close) place)
-past_opened opener place behind go (Err fault) = Err fault
+abbrev pub past_opened : Opener → Mode → List ℕ → (ℕ → Place → Read) → Read → Read
+past_opened opener mode behind go (Ok rest) = put (piece_before (opened_piece opener behind rest.close)) (go (suc rest.close) (Text mode))
+past_opened opener mode behind go (Err fault) = Err fault
 
 -- Past a byte at this position, where `go` reads the text behind it further and `inner` reads it by itself.
 abbrev pub past : Result Step ParseFault → ℕ → ℕ → List ℕ → (ℕ → Place → Read) → (ℕ → ℕ → Place → Read) → Read
 past (Ok (On skip place)) room at behind go inner = go skip place
-past (Ok (Within opener place)) zero at behind go inner = Err TooLong
-past (Ok (Within opener place)) (suc room) at behind go inner = past_opened opener place behind go (inner room (first_skip opener) (first_place opener))
+past (Ok (Within opener mode)) zero at behind go inner = Err TooLong
+past (Ok (Within opener mode)) (suc room) at behind go inner = past_opened opener mode behind go (inner room (first_skip opener) (first_place opener))
 past (Ok Ends) room at behind go inner = Ok (last_rest at)
 past (Err fault) room at behind go inner = Err fault
 
@@ -65,9 +67,10 @@ end_of true fault at = Err fault
 end_of false fault at = Ok (last_rest at)
 
 abbrev pub at_end : Bool → Place → ℕ → Read
-at_end inside InQuotes at = Err MissingQuote
+at_end inside (Text Quotes) at = Err MissingQuote
 at_end inside (InBraces depth) at = Err MissingBrace
-at_end inside InIndex at = end_of inside MissingParen at
+at_end inside (Text Parens) at = end_of inside MissingParen at
+at_end inside Expanded at = put (changed (lone at)) (end_of inside MissingBracket at)
 at_end inside place at = end_of inside MissingBracket at
 
 -- what a text gives past so many bytes of it to a place, where it begins at this position
@@ -96,4 +99,4 @@ commands_of text =
 
 -- The pieces of the text between the parentheses of `$name(index)`, or its fault.
 abbrev pub index_pieces_of : List ℕ → Result (List Piece) ParseFault
-index_pieces_of text = pieces_in (rest_of text outermost 0 InIndex 0)
+index_pieces_of text = pieces_in (rest_of text outermost 0 (Text Parens) 0)

@@ -37,18 +37,25 @@ pub enum Place {
     Between,
     /// Past the `{*}` of a word.
     Expanded,
-    /// In a bare word.
-    InBare,
-    /// In a word in quotes.
-    InQuotes,
+    /// In a text with substitution.
+    Text(Mode),
     /// Past the quote that ends a word.
     PastQuotes,
     /// In a word in braces, of which so many beyond the first are open.
     InBraces(usize),
     /// Past the brace that ends a word.
     PastBraces,
-    /// In the index of an element.
-    InIndex,
+}
+
+/// Where a text with substitution stands.
+#[derive(Clone, Copy, Debug, PartialEq, Eq, Drop)]
+pub enum Mode {
+    /// In a word without quotes and braces.
+    Bare,
+    /// In a word in quotes.
+    Quotes,
+    /// In the parentheses of `$name(index)`.
+    Parens,
 }
 
 /// What a `$` is, by what stands behind it.
@@ -80,8 +87,8 @@ pub enum Opener {
 pub enum Step {
     /// At a place, past so many further bytes.
     On(usize, Place),
-    /// In what this opens; then, past that, at a place.
-    Within(Opener, Place),
+    /// In what this opens; then, past that, in the text that holds it.
+    Within(Opener, Mode),
     /// No further: what was read within ends here.
     Ends,
 }

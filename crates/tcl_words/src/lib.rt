@@ -4,6 +4,10 @@
 mod fault;
 mod kind;
 mod laws;
+mod look;
+mod nesting;
+mod open;
+mod read;
 mod script;
 
 pub use fault::ParseFault;

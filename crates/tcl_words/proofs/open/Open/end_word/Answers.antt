@@ -1,0 +1,6 @@
+use Rattle.std.proofs.Common.{◌≡◌, refl, sym}
+use Rattle.tcl_words.proofs.Ends.{words_end-append}
+use Rattle.tcl_words.proofs.open.Open.end_word.Goals as goal
+
+pub invariant_of-self-2 : goal.invariant_of-self-2
+invariant_of-self-2 c = rw c.in_ok-push.ensures.items (rw words_end-append refl)

@@ -1,5 +1,5 @@
 -- Braces are read as the grammar says.
-use Rattle.std.proofs.Common.{◌≡◌, ◌≢◌, ℕ, zero, suc, ◌+◌, Bool, true, false, ◌==◌, ◌||◌, List, [], ◌∷◌, ◌++◌, length, take, refl, sym, ap, subst, ◌∙◌, append-nil, append_assoc, length-append, arith, Ok, Err}
+use Rattle.std.proofs.Common.{◌⊎◌, inl, inr, ◌≡◌, ◌≢◌, ℕ, zero, suc, ◌+◌, Bool, true, false, ◌==◌, ◌||◌, List, [], ◌∷◌, ◌++◌, length, take, refl, sym, ap, subst, ◌∙◌, append-nil, append_assoc, length-append, arith, Ok, Err}
 use Rattle.tcl_text.specs.Backslash.{escape, blanks}
 use Rattle.tcl_words.specs.Kinds.{kind_of, class_of, class_means, begins_expansion}
 use Rattle.tcl_words.specs.Changes.{Rest, Read, put, changed}
@@ -11,7 +11,7 @@ use Rattle.tcl_words.specs.Grammar.IsBraced.{none, byte, pair, continuation, bra
 use Rattle.tcl_words.specs.Grammar.IsUnclosed.{ends, backslash, opens}
 use Rattle.tcl_words.specs.declared.kind.Kind.{Kind}
 use Rattle.tcl_words.specs.declared.kind.Kind.TheVariants.{Blank, Newline, Semicolon, Hash, Dollar, Quote, OpenBracket, CloseBracket, OpenBrace, Expansion, CloseBrace, CloseParen, Backslash, Continuation, Other}
-use Rattle.tcl_words.specs.declared.kind.Place.TheVariants.{InBraces, PastBraces}
+use Rattle.tcl_words.specs.declared.kind.Place.TheVariants.{Text, InBraces, PastBraces}
 use Rattle.tcl_words.specs.declared.fault.ParseFault.TheVariants.{MissingBrace}
 use Rattle.tcl_words.proofs.ClassLemmas.{byte_is, expansion_or, newline_or}
 use Rattle.tcl_words.proofs.StepLemmas.{after_move, moved_by, read_at, put-put, skip_read}
@@ -47,7 +47,7 @@ open_step : (level : Level) (depth : ℕ) (text : List ℕ) (at : ℕ) →
 unfolding class_of
 open_step level depth text at =
     moved_by (on (put_bytes (123 ∷ []) ∷ []) 0 (InBraces (suc depth))) (InBraces depth) 123 text level at
-    (expansion_or (λ k. in_braces depth k 123 text ≡ on (put_bytes (123 ∷ []) ∷ []) 0 (InBraces (suc depth))) (begins_expansion level.inside text) refl refl)
+    (expansion_or (λ k. in_braces depth k 123 text ≡ on (put_bytes (123 ∷ []) ∷ []) 0 (InBraces (suc depth))) (begins_expansion text) refl refl)
 
 close_step : (level : Level) (depth : ℕ) (text : List ℕ) (at : ℕ) →
     rest_of (125 ∷ text) level 0 (InBraces (suc depth)) at ≡ put (changed (put_bytes (125 ∷ []) ∷ [])) (rest_of text level 0 (InBraces depth) (at + 1))
@@ -61,7 +61,7 @@ last_step level text at = refl
 pair_step : (level : Level) (depth b : ℕ) (text : List ℕ) (at : ℕ) → b ≢ 10 →
     rest_of (92 ∷ b ∷ text) level 0 (InBraces depth) at ≡ put (changed (put_bytes (92 ∷ b ∷ []) ∷ [])) (rest_of text level 0 (InBraces depth) (at + 1 + 1))
 unfolding class_of
-pair_step level depth b text at h = newline_or (λ k. after_move (in_braces depth k 92 (b ∷ text)) level at (b ∷ text) ≡ put (changed (put_bytes (92 ∷ b ∷ []) ∷ [])) (rest_of text level 0 (InBraces depth) (at + 1 + 1))) b h refl
+pair_step level depth b text at h = newline_or (λ k. after_move (in_braces depth k 92 (b ∷ text)) level at (b ∷ text) ≡ put (changed (put_bytes (92 ∷ b ∷ []) ∷ [])) (rest_of text level 0 (InBraces depth) (at + 1 + 1))) b text h refl
 
 lone_step : (level : Level) (depth at : ℕ) → rest_of (92 ∷ []) level 0 (InBraces depth) at ≡ Err MissingBrace
 unfolding class_of
@@ -143,3 +143,62 @@ unclosed_read level (backslash text {value} h) depth at =
 unclosed_read level (opens before text {value} h more) depth at =
     braces_read level h depth (123 ∷ text) at refl
     ∙ ap (put (changed (put_bytes value ∷ []))) (open_step level depth text (at + length before) ∙ ap (put (changed (put_bytes (123 ∷ []) ∷ []))) (unclosed_read level more (suc depth) (at + length before + 1)))
+
+-- a text's first byte and its second
+pub first : List ℕ → ℕ
+first [] = 0
+first (b ∷ text) = b
+
+pub second : List ℕ → ℕ
+second [] = 0
+second (b ∷ text) = first text
+
+pub firsts : (a b : ℕ) (s t : List ℕ) → a ∷ s ≡ b ∷ t → a ≡ b
+unfolding first
+firsts a b s t e = ap first e
+
+pub seconds : (a b c d : ℕ) (s t : List ℕ) → a ∷ c ∷ s ≡ b ∷ d ∷ t → c ≡ d
+unfolding first second
+seconds a b c d s t e = ap second e
+
+rests : (a b : ℕ) (s t : List ℕ) → a ∷ s ≡ b ∷ t → s ≡ t
+rests a b s t e = cc
+
+-- where `*}` stands at the front, the braces hold a `*`
+abbrev StarCut : List ℕ → List ℕ → List ℕ → List ℕ → Type 0
+StarCut own value rest text = ((own ≡ []) × (rest ≡ 42 ∷ 125 ∷ text)) ⊎ ((own ≡ 42 ∷ []) × (value ≡ 42 ∷ []) × (rest ≡ 125 ∷ text))
+
+star_alone : (b : ℕ) (rest text : List ℕ) → b ∷ rest ≡ 42 ∷ 125 ∷ text → StarCut (b ∷ []) (b ∷ []) rest text
+star_alone b rest text e =
+    let same : b ≡ 42 = firsts b 42 rest (125 ∷ text) e in
+    inr (ap (λ c. c ∷ []) same, ap (λ c. c ∷ []) same, rests b 42 rest (125 ∷ text) e)
+
+pub star_cut : {own value : List ℕ} → IsBraced own value → (rest text : List ℕ) → own ++ rest ≡ 42 ∷ 125 ∷ text → StarCut own value rest text
+star_cut none rest text e = inl (refl, e)
+star_cut (byte {b} h1 h2 h3 none) rest text e = star_alone b rest text e
+star_cut (byte {b} h1 h2 h3 (byte {b = c} {text = more} h4 h5 h6 h)) rest text e = absurd (h5 (seconds b 42 c 125 (more ++ rest) text e))
+star_cut (byte {b} h1 h2 h3 (pair {b = c} {text = more} h4 h)) rest text e = let k = seconds b 42 92 125 (c ∷ (more ++ rest)) text e in absurd (omega (arith, k))
+star_cut (byte {b} h1 h2 h3 (continuation spaces {text = more} h4 h5 h)) rest text e = let k = seconds b 42 92 125 (10 ∷ ((spaces ++ more) ++ rest)) text e in absurd (omega (arith, k))
+star_cut (byte {b} h1 h2 h3 (braces own behind h4 h)) rest text e = let k = seconds b 42 123 125 ((own ++ 125 ∷ behind) ++ rest) text e in absurd (omega (arith, k))
+star_cut (pair {b} {text = more} h k) rest text e = let l = firsts 92 42 (b ∷ (more ++ rest)) (125 ∷ text) e in absurd (omega (arith, l))
+star_cut (continuation spaces {text = more} h k l) rest text e = let m = firsts 92 42 (10 ∷ ((spaces ++ more) ++ rest)) (125 ∷ text) e in absurd (omega (arith, m))
+star_cut (braces own behind h k) rest text e = let m = firsts 123 42 ((own ++ 125 ∷ behind) ++ rest) (125 ∷ text) e in absurd (omega (arith, m))
+
+star_none : (own value rest text : List ℕ) → StarCut own value rest text → (first rest ≡ 42 → ⊥) → (first rest ≡ 125 → ⊥) → ⊥
+unfolding first
+star_none own value rest text (inl (p, e)) h k = h (ap first e)
+star_none own value rest text (inr (p, q, e)) h k = k (ap first e)
+
+pub star_closed : (text behind : List ℕ) → IsUnclosed text → text ≡ 42 ∷ 125 ∷ behind → ⊥
+unfolding first
+star_closed text behind (ends {text = same} {value} h) e = star_none text value [] behind (star_cut h [] behind (append-nil text ∙ e)) (λ f. omega (arith, f)) (λ f. omega (arith, f))
+star_closed text behind (backslash before {value} h) e = star_none before value (92 ∷ []) behind (star_cut h (92 ∷ []) behind e) (λ f. omega (arith, f)) (λ f. omega (arith, f))
+star_closed text behind (opens before after {value} h more) e = star_none before value (123 ∷ after) behind (star_cut h (123 ∷ after) behind e) (λ f. omega (arith, f)) (λ f. omega (arith, f))
+
+-- closed by the second byte
+pub star_only : (own value rest text : List ℕ) → IsBraced own value → own ++ 125 ∷ rest ≡ 42 ∷ 125 ∷ text → (own ≡ 42 ∷ []) × (value ≡ 42 ∷ [])
+star_only own value rest text h e = go (star_cut h (125 ∷ rest) text e)
+  where
+    go : StarCut own value (125 ∷ rest) text → (own ≡ 42 ∷ []) × (value ≡ 42 ∷ [])
+    go (inl (p, f)) = let k = firsts 125 42 rest (125 ∷ text) f in absurd (omega (arith, k))
+    go (inr (p, q, f)) = (p, q)

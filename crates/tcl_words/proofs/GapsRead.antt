@@ -1,7 +1,8 @@
 -- Blanks, gaps and comments are read as the grammar says, and so is the end of a script.
 use Rattle.std.proofs.Common.{◌≡◌, ◌≢◌, ℕ, zero, suc, ◌+◌, ◌⊎◌, inl, inr, Bool, true, false, ◌==◌, ◌||◌, if◌then◌else◌, List, [], ◌∷◌, ◌++◌, length, take, refl, sym, ap, subst, ◌∙◌, eqb-true, append_assoc, append-nil, length-append, arith, Ok, Err}
 use Rattle.tcl_text.specs.Backslash.{escape, blanks}
-use Rattle.tcl_words.specs.Kinds.{kind_of, class_of, class_ends, class_means, ends_word, begins_newline, begins_expansion}
+use Rattle.tcl_words.specs.Kinds.{kind_of, class_of, class_means, begins_newline, begins_expansion}
+use Rattle.tcl_words.specs.Grammar.{class_ends, ends_word}
 use Rattle.tcl_words.specs.Changes.{Rest, Read, put, changed, last_rest}
 use Rattle.tcl_words.specs.Changes.Change.{command_begins}
 use Rattle.tcl_words.specs.Moves.{Move, move_of, on, in_comment, in_start, in_between, before}
@@ -13,7 +14,7 @@ use Rattle.tcl_words.specs.Grammar.IsGap.{none as no_gap, blank, continuation, s
 use Rattle.tcl_words.specs.declared.kind.Kind.{Kind}
 use Rattle.tcl_words.specs.declared.kind.Kind.TheVariants.{Blank, Newline, Semicolon, Hash, Dollar, Quote, OpenBracket, CloseBracket, OpenBrace, Expansion, CloseBrace, CloseParen, Backslash, Continuation, Other}
 use Rattle.tcl_words.specs.declared.kind.Place.{Place}
-use Rattle.tcl_words.specs.declared.kind.Place.TheVariants.{Start, Comment, Between}
+use Rattle.tcl_words.specs.declared.kind.Place.TheVariants.{Text, Start, Comment, Between}
 use Rattle.tcl_words.specs.declared.fault.ParseFault.TheVariants.{MissingBracket}
 use Rattle.tcl_words.proofs.ClassLemmas.{byte_is, expansion_or, continuation_or, other_class}
 use Rattle.tcl_words.proofs.StepLemmas.{after_move, moved_by, read_at, put-put, put-none}
@@ -88,7 +89,7 @@ note_kinds true CloseBracket text h1 h2 h3 = refl
 note_kinds false CloseBracket text h1 h2 h3 = refl
 note_kinds true CloseParen text h1 h2 h3 = refl
 note_kinds false CloseParen text h1 h2 h3 = refl
-note_kinds inside OpenBrace text h1 h2 h3 = expansion_or (λ k. in_comment k text ≡ on [] 0 Comment) (begins_expansion inside text) refl refl
+note_kinds inside OpenBrace text h1 h2 h3 = expansion_or (λ k. in_comment k text ≡ on [] 0 Comment) (begins_expansion text) refl refl
 note_kinds inside Blank text h1 h2 h3 = refl
 note_kinds inside Semicolon text h1 h2 h3 = refl
 note_kinds inside Hash text h1 h2 h3 = refl
@@ -183,7 +184,7 @@ start_kinds false CloseBracket b at text h k n = refl
 start_kinds true CloseParen b at text h k n = refl
 start_kinds false CloseParen b at text h k n = refl
 start_kinds inside Backslash b at text h k n = rw h refl
-start_kinds inside OpenBrace b at text h k n = expansion_or (λ c. move_of Start c b at text ≡ before (command_begins at) (move_of Between c b at text)) (begins_expansion inside text) refl refl
+start_kinds inside OpenBrace b at text h k n = expansion_or (λ c. move_of Start c b at text ≡ before (command_begins at) (move_of Between c b at text)) (begins_expansion text) refl refl
 start_kinds inside Dollar b at text h k n = refl
 start_kinds inside Quote b at text h k n = refl
 start_kinds inside OpenBracket b at text h k n = refl

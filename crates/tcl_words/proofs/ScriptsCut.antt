@@ -1,14 +1,17 @@
 -- Each text is a script or has a fault.
 use Rattle.std.proofs.Common.{◌≡◌, ◌≢◌, ℕ, zero, suc, ◌+◌, ◌<◌, ◌≤◌, ◌⊎◌, inl, inr, Bool, true, false, ◌==◌, List, [], ◌∷◌, ◌++◌, length, refl, sym, ap, subst, ◌∙◌, eqb-true, append_assoc, append-nil, length-append, arith}
-use Rattle.tcl_words.specs.Kinds.{class_of, class_ends, ends_word, begins_newline}
+use Rattle.tcl_words.specs.Kinds.{class_of, begins_newline}
+use Rattle.tcl_words.specs.Grammar.{class_ends, ends_word}
 use Rattle.tcl_words.specs.Changes.{command_of}
-use Rattle.tcl_words.specs.Grammar.{Ending, leaves, fails, Inner, script, index, Body, indexed, stops, begins, ArePieces, IsInnerOf, IsWord, IsFaultyWord, IsSeparator, AreBlanks, IsNote, IsLastNote, IsGap, IsEnd, IsEnding, IsLast, AreFurther, IsRest, IsScript, end_of_text}
+use Rattle.tcl_words.specs.Grammar.{Ending, leaves, fails, Inner, script, index, stops, begins, ArePieces, IsInnerOf, IsWord, IsFaultyWord, IsSeparator, AreBlanks, IsNote, IsLastNote, IsGap, IsEnd, IsEnding, IsLast, AreFurther, IsRest, IsScript, end_of_text}
 use Rattle.tcl_words.specs.Grammar.AreBlanks.{none as no_blanks, blank as one_blank, continuation as continued_blanks}
 use Rattle.tcl_words.specs.Grammar.IsNote.{none as no_note, byte as note_byte, pair as note_pair}
 use Rattle.tcl_words.specs.Grammar.IsGap.{none as no_gap, blank, continuation, separator, comment as gap_comment}
 use Rattle.tcl_words.specs.Grammar.IsEnd.{closes, stands}
 use Rattle.tcl_words.specs.Grammar.IsEnding.{ends as ends_command, faulty as faulty_word}
 use Rattle.tcl_words.specs.Grammar.IsLast.{ends, comment, faulty}
+use Rattle.tcl_words.specs.declared.kind.Mode.{Mode}
+use Rattle.tcl_words.specs.declared.kind.Mode.TheVariants.{Bare, Quotes, Parens}
 use Rattle.tcl_words.specs.declared.kind.Kind.{Kind}
 use Rattle.tcl_words.specs.declared.kind.Kind.TheVariants.{Blank, Newline, Semicolon, Hash, Dollar, Quote, OpenBracket, CloseBracket, OpenBrace, Expansion, CloseBrace, CloseParen, Backslash, Continuation, Other}
 use Rattle.tcl_words.specs.declared.script.Piece.{Piece}
@@ -16,7 +19,9 @@ use Rattle.tcl_words.specs.declared.script.Word.{Word}
 use Rattle.tcl_words.specs.declared.script.Command.{Command}
 use Rattle.tcl_words.specs.declared.fault.ParseFault.{ParseFault}
 use Rattle.tcl_words.specs.declared.fault.ParseFault.TheVariants.{TooLong}
+use Rattle.std.proofs.Common.{nat_eq}
 use Rattle.tcl_words.proofs.ClassLemmas.{byte_is}
+use Rattle.tcl_words.proofs.WordsRead.{both}
 use Rattle.tcl_words.proofs.BracesCut.{decided, same_or_other}
 use Rattle.tcl_words.proofs.PiecesCut.{InnerCuts, IsInnerCut, IsPiecesCut, FoundPieces, pieces_found}
 use Rattle.tcl_words.proofs.WordsCut.{FoundWord, WordCut, word_cut}
@@ -145,7 +150,7 @@ further_stopped room false n at b text CloseBracket e ih fits h = cc
 further_stopped room inside n at b [] Backslash e ih fits h = cc
 further_stopped room inside n at b (c ∷ text) Backslash e ih fits h =
     let same : b ≡ 92 = byte_is b Backslash e in
-    let next : c ≡ 10 = eqb-true c 10 h in
+    let next : c ≡ 10 = sym (eqb-true 10 c (both (nat_eq 10 c) true h).0) in
     subst (λ t. FoundFurther room inside at t) (sym (ap (λ x. x ∷ c ∷ text) same ∙ ap (λ x. 92 ∷ x ∷ text) next))
     (further_blanked room inside at (at + 2) (92 ∷ 10 ∷ []) text (λ blanks k. continued_blanks k) refl (ih.further (at + 2) text (omega arith)))
 further_stopped room inside n at b text Hash e ih fits h = cc
@@ -211,7 +216,7 @@ script_stopped room false n at b text CloseBracket e ih fits h = cc
 script_stopped room inside n at b [] Backslash e ih fits h = cc
 script_stopped room inside n at b (c ∷ text) Backslash e ih fits h =
     let same : b ≡ 92 = byte_is b Backslash e in
-    let next : c ≡ 10 = eqb-true c 10 h in
+    let next : c ≡ 10 = sym (eqb-true 10 c (both (nat_eq 10 c) true h).0) in
     subst (λ t. FoundScript room inside at t) (sym (ap (λ x. x ∷ c ∷ text) same ∙ ap (λ x. 92 ∷ x ∷ text) next))
     (script_gapped room inside at (at + 2) (92 ∷ 10 ∷ []) text (λ gap k. continuation k) refl (ih.scripts (at + 2) text (omega arith)))
 script_stopped room inside n at b text Hash e ih fits h = cc
@@ -330,7 +335,7 @@ script_found room inside inner at text = let all = known room inside inner (leng
 
 -- Brackets and indices.
 
-index_left : (left : List ℕ) → stops true indexed left ≡ true → (rest : List ℕ) × (left ≡ 41 ∷ rest)
+index_left : (left : List ℕ) → stops true Parens left ≡ true → (rest : List ℕ) × (left ≡ 41 ∷ rest)
 index_left [] h = cc
 index_left (b ∷ rest) h = (rest, ap (λ c. c ∷ rest) (eqb-true b 41 h))
 
@@ -339,7 +344,7 @@ script_inner : (room : ℕ) (text : List ℕ) (commands : List Command) (ending 
 script_inner room text commands (leaves left) is (own, e, (rest, f)) = (leaves left, (commands, is), (own, rest, e ∙ ap (λ t. own ++ t) f, f))
 script_inner room text commands (fails fault) is cut = (fails fault, (commands, is), tt)
 
-index_inner : (room : ℕ) (text : List ℕ) (pieces : List Piece) (ending : Ending) → ArePieces (IsInnerOf room) true indexed text pieces ending → IsPiecesCut true indexed text ending →
+index_inner : (room : ℕ) (text : List ℕ) (pieces : List Piece) (ending : Ending) → ArePieces (IsInnerOf room) true Parens text pieces ending → IsPiecesCut true Parens text ending →
     (found : Ending) × IsInnerOf (suc room) index text found × IsInnerCut index text found
 index_inner room text pieces (leaves left) are (own, e, h) = let more = index_left left h in (leaves left, (pieces, are), (own, more.0, e ∙ ap (λ t. own ++ t) more.1, more.1))
 index_inner room text pieces (fails fault) are cut = (fails fault, (pieces, are), tt)
@@ -347,4 +352,4 @@ index_inner room text pieces (fails fault) are cut = (fails fault, (pieces, are)
 pub inner_cuts : (room : ℕ) → InnerCuts room
 inner_cuts zero inner text = (fails TooLong, refl, tt)
 inner_cuts (suc room) script text = let found = script_found room true (inner_cuts room) 0 text in script_inner room text found.commands found.ending found.is found.cut
-inner_cuts (suc room) index text = let found = pieces_found room true indexed (inner_cuts room) text in index_inner room text found.pieces found.ending found.are found.cut
+inner_cuts (suc room) index text = let found = pieces_found room true Parens (inner_cuts room) text in index_inner room text found.pieces found.ending found.are found.cut

@@ -1,17 +1,20 @@
 -- Scripts are read as the grammar says.
 use Rattle.std.proofs.Common.{◌≡◌, ℕ, zero, suc, ◌+◌, ◌⊎◌, inl, inr, Bool, true, false, List, [], ◌∷◌, ◌++◌, length, take, refl, sym, ap, subst, ◌∙◌, append_assoc, append-nil, length-append, arith, Ok, Err}
 use Rattle.std.specs.List.{slice_range}
-use Rattle.tcl_words.specs.Kinds.{class_of, ends_word}
-use Rattle.tcl_words.specs.Changes.{Rest, Read, put, changed, last_rest, command_of}
-use Rattle.tcl_words.specs.Changes.Change.{piece as put_piece, command_begins, command_ends}
+use Rattle.tcl_words.specs.Kinds.{class_of}
+use Rattle.tcl_words.specs.Grammar.{ends_word}
+use Rattle.tcl_words.specs.Changes.{Rest, Read, put, piece_before, changed, last_rest, command_of}
+use Rattle.tcl_words.specs.Changes.Change.{command_begins, command_ends}
 use Rattle.tcl_words.specs.Moves.{on}
 use Rattle.tcl_words.specs.Reading.{Level, rest_of, past, past_opened, within, end_of, opened_piece}
-use Rattle.tcl_words.specs.Grammar.{Ending, leaves, fails, Inner, script, index, Body, indexed, ArePieces, IsInnerOf, begins, IsWord, IsFaultyWord, IsSeparator, AreBlanks, IsLastNote, IsGap, IsEnd, IsEnding, IsLast, AreFurther, IsRest, IsScript, end_of_text}
+use Rattle.tcl_words.specs.Grammar.{Ending, leaves, fails, Inner, script, index, ArePieces, IsInnerOf, begins, IsWord, IsFaultyWord, IsSeparator, AreBlanks, IsLastNote, IsGap, IsEnd, IsEnding, IsLast, AreFurther, IsRest, IsScript, end_of_text}
 use Rattle.tcl_words.specs.Grammar.IsEnd.{closes, stands}
 use Rattle.tcl_words.specs.Grammar.IsEnding.{ends as ends_command, faulty as faulty_word}
 use Rattle.tcl_words.specs.Grammar.IsLast.{ends, comment, faulty}
+use Rattle.tcl_words.specs.declared.kind.Mode.{Mode}
+use Rattle.tcl_words.specs.declared.kind.Mode.TheVariants.{Bare, Quotes, Parens}
 use Rattle.tcl_words.specs.declared.kind.Place.{Place}
-use Rattle.tcl_words.specs.declared.kind.Place.TheVariants.{Start, Between, InIndex}
+use Rattle.tcl_words.specs.declared.kind.Place.TheVariants.{Text, Start, Between}
 use Rattle.tcl_words.specs.declared.kind.Opener.TheVariants.{Bracket as BracketOpener, Index as IndexOpener}
 use Rattle.tcl_words.specs.declared.script.Piece.TheVariants.{Element, Bracket}
 use Rattle.tcl_words.specs.declared.script.Word.{Word}
@@ -176,51 +179,51 @@ script_read inside room inner (command ∷ commands) ending at text (gap, own, r
 
 -- Brackets and indices.
 
-script_closed : (room : ℕ) → InnerReads room → (own text : List ℕ) → IsInnerOf (suc room) script (own ++ 93 ∷ text) (leaves (93 ∷ text)) → (place : Place) (at : ℕ) (go : ℕ → Place → Read) →
-    opened BracketOpener place (suc room) at (own ++ 93 ∷ text) go ≡ put (changed (put_piece (Bracket own) ∷ [])) (go (suc (length own)) place)
-script_closed room inner own text (commands, h) place at go =
+script_closed : (room : ℕ) → InnerReads room → (own text : List ℕ) → IsInnerOf (suc room) script (own ++ 93 ∷ text) (leaves (93 ∷ text)) → (mode : Mode) (at : ℕ) (go : ℕ → Place → Read) →
+    opened BracketOpener mode (suc room) at (own ++ 93 ∷ text) go ≡ put (piece_before (Bracket own)) (go (suc (length own)) (Text mode))
+script_closed room inner own text (commands, h) mode at go =
     let behind : List ℕ = own ++ 93 ∷ text in
     let g : GivesLeft (rest_of behind (within room) 0 Start 0) (0 + length behind) [] commands (93 ∷ text) = script_read true room inner commands (leaves (93 ∷ text)) 0 behind h in
     let m : g.rest.close ≡ length own = omega (arith, g.at_close, length-append own (93 ∷ text)) in
-    ap (past_opened BracketOpener place behind go) g.is
-    ∙ ap (λ n. put (changed (put_piece (Bracket (take n behind)) ∷ [])) (go (suc n) place)) m
-    ∙ ap (λ t. put (changed (put_piece (Bracket t) ∷ [])) (go (suc (length own)) place)) (take_front own (93 ∷ text))
+    ap (past_opened BracketOpener mode behind go) g.is
+    ∙ ap (λ n. put (piece_before (Bracket (take n behind))) (go (suc n) (Text mode))) m
+    ∙ ap (λ t. put (piece_before (Bracket t)) (go (suc (length own)) (Text mode))) (take_front own (93 ∷ text))
 
-script_told : (room : ℕ) → InnerReads room → (text : List ℕ) (fault : ParseFault) → IsInnerOf (suc room) script text (fails fault) → (place : Place) (at : ℕ) (go : ℕ → Place → Read) →
-    opened BracketOpener place (suc room) at text go ≡ Err fault
-script_told room inner text fault (commands, h) place at go = ap (past_opened BracketOpener place text go) (script_read true room inner commands (fails fault) 0 text h)
+script_told : (room : ℕ) → InnerReads room → (text : List ℕ) (fault : ParseFault) → IsInnerOf (suc room) script text (fails fault) → (mode : Mode) (at : ℕ) (go : ℕ → Place → Read) →
+    opened BracketOpener mode (suc room) at text go ≡ Err fault
+script_told room inner text fault (commands, h) mode at go = ap (past_opened BracketOpener mode text go) (script_read true room inner commands (fails fault) 0 text h)
 
-skip_name : (name text : List ℕ) (level : Level) → rest_of (name ++ 40 ∷ text) level (suc (length name)) InIndex 0 ≡ rest_of text level 0 InIndex (suc (length name))
-skip_name name text level = let e : 0 + suc (length name) ≡ suc (length name) = omega arith in skip_past name 40 text level InIndex 0 ∙ read_at text level InIndex (0 + suc (length name)) (suc (length name)) e
+skip_name : (name text : List ℕ) (level : Level) → rest_of (name ++ 40 ∷ text) level (suc (length name)) (Text Parens) 0 ≡ rest_of text level 0 (Text Parens) (suc (length name))
+skip_name name text level = let e : 0 + suc (length name) ≡ suc (length name) = omega arith in skip_past name 40 text level (Text Parens) 0 ∙ read_at text level (Text Parens) (0 + suc (length name)) (suc (length name)) e
 
-index_closed : (room : ℕ) → InnerReads room → (name own text : List ℕ) → IsInnerOf (suc room) index (own ++ 41 ∷ text) (leaves (41 ∷ text)) → (place : Place) (at : ℕ) (go : ℕ → Place → Read) →
-    opened (IndexOpener (length name)) place (suc room) at (name ++ 40 ∷ (own ++ 41 ∷ text)) go ≡ put (changed (put_piece (Element name own) ∷ [])) (go (suc (suc (length name) + length own)) place)
-index_closed room inner name own text (pieces, h) place at go =
+index_closed : (room : ℕ) → InnerReads room → (name own text : List ℕ) → IsInnerOf (suc room) index (own ++ 41 ∷ text) (leaves (41 ∷ text)) → (mode : Mode) (at : ℕ) (go : ℕ → Place → Read) →
+    opened (IndexOpener (length name)) mode (suc room) at (name ++ 40 ∷ (own ++ 41 ∷ text)) go ≡ put (piece_before (Element name own)) (go (suc (suc (length name) + length own)) (Text mode))
+index_closed room inner name own text (pieces, h) mode at go =
     let behind : List ℕ = name ++ 40 ∷ (own ++ 41 ∷ text) in
     let start : ℕ = suc (length name) in
     let level : Level = within room in
-    let g : GivesText level indexed start (own ++ 41 ∷ text) pieces (41 ∷ text) = pieces_read true room indexed inner h start in
+    let g : GivesText level Parens start (own ++ 41 ∷ text) pieces (41 ∷ text) = pieces_read true room Parens inner h start in
     let m : g.end ≡ start + length own = omega (arith, g.at_end, length-append own (41 ∷ text)) in
-    ap (past_opened (IndexOpener (length name)) place behind go)
+    ap (past_opened (IndexOpener (length name)) mode behind go)
     (skip_name name (own ++ 41 ∷ text) level ∙ g.is ∙ ap (put (λ rest. record rest { bytes = g.bytes; pieces = g.after })) (paren_read room text g.end))
-    ∙ ap (λ n. put (changed (put_piece (Element (take (length name) behind) (slice_range behind start n)) ∷ [])) (go (suc n) place)) m
-    ∙ ap (λ t. put (changed (put_piece (Element t (slice_range behind start (start + length own))) ∷ [])) (go (suc (start + length own)) place)) (take_front name (40 ∷ (own ++ 41 ∷ text)))
-    ∙ ap (λ t. put (changed (put_piece (Element name t) ∷ [])) (go (suc (start + length own)) place)) (slice_index_text name own text)
+    ∙ ap (λ n. put (piece_before (Element (take (length name) behind) (slice_range behind start n))) (go (suc n) (Text mode))) m
+    ∙ ap (λ t. put (piece_before (Element t (slice_range behind start (start + length own)))) (go (suc (start + length own)) (Text mode))) (take_front name (40 ∷ (own ++ 41 ∷ text)))
+    ∙ ap (λ t. put (piece_before (Element name t)) (go (suc (start + length own)) (Text mode))) (slice_index_text name own text)
 
-index_told : (room : ℕ) → InnerReads room → (name text : List ℕ) (fault : ParseFault) → IsInnerOf (suc room) index text (fails fault) → (place : Place) (at : ℕ) (go : ℕ → Place → Read) →
-    opened (IndexOpener (length name)) place (suc room) at (name ++ 40 ∷ text) go ≡ Err fault
-index_told room inner name text fault (pieces, h) place at go =
-    ap (past_opened (IndexOpener (length name)) place (name ++ 40 ∷ text) go) (skip_name name text (within room) ∙ pieces_read true room indexed inner h (suc (length name)))
+index_told : (room : ℕ) → InnerReads room → (name text : List ℕ) (fault : ParseFault) → IsInnerOf (suc room) index text (fails fault) → (mode : Mode) (at : ℕ) (go : ℕ → Place → Read) →
+    opened (IndexOpener (length name)) mode (suc room) at (name ++ 40 ∷ text) go ≡ Err fault
+index_told room inner name text fault (pieces, h) mode at go =
+    ap (past_opened (IndexOpener (length name)) mode (name ++ 40 ∷ text) go) (skip_name name text (within room) ∙ pieces_read true room Parens inner h (suc (length name)))
 
 left_not_fails : (left : List ℕ) (fault : ParseFault) → leaves left ≡ fails fault → ⊥
 left_not_fails left fault e = cc
 
 pub inner_reads : (room : ℕ) → InnerReads room
 inner_reads zero = record {
-  closed_script = λ own text h place at go. absurd (left_not_fails (93 ∷ text) TooLong h);
-  script_fault = λ text fault h place at go. (let same : fails fault ≡ fails TooLong = h in let is : fault ≡ TooLong = cc in ap (λ f. Err f) (sym is));
-  closed_index = λ name own text h place at go. absurd (left_not_fails (41 ∷ text) TooLong h);
-  index_fault = λ name text fault h place at go. (let same : fails fault ≡ fails TooLong = h in let is : fault ≡ TooLong = cc in ap (λ f. Err f) (sym is));
+  closed_script = λ own text h mode at go. absurd (left_not_fails (93 ∷ text) TooLong h);
+  script_fault = λ text fault h mode at go. (let same : fails fault ≡ fails TooLong = h in let is : fault ≡ TooLong = cc in ap (λ f. Err f) (sym is));
+  closed_index = λ name own text h mode at go. absurd (left_not_fails (41 ∷ text) TooLong h);
+  index_fault = λ name text fault h mode at go. (let same : fails fault ≡ fails TooLong = h in let is : fault ≡ TooLong = cc in ap (λ f. Err f) (sym is));
 }
 inner_reads (suc room) = record {
   closed_script = script_closed room (inner_reads room);

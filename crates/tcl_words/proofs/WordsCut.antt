@@ -1,13 +1,16 @@
 -- Each text at which a word could begin has a word at its front, or a fault.
 use Rattle.std.proofs.Common.{◌≡◌, ◌≢◌, ℕ, zero, suc, ◌+◌, ◌-◌, ◌<◌, ◌≤◌, ◌⊎◌, inl, inr, Bool, true, false, not, ◌==◌, ◌&&◌, List, [], ◌∷◌, ◌++◌, length, drop, nat_eq, refl, sym, ap, subst, ◌∙◌, eqb-true, append_assoc, append-nil, length-append, arith}
 use Rattle.std.specs.List.{starts_with}
-use Rattle.tcl_words.specs.Kinds.{ends_word, begins_expansion}
+use Rattle.tcl_words.specs.Kinds.{begins_expansion}
+use Rattle.tcl_words.specs.Grammar.{ends_word}
 use Rattle.tcl_words.specs.Changes.{word_of}
-use Rattle.tcl_words.specs.Grammar.{ArePieces, Ending, leaves, fails, Body, bare, quoted, begins, begins_bare, begins_mark, IsInnerOf, IsOwnWord, IsFaultyOwn, IsMark, IsWord, IsFaultyWord}
+use Rattle.tcl_words.specs.Grammar.{ArePieces, Ending, leaves, fails, begins, begins_bare, begins_mark, IsInnerOf, IsOwnWord, IsFaultyOwn, IsMark, IsWord, IsFaultyWord}
 use Rattle.tcl_words.specs.Grammar.IsOwnWord.{bare_word, quoted_word, braced_word}
 use Rattle.tcl_words.specs.Grammar.IsFaultyOwn.{faulty_bare, faulty_quoted, followed_quoted, unclosed_braced, followed_braced}
+use Rattle.tcl_words.specs.declared.kind.Mode.{Mode}
+use Rattle.tcl_words.specs.declared.kind.Mode.TheVariants.{Bare, Quotes, Parens}
 use Rattle.tcl_words.specs.declared.script.WordForm.{WordForm}
-use Rattle.tcl_words.specs.declared.script.WordForm.TheVariants.{Bare, Quoted, Braced}
+use Rattle.tcl_words.specs.declared.script.WordForm.TheVariants.{Bare as BareForm, Quoted as QuotedForm, Braced as BracedForm}
 use Rattle.tcl_words.specs.declared.script.Piece.{Piece}
 use Rattle.tcl_words.specs.declared.script.Piece.TheVariants.{Literal}
 use Rattle.tcl_words.specs.declared.script.Word.{Word}
@@ -32,33 +35,33 @@ OwnCut room inside text = FoundOwn room inside text ⊎ ((fault : ParseFault) ×
 
 bare_cut : (room : ℕ) (inside : Bool) (text : List ℕ) → InnerCuts room → begins_bare inside text ≡ true → OwnCut room inside text
 bare_cut room inside text inner first =
-    let found = pieces_found room inside bare inner text in
+    let found = pieces_found room inside Bare inner text in
     go found.pieces found.ending found.are found.cut
   where
-    go : (pieces : List Piece) (ending : Ending) → ArePieces (IsInnerOf room) inside bare text pieces ending → IsPiecesCut inside bare text ending → OwnCut room inside text
+    go : (pieces : List Piece) (ending : Ending) → ArePieces (IsInnerOf room) inside Bare text pieces ending → IsPiecesCut inside Bare text ending → OwnCut room inside text
     go pieces (leaves left) are (own, e, ends) = inl (record {
       own = own;
       rest = left;
-      form = Bare;
+      form = BareForm;
       pieces = pieces;
       cut = e;
-      is = bare_word (ap (begins_bare inside) (sym e) ∙ first) (subst (λ t. ArePieces (IsInnerOf room) inside bare t pieces (leaves left)) e are);
+      is = bare_word (ap (begins_bare inside) (sym e) ∙ first) (subst (λ t. ArePieces (IsInnerOf room) inside Bare t pieces (leaves left)) e are);
       ends = ends;
     })
     go pieces (fails fault) are cut = inr (fault, faulty_bare first are)
 
-quote_cut : (room : ℕ) (inside : Bool) (text own left : List ℕ) (pieces : List Piece) → ArePieces (IsInnerOf room) inside quoted text pieces (leaves left) → text ≡ own ++ left → begins 34 left ≡ true → OwnCut room inside (34 ∷ text)
+quote_cut : (room : ℕ) (inside : Bool) (text own left : List ℕ) (pieces : List Piece) → ArePieces (IsInnerOf room) inside Quotes text pieces (leaves left) → text ≡ own ++ left → begins 34 left ≡ true → OwnCut room inside (34 ∷ text)
 quote_cut room inside text own [] pieces are e h = cc
 quote_cut room inside text own (b ∷ rest) pieces are e h =
     let same : b ≡ 34 = eqb-true b 34 h in
     let cut : text ≡ own ++ 34 ∷ rest = e ∙ ap (λ c. own ++ c ∷ rest) same in
-    let is : ArePieces (IsInnerOf room) inside quoted (own ++ 34 ∷ rest) pieces (leaves (34 ∷ rest)) =
-        subst (λ t. ArePieces (IsInnerOf room) inside quoted t pieces (leaves (34 ∷ rest))) cut (subst (λ c. ArePieces (IsInnerOf room) inside quoted text pieces (leaves (c ∷ rest))) same are) in
+    let is : ArePieces (IsInnerOf room) inside Quotes (own ++ 34 ∷ rest) pieces (leaves (34 ∷ rest)) =
+        subst (λ t. ArePieces (IsInnerOf room) inside Quotes t pieces (leaves (34 ∷ rest))) cut (subst (λ c. ArePieces (IsInnerOf room) inside Quotes text pieces (leaves (c ∷ rest))) same are) in
     elim (decided (ends_word inside rest)) [
       | inl ends ↦ inl (record {
         own = 34 ∷ (own ++ 34 ∷ []);
         rest = rest;
-        form = Quoted;
+        form = QuotedForm;
         pieces = pieces;
         cut = ap (λ t. 34 ∷ t) (cut ∙ sym (append_assoc own (34 ∷ []) rest));
         is = quoted_word own is;
@@ -69,10 +72,10 @@ quote_cut room inside text own (b ∷ rest) pieces are e h =
 
 quoted_cut : (room : ℕ) (inside : Bool) (text : List ℕ) → InnerCuts room → OwnCut room inside (34 ∷ text)
 quoted_cut room inside text inner =
-    let found = pieces_found room inside quoted inner text in
+    let found = pieces_found room inside Quotes inner text in
     go found.pieces found.ending found.are found.cut
   where
-    go : (pieces : List Piece) (ending : Ending) → ArePieces (IsInnerOf room) inside quoted text pieces ending → IsPiecesCut inside quoted text ending → OwnCut room inside (34 ∷ text)
+    go : (pieces : List Piece) (ending : Ending) → ArePieces (IsInnerOf room) inside Quotes text pieces ending → IsPiecesCut inside Quotes text ending → OwnCut room inside (34 ∷ text)
     go pieces (leaves left) are (own, e, ends) = quote_cut room inside text own left pieces are e ends
     go pieces (fails fault) are cut = inr (fault, faulty_quoted are)
 
@@ -83,7 +86,7 @@ braced_cut room inside text = elim (braces_cut text) [
     | inl ends ↦ inl (record {
       own = 123 ∷ (own ++ 125 ∷ []);
       rest = rest;
-      form = Braced;
+      form = BracedForm;
       pieces = Literal value ∷ [];
       cut = ap (λ t. 123 ∷ t) (e ∙ sym (append_assoc own (125 ∷ []) rest));
       is = braced_word own h;
@@ -152,7 +155,7 @@ marked_cut room inside expand at mark text whole e open_word marked (inr (fault,
 mark_found : (inside : Bool) (text : List ℕ) → begins_mark inside text ≡ true → (rest : List ℕ) × (text ≡ 123 ∷ 42 ∷ 125 ∷ rest) × (ends_word inside rest ≡ false)
 mark_found inside [] h = cc
 mark_found inside (b ∷ text) h =
-    let two = both (b == 123) (begins_expansion inside text) h in
+    let two = both (b == 123) (begins_expansion text && not (ends_word inside (drop 2 text))) h in
     let more = expansion_found inside text two.1 in
     (more.0, ap (λ c. c ∷ text) (eqb-true b 123 two.0) ∙ ap (λ t. 123 ∷ t) more.1, more.2)
   where
@@ -160,7 +163,7 @@ mark_found inside (b ∷ text) h =
     not_false true k = cc
     not_false false k = refl
 
-    expansion_found : (flag : Bool) (behind : List ℕ) → begins_expansion flag behind ≡ true → (rest : List ℕ) × (behind ≡ 42 ∷ 125 ∷ rest) × (ends_word flag rest ≡ false)
+    expansion_found : (flag : Bool) (behind : List ℕ) → (begins_expansion behind && not (ends_word flag (drop 2 behind))) ≡ true → (rest : List ℕ) × (behind ≡ 42 ∷ 125 ∷ rest) × (ends_word flag rest ≡ false)
     expansion_found flag [] k = cc
     expansion_found flag (c ∷ []) k =
         let one = both (nat_eq 42 c && false) (not (ends_word flag [])) k in

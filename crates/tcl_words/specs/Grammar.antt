@@ -5,12 +5,14 @@ use Rattle.std.specs.Prelude.{ℕ, zero, suc, ◌+◌, ◌≡◌, ◌≢◌, ◌
 use Rattle.std.specs.List.{starts_with}
 use Rattle.std.specs.Str.{IsUtf8}
 use Rattle.tcl_text.specs.Backslash.{escape}
-use Rattle.tcl_words.specs.Kinds.{class_of, is_letter, ends_word, begins_expansion}
+use Rattle.tcl_words.specs.Kinds.{class_of, is_letter, begins_newline, begins_expansion}
 use Rattle.tcl_words.specs.Changes.{command_of, word_of}
+use Rattle.tcl_words.specs.declared.kind.Mode.{Mode}
+use Rattle.tcl_words.specs.declared.kind.Mode.TheVariants.{Bare, Quotes, Parens}
 use Rattle.tcl_words.specs.declared.kind.Kind.{Kind}
 use Rattle.tcl_words.specs.declared.kind.Kind.TheVariants.{Blank, Newline, Semicolon, Hash, Dollar, Quote, OpenBracket, CloseBracket, OpenBrace, Expansion, CloseBrace, CloseParen, Backslash, Continuation, Other}
 use Rattle.tcl_words.specs.declared.script.WordForm.{WordForm}
-use Rattle.tcl_words.specs.declared.script.WordForm.TheVariants.{Bare, Quoted, Braced}
+use Rattle.tcl_words.specs.declared.script.WordForm.TheVariants.{Bare as BareForm, Quoted as QuotedForm, Braced as BracedForm}
 use Rattle.tcl_words.specs.declared.script.Span.{Span}
 use Rattle.tcl_words.specs.declared.script.Piece.{Piece}
 use Rattle.tcl_words.specs.declared.script.Piece.TheVariants.{Literal, Variable, Element, Bracket}
@@ -31,12 +33,6 @@ pub data Inner : Type 0 where
   script : Inner
   index : Inner
 
--- Where substitution goes on: in a bare word, in quotes and in an index.
-pub data Body : Type 0 where
-  bare : Body
-  quoted : Body
-  indexed : Body
-
 -- this byte is the first
 abbrev pub begins : ℕ → List ℕ → Bool
 begins b [] = false
@@ -50,10 +46,25 @@ begins_letter (b ∷ text) = is_letter b
 abbrev pub begins_name : List ℕ → Bool
 begins_name text = begins_letter text || (starts_with nat_eq text (58 ∷ 58 ∷ []) && begins_letter (drop 2 text))
 
+-- A byte of this class, and then this text, end the word before them. `inside` says that the script or the index ends at a
+-- closing bracket or parenthesis.
+abbrev pub class_ends : Bool → Kind → List ℕ → Bool
+class_ends inside Blank behind = true
+class_ends inside Newline behind = true
+class_ends inside Semicolon behind = true
+class_ends inside CloseBracket behind = inside
+class_ends inside Backslash behind = begins_newline behind
+class_ends inside class behind = false
+
+-- a word can end before this text
+abbrev pub ends_word : Bool → List ℕ → Bool
+ends_word inside [] = true
+ends_word inside (b ∷ text) = class_ends inside (class_of b) text
+
 -- a `{*}` stands at the front, before a character that doesn't end the word
 abbrev pub begins_mark : Bool → List ℕ → Bool
 begins_mark inside [] = false
-begins_mark inside (b ∷ text) = b == 123 && begins_expansion inside text
+begins_mark inside (b ∷ text) = b == 123 && (begins_expansion text && not (ends_word inside (drop 2 text)))
 
 -- letters, digits and `_`
 abbrev pub AreLetters : List ℕ → Type 0
@@ -74,17 +85,17 @@ abbrev pub index_stops : Bool → List ℕ → Bool
 index_stops inside [] = not inside
 index_stops inside (b ∷ text) = inside && b == 41
 
--- The body ends before this text. `inside` says that the script or the index ends at a closing bracket or parenthesis.
-abbrev pub stops : Bool → Body → List ℕ → Bool
-stops inside bare text = ends_word inside text
-stops inside quoted text = begins 34 text
-stops inside indexed text = index_stops inside text
+-- the body ends before this text
+abbrev pub stops : Bool → Mode → List ℕ → Bool
+stops inside Bare text = ends_word inside text
+stops inside Quotes text = begins 34 text
+stops inside Parens text = index_stops inside text
 
 -- the fault of a body that never ends
-abbrev pub unended_fault : Body → ParseFault
-unended_fault bare = MissingBracket
-unended_fault quoted = MissingQuote
-unended_fault indexed = MissingParen
+abbrev pub unended_fault : Mode → ParseFault
+unended_fault Bare = MissingBracket
+unended_fault Quotes = MissingQuote
+unended_fault Parens = MissingParen
 
 -- what stands for itself where a body goes on
 abbrev pub is_plain : Kind → Bool
@@ -105,28 +116,28 @@ with_bytes (b ∷ bytes) (Bracket own ∷ pieces) = Literal (b ∷ bytes) ∷ Br
 
 -- The pieces of a body at the front of a text, where `IsInner` says how scripts in brackets and indices are read. With a
 -- fault the pieces are those before it.
-pub data ArePieces (IsInner : Inner → List ℕ → Ending → Type 0) (inside : Bool) (body : Body) : List ℕ → List Piece → Ending → Type 0 where
-  stop : {text : List ℕ} → stops inside body text ≡ true → ArePieces IsInner inside body text [] (leaves text)
-  unended : stops inside body [] ≡ false → ArePieces IsInner inside body [] [] (fails (unended_fault body))
-  byte : {b : ℕ} {text : List ℕ} {pieces : List Piece} {ending : Ending} → stops inside body (b ∷ text) ≡ false → is_plain (class_of b) ≡ true →
-    ArePieces IsInner inside body text pieces ending → ArePieces IsInner inside body (b ∷ text) (with_bytes (b ∷ []) pieces) ending
-  backslash : {text : List ℕ} {pieces : List Piece} {ending : Ending} → stops inside body (92 ∷ text) ≡ false →
-    ArePieces IsInner inside body (drop (escape text).length text) pieces ending → ArePieces IsInner inside body (92 ∷ text) (with_bytes (escape text).meaning pieces) ending
+pub data ArePieces (IsInner : Inner → List ℕ → Ending → Type 0) (inside : Bool) (mode : Mode) : List ℕ → List Piece → Ending → Type 0 where
+  stop : {text : List ℕ} → stops inside mode text ≡ true → ArePieces IsInner inside mode text [] (leaves text)
+  unended : stops inside mode [] ≡ false → ArePieces IsInner inside mode [] [] (fails (unended_fault mode))
+  byte : {b : ℕ} {text : List ℕ} {pieces : List Piece} {ending : Ending} → stops inside mode (b ∷ text) ≡ false → is_plain (class_of b) ≡ true →
+    ArePieces IsInner inside mode text pieces ending → ArePieces IsInner inside mode (b ∷ text) (with_bytes (b ∷ []) pieces) ending
+  backslash : {text : List ℕ} {pieces : List Piece} {ending : Ending} → stops inside mode (92 ∷ text) ≡ false →
+    ArePieces IsInner inside mode (drop (escape text).length text) pieces ending → ArePieces IsInner inside mode (92 ∷ text) (with_bytes (escape text).meaning pieces) ending
   -- a `$` that stands for itself
   dollar : {text : List ℕ} {pieces : List Piece} {ending : Ending} → begins_name text ≡ false → begins 123 text ≡ false →
-    ArePieces IsInner inside body text pieces ending → ArePieces IsInner inside body (36 ∷ text) (with_bytes (36 ∷ []) pieces) ending
+    ArePieces IsInner inside mode text pieces ending → ArePieces IsInner inside mode (36 ∷ text) (with_bytes (36 ∷ []) pieces) ending
   variable : (name : List ℕ) {text : List ℕ} {pieces : List Piece} {ending : Ending} → IsName name → begins_letter text ≡ false → begins 40 text ≡ false →
-    ArePieces IsInner inside body text pieces ending → ArePieces IsInner inside body (36 ∷ (name ++ text)) (Variable name ∷ pieces) ending
+    ArePieces IsInner inside mode text pieces ending → ArePieces IsInner inside mode (36 ∷ (name ++ text)) (Variable name ∷ pieces) ending
   braced_name : (name : List ℕ) {text : List ℕ} {pieces : List Piece} {ending : Ending} → HasNoBrace name →
-    ArePieces IsInner inside body text pieces ending → ArePieces IsInner inside body (36 ∷ 123 ∷ (name ++ 125 ∷ text)) (Variable name ∷ pieces) ending
-  unclosed_name : {text : List ℕ} → HasNoBrace text → ArePieces IsInner inside body (36 ∷ 123 ∷ text) [] (fails MissingBrace)
+    ArePieces IsInner inside mode text pieces ending → ArePieces IsInner inside mode (36 ∷ 123 ∷ (name ++ 125 ∷ text)) (Variable name ∷ pieces) ending
+  unclosed_name : {text : List ℕ} → HasNoBrace text → ArePieces IsInner inside mode (36 ∷ 123 ∷ text) [] (fails MissingBrace)
   element : (name own : List ℕ) {text : List ℕ} {pieces : List Piece} {ending : Ending} → IsName name → IsInner index (own ++ 41 ∷ text) (leaves (41 ∷ text)) →
-    ArePieces IsInner inside body text pieces ending → ArePieces IsInner inside body (36 ∷ (name ++ 40 ∷ (own ++ 41 ∷ text))) (Element name own ∷ pieces) ending
+    ArePieces IsInner inside mode text pieces ending → ArePieces IsInner inside mode (36 ∷ (name ++ 40 ∷ (own ++ 41 ∷ text))) (Element name own ∷ pieces) ending
   faulty_index : (name : List ℕ) {text : List ℕ} {fault : ParseFault} → IsName name → IsInner index text (fails fault) →
-    ArePieces IsInner inside body (36 ∷ (name ++ 40 ∷ text)) [] (fails fault)
+    ArePieces IsInner inside mode (36 ∷ (name ++ 40 ∷ text)) [] (fails fault)
   bracket : (own : List ℕ) {text : List ℕ} {pieces : List Piece} {ending : Ending} → IsInner script (own ++ 93 ∷ text) (leaves (93 ∷ text)) →
-    ArePieces IsInner inside body text pieces ending → ArePieces IsInner inside body (91 ∷ (own ++ 93 ∷ text)) (Bracket own ∷ pieces) ending
-  faulty_script : {text : List ℕ} {fault : ParseFault} → IsInner script text (fails fault) → ArePieces IsInner inside body (91 ∷ text) [] (fails fault)
+    ArePieces IsInner inside mode text pieces ending → ArePieces IsInner inside mode (91 ∷ (own ++ 93 ∷ text)) (Bracket own ∷ pieces) ending
+  faulty_script : {text : List ℕ} {fault : ParseFault} → IsInner script text (fails fault) → ArePieces IsInner inside mode (91 ∷ text) [] (fails fault)
 
 -- a blank or a tab
 abbrev pub begins_space : List ℕ → Bool
@@ -158,19 +169,19 @@ begins_bare inside text = not (ends_word inside text) && (not (begins 123 text) 
 
 -- A word's own text, without a `{*}`, where `rest` follows it.
 pub data IsOwnWord (IsInner : Inner → List ℕ → Ending → Type 0) (inside : Bool) (rest : List ℕ) : List ℕ → WordForm → List Piece → Type 0 where
-  bare_word : {own : List ℕ} {pieces : List Piece} → begins_bare inside (own ++ rest) ≡ true → ArePieces IsInner inside bare (own ++ rest) pieces (leaves rest) →
-    IsOwnWord IsInner inside rest own Bare pieces
-  quoted_word : (own : List ℕ) {pieces : List Piece} → ArePieces IsInner inside quoted (own ++ 34 ∷ rest) pieces (leaves (34 ∷ rest)) →
-    IsOwnWord IsInner inside rest (34 ∷ (own ++ 34 ∷ [])) Quoted pieces
-  braced_word : (own : List ℕ) {value : List ℕ} → IsBraced own value → IsOwnWord IsInner inside rest (123 ∷ (own ++ 125 ∷ [])) Braced (Literal value ∷ [])
+  bare_word : {own : List ℕ} {pieces : List Piece} → begins_bare inside (own ++ rest) ≡ true → ArePieces IsInner inside Bare (own ++ rest) pieces (leaves rest) →
+    IsOwnWord IsInner inside rest own BareForm pieces
+  quoted_word : (own : List ℕ) {pieces : List Piece} → ArePieces IsInner inside Quotes (own ++ 34 ∷ rest) pieces (leaves (34 ∷ rest)) →
+    IsOwnWord IsInner inside rest (34 ∷ (own ++ 34 ∷ [])) QuotedForm pieces
+  braced_word : (own : List ℕ) {value : List ℕ} → IsBraced own value → IsOwnWord IsInner inside rest (123 ∷ (own ++ 125 ∷ [])) BracedForm (Literal value ∷ [])
 
 -- The fault of a text at whose front a word would stand.
 pub data IsFaultyOwn (IsInner : Inner → List ℕ → Ending → Type 0) (inside : Bool) : List ℕ → ParseFault → Type 0 where
-  faulty_bare : {text : List ℕ} {pieces : List Piece} {fault : ParseFault} → begins_bare inside text ≡ true → ArePieces IsInner inside bare text pieces (fails fault) →
+  faulty_bare : {text : List ℕ} {pieces : List Piece} {fault : ParseFault} → begins_bare inside text ≡ true → ArePieces IsInner inside Bare text pieces (fails fault) →
     IsFaultyOwn IsInner inside text fault
-  faulty_quoted : {text : List ℕ} {pieces : List Piece} {fault : ParseFault} → ArePieces IsInner inside quoted text pieces (fails fault) →
+  faulty_quoted : {text : List ℕ} {pieces : List Piece} {fault : ParseFault} → ArePieces IsInner inside Quotes text pieces (fails fault) →
     IsFaultyOwn IsInner inside (34 ∷ text) fault
-  followed_quoted : (own rest : List ℕ) {pieces : List Piece} → ArePieces IsInner inside quoted (own ++ 34 ∷ rest) pieces (leaves (34 ∷ rest)) → ends_word inside rest ≡ false →
+  followed_quoted : (own rest : List ℕ) {pieces : List Piece} → ArePieces IsInner inside Quotes (own ++ 34 ∷ rest) pieces (leaves (34 ∷ rest)) → ends_word inside rest ≡ false →
     IsFaultyOwn IsInner inside (34 ∷ (own ++ 34 ∷ rest)) ExtraAfterQuote
   unclosed_braced : {text : List ℕ} → IsUnclosed text → IsFaultyOwn IsInner inside (123 ∷ text) MissingBrace
   followed_braced : (own rest : List ℕ) {value : List ℕ} → IsBraced own value → ends_word inside rest ≡ false → IsFaultyOwn IsInner inside (123 ∷ (own ++ 125 ∷ rest)) ExtraAfterBrace
@@ -279,7 +290,7 @@ IsScript IsInner inside at text (command ∷ commands) ending =
 abbrev pub IsInnerOf : ℕ → Inner → List ℕ → Ending → Type 0
 IsInnerOf zero inner text ending = ending ≡ fails TooLong
 IsInnerOf (suc room) script text ending = (commands : List Command) × IsScript (IsInnerOf room) true 0 text commands ending
-IsInnerOf (suc room) index text ending = (pieces : List Piece) × ArePieces (IsInnerOf room) true indexed text pieces ending
+IsInnerOf (suc room) index text ending = (pieces : List Piece) × ArePieces (IsInnerOf room) true Parens text pieces ending
 
 -- a script's text: at most 65,536 bytes of UTF-8
 abbrev pub IsText : List ℕ → Type 0

@@ -1,6 +1,6 @@
 -- Each text is cut at the brace that closes it, or has none.
-use Rattle.std.proofs.Common.{◌≡◌, ◌≢◌, ℕ, zero, suc, ◌+◌, ◌≤◌, ◌⊎◌, inl, inr, Bool, true, false, ◌==◌, ◌||◌, List, [], ◌∷◌, ◌++◌, length, refl, sym, ap, subst, ◌∙◌, eqb-true, append_assoc, append-nil, length-append, arith}
-use Rattle.tcl_words.specs.Grammar.{begins_space, AreSpaces, HasNoBrace, IsBraced, IsUnclosed}
+use Rattle.std.proofs.Common.{◌≡◌, ◌≢◌, ℕ, zero, suc, ◌≤◌, ◌⊎◌, inl, inr, Bool, true, false, ◌==◌, List, [], ◌∷◌, ◌++◌, length, refl, sym, ap, subst, ◌∙◌, eqb-true, append_assoc, append-nil, length-append, arith}
+use Rattle.tcl_words.specs.Grammar.{begins_space, AreSpaces, IsBraced, IsUnclosed}
 use Rattle.tcl_words.specs.Grammar.IsBraced.{none, byte, pair, continuation, braces}
 use Rattle.tcl_words.specs.Grammar.IsUnclosed.{ends, backslash, opens}
 use Rattle.tcl_words.proofs.WordsRead.{other_byte}
@@ -62,12 +62,12 @@ backslash_cut : (n : ℕ) (text : List ℕ) → Cuts n → length text ≤ n →
 backslash_cut n [] ih fits = inr (backslash [] none)
 backslash_cut n (b ∷ text) ih fits = elim (same_or_other b 10) [
   | inl e ↦ (
-    let some = spaces_cut text in
-    let front : List ℕ = 92 ∷ 10 ∷ some.0 in
-    let short : length some.1 ≤ n = omega (arith, ap length some.2, length-append some.0 some.1) in
-    let whole : 92 ∷ b ∷ text ≡ front ++ some.1 = ap (λ c. 92 ∷ c ∷ text) e ∙ ap (λ t. 92 ∷ 10 ∷ t) some.2 in
-    subst BraceCut (sym whole)
-    (cut_onto front some.1 (λ own value rest f k. (32 ∷ value, continuation some.0 some.3 (own_space some.1 own rest f some.4) k)) (ih some.1 short)))
+      let some = spaces_cut text in
+      let front : List ℕ = 92 ∷ 10 ∷ some.0 in
+      let short : length some.1 ≤ n = omega (arith, ap length some.2, length-append some.0 some.1) in
+      let whole : 92 ∷ b ∷ text ≡ front ++ some.1 = ap (λ c. 92 ∷ c ∷ text) e ∙ ap (λ t. 92 ∷ 10 ∷ t) some.2 in
+      subst BraceCut (sym whole)
+      (cut_onto front some.1 (λ own value rest f k. (32 ∷ value, continuation some.0 some.3 (own_space some.1 own rest f some.4) k)) (ih some.1 short)))
   | inr other ↦ cut_onto (92 ∷ b ∷ []) text (λ own value rest f k. (92 ∷ b ∷ value, pair other k)) (ih text (omega arith))
 ]
 

@@ -1,20 +1,20 @@
 -- Braces are read as the grammar says.
-use Rattle.std.proofs.Common.{◌⊎◌, inl, inr, ◌≡◌, ◌≢◌, ℕ, zero, suc, ◌+◌, Bool, true, false, ◌==◌, ◌||◌, List, [], ◌∷◌, ◌++◌, length, take, refl, sym, ap, subst, ◌∙◌, append-nil, append_assoc, length-append, arith, Ok, Err}
+use Rattle.std.proofs.Common.{◌⊎◌, inl, inr, ◌≡◌, ◌≢◌, ℕ, suc, ◌+◌, Bool, true, false, List, [], ◌∷◌, ◌++◌, length, refl, sym, ap, ◌∙◌, append-nil, append_assoc, length-append, arith, Ok, Err}
 use Rattle.tcl_text.specs.Backslash.{escape, blanks}
-use Rattle.tcl_words.specs.Kinds.{kind_of, class_of, class_means, begins_expansion}
-use Rattle.tcl_words.specs.Changes.{Rest, Read, put, changed}
+use Rattle.tcl_words.specs.Kinds.{class_of, class_means, begins_expansion}
+use Rattle.tcl_words.specs.Changes.{Read, put, changed}
 use Rattle.tcl_words.specs.Changes.Change.{bytes as put_bytes, text_ends}
-use Rattle.tcl_words.specs.Moves.{Move, move_of, on, in_braces}
+use Rattle.tcl_words.specs.Moves.{on, in_braces}
 use Rattle.tcl_words.specs.Reading.{Level, rest_of}
 use Rattle.tcl_words.specs.Grammar.{begins_space, AreSpaces, IsBraced, IsUnclosed}
 use Rattle.tcl_words.specs.Grammar.IsBraced.{none, byte, pair, continuation, braces}
 use Rattle.tcl_words.specs.Grammar.IsUnclosed.{ends, backslash, opens}
 use Rattle.tcl_words.specs.declared.kind.Kind.{Kind}
 use Rattle.tcl_words.specs.declared.kind.Kind.TheVariants.{Blank, Newline, Semicolon, Hash, Dollar, Quote, OpenBracket, CloseBracket, OpenBrace, Expansion, CloseBrace, CloseParen, Backslash, Continuation, Other}
-use Rattle.tcl_words.specs.declared.kind.Place.TheVariants.{Text, InBraces, PastBraces}
+use Rattle.tcl_words.specs.declared.kind.Place.TheVariants.{InBraces, PastBraces}
 use Rattle.tcl_words.specs.declared.fault.ParseFault.TheVariants.{MissingBrace}
 use Rattle.tcl_words.proofs.ClassLemmas.{byte_is, expansion_or, newline_or}
-use Rattle.tcl_words.proofs.StepLemmas.{after_move, moved_by, read_at, put-put, skip_read}
+use Rattle.tcl_words.proofs.StepLemmas.{after_move, moved_by, read_at, skip_read}
 
 byte_kinds : (inside : Bool) (kind : Kind) (depth b : ℕ) (text : List ℕ) → kind ≢ OpenBrace → kind ≢ Expansion → kind ≢ CloseBrace → kind ≢ Backslash → kind ≢ Continuation →
     in_braces depth (class_means inside kind text) b text ≡ on (put_bytes (b ∷ []) ∷ []) 0 (InBraces depth)
@@ -79,7 +79,7 @@ spaces_escape spaces text h k = ap (λ n. record { meaning = 32 ∷ []; length =
 continued_step : (level : Level) (depth : ℕ) (spaces text : List ℕ) (at : ℕ) → AreSpaces spaces → begins_space text ≡ false →
     rest_of (92 ∷ 10 ∷ (spaces ++ text)) level 0 (InBraces depth) at ≡ put (changed (put_bytes (32 ∷ []) ∷ [])) (rest_of text level 0 (InBraces depth) (at + 1 + 1 + length spaces))
 unfolding class_of
-continued_step level depth spaces text at h k = 
+continued_step level depth spaces text at h k =
     ap (λ e. put (changed (put_bytes e.meaning ∷ [])) (rest_of (10 ∷ (spaces ++ text)) level e.length (InBraces depth) (at + 1))) (spaces_escape spaces text h k)
     ∙ ap (put (changed (put_bytes (32 ∷ []) ∷ []))) (skip_read spaces text level (InBraces depth) (at + 1 + 1))
 

@@ -1,5 +1,5 @@
 -- Classes and bytes, and what a byte that stands for itself does.
-use Rattle.std.proofs.Common.{◌≡◌, ◌≢◌, ℕ, Bool, true, false, ◌==◌, ◌&&◌, if◌then◌else◌, refl, sym, ◌∙◌, ap, eqb-true, subst, List, [], ◌∷◌}
+use Rattle.std.proofs.Common.{◌≡◌, ◌≢◌, ℕ, Bool, true, false, ◌==◌, ◌&&◌, if◌then◌else◌, refl, sym, eqb-true, subst, List, [], ◌∷◌}
 use Rattle.std.proofs.Common.{arith}
 use Rattle.std.proofs.lemmas.Bool.Decides.{nat_tests}
 use Rattle.tcl_text.specs.Backslash.{escape}
@@ -11,7 +11,6 @@ use Rattle.tcl_words.specs.Kinds.{dollar_of}
 use Rattle.tcl_words.specs.Grammar.{stops, is_plain}
 use Rattle.tcl_words.specs.declared.kind.Mode.{Mode}
 use Rattle.tcl_words.specs.declared.kind.Mode.TheVariants.{Bare, Quotes, Parens}
-use Rattle.tcl_words.specs.declared.kind.Place.{Place}
 use Rattle.tcl_words.specs.declared.kind.Place.TheVariants.{Text}
 use Rattle.std.proofs.Common.{Ok, nat_eq}
 use Rattle.tcl_words.specs.declared.kind.Opener.TheVariants.{Bracket as BracketOpener}

@@ -1,11 +1,11 @@
 -- Blanks, gaps and comments are read as the grammar says, and so is the end of a script.
-use Rattle.std.proofs.Common.{◌≡◌, ◌≢◌, ℕ, zero, suc, ◌+◌, ◌⊎◌, inl, inr, Bool, true, false, ◌==◌, ◌||◌, if◌then◌else◌, List, [], ◌∷◌, ◌++◌, length, take, refl, sym, ap, subst, ◌∙◌, eqb-true, append_assoc, append-nil, length-append, arith, Ok, Err}
+use Rattle.std.proofs.Common.{◌≡◌, ◌≢◌, ℕ, suc, ◌+◌, inl, inr, Bool, true, false, ◌==◌, ◌||◌, if◌then◌else◌, List, [], ◌∷◌, ◌++◌, length, take, refl, sym, ap, ◌∙◌, eqb-true, append_assoc, append-nil, length-append, arith, Ok}
 use Rattle.tcl_text.specs.Backslash.{escape, blanks}
 use Rattle.tcl_words.specs.Kinds.{kind_of, class_of, class_means, begins_newline, begins_expansion}
 use Rattle.tcl_words.specs.Grammar.{class_ends, ends_word}
-use Rattle.tcl_words.specs.Changes.{Rest, Read, put, changed, last_rest}
+use Rattle.tcl_words.specs.Changes.{put, changed, last_rest}
 use Rattle.tcl_words.specs.Changes.Change.{command_begins}
-use Rattle.tcl_words.specs.Moves.{Move, move_of, on, in_comment, in_start, in_between, before}
+use Rattle.tcl_words.specs.Moves.{Move, move_of, on, in_comment, before}
 use Rattle.tcl_words.specs.Reading.{Level, rest_of, past, within, end_of}
 use Rattle.tcl_words.specs.Grammar.{begins, IsSeparator, AreBlanks, IsNote, IsLastNote, IsGap}
 use Rattle.tcl_words.specs.Grammar.AreBlanks.{none as no_blanks, blank as one_blank, continuation as continued_blanks}
@@ -14,11 +14,10 @@ use Rattle.tcl_words.specs.Grammar.IsGap.{none as no_gap, blank, continuation, s
 use Rattle.tcl_words.specs.declared.kind.Kind.{Kind}
 use Rattle.tcl_words.specs.declared.kind.Kind.TheVariants.{Blank, Newline, Semicolon, Hash, Dollar, Quote, OpenBracket, CloseBracket, OpenBrace, Expansion, CloseBrace, CloseParen, Backslash, Continuation, Other}
 use Rattle.tcl_words.specs.declared.kind.Place.{Place}
-use Rattle.tcl_words.specs.declared.kind.Place.TheVariants.{Text, Start, Comment, Between}
+use Rattle.tcl_words.specs.declared.kind.Place.TheVariants.{Start, Comment, Between}
 use Rattle.tcl_words.specs.declared.fault.ParseFault.TheVariants.{MissingBracket}
 use Rattle.tcl_words.proofs.ClassLemmas.{byte_is, expansion_or, continuation_or, other_class}
-use Rattle.tcl_words.proofs.StepLemmas.{after_move, moved_by, read_at, put-put, put-none}
-use Rattle.tcl_words.proofs.WordsRead.{other_byte}
+use Rattle.tcl_words.proofs.StepLemmas.{moved_by, read_at, put-put, put-none}
 
 -- where blanks are passed over
 pub data IsOpen : Place → Type 0 where

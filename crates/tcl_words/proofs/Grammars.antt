@@ -1,7 +1,7 @@
 -- The commands that are read are those of the grammar, and so are the faults.
-use Rattle.std.proofs.Common.{◌≡◌, ℕ, zero, ◌+◌, ◌≤◌, ◌<◌, ◌⊎◌, inl, inr, Bool, true, false, nat_lt, List, [], ◌∷◌, length, refl, sym, ap, subst, ◌∙◌, arith, Ok, Err, IsOk, Result}
+use Rattle.std.proofs.Common.{◌≡◌, ℕ, ◌+◌, ◌≤◌, ◌<◌, ◌⊎◌, inl, inr, Bool, true, false, nat_lt, List, [], length, refl, sym, ap, subst, ◌∙◌, arith, Ok, Err, IsOk, Result}
 use Rattle.std.proofs.lemmas.Bool.Decides.{nat_tests}
-use Rattle.std.specs.Str.{IsUtf8, is_utf8}
+use Rattle.std.specs.Str.{is_utf8}
 use Rattle.std.proofs.lemmas.Str.{is_utf8-from_IsUtf8, IsUtf8-from_is_utf8}
 use Rattle.tcl_words.specs.Changes.{Read}
 use Rattle.tcl_words.specs.Reading.{rest_of, commands_in, commands_of, outermost}
@@ -10,7 +10,7 @@ use Rattle.tcl_words.specs.declared.kind.Place.TheVariants.{Start}
 use Rattle.tcl_words.specs.declared.script.Command.{Command}
 use Rattle.tcl_words.specs.declared.fault.ParseFault.{ParseFault}
 use Rattle.tcl_words.specs.declared.fault.ParseFault.TheVariants.{TooLong, NoMemory}
-use Rattle.tcl_words.proofs.ScriptsRead.{Gives, GivesLeft, script_read, inner_reads}
+use Rattle.tcl_words.proofs.ScriptsRead.{Gives, script_read, inner_reads}
 use Rattle.tcl_words.proofs.ScriptsCut.{IsScriptCut, script_found, inner_cuts}
 
 -- what a text can be

@@ -1,10 +1,9 @@
 -- What a `$` is before names of variables.
-use Rattle.std.proofs.Common.{◌-◌, take, ◌⊎◌, eqb-true, ◌≡◌, ◌≢◌, ℕ, zero, suc, ◌+◌, Bool, true, false, ◌==◌, ◌&&◌, ◌||◌, if◌then◌else◌, List, [], ◌∷◌, ◌++◌, length, drop, nat_eq, refl, sym, ap, subst, ◌∙◌, inl, inr, arith, Option, Some, None}
+use Rattle.std.proofs.Common.{◌-◌, take, ◌⊎◌, eqb-true, ◌≡◌, ◌≢◌, ℕ, suc, ◌+◌, Bool, true, false, ◌==◌, ◌&&◌, ◌||◌, List, [], ◌∷◌, ◌++◌, length, drop, nat_eq, refl, sym, ap, ◌∙◌, inl, inr, arith, Some, None}
 use Rattle.std.specs.List.{starts_with, slice_range}
 use Rattle.std.proofs.lemmas.Bool.Decides.{nat_tests}
 use Rattle.tcl_words.specs.Kinds.{is_letter, letters, past_colons, name_length, to_brace, dollar_braced, dollar_named, dollar_of}
 use Rattle.tcl_words.specs.Grammar.{begins, begins_letter, begins_name, AreLetters, IsName, HasNoBrace}
-use Rattle.tcl_words.specs.declared.kind.Dollar.{Dollar}
 use Rattle.tcl_words.specs.declared.kind.Dollar.TheVariants.{Alone, Named, Indexed, Braced, Unclosed}
 
 pub letters_read : (own text : List ℕ) → AreLetters own → begins_letter text ≡ false → letters (own ++ text) ≡ length own

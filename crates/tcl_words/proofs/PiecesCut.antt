@@ -1,11 +1,10 @@
 -- Each text begins with the pieces of a body.
-use Rattle.std.proofs.Common.{◌≡◌, ◌≢◌, ℕ, zero, suc, ◌+◌, ◌≤◌, ◌⊎◌, inl, inr, Bool, true, false, ◌==◌, List, [], ◌∷◌, ◌++◌, length, take, drop, refl, sym, ap, subst, ◌∙◌, eqb-true, append_assoc, append-nil, length-append, length-drop, take-append-drop, arith}
+use Rattle.std.proofs.Common.{◌≡◌, ℕ, zero, suc, ◌≤◌, inl, inr, Bool, true, false, List, [], ◌∷◌, ◌++◌, length, take, drop, refl, sym, ap, subst, ◌∙◌, eqb-true, append_assoc, length-append, length-drop, take-append-drop, arith}
 use Rattle.tcl_text.specs.Backslash.{escape}
 use Rattle.tcl_words.specs.Kinds.{class_of}
 use Rattle.tcl_words.specs.Grammar.{Ending, leaves, fails, Inner, script, index, stops, is_plain, unended_fault, with_bytes, begins, begins_letter, begins_name, IsName, ArePieces, IsInnerOf}
 use Rattle.tcl_words.specs.Grammar.ArePieces.{stop, unended, byte, backslash, dollar, variable, braced_name, unclosed_name, element, faulty_index, bracket, faulty_script}
 use Rattle.tcl_words.specs.declared.kind.Mode.{Mode}
-use Rattle.tcl_words.specs.declared.kind.Mode.TheVariants.{Bare, Quotes, Parens}
 use Rattle.tcl_words.specs.declared.kind.Kind.{Kind}
 use Rattle.tcl_words.specs.declared.kind.Kind.TheVariants.{Blank, Newline, Semicolon, Hash, Dollar, Quote, OpenBracket, CloseBracket, OpenBrace, Expansion, CloseBrace, CloseParen, Backslash, Continuation, Other}
 use Rattle.tcl_words.specs.declared.script.Piece.{Piece}
@@ -73,7 +72,7 @@ index_found room inside mode n name text ih fits is (leaves left) h (own, rest, 
     let short : length rest ≤ n = omega (arith, ap length e, length-append own (41 ∷ rest)) in
     let inner : IsInnerOf room index (own ++ 41 ∷ rest) (leaves (41 ∷ rest)) = subst (λ t. IsInnerOf room index t (leaves (41 ∷ rest))) e (subst (λ t. IsInnerOf room index text (leaves t)) f h) in
     let cut : name ++ 40 ∷ (own ++ 41 ∷ rest) ≡ (name ++ 40 ∷ (own ++ 41 ∷ [])) ++ rest =
-        ap (λ t. name ++ 40 ∷ t) (sym (append_assoc own (41 ∷ []) rest)) ∙ sym (append_assoc name (40 ∷ (own ++ 41 ∷ [])) rest) in
+    ap (λ t. name ++ 40 ∷ t) (sym (append_assoc own (41 ∷ []) rest)) ∙ sym (append_assoc name (40 ∷ (own ++ 41 ∷ [])) rest) in
     subst (λ t. FoundPieces room inside mode (36 ∷ (name ++ 40 ∷ t))) (sym e)
     (found_onto room inside mode (36 ∷ (name ++ 40 ∷ (own ++ 41 ∷ rest))) (36 ∷ (name ++ 40 ∷ (own ++ 41 ∷ []))) rest (ap (λ t. 36 ∷ t) cut)
     (λ pieces ending are. (Element name own ∷ pieces, element name own is inner are)) (ih rest short))
@@ -83,28 +82,28 @@ paren_found room inside mode n name [] inner ih fits is h =
     found_onto room inside mode (36 ∷ (name ++ [])) (36 ∷ name) [] refl (λ pieces ending are. (Variable name ∷ pieces, variable name is h refl are)) (ih [] fits)
 paren_found room inside mode n name (b ∷ rest) inner ih fits is h = elim (decided (begins 40 (b ∷ rest))) [
   | inl e ↦ (
-    let same : b ≡ 40 = eqb-true b 40 e in
-    let some = inner index rest in
-    subst (λ c. FoundPieces room inside mode (36 ∷ (name ++ c ∷ rest))) (sym same) (index_found room inside mode n name rest ih (omega arith) is some.0 some.1 some.2))
+      let same : b ≡ 40 = eqb-true b 40 e in
+      let some = inner index rest in
+      subst (λ c. FoundPieces room inside mode (36 ∷ (name ++ c ∷ rest))) (sym same) (index_found room inside mode n name rest ih (omega arith) is some.0 some.1 some.2))
   | inr e ↦ found_onto room inside mode (36 ∷ (name ++ b ∷ rest)) (36 ∷ name) (b ∷ rest) refl (λ pieces ending are. (Variable name ∷ pieces, variable name is h e are)) (ih (b ∷ rest) fits)
 ]
 
 braced_found : (room : ℕ) (inside : Bool) (mode : Mode) (n : ℕ) (text : List ℕ) → Finds room inside mode n → length text ≤ n → FoundPieces room inside mode (36 ∷ 123 ∷ text)
 braced_found room inside mode n text ih fits = elim (name_end text) [
   | inl (name, rest, e, h) ↦ (
-    let short : length rest ≤ n = omega (arith, ap length e, length-append name (125 ∷ rest)) in
-    subst (λ t. FoundPieces room inside mode (36 ∷ 123 ∷ t)) (sym e)
-    (found_onto room inside mode (36 ∷ 123 ∷ (name ++ 125 ∷ rest)) (36 ∷ 123 ∷ (name ++ 125 ∷ [])) rest (ap (λ t. 36 ∷ 123 ∷ t) (sym (append_assoc name (125 ∷ []) rest)))
-    (λ pieces ending are. (Variable name ∷ pieces, braced_name name h are)) (ih rest short)))
+      let short : length rest ≤ n = omega (arith, ap length e, length-append name (125 ∷ rest)) in
+      subst (λ t. FoundPieces room inside mode (36 ∷ 123 ∷ t)) (sym e)
+      (found_onto room inside mode (36 ∷ 123 ∷ (name ++ 125 ∷ rest)) (36 ∷ 123 ∷ (name ++ 125 ∷ [])) rest (ap (λ t. 36 ∷ 123 ∷ t) (sym (append_assoc name (125 ∷ []) rest)))
+      (λ pieces ending are. (Variable name ∷ pieces, braced_name name h are)) (ih rest short)))
   | inr h ↦ faulty_found room inside mode (36 ∷ 123 ∷ text) MissingBrace (unclosed_name h)
 ]
 
 name_found : (room : ℕ) (inside : Bool) (mode : Mode) (n : ℕ) (text : List ℕ) → InnerCuts room → Finds room inside mode n → length text ≤ n → begins 123 text ≡ false → FoundPieces room inside mode (36 ∷ text)
 name_found room inside mode n text inner ih fits brace = elim (decided (begins_name text)) [
   | inl e ↦ (
-    let some = name_cut text e in
-    let short : length some.1 ≤ n = omega (arith, ap length some.2, length-append some.0 some.1) in
-    subst (λ t. FoundPieces room inside mode (36 ∷ t)) (sym some.2) (paren_found room inside mode n some.0 some.1 inner ih short some.3 some.4))
+      let some = name_cut text e in
+      let short : length some.1 ≤ n = omega (arith, ap length some.2, length-append some.0 some.1) in
+      subst (λ t. FoundPieces room inside mode (36 ∷ t)) (sym some.2) (paren_found room inside mode n some.0 some.1 inner ih short some.3 some.4))
   | inr e ↦ found_onto room inside mode (36 ∷ text) (36 ∷ []) text refl (λ pieces ending are. (with_bytes (36 ∷ []) pieces, dollar e brace are)) (ih text fits)
 ]
 

@@ -1,29 +1,27 @@
 -- The pieces of a body are read as the grammar says.
 use Rattle.std.specs.List.{slice_range}
-use Rattle.std.proofs.Common.{length-drop, take, ◌≡◌, ℕ, zero, suc, ◌+◌, ◌≤◌, Bool, true, false, List, [], ◌∷◌, ◌++◌, length, drop, refl, sym, ap, subst, ◌∙◌, append-nil, length-append, arith, Ok, Err}
+use Rattle.std.proofs.Common.{length-drop, take, ◌≡◌, ℕ, suc, ◌+◌, ◌≤◌, Bool, List, [], ◌∷◌, ◌++◌, length, drop, refl, ap, ◌∙◌, append-nil, length-append, arith, Ok, Err}
 use Rattle.tcl_text.specs.Backslash.{escape}
 use Rattle.tcl_text.proofs.BackslashLemmas.{escape_within}
-use Rattle.tcl_words.specs.Kinds.{kind_of, class_of, dollar_of}
-use Rattle.tcl_words.specs.Grammar.{ends_word}
+use Rattle.tcl_words.specs.Kinds.{dollar_of}
 use Rattle.tcl_words.specs.Changes.{Rest, Read, put, literal_before, piece_before, changed}
 use Rattle.tcl_words.specs.Changes.Change.{bytes as put_bytes}
-use Rattle.tcl_words.specs.Moves.{Move, move_of, on, at_dollar}
+use Rattle.tcl_words.specs.Moves.{on, at_dollar}
 use Rattle.tcl_words.specs.Reading.{Level, rest_of, past, within}
-use Rattle.tcl_words.specs.Grammar.{Ending, leaves, fails, Inner, script, index, stops, unended_fault, is_plain, with_bytes, IsName, HasNoBrace, ArePieces, IsInnerOf, begins_letter}
+use Rattle.tcl_words.specs.Grammar.{Ending, leaves, fails, script, index, with_bytes, ArePieces, IsInnerOf}
 use Rattle.tcl_words.specs.Grammar.ArePieces.{stop, unended, byte, backslash, dollar, variable, braced_name, unclosed_name, element, faulty_index, bracket, faulty_script}
 use Rattle.tcl_words.specs.declared.kind.Mode.{Mode}
-use Rattle.tcl_words.specs.declared.kind.Mode.TheVariants.{Bare, Quotes, Parens}
 use Rattle.tcl_words.specs.declared.kind.Place.{Place}
-use Rattle.tcl_words.specs.declared.kind.Place.TheVariants.{Text, PastQuotes}
+use Rattle.tcl_words.specs.declared.kind.Place.TheVariants.{Text}
 use Rattle.tcl_words.specs.declared.kind.Dollar.{Dollar as DollarForm}
 use Rattle.tcl_words.specs.declared.kind.Opener.{Opener}
 use Rattle.tcl_words.specs.declared.kind.Opener.TheVariants.{Bracket as BracketOpener, Index as IndexOpener}
-use Rattle.tcl_words.specs.declared.kind.Step.TheVariants.{On, Within, Ends}
+use Rattle.tcl_words.specs.declared.kind.Step.TheVariants.{Within}
 use Rattle.tcl_words.specs.declared.script.Piece.{Piece}
 use Rattle.tcl_words.specs.declared.script.Piece.TheVariants.{Literal, Variable, Element, Bracket}
 use Rattle.tcl_words.specs.declared.fault.ParseFault.{ParseFault}
 use Rattle.tcl_words.proofs.ClassLemmas.{plain_move, backslash_move, dollar_move, bracket_move}
-use Rattle.tcl_words.proofs.StepLemmas.{after_move, moved_by, read_at, put-put, put-none, skip_drop, skip_read, skip_past, skip_element}
+use Rattle.tcl_words.proofs.StepLemmas.{after_move, moved_by, put-none, skip_drop, skip_read, skip_past, skip_element}
 use Rattle.tcl_words.proofs.NameLemmas.{dollar-named, dollar-indexed, dollar-alone, dollar-braced, dollar-unclosed, take_front, slice_braced}
 use Rattle.tcl_words.proofs.StopLemmas.{stop_clear, unended_read}
 
@@ -59,13 +57,13 @@ opened opener mode room at behind go = past (Ok (Within opener mode)) room at be
 -- brackets and indices are read as the grammar says where so many may be opened
 pub record InnerReads (room : ℕ) : Type 0 where
   pub closed_script : (own text : List ℕ) → IsInnerOf room script (own ++ 93 ∷ text) (leaves (93 ∷ text)) → (mode : Mode) (at : ℕ) (go : ℕ → Place → Read) →
-    opened BracketOpener mode room at (own ++ 93 ∷ text) go ≡ put (piece_before (Bracket own)) (go (suc (length own)) (Text mode))
+      opened BracketOpener mode room at (own ++ 93 ∷ text) go ≡ put (piece_before (Bracket own)) (go (suc (length own)) (Text mode))
   pub script_fault : (text : List ℕ) (fault : ParseFault) → IsInnerOf room script text (fails fault) → (mode : Mode) (at : ℕ) (go : ℕ → Place → Read) →
-    opened BracketOpener mode room at text go ≡ Err fault
+      opened BracketOpener mode room at text go ≡ Err fault
   pub closed_index : (name own text : List ℕ) → IsInnerOf room index (own ++ 41 ∷ text) (leaves (41 ∷ text)) → (mode : Mode) (at : ℕ) (go : ℕ → Place → Read) →
-    opened (IndexOpener (length name)) mode room at (name ++ 40 ∷ (own ++ 41 ∷ text)) go ≡ put (piece_before (Element name own)) (go (suc (suc (length name) + length own)) (Text mode))
+      opened (IndexOpener (length name)) mode room at (name ++ 40 ∷ (own ++ 41 ∷ text)) go ≡ put (piece_before (Element name own)) (go (suc (suc (length name) + length own)) (Text mode))
   pub index_fault : (name text : List ℕ) (fault : ParseFault) → IsInnerOf room index text (fails fault) → (mode : Mode) (at : ℕ) (go : ℕ → Place → Read) →
-    opened (IndexOpener (length name)) mode room at (name ++ 40 ∷ text) go ≡ Err fault
+      opened (IndexOpener (length name)) mode room at (name ++ 40 ∷ text) go ≡ Err fault
 
 joined_first : (b : ℕ) (own : List ℕ) (after : List Piece) → NoLiteral after → Literal (b ∷ own) ∷ after ≡ with_bytes (b ∷ own) after
 joined_first b own [] h = refl

@@ -1,30 +1,28 @@
 -- Each text is a script or has a fault.
-use Rattle.std.proofs.Common.{◌≡◌, ◌≢◌, ℕ, zero, suc, ◌+◌, ◌<◌, ◌≤◌, ◌⊎◌, inl, inr, Bool, true, false, ◌==◌, List, [], ◌∷◌, ◌++◌, length, refl, sym, ap, subst, ◌∙◌, eqb-true, append_assoc, append-nil, length-append, arith}
-use Rattle.tcl_words.specs.Kinds.{class_of, begins_newline}
+use Rattle.std.proofs.Common.{◌≡◌, ℕ, zero, suc, ◌+◌, ◌≤◌, ◌⊎◌, inl, inr, Bool, true, false, List, [], ◌∷◌, ◌++◌, length, refl, sym, ap, subst, ◌∙◌, eqb-true, append_assoc, append-nil, length-append, arith}
+use Rattle.tcl_words.specs.Kinds.{class_of}
 use Rattle.tcl_words.specs.Grammar.{class_ends, ends_word}
 use Rattle.tcl_words.specs.Changes.{command_of}
-use Rattle.tcl_words.specs.Grammar.{Ending, leaves, fails, Inner, script, index, stops, begins, ArePieces, IsInnerOf, IsWord, IsFaultyWord, IsSeparator, AreBlanks, IsNote, IsLastNote, IsGap, IsEnd, IsEnding, IsLast, AreFurther, IsRest, IsScript, end_of_text}
+use Rattle.tcl_words.specs.Grammar.{Ending, leaves, fails, script, index, stops, begins, ArePieces, IsInnerOf, IsWord, IsSeparator, AreBlanks, IsNote, IsLastNote, IsGap, IsEnding, IsLast, AreFurther, IsRest, IsScript, end_of_text}
 use Rattle.tcl_words.specs.Grammar.AreBlanks.{none as no_blanks, blank as one_blank, continuation as continued_blanks}
 use Rattle.tcl_words.specs.Grammar.IsNote.{none as no_note, byte as note_byte, pair as note_pair}
 use Rattle.tcl_words.specs.Grammar.IsGap.{none as no_gap, blank, continuation, separator, comment as gap_comment}
 use Rattle.tcl_words.specs.Grammar.IsEnd.{closes, stands}
 use Rattle.tcl_words.specs.Grammar.IsEnding.{ends as ends_command, faulty as faulty_word}
 use Rattle.tcl_words.specs.Grammar.IsLast.{ends, comment, faulty}
-use Rattle.tcl_words.specs.declared.kind.Mode.{Mode}
-use Rattle.tcl_words.specs.declared.kind.Mode.TheVariants.{Bare, Quotes, Parens}
+use Rattle.tcl_words.specs.declared.kind.Mode.TheVariants.{Parens}
 use Rattle.tcl_words.specs.declared.kind.Kind.{Kind}
 use Rattle.tcl_words.specs.declared.kind.Kind.TheVariants.{Blank, Newline, Semicolon, Hash, Dollar, Quote, OpenBracket, CloseBracket, OpenBrace, Expansion, CloseBrace, CloseParen, Backslash, Continuation, Other}
 use Rattle.tcl_words.specs.declared.script.Piece.{Piece}
 use Rattle.tcl_words.specs.declared.script.Word.{Word}
 use Rattle.tcl_words.specs.declared.script.Command.{Command}
-use Rattle.tcl_words.specs.declared.fault.ParseFault.{ParseFault}
 use Rattle.tcl_words.specs.declared.fault.ParseFault.TheVariants.{TooLong}
 use Rattle.std.proofs.Common.{nat_eq}
 use Rattle.tcl_words.proofs.ClassLemmas.{byte_is}
 use Rattle.tcl_words.proofs.WordsRead.{both}
 use Rattle.tcl_words.proofs.BracesCut.{decided, same_or_other}
-use Rattle.tcl_words.proofs.PiecesCut.{InnerCuts, IsInnerCut, IsPiecesCut, FoundPieces, pieces_found}
-use Rattle.tcl_words.proofs.WordsCut.{FoundWord, WordCut, word_cut}
+use Rattle.tcl_words.proofs.PiecesCut.{InnerCuts, IsInnerCut, IsPiecesCut, pieces_found}
+use Rattle.tcl_words.proofs.WordsCut.{FoundWord, word_cut}
 
 -- what is left behind a script
 abbrev pub IsBehind : Bool → List ℕ → Type 0

@@ -1,18 +1,16 @@
 -- Scripts are read as the grammar says.
-use Rattle.std.proofs.Common.{◌≡◌, ℕ, zero, suc, ◌+◌, ◌⊎◌, inl, inr, Bool, true, false, List, [], ◌∷◌, ◌++◌, length, take, refl, sym, ap, subst, ◌∙◌, append_assoc, append-nil, length-append, arith, Ok, Err}
+use Rattle.std.proofs.Common.{◌≡◌, ℕ, zero, suc, ◌+◌, inl, inr, Bool, true, false, List, [], ◌∷◌, ◌++◌, length, take, refl, sym, ap, subst, ◌∙◌, length-append, arith, Ok, Err}
 use Rattle.std.specs.List.{slice_range}
 use Rattle.tcl_words.specs.Kinds.{class_of}
-use Rattle.tcl_words.specs.Grammar.{ends_word}
 use Rattle.tcl_words.specs.Changes.{Rest, Read, put, piece_before, changed, last_rest, command_of}
 use Rattle.tcl_words.specs.Changes.Change.{command_begins, command_ends}
-use Rattle.tcl_words.specs.Moves.{on}
-use Rattle.tcl_words.specs.Reading.{Level, rest_of, past, past_opened, within, end_of, opened_piece}
-use Rattle.tcl_words.specs.Grammar.{Ending, leaves, fails, Inner, script, index, ArePieces, IsInnerOf, begins, IsWord, IsFaultyWord, IsSeparator, AreBlanks, IsLastNote, IsGap, IsEnd, IsEnding, IsLast, AreFurther, IsRest, IsScript, end_of_text}
+use Rattle.tcl_words.specs.Reading.{Level, rest_of, past_opened, within, end_of}
+use Rattle.tcl_words.specs.Grammar.{Ending, leaves, fails, script, index, IsInnerOf, IsSeparator, IsEnd, IsEnding, IsLast, AreFurther, IsRest, IsScript, end_of_text}
 use Rattle.tcl_words.specs.Grammar.IsEnd.{closes, stands}
 use Rattle.tcl_words.specs.Grammar.IsEnding.{ends as ends_command, faulty as faulty_word}
 use Rattle.tcl_words.specs.Grammar.IsLast.{ends, comment, faulty}
 use Rattle.tcl_words.specs.declared.kind.Mode.{Mode}
-use Rattle.tcl_words.specs.declared.kind.Mode.TheVariants.{Bare, Quotes, Parens}
+use Rattle.tcl_words.specs.declared.kind.Mode.TheVariants.{Parens}
 use Rattle.tcl_words.specs.declared.kind.Place.{Place}
 use Rattle.tcl_words.specs.declared.kind.Place.TheVariants.{Text, Start, Between}
 use Rattle.tcl_words.specs.declared.kind.Opener.TheVariants.{Bracket as BracketOpener, Index as IndexOpener}
@@ -21,10 +19,10 @@ use Rattle.tcl_words.specs.declared.script.Word.{Word}
 use Rattle.tcl_words.specs.declared.script.Command.{Command}
 use Rattle.tcl_words.specs.declared.fault.ParseFault.{ParseFault}
 use Rattle.tcl_words.specs.declared.fault.ParseFault.TheVariants.{TooLong, MissingBracket}
-use Rattle.tcl_words.proofs.StepLemmas.{after_move, moved_by, read_at, put-put, put-none, skip_past}
+use Rattle.tcl_words.proofs.StepLemmas.{read_at, skip_past}
 use Rattle.tcl_words.proofs.StopLemmas.{paren_read}
 use Rattle.tcl_words.proofs.NameLemmas.{take_front, slice_index_text}
-use Rattle.tcl_words.proofs.PiecesRead.{GivesText, GivesPieces, InnerReads, opened, pieces_read}
+use Rattle.tcl_words.proofs.PiecesRead.{GivesText, InnerReads, opened, pieces_read}
 use Rattle.tcl_words.proofs.WordsRead.{word_front, word_read, faulty_word_read, word_open, faulty_word_open}
 use Rattle.tcl_words.proofs.GapsRead.{IsOpen, at_start, at_between, blanks_read, gap_read, hash_read, last_note_read, start_read, bracket_read}
 

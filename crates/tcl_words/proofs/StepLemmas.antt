@@ -1,11 +1,10 @@
 -- What is read past a byte, and past bytes that were taken before.
-use Rattle.std.proofs.Common.{length-append, append_assoc, ◌≡◌, ℕ, zero, suc, ◌+◌, ◌≤◌, Bool, true, false, List, [], ◌∷◌, ◌++◌, length, drop, refl, sym, ap, ◌∙◌, arith, Ok, Err}
+use Rattle.std.proofs.Common.{length-append, append_assoc, ◌≡◌, ℕ, zero, suc, ◌+◌, ◌≤◌, List, [], ◌∷◌, ◌++◌, length, drop, refl, sym, ap, ◌∙◌, arith, Ok, Err}
 use Rattle.tcl_words.specs.Kinds.{kind_of}
-use Rattle.tcl_words.specs.Changes.{Rest, Read, put, Change, changed, literal_before}
-use Rattle.tcl_words.specs.Moves.{Move, move_of, on}
+use Rattle.tcl_words.specs.Changes.{Rest, Read, put, changed}
+use Rattle.tcl_words.specs.Moves.{Move, move_of}
 use Rattle.tcl_words.specs.Reading.{Level, rest_of, past, within}
 use Rattle.tcl_words.specs.declared.kind.Place.{Place}
-use Rattle.tcl_words.specs.declared.script.Piece.{Piece}
 
 -- what a text gives past a byte with this move
 abbrev pub after_move : Move → Level → ℕ → List ℕ → Read

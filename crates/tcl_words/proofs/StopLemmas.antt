@@ -1,11 +1,11 @@
 -- What is read where a word or another body ends.
-use Rattle.std.proofs.Common.{◌≡◌, ℕ, Bool, true, false, ◌==◌, List, [], ◌∷◌, length, refl, sym, ap, subst, ◌∙◌, eqb-true, ◌+◌, Ok, Err}
-use Rattle.tcl_words.specs.Kinds.{kind_of, class_of, class_means, begins_newline}
+use Rattle.std.proofs.Common.{◌≡◌, ℕ, Bool, true, false, List, [], ◌∷◌, refl, sym, ap, ◌∙◌, eqb-true, ◌+◌, Ok, Err}
+use Rattle.tcl_words.specs.Kinds.{kind_of, class_of, class_means}
 use Rattle.tcl_words.specs.Grammar.{class_ends, ends_word}
 use Rattle.tcl_words.specs.Changes.{Rest, Read, put, changed, last_rest}
 use Rattle.tcl_text.specs.Backslash.{escape}
 use Rattle.tcl_words.specs.Changes.Change.{word_ends, text_ends, command_ends}
-use Rattle.tcl_words.specs.Moves.{Move, move_of, on, fails, word_over, in_between, in_text}
+use Rattle.tcl_words.specs.Moves.{Move, fails, word_over, in_between, in_text}
 use Rattle.tcl_words.specs.declared.kind.Mode.{Mode}
 use Rattle.tcl_words.specs.declared.kind.Mode.TheVariants.{Bare, Quotes, Parens}
 use Rattle.tcl_words.specs.declared.fault.ParseFault.{ParseFault}
@@ -16,9 +16,8 @@ use Rattle.tcl_words.specs.declared.kind.Kind.{Kind}
 use Rattle.tcl_words.specs.declared.kind.Kind.TheVariants.{Blank, Newline, Semicolon, Hash, Dollar, Quote, OpenBracket, CloseBracket, OpenBrace, Expansion, CloseBrace, CloseParen, Backslash, Continuation, Other}
 use Rattle.tcl_words.specs.declared.kind.Place.{Place}
 use Rattle.tcl_words.specs.declared.kind.Place.TheVariants.{Text, Start, Between, PastQuotes, PastBraces}
-use Rattle.tcl_words.specs.declared.script.Piece.{Piece}
 use Rattle.tcl_words.proofs.ClassLemmas.{}
-use Rattle.tcl_words.proofs.StepLemmas.{after_move, moved_by, put-put, put-none}
+use Rattle.tcl_words.proofs.StepLemmas.{after_move, put-put, put-none}
 
 -- where words end
 pub data EndsWords : Place → Type 0 where

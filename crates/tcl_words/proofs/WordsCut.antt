@@ -1,14 +1,12 @@
 -- Each text at which a word could begin has a word at its front, or a fault.
-use Rattle.std.proofs.Common.{◌≡◌, ◌≢◌, ℕ, zero, suc, ◌+◌, ◌-◌, ◌<◌, ◌≤◌, ◌⊎◌, inl, inr, Bool, true, false, not, ◌==◌, ◌&&◌, List, [], ◌∷◌, ◌++◌, length, drop, nat_eq, refl, sym, ap, subst, ◌∙◌, eqb-true, append_assoc, append-nil, length-append, arith}
-use Rattle.std.specs.List.{starts_with}
+use Rattle.std.proofs.Common.{◌≡◌, ℕ, ◌+◌, ◌<◌, ◌⊎◌, inl, inr, Bool, true, false, not, ◌==◌, ◌&&◌, List, [], ◌∷◌, ◌++◌, length, drop, nat_eq, refl, sym, ap, subst, ◌∙◌, eqb-true, append_assoc, length-append, arith}
 use Rattle.tcl_words.specs.Kinds.{begins_expansion}
 use Rattle.tcl_words.specs.Grammar.{ends_word}
 use Rattle.tcl_words.specs.Changes.{word_of}
 use Rattle.tcl_words.specs.Grammar.{ArePieces, Ending, leaves, fails, begins, begins_bare, begins_mark, IsInnerOf, IsOwnWord, IsFaultyOwn, IsMark, IsWord, IsFaultyWord}
 use Rattle.tcl_words.specs.Grammar.IsOwnWord.{bare_word, quoted_word, braced_word}
 use Rattle.tcl_words.specs.Grammar.IsFaultyOwn.{faulty_bare, faulty_quoted, followed_quoted, unclosed_braced, followed_braced}
-use Rattle.tcl_words.specs.declared.kind.Mode.{Mode}
-use Rattle.tcl_words.specs.declared.kind.Mode.TheVariants.{Bare, Quotes, Parens}
+use Rattle.tcl_words.specs.declared.kind.Mode.TheVariants.{Bare, Quotes}
 use Rattle.tcl_words.specs.declared.script.WordForm.{WordForm}
 use Rattle.tcl_words.specs.declared.script.WordForm.TheVariants.{Bare as BareForm, Quoted as QuotedForm, Braced as BracedForm}
 use Rattle.tcl_words.specs.declared.script.Piece.{Piece}
@@ -18,7 +16,7 @@ use Rattle.tcl_words.specs.declared.fault.ParseFault.{ParseFault}
 use Rattle.tcl_words.specs.declared.fault.ParseFault.TheVariants.{MissingBrace, ExtraAfterBrace, ExtraAfterQuote}
 use Rattle.tcl_words.proofs.WordsRead.{both}
 use Rattle.tcl_words.proofs.BracesCut.{decided, braces_cut}
-use Rattle.tcl_words.proofs.PiecesCut.{InnerCuts, IsPiecesCut, FoundPieces, pieces_found}
+use Rattle.tcl_words.proofs.PiecesCut.{InnerCuts, IsPiecesCut, pieces_found}
 
 -- a word's own text at the front, or its fault
 pub record FoundOwn (room : ℕ) (inside : Bool) (text : List ℕ) : Type 0 where
@@ -56,7 +54,7 @@ quote_cut room inside text own (b ∷ rest) pieces are e h =
     let same : b ≡ 34 = eqb-true b 34 h in
     let cut : text ≡ own ++ 34 ∷ rest = e ∙ ap (λ c. own ++ c ∷ rest) same in
     let is : ArePieces (IsInnerOf room) inside Quotes (own ++ 34 ∷ rest) pieces (leaves (34 ∷ rest)) =
-        subst (λ t. ArePieces (IsInnerOf room) inside Quotes t pieces (leaves (34 ∷ rest))) cut (subst (λ c. ArePieces (IsInnerOf room) inside Quotes text pieces (leaves (c ∷ rest))) same are) in
+    subst (λ t. ArePieces (IsInnerOf room) inside Quotes t pieces (leaves (34 ∷ rest))) cut (subst (λ c. ArePieces (IsInnerOf room) inside Quotes text pieces (leaves (c ∷ rest))) same are) in
     elim (decided (ends_word inside rest)) [
       | inl ends ↦ inl (record {
         own = 34 ∷ (own ++ 34 ∷ []);
@@ -180,7 +178,7 @@ mark_found inside (b ∷ text) h =
 pub word_cut : (room : ℕ) (inside : Bool) (at : ℕ) (text : List ℕ) → InnerCuts room → ends_word inside text ≡ false → WordCut room inside at text
 word_cut room inside at text inner h = elim (decided (begins_mark inside text)) [
   | inl e ↦ (
-    let some = mark_found inside text e in
-    marked_cut room inside true at (123 ∷ 42 ∷ 125 ∷ []) some.0 text some.1 h (λ t f. (refl, ap (ends_word inside) f ∙ some.2)) (own_cut room inside some.0 inner some.2))
+      let some = mark_found inside text e in
+      marked_cut room inside true at (123 ∷ 42 ∷ 125 ∷ []) some.0 text some.1 h (λ t f. (refl, ap (ends_word inside) f ∙ some.2)) (own_cut room inside some.0 inner some.2))
   | inr e ↦ marked_cut room inside false at [] text text refl h (λ t f. (refl, ap (begins_mark inside) f ∙ e)) (own_cut room inside text inner h)
 ]

@@ -1,20 +1,18 @@
 -- Words are read as the grammar says.
-use Rattle.std.proofs.Common.{inl, inr, eqb-true, ◌≡◌, ◌≢◌, ℕ, zero, suc, ◌+◌, ◌-◌, Bool, true, false, if◌then◌else◌, not, ◌==◌, ◌&&◌, List, [], ◌∷◌, ◌++◌, length, drop, nat_eq, refl, sym, ap, subst, ◌∙◌, append-nil, append_assoc, length-append, arith, Ok, Err}
-use Rattle.std.specs.List.{starts_with}
+use Rattle.std.proofs.Common.{eqb-true, ◌≡◌, ◌≢◌, ℕ, ◌+◌, ◌-◌, Bool, true, false, if◌then◌else◌, not, ◌==◌, ◌&&◌, List, [], ◌∷◌, ◌++◌, length, nat_eq, refl, sym, ap, subst, ◌∙◌, append-nil, append_assoc, length-append, arith, Ok, Err}
 use Rattle.std.proofs.lemmas.Bool.Decides.{nat_tests}
-use Rattle.tcl_words.specs.Kinds.{kind_of, class_of, class_means, begins_expansion, begins_newline}
+use Rattle.tcl_words.specs.Kinds.{kind_of, class_of, class_means, begins_expansion}
 use Rattle.tcl_words.specs.Grammar.{class_ends, ends_word}
 use Rattle.tcl_text.specs.Backslash.{escape}
 use Rattle.tcl_words.specs.Changes.{Rest, Read, put, changed, word_of, pieces_of}
-use Rattle.tcl_words.specs.Changes.Change.{bytes as put_bytes, text_ends, word_ends, word_begins, command_begins, command_ends}
-use Rattle.tcl_words.specs.Moves.{Move, move_of, on, lone, in_expanded, in_between, in_start, in_bare, before, word_over}
+use Rattle.tcl_words.specs.Changes.Change.{bytes as put_bytes, text_ends, word_ends, word_begins, command_ends}
+use Rattle.tcl_words.specs.Moves.{Move, move_of, on, lone, in_expanded, in_between, before, word_over}
 use Rattle.tcl_words.specs.Moves.{fails as fails_with}
 use Rattle.tcl_words.specs.Reading.{Level, rest_of, past, within, end_of}
-use Rattle.tcl_words.specs.Grammar.{Ending, leaves, fails, Inner, ArePieces, IsInnerOf, begins, begins_bare, begins_mark, IsBraced, IsUnclosed, IsOwnWord, IsFaultyOwn, IsMark, IsWord, IsFaultyWord}
+use Rattle.tcl_words.specs.Grammar.{Ending, fails, Inner, IsInnerOf, begins_bare, begins_mark, IsBraced, IsUnclosed, IsOwnWord, IsFaultyOwn, IsMark, IsWord, IsFaultyWord}
 use Rattle.tcl_words.specs.Grammar.IsOwnWord.{bare_word, quoted_word, braced_word}
 use Rattle.tcl_words.specs.Grammar.IsFaultyOwn.{faulty_bare, faulty_quoted, followed_quoted, unclosed_braced, followed_braced}
-use Rattle.tcl_words.specs.declared.kind.Mode.{Mode}
-use Rattle.tcl_words.specs.declared.kind.Mode.TheVariants.{Bare, Quotes, Parens}
+use Rattle.tcl_words.specs.declared.kind.Mode.TheVariants.{Bare, Quotes}
 use Rattle.tcl_words.specs.declared.kind.Kind.{Kind}
 use Rattle.tcl_words.specs.declared.kind.Kind.TheVariants.{Blank, Newline, Semicolon, Hash, Dollar, Quote, OpenBracket, CloseBracket, OpenBrace, Expansion, CloseBrace, CloseParen, Backslash, Continuation, Other}
 use Rattle.tcl_words.specs.declared.kind.Place.{Place}
@@ -25,7 +23,7 @@ use Rattle.tcl_words.specs.declared.script.Piece.{Piece}
 use Rattle.tcl_words.specs.declared.script.Piece.TheVariants.{Literal}
 use Rattle.tcl_words.specs.declared.script.Word.{Word}
 use Rattle.tcl_words.specs.declared.fault.ParseFault.{ParseFault}
-use Rattle.tcl_words.specs.declared.fault.ParseFault.TheVariants.{MissingBrace, MissingBracket, ExtraAfterBrace, ExtraAfterQuote}
+use Rattle.tcl_words.specs.declared.fault.ParseFault.TheVariants.{MissingBracket, ExtraAfterBrace, ExtraAfterQuote}
 use Rattle.tcl_words.proofs.ClassLemmas.{byte_is, expansion_or, other_class}
 use Rattle.tcl_words.proofs.StepLemmas.{after_move, moved_by, read_at, put-put, put-none}
 use Rattle.tcl_words.proofs.StopLemmas.{word_stops, quote_read}

@@ -10,7 +10,7 @@ use Rattle.tcl_words.specs.Changes.{command_of, word_of}
 use Rattle.tcl_words.specs.declared.kind.Mode.{Mode}
 use Rattle.tcl_words.specs.declared.kind.Mode.TheVariants.{Bare, Quotes, Parens}
 use Rattle.tcl_words.specs.declared.kind.Kind.{Kind}
-use Rattle.tcl_words.specs.declared.kind.Kind.TheVariants.{Blank, Newline, Semicolon, Hash, Dollar, Quote, OpenBracket, CloseBracket, OpenBrace, Expansion, CloseBrace, CloseParen, Backslash, Continuation, Other}
+use Rattle.tcl_words.specs.declared.kind.Kind.TheVariants.{Blank, Newline, Semicolon, Dollar, OpenBracket, CloseBracket, Backslash, Continuation}
 use Rattle.tcl_words.specs.declared.script.WordForm.{WordForm}
 use Rattle.tcl_words.specs.declared.script.WordForm.TheVariants.{Bare as BareForm, Quoted as QuotedForm, Braced as BracedForm}
 use Rattle.tcl_words.specs.declared.script.Span.{Span}
@@ -120,23 +120,23 @@ pub data ArePieces (IsInner : Inner → List ℕ → Ending → Type 0) (inside 
   stop : {text : List ℕ} → stops inside mode text ≡ true → ArePieces IsInner inside mode text [] (leaves text)
   unended : stops inside mode [] ≡ false → ArePieces IsInner inside mode [] [] (fails (unended_fault mode))
   byte : {b : ℕ} {text : List ℕ} {pieces : List Piece} {ending : Ending} → stops inside mode (b ∷ text) ≡ false → is_plain (class_of b) ≡ true →
-    ArePieces IsInner inside mode text pieces ending → ArePieces IsInner inside mode (b ∷ text) (with_bytes (b ∷ []) pieces) ending
+      ArePieces IsInner inside mode text pieces ending → ArePieces IsInner inside mode (b ∷ text) (with_bytes (b ∷ []) pieces) ending
   backslash : {text : List ℕ} {pieces : List Piece} {ending : Ending} → stops inside mode (92 ∷ text) ≡ false →
-    ArePieces IsInner inside mode (drop (escape text).length text) pieces ending → ArePieces IsInner inside mode (92 ∷ text) (with_bytes (escape text).meaning pieces) ending
+      ArePieces IsInner inside mode (drop (escape text).length text) pieces ending → ArePieces IsInner inside mode (92 ∷ text) (with_bytes (escape text).meaning pieces) ending
   -- a `$` that stands for itself
   dollar : {text : List ℕ} {pieces : List Piece} {ending : Ending} → begins_name text ≡ false → begins 123 text ≡ false →
-    ArePieces IsInner inside mode text pieces ending → ArePieces IsInner inside mode (36 ∷ text) (with_bytes (36 ∷ []) pieces) ending
+      ArePieces IsInner inside mode text pieces ending → ArePieces IsInner inside mode (36 ∷ text) (with_bytes (36 ∷ []) pieces) ending
   variable : (name : List ℕ) {text : List ℕ} {pieces : List Piece} {ending : Ending} → IsName name → begins_letter text ≡ false → begins 40 text ≡ false →
-    ArePieces IsInner inside mode text pieces ending → ArePieces IsInner inside mode (36 ∷ (name ++ text)) (Variable name ∷ pieces) ending
+      ArePieces IsInner inside mode text pieces ending → ArePieces IsInner inside mode (36 ∷ (name ++ text)) (Variable name ∷ pieces) ending
   braced_name : (name : List ℕ) {text : List ℕ} {pieces : List Piece} {ending : Ending} → HasNoBrace name →
-    ArePieces IsInner inside mode text pieces ending → ArePieces IsInner inside mode (36 ∷ 123 ∷ (name ++ 125 ∷ text)) (Variable name ∷ pieces) ending
+      ArePieces IsInner inside mode text pieces ending → ArePieces IsInner inside mode (36 ∷ 123 ∷ (name ++ 125 ∷ text)) (Variable name ∷ pieces) ending
   unclosed_name : {text : List ℕ} → HasNoBrace text → ArePieces IsInner inside mode (36 ∷ 123 ∷ text) [] (fails MissingBrace)
   element : (name own : List ℕ) {text : List ℕ} {pieces : List Piece} {ending : Ending} → IsName name → IsInner index (own ++ 41 ∷ text) (leaves (41 ∷ text)) →
-    ArePieces IsInner inside mode text pieces ending → ArePieces IsInner inside mode (36 ∷ (name ++ 40 ∷ (own ++ 41 ∷ text))) (Element name own ∷ pieces) ending
+      ArePieces IsInner inside mode text pieces ending → ArePieces IsInner inside mode (36 ∷ (name ++ 40 ∷ (own ++ 41 ∷ text))) (Element name own ∷ pieces) ending
   faulty_index : (name : List ℕ) {text : List ℕ} {fault : ParseFault} → IsName name → IsInner index text (fails fault) →
-    ArePieces IsInner inside mode (36 ∷ (name ++ 40 ∷ text)) [] (fails fault)
+      ArePieces IsInner inside mode (36 ∷ (name ++ 40 ∷ text)) [] (fails fault)
   bracket : (own : List ℕ) {text : List ℕ} {pieces : List Piece} {ending : Ending} → IsInner script (own ++ 93 ∷ text) (leaves (93 ∷ text)) →
-    ArePieces IsInner inside mode text pieces ending → ArePieces IsInner inside mode (91 ∷ (own ++ 93 ∷ text)) (Bracket own ∷ pieces) ending
+      ArePieces IsInner inside mode text pieces ending → ArePieces IsInner inside mode (91 ∷ (own ++ 93 ∷ text)) (Bracket own ∷ pieces) ending
   faulty_script : {text : List ℕ} {fault : ParseFault} → IsInner script text (fails fault) → ArePieces IsInner inside mode (91 ∷ text) [] (fails fault)
 
 -- a blank or a tab
@@ -170,19 +170,19 @@ begins_bare inside text = not (ends_word inside text) && (not (begins 123 text) 
 -- A word's own text, without a `{*}`, where `rest` follows it.
 pub data IsOwnWord (IsInner : Inner → List ℕ → Ending → Type 0) (inside : Bool) (rest : List ℕ) : List ℕ → WordForm → List Piece → Type 0 where
   bare_word : {own : List ℕ} {pieces : List Piece} → begins_bare inside (own ++ rest) ≡ true → ArePieces IsInner inside Bare (own ++ rest) pieces (leaves rest) →
-    IsOwnWord IsInner inside rest own BareForm pieces
+      IsOwnWord IsInner inside rest own BareForm pieces
   quoted_word : (own : List ℕ) {pieces : List Piece} → ArePieces IsInner inside Quotes (own ++ 34 ∷ rest) pieces (leaves (34 ∷ rest)) →
-    IsOwnWord IsInner inside rest (34 ∷ (own ++ 34 ∷ [])) QuotedForm pieces
+      IsOwnWord IsInner inside rest (34 ∷ (own ++ 34 ∷ [])) QuotedForm pieces
   braced_word : (own : List ℕ) {value : List ℕ} → IsBraced own value → IsOwnWord IsInner inside rest (123 ∷ (own ++ 125 ∷ [])) BracedForm (Literal value ∷ [])
 
 -- The fault of a text at whose front a word would stand.
 pub data IsFaultyOwn (IsInner : Inner → List ℕ → Ending → Type 0) (inside : Bool) : List ℕ → ParseFault → Type 0 where
   faulty_bare : {text : List ℕ} {pieces : List Piece} {fault : ParseFault} → begins_bare inside text ≡ true → ArePieces IsInner inside Bare text pieces (fails fault) →
-    IsFaultyOwn IsInner inside text fault
+      IsFaultyOwn IsInner inside text fault
   faulty_quoted : {text : List ℕ} {pieces : List Piece} {fault : ParseFault} → ArePieces IsInner inside Quotes text pieces (fails fault) →
-    IsFaultyOwn IsInner inside (34 ∷ text) fault
+      IsFaultyOwn IsInner inside (34 ∷ text) fault
   followed_quoted : (own rest : List ℕ) {pieces : List Piece} → ArePieces IsInner inside Quotes (own ++ 34 ∷ rest) pieces (leaves (34 ∷ rest)) → ends_word inside rest ≡ false →
-    IsFaultyOwn IsInner inside (34 ∷ (own ++ 34 ∷ rest)) ExtraAfterQuote
+      IsFaultyOwn IsInner inside (34 ∷ (own ++ 34 ∷ rest)) ExtraAfterQuote
   unclosed_braced : {text : List ℕ} → IsUnclosed text → IsFaultyOwn IsInner inside (123 ∷ text) MissingBrace
   followed_braced : (own rest : List ℕ) {value : List ℕ} → IsBraced own value → ends_word inside rest ≡ false → IsFaultyOwn IsInner inside (123 ∷ (own ++ 125 ∷ rest)) ExtraAfterBrace
 

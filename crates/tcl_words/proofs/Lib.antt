@@ -14,6 +14,8 @@ pub mod PiecesCut
 pub mod WordsCut
 pub mod ScriptsCut
 pub mod Grammars
+mod GrammarExamples
+pub mod Indices
 pub mod Slices
 pub mod Ends
 pub mod Escapes

@@ -305,6 +305,13 @@ pub record IsScriptOf (text : List ℕ) (commands : List Command) : Type 0 where
 abbrev pub IsFaultOf : List ℕ → ParseFault → Type 0
 IsFaultOf text fault = ((fault ≡ TooLong) × (¬ IsText text)) ⊎ (IsText text × (commands : List Command) × IsScript (IsInnerOf 200) false 0 text commands (fails fault))
 
+-- The text, read by itself, is an index of these pieces, or has this fault.
+abbrev pub IsIndexOf : List ℕ → List Piece → Type 0
+IsIndexOf text pieces = ArePieces (IsInnerOf 200) false Parens text pieces (leaves [])
+
+abbrev pub IsIndexFaultOf : List ℕ → ParseFault → Type 0
+IsIndexFaultOf text fault = (pieces : List Piece) × ArePieces (IsInnerOf 200) false Parens text pieces (fails fault)
+
 -- the span is where this part stands in the text
 abbrev pub IsSlice : List ℕ → Span → List ℕ → Type 0
 IsSlice text span own = (before : List ℕ) × (after : List ℕ) × (text ≡ before ++ (own ++ after)) × (span ≡ record { start = length before; end = length before + length own })

@@ -11,5 +11,7 @@ mod read;
 mod script;
 
 pub use fault::ParseFault;
-pub use laws::{commands_are_read, faults_are_told, one_script_or_fault, spans_are_slices};
+pub use laws::{
+    commands_are_read, faults_are_told, indices_are_read, one_script_or_fault, spans_are_slices,
+};
 pub use script::{Command, Index, Piece, Pieces, Script, Span, Word, WordForm, Words};

@@ -1,4 +1,6 @@
 -- Lemmas.
+pub mod Alone
+pub mod Cuts
 pub mod Ends
 pub mod Escapes
 pub mod Joins

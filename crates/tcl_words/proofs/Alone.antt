@@ -33,7 +33,7 @@ pub record Closed (text : List ℕ) (room skip : ℕ) (place : Place) (at : ℕ)
   -- so it is where the text ends before the bracket or the parenthesis
   pub alone : (more : ℕ) → room ≤ more → rest_of inner (record { inside = false; room = more }) skip place at ≡ Ok rest
 
-put_ok : (f : Rest → Rest) (r : Read) (rest : Rest) → put f r ≡ Ok rest → (found : Rest) × ((r ≡ Ok found) × (f found ≡ rest))
+pub put_ok : (f : Rest → Rest) (r : Read) (rest : Rest) → put f r ≡ Ok rest → (found : Rest) × ((r ≡ Ok found) × (f found ≡ rest))
 put_ok f (Ok found) rest e = (found, (refl, (let h : Ok (f found) ≡ Ok rest = e in cc)))
 put_ok f (Err fault) rest e = absurd (let h : Err fault ≡ Ok rest = e in cc)
 
@@ -78,12 +78,12 @@ no_end PastQuotes at rest e = let h : at_end true PastQuotes at ≡ Ok rest = e 
 no_end (InBraces depth) at rest e = let h : at_end true (InBraces depth) at ≡ Ok rest = e in cc
 no_end PastBraces at rest e = let h : at_end true PastBraces at ≡ Ok rest = e in cc
 
-past_ok : (opener : Opener) (mode : Mode) (behind : List ℕ) (go : ℕ → Place → Read) (x : Read) (rest : Rest) → past_opened opener mode behind go x ≡ Ok rest →
+pub past_ok : (opener : Opener) (mode : Mode) (behind : List ℕ) (go : ℕ → Place → Read) (x : Read) (rest : Rest) → past_opened opener mode behind go x ≡ Ok rest →
     (found : Rest) × ((x ≡ Ok found) × (put (piece_before (opened_piece opener behind found.close)) (go (suc found.close) (Text mode)) ≡ Ok rest))
 past_ok opener mode behind go (Ok found) rest e = (found, (refl, e))
 past_ok opener mode behind go (Err fault) rest e = absurd (let h : past_opened opener mode behind go (Err fault) ≡ Ok rest = e in cc)
 
-room_left : (room at : ℕ) (opener : Opener) (mode : Mode) (behind : List ℕ) (go : ℕ → Place → Read) (inner : ℕ → ℕ → Place → Read) (rest : Rest) → past (Ok (Within opener mode)) room at behind go inner ≡ Ok rest →
+pub room_left : (room at : ℕ) (opener : Opener) (mode : Mode) (behind : List ℕ) (go : ℕ → Place → Read) (inner : ℕ → ℕ → Place → Read) (rest : Rest) → past (Ok (Within opener mode)) room at behind go inner ≡ Ok rest →
     (0 < room) × (past_opened opener mode behind go (inner (room - 1) (first_skip opener) (first_place opener)) ≡ Ok rest)
 room_left zero at opener mode behind go inner rest e = absurd (let h : past (Ok (Within opener mode)) zero at behind go inner ≡ Ok rest = e in cc)
 room_left (suc room) at opener mode behind go inner rest e = let h : room ≡ suc room - 1 = omega arith in (omega arith, ap (λ n. past_opened opener mode behind go (inner n (first_skip opener) (first_place opener))) (sym h) ∙ e)

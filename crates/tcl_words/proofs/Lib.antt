@@ -17,11 +17,15 @@ pub mod Grammars
 mod GrammarExamples
 pub mod Indices
 pub mod Slices
+pub mod Alone
+pub mod Cuts
 pub mod Ends
 pub mod Escapes
+pub mod Inners
 pub mod Joins
 pub mod KindLemmas
 pub mod Nests
+pub mod Rooms
 pub mod Fronts
 mod ReadingExamples
 pub mod Steps

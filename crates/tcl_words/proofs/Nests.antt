@@ -23,21 +23,21 @@ use Rattle.tcl_words.specs.declared.fault.ParseFault.TheVariants.{TooLong}
 
 -- ── what waits ──
 
-pub chain_push : (s : List ℕ) (first origin : Origin) (ws : List Waiting) (w : Waiting) → IsChain s first ws origin → w.origin ≡ origin → IsWaiting s w → IsChain s first (ws ++ w ∷ []) (opened w.origin w.at w.partser)
+pub chain_push : (s : List ℕ) (first origin : Origin) (ws : List Waiting) (w : Waiting) → IsChain s first ws origin → w.origin ≡ origin → IsWaiting s w → IsChain s first (ws ++ w ∷ []) (opened w.origin w.at w.opener)
 chain_push s first origin [] w chain e waits = (e ∙ sym chain, waits, refl)
 chain_push s first origin (v ∷ ws) w chain e waits = (chain.0, chain.1, chain_push s (opened v.origin v.at v.opener) origin ws w chain.2 e waits)
 
-pub chain_pop : (s : List ℕ) (first origin : Origin) (ws : List Waiting) (w : Waiting) → IsChain s first (ws ++ w ∷ []) origin → IsChain s first ws w.origin × IsWaiting s w × (opened w.origin w.at w.partser ≡ origin)
+pub chain_pop : (s : List ℕ) (first origin : Origin) (ws : List Waiting) (w : Waiting) → IsChain s first (ws ++ w ∷ []) origin → IsChain s first ws w.origin × IsWaiting s w × (opened w.origin w.at w.opener ≡ origin)
 chain_pop s first origin [] w chain = (sym chain.0, chain.1, chain.2)
 chain_pop s first origin (v ∷ ws) w chain =
-    let others : IsChain s (opened v.origin v.at v.opener) ws w.origin × IsWaiting s w × (opened w.origin w.at w.partser ≡ origin) = chain_pop s (opened v.origin v.at v.opener) origin ws w chain.2 in
+    let others : IsChain s (opened v.origin v.at v.opener) ws w.origin × IsWaiting s w × (opened w.origin w.at w.opener ≡ origin) = chain_pop s (opened v.origin v.at v.opener) origin ws w chain.2 in
     ((chain.0, chain.1, others.0), others.1, others.2)
 
 -- a fault in what is read is the fault of all that waits for it
 pub chain_fault : (s : List ℕ) (first origin : Origin) (ws : List Waiting) (fault : ParseFault) → IsChain s first ws origin → own s origin ≡ Err fault → own s first ≡ Err fault
 chain_fault s first origin [] fault chain e = ap (own s) chain ∙ e
 chain_fault s first origin (w ∷ ws) fault chain e =
-    let inner : own s (opened w.origin w.at w.partser) ≡ Err fault = chain_fault s (opened w.origin w.at w.partser) origin ws fault chain.2 e in
+    let inner : own s (opened w.origin w.at w.opener) ≡ Err fault = chain_fault s (opened w.origin w.at w.opener) origin ws fault chain.2 e in
     ap (own s) (sym chain.0) ∙ sym chain.1.resumes ∙ ap (resumed s w) inner
 
 -- ── texts ──
@@ -124,8 +124,8 @@ link_made s origin old new place at opener mode here reads does some =
     by_inner (Index n) over (Ok rest) = sym (over (opened_piece (Index n) (drop (at + 1) (drop origin.base s)) rest.close) (at + 1 + suc rest.close) (rest_of (drop (at + 1) (drop origin.base s)) (level_of origin) (suc rest.close) (Text mode) (at + 1)))
 
 -- what waited goes on past what it waited for
-pub resume_read : (s : List ℕ) (w : Waiting) (whole : Whole) → IsWaiting s w → own s (opened w.origin w.at w.partser) ≡ Ok whole → suc whole.close ≤ length (drop (w.at + 1) (drop w.origin.base s)) →
-    joined (with_piece w.parts (opened_piece w.partser (drop (w.at + 1) (drop w.origin.base s)) whole.close) (w.at + 1 + suc whole.close)) (drop w.origin.base s) (Text w.mode) (w.at + 1 + suc whole.close)
+pub resume_read : (s : List ℕ) (w : Waiting) (whole : Whole) → IsWaiting s w → own s (opened w.origin w.at w.opener) ≡ Ok whole → suc whole.close ≤ length (drop (w.at + 1) (drop w.origin.base s)) →
+    joined (with_piece w.parts (opened_piece w.opener (drop (w.at + 1) (drop w.origin.base s)) whole.close) (w.at + 1 + suc whole.close)) (drop w.origin.base s) (Text w.mode) (w.at + 1 + suc whole.close)
     (rest_of (drop (w.at + 1 + suc whole.close) (drop w.origin.base s)) (level_of w.origin) 0 (Text w.mode) (w.at + 1 + suc whole.close))
     ≡ own s w.origin
 resume_read s w whole waits e room =
@@ -133,6 +133,6 @@ resume_read s w whole waits e room =
     let end : ℕ = w.at + 1 + suc whole.close in
     let rest : rest_of (drop (w.at + 1) text) (level_of w.origin) (suc whole.close) (Text w.mode) (w.at + 1) ≡ rest_of (drop end text) (level_of w.origin) 0 (Text w.mode) end =
     rest_skip (drop (w.at + 1) text) (level_of w.origin) (suc whole.close) (Text w.mode) (w.at + 1) room ∙ ap (λ t. rest_of t (level_of w.origin) 0 (Text w.mode) end) (drop-drop (suc whole.close) (w.at + 1) text) in
-    ap (joined (with_piece w.parts (opened_piece w.partser (drop (w.at + 1) text) whole.close) end) text (Text w.mode) end) (sym rest)
+    ap (joined (with_piece w.parts (opened_piece w.opener (drop (w.at + 1) text) whole.close) end) text (Text w.mode) end) (sym rest)
     ∙ ap (resumed s w) (sym e)
     ∙ waits.resumes

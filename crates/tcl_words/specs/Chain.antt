@@ -33,12 +33,12 @@ abbrev pub resumed : List ℕ → Waiting → Result Whole ParseFault → Result
 resumed source waiting (Ok whole) =
     let behind : List ℕ = drop (waiting.at + 1) (drop waiting.origin.base source) in
     let end : ℕ = waiting.at + 1 + suc whole.close in
-    joined (with_piece waiting.parts (opened_piece waiting.partser behind whole.close) end) (drop waiting.origin.base source) (Text waiting.mode) end
+    joined (with_piece waiting.parts (opened_piece waiting.opener behind whole.close) end) (drop waiting.origin.base source) (Text waiting.mode) end
     (rest_of behind (level_of waiting.origin) (suc whole.close) (Text waiting.mode) (waiting.at + 1))
 resumed source waiting (Err fault) = Err fault
 
 pub record IsWaiting (source : List ℕ) (waiting : Waiting) : Type 0 where
-  pub resumes : resumed source waiting (own source (opened waiting.origin waiting.at waiting.partser)) ≡ own source waiting.origin
+  pub resumes : resumed source waiting (own source (opened waiting.origin waiting.at waiting.opener)) ≡ own source waiting.origin
   pub literal : waiting.parts.literal ≡ []
   pub index : is_index (Text waiting.mode) ≡ is_index waiting.origin.place
   pub base : IsCharBoundary source waiting.origin.base
@@ -47,7 +47,7 @@ pub record IsWaiting (source : List ℕ) (waiting : Waiting) : Type 0 where
 -- each waits for the next, the last for what begins so
 abbrev pub IsChain : List ℕ → Origin → List Waiting → Origin → Type 0
 IsChain source first [] origin = first ≡ origin
-IsChain source first (waiting ∷ others) origin = (waiting.origin ≡ first) × IsWaiting source waiting × IsChain source (opened waiting.origin waiting.at waiting.partser) others origin
+IsChain source first (waiting ∷ others) origin = (waiting.origin ≡ first) × IsWaiting source waiting × IsChain source (opened waiting.origin waiting.at waiting.opener) others origin
 
 -- what is open gives, with the rest of the text, what it gives by itself
 pub record IsReading (source : List ℕ) (reader : Reader) : Type 0 where

@@ -74,6 +74,10 @@ found_script text commands found (leaves left) cut h e =
     subst (λ t. IsCut text t (leaves [])) same (subst (λ l. IsCut text found (leaves l)) h cut)
 found_script text commands found (fails fault) cut h e = let k : Err fault ≡ Ok commands = e in cc
 
+-- the commands that are read are cut
+pub read_is_cut : (text : List ℕ) (commands : List Command) → commands_in (rest_of text outermost 0 Start 0) ≡ Ok commands → IsScript (IsInnerOf 200) false 0 text commands (leaves [])
+read_is_cut text commands h = let found = all_cut text in found_script text commands found.0 found.1 found.2 found.3 (sym (cut_read text found.0 found.1 found.2) ∙ h)
+
 read_at : (text : List ℕ) (commands : List Command) → IsNoText text ⊎ IsReadable text → commands_of text ≡ Ok commands → IsScriptOf text commands
 read_at text commands (inl (bad, e)) h = let k : Err TooLong ≡ Ok commands = sym e ∙ h in cc
 read_at text commands (inr (fits, e)) h =
@@ -100,6 +104,10 @@ found_fault text fault found (fails other) cut e =
     let k : Err other ≡ Err fault = e in
     let same : other ≡ fault = cc in
     subst (λ f. IsCut text found (fails f)) same cut
+
+-- so is the fault that is read
+pub told_is_cut : (text : List ℕ) (fault : ParseFault) → commands_in (rest_of text outermost 0 Start 0) ≡ Err fault → (commands : List Command) × IsScript (IsInnerOf 200) false 0 text commands (fails fault)
+told_is_cut text fault h = let found = all_cut text in (found.0, found_fault text fault found.0 found.1 found.2 (sym (cut_read text found.0 found.1 found.2) ∙ h))
 
 told_at : (text : List ℕ) (fault : ParseFault) → IsNoText text ⊎ IsReadable text → commands_of text ≡ Err fault → IsFaultOf text fault
 told_at text fault (inl (bad, e)) h = let k : Err fault ≡ Err TooLong = sym h ∙ e in let same : fault ≡ TooLong = cc in inl (same, bad)

@@ -17,6 +17,10 @@ pub mod Grammars
 mod GrammarExamples
 pub mod Indices
 pub mod Slices
+pub mod Tails
+pub mod InnersMoved
+pub mod PiecesMoved
+pub mod WordsMoved
 pub mod Alone
 pub mod Cuts
 pub mod Ends

@@ -333,7 +333,7 @@ script_found room inside inner at text = let all = known room inside inner (leng
 
 -- Brackets and indices.
 
-index_left : (left : List ℕ) → stops true Parens left ≡ true → (rest : List ℕ) × (left ≡ 41 ∷ rest)
+pub index_left : (left : List ℕ) → stops true Parens left ≡ true → (rest : List ℕ) × (left ≡ 41 ∷ rest)
 index_left [] h = cc
 index_left (b ∷ rest) h = (rest, ap (λ c. c ∷ rest) (eqb-true b 41 h))
 

@@ -201,7 +201,7 @@ lone_read level [] at e = lone_end level.inside at
 lone_read level (b ∷ text) at e = lone_kind level.inside (class_of b) b at text level e
 
 -- `*}` is at the front
-two_bytes : (text : List ℕ) → begins_expansion text ≡ true → (rest : List ℕ) × (text ≡ 42 ∷ 125 ∷ rest)
+pub two_bytes : (text : List ℕ) → begins_expansion text ≡ true → (rest : List ℕ) × (text ≡ 42 ∷ 125 ∷ rest)
 two_bytes [] h = cc
 two_bytes (b ∷ []) h = let f : false ≡ true = (both (nat_eq 42 b) false h).1 in cc
 two_bytes (b ∷ c ∷ text) h =
@@ -408,7 +408,7 @@ faulty_word_read inside room inner at text fault is = marked is.expand is.marked
 
 -- A word's first byte ends no word.
 
-own_open : (IsInner : Inner → List ℕ → Ending → Type 0) (inside : Bool) {rest own : List ℕ} {form : WordForm} {pieces : List Piece} → IsOwnWord IsInner inside rest own form pieces → ends_word inside (own ++ rest) ≡ false
+pub own_open : (IsInner : Inner → List ℕ → Ending → Type 0) (inside : Bool) {rest own : List ℕ} {form : WordForm} {pieces : List Piece} → IsOwnWord IsInner inside rest own form pieces → ends_word inside (own ++ rest) ≡ false
 unfolding class_of
 own_open IsInner inside {rest} (bare_word {own} {pieces} first are) = not_true (ends_word inside (own ++ rest)) (both (not (ends_word inside (own ++ rest))) _ first).0
 own_open IsInner inside {rest} (quoted_word own are) = refl

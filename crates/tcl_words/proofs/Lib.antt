@@ -21,6 +21,7 @@ pub mod Tails
 pub mod InnersMoved
 pub mod PiecesMoved
 pub mod WordsMoved
+pub mod ScriptsJoined
 pub mod Alone
 pub mod Cuts
 pub mod Ends

@@ -6,13 +6,13 @@ use Rattle.tcl_words.specs.declared.script.Word.{Word}
 use Rattle.tcl_words.specs.declared.script.Command.{Command}
 
 -- the text stands here
-abbrev Stands : List ℕ → ℕ → List ℕ → Type 0
+abbrev pub Stands : List ℕ → ℕ → List ℕ → Type 0
 Stands source at text = (before : List ℕ) × (source ≡ before ++ text) × (at ≡ length before)
 
-stands_on : (source front text : List ℕ) (at : ℕ) → Stands source at (front ++ text) → Stands source (at + length front) text
+pub stands_on : (source front text : List ℕ) (at : ℕ) → Stands source at (front ++ text) → Stands source (at + length front) text
 stands_on source front text at (before, e, m) = (before ++ front, e ∙ sym (append_assoc before front text), omega (arith, m, length-append before front))
 
-stands_as : (source text same : List ℕ) (at : ℕ) → text ≡ same → Stands source at text → Stands source at same
+pub stands_as : (source text same : List ℕ) (at : ℕ) → text ≡ same → Stands source at text → Stands source at same
 stands_as source text same at e (before, f, m) = (before, f ∙ ap (λ t. before ++ t) e, m)
 
 abbrev IsOuterWord : List ℕ → ℕ → List ℕ → Word → Type 0

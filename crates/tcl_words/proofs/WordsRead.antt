@@ -319,7 +319,7 @@ unclosed_begun inside false text h front = go (begins_expansion text) refl
     go true e = let two = two_bytes text e in absurd (star_closed text two.0 h two.1)
     go false e = refl
 
-true_false : true ≡ false → ⊥
+pub true_false : true ≡ false → ⊥
 true_false e = cc
 
 star_mark : (inside : Bool) (rest : List ℕ) → begins_mark inside (123 ∷ 42 ∷ 125 ∷ rest) ≡ not (ends_word inside rest)

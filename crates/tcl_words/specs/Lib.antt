@@ -9,3 +9,4 @@ pub mod Falls
 pub mod Parts
 pub mod Room
 pub mod Grammar
+pub mod Joining

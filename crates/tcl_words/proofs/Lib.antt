@@ -22,6 +22,7 @@ pub mod InnersMoved
 pub mod PiecesMoved
 pub mod WordsMoved
 pub mod ScriptsJoined
+pub mod LinesText
 pub mod Alone
 pub mod Cuts
 pub mod Ends

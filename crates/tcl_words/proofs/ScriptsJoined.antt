@@ -28,20 +28,21 @@ blanks_tail (one_blank {b} {text = more} is h) own text e f k other = record { e
 blanks_tail (continued_blanks {text = more} h) own text e f k other = record { ends = refl; none = λ g. (let l : 92 ∷ 10 ∷ (more ++ own) ≡ [] = sym e ∙ g in cc) }
 
 -- the further words of a command, what they leave, and the same words before another text
-record Lined (at : ℕ) (text : List ℕ) (words : List Word) (commands : List Command) : Type 0 where
-  taken : List ℕ
-  rest : List ℕ
-  cut : text ≡ taken ++ rest
-  ends : words_end at words ≡ at + length taken
-  after : After commands (at + length taken) rest
-  tail : (other : List ℕ) → EndsToo rest other → EndsToo text (taken ++ other)
-  again : (other : List ℕ) → EndsToo rest other → (next : ℕ) (more : List Command) → After more (next + length taken) other →
+pub record Lined (at : ℕ) (text : List ℕ) (words : List Word) (commands : List Command) : Type 0 where
+  pub taken : List ℕ
+  pub rest : List ℕ
+  pub cut : text ≡ taken ++ rest
+  pub ends : words_end at words ≡ at + length taken
+  pub after : After commands (at + length taken) rest
+  pub stops : ends_word false rest ≡ true
+  pub tail : (other : List ℕ) → EndsToo rest other → EndsToo text (taken ++ other)
+  pub again : (other : List ℕ) → EndsToo rest other → (next : ℕ) (more : List Command) → After more (next + length taken) other →
     (others : List Word) × AreFurther (IsInnerOf 200) false (After more) next (taken ++ other) others × WordsAlike words others
 
 word_alike : (rest : List ℕ) (at : ℕ) (own : List ℕ) (word : Word) → IsWord (IsInnerOf 200) false rest at own word → word.span ≡ record { start = at; end = at + length own }
 word_alike rest at own word is = ap (λ w. w.span) is.same
 
-lined : (at : ℕ) (text : List ℕ) (words : List Word) (commands : List Command) → ends_word false text ≡ true → AreFurther (IsInnerOf 200) false (After commands) at text words → Lined at text words commands
+pub lined : (at : ℕ) (text : List ℕ) (words : List Word) (commands : List Command) → ends_word false text ≡ true → AreFurther (IsInnerOf 200) false (After commands) at text words → Lined at text words commands
 lined at text [] commands here h =
     let m : at ≡ at + 0 = omega arith in
     record {
@@ -50,6 +51,7 @@ lined at text [] commands here h =
       cut = refl;
       ends = m;
       after = subst (λ n. After commands n text) m h;
+      stops = here;
       tail = λ other k. k;
       again = λ other k next more a. (let n : next + 0 ≡ next = omega arith in ([], subst (λ i. After more i other) n a, tt));
     }
@@ -64,6 +66,7 @@ lined at text (word ∷ words) commands here (blanks, own, rest, e, b, is, h) =
       cut = e ∙ ap (λ t. blanks ++ (own ++ t)) f.cut ∙ ap (λ t. blanks ++ t) (sym (append_assoc own f.taken f.rest)) ∙ sym (append_assoc blanks (own ++ f.taken) f.rest);
       ends = ap (λ s. words_end s.end words) (word_alike rest start own word is) ∙ f.ends ∙ m;
       after = subst (λ n. After commands n f.rest) m f.after;
+      stops = f.stops;
       tail = λ other k. subst (EndsToo text) (sym (append_assoc blanks (own ++ f.taken) other)) (blanks_tail b (own ++ rest) text e here open_word ((own ++ f.taken) ++ other));
       again = λ other k next more a. (
         let first : ℕ = next + length blanks in
@@ -132,14 +135,14 @@ newline_too rest other blanks after c e = record { ends = refl; none = λ f. abs
     some (x ∷ front) h = cc
 
 -- the lines of these commands
-abbrev LinesAre : List ℕ → List Command → ℕ → Type 0
+abbrev pub LinesAre : List ℕ → List Command → ℕ → Type 0
 LinesAre source commands next = (others : List Command) × IsScript (IsInnerOf 200) false next (lines_of source commands) others (leaves []) × CommandsAlike commands others
 
 -- the source of the first command
-record FirstSource (source : List ℕ) (own taken : List ℕ) (command : Command) : Type 0 where
-  is : source_of source command ≡ own ++ taken
+pub record FirstSource (source : List ℕ) (own taken : List ℕ) (command : Command) : Type 0 where
+  pub is : source_of source command ≡ own ++ taken
 
-source_is : (source : List ℕ) (at : ℕ) (own rest : List ℕ) (word : Word) (words : List Word) (commands : List Command) (command : Command) → Stands source at (own ++ rest) → IsWord (IsInnerOf 200) false rest at own word →
+pub source_is : (source : List ℕ) (at : ℕ) (own rest : List ℕ) (word : Word) (words : List Word) (commands : List Command) (command : Command) → Stands source at (own ++ rest) → IsWord (IsInnerOf 200) false rest at own word →
     (f : Lined (at + length own) rest words commands) → command ≡ command_of at (word ∷ words) → FirstSource source own f.taken command
 source_is source at own rest word words commands command (before, e, m) is f same =
     let ends : words_end at (word ∷ words) ≡ at + length own + length f.taken = ap (λ s. words_end s.end words) (word_alike rest at own word is) ∙ f.ends in

@@ -3,6 +3,7 @@
 ghost use Rattle.std.specs.Prelude.{◌≡◌, ℕ, List, Ok, Err};
 ghost use Rattle.tcl_words.specs.Reading.{commands_of, index_pieces_of};
 ghost use Rattle.tcl_words.specs.Grammar.{IsScriptOf, IsFaultOf, IsIndexOf, IsIndexFaultOf, CommandsAreSlices};
+ghost use Rattle.tcl_words.specs.Joining.{lines_of, CommandsAlike};
 ghost use Rattle.tcl_words.specs.declared.script.Piece.{Piece};
 ghost use Rattle.tcl_words.specs.declared.script.Command.{Command};
 ghost use Rattle.tcl_words.specs.declared.fault.ParseFault.{ParseFault};
@@ -37,4 +38,9 @@ pub fn one_script_or_fault()
 /// Each command and each word of a script stands in the text where its span says.
 pub fn spans_are_slices()
     ensures { (text : List ℕ) (commands : List Command) → IsScriptOf text commands → CommandsAreSlices text commands }
+{}
+
+/// The sources of a script's commands, joined by newlines, are a script of the same commands.
+pub fn lines_are_a_script()
+    ensures { (text : List ℕ) (commands : List Command) → IsScriptOf text commands → (others : List Command) × IsScriptOf (lines_of text commands) others × CommandsAlike commands others }
 {}

@@ -12,6 +12,7 @@ mod script;
 
 pub use fault::ParseFault;
 pub use laws::{
-    commands_are_read, faults_are_told, indices_are_read, one_script_or_fault, spans_are_slices,
+    commands_are_read, faults_are_told, indices_are_read, lines_are_a_script, one_script_or_fault,
+    spans_are_slices,
 };
 pub use script::{Command, Index, Piece, Pieces, Script, Span, Word, WordForm, Words};

@@ -11,3 +11,4 @@ pub mod Rooms
 pub mod Fronts
 mod ReadingExamples
 pub mod Steps
+pub mod Texts

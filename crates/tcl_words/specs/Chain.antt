@@ -1,8 +1,9 @@
 -- Scripts and indices within one another: what each gives by itself, and what waits for it.
-use Rattle.std.specs.Prelude.{ℕ, suc, ◌+◌, ◌-◌, ◌≡◌, ◌≤◌, true, false, List, [], ◌∷◌, length, drop, Result, Ok, Err}
+use Rattle.std.specs.Prelude.{ℕ, zero, suc, ◌+◌, ◌-◌, ◌≡◌, ◌<◌, ◌≤◌, true, false, List, [], ◌∷◌, length, drop, take, Result, Ok, Err}
+use Rattle.std.specs.List.{slice_range}
 use Rattle.std.specs.Str.{IsCharBoundary}
-use Rattle.tcl_words.specs.Reading.{Level, rest_of, first_place, first_skip, opened_piece}
-use Rattle.tcl_words.specs.Parts.{Parts, Whole, joined, no_parts, with_piece, is_index, IsFine}
+use Rattle.tcl_words.specs.Reading.{Level, rest_of, first_place, first_skip, opened_piece, commands_of, index_pieces_of}
+use Rattle.tcl_words.specs.Parts.{Parts, Whole, joined, no_parts, with_piece, is_index, ended, IsFine, IsOpenerCut}
 use Rattle.tcl_words.specs.declared.kind.Place.{Place}
 use Rattle.tcl_words.specs.declared.kind.Place.TheVariants.{Start, Text}
 use Rattle.tcl_words.specs.declared.kind.Opener.{Opener}
@@ -10,7 +11,9 @@ use Rattle.tcl_words.specs.declared.kind.Mode.{Mode}
 use Rattle.tcl_words.specs.declared.nesting.Origin.{Origin}
 use Rattle.tcl_words.specs.declared.nesting.Waiting.{Waiting}
 use Rattle.tcl_words.specs.declared.nesting.Reader.{Reader}
+use Rattle.tcl_words.specs.declared.kind.Opener.TheVariants.{Bracket, Index}
 use Rattle.tcl_words.specs.declared.fault.ParseFault.{ParseFault}
+use Rattle.tcl_words.specs.declared.fault.ParseFault.TheVariants.{TooLong}
 
 -- the whole text is a script
 abbrev pub outset : Origin
@@ -42,6 +45,7 @@ pub record IsWaiting (source : List ℕ) (waiting : Waiting) : Type 0 where
   pub literal : waiting.parts.literal ≡ []
   pub index : is_index (Text waiting.mode) ≡ is_index waiting.origin.place
   pub base : IsCharBoundary source waiting.origin.base
+  pub cut : IsOpenerCut source (waiting.origin.base + waiting.at) waiting.opener
   pub room : waiting.origin.room ≤ 200
 
 -- each waits for the next, the last for what begins so
@@ -60,3 +64,30 @@ pub record IsReading (source : List ℕ) (reader : Reader) : Type 0 where
   pub within : reader.origin.base + reader.next ≤ length source
   pub index : is_index reader.place ≡ is_index reader.origin.place
   pub room : reader.origin.room ≤ 200
+
+-- what is open waits for what an opener opens
+abbrev pub waits : Reader → Opener → Mode → Waiting
+waits reader opener mode = record { origin = reader.origin; parts = reader.parts; at = reader.next; opener = opener; mode = mode }
+
+-- a bracket or a parenthesis opens at the byte that is next
+pub record IsOpening (source : List ℕ) (reader : Reader) (opener : Opener) (mode : Mode) : Type 0 where
+  pub chain : IsChain source outset reader.waiting.items reader.origin
+  pub waits : 0 < reader.origin.room → IsWaiting source (waits reader opener mode)
+  pub full : reader.origin.room ≡ 0 → own source reader.origin ≡ Err TooLong
+  pub room : reader.origin.room ≤ 200
+  pub cut : IsOpenerCut source (reader.origin.base + reader.next) opener
+
+-- what is open ends with the byte that is next
+pub record IsEnding (source : List ℕ) (reader : Reader) : Type 0 where
+  pub chain : IsChain source outset reader.waiting.items reader.origin
+  pub inside : reader.origin.inside ≡ true
+  pub ends : own source reader.origin ≡ Ok (ended reader.place reader.parts reader.next)
+  pub index : is_index reader.place ≡ is_index reader.origin.place
+  pub here : IsCharBoundary source (reader.origin.base + reader.next)
+  pub past : IsCharBoundary source (reader.origin.base + reader.next + 1)
+  pub room : reader.origin.room ≤ 200
+
+-- the parts of what was opened are those of its text, which ends so many bytes behind its base
+abbrev pub IsParse : Opener → List ℕ → ℕ → Parts → Type 0
+IsParse Bracket behind close parts = commands_of (take close behind) ≡ Ok parts.commands
+IsParse (Index n) behind close parts = (index_pieces_of (slice_range behind (suc n) close) ≡ Ok parts.pieces) × (suc n ≤ close)

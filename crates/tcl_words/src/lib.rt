@@ -7,6 +7,7 @@ mod look;
 mod nesting;
 mod open;
 mod read;
+mod reader;
 mod script;
 
 pub use fault::ParseFault;

@@ -7,6 +7,7 @@ pub mod Inners
 pub mod Joins
 pub mod KindLemmas
 pub mod Nests
+pub mod Readers
 pub mod Rooms
 pub mod Fronts
 mod ReadingExamples

@@ -10,7 +10,6 @@ use Rattle.tcl_words.specs.declared.kind.Opener.{Opener}
 use Rattle.tcl_words.specs.declared.kind.Mode.{Mode}
 use Rattle.tcl_words.specs.declared.nesting.Origin.{Origin}
 use Rattle.tcl_words.specs.declared.nesting.Waiting.{Waiting}
-use Rattle.tcl_words.specs.declared.nesting.Reader.{Reader}
 use Rattle.tcl_words.specs.declared.kind.Opener.TheVariants.{Bracket, Index}
 use Rattle.tcl_words.specs.declared.fault.ParseFault.{ParseFault}
 use Rattle.tcl_words.specs.declared.fault.ParseFault.TheVariants.{TooLong}
@@ -53,39 +52,37 @@ abbrev pub IsChain : List ℕ → Origin → List Waiting → Origin → Type 0
 IsChain source first [] origin = first ≡ origin
 IsChain source first (waiting ∷ others) origin = (waiting.origin ≡ first) × IsWaiting source waiting × IsChain source (opened waiting.origin waiting.at waiting.opener) others origin
 
--- what is open gives, with the rest of the text, what it gives by itself
-pub record IsReading (source : List ℕ) (reader : Reader) : Type 0 where
-  pub chain : IsChain source outset reader.waiting.items reader.origin
-  pub reads :
-      joined reader.parts (drop reader.origin.base source) reader.place reader.next (rest_of (drop reader.next (drop reader.origin.base source)) (level_of reader.origin) 0 reader.place reader.next)
-      ≡ own source reader.origin
-  pub fine : IsFine reader.parts (drop reader.origin.base source) reader.place reader.next
-  pub base : IsCharBoundary source reader.origin.base
-  pub within : reader.origin.base + reader.next ≤ length source
-  pub index : is_index reader.place ≡ is_index reader.origin.place
-  pub room : reader.origin.room ≤ 200
+-- What is open gives, with the rest of the text, what it gives by itself. It began so, and reading goes on at this place of
+-- it, at this position from its base; these wait for it.
+pub record IsReading (source : List ℕ) (others : List Waiting) (origin : Origin) (parts : Parts) (place : Place) (next : ℕ) : Type 0 where
+  pub chain : IsChain source outset others origin
+  pub reads : joined parts (drop origin.base source) place next (rest_of (drop next (drop origin.base source)) (level_of origin) 0 place next) ≡ own source origin
+  pub fine : IsFine parts (drop origin.base source) place next
+  pub base : IsCharBoundary source origin.base
+  pub within : origin.base + next ≤ length source
+  pub index : is_index place ≡ is_index origin.place
+  pub room : origin.room ≤ 200
 
--- what is open waits for what an opener opens
-abbrev pub waits : Reader → Opener → Mode → Waiting
-waits reader opener mode = record { origin = reader.origin; parts = reader.parts; at = reader.next; opener = opener; mode = mode }
+-- what is open waits for what an opener at this position opens
+abbrev pub waits_for : Origin → Parts → ℕ → Opener → Mode → Waiting
+waits_for origin parts at opener mode = record { origin = origin; parts = parts; at = at; opener = opener; mode = mode }
 
--- a bracket or a parenthesis opens at the byte that is next
-pub record IsOpening (source : List ℕ) (reader : Reader) (opener : Opener) (mode : Mode) : Type 0 where
-  pub chain : IsChain source outset reader.waiting.items reader.origin
-  pub waits : 0 < reader.origin.room → IsWaiting source (waits reader opener mode)
-  pub full : reader.origin.room ≡ 0 → own source reader.origin ≡ Err TooLong
-  pub room : reader.origin.room ≤ 200
-  pub cut : IsOpenerCut source (reader.origin.base + reader.next) opener
+-- a bracket or a parenthesis opens at this position
+pub record IsOpening (source : List ℕ) (others : List Waiting) (origin : Origin) (parts : Parts) (at : ℕ) (opener : Opener) (mode : Mode) : Type 0 where
+  pub chain : IsChain source outset others origin
+  pub waits : 0 < origin.room → IsWaiting source (waits_for origin parts at opener mode)
+  pub full : origin.room ≡ 0 → own source origin ≡ Err TooLong
+  pub room : origin.room ≤ 200
+  pub cut : IsOpenerCut source (origin.base + at) opener
 
--- what is open ends with the byte that is next
-pub record IsEnding (source : List ℕ) (reader : Reader) : Type 0 where
-  pub chain : IsChain source outset reader.waiting.items reader.origin
-  pub inside : reader.origin.inside ≡ true
-  pub ends : own source reader.origin ≡ Ok (ended reader.place reader.parts reader.next)
-  pub index : is_index reader.place ≡ is_index reader.origin.place
-  pub here : IsCharBoundary source (reader.origin.base + reader.next)
-  pub past : IsCharBoundary source (reader.origin.base + reader.next + 1)
-  pub room : reader.origin.room ≤ 200
+-- what is open ends at this position
+pub record IsEnding (source : List ℕ) (others : List Waiting) (origin : Origin) (parts : Parts) (place : Place) (at : ℕ) : Type 0 where
+  pub chain : IsChain source outset others origin
+  pub inside : origin.inside ≡ true
+  pub ends : own source origin ≡ Ok (ended place parts at)
+  pub index : is_index place ≡ is_index origin.place
+  pub here : IsCharBoundary source (origin.base + at)
+  pub past : IsCharBoundary source (origin.base + at + 1)
 
 -- the parts of what was opened are those of its text, which ends so many bytes behind its base
 abbrev pub IsParse : Opener → List ℕ → ℕ → Parts → Type 0

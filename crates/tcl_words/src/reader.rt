@@ -103,8 +103,8 @@ impl Reader {
         mode: Mode,
     ) -> Result<(), ParseFault>
         requires short { length source.now ≤ 65536 }
-        requires opening { IsOpening source.now self.old opener mode }
-        ensures ok { OnOk result (IsReading source.now self.new × (self.old.origin.base + self.old.next < self.new.origin.base + self.new.next)) }
+        requires opening { IsOpening source.now self.old.waiting.items self.old.origin self.old.parts self.old.next opener mode }
+        ensures ok { OnOk result (IsReading source.now self.new.waiting.items self.new.origin self.new.parts self.new.place self.new.next × (self.old.origin.base + self.old.next < self.new.origin.base + self.new.next)) }
         ensures fault { IfErr result (λ fault. (own source.now outset ≡ Err fault) ⊎ (fault ≡ ParseFault.NoMemory)) }
     {
         if self.origin.room == 0 {
@@ -128,8 +128,8 @@ impl Reader {
     /// What is open ends at the next byte, and what waits for it goes on.
     fn end_within(&mut self, alloc: Global, source: &str) -> Result<(), ParseFault>
         requires short { length source.now ≤ 65536 }
-        requires ending { IsEnding source.now self.old }
-        ensures ok { OnOk result (IsReading source.now self.new × (self.old.origin.base + self.old.next < self.new.origin.base + self.new.next)) }
+        requires ending { IsEnding source.now self.old.waiting.items self.old.origin self.old.parts self.old.place self.old.next }
+        ensures ok { OnOk result (IsReading source.now self.new.waiting.items self.new.origin self.new.parts self.new.place self.new.next × (self.old.origin.base + self.old.next < self.new.origin.base + self.new.next)) }
         ensures fault { IfErr result (λ fault. fault ≡ ParseFault.NoMemory) }
     {
         let Some(waiting) = self.waiting.pop() else {
@@ -150,9 +150,9 @@ impl Reader {
     /// The next byte.
     fn read_next(&mut self, alloc: Global, source: &str) -> Result<(), ParseFault>
         requires short { length source.now ≤ 65536 }
-        requires reading { IsReading source.now self.old }
+        requires reading { IsReading source.now self.old.waiting.items self.old.origin self.old.parts self.old.place self.old.next }
         requires within { self.old.origin.base + self.old.next < length source.now }
-        ensures ok { OnOk result (IsReading source.now self.new × (self.old.origin.base + self.old.next < self.new.origin.base + self.new.next)) }
+        ensures ok { OnOk result (IsReading source.now self.new.waiting.items self.new.origin self.new.parts self.new.place self.new.next × (self.old.origin.base + self.old.next < self.new.origin.base + self.new.next)) }
         ensures fault { IfErr result (λ fault. (own source.now outset ≡ Err fault) ⊎ (fault ≡ ParseFault.NoMemory)) }
     {
         let text = &source[self.origin.base..];

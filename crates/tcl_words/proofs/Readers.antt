@@ -3,10 +3,12 @@ use Rattle.std.proofs.Common.{◌≡◌, ℕ, zero, suc, ◌+◌, ◌-◌, ◌<�
 use Rattle.std.specs.List.{slice_range}
 use Rattle.std.specs.Str.{IsCharBoundary, IsUtf8}
 use Rattle.std.proofs.lemmas.List.{drop-drop, length-drop, get_or-drop, length-take}
-use Rattle.std.proofs.lemmas.Str.{IsCharBoundary-from_rest, IsUtf8-take, IsUtf8-drop}
+use Rattle.std.proofs.lemmas.Str.{IsCharBoundary-start, IsCharBoundary-from_rest, IsUtf8-take, IsUtf8-drop}
 use Rattle.tcl_words.specs.Kinds.{kind_of, class_of}
+use Rattle.tcl_words.specs.Changes.{Read}
+use Rattle.tcl_words.specs.declared.script.Command.{Command}
 use Rattle.tcl_words.specs.Moves.{Move, move_at}
-use Rattle.tcl_words.specs.Reading.{Level, rest_of, within, first_place, first_skip, opened_piece, commands_of, commands_in, index_pieces_of, outermost}
+use Rattle.tcl_words.specs.Reading.{Level, rest_of, at_end, within, first_place, first_skip, opened_piece, commands_of, commands_in, index_pieces_of, outermost}
 use Rattle.tcl_words.specs.Parts.{Parts, Whole, joined, no_parts, with_piece, script_whole, index_whole, is_index, ended, Does, IsFine, IsCut, IsOpenerCut, name_before}
 use Rattle.tcl_words.specs.Chain.{outset, level_of, own, opened, resumed, waits_for, IsWaiting, IsChain, IsReading, IsOpening, IsEnding, IsParse}
 use Rattle.tcl_words.specs.declared.kind.Place.{Place}
@@ -279,3 +281,88 @@ ending_as s ws ws' w o p place n p' dest x e utf8 short r ep ed ex = rw (ep, ed,
 pub step_as : (p new : Parts) (t t' : List ℕ) (n : ℕ) (inside : Bool) (place : Place) (step step' : Step) → t ≡ t' → step ≡ step' → Does p new t n place (move_at t n inside place) (Ok step) → Does p new t' n place (move_at t' n inside place) (Ok step')
 step_as p new t t' n inside place step step' e f does =
     subst (λ x. Does p new t' n place (move_at t' n inside place) (Ok x)) f (subst (λ x. Does p new x n place (move_at x n inside place) (Ok step)) e does)
+
+-- ── the start and the end of the source ──
+
+pub first_reading : (s : List ℕ) → IsUtf8 s → IsReading s [] outset (no_parts 0) Start 0
+first_reading s utf8 = record {
+  chain = refl;
+  reads = refl;
+  fine = IsCharBoundary-start s utf8;
+  base = IsCharBoundary-start s utf8;
+  within = omega arith;
+  index = refl;
+  room = omega arith;
+}
+
+found_fault : (s : List ℕ) (fault : ParseFault) (r : Read) → joined (no_parts 0) s Start 0 r ≡ Err fault → commands_in r ≡ Err fault
+found_fault s fault (Ok rest) e = absurd (let h : joined (no_parts 0) s Start 0 (Ok rest) ≡ Err fault = e in cc)
+found_fault s fault (Err other) e = let h : joined (no_parts 0) s Start 0 (Err other) ≡ Err fault = e in cc
+
+pub outset_fault : (s : List ℕ) (fault : ParseFault) → own s outset ≡ Err fault → commands_in (rest_of s outermost 0 Start 0) ≡ Err fault
+outset_fault s fault e = found_fault s fault (rest_of s outermost 0 Start 0) e
+
+pub outset_faults : (s : List ℕ) (fault : ParseFault) → (own s outset ≡ Err fault) ⊎ (fault ≡ NoMemory) → (commands_in (rest_of s outermost 0 Start 0) ≡ Err fault) ⊎ (fault ≡ NoMemory)
+outset_faults s fault (inl e) = inl (outset_fault s fault e)
+outset_faults s fault (inr e) = inr e
+
+found_commands : (s : List ℕ) (commands : List Command) (close : ℕ) (r : Read) → joined (no_parts 0) s Start 0 r ≡ Ok (script_whole commands close) → commands_in r ≡ Ok commands
+found_commands s commands close (Ok rest) e =
+    let is : script_whole ([] ++ rest.commands) rest.close ≡ script_whole commands close = (let h : Ok (script_whole ([] ++ rest.commands) rest.close) ≡ Ok (script_whole commands close) = e in cc) in
+    ap (λ w. Ok w.commands) is
+found_commands s commands close (Err fault) e = absurd (let h : joined (no_parts 0) s Start 0 (Err fault) ≡ Ok (script_whole commands close) = e in cc)
+
+drop_all : (xs : List ℕ) (n : ℕ) → length xs ≤ n → drop n xs ≡ []
+drop_all [] zero h = refl
+drop_all [] (suc n) h = refl
+drop_all (x ∷ xs) zero h = absurd (omega (arith, h))
+drop_all (x ∷ xs) (suc n) h = drop_all xs n (omega (arith, h))
+
+-- where nothing is left to read
+end_reads : (s : List ℕ) (ws : List Waiting) (o : Origin) (p : Parts) (place : Place) (n : ℕ) → IsReading s ws o p place n → length s ≤ o.base + n → joined p (drop o.base s) place n (at_end o.inside place n) ≡ own s o
+end_reads s ws o p place n r end =
+    let none : drop n (drop o.base s) ≡ [] = drop_all (drop o.base s) n (omega (arith, end, length-drop o.base s)) in
+    ap (λ t. joined p (drop o.base s) place n (rest_of t (level_of o) 0 place n)) (sym none) ∙ r.reads
+
+pub unfinished_fault : (s : List ℕ) (ws : List Waiting) (o : Origin) (p : Parts) (place : Place) (n : ℕ) (fault : ParseFault) → IsReading s ws o p place n → length s ≤ o.base + n → o.inside ≡ true → ((at : ℕ) → at_end true place at ≡ Err fault) →
+    commands_in (rest_of s outermost 0 Start 0) ≡ Err fault
+unfinished_fault s ws o p place n fault r end inside told =
+    let here : own s o ≡ Err fault = sym (end_reads s ws o p place n r end) ∙ ap (λ b. joined p (drop o.base s) place n (at_end b place n)) inside ∙ ap (joined p (drop o.base s) place n) (told n) in
+    outset_fault s fault (chain_fault s outset o ws fault r.chain here)
+
+chain_inside : (s : List ℕ) (first o : Origin) (w : Waiting) (ws : List Waiting) → IsChain s first (w ∷ ws) o → o.inside ≡ true
+chain_inside s first o w [] chain = ap (λ x. x.inside) (sym chain.2)
+chain_inside s first o w (v ∷ ws) chain = chain_inside s (opened w.origin w.at w.opener) o v ws chain.2
+
+outside_first : (s : List ℕ) (ws : List Waiting) (o : Origin) → IsChain s outset ws o → o.inside ≡ false → o ≡ outset
+outside_first s [] o chain e = sym chain
+outside_first s (w ∷ ws) o chain e = absurd (let h : o.inside ≡ true = chain_inside s outset o w ws chain in let k : true ≡ false = sym h ∙ e in cc)
+
+-- the whole text is read, and nothing waits
+pub record Finishing (s : List ℕ) (p : Parts) (place : Place) : Type 0 where
+  pub fine : IsFine p s place (length s)
+  pub script : is_index place ≡ false
+  pub reads : joined p s place (length s) (at_end false place (length s)) ≡ own s outset
+
+pub finishing : (s : List ℕ) (ws : List Waiting) (o : Origin) (p : Parts) (place : Place) (n : ℕ) → IsReading s ws o p place n → length s ≤ o.base + n → o.inside ≡ false → Finishing s p place
+finishing s ws o p place n r end outside =
+    let first : o ≡ outset = outside_first s ws o r.chain outside in
+    let base : o.base ≡ 0 = ap (λ x. x.base) first in
+    let all : n ≡ length s = (let h : o.base + n ≤ length s = r.within in omega (arith, h, end, base)) in
+    record {
+      fine = subst (λ k. IsFine p s place k) all (subst (λ k. IsFine p (drop k s) place n) base r.fine);
+      script = r.index ∙ ap (λ x. is_index x.place) first;
+      reads =
+      ap (λ k. joined p s place k (at_end false place k)) (sym all)
+      ∙ ap (λ k. joined p (drop k s) place n (at_end false place n)) (sym base)
+      ∙ ap (λ b. joined p (drop o.base s) place n (at_end b place n)) (sym outside)
+      ∙ end_reads s ws o p place n r end
+      ∙ ap (own s) first;
+    }
+
+pub finished : (s : List ℕ) (p new : Parts) (place : Place) → Finishing s p place → joined p s place (length s) (at_end false place (length s)) ≡ Ok (script_whole new.commands (length s)) → commands_in (rest_of s outermost 0 Start 0) ≡ Ok new.commands
+finished s p new place f e = found_commands s new.commands (length s) (rest_of s outermost 0 Start 0) (sym f.reads ∙ e)
+
+pub finish_fault : (s : List ℕ) (p : Parts) (place : Place) (fault : ParseFault) → Finishing s p place → (at_end false place (length s) ≡ Err fault) ⊎ (fault ≡ NoMemory) → (commands_in (rest_of s outermost 0 Start 0) ≡ Err fault) ⊎ (fault ≡ NoMemory)
+finish_fault s p place fault f (inl e) = inl (outset_fault s fault (sym f.reads ∙ ap (joined p s place (length s)) e))
+finish_fault s p place fault f (inr e) = inr e

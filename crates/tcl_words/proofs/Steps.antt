@@ -10,8 +10,8 @@ use Rattle.std.proofs.lemmas.Str.{IsCharBoundary-before_ascii, IsCharBoundary-af
 use Rattle.tcl_text.specs.Backslash.{escape}
 use Rattle.tcl_words.specs.Changes.{Rest, Read, put, piece_before, last_rest, Change, bytes, name, text_ends, word_ends, command_ends, word_begins, command_begins, changed, changed_by, literal_before}
 use Rattle.tcl_words.specs.Moves.{Move, on, ends, fails, before, word_over, at_brace, at_dollar, in_braces, in_expanded, in_text, lone}
-use Rattle.tcl_words.specs.Reading.{first_skip}
-use Rattle.tcl_words.specs.Parts.{Parts, joined, with_text, with_word, with_command, with_piece, with_literal, with_braced, so_far, ended, IsFine, IsCut, StandsAt, Escaped, EndsWord, DollarFits, Does, is_index, IsExpansion, IsOpenerCut}
+use Rattle.tcl_words.specs.Reading.{first_skip, at_end}
+use Rattle.tcl_words.specs.Parts.{Parts, joined, with_text, with_word, with_command, with_piece, with_literal, with_braced, so_far, ended, script_whole, IsFine, IsCut, StandsAt, Escaped, EndsWord, DollarFits, Does, is_index, IsExpansion, IsOpenerCut}
 use Rattle.tcl_words.specs.declared.kind.Kind.{Kind}
 use Rattle.tcl_words.specs.declared.kind.Kind.TheVariants.{Blank, Newline, Semicolon, Dollar, OpenBracket, CloseBracket, Backslash, Continuation, OpenBrace, Expansion, Other}
 use Rattle.tcl_words.specs.declared.kind.Dollar.{Dollar as DollarForm}
@@ -471,3 +471,33 @@ is_ascii r x h e = h e
 
 pub cut_bracket : (s : List ℕ) (at : ℕ) → IsCharBoundary s (at + 1) → IsOpenerCut s at Bracket
 cut_bracket s at cut = let e : at + 1 + 0 ≡ at + 1 = omega arith in record { behind = cut; name = rw e cut; first = rw e cut }
+
+-- ── the end of the text ──
+
+pub start_finish : (p : Parts) (s : List ℕ) (at : ℕ) → joined p s Start at (Ok (last_rest at)) ≡ Ok (script_whole p.commands at)
+start_finish p s at = simp append-nil
+
+pub command_finish : (p : Parts) (s : List ℕ) (at : ℕ) → joined p s Between at (Ok (last_rest at)) ≡ Ok (script_whole (with_command p).commands at)
+command_finish p s at = simp append-nil
+
+pub word_finish : (p : Parts) (s : List ℕ) (at : ℕ) → joined p s PastBraces at (Ok (last_rest at)) ≡ Ok (script_whole (with_command (with_word p at)).commands at)
+word_finish p s at = simp append-nil
+
+pub bare_finish : (p : Parts) (s : List ℕ) (at : ℕ) → joined p s (Text Bare) at (Ok (last_rest at)) ≡ Ok (script_whole (with_command (with_word (with_literal p s at) at)).commands at)
+bare_finish p s at = bare_ended p s at at (Ok (last_rest at)) ∙ word_finish (with_literal p s at) s at
+
+pub lone_finish : (p : Parts) (s : List ℕ) (at : ℕ) → IsExpansion s at →
+    joined p s Expanded at (put (changed (lone at)) (Ok (last_rest at)))
+    ≡ Ok (script_whole (with_command (with_word (with_braced (record p { word_start = at - 3; form = BracedForm; expand = false; pieces = []; literal = []; mark = at - 2 }) s (at - 1)) at)).commands at)
+lone_finish p s at expansion = over ∙ word_finish (with_braced (record p { word_start = at - 3; form = BracedForm; expand = false; pieces = []; literal = []; mark = at - 2 }) s (at - 1)) s at
+  where
+    over : joined p s Expanded at (put (changed (lone at)) (Ok (last_rest at))) ≡ joined (with_braced (record p { word_start = at - 3; form = BracedForm; expand = false; pieces = []; literal = []; mark = at - 2 }) s (at - 1)) s PastBraces at (Ok (last_rest at))
+    over = rw expansion.star refl
+
+pub start_any : (p : Parts) (s : List ℕ) (place : Place) (at : ℕ) → (place ≡ Start) ⊎ (place ≡ Comment) → joined p s place at (at_end false place at) ≡ Ok (script_whole p.commands at)
+start_any p s place at (inl e) = rw e (start_finish p s at)
+start_any p s place at (inr e) = rw e (start_finish p s at)
+
+pub past_any : (p : Parts) (s : List ℕ) (place : Place) (at : ℕ) → (place ≡ PastQuotes) ⊎ (place ≡ PastBraces) → joined p s place at (at_end false place at) ≡ Ok (script_whole (with_command (with_word p at)).commands at)
+past_any p s place at (inl e) = rw e (word_finish p s at)
+past_any p s place at (inr e) = rw e (word_finish p s at)

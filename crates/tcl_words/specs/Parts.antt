@@ -5,7 +5,7 @@ use Rattle.std.specs.Str.{IsCharBoundary}
 use Rattle.tcl_text.specs.Backslash.{escape}
 use Rattle.tcl_words.specs.Changes.{Rest, Read, put, last_rest, literal_before, command_of, word_of, changed, piece_before}
 use Rattle.tcl_words.specs.Moves.{Move}
-use Rattle.tcl_words.specs.Reading.{first_skip}
+use Rattle.tcl_words.specs.Reading.{first_skip, at_end}
 use Rattle.tcl_words.specs.declared.kind.Kind.{Kind}
 use Rattle.tcl_words.specs.declared.kind.Kind.TheVariants.{Blank, Newline, Semicolon, Continuation, CloseBracket, Expansion, Other}
 use Rattle.tcl_words.specs.declared.kind.Dollar.{Dollar}
@@ -210,3 +210,8 @@ Does old new source at place move (Ok Ends) =
     × IsCharBoundary source at
     × IsCharBoundary source (at + 1)
 Does old new source at place move (Err fault) = (move.step ≡ Err fault) ⊎ (fault ≡ NoMemory)
+
+-- the text ends, and these are the commands of its script
+abbrev pub Finishes : Parts → Parts → List ℕ → Place → ℕ → Result (Unit {0}) ParseFault → Type 0
+Finishes old new source place at (Ok done) = joined old source place at (at_end false place at) ≡ Ok (script_whole new.commands at)
+Finishes old new source place at (Err fault) = (at_end false place at ≡ Err fault) ⊎ (fault ≡ NoMemory)

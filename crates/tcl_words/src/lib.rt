@@ -6,9 +6,11 @@ mod kind;
 mod look;
 mod nesting;
 mod open;
+mod parser;
 mod read;
 mod reader;
 mod script;
 
 pub use fault::ParseFault;
+pub use parser::parse;
 pub use script::{Command, Index, Piece, Pieces, Script, Span, Word, WordForm, Words};

@@ -10,7 +10,7 @@ use crate::fault::ParseFault;
 use crate::kind::{Mode, Opener, Place, Step};
 use crate::nesting::{Origin, Reader, Waiting};
 use crate::open::{Open, text_of};
-use crate::read::read_byte;
+use crate::read::{finish, read_byte, unfinished};
 use crate::script::{Command, Index, Piece, Pieces, Script};
 use std::alloc::Global;
 use std::mem;
@@ -174,4 +174,33 @@ impl Reader {
             }
         }
     }
+
+    /// The source ends.
+    fn finish(mut self, alloc: Global, source: &str) -> Result<Vec<Command>, ParseFault>
+        requires short { length source.now ≤ 65536 }
+        requires reading { IsReading source.now self.waiting.items self.origin self.parts self.place self.next }
+        requires end { length source.now ≤ self.origin.base + self.next }
+        ensures commands { IfOk result (λ commands. commands_in (rest_of source.now outermost 0 Place.Start 0) ≡ Ok commands.items) }
+        ensures fault { IfErr result (λ fault. (commands_in (rest_of source.now outermost 0 Place.Start 0) ≡ Err fault) ⊎ (fault ≡ ParseFault.NoMemory)) }
+    {
+        if self.origin.inside {
+            return Err(unfinished(self.place));
+        }
+        finish(&mut self.parts, alloc, source, self.place)?;
+        Ok(self.parts.into_commands())
+    }
+}
+
+/// The commands of a text, in one pass over its bytes.
+pub fn read_all(alloc: Global, source: &str) -> Result<Vec<Command>, ParseFault>
+    requires { length source.now ≤ 65536 }
+    ensures commands { IfOk result (λ commands. commands_in (rest_of source.now outermost 0 Place.Start 0) ≡ Ok commands.items) }
+    ensures fault { IfErr result (λ fault. (commands_in (rest_of source.now outermost 0 Place.Start 0) ≡ Err fault) ⊎ (fault ≡ ParseFault.NoMemory)) }
+{
+    let mut reader = Reader::new(alloc);
+    while reader.origin.base + reader.next < source.len() {
+        reader.read_next(alloc, source)?;
+    }
+    let commands = reader.finish(alloc, source)?;
+    Ok(commands)
 }

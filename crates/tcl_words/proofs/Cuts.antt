@@ -749,6 +749,76 @@ class_ends Backslash place b at X Y e = absurd (class_backslash place b at X e)
 class_ends Continuation place b at X Y e = ends_continuation place b at X Y e
 class_ends Other place b at X Y e = ends_other place b at X Y e
 
+-- outside of brackets and parentheses nothing ends
+pub none_outside : (k : Kind) (place : Place) (b at : ℕ) (X : List ℕ) → (move_of place (class_means false k X) b at X).step ≡ Ok Ends → ⊥
+none_outside Blank place b at X e = no_blank (ends_blank place b at X X e).0
+  where
+    no_blank : (Blank ≡ CloseBracket) ⊎ (Blank ≡ CloseParen) → ⊥
+    no_blank (inl f) = cc
+    no_blank (inr f) = cc
+none_outside Newline place b at X e = no_newline (ends_newline place b at X X e).0
+  where
+    no_newline : (Newline ≡ CloseBracket) ⊎ (Newline ≡ CloseParen) → ⊥
+    no_newline (inl f) = cc
+    no_newline (inr f) = cc
+none_outside Semicolon place b at X e = no_semicolon (ends_semicolon place b at X X e).0
+  where
+    no_semicolon : (Semicolon ≡ CloseBracket) ⊎ (Semicolon ≡ CloseParen) → ⊥
+    no_semicolon (inl f) = cc
+    no_semicolon (inr f) = cc
+none_outside Hash place b at X e = no_hash (ends_hash place b at X X e).0
+  where
+    no_hash : (Hash ≡ CloseBracket) ⊎ (Hash ≡ CloseParen) → ⊥
+    no_hash (inl f) = cc
+    no_hash (inr f) = cc
+none_outside Dollar place b at X e = no_dollar (ends_dollar place b at X X e).0
+  where
+    no_dollar : (Dollar ≡ CloseBracket) ⊎ (Dollar ≡ CloseParen) → ⊥
+    no_dollar (inl f) = cc
+    no_dollar (inr f) = cc
+none_outside Quote place b at X e = no_quote (ends_quote place b at X X e).0
+  where
+    no_quote : (Quote ≡ CloseBracket) ⊎ (Quote ≡ CloseParen) → ⊥
+    no_quote (inl f) = cc
+    no_quote (inr f) = cc
+none_outside OpenBracket place b at X e = no_openbracket (ends_openbracket place b at X X e).0
+  where
+    no_openbracket : (OpenBracket ≡ CloseBracket) ⊎ (OpenBracket ≡ CloseParen) → ⊥
+    no_openbracket (inl f) = cc
+    no_openbracket (inr f) = cc
+none_outside CloseBracket place b at X e = no_other (ends_other place b at X X e).0
+  where
+    no_other : (Other ≡ CloseBracket) ⊎ (Other ≡ CloseParen) → ⊥
+    no_other (inl f) = cc
+    no_other (inr f) = cc
+none_outside OpenBrace place b at X e = class_openbrace place b at X e
+none_outside Expansion place b at X e = no_expansion (ends_expansion place b at X X e).0
+  where
+    no_expansion : (Expansion ≡ CloseBracket) ⊎ (Expansion ≡ CloseParen) → ⊥
+    no_expansion (inl f) = cc
+    no_expansion (inr f) = cc
+none_outside CloseBrace place b at X e = no_closebrace (ends_closebrace place b at X X e).0
+  where
+    no_closebrace : (CloseBrace ≡ CloseBracket) ⊎ (CloseBrace ≡ CloseParen) → ⊥
+    no_closebrace (inl f) = cc
+    no_closebrace (inr f) = cc
+none_outside CloseParen place b at X e = no_other (ends_other place b at X X e).0
+  where
+    no_other : (Other ≡ CloseBracket) ⊎ (Other ≡ CloseParen) → ⊥
+    no_other (inl f) = cc
+    no_other (inr f) = cc
+none_outside Backslash place b at X e = class_backslash place b at X e
+none_outside Continuation place b at X e = no_continuation (ends_continuation place b at X X e).0
+  where
+    no_continuation : (Continuation ≡ CloseBracket) ⊎ (Continuation ≡ CloseParen) → ⊥
+    no_continuation (inl f) = cc
+    no_continuation (inr f) = cc
+none_outside Other place b at X e = no_other (ends_other place b at X X e).0
+  where
+    no_other : (Other ≡ CloseBracket) ⊎ (Other ≡ CloseParen) → ⊥
+    no_other (inl f) = cc
+    no_other (inr f) = cc
+
 class_bracket : (b : ℕ) → class_of b ≡ CloseBracket → b ≡ 93
 unfolding class_of
 class_bracket b =

@@ -31,7 +31,9 @@ pub mod Inners
 pub mod Joins
 pub mod KindLemmas
 pub mod Nests
+pub mod Readers
 pub mod Rooms
 pub mod Fronts
 mod ReadingExamples
 pub mod Steps
+pub mod Texts

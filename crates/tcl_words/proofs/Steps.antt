@@ -10,8 +10,8 @@ use Rattle.std.proofs.lemmas.Str.{IsCharBoundary-before_ascii, IsCharBoundary-af
 use Rattle.tcl_text.specs.Backslash.{escape}
 use Rattle.tcl_words.specs.Changes.{Rest, Read, put, piece_before, last_rest, Change, bytes, name, text_ends, word_ends, command_ends, word_begins, command_begins, changed, changed_by, literal_before}
 use Rattle.tcl_words.specs.Moves.{Move, on, ends, fails, before, word_over, at_brace, at_dollar, in_braces, in_expanded, in_text, lone}
-use Rattle.tcl_words.specs.Reading.{first_skip}
-use Rattle.tcl_words.specs.Parts.{Parts, joined, with_text, with_word, with_command, with_piece, with_literal, with_braced, so_far, ended, IsFine, IsCut, StandsAt, Escaped, EndsWord, DollarFits, Does, is_index, IsExpansion}
+use Rattle.tcl_words.specs.Reading.{first_skip, at_end}
+use Rattle.tcl_words.specs.Parts.{Parts, joined, with_text, with_word, with_command, with_piece, with_literal, with_braced, so_far, ended, script_whole, IsFine, IsCut, StandsAt, Escaped, EndsWord, DollarFits, Does, is_index, IsExpansion, IsOpenerCut}
 use Rattle.tcl_words.specs.declared.kind.Kind.{Kind}
 use Rattle.tcl_words.specs.declared.kind.Kind.TheVariants.{Blank, Newline, Semicolon, Dollar, OpenBracket, CloseBracket, Backslash, Continuation, OpenBrace, Expansion, Other}
 use Rattle.tcl_words.specs.declared.kind.Dollar.{Dollar as DollarForm}
@@ -54,7 +54,7 @@ first old mid new s at place place' c m (Ok (On skip next)) over same index does
 first old mid new s at place place' c m (Ok (Within opener mode)) over same index does =
     (does.0, λ own mark r. ap (joined old s place at) (put_first c m.changes (put (piece_before own) r)) ∙ over (put (changed m.changes) (put (piece_before own) r)) ∙ does.1 own mark r, does.2, does.3, does.4 ∙ index)
 first old mid new s at place place' c m (Ok Ends) over same index does =
-    (does.0, over (put (changed m.changes) (Ok (last_rest at))) ∙ does.1 ∙ ap (λ w. Ok w) same)
+    (does.0, over (put (changed m.changes) (Ok (last_rest at))) ∙ does.1 ∙ ap (λ w. Ok w) same, does.2, does.3)
 first old mid new s at place place' c m (Err fault) over same index does = does
 
 -- past quotes all is as past braces, and past `{*}` as between words
@@ -120,7 +120,7 @@ piece_goes_on p s mode at skip end own m e here cut =
       refl,
     )
 
-pub text_opens : (p : Parts) (s : List ℕ) (mode : Mode) (at : ℕ) (opener : Opener) (m : Move) → m ≡ record { changes = []; step = Ok (Within opener mode) } → at + 1 + first_skip opener ≤ length s →
+pub text_opens : (p : Parts) (s : List ℕ) (mode : Mode) (at : ℕ) (opener : Opener) (m : Move) → m ≡ record { changes = []; step = Ok (Within opener mode) } → IsOpenerCut s at opener →
     Does p (with_literal p s at) s at (Text mode) m (Ok (Within opener mode))
 text_opens p s mode at opener m e within = rw e (refl, λ own mark r. text_opened p s mode at mark own r, refl, within, refl)
 
@@ -205,8 +205,8 @@ line_ends p s at m e cut =
       refl,
     )
 
-pub script_ends : (p : Parts) (s : List ℕ) (at : ℕ) (m : Move) → m ≡ ends → Does p (with_command (with_word p at)) s at PastBraces m (Ok Ends)
-script_ends p s at m e = rw e (refl, simp append-nil)
+pub script_ends : (p : Parts) (s : List ℕ) (at : ℕ) (m : Move) → m ≡ ends → IsCharBoundary s at → IsCharBoundary s (at + 1) → Does p (with_command (with_word p at)) s at PastBraces m (Ok Ends)
+script_ends p s at m e cut cut_after = rw e (refl, simp append-nil, cut, cut_after)
 
 -- The move of a byte that ends words begins with the end of the word; `lead` is what the move puts before that.
 changed_after : (lead cs : List Change) (rest : Rest) → changed (lead ++ cs) rest ≡ changed lead (changed cs rest)
@@ -229,13 +229,13 @@ module _ (p mid new : Parts) (s : List ℕ) (at : ℕ) (place : Place) (lead : L
       Does mid new s at PastBraces (record { changes = word_ends at ∷ ch; step = step }) result → Does p new s at place (record { changes = lead ++ word_ends at ∷ ch; step = step }) result
   absorbed ch step (Ok (On skip next)) d = (d.0, λ r. absorbs ch r ∙ d.1 r, d.2, d.3, d.4 ∙ index)
   absorbed ch step (Ok (Within opener mode)) d = (d.0, λ own mark r. absorbs ch (put (piece_before own) r) ∙ d.1 own mark r, d.2, d.3, d.4 ∙ index)
-  absorbed ch step (Ok Ends) d = (d.0, absorbs ch (Ok (last_rest at)) ∙ d.1 ∙ ap (λ w. Ok w) whole)
+  absorbed ch step (Ok Ends) d = (d.0, absorbs ch (Ok (last_rest at)) ∙ d.1 ∙ ap (λ w. Ok w) whole, d.2, d.3)
   absorbed ch step (Err fault) d = d
 
   closed : (result : Result Step ParseFault) → Does mid new s at PastBraces ends result → Does p new s at place (record { changes = lead ++ []; step = Ok Ends }) result
   closed (Ok (On skip next)) d = absurd (let e : ends.step ≡ Ok (On skip next) = d.0 in cc)
   closed (Ok (Within opener mode)) d = absurd (let e : ends.step ≡ Ok (Within opener mode) = d.0 in cc)
-  closed (Ok Ends) d = (d.0, ap (joined p s place at) (put_after lead [] (Ok (last_rest at))) ∙ over (Ok (last_rest at)) ∙ d.1 ∙ ap (λ w. Ok w) whole)
+  closed (Ok Ends) d = (d.0, ap (joined p s place at) (put_after lead [] (Ok (last_rest at))) ∙ over (Ok (last_rest at)) ∙ d.1 ∙ ap (λ w. Ok w) whole, d.2, d.3)
   closed (Err fault) d = d
 
   pub word_before : (kind : Kind) (behind : List ℕ) (other : Move) (result : Result Step ParseFault) → EndsWord kind →
@@ -328,7 +328,7 @@ braced_goes_on p s mode at n b form cut =
     piece_goes_on p s mode at (n + 2) (at + 2 + n + 1) (slice_range s (at + 2) (at + 2 + n)) (in_text mode Dollar b (drop (at + 1) s))
     (dollar_is mode b (drop (at + 1) s) (Braced n) form ∙ ap (λ t. on (name t ∷ []) (n + 2) (Text mode)) (slice_named s at n)) (omega arith) cut
 
-pub indexed_opens : (p : Parts) (s : List ℕ) (mode : Mode) (at n b : ℕ) → Indexed n ≡ dollar_of (drop (at + 1) s) → at + 1 + suc n ≤ length s →
+pub indexed_opens : (p : Parts) (s : List ℕ) (mode : Mode) (at n b : ℕ) → Indexed n ≡ dollar_of (drop (at + 1) s) → IsOpenerCut s at (Index n) →
     Does p (with_literal p s at) s at (Text mode) (in_text mode Dollar b (drop (at + 1) s)) (Ok (Within (Index n) mode))
 indexed_opens p s mode at n b form within = text_opens p s mode at (Index n) (in_text mode Dollar b (drop (at + 1) s)) (dollar_is mode b (drop (at + 1) s) (Indexed n) form) within
 
@@ -341,11 +341,12 @@ cut_named s at (suc n) utf8 within fits =
     let low : get_or s (at + 1 + n) 0 < 128 = rw get_or-drop at (rw e at fits.2) in
     rw f (IsCharBoundary-after_ascii s (at + 1 + n) utf8 (omega (arith, fits.1, length-drop (at + 1) s)) low)
 
-pub cut_indexed : (s : List ℕ) (at n : ℕ) → IsUtf8 s → at < length s → DollarFits (drop (at + 1) s) (Indexed n) → IsCharBoundary s (at + 1 + suc n)
-cut_indexed s at n utf8 within fits =
+pub cut_indexed : (s : List ℕ) (at n : ℕ) → IsUtf8 s → at < length s → IsCharBoundary s (at + 1) → DollarFits (drop (at + 1) s) (Indexed n) → IsOpenerCut s at (Index n)
+cut_indexed s at n utf8 within cut fits =
     let f : at + 1 + suc n ≡ at + 1 + n + 1 = omega arith in
     let low : get_or s (at + 1 + n) 0 < 128 = rw get_or-drop at fits.1 in
-    rw f (IsCharBoundary-after_ascii s (at + 1 + n) utf8 (omega (arith, fits.0, length-drop (at + 1) s)) low)
+    let room : at + 1 + n < length s = omega (arith, fits.0, length-drop (at + 1) s) in
+    record { behind = cut; name = IsCharBoundary-before_ascii s (at + 1 + n) room low; first = rw f (IsCharBoundary-after_ascii s (at + 1 + n) utf8 room low) }
 
 pub cut_braced : (s : List ℕ) (at n : ℕ) → IsUtf8 s → at < length s → DollarFits (drop (at + 1) s) (Braced n) → IsCharBoundary s (at + 2) × IsCharBoundary s (at + 2 + n) × IsCharBoundary s (at + 2 + n + 1)
 cut_braced s at n utf8 within fits =
@@ -467,3 +468,36 @@ not_ascii r x h e = elim (cases_Bool (nat_lt x 128)) [
 
 pub is_ascii : (r : Bool) (x : ℕ) → (IsTrue r → x < 128) → r ≡ true → x < 128
 is_ascii r x h e = h e
+
+pub cut_bracket : (s : List ℕ) (at : ℕ) → IsCharBoundary s (at + 1) → IsOpenerCut s at Bracket
+cut_bracket s at cut = let e : at + 1 + 0 ≡ at + 1 = omega arith in record { behind = cut; name = rw e cut; first = rw e cut }
+
+-- ── the end of the text ──
+
+pub start_finish : (p : Parts) (s : List ℕ) (at : ℕ) → joined p s Start at (Ok (last_rest at)) ≡ Ok (script_whole p.commands at)
+start_finish p s at = simp append-nil
+
+pub command_finish : (p : Parts) (s : List ℕ) (at : ℕ) → joined p s Between at (Ok (last_rest at)) ≡ Ok (script_whole (with_command p).commands at)
+command_finish p s at = simp append-nil
+
+pub word_finish : (p : Parts) (s : List ℕ) (at : ℕ) → joined p s PastBraces at (Ok (last_rest at)) ≡ Ok (script_whole (with_command (with_word p at)).commands at)
+word_finish p s at = simp append-nil
+
+pub bare_finish : (p : Parts) (s : List ℕ) (at : ℕ) → joined p s (Text Bare) at (Ok (last_rest at)) ≡ Ok (script_whole (with_command (with_word (with_literal p s at) at)).commands at)
+bare_finish p s at = bare_ended p s at at (Ok (last_rest at)) ∙ word_finish (with_literal p s at) s at
+
+pub lone_finish : (p : Parts) (s : List ℕ) (at : ℕ) → IsExpansion s at →
+    joined p s Expanded at (put (changed (lone at)) (Ok (last_rest at)))
+    ≡ Ok (script_whole (with_command (with_word (with_braced (record p { word_start = at - 3; form = BracedForm; expand = false; pieces = []; literal = []; mark = at - 2 }) s (at - 1)) at)).commands at)
+lone_finish p s at expansion = over ∙ word_finish (with_braced (record p { word_start = at - 3; form = BracedForm; expand = false; pieces = []; literal = []; mark = at - 2 }) s (at - 1)) s at
+  where
+    over : joined p s Expanded at (put (changed (lone at)) (Ok (last_rest at))) ≡ joined (with_braced (record p { word_start = at - 3; form = BracedForm; expand = false; pieces = []; literal = []; mark = at - 2 }) s (at - 1)) s PastBraces at (Ok (last_rest at))
+    over = rw expansion.star refl
+
+pub start_any : (p : Parts) (s : List ℕ) (place : Place) (at : ℕ) → (place ≡ Start) ⊎ (place ≡ Comment) → joined p s place at (at_end false place at) ≡ Ok (script_whole p.commands at)
+start_any p s place at (inl e) = rw e (start_finish p s at)
+start_any p s place at (inr e) = rw e (start_finish p s at)
+
+pub past_any : (p : Parts) (s : List ℕ) (place : Place) (at : ℕ) → (place ≡ PastQuotes) ⊎ (place ≡ PastBraces) → joined p s place at (at_end false place at) ≡ Ok (script_whole (with_command (with_word p at)).commands at)
+past_any p s place at (inl e) = rw e (word_finish p s at)
+past_any p s place at (inr e) = rw e (word_finish p s at)

@@ -5,7 +5,7 @@ use Rattle.std.specs.Str.{IsCharBoundary}
 use Rattle.tcl_text.specs.Backslash.{escape}
 use Rattle.tcl_words.specs.Changes.{Rest, Read, put, last_rest, literal_before, command_of, word_of, changed, piece_before}
 use Rattle.tcl_words.specs.Moves.{Move}
-use Rattle.tcl_words.specs.Reading.{first_skip}
+use Rattle.tcl_words.specs.Reading.{first_skip, at_end}
 use Rattle.tcl_words.specs.declared.kind.Kind.{Kind}
 use Rattle.tcl_words.specs.declared.kind.Kind.TheVariants.{Blank, Newline, Semicolon, Continuation, CloseBracket, Expansion, Other}
 use Rattle.tcl_words.specs.declared.kind.Dollar.{Dollar}
@@ -14,6 +14,8 @@ use Rattle.tcl_words.specs.declared.kind.Place.{Place}
 use Rattle.tcl_words.specs.declared.kind.Place.TheVariants.{Start, Comment, Between, Expanded, Text, PastQuotes, InBraces, PastBraces}
 use Rattle.tcl_words.specs.declared.kind.Mode.{Mode}
 use Rattle.tcl_words.specs.declared.kind.Mode.TheVariants.{Bare, Quotes, Parens}
+use Rattle.tcl_words.specs.declared.kind.Opener.{Opener}
+use Rattle.tcl_words.specs.declared.kind.Opener.TheVariants.{Bracket, Index}
 use Rattle.tcl_words.specs.declared.kind.Step.{Step}
 use Rattle.tcl_words.specs.declared.kind.Step.TheVariants.{On, Within, Ends}
 use Rattle.tcl_words.specs.declared.script.WordForm.{WordForm}
@@ -167,6 +169,17 @@ DollarFits behind (Indexed n) = (n < length behind) × (slice_index behind n < 1
 DollarFits behind (Braced n) = (n + 2 ≤ length behind) × (slice_index behind 0 < 128) × (slice_index behind (n + 1) < 128)
 DollarFits behind Unclosed = Unit {0}
 
+-- how long the name is behind an opener
+abbrev pub name_before : Opener → ℕ
+name_before Bracket = 0
+name_before (Index n) = n
+
+-- the source can be cut around what is opened at this position
+pub record IsOpenerCut (source : List ℕ) (at : ℕ) (opener : Opener) : Type 0 where
+  pub behind : IsCharBoundary source (at + 1)
+  pub name : IsCharBoundary source (at + 1 + name_before opener)
+  pub first : IsCharBoundary source (at + 1 + first_skip opener)
+
 -- an index is read here, and no script
 abbrev pub is_index : Place → Bool
 is_index (Text Parens) = true
@@ -189,8 +202,16 @@ Does old new source at place move (Ok (Within opener mode)) =
     (move.step ≡ Ok (Within opener mode))
     × ((own : Piece) (mark : ℕ) (rest : Read) → joined old source place at (put (changed move.changes) (put (piece_before own) rest)) ≡ joined (with_piece new own mark) source (Text mode) mark rest)
     × (new.literal ≡ [])
-    × (at + 1 + first_skip opener ≤ length source)
+    × IsOpenerCut source at opener
     × (is_index (Text mode) ≡ is_index place)
 Does old new source at place move (Ok Ends) =
-    (move.step ≡ Ok Ends) × (joined old source place at (put (changed move.changes) (Ok (last_rest at))) ≡ Ok (ended place new at))
+    (move.step ≡ Ok Ends)
+    × (joined old source place at (put (changed move.changes) (Ok (last_rest at))) ≡ Ok (ended place new at))
+    × IsCharBoundary source at
+    × IsCharBoundary source (at + 1)
 Does old new source at place move (Err fault) = (move.step ≡ Err fault) ⊎ (fault ≡ NoMemory)
+
+-- the text ends, and these are the commands of its script
+abbrev pub Finishes : Parts → Parts → List ℕ → Place → ℕ → Result (Unit {0}) ParseFault → Type 0
+Finishes old new source place at (Ok done) = joined old source place at (at_end false place at) ≡ Ok (script_whole new.commands at)
+Finishes old new source place at (Err fault) = (at_end false place at ≡ Err fault) ⊎ (fault ≡ NoMemory)

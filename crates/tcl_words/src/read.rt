@@ -1,13 +1,14 @@
 //! What a byte does where it stands: each function makes the definition's move on what is open.
 
-ghost use Rattle.std.specs.Prelude.{◌≡◌, ◌≢◌, ◌<◌, ◌≤◌, ◌+◌, ◌-◌, [], ◌∷◌, length, drop, take, slice_index, IfOk, OnOk, IsTrue, true, ◌↔◌, encode_utf8};
+ghost use Rattle.std.specs.Prelude.{◌≡◌, ◌≢◌, ◌<◌, ◌≤◌, ◌+◌, ◌-◌, ℕ, [], ◌∷◌, length, drop, take, slice_index, IfOk, OnOk, IsTrue, true, false, Err, ◌↔◌, encode_utf8};
 ghost use Rattle.std.specs.List.{slice_range};
 ghost use Rattle.std.specs.Str.{IsCharBoundary};
 ghost use Rattle.tcl_text.specs.Backslash.{escape};
 ghost use Rattle.tcl_text.specs.Escaped.{bytes_meant};
 ghost use Rattle.tcl_words.specs.Kinds.{kind_of as kind_meant, dollar_of as dollar_meant, begins_expansion, begins_newline};
 ghost use Rattle.tcl_words.specs.Moves.{Move, word_over, in_text, at_dollar, in_bare, in_quotes, in_parens, in_braces, at_word, in_expanded, in_between, in_start, in_comment, move_of, move_at, fails};
-ghost use Rattle.tcl_words.specs.Parts.{Does, DollarFits, IsFine, IsCut, IsExpansion, StandsAt, EndsWord, Escaped, with_piece, with_literal};
+ghost use Rattle.tcl_words.specs.Parts.{Does, DollarFits, IsFine, IsCut, IsExpansion, StandsAt, EndsWord, Escaped, Finishes, is_index, with_piece, with_literal};
+ghost use Rattle.tcl_words.specs.Reading.{at_end};
 ghost use Rattle.tcl_words.specs.declared.script.Piece.TheVariants.{Variable};
 
 use crate::fault::ParseFault;
@@ -560,5 +561,60 @@ pub fn read_byte(
             kind,
             ParseFault::ExtraAfterBrace,
         ),
+    }
+}
+
+/// The text of a script ends, and what is open of it: not in quotes, braces or an index.
+pub fn finish(
+    parts: &mut Open,
+    alloc: Global,
+    source: &str,
+    place: Place,
+) -> Result<(), ParseFault>
+    requires short { length source.now ≤ 65536 }
+    requires fine { IsFine parts.old source.now place (length source.now) }
+    requires script { is_index place ≡ false }
+    ensures { Finishes parts.old parts.new source.now place (length source.now) result }
+{
+    let at = source.len();
+    match place {
+        Place::Start | Place::Comment => Ok(()),
+        Place::Between => {
+            parts.end_command(alloc)?;
+            Ok(())
+        }
+        Place::Expanded => {
+            parts.begin_word(alloc, WordForm::Braced, false, at - 3, at - 2);
+            parts.end_braced(alloc, source, at - 1)?;
+            parts.end_word(alloc, at)?;
+            parts.end_command(alloc)?;
+            Ok(())
+        }
+        Place::Text(Mode::Bare) => {
+            parts.end_literal(alloc, source, at)?;
+            parts.end_word(alloc, at)?;
+            parts.end_command(alloc)?;
+            Ok(())
+        }
+        Place::PastQuotes | Place::PastBraces => {
+            parts.end_word(alloc, at)?;
+            parts.end_command(alloc)?;
+            Ok(())
+        }
+        Place::Text(Mode::Quotes) => Err(ParseFault::MissingQuote),
+        Place::Text(Mode::Parens) => unreachable!(),
+        Place::InBraces(_) => Err(ParseFault::MissingBrace),
+    }
+}
+
+/// The fault of a text that ends where a bracket or a parenthesis is to come.
+pub fn unfinished(place: Place) -> ParseFault
+    ensures { (at : ℕ) → at_end true place at ≡ Err result }
+{
+    match place {
+        Place::Text(Mode::Quotes) => ParseFault::MissingQuote,
+        Place::Text(Mode::Parens) => ParseFault::MissingParen,
+        Place::InBraces(_) => ParseFault::MissingBrace,
+        _ => ParseFault::MissingBracket,
     }
 }

@@ -28,7 +28,7 @@ returns-in_ok-push_name-in-Named c =
 pub returns-in_ok-end_literal-in-Indexed : goal.returns-in_ok-end_literal-in-Indexed
 returns-in_ok-end_literal-in-Indexed c =
     rw c.in_ok-end_literal-in-Indexed.ensures.ok
-    (indexed_opens c.args.parts.now c.args.source.now c.args.mode c.args.at c.in-Indexed.count c.args.byte c.in-Indexed.ensures.form (cut_indexed c.args.source.now c.args.at c.in-Indexed.count c.utf8.source c.requires.stands.within c.in-Indexed.ensures.fits).0)
+    (indexed_opens c.args.parts.now c.args.source.now c.args.mode c.args.at c.in-Indexed.count c.args.byte c.in-Indexed.ensures.form (cut_indexed c.args.source.now c.args.at c.in-Indexed.count c.utf8.source c.requires.stands.within (c.requires.stands.cut_after (λ e. cc)) c.in-Indexed.ensures.fits))
 
 pub returns-in_ok-push_name-in-Braced : goal.returns-in_ok-push_name-in-Braced
 returns-in_ok-push_name-in-Braced c =

@@ -1,10 +1,10 @@
-use Rattle.std.proofs.Common.{◌+◌, arith, drop, refl, Ok}
+use Rattle.std.proofs.Common.{◌+◌, arith, drop, refl, sym, ◌≡◌, ◌∙◌, Ok}
 use Rattle.tcl_words.specs.Moves.{in_text}
-use Rattle.tcl_words.specs.declared.kind.Kind.TheVariants.{Dollar}
+use Rattle.tcl_words.specs.declared.kind.Kind.TheVariants.{Dollar, OpenBracket, Other}
 use Rattle.tcl_words.specs.declared.kind.Place.TheVariants.{Text}
 use Rattle.tcl_words.specs.declared.kind.Opener.TheVariants.{Bracket}
 use Rattle.tcl_words.proofs.KindLemmas.{text_kinds}
-use Rattle.tcl_words.proofs.Steps.{text_goes_on, text_opens, escape_goes_on, text_escapes, same_move, text_bracket}
+use Rattle.tcl_words.proofs.Steps.{text_goes_on, text_opens, escape_goes_on, text_escapes, same_move, text_bracket, cut_bracket}
 use Rattle.tcl_words.proofs.read.read_text.Goals as goal
 
 pub returns-in_ok-step-in-Dollar : goal.returns-in_ok-step-in-Dollar
@@ -16,7 +16,8 @@ pub returns-in_ok-end_literal-in-OpenBracket : goal.returns-in_ok-end_literal-in
 returns-in_ok-end_literal-in-OpenBracket c =
     rw c.in_ok-end_literal-in-OpenBracket.ensures.ok
     (text_opens c.args.parts.now c.args.source.now c.args.mode c.args.at Bracket (in_text c.args.mode c.args.kind c.args.byte (drop (c.args.at + 1) c.args.source.now))
-    (text_bracket c.args.mode c.args.byte c.args.kind (drop (c.args.at + 1) c.args.source.now) c.in-OpenBracket.is) (omega (arith, c.requires.stands.within)))
+    (text_bracket c.args.mode c.args.byte c.args.kind (drop (c.args.at + 1) c.args.source.now) c.in-OpenBracket.is)
+    (cut_bracket c.args.source.now c.args.at (c.requires.stands.cut_after (λ e. let h : OpenBracket ≡ Other = sym c.in-OpenBracket.is ∙ e in cc))))
 
 pub returns-in_ok-taken-in-Backslash : goal.returns-in_ok-taken-in-Backslash
 returns-in_ok-taken-in-Backslash c =

@@ -152,7 +152,7 @@ backslash_again mode text own left other pieces f h self tail are =
     let s : SameEscape mode text own left other = escape_moved mode text own left other (take (escape text).length text ++ own) refl f h self tail in
     let rest : drop (escape s.whole).length s.whole ≡ own ++ other = ap (λ e. drop e.length s.whole) s.same ∙ s.rest in
     let one : ArePieces (IsInnerOf 200) false mode (92 ∷ s.whole) (with_bytes (escape s.whole).meaning pieces) (leaves other) =
-        backslash s.open_too (subst (λ t. ArePieces (IsInnerOf 200) false mode t pieces (leaves other)) (sym rest) are) in
+    backslash s.open_too (subst (λ t. ArePieces (IsInnerOf 200) false mode t pieces (leaves other)) (sym rest) are) in
     subst (λ t. ArePieces (IsInnerOf 200) false mode (92 ∷ t) (with_bytes (escape text).meaning pieces) (leaves other)) s.is
     (subst (λ e. ArePieces (IsInnerOf 200) false mode (92 ∷ s.whole) (with_bytes e.meaning pieces) (leaves other)) s.same one)
 
@@ -177,17 +177,17 @@ pieces_moved mode (dollar {text} {pieces} {ending} h k more) =
 pieces_moved mode (variable name {text} {pieces} {ending} is h k more) =
     moved_on mode (36 ∷ name) text (36 ∷ (name ++ text)) pieces (Variable name ∷ pieces) ending refl
     (λ left own e self other tail are. regrouped mode 36 name own other (Variable name ∷ pieces)
-      (variable name is (letter_inert own left other (ap begins_letter (sym e) ∙ h) tail.inert) (byte_inert 40 own left other (ap (begins 40) (sym e) ∙ k) tail.inert.paren) are)) (pieces_moved mode more)
+    (variable name is (letter_inert own left other (ap begins_letter (sym e) ∙ h) tail.inert) (byte_inert 40 own left other (ap (begins 40) (sym e) ∙ k) tail.inert.paren) are)) (pieces_moved mode more)
 pieces_moved mode (braced_name name {text} {pieces} {ending} h more) =
     moved_on mode (36 ∷ 123 ∷ (name ++ 125 ∷ [])) text (36 ∷ 123 ∷ (name ++ 125 ∷ text)) pieces (Variable name ∷ pieces) ending (ap (λ t. 36 ∷ 123 ∷ t) (sym (append_assoc name (125 ∷ []) text)))
     (λ left own e self other tail are. regrouped mode 36 (123 ∷ (name ++ 125 ∷ [])) own other (Variable name ∷ pieces)
-      (subst (λ t. ArePieces (IsInnerOf 200) false mode (36 ∷ 123 ∷ t) (Variable name ∷ pieces) (leaves other)) (sym (append_assoc name (125 ∷ []) (own ++ other))) (braced_name name h are))) (pieces_moved mode more)
+    (subst (λ t. ArePieces (IsInnerOf 200) false mode (36 ∷ 123 ∷ t) (Variable name ∷ pieces) (leaves other)) (sym (append_assoc name (125 ∷ []) (own ++ other))) (braced_name name h are))) (pieces_moved mode more)
 pieces_moved mode (unclosed_name h) = tt
 pieces_moved mode (element name inner {text} {pieces} {ending} is h more) =
     let front : List ℕ = name ++ 40 ∷ (inner ++ 41 ∷ []) in
     moved_on mode (36 ∷ front) text (36 ∷ (name ++ 40 ∷ (inner ++ 41 ∷ text))) pieces (Element name inner ∷ pieces) ending (ap (λ t. 36 ∷ t) (element_cut name inner text))
     (λ left own e self other tail are. regrouped mode 36 front own other (Element name inner ∷ pieces)
-      (subst (λ t. ArePieces (IsInnerOf 200) false mode (36 ∷ t) (Element name inner ∷ pieces) (leaves other)) (element_cut name inner (own ++ other)) (element name inner is (index_moved 199 inner text (own ++ other) h) are))) (pieces_moved mode more)
+    (subst (λ t. ArePieces (IsInnerOf 200) false mode (36 ∷ t) (Element name inner ∷ pieces) (leaves other)) (element_cut name inner (own ++ other)) (element name inner is (index_moved 199 inner text (own ++ other) h) are))) (pieces_moved mode more)
   where
     element_cut : (a b c : List ℕ) → a ++ 40 ∷ (b ++ 41 ∷ c) ≡ (a ++ 40 ∷ (b ++ 41 ∷ [])) ++ c
     element_cut a b c = ap (λ t. a ++ 40 ∷ t) (sym (append_assoc b (41 ∷ []) c)) ∙ sym (append_assoc a (40 ∷ (b ++ 41 ∷ [])) c)
@@ -195,5 +195,5 @@ pieces_moved mode (faulty_index name is h) = tt
 pieces_moved mode (bracket inner {text} {pieces} {ending} h more) =
     moved_on mode (91 ∷ (inner ++ 93 ∷ [])) text (91 ∷ (inner ++ 93 ∷ text)) pieces (Bracket inner ∷ pieces) ending (ap (λ t. 91 ∷ t) (sym (append_assoc inner (93 ∷ []) text)))
     (λ left own e self other tail are. regrouped mode 91 (inner ++ 93 ∷ []) own other (Bracket inner ∷ pieces)
-      (subst (λ t. ArePieces (IsInnerOf 200) false mode (91 ∷ t) (Bracket inner ∷ pieces) (leaves other)) (sym (append_assoc inner (93 ∷ []) (own ++ other))) (bracket inner (script_moved 199 inner text (own ++ other) h) are))) (pieces_moved mode more)
+    (subst (λ t. ArePieces (IsInnerOf 200) false mode (91 ∷ t) (Bracket inner ∷ pieces) (leaves other)) (sym (append_assoc inner (93 ∷ []) (own ++ other))) (bracket inner (script_moved 199 inner text (own ++ other) h) are))) (pieces_moved mode more)
 pieces_moved mode (faulty_script h) = tt

@@ -37,7 +37,7 @@ pub record Lined (at : ℕ) (text : List ℕ) (words : List Word) (commands : Li
   pub stops : ends_word false rest ≡ true
   pub tail : (other : List ℕ) → EndsToo rest other → EndsToo text (taken ++ other)
   pub again : (other : List ℕ) → EndsToo rest other → (next : ℕ) (more : List Command) → After more (next + length taken) other →
-    (others : List Word) × AreFurther (IsInnerOf 200) false (After more) next (taken ++ other) others × WordsAlike words others
+      (others : List Word) × AreFurther (IsInnerOf 200) false (After more) next (taken ++ other) others × WordsAlike words others
 
 word_alike : (rest : List ℕ) (at : ℕ) (own : List ℕ) (word : Word) → IsWord (IsInnerOf 200) false rest at own word → word.span ≡ record { start = at; end = at + length own }
 word_alike rest at own word is = ap (λ w. w.span) is.same
@@ -69,14 +69,14 @@ lined at text (word ∷ words) commands here (blanks, own, rest, e, b, is, h) =
       stops = f.stops;
       tail = λ other k. subst (EndsToo text) (sym (append_assoc blanks (own ++ f.taken) other)) (blanks_tail b (own ++ rest) text e here open_word ((own ++ f.taken) ++ other));
       again = λ other k next more a. (
-        let first : ℕ = next + length blanks in
-        let n : next + length (blanks ++ (own ++ f.taken)) ≡ first + length own + length f.taken = omega (arith, length-append blanks (own ++ f.taken), length-append own f.taken) in
-        let found = f.again other k (first + length own) more (subst (λ i. After more i other) n a) in
-        let whole : (blanks ++ (own ++ f.taken)) ++ other ≡ blanks ++ (own ++ (f.taken ++ other)) = append_assoc blanks (own ++ f.taken) other ∙ ap (λ t. blanks ++ t) (append_assoc own f.taken other) in (
-          placed first own word ∷ found.0,
-          (blanks, own, f.taken ++ other, whole, b, word_moved rest start own word is (f.taken ++ other) (f.tail other k) first, found.1),
-          (refl, refl, refl, found.2),
-        ));
+          let first : ℕ = next + length blanks in
+          let n : next + length (blanks ++ (own ++ f.taken)) ≡ first + length own + length f.taken = omega (arith, length-append blanks (own ++ f.taken), length-append own f.taken) in
+          let found = f.again other k (first + length own) more (subst (λ i. After more i other) n a) in
+          let whole : (blanks ++ (own ++ f.taken)) ++ other ≡ blanks ++ (own ++ (f.taken ++ other)) = append_assoc blanks (own ++ f.taken) other ∙ ap (λ t. blanks ++ t) (append_assoc own f.taken other) in (
+            placed first own word ∷ found.0,
+            (blanks, own, f.taken ++ other, whole, b, word_moved rest start own word is (f.taken ++ other) (f.tail other k) first, found.1),
+            (refl, refl, refl, found.2),
+          ));
     }
 
 -- the part of a text between two positions
@@ -149,8 +149,8 @@ source_is source at own rest word words commands command (before, e, m) is f sam
     let n : at + length own + length f.taken ≡ at + length (own ++ f.taken) = omega (arith, length-append own f.taken) in
     record {
       is =
-        ap (source_of source) same
-        ∙ slice_is source before (own ++ f.taken) f.rest at (words_end at (word ∷ words)) (e ∙ ap (λ t. before ++ (own ++ t)) f.cut ∙ ap (λ t. before ++ t) (sym (append_assoc own f.taken f.rest))) m (ends ∙ n);
+          ap (source_of source) same
+          ∙ slice_is source before (own ++ f.taken) f.rest at (words_end at (word ∷ words)) (e ∙ ap (λ t. before ++ (own ++ t)) f.cut ∙ ap (λ t. before ++ t) (sym (append_assoc own f.taken f.rest))) m (ends ∙ n);
     }
 
 lines_found : (source : List ℕ) (at next : ℕ) (own rest : List ℕ) (word : Word) (words : List Word) (command : Command) (commands : List Command) → Stands source at (own ++ rest) → IsWord (IsInnerOf 200) false rest at own word → begins 35 (own ++ rest) ≡ false →

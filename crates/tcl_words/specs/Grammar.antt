@@ -117,24 +117,32 @@ with_bytes (b ∷ bytes) (Bracket own ∷ pieces) = Literal (b ∷ bytes) ∷ Br
 -- The pieces of a body at the front of a text, where `IsInner` says how scripts in brackets and indices are read. With a
 -- fault the pieces are those before it.
 pub data ArePieces (IsInner : Inner → List ℕ → Ending → Type 0) (inside : Bool) (mode : Mode) : List ℕ → List Piece → Ending → Type 0 where
+  -- it ends before this text
   stop : {text : List ℕ} → stops inside mode text ≡ true → ArePieces IsInner inside mode text [] (leaves text)
+  -- it should have ended
   unended : stops inside mode [] ≡ false → ArePieces IsInner inside mode [] [] (fails (unended_fault mode))
+  -- a byte that stands for itself
   byte : {b : ℕ} {text : List ℕ} {pieces : List Piece} {ending : Ending} → stops inside mode (b ∷ text) ≡ false → is_plain (class_of b) ≡ true →
       ArePieces IsInner inside mode text pieces ending → ArePieces IsInner inside mode (b ∷ text) (with_bytes (b ∷ []) pieces) ending
+  -- a backslash, with as much of the text behind it as it takes
   backslash : {text : List ℕ} {pieces : List Piece} {ending : Ending} → stops inside mode (92 ∷ text) ≡ false →
       ArePieces IsInner inside mode (drop (escape text).length text) pieces ending → ArePieces IsInner inside mode (92 ∷ text) (with_bytes (escape text).meaning pieces) ending
   -- a `$` that stands for itself
   dollar : {text : List ℕ} {pieces : List Piece} {ending : Ending} → begins_name text ≡ false → begins 123 text ≡ false →
       ArePieces IsInner inside mode text pieces ending → ArePieces IsInner inside mode (36 ∷ text) (with_bytes (36 ∷ []) pieces) ending
+  -- `$name`: the name goes as far as it can
   variable : (name : List ℕ) {text : List ℕ} {pieces : List Piece} {ending : Ending} → IsName name → begins_letter text ≡ false → begins 40 text ≡ false →
       ArePieces IsInner inside mode text pieces ending → ArePieces IsInner inside mode (36 ∷ (name ++ text)) (Variable name ∷ pieces) ending
+  -- `${name}`: any text up to the first brace
   braced_name : (name : List ℕ) {text : List ℕ} {pieces : List Piece} {ending : Ending} → HasNoBrace name →
       ArePieces IsInner inside mode text pieces ending → ArePieces IsInner inside mode (36 ∷ 123 ∷ (name ++ 125 ∷ text)) (Variable name ∷ pieces) ending
   unclosed_name : {text : List ℕ} → HasNoBrace text → ArePieces IsInner inside mode (36 ∷ 123 ∷ text) [] (fails MissingBrace)
+  -- `$name(index)`
   element : (name own : List ℕ) {text : List ℕ} {pieces : List Piece} {ending : Ending} → IsName name → IsInner index (own ++ 41 ∷ text) (leaves (41 ∷ text)) →
       ArePieces IsInner inside mode text pieces ending → ArePieces IsInner inside mode (36 ∷ (name ++ 40 ∷ (own ++ 41 ∷ text))) (Element name own ∷ pieces) ending
   faulty_index : (name : List ℕ) {text : List ℕ} {fault : ParseFault} → IsName name → IsInner index text (fails fault) →
       ArePieces IsInner inside mode (36 ∷ (name ++ 40 ∷ text)) [] (fails fault)
+  -- a script in brackets
   bracket : (own : List ℕ) {text : List ℕ} {pieces : List Piece} {ending : Ending} → IsInner script (own ++ 93 ∷ text) (leaves (93 ∷ text)) →
       ArePieces IsInner inside mode text pieces ending → ArePieces IsInner inside mode (91 ∷ (own ++ 93 ∷ text)) (Bracket own ∷ pieces) ending
   faulty_script : {text : List ℕ} {fault : ParseFault} → IsInner script text (fails fault) → ArePieces IsInner inside mode (91 ∷ text) [] (fails fault)
@@ -175,7 +183,8 @@ pub data IsOwnWord (IsInner : Inner → List ℕ → Ending → Type 0) (inside 
       IsOwnWord IsInner inside rest (34 ∷ (own ++ 34 ∷ [])) QuotedForm pieces
   braced_word : (own : List ℕ) {value : List ℕ} → IsBraced own value → IsOwnWord IsInner inside rest (123 ∷ (own ++ 125 ∷ [])) BracedForm (Literal value ∷ [])
 
--- The fault of a text at whose front a word would stand.
+-- The fault of a text at whose front a word's own text would stand: the word never ends, something in it is at fault, or
+-- something follows the quote or the brace that ends it.
 pub data IsFaultyOwn (IsInner : Inner → List ℕ → Ending → Type 0) (inside : Bool) : List ℕ → ParseFault → Type 0 where
   faulty_bare : {text : List ℕ} {pieces : List Piece} {fault : ParseFault} → begins_bare inside text ≡ true → ArePieces IsInner inside Bare text pieces (fails fault) →
       IsFaultyOwn IsInner inside text fault
@@ -204,6 +213,7 @@ pub record IsWord (IsInner : Inner → List ℕ → Ending → Type 0) (inside :
   pub ends : ends_word inside rest ≡ true
   pub same : word ≡ word_of form expand at pieces (at + length text)
 
+-- A text at whose front a word would stand, with `{*}` or without, has this fault.
 pub record IsFaultyWord (IsInner : Inner → List ℕ → Ending → Type 0) (inside : Bool) (text : List ℕ) (fault : ParseFault) : Type 0 where
   pub expand : Bool
   pub mark : List ℕ
@@ -258,6 +268,7 @@ pub data IsEnding (IsInner : Inner → List ℕ → Ending → Type 0) (inside :
 -- How a script ends where a command could begin.
 pub data IsLast (IsInner : Inner → List ℕ → Ending → Type 0) (inside : Bool) : List ℕ → Ending → Type 0 where
   ends : {text : List ℕ} {ending : Ending} → IsEnd inside text ending → IsLast IsInner inside text ending
+  -- a comment holds all that is left, a bracket too
   comment : {note : List ℕ} → IsLastNote note → IsLast IsInner inside (35 ∷ note) (end_of_text inside)
   faulty : {text : List ℕ} {fault : ParseFault} → begins 35 text ≡ false → IsFaultyWord IsInner inside text fault → IsLast IsInner inside text (fails fault)
 

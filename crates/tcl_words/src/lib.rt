@@ -10,6 +10,8 @@ mod parser;
 mod read;
 mod reader;
 mod script;
+#[cfg(test)]
+mod tests;
 
 pub use fault::ParseFault;
 pub use parser::parse;

@@ -16,6 +16,7 @@ mod splitting;
 mod text;
 mod white_space;
 
+pub use backslash::{Escape, Meaning, escape_behind};
 pub use boolean::NotBoolean;
 pub use integer::NotInteger;
 pub use list::TextList;

@@ -1,7 +1,7 @@
 -- The texts of errors.
 use Rattle.std.specs.Prelude.{ℕ, List, [], ◌++◌, length, nat_le, if◌then◌else◌, codes}
 use Rattle.tcl_words.specs.declared.fault.ParseFault.{ParseFault}
-use Rattle.tcl_words.specs.declared.fault.ParseFault.TheVariants.{TooLong, MissingBrace, MissingBracket, MissingQuote, ExtraAfterBrace, ExtraAfterQuote, MissingParen, NotYet, NoMemory}
+use Rattle.tcl_words.specs.declared.fault.ParseFault.TheVariants.{TooLong, MissingBrace, MissingBracket, MissingQuote, ExtraAfterBrace, ExtraAfterQuote, MissingParen, NoMemory}
 use Rattle.tcl_vars.specs.declared.fault.ReadFault.{ReadFault}
 use Rattle.tcl_vars.specs.declared.fault.ReadFault.TheVariants.{NoVariable, NoElement, IsArray, NotArray}
 use Rattle.tcl_vars.specs.declared.fault.SetFault.{SetFault}
@@ -51,5 +51,4 @@ fault_text MissingQuote = codes "missing \""
 fault_text ExtraAfterBrace = codes "extra characters after close-brace"
 fault_text ExtraAfterQuote = codes "extra characters after close-quote"
 fault_text MissingParen = codes "missing )"
-fault_text NotYet = codes "not yet"
 fault_text NoMemory = []

@@ -116,7 +116,6 @@ fn fault_characters(fault: ParseFault) -> &'static str
         ParseFault::ExtraAfterBrace => "extra characters after close-brace",
         ParseFault::ExtraAfterQuote => "extra characters after close-quote",
         ParseFault::MissingParen => "missing )",
-        ParseFault::NotYet => "not yet",
         ParseFault::NoMemory => "",
     }
 }

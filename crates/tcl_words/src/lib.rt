@@ -11,6 +11,8 @@ mod parser;
 mod read;
 mod reader;
 mod script;
+#[cfg(test)]
+mod tests;
 
 pub use fault::ParseFault;
 pub use laws::{

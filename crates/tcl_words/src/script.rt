@@ -262,7 +262,7 @@ impl Index {
     pub fn pieces(&self) -> &[Piece]
         ensures { index_pieces_of self.now ≡ Ok result.now }
     {
-        self.pieces.as_slice()
+        Pieces::as_slice(&self.pieces)
     }
 
     /// An index of this text, of which these are the pieces.

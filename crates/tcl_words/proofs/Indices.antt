@@ -1,13 +1,11 @@
 -- The pieces that are read of an index are those of the grammar.
-use Rattle.std.proofs.Common.{◌⊎◌, inl, inr, true, ◌∷◌, ◌≡◌, ℕ, false, List, [], refl, sym, ap, subst, ◌∙◌, Ok, Err, Result}
-use Rattle.tcl_words.specs.Changes.{Read, put}
-use Rattle.tcl_words.specs.Reading.{rest_of, pieces_in, index_pieces_of, outermost}
+use Rattle.std.proofs.Common.{◌⊎◌, inl, inr, true, ◌∷◌, ◌≡◌, ℕ, false, List, [], refl, sym, ap, subst, ◌∙◌, Ok, Err}
+use Rattle.tcl_words.specs.Reading.{pieces_in, index_pieces_of, outermost}
 use Rattle.tcl_words.specs.Grammar.{Ending, leaves, fails, stops, ArePieces, IsInnerOf, IsIndexOf, IsIndexFaultOf}
 use Rattle.tcl_words.specs.declared.kind.Mode.TheVariants.{Parens}
-use Rattle.tcl_words.specs.declared.kind.Place.TheVariants.{Text}
 use Rattle.tcl_words.specs.declared.script.Piece.{Piece}
 use Rattle.tcl_words.specs.declared.fault.ParseFault.{ParseFault}
-use Rattle.tcl_words.proofs.PiecesRead.{GivesText, GivesPieces, with_text, pieces_read}
+use Rattle.tcl_words.proofs.PiecesRead.{GivesText, GivesPieces, pieces_read}
 use Rattle.tcl_words.proofs.ScriptsRead.{inner_reads}
 use Rattle.tcl_words.proofs.PiecesCut.{IsPiecesCut, pieces_found}
 use Rattle.tcl_words.proofs.ScriptsCut.{inner_cuts}

@@ -1,20 +1,19 @@
 -- Scripts in brackets and indices are the same whatever follows them.
-use Rattle.std.proofs.Common.{◌≡◌, ℕ, zero, suc, ◌+◌, ◌⊎◌, inl, inr, Bool, true, false, List, [], ◌∷◌, ◌++◌, length, refl, sym, ap, subst, ◌∙◌, length-append, arith, Ok, Err}
-use Rattle.tcl_words.specs.Changes.{Rest, Read, put, last_rest}
-use Rattle.tcl_words.specs.Reading.{Level, rest_of, within}
-use Rattle.tcl_words.specs.Grammar.{Ending, leaves, fails, Inner, script, index, ArePieces, IsInnerOf, IsScript, stops}
+use Rattle.std.proofs.Common.{◌≡◌, ℕ, suc, ◌+◌, true, List, [], ◌∷◌, ◌++◌, length, refl, sym, ap, subst, ◌∙◌, length-append, arith, Ok, Err}
+use Rattle.tcl_words.specs.Changes.{Rest, put, last_rest}
+use Rattle.tcl_words.specs.Reading.{rest_of, within}
+use Rattle.tcl_words.specs.Grammar.{Ending, leaves, fails, script, index, ArePieces, IsInnerOf, IsScript}
 use Rattle.tcl_words.specs.declared.kind.Mode.TheVariants.{Parens}
 use Rattle.tcl_words.specs.declared.kind.Place.{Place}
 use Rattle.tcl_words.specs.declared.kind.Place.TheVariants.{Start, Text}
 use Rattle.tcl_words.specs.declared.script.Piece.{Piece}
 use Rattle.tcl_words.specs.declared.script.Command.{Command}
-use Rattle.tcl_words.specs.declared.fault.ParseFault.{ParseFault}
 use Rattle.tcl_words.proofs.StopLemmas.{paren_read}
-use Rattle.tcl_words.proofs.PiecesRead.{GivesText, GivesPieces, with_text, pieces_read}
-use Rattle.tcl_words.proofs.ScriptsRead.{Gives, GivesLeft, script_read, inner_reads}
-use Rattle.tcl_words.proofs.PiecesCut.{IsPiecesCut, FoundPieces, pieces_found}
-use Rattle.tcl_words.proofs.ScriptsCut.{IsScriptCut, FoundScript, script_found, inner_cuts, index_left}
-use Rattle.tcl_words.proofs.Alone.{Closed, closed}
+use Rattle.tcl_words.proofs.PiecesRead.{GivesText, with_text, pieces_read}
+use Rattle.tcl_words.proofs.ScriptsRead.{GivesLeft, script_read, inner_reads}
+use Rattle.tcl_words.proofs.PiecesCut.{IsPiecesCut, pieces_found}
+use Rattle.tcl_words.proofs.ScriptsCut.{IsScriptCut, script_found, inner_cuts, index_left}
+use Rattle.tcl_words.proofs.Alone.{closed}
 
 -- two cuts of a text at the same place
 pub same_cut : (a b s t : List ℕ) → a ++ s ≡ b ++ t → length a ≡ length b → (a ≡ b) × (s ≡ t)

@@ -1,12 +1,11 @@
 -- A script's commands as lines of their own are no longer than the script, and UTF-8 as it is.
-use Rattle.std.proofs.Common.{◌≡◌, ℕ, zero, suc, ◌+◌, ◌<◌, ◌≤◌, ◌⊎◌, inl, inr, Bool, true, false, ◌==◌, ◌||◌, List, [], ◌∷◌, ◌++◌, length, take, drop, get_or, refl, sym, ap, subst, ◌∙◌, eqb-true, append_assoc, append-nil, length-append, arith}
+use Rattle.std.proofs.Common.{◌≡◌, ℕ, suc, ◌+◌, ◌<◌, ◌≤◌, ◌⊎◌, inl, inr, Bool, true, false, ◌==◌, ◌||◌, List, [], ◌∷◌, ◌++◌, length, get_or, refl, sym, ap, subst, ◌∙◌, eqb-true, append_assoc, append-nil, length-append, arith}
 use Rattle.std.specs.Str.{IsUtf8, IsCharBoundary}
-use Rattle.std.proofs.lemmas.Bool.Decides.{nat_tests}
 use Rattle.std.proofs.lemmas.Str.{IsUtf8-append, IsUtf8-nil, IsUtf8-take, IsUtf8-drop, IsCharBoundary-before_ascii, IsCharBoundary-after_ascii}
 use Rattle.tcl_text.proofs.Utf8Lemmas.{ascii_before}
 use Rattle.tcl_words.specs.Kinds.{class_of, is_blank}
 use Rattle.tcl_words.specs.Changes.{command_of}
-use Rattle.tcl_words.specs.Grammar.{Ending, leaves, fails, begins, class_ends, ends_word, IsText, IsInnerOf, IsWord, IsSeparator, AreBlanks, IsNote, IsGap, IsScript, IsScriptOf}
+use Rattle.tcl_words.specs.Grammar.{leaves, class_ends, ends_word, IsInnerOf, IsWord, IsSeparator, IsGap, IsScript, IsScriptOf}
 use Rattle.tcl_words.specs.Grammar.IsGap.{none as no_gap, blank, continuation, separator, comment}
 use Rattle.tcl_words.specs.Joining.{source_of, lines_of, CommandsAlike}
 use Rattle.tcl_words.specs.declared.kind.Kind.{Kind}
@@ -16,7 +15,7 @@ use Rattle.tcl_words.specs.declared.script.Command.{Command}
 use Rattle.tcl_words.proofs.ClassLemmas.{byte_is}
 use Rattle.tcl_words.proofs.NameLemmas.{drop_front, take_front}
 use Rattle.tcl_words.proofs.Slices.{Stands, stands_on, stands_as}
-use Rattle.tcl_words.proofs.ScriptsJoined.{After, Lined, lined, FirstSource, source_is, LinesAre, lines_are}
+use Rattle.tcl_words.proofs.ScriptsJoined.{After, Lined, lined, source_is, lines_are}
 
 get_at : (xs : List ℕ) (c : ℕ) (ys : List ℕ) → get_or (xs ++ c ∷ ys) (length xs) 0 ≡ c
 get_at [] c ys = refl

@@ -1,9 +1,9 @@
 -- The pieces of a body are the same before another text that ends it.
-use Rattle.std.proofs.Common.{◌≡◌, ◌≢◌, ℕ, zero, suc, ◌+◌, ◌<◌, ◌≤◌, ◌⊎◌, inl, inr, Bool, true, false, nat_eq, List, [], ◌∷◌, ◌++◌, length, take, drop, refl, sym, ap, subst, ◌∙◌, append_assoc, length-append, length-drop, length-take, take-append-drop, arith}
-use Rattle.tcl_text.specs.Backslash.{escape, Escape}
+use Rattle.std.proofs.Common.{◌≡◌, ℕ, zero, suc, ◌<◌, ◌≤◌, true, false, List, [], ◌∷◌, ◌++◌, length, take, drop, refl, sym, ap, subst, ◌∙◌, append_assoc, length-take, take-append-drop, arith}
+use Rattle.tcl_text.specs.Backslash.{escape}
 use Rattle.tcl_text.proofs.BackslashLemmas.{escape_within}
 use Rattle.tcl_words.specs.Kinds.{class_of, begins_newline}
-use Rattle.tcl_words.specs.Grammar.{Ending, leaves, fails, Inner, script, index, stops, is_plain, with_bytes, begins, begins_letter, begins_name, begins_space, class_ends, ends_word, IsName, HasNoBrace, ArePieces, IsInnerOf}
+use Rattle.tcl_words.specs.Grammar.{Ending, leaves, fails, stops, is_plain, with_bytes, begins, begins_letter, begins_name, begins_space, class_ends, ArePieces, IsInnerOf}
 use Rattle.tcl_words.specs.Grammar.ArePieces.{stop, unended, byte, backslash, dollar, variable, braced_name, unclosed_name, element, faulty_index, bracket, faulty_script}
 use Rattle.tcl_words.specs.declared.kind.Mode.{Mode}
 use Rattle.tcl_words.specs.declared.kind.Mode.TheVariants.{Bare, Quotes, Parens}
@@ -11,8 +11,7 @@ use Rattle.tcl_words.specs.declared.kind.Kind.{Kind}
 use Rattle.tcl_words.specs.declared.kind.Kind.TheVariants.{Blank, Newline, Semicolon, Hash, Dollar, Quote, OpenBracket, CloseBracket, OpenBrace, Expansion, CloseBrace, CloseParen, Backslash, Continuation, Other}
 use Rattle.tcl_words.specs.declared.script.Piece.{Piece}
 use Rattle.tcl_words.specs.declared.script.Piece.TheVariants.{Variable, Element, Bracket}
-use Rattle.tcl_words.proofs.WordsRead.{both}
-use Rattle.tcl_words.proofs.NameLemmas.{drop_front, take_front}
+use Rattle.tcl_words.proofs.NameLemmas.{drop_front}
 use Rattle.tcl_words.proofs.InnersMoved.{script_moved, index_moved}
 use Rattle.tcl_words.proofs.Tails.{Inert, escape_inert, escape_some, letter_inert, byte_inert, name_inert}
 

@@ -1,12 +1,12 @@
 -- A script's commands as lines of their own are a script of the same commands.
-use Rattle.std.proofs.Common.{◌≡◌, ℕ, zero, suc, ◌+◌, ◌-◌, ◌≤◌, ◌⊎◌, inl, inr, Bool, true, false, List, [], ◌∷◌, ◌++◌, length, take, drop, refl, sym, ap, subst, ◌∙◌, append_assoc, append-nil, length-append, arith}
+use Rattle.std.proofs.Common.{◌≡◌, ℕ, ◌+◌, ◌-◌, inl, inr, true, false, List, [], ◌∷◌, ◌++◌, length, take, drop, refl, sym, ap, subst, ◌∙◌, append_assoc, append-nil, length-append, arith}
 use Rattle.std.specs.List.{slice_range}
 use Rattle.tcl_words.specs.Kinds.{class_of}
 use Rattle.tcl_words.specs.Changes.{command_of, words_end}
-use Rattle.tcl_words.specs.Grammar.{Ending, leaves, fails, begins, class_ends, ends_word, IsInnerOf, IsWord, IsSeparator, AreBlanks, IsGap, IsEnd, IsEnding, IsLast, AreFurther, IsRest, IsScript}
+use Rattle.tcl_words.specs.Grammar.{leaves, begins, class_ends, ends_word, IsInnerOf, IsWord, AreBlanks, IsEnding, AreFurther, IsRest, IsScript}
 use Rattle.tcl_words.specs.Grammar.AreBlanks.{none as no_blanks, blank as one_blank, continuation as continued_blanks}
 use Rattle.tcl_words.specs.Grammar.IsGap.{none as no_gap}
-use Rattle.tcl_words.specs.Grammar.IsEnd.{closes, stands}
+use Rattle.tcl_words.specs.Grammar.IsEnd.{stands}
 use Rattle.tcl_words.specs.Grammar.IsEnding.{ends as ends_command}
 use Rattle.tcl_words.specs.Grammar.IsLast.{ends as ends_script}
 use Rattle.tcl_words.specs.Joining.{source_of, lines_of, WordsAlike, CommandsAlike}

@@ -1,17 +1,16 @@
 -- What stands in front of a text that ends a word means the same before another one.
-use Rattle.std.proofs.Common.{◌≡◌, ◌≢◌, ℕ, zero, suc, ◌+◌, ◌*◌, ◌<◌, ◌≤◌, ◌⊎◌, inl, inr, Bool, true, false, cond, not, ◌==◌, nat_eq, nat_lt, List, [], ◌∷◌, ◌++◌, length, take, drop, refl, sym, ap, subst, ◌∙◌, eqb-true, arith}
+use Rattle.std.proofs.Common.{◌≡◌, ℕ, zero, suc, ◌+◌, ◌*◌, ◌<◌, ◌≤◌, ◌⊎◌, inl, inr, Bool, true, false, cond, ◌==◌, nat_eq, nat_lt, List, [], ◌∷◌, ◌++◌, drop, refl, sym, ap, subst, ◌∙◌, eqb-true, arith}
 use Rattle.std.specs.Prelude.{nat_le, ◌&&◌, ◌||◌}
 use Rattle.std.specs.Char.{digit_value}
 use Rattle.std.specs.List.{starts_with}
 use Rattle.std.proofs.lemmas.Bool.{cond_both}
 use Rattle.std.proofs.lemmas.Bool.Decides.{nat_tests}
-use Rattle.tcl_text.specs.Backslash.{Digits, Escape, digits_from, numbered, named, blanks, escape}
+use Rattle.tcl_text.specs.Backslash.{Digits, Escape, digits_from, numbered, blanks, escape}
 use Rattle.tcl_words.specs.Kinds.{class_of, is_blank, is_letter}
 use Rattle.tcl_words.specs.Grammar.{begins, begins_letter, begins_name, begins_space, class_ends, ends_word}
 use Rattle.tcl_words.specs.declared.kind.Kind.{Kind}
 use Rattle.tcl_words.specs.declared.kind.Kind.TheVariants.{Blank, Newline, Semicolon, Hash, Dollar, Quote, OpenBracket, CloseBracket, OpenBrace, Expansion, CloseBrace, CloseParen, Backslash, Continuation, Other}
 use Rattle.tcl_words.proofs.ClassLemmas.{byte_is}
-use Rattle.tcl_words.proofs.WordsRead.{both}
 
 -- no hexadecimal digit is the first
 abbrev pub begins_digit : List ℕ → Bool

@@ -1,13 +1,13 @@
 -- Words are the same before another text that ends them, wherever they stand.
-use Rattle.std.proofs.Common.{◌≡◌, ◌≢◌, ℕ, zero, suc, ◌+◌, ◌<◌, ◌⊎◌, inl, inr, Bool, true, false, not, ◌==◌, ◌&&◌, List, [], ◌∷◌, ◌++◌, length, drop, refl, sym, ap, subst, ◌∙◌, append_assoc, length-append, arith}
+use Rattle.std.proofs.Common.{◌≡◌, ℕ, ◌+◌, ◌<◌, Bool, true, false, not, ◌==◌, ◌&&◌, List, [], ◌∷◌, ◌++◌, length, drop, refl, sym, ap, subst, ◌∙◌, append_assoc, length-append, arith}
 use Rattle.tcl_words.specs.Kinds.{class_of, begins_expansion}
 use Rattle.tcl_words.specs.Changes.{word_of}
-use Rattle.tcl_words.specs.Grammar.{Ending, leaves, fails, begins, begins_bare, begins_mark, ends_word, ArePieces, IsBraced, IsInnerOf, IsOwnWord, IsMark, IsWord}
+use Rattle.tcl_words.specs.Grammar.{Ending, leaves, begins, begins_bare, begins_mark, ends_word, ArePieces, IsBraced, IsInnerOf, IsOwnWord, IsMark, IsWord}
 use Rattle.tcl_words.specs.Grammar.ArePieces.{stop, unended, byte, backslash, dollar, variable, braced_name, unclosed_name, element, faulty_index, bracket, faulty_script}
 use Rattle.tcl_words.specs.Grammar.IsOwnWord.{bare_word, quoted_word, braced_word}
-use Rattle.tcl_words.specs.declared.kind.Mode.TheVariants.{Bare, Quotes, Parens}
+use Rattle.tcl_words.specs.declared.kind.Mode.TheVariants.{Bare, Quotes}
 use Rattle.tcl_words.specs.declared.script.WordForm.{WordForm}
-use Rattle.tcl_words.specs.declared.script.WordForm.TheVariants.{Bare as BareForm, Quoted as QuotedForm, Braced as BracedForm}
+use Rattle.tcl_words.specs.declared.script.WordForm.TheVariants.{Bare as BareForm}
 use Rattle.tcl_words.specs.declared.script.Piece.{Piece}
 use Rattle.tcl_words.specs.declared.script.Word.{Word}
 use Rattle.tcl_words.proofs.WordsRead.{both, not_true, two_bytes, own_open}

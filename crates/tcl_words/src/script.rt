@@ -107,7 +107,7 @@ impl Model for Pieces {
     ghost size_decreases = { λ a h. pieces_fall a };
 }
 
-/// What stands between the parentheses of `$name(index)`. Contracts see its source.
+/// What stands between the parentheses of `$name(index)`. Contracts see its source, of which the pieces are the parse.
 #[derive(Drop)]
 #[cycle(script)]
 pub struct Index {
@@ -122,16 +122,17 @@ impl Model for Index {
 
     ghost view = { λ i. i.text };
 
-    ghost use Rattle.std.specs.Prelude.{◌<◌};
+    ghost use Rattle.std.specs.Prelude.{◌≡◌, ◌<◌, Ok};
+    ghost use Rattle.tcl_words.specs.Reading.{index_pieces_of};
     ghost use Rattle.tcl_words.specs.Room.{text_room, pieces_room};
 
-    ghost invariant = { λ i. pieces_room i.pieces < text_room i.text };
+    ghost invariant = { λ i. (index_pieces_of i.text ≡ Ok i.pieces) × (pieces_room i.pieces < text_room i.text) };
 
     ghost size = { text_room };
 
     ghost use Rattle.tcl_words.specs.Falls.{index_falls};
 
-    ghost size_decreases = { λ a h. index_falls a h };
+    ghost size_decreases = { λ a h. index_falls a h.1 };
 }
 
 /// A script, read and shared by its copies. Contracts see its source alone, of which the commands are the parse:
@@ -222,13 +223,13 @@ impl Script {
     }
 
     /// A script of this text, of which these are the commands.
+    #[tactic(auto, using(crate::proofs::Texts::commands_of_fit))]
     pub(crate) fn new(
         alloc: Global,
         text: Text,
         commands: Vec<Command>,
     ) -> Result<Script, AllocError>
-        requires parsed { commands_of text ≡ Ok commands.items }
-        requires room { commands_room commands.items ≤ text_room text }
+        requires { commands_of text ≡ Ok commands.items }
         ensures { IfOk result (λ script. script ≡ text) }
     {
         Ok(Script {
@@ -247,10 +248,29 @@ impl Script {
 }
 
 impl Index {
+    ghost use Rattle.std.specs.Prelude.{◌≡◌, Ok};
+    ghost use Rattle.tcl_words.specs.Reading.{index_pieces_of};
+
     /// The source, that is what stands between the parentheses.
     pub fn text(&self) -> &Text
         ensures { result.now ≡ self.now }
     {
         &self.text
+    }
+
+    /// Its pieces, in order.
+    pub fn pieces(&self) -> &[Piece]
+        ensures { index_pieces_of self.now ≡ Ok result.now }
+    {
+        Pieces::as_slice(&self.pieces)
+    }
+
+    /// An index of this text, of which these are the pieces.
+    #[tactic(auto, using(crate::proofs::Rooms::pieces_fit))]
+    pub(crate) fn new(text: Text, pieces: Pieces) -> Index
+        requires { index_pieces_of text ≡ Ok pieces }
+        ensures { result ≡ text }
+    {
+        Index { text, pieces }
     }
 }

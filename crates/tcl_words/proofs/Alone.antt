@@ -132,11 +132,11 @@ module _ (b : ℕ) (text : List ℕ) (place : Place) (at : ℕ) where
       ap (λ x. moved other level x at) (sym same)
       ∙ ap (λ s. put (changed (move true text).changes) (past s level.room at other (λ skip next. rest_of other level skip next (at + 1)) (λ room skip next. rest_of other (within room) skip next 0))) h
       ∙ ap (put (changed (move true text).changes)) (
-        room_goes level.room at opener mode other (λ skip next. rest_of other level skip next (at + 1)) (λ room skip next. rest_of other (within room) skip next 0) some
-        ∙ ap (past_opened opener mode other (λ skip next. rest_of other level skip next (at + 1))) inner
-        ∙ ap (put (piece_before (opened_piece opener other first.close))) outer
-        ∙ ap (λ p. Ok (piece_before p second)) piece
-        ∙ ap (λ r. Ok r) f
+      room_goes level.room at opener mode other (λ skip next. rest_of other level skip next (at + 1)) (λ room skip next. rest_of other (within room) skip next 0) some
+      ∙ ap (past_opened opener mode other (λ skip next. rest_of other level skip next (at + 1))) inner
+      ∙ ap (put (piece_before (opened_piece opener other first.close))) outer
+      ∙ ap (λ p. Ok (piece_before p second)) piece
+      ∙ ap (λ r. Ok r) f
       )
       ∙ ap (λ r. Ok r) e
 
@@ -158,9 +158,9 @@ module _ (b : ℕ) (text : List ℕ) (place : Place) (at : ℕ) where
         close_at = (let k : rest.close ≡ at = ap (λ r. r.close) (sym is) ∙ changed_close (move true text).changes (last_rest at) in omega (arith, k));
         skipped = omega arith;
         again = λ tail more m.
-          ap (λ x. moved tail (within more) x at) (sym (class_ends (class_of b) place b at text tail h).1)
-          ∙ ap (λ s. put (changed (move true text).changes) (past s more at tail (λ skip next. rest_of tail (within more) skip next (at + 1)) (λ room skip next. rest_of tail (within room) skip next 0))) h
-          ∙ found;
+            ap (λ x. moved tail (within more) x at) (sym (class_ends (class_of b) place b at text tail h).1)
+            ∙ ap (λ s. put (changed (move true text).changes) (past s more at tail (λ skip next. rest_of tail (within more) skip next (at + 1)) (λ room skip next. rest_of tail (within room) skip next 0))) h
+            ∙ found;
         alone = λ more m. (class_ends (class_of b) place b at text text h).2 ∙ found;
       }
   stepped room rest known (Ok (On skip next)) h e =
@@ -175,9 +175,9 @@ module _ (b : ℕ) (text : List ℕ) (place : Place) (at : ℕ) where
         close_at = (let k : rest.close ≡ p.0.close = ap (λ r. r.close) (sym p.1.1) ∙ changed_close (move true text).changes p.0 in let l : p.0.close ≡ at + 1 + length c.inner = c.close_at in omega (arith, k, l));
         skipped = omega arith;
         again = λ tail more m.
-          goes_on (c.inner ++ c.closer ∷ tail) (within more) (move true (c.inner ++ c.closer ∷ tail)) skip next p.0 rest (to_same c.inner c.closer c.after tail (Ok (On skip next)) c.text_is c.closes h c.skipped) h p.1.1 (c.again tail more m);
+            goes_on (c.inner ++ c.closer ∷ tail) (within more) (move true (c.inner ++ c.closer ∷ tail)) skip next p.0 rest (to_same c.inner c.closer c.after tail (Ok (On skip next)) c.text_is c.closes h c.skipped) h p.1.1 (c.again tail more m);
         alone = λ more m.
-          goes_on c.inner (record { inside = false; room = more }) (move false c.inner) skip next p.0 rest (to_cut c.inner c.closer c.after (Ok (On skip next)) c.text_is c.closes h c.skipped) h p.1.1 (c.alone more m);
+            goes_on c.inner (record { inside = false; room = more }) (move false c.inner) skip next p.0 rest (to_cut c.inner c.closer c.after (Ok (On skip next)) c.text_is c.closes h c.skipped) h p.1.1 (c.alone more m);
       }
   stepped room rest known (Ok (Within opener mode)) h e =
       let go : ℕ → Place → Read = λ skip next. rest_of text (within room) skip next (at + 1) in
@@ -205,21 +205,21 @@ module _ (b : ℕ) (text : List ℕ) (place : Place) (at : ℕ) where
         text_is = ap (λ t. b ∷ t) c.text_is;
         closes = c.closes;
         close_at =
-        (let k : rest.close ≡ p.0.close = ap (λ r. r.close) (sym p.1.1) ∙ changed_close (move true text).changes p.0 in
-        let l : p.0.close ≡ s.0.close = ap (λ r. r.close) (sym s.1.1) in
-        let n : s.0.close ≡ at + 1 + length c.inner = c.close_at in
-        omega (arith, k, l, n));
+            (let k : rest.close ≡ p.0.close = ap (λ r. r.close) (sym p.1.1) ∙ changed_close (move true text).changes p.0 in
+            let l : p.0.close ≡ s.0.close = ap (λ r. r.close) (sym s.1.1) in
+            let n : s.0.close ≡ at + 1 + length c.inner = c.close_at in
+            omega (arith, k, l, n));
         skipped = omega arith;
         again = λ tail more m.
-          goes_past (c.inner ++ c.closer ∷ tail) (within more) (move true (c.inner ++ c.closer ∷ tail)) opener mode r.0 s.0 p.0 rest (to_same c.inner c.closer c.after tail (Ok (Within opener mode)) c.text_is c.closes h skips) h
-          (omega (arith, m, q.0)) p.1.1 s.1.1 (piece_cut opener c.inner (c.closer ∷ tail) r.0.close closed skips ∙ piece)
-          (ap (λ t. rest_of t (within (more - 1)) (first_skip opener) (first_place opener) 0) (ap (λ t. t ++ c.closer ∷ tail) mid.1 ∙ append_assoc i.inner (i.closer ∷ mid.0) (c.closer ∷ tail)) ∙ i.again (mid.0 ++ c.closer ∷ tail) (more - 1) (omega (arith, m)))
-          (c.again tail more m);
+            goes_past (c.inner ++ c.closer ∷ tail) (within more) (move true (c.inner ++ c.closer ∷ tail)) opener mode r.0 s.0 p.0 rest (to_same c.inner c.closer c.after tail (Ok (Within opener mode)) c.text_is c.closes h skips) h
+            (omega (arith, m, q.0)) p.1.1 s.1.1 (piece_cut opener c.inner (c.closer ∷ tail) r.0.close closed skips ∙ piece)
+            (ap (λ t. rest_of t (within (more - 1)) (first_skip opener) (first_place opener) 0) (ap (λ t. t ++ c.closer ∷ tail) mid.1 ∙ append_assoc i.inner (i.closer ∷ mid.0) (c.closer ∷ tail)) ∙ i.again (mid.0 ++ c.closer ∷ tail) (more - 1) (omega (arith, m)))
+            (c.again tail more m);
         alone = λ more m.
-          goes_past c.inner (record { inside = false; room = more }) (move false c.inner) opener mode r.0 s.0 p.0 rest (to_cut c.inner c.closer c.after (Ok (Within opener mode)) c.text_is c.closes h skips) h
-          (omega (arith, m, q.0)) p.1.1 s.1.1 piece
-          (ap (λ t. rest_of t (within (more - 1)) (first_skip opener) (first_place opener) 0) mid.1 ∙ i.again mid.0 (more - 1) (omega (arith, m)))
-          (c.alone more m);
+            goes_past c.inner (record { inside = false; room = more }) (move false c.inner) opener mode r.0 s.0 p.0 rest (to_cut c.inner c.closer c.after (Ok (Within opener mode)) c.text_is c.closes h skips) h
+            (omega (arith, m, q.0)) p.1.1 s.1.1 piece
+            (ap (λ t. rest_of t (within (more - 1)) (first_skip opener) (first_place opener) 0) mid.1 ∙ i.again mid.0 (more - 1) (omega (arith, m)))
+            (c.alone more m);
       }
 
 pub closed : (text : List ℕ) (room skip : ℕ) (place : Place) (at : ℕ) (rest : Rest) → rest_of text (within room) skip place at ≡ Ok rest → Closed text room skip place at rest

@@ -439,7 +439,6 @@ outside_closeparen PastQuotes b at n X Y fits = refl
 outside_closeparen (InBraces depth) b at n X Y fits = refl
 outside_closeparen PastBraces b at n X Y fits = refl
 
-
 cut_openbrace : (place : Place) (b at c : ℕ) (xs tail : List ℕ) → IsCloser c → FitsStep (move_of place (class_means true OpenBrace (xs ++ c ∷ tail)) b at (xs ++ c ∷ tail)).step (length xs) →
     move_of place (class_means true OpenBrace (xs ++ c ∷ tail)) b at (xs ++ c ∷ tail) ≡ move_of place (class_means false OpenBrace xs) b at xs
 cut_openbrace place b at c xs tail closer = rw (begins_two 42 125 c xs tail (differs 42 c closer refl refl) (differs 125 c closer refl refl))

@@ -150,8 +150,7 @@ script_read t room whole (Ok rest) small e h =
     let c : Closed t room 0 Start 0 rest = closed t room 0 Start 0 rest e in
     let at : rest.close ≡ 0 + length c.inner = c.close_at in
     let n : whole.close ≡ length c.inner = omega (arith, close, at) in
-    let inner : take whole.close t ≡ c.inner = ap (λ k. take k t) n ∙ ap (take (length c.inner)) c.text_is ∙ take_all c.inner (c.closer ∷ c.after) in
-    (
+    let inner : take whole.close t ≡ c.inner = ap (λ k. take k t) n ∙ ap (take (length c.inner)) c.text_is ∙ take_all c.inner (c.closer ∷ c.after) in (
       ap (λ x. commands_in (rest_of x outermost 0 Start 0)) inner ∙ ap commands_in (c.alone 200 small) ∙ ap (λ x. Ok x) commands,
       omega (arith, n, ap length c.text_is, length-append c.inner (c.closer ∷ c.after)),
     )
@@ -174,11 +173,10 @@ index_read t n room whole (Ok rest) small e h =
     let k : whole.close ≡ length c.inner = omega (arith, close, at) in
     let skip : suc n ≤ length c.inner = c.skipped in
     let own : slice_range t (suc n) whole.close ≡ drop (suc n) c.inner = ap (slice_range t (suc n)) k ∙ ap (λ x. slice_range x (suc n) (length c.inner)) c.text_is ∙ slice_all (suc n) c.inner (c.closer ∷ c.after) skip in
-    let there : rest_of (drop (suc n) c.inner) outermost 0 (Text Parens) (0 + suc n) ≡ Ok rest = sym (rest_skip c.inner outermost (suc n) (Text Parens) 0 skip) ∙ c.alone 200 small in
-    (
+    let there : rest_of (drop (suc n) c.inner) outermost 0 (Text Parens) (0 + suc n) ≡ Ok rest = sym (rest_skip c.inner outermost (suc n) (Text Parens) 0 skip) ∙ c.alone 200 small in (
       ap index_pieces_of own
-      ∙ same_pieces (rest_of (drop (suc n) c.inner) outermost 0 (Text Parens) (0 + suc n)) (rest_of (drop (suc n) c.inner) outermost 0 (Text Parens) 0) rest (shift (drop (suc n) c.inner) outermost 0 (0 + suc n) 0) there
-      ∙ ap (λ x. Ok x) pieces,
+          ∙ same_pieces (rest_of (drop (suc n) c.inner) outermost 0 (Text Parens) (0 + suc n)) (rest_of (drop (suc n) c.inner) outermost 0 (Text Parens) 0) rest (shift (drop (suc n) c.inner) outermost 0 (0 + suc n) 0) there
+          ∙ ap (λ x. Ok x) pieces,
       omega (arith, k, skip),
       omega (arith, k, ap length c.text_is, length-append c.inner (c.closer ∷ c.after)),
     )

@@ -115,7 +115,7 @@ link_made s origin old new place at opener mode here reads does some =
   where
     by_inner : (o : Opener) →
         ((piece : Piece) (mark : ℕ) (rest : Read) →
-          joined old (drop origin.base s) place at (put (changed (move_at (drop origin.base s) at origin.inside place).changes) (put (piece_before piece) rest)) ≡ joined (with_piece new piece mark) (drop origin.base s) (Text mode) mark rest) →
+        joined old (drop origin.base s) place at (put (changed (move_at (drop origin.base s) at origin.inside place).changes) (put (piece_before piece) rest)) ≡ joined (with_piece new piece mark) (drop origin.base s) (Text mode) mark rest) →
         (r : Read) →
         resumed s (record { origin = origin; parts = new; at = at; opener = o; mode = mode }) (joined (no_parts (first_skip o)) (drop (at + 1) (drop origin.base s)) (first_place o) (first_skip o) r)
         ≡ joined old (drop origin.base s) place at (put (changed (move_at (drop origin.base s) at origin.inside place).changes) (past_opened o mode (drop (at + 1) (drop origin.base s)) (λ skip next. rest_of (drop (at + 1) (drop origin.base s)) (level_of origin) skip next (at + 1)) r))

@@ -126,8 +126,7 @@ opening_reads s ws o p n opener mode r some =
     let k : 0 + first_skip opener ≡ first_skip opener = omega arith in
     let level : Level = level_of (opened o n opener) in
     let rest : rest_of (drop (o.base + (n + 1)) s) level (first_skip opener) (first_place opener) 0 ≡ rest_of (drop (first_skip opener) (drop (o.base + (n + 1)) s)) level 0 (first_place opener) (first_skip opener) =
-    rest_skip (drop (o.base + (n + 1)) s) level (first_skip opener) (first_place opener) 0 cut.0 ∙ ap (rest_of (drop (first_skip opener) (drop (o.base + (n + 1)) s)) level 0 (first_place opener)) k in
-    (
+    rest_skip (drop (o.base + (n + 1)) s) level (first_skip opener) (first_place opener) 0 cut.0 ∙ ap (rest_of (drop (first_skip opener) (drop (o.base + (n + 1)) s)) level 0 (first_place opener)) k in (
       record {
         chain = chain_push s outset o ws (waits_for o p n opener mode) r.chain refl (r.waits some);
         reads = ap (joined (no_parts (first_skip opener)) (drop (o.base + (n + 1)) s) (first_place opener) (first_skip opener)) (sym rest);
@@ -185,16 +184,14 @@ parse_found Bracket s o at n place p utf8 short room e index base here =
     let found = script_alone text (o.room - 1) (ended place p n) (omega (arith, room)) e in
     let close : (ended place p n).close ≡ n = ended_close place p n in
     let inner_utf8 : IsUtf8 (take n text) = IsUtf8-take text n (IsUtf8-drop s (o.base + (at + 1)) utf8 base) (to_base s (o.base + (at + 1)) n base.0 here) in
-    let inner_short : length (take n text) ≤ 65536 = omega (arith, short, length-take n text, length-drop (o.base + (at + 1)) s) in
-    (
+    let inner_short : length (take n text) ≤ 65536 = omega (arith, short, length-take n text, length-drop (o.base + (at + 1)) s) in (
       commands_of-read (take n text) inner_short inner_utf8 ∙ ap (λ k. commands_in (rest_of (take k text) outermost 0 Start 0)) (sym close) ∙ found.0 ∙ ap (λ c. Ok c) (ended_script place p n index),
       (let h : suc (ended place p n).close ≤ length text = found.1 in omega (arith, h, close)),
     )
 parse_found (Index m) s o at n place p utf8 short room e index base here =
     let text : List ℕ = drop (o.base + (at + 1)) s in
     let found = index_alone text m (o.room - 1) (ended place p n) (omega (arith, room)) e in
-    let close : (ended place p n).close ≡ n = ended_close place p n in
-    (
+    let close : (ended place p n).close ≡ n = ended_close place p n in (
       (
         ap (λ k. index_pieces_of (slice_range text (suc m) k)) (sym close) ∙ found.0 ∙ ap (λ c. Ok c) (ended_index place p n index),
         (let h : suc m ≤ (ended place p n).close = found.1 in omega (arith, h, close)),
@@ -247,14 +244,13 @@ ending_reads s ws w o p place n utf8 short r =
     let k : o.base + n + 1 ≡ w.origin.base + (w.at + 1 + n + 1) = omega (arith, base) in
     let cut : IsCharBoundary s (w.origin.base + (w.at + 1 + n + 1)) = moved_cut s _ _ k r.past in
     let piece : opened_piece w.opener (drop (w.at + 1) (drop w.origin.base s)) (ended place p n).close ≡ opened_piece w.opener (drop (w.origin.base + w.at + 1) s) n =
-    ap (λ t. opened_piece w.opener t (ended place p n).close) text ∙ ap (opened_piece w.opener (drop (w.origin.base + w.at + 1) s)) close in
-    (
+    ap (λ t. opened_piece w.opener t (ended place p n).close) text ∙ ap (opened_piece w.opener (drop (w.origin.base + w.at + 1) s)) close in (
       record {
         chain = q.0;
         reads =
-        ap (λ x. joined (with_piece w.parts x (w.at + 1 + n + 1)) (drop w.origin.base s) (Text w.mode) (w.at + 1 + n + 1) (rest_of (drop (w.at + 1 + n + 1) (drop w.origin.base s)) (level_of w.origin) 0 (Text w.mode) (w.at + 1 + n + 1))) (sym piece)
-        ∙ ap (λ x. joined (with_piece w.parts (opened_piece w.opener (drop (w.at + 1) (drop w.origin.base s)) (ended place p n).close) x) (drop w.origin.base s) (Text w.mode) x (rest_of (drop x (drop w.origin.base s)) (level_of w.origin) 0 (Text w.mode) x)) (sym end)
-        ∙ resume_read s w (ended place p n) waiting ends room;
+            ap (λ x. joined (with_piece w.parts x (w.at + 1 + n + 1)) (drop w.origin.base s) (Text w.mode) (w.at + 1 + n + 1) (rest_of (drop (w.at + 1 + n + 1) (drop w.origin.base s)) (level_of w.origin) 0 (Text w.mode) (w.at + 1 + n + 1))) (sym piece)
+            ∙ ap (λ x. joined (with_piece w.parts (opened_piece w.opener (drop (w.at + 1) (drop w.origin.base s)) (ended place p n).close) x) (drop w.origin.base s) (Text w.mode) x (rest_of (drop x (drop w.origin.base s)) (level_of w.origin) 0 (Text w.mode) x)) (sym end)
+            ∙ resume_read s w (ended place p n) waiting ends room;
         fine = record { before = omega arith; boundary = to_base s w.origin.base (w.at + 1 + n + 1) waiting.base.0 cut; short = (let none : length w.parts.literal ≡ 0 = ap length waiting.literal in omega (arith, none)) };
         base = waiting.base;
         within = cut.0;
@@ -353,11 +349,11 @@ finishing s ws o p place n r end outside =
       fine = subst (λ k. IsFine p s place k) all (subst (λ k. IsFine p (drop k s) place n) base r.fine);
       script = r.index ∙ ap (λ x. is_index x.place) first;
       reads =
-      ap (λ k. joined p s place k (at_end false place k)) (sym all)
-      ∙ ap (λ k. joined p (drop k s) place n (at_end false place n)) (sym base)
-      ∙ ap (λ b. joined p (drop o.base s) place n (at_end b place n)) (sym outside)
-      ∙ end_reads s ws o p place n r end
-      ∙ ap (own s) first;
+          ap (λ k. joined p s place k (at_end false place k)) (sym all)
+          ∙ ap (λ k. joined p (drop k s) place n (at_end false place n)) (sym base)
+          ∙ ap (λ b. joined p (drop o.base s) place n (at_end b place n)) (sym outside)
+          ∙ end_reads s ws o p place n r end
+          ∙ ap (own s) first;
     }
 
 pub finished : (s : List ℕ) (p new : Parts) (place : Place) → Finishing s p place → joined p s place (length s) (at_end false place (length s)) ≡ Ok (script_whole new.commands (length s)) → commands_in (rest_of s outermost 0 Start 0) ≡ Ok new.commands

@@ -221,30 +221,30 @@ module _ (p mid new : Parts) (s : List ℕ) (at : ℕ) (place : Place) (lead : L
     (over : (r : Read) → joined p s place at (put (changed lead) (put (changed_by text_ends) r)) ≡ joined mid s PastBraces at r)
     (whole : ended PastBraces new at ≡ ended place new at) (index : is_index PastBraces ≡ is_index place)
   where
-  absorbs : (ch : List Change) (r : Read) → joined p s place at (put (changed (lead ++ word_ends at ∷ ch)) r) ≡ joined mid s PastBraces at (put (changed (word_ends at ∷ ch)) r)
-  absorbs ch (Ok rest) = ap (joined p s place at) (put_after lead (word_ends at ∷ ch) (Ok rest)) ∙ over (Ok (changed (word_ends at ∷ ch) rest))
-  absorbs ch (Err fault) = refl
+    absorbs : (ch : List Change) (r : Read) → joined p s place at (put (changed (lead ++ word_ends at ∷ ch)) r) ≡ joined mid s PastBraces at (put (changed (word_ends at ∷ ch)) r)
+    absorbs ch (Ok rest) = ap (joined p s place at) (put_after lead (word_ends at ∷ ch) (Ok rest)) ∙ over (Ok (changed (word_ends at ∷ ch) rest))
+    absorbs ch (Err fault) = refl
 
-  absorbed : (ch : List Change) (step : Result Step ParseFault) (result : Result Step ParseFault) →
-      Does mid new s at PastBraces (record { changes = word_ends at ∷ ch; step = step }) result → Does p new s at place (record { changes = lead ++ word_ends at ∷ ch; step = step }) result
-  absorbed ch step (Ok (On skip next)) d = (d.0, λ r. absorbs ch r ∙ d.1 r, d.2, d.3, d.4 ∙ index)
-  absorbed ch step (Ok (Within opener mode)) d = (d.0, λ own mark r. absorbs ch (put (piece_before own) r) ∙ d.1 own mark r, d.2, d.3, d.4 ∙ index)
-  absorbed ch step (Ok Ends) d = (d.0, absorbs ch (Ok (last_rest at)) ∙ d.1 ∙ ap (λ w. Ok w) whole, d.2, d.3)
-  absorbed ch step (Err fault) d = d
+    absorbed : (ch : List Change) (step : Result Step ParseFault) (result : Result Step ParseFault) →
+        Does mid new s at PastBraces (record { changes = word_ends at ∷ ch; step = step }) result → Does p new s at place (record { changes = lead ++ word_ends at ∷ ch; step = step }) result
+    absorbed ch step (Ok (On skip next)) d = (d.0, λ r. absorbs ch r ∙ d.1 r, d.2, d.3, d.4 ∙ index)
+    absorbed ch step (Ok (Within opener mode)) d = (d.0, λ own mark r. absorbs ch (put (piece_before own) r) ∙ d.1 own mark r, d.2, d.3, d.4 ∙ index)
+    absorbed ch step (Ok Ends) d = (d.0, absorbs ch (Ok (last_rest at)) ∙ d.1 ∙ ap (λ w. Ok w) whole, d.2, d.3)
+    absorbed ch step (Err fault) d = d
 
-  closed : (result : Result Step ParseFault) → Does mid new s at PastBraces ends result → Does p new s at place (record { changes = lead ++ []; step = Ok Ends }) result
-  closed (Ok (On skip next)) d = absurd (let e : ends.step ≡ Ok (On skip next) = d.0 in cc)
-  closed (Ok (Within opener mode)) d = absurd (let e : ends.step ≡ Ok (Within opener mode) = d.0 in cc)
-  closed (Ok Ends) d = (d.0, ap (joined p s place at) (put_after lead [] (Ok (last_rest at))) ∙ over (Ok (last_rest at)) ∙ d.1 ∙ ap (λ w. Ok w) whole, d.2, d.3)
-  closed (Err fault) d = d
+    closed : (result : Result Step ParseFault) → Does mid new s at PastBraces ends result → Does p new s at place (record { changes = lead ++ []; step = Ok Ends }) result
+    closed (Ok (On skip next)) d = absurd (let e : ends.step ≡ Ok (On skip next) = d.0 in cc)
+    closed (Ok (Within opener mode)) d = absurd (let e : ends.step ≡ Ok (Within opener mode) = d.0 in cc)
+    closed (Ok Ends) d = (d.0, ap (joined p s place at) (put_after lead [] (Ok (last_rest at))) ∙ over (Ok (last_rest at)) ∙ d.1 ∙ ap (λ w. Ok w) whole, d.2, d.3)
+    closed (Err fault) d = d
 
-  pub word_before : (kind : Kind) (behind : List ℕ) (other : Move) (result : Result Step ParseFault) → EndsWord kind →
-      Does mid new s at PastBraces (word_over kind at behind other) result → Does p new s at place (record { changes = lead ++ (word_over kind at behind other).changes; step = (word_over kind at behind other).step }) result
-  word_before kind behind other result (inl e) = rw e (absorbed [] (Ok (On 0 Between)) result)
-  word_before kind behind other result (inr (inl e)) = rw e (absorbed (command_ends ∷ []) (Ok (On 0 Start)) result)
-  word_before kind behind other result (inr (inr (inl e))) = rw e (absorbed (command_ends ∷ []) (Ok (On 0 Start)) result)
-  word_before kind behind other result (inr (inr (inr (inl e)))) = rw e (absorbed [] (Ok (On (escape behind).length Between)) result)
-  word_before kind behind other result (inr (inr (inr (inr e)))) = rw e (closed result)
+    pub word_before : (kind : Kind) (behind : List ℕ) (other : Move) (result : Result Step ParseFault) → EndsWord kind →
+        Does mid new s at PastBraces (word_over kind at behind other) result → Does p new s at place (record { changes = lead ++ (word_over kind at behind other).changes; step = (word_over kind at behind other).step }) result
+    word_before kind behind other result (inl e) = rw e (absorbed [] (Ok (On 0 Between)) result)
+    word_before kind behind other result (inr (inl e)) = rw e (absorbed (command_ends ∷ []) (Ok (On 0 Start)) result)
+    word_before kind behind other result (inr (inr (inl e))) = rw e (absorbed (command_ends ∷ []) (Ok (On 0 Start)) result)
+    word_before kind behind other result (inr (inr (inr (inl e)))) = rw e (absorbed [] (Ok (On (escape behind).length Between)) result)
+    word_before kind behind other result (inr (inr (inr (inr e)))) = rw e (closed result)
 
 pub bare_ends : (p new : Parts) (s : List ℕ) (at : ℕ) (kind : Kind) (behind : List ℕ) (other : Move) (result : Result Step ParseFault) → EndsWord kind →
     Does (with_literal p s at) new s at PastBraces (word_over kind at behind other) result → Does p new s at (Text Bare) (word_over kind at behind other) result
@@ -354,8 +354,7 @@ cut_braced s at n utf8 within fits =
     let g : at + 2 + n ≡ at + 1 + (n + 1) = omega arith in
     let open_low : get_or s (at + 1 + 0) 0 < 128 = rw get_or-drop at fits.1 in
     let close_low : get_or s (at + 1 + (n + 1)) 0 < 128 = rw get_or-drop at fits.2 in
-    let inside : at + 1 + (n + 1) < length s = omega (arith, fits.0, length-drop (at + 1) s) in
-    (
+    let inside : at + 1 + (n + 1) < length s = omega (arith, fits.0, length-drop (at + 1) s) in (
       rw f (IsCharBoundary-after_ascii s (at + 1 + 0) utf8 (omega arith) open_low),
       rw g (IsCharBoundary-before_ascii s (at + 1 + (n + 1)) inside close_low),
       rw g (IsCharBoundary-after_ascii s (at + 1 + (n + 1)) utf8 inside close_low),
@@ -455,9 +454,9 @@ stands_at s at b kind utf8 within short e ascii expands continues = record {
   cut_after = λ h. let low : b < 128 = ascii h in IsCharBoundary-after_ascii s at utf8 within (omega (arith, e));
   expansion = λ k. let low : b < 128 = ascii (λ h. let x : Expansion ≡ Other = sym k ∙ h in cc) in expansion_at s at utf8 within (omega (arith, e)) (expands k);
   continuation = λ k.
-    let low : b < 128 = ascii (λ h. let x : Continuation ≡ Other = sym k ∙ h in cc) in
-    let first : get_or (drop (at + 1) s) 0 0 ≡ 10 = newline_first (drop (at + 1) s) (continues k) in
-    escape_cut_at s at utf8 within (IsCharBoundary-after_ascii s at utf8 within (omega (arith, e))) (omega (arith, first));
+      let low : b < 128 = ascii (λ h. let x : Continuation ≡ Other = sym k ∙ h in cc) in
+      let first : get_or (drop (at + 1) s) 0 0 ≡ 10 = newline_first (drop (at + 1) s) (continues k) in
+      escape_cut_at s at utf8 within (IsCharBoundary-after_ascii s at utf8 within (omega (arith, e))) (omega (arith, first));
 }
 
 pub not_ascii : (r : Bool) (x : ℕ) → (x < 128 → IsTrue r) → r ≡ false → 128 ≤ x

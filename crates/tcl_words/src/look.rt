@@ -2,7 +2,6 @@
 
 ghost use Rattle.std.specs.Prelude.{◌≡◌, ◌≢◌, ◌<◌, ◌≤◌, ◌+◌, ◌-◌, ℕ, length, slice_index, MatchOption, IsTrue, true};
 ghost use Rattle.tcl_words.specs.Kinds.{class_of, begins_newline, begins_expansion, kind_of, is_letter, letters, name_length, to_brace, dollar_of};
-
 ghost use Rattle.tcl_words.specs.Parts.{DollarFits};
 
 use crate::kind::{Dollar, Kind};

@@ -145,7 +145,15 @@ fn read_dollar(
         Dollar::Alone => Ok(Step::On(0, Place::Text(mode))),
         Dollar::Named(count) => {
             let start = at + 1;
-            push_name(parts, alloc, source, at, start, start + count, start + count)?;
+            push_name(
+                parts,
+                alloc,
+                source,
+                at,
+                start,
+                start + count,
+                start + count,
+            )?;
             Ok(Step::On(count, Place::Text(mode)))
         }
         Dollar::Indexed(count) => {
@@ -154,7 +162,15 @@ fn read_dollar(
         }
         Dollar::Braced(count) => {
             let start = at + 2;
-            push_name(parts, alloc, source, at, start, start + count, start + count + 1)?;
+            push_name(
+                parts,
+                alloc,
+                source,
+                at,
+                start,
+                start + count,
+                start + count + 1,
+            )?;
             Ok(Step::On(count + 2, Place::Text(mode)))
         }
         Dollar::Unclosed => Err(ParseFault::MissingBrace),
@@ -234,11 +250,7 @@ fn read_past(
     ensures { Does parts.old parts.new source.now at Place.PastBraces (word_over kind at (drop (at + 1) source.now) (fails fault)) result }
 {
     match kind {
-        Kind::Blank
-        | Kind::Newline
-        | Kind::Semicolon
-        | Kind::Continuation
-        | Kind::CloseBracket => {
+        Kind::Blank | Kind::Newline | Kind::Semicolon | Kind::Continuation | Kind::CloseBracket => {
             let step = end_word(parts, alloc, source, at, byte, kind)?;
             Ok(step)
         }
@@ -260,11 +272,7 @@ fn read_bare(
     ensures { Does parts.old parts.new source.now at (Place.Text Mode.Bare) (in_bare kind byte at (drop (at + 1) source.now)) result }
 {
     match kind {
-        Kind::Blank
-        | Kind::Newline
-        | Kind::Semicolon
-        | Kind::Continuation
-        | Kind::CloseBracket => {
+        Kind::Blank | Kind::Newline | Kind::Semicolon | Kind::Continuation | Kind::CloseBracket => {
             parts.end_literal(alloc, source, at)?;
             let step = end_word(parts, alloc, source, at, byte, kind)?;
             Ok(step)
@@ -404,11 +412,7 @@ fn read_expanded(
     ensures { Does parts.old parts.new source.now at Place.Expanded (in_expanded kind byte at (drop (at + 1) source.now)) result }
 {
     match kind {
-        Kind::Blank
-        | Kind::Newline
-        | Kind::Semicolon
-        | Kind::Continuation
-        | Kind::CloseBracket => {
+        Kind::Blank | Kind::Newline | Kind::Semicolon | Kind::Continuation | Kind::CloseBracket => {
             parts.begin_word(alloc, WordForm::Braced, false, at - 3, at - 2);
             parts.end_braced(alloc, source, at - 1)?;
             end_word(parts, alloc, source, at, byte, kind)
@@ -565,12 +569,7 @@ pub fn read_byte(
 }
 
 /// The text of a script ends, and what is open of it: not in quotes, braces or an index.
-pub fn finish(
-    parts: &mut Open,
-    alloc: Global,
-    source: &str,
-    place: Place,
-) -> Result<(), ParseFault>
+pub fn finish(parts: &mut Open, alloc: Global, source: &str, place: Place) -> Result<(), ParseFault>
     requires short { length source.now ≤ 65536 }
     requires fine { IsFine parts.old source.now place (length source.now) }
     requires script { is_index place ≡ false }

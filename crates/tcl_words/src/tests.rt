@@ -376,8 +376,9 @@ fn spans_are_slices(rt: HostRuntime) -> Result<(), Fail> {
 #[test]
 fn example_of_three_words(rt: HostRuntime) -> Result<(), Fail> {
     let script = parse(rt.alloc(), b"set a 1; # c")?;
-    assert_eq!(rt; script.commands().len(), 1);
-    assert_eq!(rt; script.commands()[0].words.as_slice().len(), 3);
+    let commands = script.commands();
+    assert_eq!(rt; commands.len(), 1);
+    assert_eq!(rt; commands[0].words.as_slice().len(), 3);
     Ok(())
 }
 

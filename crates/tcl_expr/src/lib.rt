@@ -1,0 +1,4 @@
+//! Tcl expressions, read once and evaluated step by step.
+#![tactic(auto)]
+
+mod arithmetic;

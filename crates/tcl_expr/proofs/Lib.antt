@@ -1,2 +1,4 @@
 -- Lemmas.
 pub mod ArithmeticLemmas
+pub mod ShiftLemmas
+pub mod StepLemmas

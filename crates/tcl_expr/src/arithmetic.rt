@@ -1,5 +1,5 @@
 //! Arithmetic on integers of 64 bits, exact or refused.
-ghost use Rattle.std.specs.Prelude.{◌≡◌, ◌≢◌, ◌+ℤ◌, ◌-ℤ◌, ◌*ℤ◌, ◌⊎◌, true, false, int_lt, int_rem, neg_ℤ, pos};
+ghost use Rattle.std.specs.Prelude.{◌≡◌, ◌≢◌, ◌^◌, ◌+ℤ◌, ◌-ℤ◌, ◌*ℤ◌, ◌⊎◌, true, false, int_lt, int_rem, neg_ℤ, pos};
 ghost use Rattle.tcl_expr.specs.Arithmetic as exact;
 
 /// The sum, where 64 bits hold it.
@@ -77,5 +77,53 @@ pub fn floor_remainder(left: i64, right: i64) -> i64
         remainder + right
     } else {
         remainder
+    }
+}
+
+/// The number shifted to the left, exact, where 64 bits hold it.
+#[tactic(auto, using(crate::proofs::ShiftLemmas::lefts))]
+fn left_by(number: i64, count: u64) -> Option<i64>
+    ensures { result ≡ exact.in_64_bits (number *ℤ pos (2 ^ count)) }
+{
+    if count < 63 {
+        number.checked_mul(2i64.pow(count as u32))
+    } else {
+        match number {
+            0 => Some(0),
+            -1 if count == 63 => Some(i64::MIN),
+            _ => None,
+        }
+    }
+}
+
+/// The number shifted to the right, rounded down.
+#[tactic(auto, using(crate::proofs::ShiftLemmas::rights))]
+fn right_by(number: i64, count: u64) -> i64
+    ensures { result ≡ exact.down_quotient number (2 ^ count) }
+{
+    number >> count.min(63)
+}
+
+/// The number shifted to the left, exact, where 64 bits hold it and the count isn't negative.
+#[tactic(auto, using(crate::proofs::ShiftLemmas::counts))]
+pub fn shifted_left(number: i64, count: i64) -> Option<i64>
+    ensures { result ≡ exact.shifted_left number count }
+{
+    if count < 0 {
+        None
+    } else {
+        left_by(number, count.unsigned_abs())
+    }
+}
+
+/// The number shifted to the right, rounded down, where the count isn't negative.
+#[tactic(auto, using(crate::proofs::ShiftLemmas::counts))]
+pub fn shifted_right(number: i64, count: i64) -> Option<i64>
+    ensures { result ≡ exact.shifted_right number count }
+{
+    if count < 0 {
+        None
+    } else {
+        Some(right_by(number, count.unsigned_abs()))
     }
 }

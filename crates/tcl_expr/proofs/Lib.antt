@@ -2,3 +2,4 @@
 pub mod ArithmeticLemmas
 pub mod ShiftLemmas
 pub mod StepLemmas
+pub mod CompileLemmas

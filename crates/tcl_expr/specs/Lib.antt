@@ -1,8 +1,11 @@
 -- What the contracts cite.
 pub mod Arithmetic
+pub mod Evaluation
 pub mod Faults
 pub mod Machine
+pub mod Reading
 pub mod Run
 pub mod Steps
+pub mod Tokens
 pub mod Trees
 pub mod Values

@@ -3,14 +3,20 @@
 
 mod arithmetic;
 mod ask;
+mod eval;
+mod expr;
 mod fault;
 mod machine;
 mod operands;
 mod operators;
+mod state;
 mod step;
+mod tokens;
 mod value;
 
 pub use ask::Ask;
+pub use eval::Eval;
+pub use expr::Expr;
 pub use fault::{EvalFault, ExprFault};
 pub use operators::{
     ArithmeticOperator, BinaryOperator, Comparison, Infix, NumberOperator, TextOperator,

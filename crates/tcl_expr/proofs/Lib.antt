@@ -3,3 +3,4 @@ pub mod ArithmeticLemmas
 pub mod ShiftLemmas
 pub mod StepLemmas
 pub mod CompileLemmas
+pub mod TokenLemmas

@@ -4,3 +4,4 @@ pub mod ShiftLemmas
 pub mod StepLemmas
 pub mod CompileLemmas
 pub mod TokenLemmas
+pub mod CloseLemmas

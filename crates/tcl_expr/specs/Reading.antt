@@ -81,21 +81,31 @@ parens (After operator a ∷ opened) = parens opened
 parens (Question a ∷ opened) = parens opened
 parens (Otherwise a b ∷ opened) = parens opened
 
+-- what stands open ends here, where what comes binds no tighter than this level; only at level 0 a choice ends
+abbrev pub ends_at : ℕ → Opened → Bool
+ends_at level (Before operator) = true
+ends_at level (After operator a) = nat_le level (level_of operator)
+ends_at level Paren = false
+ends_at level (Question a) = false
+ends_at level (Otherwise a b) = level == 0
+
+-- the tree that it is with what stands behind it
+abbrev pub ended : Opened → Tree → Tree
+ended (Before operator) tree = Unary operator tree
+ended (After operator a) tree = between operator a tree
+ended Paren tree = tree
+ended (Question a) tree = tree
+ended (Otherwise a b) tree = Choice a b tree
+
 -- what is left open, and the tree in front of what comes
 pub record Closed : Type 0 where
   pub opened : List Opened
   pub tree : Tree
 
--- A tree with all that binds it at least as tight as this level, innermost first. Only at level 0 a choice ends.
+-- a tree with all that ends behind it, innermost first
 abbrev pub close : ℕ → List Opened → Tree → Closed
 close level [] tree = record { opened = []; tree = tree }
-close level (Before operator ∷ opened) tree = close level opened (Unary operator tree)
-close level (After operator a ∷ opened) tree =
-    if nat_le level (level_of operator) then close level opened (between operator a tree) else record { opened = After operator a ∷ opened; tree = tree }
-close level (Paren ∷ opened) tree = record { opened = Paren ∷ opened; tree = tree }
-close level (Question a ∷ opened) tree = record { opened = Question a ∷ opened; tree = tree }
-close level (Otherwise a b ∷ opened) tree =
-    if level == 0 then close level opened (Choice a b tree) else record { opened = Otherwise a b ∷ opened; tree = tree }
+close level (own ∷ opened) tree = if ends_at level own then close level opened (ended own tree) else record { opened = own ∷ opened; tree = tree }
 
 -- ── bytes ──
 
@@ -120,19 +130,28 @@ at_backslash place opened behind = if begins_newline behind then move 1 place op
 abbrev pub at_paren : List Opened → Result Move ExprFault
 at_paren opened = if nat_lt (parens opened) 200 then move 0 AtOperand (Paren ∷ opened) else Err TooLong
 
-abbrev pub at_number : ℕ → List Opened → List ℕ → Result Move ExprFault
-at_number n opened text = if ends_number (drop n text) then move (n - 1) (AtOperator (Integer (take n text))) opened else Err Syntax
+-- A part of a text that is cut at ASCII bytes is UTF-8 where the text is, so that this never fails.
+abbrev pub with_text : List ℕ → Result Move ExprFault → Result Move ExprFault
+with_text bytes next = if is_utf8 bytes then next else Err TooLong
 
-abbrev pub at_word : ℕ → List Opened → List ℕ → Option Bool → Result Move ExprFault
-at_word n opened text (Some truth) = move (n - 1) (AtOperator (Plain (take n text))) opened
-at_word n opened text None = Err Syntax
+abbrev pub at_number : ℕ → List Opened → List ℕ → Result Move ExprFault
+at_number n opened text =
+    if ends_number (drop n text) then with_text (take n text) (move (n - 1) (AtOperator (Integer (take n text))) opened) else Err Syntax
+
+abbrev pub word_or_fault : ℕ → List Opened → List ℕ → Option Bool → Result Move ExprFault
+word_or_fault n opened word (Some truth) = move (n - 1) (AtOperator (Plain word)) opened
+word_or_fault n opened word None = Err Syntax
+
+abbrev pub at_word : ℕ → List Opened → List ℕ → Result Move ExprFault
+at_word n opened text = with_text (take n text) (word_or_fault n opened (take n text) (boolean_of (take n text)))
 
 abbrev pub at_variable : List Opened → List ℕ → Result (ℕ × ℕ × ℕ) ExprFault → Result Move ExprFault
-at_variable opened behind (Ok found) = move found.2 (AtOperator (Variable (slice_range behind found.0 found.1))) opened
+at_variable opened behind (Ok found) =
+    with_text (slice_range behind found.0 found.1) (move found.2 (AtOperator (Variable (slice_range behind found.0 found.1))) opened)
 at_variable opened behind (Err fault) = Err fault
 
 abbrev pub at_brace : List Opened → List ℕ → Result ℕ ExprFault → Result Move ExprFault
-at_brace opened behind (Ok n) = move (suc n) (AtOperator (Plain (take n behind))) opened
+at_brace opened behind (Ok n) = with_text (take n behind) (move (suc n) (AtOperator (Plain (take n behind))) opened)
 at_brace opened behind (Err fault) = Err fault
 
 -- a byte of this kind where an operand is due
@@ -147,32 +166,46 @@ operand_move mark.OpenParen opened text behind = at_paren opened
 operand_move mark.Dollar opened text behind = at_variable opened behind (name_at behind)
 operand_move mark.OpenBrace opened text behind = at_brace opened behind (to_close 0 behind)
 operand_move mark.Digit opened text behind = at_number (number_length text) opened text
-operand_move mark.Letter opened text behind = at_word (name_bytes text) opened text (boolean_of (take (name_bytes text) text))
+operand_move mark.Letter opened text behind = at_word (name_bytes text) opened text
 operand_move mark.Later opened text behind = Err NotYet
 operand_move _ opened text behind = Err Syntax
 
-abbrev pub at_colon : Closed → Result Move ExprFault
-at_colon closed = by closed.opened
-  where
-    by : List Opened → Result Move ExprFault
-    by (Question a ∷ opened) = move 0 AtOperand (Otherwise a closed.tree ∷ opened)
-    by _ = Err Syntax
+-- how reading goes on behind an operator
+pub record Next : Type 0 where
+  pub place : Place
+  pub opened : List Opened
 
-abbrev pub at_close : Closed → Result Move ExprFault
-at_close closed = by closed.opened
-  where
-    by : List Opened → Result Move ExprFault
-    by (Paren ∷ opened) = move 0 (AtOperator closed.tree) opened
-    by _ = Err Syntax
+abbrev pub next : Place → List Opened → Result Next ExprFault
+next place opened = Ok (record { place = place; opened = opened })
 
--- an operator of this length behind a tree
+abbrev pub at_colon : List Opened → Tree → Result Next ExprFault
+at_colon (Question a ∷ opened) tree = next AtOperand (Otherwise a tree ∷ opened)
+at_colon _ tree = Err Syntax
+
+abbrev pub at_close : List Opened → Tree → Result Next ExprFault
+at_close (Paren ∷ opened) tree = next (AtOperator tree) opened
+at_close _ tree = Err Syntax
+
+abbrev pub at_infix : Infix → Closed → Result Next ExprFault
+at_infix operator closed = next AtOperand (After operator closed.tree ∷ closed.opened)
+
+abbrev pub at_question : Closed → Result Next ExprFault
+at_question closed = next AtOperand (Question closed.tree ∷ closed.opened)
+
+-- an operator behind a tree
+abbrev pub link_next : List Opened → Tree → Link → Result Next ExprFault
+link_next opened tree (link.Infix operator) = at_infix operator (close (level_of operator) opened tree)
+link_next opened tree link.Question = at_question (close 1 opened tree)
+link_next opened tree link.Colon = at_colon (close 0 opened tree).opened (close 0 opened tree).tree
+link_next opened tree link.Close = at_close (close 0 opened tree).opened (close 0 opened tree).tree
+
+abbrev pub with_skip : ℕ → Result Next ExprFault → Result Move ExprFault
+with_skip skip (Ok n) = move skip n.place n.opened
+with_skip skip (Err fault) = Err fault
+
 abbrev pub link_move : List Opened → Tree → Option (Link × ℕ) → Result Move ExprFault
 link_move opened tree None = Err Syntax
-link_move opened tree (Some (link.Infix operator, n)) =
-    let closed : Closed = close (level_of operator) opened tree in move (n - 1) AtOperand (After operator closed.tree ∷ closed.opened)
-link_move opened tree (Some (link.Question, n)) = let closed : Closed = close 1 opened tree in move 0 AtOperand (Question closed.tree ∷ closed.opened)
-link_move opened tree (Some (link.Colon, n)) = at_colon (close 0 opened tree)
-link_move opened tree (Some (link.Close, n)) = at_close (close 0 opened tree)
+link_move opened tree (Some found) = with_skip (found.1 - 1) (link_next opened tree found.0)
 
 -- a byte of this kind behind an operand
 abbrev pub operator_move : Mark → List Opened → Tree → List ℕ → List ℕ → Result Move ExprFault
@@ -185,17 +218,14 @@ move_of AtOperand opened text behind m = operand_move m opened text behind
 move_of (AtOperator tree) opened text behind m = operator_move m opened tree text behind
 
 -- the end of the text
-abbrev pub whole : Closed → Result Tree ExprFault
-whole closed = by closed.opened
-  where
-    by : List Opened → Result Tree ExprFault
-    by [] = Ok closed.tree
-    by (Paren ∷ opened) = Err MissingParen
-    by _ = Err Syntax
+abbrev pub whole : List Opened → Tree → Result Tree ExprFault
+whole [] tree = Ok tree
+whole (Paren ∷ opened) tree = Err MissingParen
+whole _ tree = Err Syntax
 
 abbrev pub at_end : Place → List Opened → Result Tree ExprFault
 at_end AtOperand opened = Err Syntax
-at_end (AtOperator tree) opened = whole (close 0 opened tree)
+at_end (AtOperator tree) opened = whole (close 0 opened tree).opened (close 0 opened tree).tree
 
 abbrev pub on_move : Result Move ExprFault → (ℕ → Place → List Opened → Result Tree ExprFault) → Result Tree ExprFault
 on_move (Ok next) go = go next.skip next.place next.opened

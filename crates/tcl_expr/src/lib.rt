@@ -7,6 +7,7 @@ mod eval;
 mod expr;
 mod fault;
 mod machine;
+mod open;
 mod operands;
 mod operators;
 mod state;

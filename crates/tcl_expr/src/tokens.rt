@@ -1,5 +1,5 @@
 //! What stands in front of a text where an operand or an operator is due.
-ghost use Rattle.std.specs.Prelude.{◌≡◌, ◌≤◌, ◌<◌, ◌^◌, length};
+ghost use Rattle.std.specs.Prelude.{◌≡◌, ◌≤◌, ◌<◌, ◌+◌, ◌^◌, length, IfOk, IfSome};
 ghost use Rattle.std.specs.Char as chars;
 ghost use Rattle.tcl_text.specs.Readings as readings;
 ghost use Rattle.tcl_expr.specs.Tokens as tokens;
@@ -292,7 +292,8 @@ fn base_named(letter: u8) -> Option<u8>
 /// How long a number is, from the 0 that it begins with on: a base's letter needs a digit of the base behind it.
 fn past_zero(text: &[u8]) -> usize
     requires { length text.now < 2 ^ 32 }
-    ensures { result ≡ tokens.past_zero text.now }
+    ensures length { result ≡ tokens.past_zero text.now }
+    ensures within { result ≤ length text.now + 1 }
 {
     let [letter, behind @ ..] = text else {
         return 1;
@@ -309,7 +310,8 @@ fn past_zero(text: &[u8]) -> usize
 /// How long the number in front of a text is that begins with a digit: as long as can be.
 pub fn number_length(text: &[u8]) -> usize
     requires { length text.now < 2 ^ 32 }
-    ensures { result ≡ tokens.number_length text.now }
+    ensures length { result ≡ tokens.number_length text.now }
+    ensures within { result ≤ length text.now }
 {
     match text {
         [] => 0,
@@ -327,7 +329,8 @@ pub fn ends_number(behind: &[u8]) -> bool
 
 /// How many bytes stand before the first `}`.
 fn to_brace(text: &[u8]) -> Option<usize>
-    ensures { result ≡ tokens.to_brace text.now }
+    ensures count { result ≡ tokens.to_brace text.now }
+    ensures within { IfSome result (λ count. count < length text.now) }
 {
     for (count, byte) in text.iter().enumerate() {
         if *byte == b'}' {
@@ -339,7 +342,8 @@ fn to_brace(text: &[u8]) -> Option<usize>
 
 /// How many bytes stand before the brace that closes.
 pub fn to_close(text: &[u8]) -> Result<usize, ExprFault>
-    ensures { result ≡ tokens.to_close 0 text.now }
+    ensures count { result ≡ tokens.to_close 0 text.now }
+    ensures within { IfOk result (λ count. count < length text.now) }
 {
     let mut depth = 0usize;
     for (count, byte) in text.iter().enumerate() {
@@ -370,7 +374,9 @@ fn name_length(text: &[u8]) -> usize
 /// Where a variable's name begins and ends behind a `$`, and where the operand ends.
 pub fn name_at(behind: &[u8]) -> Result<(usize, usize, usize), ExprFault>
     requires { length behind.now < 2 ^ 32 }
-    ensures { result ≡ tokens.name_at behind.now }
+    ensures place { result ≡ tokens.name_at behind.now }
+    ensures ordered { IfOk result (λ found. found.0 ≤ found.1) }
+    ensures within { IfOk result (λ found. (found.1 ≤ found.2) × (found.2 ≤ length behind.now)) }
 {
     if let [b'{', inside @ ..] = behind {
         return match to_brace(inside) {

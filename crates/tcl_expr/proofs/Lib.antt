@@ -5,3 +5,4 @@ pub mod StepLemmas
 pub mod CompileLemmas
 pub mod TokenLemmas
 pub mod CloseLemmas
+pub mod StandLemmas

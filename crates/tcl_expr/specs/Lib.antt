@@ -6,6 +6,7 @@ pub mod Machine
 pub mod Parsing
 pub mod Reading
 pub mod Run
+pub mod Standing
 pub mod Steps
 pub mod Tokens
 pub mod Trees

@@ -10,6 +10,7 @@ mod machine;
 mod open;
 mod operands;
 mod operators;
+mod parser;
 mod state;
 mod step;
 mod tokens;

@@ -4,6 +4,8 @@ use Rattle.tcl_text.specs.declared.splitting.SplitFault.{SplitFault}
 use Rattle.tcl_text.specs.declared.splitting.SplitFault.TheVariants.{BadList as SplitBadList, NoMemory as SplitNoMemory}
 use Rattle.tcl_text.specs.declared.text.TextFault.{TextFault}
 use Rattle.tcl_text.specs.declared.text.TextFault.TheVariants.{TooLong as TextTooLong, NoMemory as TextNoMemory}
+use Rattle.tcl_expr.specs.declared.fault.ExprFault.{ExprFault}
+use Rattle.tcl_expr.specs.declared.fault.ExprFault.TheVariants.{TooLong as ParseTooLong, NoMemory as ParseNoMemory}
 use Rattle.tcl_expr.specs.declared.fault.EvalFault.{EvalFault}
 use Rattle.tcl_expr.specs.declared.fault.EvalFault.TheVariants.{BadList, TooLong, NoMemory}
 
@@ -14,6 +16,10 @@ split_fault SplitNoMemory = NoMemory
 abbrev pub text_fault : TextFault → EvalFault
 text_fault TextTooLong = TooLong
 text_fault TextNoMemory = NoMemory
+
+abbrev pub parse_fault : TextFault → ExprFault
+parse_fault TextTooLong = ParseTooLong
+parse_fault TextNoMemory = ParseNoMemory
 
 -- the answer is what it should be, unless memory was refused
 abbrev pub Gives : {T : Type 0} → Result T EvalFault → Result T EvalFault → Type 0

@@ -127,6 +127,9 @@ move skip place opened = Ok (record { skip = skip; place = place; opened = opene
 abbrev pub at_backslash : Place → List Opened → List ℕ → Result Move ExprFault
 at_backslash place opened behind = if begins_newline behind then move 1 place opened else Err Syntax
 
+abbrev pub at_sign : UnaryOperator → List Opened → Result Move ExprFault
+at_sign operator opened = move 0 AtOperand (Before operator ∷ opened)
+
 abbrev pub at_paren : List Opened → Result Move ExprFault
 at_paren opened = if nat_lt (parens opened) 200 then move 0 AtOperand (Paren ∷ opened) else Err TooLong
 
@@ -158,10 +161,10 @@ at_brace opened behind (Err fault) = Err fault
 abbrev pub operand_move : Mark → List Opened → List ℕ → List ℕ → Result Move ExprFault
 operand_move mark.White opened text behind = move 0 AtOperand opened
 operand_move mark.Backslash opened text behind = at_backslash AtOperand opened behind
-operand_move mark.Minus opened text behind = move 0 AtOperand (Before Negate ∷ opened)
-operand_move mark.Plus opened text behind = move 0 AtOperand (Before Keep ∷ opened)
-operand_move mark.Tilde opened text behind = move 0 AtOperand (Before Complement ∷ opened)
-operand_move mark.Bang opened text behind = move 0 AtOperand (Before Not ∷ opened)
+operand_move mark.Minus opened text behind = at_sign Negate opened
+operand_move mark.Plus opened text behind = at_sign Keep opened
+operand_move mark.Tilde opened text behind = at_sign Complement opened
+operand_move mark.Bang opened text behind = at_sign Not opened
 operand_move mark.OpenParen opened text behind = at_paren opened
 operand_move mark.Dollar opened text behind = at_variable opened behind (name_at behind)
 operand_move mark.OpenBrace opened text behind = at_brace opened behind (to_close 0 behind)

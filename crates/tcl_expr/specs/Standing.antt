@@ -9,11 +9,10 @@ use Rattle.tcl_expr.specs.declared.tokens.Link.{Link}
 use Rattle.tcl_expr.specs.declared.parser.Parser.{Parser}
 use Rattle.tcl_expr.specs.Trees.{Tree}
 use Rattle.tcl_expr.specs.Steps.{steps_of}
-use Rattle.tcl_expr.specs.Reading.{Opened, Place, AtOperand, AtOperator, parens, Next, Move, link_next, operand_move, operator_move, at_end}
+use Rattle.tcl_expr.specs.Reading.{Opened, Place, AtOperand, AtOperator, parens, Next, Move, link_next, link_move, operand_move, operator_move, whole, at_end}
 use Rattle.tcl_expr.specs.Tokens.{mark_of}
 use Rattle.std.specs.Str.{is_utf8}
-use Rattle.std.specs.Prelude.{Vec, Global}
-use Rattle.tcl_expr.specs.Parsing.{Holds}
+use Rattle.tcl_expr.specs.Parsing.{Holds, all_kept}
 
 abbrev pub PopsQuestion : List Open → Option ℕ → List Open → Type 0
 PopsQuestion old (Some mark) new = old ≡ new ++ open_form.Question mark ∷ []
@@ -87,6 +86,11 @@ TakesLink old (Ok skip) new text = (before : List Opened) (tree : Tree) → Stan
 TakesLink old (Err fault) new text =
     (fault ≡ NoMemory) ⊎ ((before : List Opened) (tree : Tree) → Stands old (AtOperator tree) before → operator_at text before tree ≡ Err fault)
 
+abbrev pub TakesFound : Parser → Result ℕ ExprFault → Parser → Option (Link × ℕ) → Type 0
+TakesFound old (Ok skip) new found = (before : List Opened) (tree : Tree) → Stands old (AtOperator tree) before → Follows new skip (link_move before tree found)
+TakesFound old (Err fault) new found =
+    (fault ≡ NoMemory) ⊎ ((before : List Opened) (tree : Tree) → Stands old (AtOperator tree) before → link_move before tree found ≡ Err fault)
+
 abbrev pub TakesToken : Parser → Result ℕ ExprFault → Parser → List ℕ → Type 0
 TakesToken old (Ok skip) new text = (place : Place) (before : List Opened) → Stands old place before → Follows new skip (move_at text place before)
 TakesToken old (Err fault) new text =
@@ -97,6 +101,21 @@ abbrev pub IsWhole : Result Tree ExprFault → List Step → Type 0
 IsWhole (Ok tree) steps = steps ≡ steps_of tree
 IsWhole (Err fault) steps = ⊥
 
-abbrev pub Finishes : Parser → Result (Vec Step Global) ExprFault → Type 0
-Finishes parser (Ok steps) = (place : Place) (before : List Opened) → Stands parser place before → IsWhole (at_end place before) steps.items
-Finishes parser (Err fault) = (fault ≡ NoMemory) ⊎ ((place : Place) (before : List Opened) → Stands parser place before → at_end place before ≡ Err fault)
+abbrev pub Finishes : Parser → List Step → Type 0
+Finishes parser steps = (place : Place) (before : List Opened) → Stands parser place before → IsWhole (at_end place before) steps
+
+abbrev pub FailsAtEnd : Parser → ExprFault → Type 0
+FailsAtEnd parser fault = (fault ≡ NoMemory) ⊎ ((place : Place) (before : List Opened) → Stands parser place before → at_end place before ≡ Err fault)
+
+-- a fault, or else the tree
+abbrev pub end_answer : Option ExprFault → Tree → Result Tree ExprFault
+end_answer None tree = Ok tree
+end_answer (Some fault) tree = Err fault
+
+-- what is kept last where a text ends
+abbrev pub EndsOpen : List Open → Option ExprFault → Type 0
+EndsOpen opened answer = (before : List Opened) (tree : Tree) → opened ≡ all_kept before → whole before tree ≡ end_answer answer tree
+
+-- the fault, or want of memory
+abbrev pub IsFaultOrMemory : Result Tree ExprFault → ExprFault → Type 0
+IsFaultOrMemory read fault = (read ≡ Err fault) ⊎ (fault ≡ NoMemory)

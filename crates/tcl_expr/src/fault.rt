@@ -67,6 +67,20 @@ impl<T: Drop> From<AllocFailed<T>> for ExprFault {
     }
 }
 
+impl From<TextFault> for ExprFault {
+    ghost use Rattle.std.specs.Prelude.{◌≡◌};
+    ghost use Rattle.tcl_expr.specs.Faults.{parse_fault};
+
+    ghost from_gives = { λ fault e. e ≡ parse_fault fault };
+
+    fn from(fault: TextFault) -> ExprFault {
+        match fault {
+            TextFault::TooLong => ExprFault::TooLong,
+            TextFault::NoMemory => ExprFault::NoMemory,
+        }
+    }
+}
+
 impl From<AllocError> for EvalFault {
     ghost use Rattle.std.specs.Prelude.{◌≡◌};
     ghost use Rattle.tcl_expr.specs.declared.fault.EvalFault.TheVariants.{NoMemory};

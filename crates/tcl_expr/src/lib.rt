@@ -11,6 +11,7 @@ mod open;
 mod operands;
 mod operators;
 mod parser;
+mod reader;
 mod state;
 mod step;
 mod tokens;

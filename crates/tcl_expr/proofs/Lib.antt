@@ -6,3 +6,4 @@ pub mod CompileLemmas
 pub mod TokenLemmas
 pub mod CloseLemmas
 pub mod StandLemmas
+pub mod ReadLemmas

@@ -10,6 +10,7 @@ mod machine;
 mod open;
 mod operands;
 mod operators;
+mod parse;
 mod parser;
 mod reader;
 mod state;
@@ -21,6 +22,7 @@ pub use ask::Ask;
 pub use eval::Eval;
 pub use expr::Expr;
 pub use fault::{EvalFault, ExprFault};
+pub use parse::parse_expr;
 pub use operators::{
     ArithmeticOperator, BinaryOperator, Comparison, Infix, NumberOperator, TextOperator,
     UnaryOperator,

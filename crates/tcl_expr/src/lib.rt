@@ -15,6 +15,8 @@ mod parser;
 mod reader;
 mod state;
 mod step;
+#[cfg(test)]
+mod tests;
 mod tokens;
 mod value;
 

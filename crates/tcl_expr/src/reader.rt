@@ -246,9 +246,10 @@ pub fn read_all(alloc: Global, source: &[u8]) -> Result<Vec<Step>, ExprFault>
         is_due: true,
     };
     let mut rest = source;
-    while let [_first, behind @ ..] = rest {
+    while let Some((_first, behind)) = rest.split_first() {
         let skip = take_token(alloc, &mut parser, rest)?;
-        rest = &behind[skip.min(behind.len())..];
+        let count = skip.min(behind.len());
+        rest = &behind[count..];
     }
     let steps = finish(parser)?;
     Ok(steps)

@@ -121,4 +121,5 @@ even_remainder (negsuc a) (pos (suc d)) n r = left_other a d (no_rest _ _ r) (st
 even_remainder (negsuc a) (negsuc d) n r = refl
 
 pub ruleset quotients = (held, uneven_quotient, even_quotient, to_z-of_z)
+
 pub ruleset remainders = (uneven_remainder, even_remainder, to_z-of_z)

@@ -65,9 +65,9 @@ execute_tree (Choice a b c) rest stack =
     ap (λ s. execute 0 s stack) (append_assoc (steps_of a) (step.Branch n ∷ (steps_of b ++ step.Jump m ∷ steps_of c)) rest ∙ ap (λ s. steps_of a ++ step.Branch n ∷ s) (append_assoc (steps_of b) (step.Jump m ∷ steps_of c) rest))
     ∙ execute_tree a (step.Branch n ∷ (steps_of b ++ step.Jump m ∷ (steps_of c ++ rest))) stack
     ∙ (λ i. value a (λ x. on_truth x (λ truth. choose
-        (execute_tree b (step.Jump m ∷ (steps_of c ++ rest)) stack ∙ (λ j. value b (λ v. execute_past (steps_of c) rest (v ∷ stack) j)))
-        (execute_past_one (steps_of b) (step.Jump m) (steps_of c ++ rest) stack ∙ execute_tree c rest stack)
-        truth i)))
+    (execute_tree b (step.Jump m ∷ (steps_of c ++ rest)) stack ∙ (λ j. value b (λ v. execute_past (steps_of c) rest (v ∷ stack) j)))
+    (execute_past_one (steps_of b) (step.Jump m) (steps_of c ++ rest) stack ∙ execute_tree c rest stack)
+    truth i)))
 
 append_nil : (xs : List Step) → xs ++ [] ≡ xs
 append_nil [] = refl

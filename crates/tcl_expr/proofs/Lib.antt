@@ -7,3 +7,4 @@ pub mod TokenLemmas
 pub mod CloseLemmas
 pub mod StandLemmas
 pub mod ReadLemmas
+pub mod FloorLemmas

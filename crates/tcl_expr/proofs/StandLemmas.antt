@@ -115,8 +115,8 @@ follow_on (Ok m) new skip count behind e f = (
   m.opened,
   f.1,
   reading_skip m.skip m.place m.opened behind
-  ∙ ap (λ k. reading 0 m.place m.opened (drop k behind)) (sym f.0)
-  ∙ ap (reading 0 m.place m.opened) (drop_min skip behind)
-  ∙ ap (λ k. reading 0 m.place m.opened (drop k behind)) (sym e),
+      ∙ ap (λ k. reading 0 m.place m.opened (drop k behind)) (sym f.0)
+      ∙ ap (reading 0 m.place m.opened) (drop_min skip behind)
+      ∙ ap (λ k. reading 0 m.place m.opened (drop k behind)) (sym e),
 )
 follow_on (Err fault) new skip count behind e f = absurd f

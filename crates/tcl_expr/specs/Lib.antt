@@ -3,6 +3,7 @@ pub mod Arithmetic
 pub mod Evaluation
 pub mod Faults
 pub mod Machine
+pub mod Messages
 pub mod Parsing
 pub mod Reading
 pub mod Run

@@ -6,7 +6,9 @@ mod ask;
 mod eval;
 mod expr;
 mod fault;
+mod laws;
 mod machine;
+mod message;
 mod open;
 mod operands;
 mod operators;
@@ -24,8 +26,9 @@ pub use ask::Ask;
 pub use eval::Eval;
 pub use expr::Expr;
 pub use fault::{EvalFault, ExprFault};
-pub use parse::parse_expr;
+pub use laws::quotients_round_down;
 pub use operators::{
     ArithmeticOperator, BinaryOperator, Comparison, Infix, NumberOperator, TextOperator,
     UnaryOperator,
 };
+pub use parse::parse_expr;

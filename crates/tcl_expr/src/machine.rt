@@ -93,11 +93,7 @@ fn join(alloc: Global, stack: &mut Operands) -> Result<Turn, EvalFault>
     Ok(Turn::Skip(0))
 }
 
-fn unary(
-    alloc: Global,
-    stack: &mut Operands,
-    operator: UnaryOperator,
-) -> Result<Turn, EvalFault>
+fn unary(alloc: Global, stack: &mut Operands, operator: UnaryOperator) -> Result<Turn, EvalFault>
     ensures { Performs (Step.Unary operator) stack.old result stack.new }
 {
     let operand = stack.pop();
@@ -106,11 +102,7 @@ fn unary(
     Ok(Turn::Skip(0))
 }
 
-fn binary(
-    alloc: Global,
-    stack: &mut Operands,
-    operator: BinaryOperator,
-) -> Result<Turn, EvalFault>
+fn binary(alloc: Global, stack: &mut Operands, operator: BinaryOperator) -> Result<Turn, EvalFault>
     ensures { Performs (Step.Binary operator) stack.old result stack.new }
 {
     let right = stack.pop();
@@ -203,9 +195,7 @@ fn step_at(
     ensures { Advances steps.now place stack.old result stack.new }
 {
     match perform(alloc, stack, &steps[place])? {
-        Turn::Skip(count) => Ok(Advance::On(
-            place + 1 + count.min(steps.len() - place - 1),
-        )),
+        Turn::Skip(count) => Ok(Advance::On(place + 1 + count.min(steps.len() - place - 1))),
         Turn::Stop(ask) => Ok(Advance::Halted(Halt {
             ask,
             place: place + 1,

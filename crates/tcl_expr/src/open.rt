@@ -24,9 +24,8 @@ fn arithmetic_level(operator: ArithmeticOperator) -> usize
     ensures { result ≡ reading.arithmetic_level operator }
 {
     match operator {
-        ArithmeticOperator::Multiply
-        | ArithmeticOperator::Divide
-        | ArithmeticOperator::Remainder => 10,
+        ArithmeticOperator::Multiply | ArithmeticOperator::Divide | ArithmeticOperator::Remainder =>
+            10,
         ArithmeticOperator::Add | ArithmeticOperator::Subtract => 9,
         ArithmeticOperator::ShiftLeft | ArithmeticOperator::ShiftRight => 8,
         ArithmeticOperator::BitAnd => 5,
@@ -106,11 +105,7 @@ fn end_open(steps: &mut Vec<Step>, own: Open) -> Result<(), AllocError>
 }
 
 /// The innermost that stands open ends, if it does at this level.
-fn end_last(
-    steps: &mut Vec<Step>,
-    opened: &mut Vec<Open>,
-    level: usize,
-) -> Result<bool, AllocError>
+fn end_last(steps: &mut Vec<Step>, opened: &mut Vec<Open>, level: usize) -> Result<bool, AllocError>
     ensures { parsing.EndsLast level opened.old.items steps.old.items result opened.new.items steps.new.items }
 {
     let Some(last) = opened.pop() else {
@@ -126,11 +121,7 @@ fn end_last(
 }
 
 /// All that ends at this level does, innermost first.
-pub fn close(
-    steps: &mut Vec<Step>,
-    opened: &mut Vec<Open>,
-    level: usize,
-) -> Result<(), AllocError>
+pub fn close(steps: &mut Vec<Step>, opened: &mut Vec<Open>, level: usize) -> Result<(), AllocError>
     ensures { OnOk result (parsing.Closes level opened.old.items steps.old.items opened.new.items steps.new.items) }
 {
     'closing: loop {

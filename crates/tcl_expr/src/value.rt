@@ -174,12 +174,7 @@ fn is_in(alloc: Global, item: &Text, list: &Text) -> Result<bool, EvalFault>
     Ok(is_among(item, items.as_slice()))
 }
 
-fn test(
-    alloc: Global,
-    operator: TextOperator,
-    left: &Text,
-    right: &Text,
-) -> Result<bool, EvalFault>
+fn test(alloc: Global, operator: TextOperator, left: &Text, right: &Text) -> Result<bool, EvalFault>
     ensures { Gives result (values.test operator left.now right.now) }
 {
     match operator {
@@ -197,11 +192,7 @@ fn test(
 }
 
 /// What an operator makes of the value behind it.
-pub fn unary_value(
-    alloc: Global,
-    operator: UnaryOperator,
-    value: Value,
-) -> Result<Value, EvalFault>
+pub fn unary_value(alloc: Global, operator: UnaryOperator, value: Value) -> Result<Value, EvalFault>
     ensures { Gives result (values.unary_value operator value) }
 {
     match operator {

@@ -1,0 +1,14 @@
+-- What the contracts cite.
+pub mod Arithmetic
+pub mod Evaluation
+pub mod Faults
+pub mod Machine
+pub mod Messages
+pub mod Parsing
+pub mod Reading
+pub mod Run
+pub mod Standing
+pub mod Steps
+pub mod Tokens
+pub mod Trees
+pub mod Values

@@ -1,0 +1,34 @@
+//! Tcl expressions, read once and evaluated step by step.
+#![tactic(auto)]
+
+mod arithmetic;
+mod ask;
+mod eval;
+mod expr;
+mod fault;
+mod laws;
+mod machine;
+mod message;
+mod open;
+mod operands;
+mod operators;
+mod parse;
+mod parser;
+mod reader;
+mod state;
+mod step;
+#[cfg(test)]
+mod tests;
+mod tokens;
+mod value;
+
+pub use ask::Ask;
+pub use eval::Eval;
+pub use expr::Expr;
+pub use fault::{EvalFault, ExprFault};
+pub use laws::quotients_round_down;
+pub use operators::{
+    ArithmeticOperator, BinaryOperator, Comparison, Infix, NumberOperator, TextOperator,
+    UnaryOperator,
+};
+pub use parse::parse_expr;

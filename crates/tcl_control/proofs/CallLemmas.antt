@@ -14,6 +14,6 @@ pub builtin_called : (name plain : List ℕ) (words : List (List ℕ)) (store : 
     → called ≡ builtin_call builtin words store context → called ≡ call_of name words store context
 builtin_called name plain words store context builtin dotted called named dot none found is =
     is
-    ∙ ap (by_command words store context) found
-    ∙ ap (λ b. by_command words store context (cond b (Some (Outside plain)) (value_at context.commands plain))) (sym none ∙ dot)
-    ∙ ap (λ n. by_command words store context (cond (is_dotted n) (Some (Outside n)) (value_at context.commands n))) named
+    ∙ ap (by_command name words store context) found
+    ∙ ap (λ b. by_command name words store context (cond b (Some (Outside plain)) (value_at context.commands plain))) (sym none ∙ dot)
+    ∙ ap (λ n. by_command name words store context (cond (is_dotted n) (Some (Outside n)) (value_at context.commands n))) named

@@ -1,5 +1,5 @@
 -- The commands that run scripts or change how they run: for each, what it does with its words.
-use Rattle.std.specs.Prelude.{ℕ, ◌+◌, ◌-◌, ◌||◌, ◌&&◌, nat_le, nat_lt, nat_eq, Bool, true, false, ℤ, pos, negsuc, List, [], ◌∷◌, ◌++◌, length, drop, if◌then◌else◌, Option, Some, None, Result, Ok, Err, codes, bytes_eq}
+use Rattle.std.specs.Prelude.{ℕ, ◌+◌, ◌-◌, ◌||◌, ◌&&◌, nat_le, nat_lt, nat_eq, Bool, true, false, ℤ, pos, negsuc, List, [], ◌∷◌, ◌++◌, length, drop, slice_index_or, if◌then◌else◌, Option, Some, None, Result, Ok, Err, codes, bytes_eq}
 use Rattle.std.specs.List.{starts_with}
 use Rattle.std.specs.Fmt.{decimal}
 use Rattle.tcl_text.specs.Answers.{Answer}
@@ -15,8 +15,10 @@ use Rattle.tcl_control.specs.declared.code.ReturnCode.{ReturnCode}
 use Rattle.tcl_control.specs.declared.code.ReturnCode.TheVariants.{Normal as AsNormal, Error as AsError, Return as AsReturn, Break as AsBreak, Continue as AsContinue}
 use Rattle.tcl_control.specs.declared.plan.Plan.{Plan}
 use Rattle.tcl_control.specs.declared.plan.Plan.TheVariants.{Ends, Runs, Catches, RunsAt, Turns, Starts}
-use Rattle.tcl_control.specs.declared.turns.Test.TheVariants.{Holds}
+use Rattle.tcl_control.specs.declared.turns.Test.TheVariants.{Holds, Items}
 use Rattle.tcl_control.specs.declared.turns.Turning.{Turning}
+use Rattle.tcl_shapes.specs.Groups.{groups_of, has_body}
+use Rattle.tcl_shapes.specs.declared.groups.Group.{Group}
 use Rattle.tcl_control.specs.Conditions.{condition_of}
 use Rattle.tcl_control.specs.Texts.{about, message, wrong_words, cannot_read, cannot_set}
 
@@ -111,6 +113,20 @@ while_plan _ = misused (codes "while cond body")
 abbrev pub for_plan : List (List ℕ) → Plan
 for_plan (start ∷ condition ∷ next ∷ body ∷ []) = Starts start (record { test = Holds (condition_of condition); body = body; next = Some next })
 for_plan _ = misused (codes "for start cond next body")
+
+-- the names and items of `foreach`, or an error
+abbrev pub each_plan : List ℕ → Result (List Group) (List ℕ) → Plan
+each_plan body (Ok groups) = Turns (record { test = Items groups; body = body; next = None })
+each_plan body (Err text) = fails text
+
+abbrev pub last_of : List (List ℕ) → List ℕ
+last_of words = slice_index_or words (length words - 1) []
+
+-- foreach names list ?names list ..? body
+abbrev pub foreach_plan : List (List ℕ) → Plan
+foreach_plan words =
+    if has_body words && nat_lt 2 (length words) then each_plan (last_of words) (groups_of words)
+    else misused (codes "foreach names list ?names list ..? body")
 
 -- ── levels ──
 

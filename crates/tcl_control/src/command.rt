@@ -1,9 +1,11 @@
 ghost use Rattle.std.specs.Prelude.{◌≡◌, ◌≤◌, [], length, IfOk, OnOk, OnErr};
 ghost use Rattle.std.specs.Option.{option_copied};
 ghost use Rattle.tcl_control.specs.Names.{is_dotted, plain_name};
-ghost use Rattle.tcl_control.specs.Table.{builtins, text_names, value_at, with_value, first_commands, with_builtins, with_texts, with_outside};
+ghost use Rattle.tcl_control.specs.Procedures.{is_procedure, procedure_count};
+ghost use Rattle.tcl_control.specs.Table.{builtins, text_names, value_at, with_value, without, first_commands, with_builtins, with_texts, with_outside};
 
 use crate::builtin::Builtin;
+use crate::procedure::Procedure;
 use crate::texts::fixed;
 use indexmap::IndexMap;
 use std::alloc::{AllocError, Global};
@@ -19,6 +21,8 @@ pub enum Command {
     Texts(Text),
     /// The outside command that first had this name.
     Outside(Text),
+    /// A procedure.
+    Procedure(Procedure),
 }
 
 /// A command's name without a leading `::`.
@@ -82,6 +86,27 @@ impl CommandTable {
         self.entries.insert(name, command)?;
         Ok(())
     }
+
+    /// Takes a name out, with its command.
+    pub fn remove(&mut self, name: &str) -> Option<Command>
+        ensures value { result ≡ value_at self.old name.now }
+        ensures rest { self.new ≡ without self.old name.now }
+    {
+        self.entries.shift_remove(name)
+    }
+
+    /// How many procedures there are.
+    pub fn procedures(&self) -> usize
+        ensures { result ≡ procedure_count self.now }
+    {
+        self.entries.values().filter(|command| is_procedure(command)).count()
+    }
+}
+
+fn is_procedure(command: &Command) -> bool
+    ensures { result ≡ is_procedure command.now }
+{
+    matches!(command, Command::Procedure(_))
 }
 
 /// The commands at first, where outside commands have these names.
@@ -107,9 +132,14 @@ fn add_builtins(table: &mut CommandTable) -> Result<(), AllocError>
     table.insert("error", Command::Builtin(Builtin::Error))?;
     table.insert("eval", Command::Builtin(Builtin::Eval))?;
     table.insert("for", Command::Builtin(Builtin::For))?;
+    table.insert("foreach", Command::Builtin(Builtin::Foreach))?;
+    table.insert("if", Command::Builtin(Builtin::If))?;
     table.insert("info", Command::Builtin(Builtin::Info))?;
+    table.insert("proc", Command::Builtin(Builtin::Proc))?;
+    table.insert("rename", Command::Builtin(Builtin::Rename))?;
     table.insert("return", Command::Builtin(Builtin::Return))?;
     table.insert("set", Command::Builtin(Builtin::Set))?;
+    table.insert("switch", Command::Builtin(Builtin::Switch))?;
     table.insert("uplevel", Command::Builtin(Builtin::Uplevel))?;
     table.insert("while", Command::Builtin(Builtin::While))?;
     Ok(())

@@ -3,19 +3,24 @@ ghost use Rattle.tcl_text.specs.Commands.{text_command_of};
 ghost use Rattle.tcl_text.specs.Readings.{integer_of};
 ghost use Rattle.tcl_text.specs.StringCommands.{concat_words};
 ghost use Rattle.tcl_vars.specs.Store.{variable_in, with_variable};
-ghost use Rattle.tcl_control.specs.Commands.{code_number, stored_ending, caught_ending, set_ending, value_ending, store_ending, break_plan, catch_plan, continue_plan, error_plan, eval_plan, for_plan, info_plan, return_plan, texts_plan, uplevel_plan, while_plan, fails, misused, on_joined, code_of, code_of_integer, code_numbered, unsigned_of, absolute, relative, runs_up, uplevel_usage, returns_as, returns_code, is_level, levels_left, runs_at, level_plan, exists_plan};
-ghost use Rattle.tcl_control.specs.Control.{builtin_call, by_command, call_of, keeps};
+ghost use Rattle.tcl_control.specs.Commands.{code_number, stored_ending, caught_ending, set_ending, value_ending, store_ending, break_plan, catch_plan, continue_plan, error_plan, eval_plan, for_plan, foreach_plan, info_plan, return_plan, texts_plan, uplevel_plan, while_plan, fails, misused, on_joined, code_of, code_of_integer, code_numbered, unsigned_of, absolute, relative, runs_up, uplevel_usage, returns_as, returns_code, is_level, levels_left, runs_at, level_plan, exists_plan};
+ghost use Rattle.tcl_vars.specs.Store.{Store};
+ghost use Rattle.tcl_control.specs.Control.{recorded_plan, proc_call, rename_call, builtin_call, by_command, call_of, keeps};
 
 use crate::builtin::Builtin;
+use crate::choices::{if_plan, switch_plan};
 use crate::code::{Code, ReturnCode};
 use crate::command::{Command, is_dotted, plain_name};
 use crate::condition::Condition;
 use crate::context::Context;
+use crate::define::{make_procedure, rename};
 use crate::plan::Plan;
+use crate::procedure::call_procedure;
 use crate::source::Source;
 use crate::texts::{about, cannot_read, cannot_set, fixed, told};
 use crate::turns::{Test, Turning};
 use std::alloc::{AllocError, Global};
+use tcl_shapes::{foreach_groups, has_body};
 use tcl_text::{Text, TextList};
 use tcl_vars::{Scopes, SetFault};
 
@@ -107,6 +112,79 @@ fn for_plan(alloc: Global, words: &[Text]) -> Result<Plan, AllocError>
         _ => Ok(fails(fixed(
             alloc,
             "wrong # args: should be \"for start cond next body\"",
+        )?)),
+    }
+}
+
+/// `foreach` (foreach(n)).
+fn foreach_plan(alloc: Global, words: &[Text]) -> Result<Plan, AllocError>
+    ensures { IfOk result (λ plan. plan ≡ foreach_plan words.now) }
+{
+    if !(has_body(words) && words.len() > 2) {
+        return Ok(fails(fixed(
+            alloc,
+            "wrong # args: should be \"foreach names list ?names list ..? body\"",
+        )?));
+    }
+    let body = Source::read_of(alloc, &words[words.len() - 1])?;
+    match foreach_groups(alloc, words)? {
+        Ok(groups) => Ok(Plan::Turns(Turning {
+            test: Test::Items(groups),
+            body,
+            next: None,
+        })),
+        Err(text) => Ok(fails(text)),
+    }
+}
+
+/// The table of commands has changed, unless that was refused.
+fn recorded(alloc: Global, refused: Option<Text>) -> Result<Plan, AllocError>
+    ensures { IfOk result (λ plan. plan ≡ recorded_plan refused) }
+{
+    match refused {
+        None => Ok(Plan::Ends(Code::Normal, fixed(alloc, "")?)),
+        Some(text) => Ok(fails(text)),
+    }
+}
+
+/// `proc` (proc(n)).
+fn proc_plan(
+    alloc: Global,
+    context: &mut Context,
+    words: &[Text],
+) -> Result<Plan, AllocError>
+    ensures { IfOk result (λ plan. (store : Store) → record { store = store; context = context.new; call = Call.Plans plan } ≡ proc_call words.now store context.old) }
+{
+    match words {
+        [name, parameters, body] => {
+            let refused = make_procedure(alloc, &mut context.commands, name, parameters, body)?;
+            let plan = recorded(alloc, refused)?;
+            Ok(plan)
+        }
+        _ => Ok(fails(fixed(
+            alloc,
+            "wrong # args: should be \"proc name params body\"",
+        )?)),
+    }
+}
+
+/// `rename` (rename(n)).
+fn rename_plan(
+    alloc: Global,
+    context: &mut Context,
+    words: &[Text],
+) -> Result<Plan, AllocError>
+    ensures { IfOk result (λ plan. (store : Store) → record { store = store; context = context.new; call = Call.Plans plan } ≡ rename_call words.now store context.old) }
+{
+    match words {
+        [old, new] => {
+            let refused = rename(alloc, &mut context.commands, old, new)?;
+            let plan = recorded(alloc, refused)?;
+            Ok(plan)
+        }
+        _ => Ok(fails(fixed(
+            alloc,
+            "wrong # args: should be \"rename old new\"",
         )?)),
     }
 }
@@ -489,17 +567,25 @@ fn builtin_call(
         Builtin::Error => Ok(Call::Plans(error_plan(alloc, words)?)),
         Builtin::Eval => Ok(Call::Plans(eval_plan(alloc, words)?)),
         Builtin::For => Ok(Call::Plans(for_plan(alloc, words)?)),
+        Builtin::Foreach => Ok(Call::Plans(foreach_plan(alloc, words)?)),
+        Builtin::If => {
+            let level = context.levels.here(scopes);
+            Ok(Call::Plans(if_plan(alloc, scopes, level, words)?))
+        }
         Builtin::Info => {
             let level = context.levels.here(scopes);
             let count = context.levels.count();
             Ok(Call::Plans(info_plan(alloc, scopes, count, level, words)?))
         }
+        Builtin::Proc => Ok(Call::Plans(proc_plan(alloc, context, words)?)),
+        Builtin::Rename => Ok(Call::Plans(rename_plan(alloc, context, words)?)),
         Builtin::Return => Ok(Call::Plans(return_plan(alloc, words)?)),
         Builtin::Set => {
             let level = context.levels.here(scopes);
             let End { code, text } = set(alloc, scopes, level, words)?;
             Ok(Call::Plans(Plan::Ends(code, text)))
         }
+        Builtin::Switch => Ok(Call::Plans(switch_plan(alloc, words)?)),
         Builtin::Uplevel => {
             let count = context.levels.count();
             Ok(Call::Plans(uplevel_plan(alloc, count, words)?))
@@ -528,6 +614,10 @@ pub fn call_command(
             Ok(call)
         }
         Some(Command::Texts(first)) => Ok(Call::Plans(texts_plan(alloc, first, words)?)),
+        Some(Command::Procedure(procedure)) => {
+            let plan = call_procedure(alloc, scopes, &mut context.levels, name, procedure, words)?;
+            Ok(Call::Plans(plan))
+        }
         Some(Command::Outside(first)) => Ok(Call::Outside(first.copy()?)),
         None => Ok(Call::Unknown),
     }

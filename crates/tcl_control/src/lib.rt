@@ -1,14 +1,18 @@
 //! The commands that run scripts, or that change how they run: what each does with its words, the variables and the commands.
 #![tactic(auto)]
 
+mod assign;
 mod builtin;
+mod choices;
 mod code;
 mod command;
 mod condition;
 mod context;
 mod control;
+mod define;
 mod levels;
 mod plan;
+mod procedure;
 mod source;
 pub mod texts;
 mod turns;
@@ -21,5 +25,6 @@ pub use context::Context;
 pub use control::{Call, End, call_command, caught};
 pub use levels::Levels;
 pub use plan::Plan;
+pub use procedure::{Procedure, pop_last};
 pub use source::Source;
 pub use turns::{Test, Turning, Verdict, tested};

@@ -493,3 +493,40 @@ fn scripts_nest_200_deep(rt: HostRuntime) -> Result<(), Fail> {
     assert_eq!(rt; left, 600);
     Ok(())
 }
+
+/// The commands that run scripts, by tclsh 8.6.
+#[test]
+fn commands_that_run_scripts(rt: HostRuntime) -> Result<(), Fail> {
+    let cases = [
+        ("catch {error oops} m; set m", Code::Normal, "oops", 7),
+        ("catch break", Code::Normal, "3", 8),
+        ("eval set x 5", Code::Normal, "5", 8),
+        ("uplevel #0 set x 3", Code::Normal, "3", 8),
+        (
+            "for {set i 1} {$i} {set i 0} {set j $i}; set j",
+            Code::Normal,
+            "1",
+            3,
+        ),
+    ];
+    for (script, code, text, left) in cases {
+        ends_alike(&rt, rt.alloc(), script, code, text, left)?;
+    }
+    Ok(())
+}
+
+/// Codes, levels and texts, by tclsh 8.6.
+#[test]
+fn commands_of_one_step(rt: HostRuntime) -> Result<(), Fail> {
+    let cases = [
+        ("return -code error bad", Code::Error, "bad", 9),
+        ("info level", Code::Normal, "0", 9),
+        ("llength {a b c}", Code::Normal, "3", 9),
+        ("uplevel 1 set x", Code::Error, "bad level \"1\"", 9),
+        ("info exists x", Code::Normal, "0", 9),
+    ];
+    for (script, code, text, left) in cases {
+        ends_alike(&rt, rt.alloc(), script, code, text, left)?;
+    }
+    Ok(())
+}

@@ -1,3 +1,2 @@
+pub mod AssignLemmas
 pub mod CallLemmas
-pub mod NamedLemmas
-pub mod TableLemmas

@@ -3,7 +3,7 @@ use Rattle.std.specs.Prelude.{ℕ, List, [], ◌∷◌, drop, Option, Some, None
 use Rattle.tcl_vars.specs.Store.{Store, with_variable}
 use Rattle.tcl_vars.specs.declared.fault.SetFault.{SetFault}
 use Rattle.tcl_shapes.specs.declared.groups.Group.{Group}
-use Rattle.tcl_control.specs.Texts.{cannot_set}
+use Rattle.tcl_table.specs.Texts.{cannot_set}
 
 -- the variables then, and the text of the first refusal, which leaves what was set before
 pub record Assigned : Type 0 where

@@ -16,7 +16,7 @@ use Rattle.tcl_control.specs.declared.plan.Plan.{Plan}
 use Rattle.tcl_control.specs.declared.plan.Plan.TheVariants.{Ends, Runs}
 use Rattle.tcl_control.specs.Commands.{fails, misused}
 use Rattle.tcl_control.specs.Conditions.{condition_of, condition_value}
-use Rattle.tcl_control.specs.Texts.{about, message}
+use Rattle.tcl_table.specs.Texts.{about, message}
 
 -- ── if ──
 

@@ -20,7 +20,7 @@ use Rattle.tcl_control.specs.declared.turns.Turning.{Turning}
 use Rattle.tcl_shapes.specs.Groups.{groups_of, has_body}
 use Rattle.tcl_shapes.specs.declared.groups.Group.{Group}
 use Rattle.tcl_control.specs.Conditions.{condition_of}
-use Rattle.tcl_control.specs.Texts.{about, message, wrong_words, cannot_read, cannot_set}
+use Rattle.tcl_table.specs.Texts.{about, message, wrong_words, cannot_read, cannot_set}
 
 abbrev pub fails : List ℕ → Plan
 fails text = Ends Error text

@@ -6,8 +6,8 @@ use Rattle.tcl_vars.specs.Store.{Store, variable_in}
 use Rattle.tcl_vars.specs.declared.fault.ReadFault.{ReadFault}
 use Rattle.tcl_control.specs.declared.condition.Condition.{Condition}
 use Rattle.tcl_control.specs.declared.condition.Condition.TheVariants.{Variable, Word}
-use Rattle.tcl_control.specs.Names.{plain_name}
-use Rattle.tcl_control.specs.Texts.{not_boolean, cannot_read}
+use Rattle.tcl_table.specs.Names.{plain_name}
+use Rattle.tcl_table.specs.Texts.{not_boolean, cannot_read}
 
 -- a letter, a digit or an underscore
 abbrev pub is_name_byte : ℕ → Bool

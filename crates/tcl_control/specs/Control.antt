@@ -2,10 +2,10 @@
 use Rattle.std.specs.Prelude.{ℕ, List, [], ◌∷◌, length, Option, Some, None, codes}
 use Rattle.tcl_text.specs.Commands.{text_command_of}
 use Rattle.tcl_vars.specs.Store.{Store}
-use Rattle.tcl_control.specs.declared.builtin.Builtin.{Builtin as BuiltinName}
-use Rattle.tcl_control.specs.declared.builtin.Builtin.TheVariants as builtin
-use Rattle.tcl_control.specs.declared.command.Command.{Command}
-use Rattle.tcl_control.specs.declared.command.Command.TheVariants as command
+use Rattle.tcl_table.specs.declared.builtin.Builtin.{Builtin as BuiltinName}
+use Rattle.tcl_table.specs.declared.builtin.Builtin.TheVariants as builtin
+use Rattle.tcl_table.specs.declared.command.Command.{Command}
+use Rattle.tcl_table.specs.declared.command.Command.TheVariants as command
 use Rattle.tcl_control.specs.declared.context.Context.{Context}
 use Rattle.tcl_control.specs.declared.control.Call.{Call}
 use Rattle.tcl_control.specs.declared.control.Call.TheVariants.{Plans, Outside, Unknown}
@@ -15,9 +15,9 @@ use Rattle.tcl_control.specs.Commands.{Ending, break_plan, catch_plan, continue_
 use Rattle.tcl_control.specs.Choices.{if_plan, switch_plan}
 use Rattle.tcl_control.specs.Procedures.{Changed, ProcedureCalled, changed, procedure_call, with_procedure, with_new_name}
 use Rattle.tcl_control.specs.declared.code.Code.TheVariants.{Normal}
-use Rattle.tcl_control.specs.Levels.{here}
-use Rattle.tcl_control.specs.Names.{plain_name}
-use Rattle.tcl_control.specs.Table.{command_of}
+use Rattle.tcl_table.specs.Levels.{here}
+use Rattle.tcl_table.specs.Names.{plain_name}
+use Rattle.tcl_table.specs.Table.{command_of}
 
 -- what a call leaves of the variables and of the context, and what is to be done
 pub record Called : Type 0 where

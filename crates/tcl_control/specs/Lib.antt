@@ -1,14 +1,13 @@
 -- What the contracts cite.
+pub use Rattle.tcl_table.specs.Levels
+pub use Rattle.tcl_table.specs.Names
+pub use Rattle.tcl_table.specs.Source
+pub use Rattle.tcl_table.specs.Table
+pub use Rattle.tcl_table.specs.Texts
 pub mod Assign
 pub mod Choices
 pub mod Commands
 pub mod Conditions
 pub mod Control
-pub mod Levels
-pub mod Named
-pub mod Names
 pub mod Procedures
-pub mod Source
-pub mod Table
-pub mod Texts
 pub mod Turns

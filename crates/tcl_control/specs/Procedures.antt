@@ -1,21 +1,21 @@
 -- Procedures: how they are called, made and renamed.
-use Rattle.std.specs.Prelude.{ℕ, ◌==◌, nat_le, nat_lt, map, Bool, true, false, ◌||◌, ◌&&◌, List, [], ◌∷◌, ◌++◌, length, drop, filter, if◌then◌else◌, Option, Some, None, is_some, unwrap_or, Result, Ok, Err, codes, bytes_eq}
+use Rattle.std.specs.Prelude.{ℕ, ◌==◌, nat_le, nat_lt, Bool, true, false, ◌||◌, ◌&&◌, List, [], ◌∷◌, ◌++◌, length, drop, if◌then◌else◌, Option, Some, None, is_some, unwrap_or, Result, Ok, Err, codes, bytes_eq}
 use Rattle.tcl_text.specs.Readings.{list_of, list_form}
 use Rattle.tcl_vars.specs.Store.{Store, with_variable}
 use Rattle.tcl_shapes.specs.Parameters.{parameters_in}
 use Rattle.tcl_shapes.specs.declared.parameters.Parameter.{Parameter}
-use Rattle.tcl_control.specs.declared.command.Command.{Command}
-use Rattle.tcl_control.specs.declared.command.Command.TheVariants as command
+use Rattle.tcl_table.specs.declared.command.Command.{Command}
+use Rattle.tcl_table.specs.declared.command.Command.TheVariants as command
 use Rattle.tcl_control.specs.declared.context.Context.{Context}
-use Rattle.tcl_control.specs.declared.procedure.Procedure.{Procedure}
+use Rattle.tcl_table.specs.declared.procedure.Procedure.{Procedure}
 use Rattle.tcl_control.specs.declared.plan.Plan.{Plan}
 use Rattle.tcl_control.specs.declared.plan.Plan.TheVariants.{Enters}
 use Rattle.tcl_control.specs.Assign.{Assigned, on_set, done}
 use Rattle.tcl_control.specs.Commands.{fails}
-use Rattle.tcl_control.specs.Levels.{popped}
-use Rattle.tcl_control.specs.Names.{is_dotted, plain_name}
-use Rattle.tcl_control.specs.Table.{Table, value_at, with_value, without}
-use Rattle.tcl_control.specs.Texts.{about, limit_text, message, wrong_words}
+use Rattle.tcl_table.specs.Levels.{popped}
+use Rattle.tcl_table.specs.Names.{is_dotted, plain_name}
+use Rattle.tcl_table.specs.Table.{Table, is_procedure, procedure_count, value_at, with_value, without}
+use Rattle.tcl_table.specs.Texts.{about, limit_text, message, wrong_words}
 
 -- ── calls ──
 
@@ -82,16 +82,9 @@ procedure_call name procedure words store levels =
 
 -- ── the table ──
 
-abbrev pub is_procedure : Command → Bool
-is_procedure (command.Procedure procedure) = true
-is_procedure other = false
-
 abbrev pub holds_procedure : Option Command → Bool
 holds_procedure None = false
 holds_procedure (Some command) = is_procedure command
-
-abbrev pub procedure_count : Table → ℕ
-procedure_count table = length (filter is_procedure (map (λ e. e.1) table))
 
 -- at most 1,024 procedures
 abbrev pub has_room : Table → List ℕ → Bool
@@ -119,16 +112,23 @@ not_there name = message (codes "can't rename \"" ++ name ++ codes "\": command 
 abbrev pub there_already : List ℕ → List ℕ
 there_already name = message (codes "can't rename to \"" ++ name ++ codes "\": command already exists")
 
--- a command that is there gets another name, or none
+-- why a command can't get a name
+abbrev pub name_refused : Table → List ℕ → Option (List ℕ)
+name_refused table name =
+    if is_dotted (plain_name name) then Some (cannot_use name)
+    else (if is_some (value_at table (plain_name name)) then Some (there_already name)
+    else None)
+
+abbrev pub placed : Table → List ℕ → List ℕ → Command → Option (List ℕ) → Result Table (List ℕ)
+placed table old new command None = Ok (with_value (without table old) (plain_name new) command)
+placed table old new command (Some text) = Err text
+
+-- the command of a plain name gets another one, or none
 abbrev pub named_anew : Table → List ℕ → List ℕ → Command → Result Table (List ℕ)
-named_anew table old new command =
-    if (length new == 0) then Ok (without table (plain_name old))
-    else (if is_dotted (plain_name new) then Err (cannot_use new)
-    else (if is_some (value_at table (plain_name new)) then Err (there_already new)
-    else Ok (with_value (without table (plain_name old)) (plain_name new) command)))
+named_anew table old new command = if (length new == 0) then Ok (without table old) else placed table old new command (name_refused table new)
 
 abbrev pub renamed : Table → List ℕ → List ℕ → Option Command → Result Table (List ℕ)
-renamed table old new (Some command) = named_anew table old new command
+renamed table old new (Some command) = named_anew table (plain_name old) new command
 renamed table old new None = Err (not_there old)
 
 -- rename old new

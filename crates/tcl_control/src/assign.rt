@@ -1,10 +1,10 @@
 ghost use Rattle.std.specs.Prelude.{◌≡◌, ◌<◌, length, drop, IfOk, Ok};
 ghost use Rattle.tcl_vars.specs.Store.{with_variable};
-ghost use Rattle.tcl_control.specs.Assign.{done, on_set, assigned, groups_assigned};
+ghost use Rattle.tcl_control.specs.Assign.{done, on_set, first_of, assigned, groups_assigned};
 
-use crate::texts::{cannot_set, fixed};
 use std::alloc::{AllocError, Global};
 use tcl_shapes::Group;
+use tcl_table::texts::{cannot_set, fixed};
 use tcl_text::Text;
 use tcl_vars::{Scopes, SetFault};
 
@@ -27,6 +27,23 @@ pub fn set_one(
     }
 }
 
+/// The item at a place, or the empty text.
+fn item_at(alloc: Global, items: &[Text], at: usize) -> Result<Text, AllocError>
+    ensures { IfOk result (λ item. item ≡ first_of (drop at items.now)) }
+{
+    match items.get(at) {
+        Some(item) => item.copy(),
+        None => fixed(alloc, ""),
+    }
+}
+
+/// The place behind an item, where there is one.
+fn behind_item(items: &[Text], at: usize) -> usize
+    ensures { drop result items.now ≡ drop 1 (drop at items.now) }
+{
+    if at < items.len() { at + 1 } else { at }
+}
+
 /// Gives names the items from a place on.
 fn assign_names(
     alloc: Global,
@@ -42,15 +59,10 @@ fn assign_names(
 {
     let mut at = from;
     for name in names {
-        let value = match items.get(at) {
-            Some(item) => {
-                at += 1;
-                item.copy()?
-            }
-            None => fixed(alloc, "")?,
-        };
-        if let Some(text) = set_one(alloc, scopes, level, name, value)? {
-            return Ok(Some(text));
+        let value = item_at(alloc, items, at)?;
+        match set_one(alloc, scopes, level, name, value)? {
+            Some(text) => return Ok(Some(text)),
+            None => at = behind_item(items, at),
         }
     }
     Ok(None)

@@ -6,10 +6,10 @@ ghost use Rattle.tcl_control.specs.Choices.{chosen, otherwise_plan, if_plan, end
 use crate::code::Code;
 use crate::condition::Condition;
 use crate::plan::Plan;
-use crate::source::Source;
-use crate::texts::{about, fixed, list_fault};
 use std::alloc::{AllocError, Global};
 use tcl_shapes::{Branch, if_choices, switch_arms};
+use tcl_table::Source;
+use tcl_table::texts::{about, fixed, list_fault};
 use tcl_text::{SplitFault, Text};
 use tcl_vars::Scopes;
 

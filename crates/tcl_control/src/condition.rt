@@ -3,9 +3,9 @@ ghost use Rattle.std.specs.List.{list_all};
 ghost use Rattle.tcl_text.specs.Readings.{boolean_of};
 ghost use Rattle.tcl_control.specs.Conditions.{condition_of, condition_value, is_name, is_name_byte, truth};
 
-use crate::command::plain_name;
-use crate::texts::{cannot_read, not_boolean};
 use std::alloc::{AllocError, Global};
+use tcl_table::plain_name;
+use tcl_table::texts::{cannot_read, not_boolean};
 use tcl_text::Text;
 use tcl_vars::Scopes;
 

@@ -1,5 +1,4 @@
-use crate::command::CommandTable;
-use crate::levels::Levels;
+use tcl_table::{CommandTable, Levels};
 
 /// What scripts run in, beside the variables: the levels of the callers, and the commands.
 #[derive(Drop)]

@@ -7,20 +7,18 @@ ghost use Rattle.tcl_control.specs.Commands.{code_number, stored_ending, caught_
 ghost use Rattle.tcl_vars.specs.Store.{Store};
 ghost use Rattle.tcl_control.specs.Control.{recorded_plan, proc_call, rename_call, builtin_call, by_command, call_of, keeps};
 
-use crate::builtin::Builtin;
 use crate::choices::{if_plan, switch_plan};
 use crate::code::{Code, ReturnCode};
-use crate::command::{Command, is_dotted, plain_name};
 use crate::condition::Condition;
 use crate::context::Context;
 use crate::define::{make_procedure, rename};
 use crate::plan::Plan;
 use crate::procedure::call_procedure;
-use crate::source::Source;
-use crate::texts::{about, cannot_read, cannot_set, fixed, told};
 use crate::turns::{Test, Turning};
 use std::alloc::{AllocError, Global};
 use tcl_shapes::{foreach_groups, has_body};
+use tcl_table::texts::{about, cannot_read, cannot_set, fixed, told};
+use tcl_table::{Builtin, Command, Source, is_dotted, plain_name};
 use tcl_text::{Text, TextList};
 use tcl_vars::{Scopes, SetFault};
 

@@ -1,17 +1,16 @@
 ghost use Rattle.std.specs.Option.{option_copied};
-ghost use Rattle.std.specs.Prelude.{◌≡◌, IfOk, Ok};
+ghost use Rattle.std.specs.Prelude.{◌≡◌, IfOk, IsSome, OnOk, Ok};
 ghost use Rattle.tcl_shapes.specs.Parameters.{parameters_in};
 ghost use Rattle.tcl_text.specs.Readings.{list_of};
-ghost use Rattle.tcl_control.specs.Names.{plain_name};
-ghost use Rattle.tcl_control.specs.Procedures.{holds_procedure, has_room, changed, defined, cannot_use, with_procedure, not_there, there_already, named_anew, renamed, with_new_name};
-ghost use Rattle.tcl_control.specs.Table.{value_at};
+ghost use Rattle.tcl_table.specs.Names.{plain_name};
+ghost use Rattle.tcl_control.specs.Procedures.{holds_procedure, has_room, changed, defined, cannot_use, with_procedure, name_refused, named_anew, with_new_name};
+ghost use Rattle.tcl_table.specs.Table.{value_at, with_value, without};
+ghost use Rattle.tcl_table.specs.declared.command.Command.{Command as CommandValue};
 
-use crate::command::{Command, CommandTable, is_dotted, plain_name};
-use crate::procedure::Procedure;
-use crate::source::Source;
-use crate::texts::{about, fixed, message};
 use std::alloc::{AllocError, Global};
 use tcl_shapes::{Parameters, parameters_in};
+use tcl_table::texts::{about, fixed, message};
+use tcl_table::{Command, CommandTable, Procedure, Source, is_dotted, plain_name};
 use tcl_text::Text;
 
 /// Whether there is room for a procedure of a name: it has that of a procedure, or there are few enough.
@@ -80,38 +79,63 @@ pub fn make_procedure(
     }
 }
 
-/// Gives a command that is there another name, or none, or tells the error's text.
+/// Why a command can't get this name, where it can't.
+fn name_refused(
+    alloc: Global,
+    table: &CommandTable,
+    name: &Text,
+) -> Result<Option<Text>, AllocError>
+    ensures { IfOk result (λ refused. refused ≡ name_refused table.now name.now) }
+{
+    let plain = plain_name(name.as_str());
+    if is_dotted(plain) {
+        return Ok(Some(cannot_use(alloc, name)?));
+    }
+    match table.get(plain) {
+        Some(_) => Ok(Some(message(
+            alloc,
+            "can't rename to \"",
+            name.as_str(),
+            "\": command already exists",
+        )?)),
+        None => Ok(None),
+    }
+}
+
+/// The command of a name, which is there, gets another one.
+fn place(table: &mut CommandTable, old: &str, new: &str) -> Result<(), AllocError>
+    requires { IsSome (value_at table.old old.now) }
+    ensures { OnOk result ((command : CommandValue) → value_at table.old old.now ≡ Some command → table.new ≡ with_value (without table.old old.now) new.now command) }
+{
+    match table.remove(old) {
+        Some(command) => {
+            table.insert(new, command)?;
+            Ok(())
+        }
+        None => unreachable!(),
+    }
+}
+
+/// Gives the command of a name, which is there, another name, or none, or tells the error's text.
 fn name_anew(
     alloc: Global,
     table: &mut CommandTable,
-    old: &Text,
+    old: &str,
     new: &Text,
 ) -> Result<Option<Text>, AllocError>
-    ensures { IfOk result (λ refused. record { table = table.new; refused = refused } ≡ changed table.old (renamed table.old old.now new.now (value_at table.old (plain_name old.now)))) }
+    requires { IsSome (value_at table.old old.now) }
+    ensures { IfOk result (λ refused. (command : CommandValue) → value_at table.old old.now ≡ Some command → record { table = table.new; refused = refused } ≡ changed table.old (named_anew table.old old.now new.now command)) }
 {
-    let plain = plain_name(old.as_str());
-    let other = plain_name(new.as_str());
-    if table.get(plain).is_none() {
-        let text = message(alloc, "can't rename \"", old.as_str(), "\": command doesn't exist")?;
-        return Ok(Some(text));
-    }
     if new.as_str().is_empty() {
-        let _command = table.remove(plain);
+        let _command = table.remove(old);
         return Ok(None);
     }
-    if is_dotted(other) {
-        return Ok(Some(cannot_use(alloc, new)?));
-    }
-    if table.get(other).is_some() {
-        let text = message(alloc, "can't rename to \"", new.as_str(), "\": command already exists")?;
-        return Ok(Some(text));
-    }
-    match table.remove(plain) {
-        Some(command) => {
-            table.insert(other, command)?;
+    match name_refused(alloc, table, new)? {
+        Some(text) => Ok(Some(text)),
+        None => {
+            place(table, old, plain_name(new.as_str()))?;
             Ok(None)
         }
-        None => unreachable!(),
     }
 }
 
@@ -124,9 +148,20 @@ pub fn rename(
 ) -> Result<Option<Text>, AllocError>
     ensures { IfOk result (λ refused. record { table = table.new; refused = refused } ≡ changed table.old (with_new_name table.old old.now new.now)) }
 {
-    if is_dotted(plain_name(old.as_str())) {
+    let plain = plain_name(old.as_str());
+    if is_dotted(plain) {
         return Ok(Some(cannot_use(alloc, old)?));
     }
-    let refused = name_anew(alloc, table, old, new)?;
-    Ok(refused)
+    match table.get(plain) {
+        Some(_) => {
+            let refused = name_anew(alloc, table, plain, new)?;
+            Ok(refused)
+        }
+        None => Ok(Some(message(
+            alloc,
+            "can't rename \"",
+            old.as_str(),
+            "\": command doesn't exist",
+        )?)),
+    }
 }

@@ -2,29 +2,22 @@
 #![tactic(auto)]
 
 mod assign;
-mod builtin;
 mod choices;
 mod code;
-mod command;
 mod condition;
 mod context;
 mod control;
 mod define;
-mod levels;
 mod plan;
 mod procedure;
-mod source;
-pub mod texts;
 mod turns;
 
-pub use builtin::Builtin;
 pub use code::{Code, ReturnCode};
-pub use command::{Command, CommandTable, first_commands, plain_name};
 pub use condition::Condition;
 pub use context::Context;
 pub use control::{Call, End, call_command, caught};
-pub use levels::Levels;
 pub use plan::Plan;
-pub use procedure::{Procedure, pop_last};
-pub use source::Source;
+pub use procedure::pop_last;
+pub use tcl_table::texts;
+pub use tcl_table::{Builtin, Command, CommandTable, Levels, Procedure, Source, first_commands, plain_name};
 pub use turns::{Test, Turning, Verdict, tested};

@@ -1,6 +1,6 @@
 use crate::code::Code;
-use crate::source::Source;
 use crate::turns::Turning;
+use tcl_table::Source;
 use tcl_text::Text;
 
 /// What a command does, once its words are known.

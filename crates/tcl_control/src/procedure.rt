@@ -2,27 +2,18 @@ ghost use Rattle.std.specs.Prelude.{◌≡◌, ◌<◌, ◌≤◌, [], ◌∷◌
 ghost use Rattle.tcl_text.specs.Readings.{list_form};
 ghost use Rattle.tcl_vars.specs.Store.{with_variable};
 ghost use Rattle.tcl_control.specs.Assign.{done, on_set};
-ghost use Rattle.tcl_control.specs.Levels.{popped};
+ghost use Rattle.tcl_table.specs.Levels.{popped};
 ghost use Rattle.tcl_control.specs.Procedures.{is_rest, fits, value_for, rest_set, entered, usage_word, usage_words, usage, procedure_call, by_entered};
 
 use crate::assign::set_one;
 use crate::code::Code;
-use crate::command::plain_name;
-use crate::levels::Levels;
 use crate::plan::Plan;
-use crate::source::Source;
-use crate::texts::{fixed, limit, message};
 use std::alloc::{AllocError, Global};
-use tcl_shapes::{Parameter, Parameters};
+use tcl_shapes::Parameter;
+use tcl_table::texts::{fixed, limit, message};
+use tcl_table::{Levels, Procedure, plain_name};
 use tcl_text::{Text, TextFault};
 use tcl_vars::Scopes;
-
-/// A procedure: its parameters, and its body, which is read when it is made.
-#[derive(Drop)]
-pub struct Procedure {
-    pub parameters: Parameters,
-    pub body: Source,
-}
 
 /// Whether a parameter takes the rest of the words, with these behind it.
 fn is_rest(parameter: &Parameter, behind: &[Parameter]) -> bool
@@ -71,6 +62,16 @@ fn value_for(
     }
 }
 
+/// The words behind the first one.
+fn behind_first(words: &[Text]) -> &[Text]
+    ensures { result.now ≡ drop 1 words.now }
+{
+    match words {
+        [] => words,
+        [_, rest @ ..] => rest,
+    }
+}
+
 /// The last parameter is given the rest of the words.
 fn set_rest(
     alloc: Global,
@@ -113,12 +114,11 @@ fn enter(
             return Ok(refused);
         }
         let value = value_for(alloc, &parameter.fallback, rest)?;
-        if let Some(text) = set_one(alloc, scopes, level, &parameter.name, value)? {
-            return Ok(Some(text));
+        match set_one(alloc, scopes, level, &parameter.name, value)? {
+            Some(text) => return Ok(Some(text)),
+            None => {}
         }
-        if let [_, words @ ..] = rest {
-            rest = words;
-        }
+        rest = behind_first(rest);
         left = behind;
     }
     Ok(None)

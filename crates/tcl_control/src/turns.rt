@@ -3,9 +3,9 @@ ghost use Rattle.tcl_control.specs.Turns.{tested, tested_as, items_tested, holds
 
 use crate::assign::assign_groups;
 use crate::condition::Condition;
-use crate::source::Source;
 use std::alloc::{AllocError, Global};
 use tcl_shapes::Groups;
+use tcl_table::Source;
 use tcl_text::Text;
 use tcl_vars::Scopes;
 

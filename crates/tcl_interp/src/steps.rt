@@ -105,10 +105,11 @@ pub fn test<K: Drop>(
     ensures { IfOk result (λ now. standing_of now frames.new.items scopes.new context.now ≡ test_move room turning context.now (waits_of frames.old.items) (tested (here context.now.levels scopes.old) turning.test scopes.old)) }
 {
     let level = context.levels.here(scopes);
-    let mut turning = turning;
-    match tested(alloc, scopes, level, &mut turning.test)? {
-        Verdict::More => {
-            let script = turning.body.copy()?;
+    let Turning { test, body, next } = turning;
+    match tested(alloc, scopes, level, test)? {
+        Verdict::More(test) => {
+            let script = body.copy()?;
+            let turning = Turning { test, body, next };
             wait(frames, Frame::ForBody { room, turning })?;
             Ok(Now::Begins { room, script })
         }

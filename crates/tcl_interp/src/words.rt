@@ -129,7 +129,7 @@ fn put_pieces(
 }
 
 /// The commands of a script.
-#[tactic(auto, unfolding(tcl_control::specs::Source::script_of))]
+#[tactic(auto, unfolding(tcl_table::specs::Source::script_of))]
 fn commands(script: &Script) -> &[Command]
     ensures { result.now ≡ commands_in script.now }
 {

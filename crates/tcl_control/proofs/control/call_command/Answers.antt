@@ -1,5 +1,5 @@
 use Rattle.std.proofs.Common.{◌∙◌, ap}
-use Rattle.tcl_control.specs.Names.{plain_name}
+use Rattle.tcl_table.specs.Names.{plain_name}
 use Rattle.tcl_control.proofs.CallLemmas.{builtin_called}
 use Rattle.tcl_control.proofs.control.call_command.Goals as goal
 

@@ -7,7 +7,7 @@ use crate::code::Code;
 use crate::condition::Condition;
 use crate::plan::Plan;
 use std::alloc::{AllocError, Global};
-use tcl_shapes::{Branch, if_choices, switch_arms};
+use tcl_shapes::{Branch, Choices, if_choices, switch_arms};
 use tcl_table::Source;
 use tcl_table::texts::{about, fixed, list_fault};
 use tcl_text::{SplitFault, Text};
@@ -61,13 +61,14 @@ pub fn if_plan(
     ensures { IfOk result (λ plan. plan ≡ if_plan level scopes.now words.now) }
 {
     match if_choices(alloc, words)? {
-        Some(choices) => chosen(
-            alloc,
-            scopes,
-            level,
-            choices.branches.as_slice(),
-            choices.otherwise,
-        ),
+        Some(choices) => {
+            let Choices {
+                branches,
+                otherwise,
+            } = choices;
+            let plan = chosen(alloc, scopes, level, branches.as_slice(), otherwise)?;
+            Ok(plan)
+        }
         None => Ok(fails(fixed(
             alloc,
             "wrong # args: should be \"if cond ?then? body ?elseif cond ?then? body ..? ?else? ?body?\"",
@@ -201,12 +202,7 @@ fn switch_usage(alloc: Global) -> Result<Plan, AllocError>
 }
 
 /// `switch` behind one option.
-fn switched_by(
-    alloc: Global,
-    option: &Text,
-    value: &Text,
-    pairs: &Text,
-) -> Result<Plan, AllocError>
+fn switched_by(alloc: Global, option: &Text, value: &Text, pairs: &Text) -> Result<Plan, AllocError>
     ensures { IfOk result (λ plan. plan ≡ switch_plan (option.now ∷ value.now ∷ pairs.now ∷ [])) }
 {
     let name = option.as_str();

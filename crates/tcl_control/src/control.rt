@@ -146,11 +146,7 @@ fn recorded(alloc: Global, refused: Option<Text>) -> Result<Plan, AllocError>
 }
 
 /// `proc` (proc(n)).
-fn proc_plan(
-    alloc: Global,
-    context: &mut Context,
-    words: &[Text],
-) -> Result<Plan, AllocError>
+fn proc_plan(alloc: Global, context: &mut Context, words: &[Text]) -> Result<Plan, AllocError>
     ensures { IfOk result (λ plan. (store : Store) → record { store = store; context = context.new; call = Call.Plans plan } ≡ proc_call words.now store context.old) }
 {
     match words {
@@ -159,19 +155,12 @@ fn proc_plan(
             let plan = recorded(alloc, refused)?;
             Ok(plan)
         }
-        _ => Ok(fails(fixed(
-            alloc,
-            "wrong # args: should be \"proc name params body\"",
-        )?)),
+        _ => Ok(fails(fixed(alloc, "wrong # args: should be \"proc name params body\"")?)),
     }
 }
 
 /// `rename` (rename(n)).
-fn rename_plan(
-    alloc: Global,
-    context: &mut Context,
-    words: &[Text],
-) -> Result<Plan, AllocError>
+fn rename_plan(alloc: Global, context: &mut Context, words: &[Text]) -> Result<Plan, AllocError>
     ensures { IfOk result (λ plan. (store : Store) → record { store = store; context = context.new; call = Call.Plans plan } ≡ rename_call words.now store context.old) }
 {
     match words {
@@ -180,10 +169,7 @@ fn rename_plan(
             let plan = recorded(alloc, refused)?;
             Ok(plan)
         }
-        _ => Ok(fails(fixed(
-            alloc,
-            "wrong # args: should be \"rename old new\"",
-        )?)),
+        _ => Ok(fails(fixed(alloc, "wrong # args: should be \"rename old new\"")?)),
     }
 }
 

@@ -18,6 +18,7 @@ pub use context::Context;
 pub use control::{Call, End, call_command, caught};
 pub use plan::Plan;
 pub use procedure::pop_last;
-pub use tcl_table::texts;
-pub use tcl_table::{Builtin, Command, CommandTable, Levels, Procedure, Source, first_commands, plain_name};
+pub use tcl_table::{
+    Builtin, Command, CommandTable, Levels, Procedure, Source, first_commands, plain_name, texts,
+};
 pub use turns::{Test, Turning, Verdict, tested};

@@ -46,11 +46,7 @@ fn fits(parameters: &[Parameter], words: &[Text]) -> bool
 }
 
 /// The word of a parameter, or its default.
-fn value_for(
-    alloc: Global,
-    fallback: &Option<Text>,
-    words: &[Text],
-) -> Result<Text, AllocError>
+fn value_for(alloc: Global, fallback: &Option<Text>, words: &[Text]) -> Result<Text, AllocError>
     ensures { IfOk result (λ value. value ≡ value_for fallback.now words.now) }
 {
     match words {
@@ -179,10 +175,7 @@ pub fn call_procedure(
 {
     let parameters = procedure.parameters.as_slice();
     if !fits(parameters, words) {
-        return Ok(Plan::Ends(
-            Code::Error,
-            usage(alloc, name.as_str(), parameters)?,
-        ));
+        return Ok(Plan::Ends(Code::Error, usage(alloc, name.as_str(), parameters)?));
     }
     let level = scopes.levels();
     scopes.push_frame()?;

@@ -47,7 +47,8 @@ fn chosen(
             Err(text) => return Ok(fails(text)),
         }
     }
-    otherwise_plan(alloc, otherwise)
+    let plan = otherwise_plan(alloc, otherwise)?;
+    Ok(plan)
 }
 
 /// `if` (if(n)).

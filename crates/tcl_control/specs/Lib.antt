@@ -9,3 +9,4 @@ pub mod Source
 pub mod Table
 pub mod Texts
 pub mod Turns
+pub mod Variables

@@ -3,6 +3,7 @@ use Rattle.std.specs.Prelude.{ℕ, List, [], ◌∷◌, Option, if◌then◌else
 use Rattle.std.specs.Str.{bytes_eq}
 use Rattle.std.specs.Map.{lookup, remove_entry}
 use Rattle.indexmap.specs.IndexMap.{insert_entry}
+use Rattle.tcl_commands.specs.declared.commands.VariableCommand.TheVariants as variable
 use Rattle.tcl_control.specs.Names.{is_dotted}
 use Rattle.tcl_control.specs.declared.builtin.Builtin.{Builtin as BuiltinName}
 use Rattle.tcl_control.specs.declared.builtin.Builtin.TheVariants as builtin
@@ -50,9 +51,21 @@ builtins =
     ∷ (codes "for", builtin.For)
     ∷ (codes "info", builtin.Info)
     ∷ (codes "return", builtin.Return)
-    ∷ (codes "set", builtin.Set)
     ∷ (codes "uplevel", builtin.Uplevel)
+    ∷ (codes "upvar", builtin.Upvar)
     ∷ (codes "while", builtin.While)
+    ∷ []
+
+-- the commands on variables that know no level but their script's
+abbrev pub variables : List (List ℕ × BuiltinName)
+variables =
+    (codes "set", builtin.Variable variable.Set)
+    ∷ (codes "unset", builtin.Variable variable.Unset)
+    ∷ (codes "incr", builtin.Variable variable.Incr)
+    ∷ (codes "append", builtin.Variable variable.Append)
+    ∷ (codes "lappend", builtin.Variable variable.Lappend)
+    ∷ (codes "array", builtin.Variable variable.Array)
+    ∷ (codes "global", builtin.Variable variable.Global)
     ∷ []
 
 abbrev pub text_names : List (List ℕ)
@@ -73,7 +86,7 @@ text_names =
 
 -- The commands at first, with the names of the outside ones.
 unfoldable pub first_commands : List (List ℕ) → Table
-first_commands names = with_outside names (with_texts text_names (with_builtins builtins []))
+first_commands names = with_outside names (with_texts text_names (with_builtins variables (with_builtins builtins [])))
 
 -- The command that a name calls. One that begins with a dot is always an outside command's.
 abbrev pub command_of : Table → List ℕ → Option Command

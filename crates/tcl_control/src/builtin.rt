@@ -1,3 +1,5 @@
+use tcl_commands::VariableCommand;
+
 /// The commands that the interpreter has itself, those on texts and lists aside.
 #[derive(Clone, Copy, Debug, PartialEq, Eq)]
 pub enum Builtin {
@@ -9,7 +11,8 @@ pub enum Builtin {
     For,
     Info,
     Return,
-    Set,
     Uplevel,
+    Upvar,
+    Variable(VariableCommand),
     While,
 }

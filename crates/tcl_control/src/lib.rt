@@ -12,6 +12,7 @@ mod plan;
 mod source;
 pub mod texts;
 mod turns;
+mod variables;
 
 pub use builtin::Builtin;
 pub use code::{Code, ReturnCode};

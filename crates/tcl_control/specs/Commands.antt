@@ -6,8 +6,7 @@ use Rattle.tcl_text.specs.Answers.{Answer}
 use Rattle.tcl_text.specs.Commands.{text_command_of}
 use Rattle.tcl_text.specs.Readings.{integer_of}
 use Rattle.tcl_text.specs.StringCommands.{concat_words}
-use Rattle.tcl_vars.specs.Store.{Store, variable_in, with_variable, has_variable}
-use Rattle.tcl_vars.specs.declared.fault.ReadFault.{ReadFault}
+use Rattle.tcl_vars.specs.Store.{Store, with_variable, has_variable}
 use Rattle.tcl_vars.specs.declared.fault.SetFault.{SetFault}
 use Rattle.tcl_control.specs.declared.code.Code.{Code}
 use Rattle.tcl_control.specs.declared.code.Code.TheVariants.{Normal, Error, Return, Break, Continue}
@@ -20,7 +19,7 @@ use Rattle.tcl_control.specs.declared.turns.Turning.{Turning}
 use Rattle.tcl_shapes.specs.Groups.{groups_of, has_body}
 use Rattle.tcl_shapes.specs.declared.groups.Group.{Group}
 use Rattle.tcl_control.specs.Conditions.{condition_of}
-use Rattle.tcl_table.specs.Texts.{about, message, wrong_words, cannot_read, cannot_set}
+use Rattle.tcl_table.specs.Texts.{about, message, wrong_words, cannot_set}
 
 abbrev pub fails : List ℕ → Plan
 fails text = Ends Error text
@@ -205,20 +204,6 @@ pub record Ending : Type 0 where
   pub store : Store
   pub code : Code
   pub text : List ℕ
-
-abbrev pub value_ending : List ℕ → Store → Result (List ℕ) ReadFault → Ending
-value_ending name store (Ok value) = record { store = store; code = Normal; text = value }
-value_ending name store (Err fault) = record { store = store; code = Error; text = cannot_read name fault }
-
-abbrev pub store_ending : List ℕ → List ℕ → Store → Result Store SetFault → Ending
-store_ending name value store (Ok changed) = record { store = changed; code = Normal; text = value }
-store_ending name value store (Err fault) = record { store = store; code = Error; text = cannot_set name fault }
-
--- set name ?value?
-abbrev pub set_ending : ℕ → List (List ℕ) → Store → Ending
-set_ending level (name ∷ []) store = value_ending name store (variable_in store level name)
-set_ending level (name ∷ value ∷ []) store = store_ending name value store (with_variable store level name value)
-set_ending level _ store = record { store = store; code = Error; text = wrong_words (codes "set name ?value?") }
 
 -- ── texts and lists ──
 

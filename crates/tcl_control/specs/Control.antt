@@ -11,13 +11,14 @@ use Rattle.tcl_control.specs.declared.control.Call.{Call}
 use Rattle.tcl_control.specs.declared.control.Call.TheVariants.{Plans, Outside, Unknown}
 use Rattle.tcl_control.specs.declared.plan.Plan.{Plan}
 use Rattle.tcl_control.specs.declared.plan.Plan.TheVariants.{Ends}
-use Rattle.tcl_control.specs.Commands.{Ending, break_plan, catch_plan, continue_plan, error_plan, eval_plan, fails, for_plan, foreach_plan, misused, info_plan, return_plan, set_ending, uplevel_plan, while_plan, texts_plan}
+use Rattle.tcl_control.specs.Commands.{Ending, break_plan, catch_plan, continue_plan, error_plan, eval_plan, fails, for_plan, foreach_plan, misused, info_plan, return_plan, uplevel_plan, while_plan, texts_plan}
 use Rattle.tcl_control.specs.Choices.{if_plan, switch_plan}
 use Rattle.tcl_control.specs.Procedures.{Changed, ProcedureCalled, changed, procedure_call, with_procedure, with_new_name}
 use Rattle.tcl_control.specs.declared.code.Code.TheVariants.{Normal}
 use Rattle.tcl_table.specs.Levels.{here}
 use Rattle.tcl_table.specs.Names.{plain_name}
 use Rattle.tcl_table.specs.Table.{command_of}
+use Rattle.tcl_control.specs.Variables.{upvar_ending, variable_ending}
 
 -- what a call leaves of the variables and of the context, and what is to be done
 pub record Called : Type 0 where
@@ -69,9 +70,10 @@ builtin_call builtin.Info words store context = keeps store context (info_plan (
 builtin_call builtin.Proc words store context = proc_call words store context
 builtin_call builtin.Rename words store context = rename_call words store context
 builtin_call builtin.Return words store context = keeps store context (return_plan words)
-builtin_call builtin.Set words store context = ends_with context (set_ending (here context.levels store) words store)
 builtin_call builtin.Switch words store context = keeps store context (switch_plan words)
 builtin_call builtin.Uplevel words store context = keeps store context (uplevel_plan (length context.levels) words)
+builtin_call builtin.Upvar words store context = ends_with context (upvar_ending context.levels words store)
+builtin_call (builtin.Variable command) words store context = ends_with context (variable_ending command context.levels words store)
 builtin_call builtin.While words store context = keeps store context (while_plan words)
 
 abbrev pub by_command : List ℕ → List (List ℕ) → Store → Context → Option Command → Called

@@ -11,3 +11,4 @@ pub mod Conditions
 pub mod Control
 pub mod Procedures
 pub mod Turns
+pub mod Variables

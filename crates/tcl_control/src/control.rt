@@ -2,8 +2,8 @@ ghost use Rattle.std.specs.Prelude.{◌≡◌, ◌<◌, ◌≤◌, [], ◌∷◌
 ghost use Rattle.tcl_text.specs.Commands.{text_command_of};
 ghost use Rattle.tcl_text.specs.Readings.{integer_of};
 ghost use Rattle.tcl_text.specs.StringCommands.{concat_words};
-ghost use Rattle.tcl_vars.specs.Store.{variable_in, with_variable};
-ghost use Rattle.tcl_control.specs.Commands.{code_number, stored_ending, caught_ending, set_ending, value_ending, store_ending, break_plan, catch_plan, continue_plan, error_plan, eval_plan, for_plan, foreach_plan, info_plan, return_plan, texts_plan, uplevel_plan, while_plan, fails, misused, on_joined, code_of, code_of_integer, code_numbered, unsigned_of, absolute, relative, runs_up, uplevel_usage, returns_as, returns_code, is_level, levels_left, runs_at, level_plan, exists_plan};
+ghost use Rattle.tcl_vars.specs.Store.{with_variable};
+ghost use Rattle.tcl_control.specs.Commands.{code_number, stored_ending, caught_ending, break_plan, catch_plan, continue_plan, error_plan, eval_plan, for_plan, foreach_plan, info_plan, return_plan, texts_plan, uplevel_plan, while_plan, fails, misused, on_joined, code_of, code_of_integer, code_numbered, unsigned_of, absolute, relative, runs_up, uplevel_usage, returns_as, returns_code, is_level, levels_left, runs_at, level_plan, exists_plan};
 ghost use Rattle.tcl_vars.specs.Store.{Store};
 ghost use Rattle.tcl_control.specs.Control.{recorded_plan, proc_call, rename_call, builtin_call, by_command, call_of, keeps};
 
@@ -15,9 +15,10 @@ use crate::define::{make_procedure, rename};
 use crate::plan::Plan;
 use crate::procedure::call_procedure;
 use crate::turns::{Test, Turning};
+use crate::variables::{upvar_end, variable_end};
 use std::alloc::{AllocError, Global};
 use tcl_shapes::{foreach_groups, has_body};
-use tcl_table::texts::{about, cannot_read, cannot_set, fixed, told};
+use tcl_table::texts::{about, cannot_set, fixed, told};
 use tcl_table::{Builtin, Command, Source, is_dotted, plain_name};
 use tcl_text::{Text, TextList};
 use tcl_vars::{Scopes, SetFault};
@@ -326,7 +327,7 @@ fn unsigned(word: &Text) -> Option<u64>
 }
 
 /// How many of so many levels a word leaves.
-fn levels_left(alloc: Global, count: usize, word: &Text) -> Result<Option<usize>, AllocError>
+pub fn levels_left(alloc: Global, count: usize, word: &Text) -> Result<Option<usize>, AllocError>
     ensures { IfOk result (λ left. left ≡ levels_left count word.now) }
 {
     match word.as_str().strip_prefix("#") {
@@ -466,59 +467,12 @@ pub struct End {
     pub text: Text,
 }
 
-fn error_end(text: Text) -> End
+pub fn error_end(text: Text) -> End
     ensures { result ≡ record { code = Code.Error; text = text } }
 {
     End {
         code: Code::Error,
         text,
-    }
-}
-
-/// Reads a variable.
-fn set_read(alloc: Global, scopes: &Scopes, level: usize, name: &Text) -> Result<End, AllocError>
-    requires { level < length scopes.now }
-    ensures { IfOk result (λ end. record { store = scopes.now; code = end.code; text = end.text } ≡ value_ending name.now scopes.now (variable_in scopes.now level name.now)) }
-{
-    match scopes.get(level, name) {
-        Ok(value) => Ok(End {
-            code: Code::Normal,
-            text: value.copy()?,
-        }),
-        Err(fault) => Ok(error_end(cannot_read(alloc, name, fault)?)),
-    }
-}
-
-/// Sets a variable.
-fn set_write(
-    alloc: Global,
-    scopes: &mut Scopes,
-    level: usize,
-    name: &Text,
-    value: &Text,
-) -> Result<End, AllocError>
-    requires { level < length scopes.old }
-    ensures { IfOk result (λ end. record { store = scopes.new; code = end.code; text = end.text } ≡ store_ending name.now value.now scopes.old (with_variable scopes.old level name.now value.now)) }
-{
-    match scopes.set(level, name, value.copy()?) {
-        Ok(()) => Ok(End {
-            code: Code::Normal,
-            text: value.copy()?,
-        }),
-        Err(SetFault::NoMemory) => Err(AllocError),
-        Err(fault) => Ok(error_end(cannot_set(alloc, name, fault)?)),
-    }
-}
-
-/// `set` (set(n)).
-fn set(alloc: Global, scopes: &mut Scopes, level: usize, words: &[Text]) -> Result<End, AllocError>
-    requires { level < length scopes.old }
-    ensures { IfOk result (λ end. record { store = scopes.new; code = end.code; text = end.text } ≡ set_ending level words.now scopes.old) }
-{
-    match words {
-        [name] => set_read(alloc, scopes, level, name),
-        [name, value] => set_write(alloc, scopes, level, name, value),
-        _ => Ok(error_end(fixed(alloc, "wrong # args: should be \"set name ?value?\"")?)),
     }
 }
 
@@ -564,15 +518,18 @@ fn builtin_call(
         Builtin::Proc => Ok(Call::Plans(proc_plan(alloc, context, words)?)),
         Builtin::Rename => Ok(Call::Plans(rename_plan(alloc, context, words)?)),
         Builtin::Return => Ok(Call::Plans(return_plan(alloc, words)?)),
-        Builtin::Set => {
-            let level = context.levels.here(scopes);
-            let End { code, text } = set(alloc, scopes, level, words)?;
-            Ok(Call::Plans(Plan::Ends(code, text)))
-        }
         Builtin::Switch => Ok(Call::Plans(switch_plan(alloc, words)?)),
         Builtin::Uplevel => {
             let count = context.levels.count();
             Ok(Call::Plans(uplevel_plan(alloc, count, words)?))
+        }
+        Builtin::Upvar => {
+            let End { code, text } = upvar_end(alloc, scopes, &context.levels, words)?;
+            Ok(Call::Plans(Plan::Ends(code, text)))
+        }
+        Builtin::Variable(command) => {
+            let End { code, text } = variable_end(alloc, scopes, &context.levels, command, words)?;
+            Ok(Call::Plans(Plan::Ends(code, text)))
         }
         Builtin::While => Ok(Call::Plans(while_plan(alloc, words)?)),
     }

@@ -11,6 +11,7 @@ mod define;
 mod plan;
 mod procedure;
 mod turns;
+mod variables;
 
 pub use code::{Code, ReturnCode};
 pub use condition::Condition;

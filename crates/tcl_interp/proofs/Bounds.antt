@@ -5,7 +5,7 @@ use Rattle.tcl_words.specs.declared.script.Word.{Word}
 use Rattle.tcl_words.specs.declared.script.Piece.{Piece}
 use Rattle.tcl_words.specs.declared.script.Piece.TheVariants.{Literal, Variable, Element, Bracket}
 use Rattle.tcl_words.specs.declared.fault.ParseFault.{ParseFault}
-use Rattle.tcl_vars.specs.Store.{Store, variable_in}
+use Rattle.tcl_vars.specs.Store.{Store, variable_in, element_in}
 use Rattle.tcl_vars.specs.declared.fault.ReadFault.{ReadFault}
 use Rattle.tcl_control.specs.declared.code.Code.{Code}
 use Rattle.tcl_control.specs.declared.code.Code.TheVariants.{Normal, Error, Return, Break, Continue}
@@ -17,11 +17,12 @@ use Rattle.tcl_control.specs.declared.turns.Test.{Test}
 use Rattle.tcl_control.specs.declared.turns.Turning.{Turning}
 use Rattle.tcl_control.specs.Control.{Called, call_of}
 use Rattle.tcl_control.specs.Source.{script_of}
+use Rattle.tcl_control.specs.Texts.{element_name}
 use Rattle.tcl_control.specs.Turns.{Tested, More, NoMore, Fails, tested}
 use Rattle.tcl_interp.specs.declared.tasks.Act.{Act}
 use Rattle.tcl_interp.specs.declared.tasks.Act.TheVariants.{Done, Step, Run, Unknown}
 use Rattle.tcl_interp.specs.Outside.{Outside, Falls, RunsBelow}
-use Rattle.tcl_interp.specs.Evaluation.{State, Outcome, Ended, OutOfSteps, level_of, and_then, on_normal, stepped, on_read, words_of, on_words, piece_meaning, pieces_meaning, words_meaning, called, commands_meaning}
+use Rattle.tcl_interp.specs.Evaluation.{State, Outcome, Ended, OutOfSteps, level_of, and_then, on_normal, stepped, on_read, words_of, on_words, index_pieces, element_read, on_index, piece_meaning, pieces_meaning, index_depth, element_meaning, words_meaning, called, commands_meaning}
 use Rattle.tcl_interp.specs.Plans.{cut, others, levels_back, procedure_ended, caught, on_tested, after_body, after_next, run_at, next_turn, turns_meaning, loop_meaning, plan_meaning}
 use Rattle.tcl_interp.specs.Scripts.{out_of_global, on_act, resumed, after_step, task_meaning, act_meaning, outside_meaning, by_call, called_meaning, call_meaning, on_parsed, script_meaning}
 
@@ -61,23 +62,39 @@ within_on_words : {S : Type 0} (n : ℕ) (state : State S) (f : State S → List
 within_on_words n state f (Ok more) w h = h more
 within_on_words n state f (Err text) w h = w
 
-module _ {S : Type 0} (run : List ℕ → State S → Outcome S) (call : List (List ℕ) → State S → Outcome S) (run_falls : Bounded run) where
-  pub within_piece : (n : ℕ) (piece : Piece) (state : State S) (f : State S → List ℕ → Outcome S) → state.steps ≤ n → ((state' : State S) (text : List ℕ) → state'.steps ≤ n → Within n (f state' text)) → Within n (piece_meaning run call piece state f)
+within_on_index : {S : Type 0} (n : ℕ) (state : State S) (f : List Piece → Outcome S) (pieces : Result (List Piece) ParseFault) → state.steps ≤ n → ((ps : List Piece) → Within n (f ps)) → Within n (on_index state f pieces)
+within_on_index n state f (Ok pieces) w h = h pieces
+within_on_index n state f (Err fault) w h = w
+
+-- how an element is read lets steps only fall
+abbrev pub BoundedElement : {S : Type 0} → (List ℕ → List ℕ → State S → Outcome S) → Type 0
+BoundedElement {S} element = (n : ℕ) (name index : List ℕ) (state : State S) → state.steps ≤ n → Within n (element name index state)
+
+module _ {S : Type 0} (run : List ℕ → State S → Outcome S) (element : List ℕ → List ℕ → State S → Outcome S) (run_falls : Bounded run) (element_falls : BoundedElement element) where
+  pub within_piece : (n : ℕ) (piece : Piece) (state : State S) (f : State S → List ℕ → Outcome S) → state.steps ≤ n → ((state' : State S) (text : List ℕ) → state'.steps ≤ n → Within n (f state' text)) → Within n (piece_meaning run element piece state f)
   within_piece n (Literal text) state f w h = h state text w
   within_piece n (Variable name) state f w h = within_on_read n name state f (variable_in state.store (level_of state) name) w (λ text. h state text w)
-  within_piece n (Element name index) state f w h = w
+  within_piece n (Element name index) state f w h = within_and_then n (element name index state) (on_normal f) (element_falls n name index state w) (within_on_normal n f h)
   within_piece n (Bracket script) state f w h = within_and_then n (run script state) (on_normal f) (run_falls n script state w) (within_on_normal n f h)
 
-  pub within_pieces : (n : ℕ) (pieces : List Piece) (so_far : List ℕ) (state : State S) (f : State S → List ℕ → Outcome S) → state.steps ≤ n → ((state' : State S) (text : List ℕ) → state'.steps ≤ n → Within n (f state' text)) → Within n (pieces_meaning run call pieces so_far state f)
+  pub within_pieces : (n : ℕ) (pieces : List Piece) (so_far : List ℕ) (state : State S) (f : State S → List ℕ → Outcome S) → state.steps ≤ n → ((state' : State S) (text : List ℕ) → state'.steps ≤ n → Within n (f state' text)) → Within n (pieces_meaning run element pieces so_far state f)
   within_pieces n [] so_far state f w h = h state so_far w
   within_pieces n (piece ∷ pieces) so_far state f w h =
       within_piece n piece state _ w (λ state' text w'.
       within_cond n (nat_le (length (so_far ++ text)) 65536) _ _ (within_pieces n pieces (so_far ++ text) state' f w' h) w')
 
+within_element : {S : Type 0} (run : List ℕ → State S → Outcome S) → Bounded run → (depth : ℕ) → BoundedElement (element_meaning run depth)
+within_element run run_falls zero n name index state w = w
+within_element run run_falls (suc depth) n name index state w =
+    within_on_index n state (λ ps. pieces_meaning run (element_meaning run depth) ps [] state (element_read name)) (index_pieces index) w (λ ps.
+    within_pieces run (element_meaning run depth) run_falls (within_element run run_falls depth) n ps [] state (element_read name) w
+    (λ state' text w'. within_on_read n (element_name name text) state' (λ state'' value. Ended state'' Normal value) (element_in state'.store (level_of state') name text) w' (λ value. w')))
+
+module _ {S : Type 0} (run : List ℕ → State S → Outcome S) (call : List (List ℕ) → State S → Outcome S) (run_falls : Bounded run) where
   pub within_words : (n : ℕ) (words : List Word) (whole : List (List ℕ)) (state : State S) (f : State S → List (List ℕ) → Outcome S) → state.steps ≤ n → ((state' : State S) (all : List (List ℕ)) → state'.steps ≤ n → Within n (f state' all)) → Within n (words_meaning run call words whole state f)
   within_words n [] whole state f w h = h state whole w
   within_words n (word ∷ words) whole state f w h =
-      within_pieces n word.pieces [] state _ w (λ state' text w'.
+      within_pieces run (element_meaning run index_depth) run_falls (within_element run run_falls index_depth) n word.pieces [] state _ w (λ state' text w'.
       within_on_words n state' (λ state'' more. words_meaning run call words (whole ++ more) state'' f) (words_of word.expand text) w' (λ more. within_words n words (whole ++ more) state' f w' h))
 
   pub within_called : Bounded call → (n : ℕ) (state : State S) (words : List (List ℕ)) → state.steps ≤ n → Within n (called run call state words)

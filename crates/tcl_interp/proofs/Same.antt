@@ -6,21 +6,21 @@ use Rattle.tcl_words.specs.declared.script.Word.{Word}
 use Rattle.tcl_words.specs.declared.script.Piece.{Piece}
 use Rattle.tcl_words.specs.declared.script.Piece.TheVariants.{Literal, Variable, Element, Bracket}
 use Rattle.tcl_words.specs.declared.fault.ParseFault.{ParseFault}
-use Rattle.tcl_vars.specs.Store.{Store, variable_in}
+use Rattle.tcl_vars.specs.Store.{Store, variable_in, element_in}
 use Rattle.tcl_vars.specs.declared.fault.ReadFault.{ReadFault}
 use Rattle.tcl_control.specs.declared.code.Code.{Code}
 use Rattle.tcl_control.specs.declared.code.Code.TheVariants.{Normal, Error, Return, Break, Continue}
 use Rattle.tcl_control.specs.declared.context.Context.{Context}
 use Rattle.tcl_control.specs.declared.turns.Turning.{Turning}
 use Rattle.tcl_control.specs.Source.{script_of}
-use Rattle.tcl_control.specs.Texts.{limit_text}
+use Rattle.tcl_control.specs.Texts.{limit_text, element_name}
 use Rattle.tcl_interp.specs.Outside.{Outside}
-use Rattle.tcl_interp.specs.Evaluation.{State, Outcome, Ended, OutOfSteps, level_of, and_then, on_normal, with_step, on_read, with_joined, words_of, on_words, pieces_meaning}
+use Rattle.tcl_interp.specs.Evaluation.{State, Outcome, Ended, OutOfSteps, level_of, and_then, on_normal, with_step, on_read, with_joined, words_of, on_words, index_pieces, element_read, on_index, pieces_meaning, index_depth, element_meaning}
 use Rattle.tcl_interp.specs.Plans.{after_next, next_turn}
 use Rattle.tcl_interp.specs.Scripts.{out_of_global, call_meaning, on_parsed, script_meaning}
-use Rattle.tcl_interp.specs.Finish.{Wording, Doing, Begins, GoesOn, Calls, Tests, Steps, Resumes, Ends, Waiting, ForCommand, ForBracket, ForBody, ForNext, ForStart, ForCatch, ForLevels, ForProcedure, ForScript, ForAll, Running, at_global, script_rest, words_rest, word_done, loop_rest, waiting_meaning, waits_meaning, finish}
+use Rattle.tcl_interp.specs.Finish.{Wording, Indexing, Doing, Begins, GoesOn, Indexes, Calls, Tests, Steps, Resumes, Ends, Waiting, ForCommand, ForPart, ForIndex, ForBody, ForNext, ForStart, ForCatch, ForLevels, ForProcedure, ForScript, ForAll, Running, at_global, script_rest, words_rest, word_done, index_rest, loop_rest, waiting_meaning, waits_meaning, finish}
 use Rattle.tcl_interp.specs.Quiet.{quiet_by, quiet_move, quiet_moves, Leads}
-use Rattle.tcl_interp.specs.Moves.{Moved, Standing, value_text, WordEnd, Whole, Failed, AtBracket, join_end, piece_end, word_end, with_more, moved, standing, more_move, word_move, words_move, parsed_move, begin_move, go_on_move, after_command, after_bracket, next_move, after_body_move, after_next_move, after_start_move, global_end, end_move}
+use Rattle.tcl_interp.specs.Moves.{Moved, Standing, Part, Script, ElementOf, value_text, WordEnd, Whole, Failed, AtPart, join_end, piece_end, word_end, with_more, moved, standing, more_move, index_begins, element_begins, part_begins, word_move, words_move, element_end, index_move, indexes_move, parsed_move, begin_move, go_on_move, after_command, after_part, longer_index, after_index, next_move, after_body_move, after_next_move, after_start_move, global_end, end_move}
 
 pub and_then_assoc : {S : Type 0} (o : Outcome S) (f g : State S → Code → List ℕ → Outcome S) → and_then (and_then o f) g ≡ and_then o (λ state code text. and_then (f state code text) g)
 and_then_assoc (Ended state code text) f g = refl
@@ -30,13 +30,19 @@ pub and_then_cong : {S : Type 0} (o : Outcome S) (f g : State S → Code → Lis
 and_then_cong (Ended state code text) f g h = h state code text
 and_then_cong (OutOfSteps state) f g h = refl
 
-module _ {S : Type 0} (run : List ℕ → State S → Outcome S) (call : List (List ℕ) → State S → Outcome S) (f : State S → List ℕ → Outcome S) where
+module _ {S : Type 0} (run : List ℕ → State S → Outcome S) (element : List ℕ → List ℕ → State S → Outcome S) where
+  -- what a part of a word comes to
+  abbrev pub part_meaning : Part → State S → Outcome S
+  part_meaning (Script script) state = run script state
+  part_meaning (ElementOf name index) state = element name index state
+
+module _ {S : Type 0} (run : List ℕ → State S → Outcome S) (element : List ℕ → List ℕ → State S → Outcome S) (f : State S → List ℕ → Outcome S) where
   -- what follows where a word comes so far
   abbrev pub end_meaning : State S → WordEnd → Outcome S
   end_meaning state (Whole text) = f state text
   end_meaning state (Failed text) = Ended state Error text
-  end_meaning state (AtBracket script pieces so_far) =
-      and_then (run script state) (on_normal (λ state' text. with_joined so_far text state' (λ state'' joined. pieces_meaning run call pieces joined state'' f)))
+  end_meaning state (AtPart part pieces so_far) =
+      and_then (part_meaning run element part state) (on_normal (λ state' text. with_joined so_far text state' (λ state'' joined. pieces_meaning run element pieces joined state'' f)))
 
   joined_cases : (b : Bool) (state : State S) (o : Outcome S) (e : WordEnd) → o ≡ end_meaning state e → cond b o (Ended state Error limit_text) ≡ end_meaning state (cond b e (Failed limit_text))
   joined_cases true state o e h = h
@@ -47,15 +53,15 @@ module _ {S : Type 0} (run : List ℕ → State S → Outcome S) (call : List (L
   read_cases state name (Err fault) pieces so_far go after h = refl
 
   -- the pieces of a word mean what the word's end says
-  pub pieces_end : (pieces : List Piece) (so_far : List ℕ) (state : State S) → pieces_meaning run call pieces so_far state f ≡ end_meaning state (word_end (level_of state) state.store pieces so_far)
+  pub pieces_end : (pieces : List Piece) (so_far : List ℕ) (state : State S) → pieces_meaning run element pieces so_far state f ≡ end_meaning state (word_end (level_of state) state.store pieces so_far)
   pieces_end [] so_far state = refl
   pieces_end (Literal text ∷ pieces) so_far state = joined_cases (nat_le (length (so_far ++ text)) 65536) state _ _ (pieces_end pieces (so_far ++ text) state)
   pieces_end (Variable name ∷ pieces) so_far state =
-      read_cases state name (variable_in state.store (level_of state) name) pieces so_far (word_end (level_of state) state.store pieces) (λ state' text. with_joined so_far text state' (λ state'' joined. pieces_meaning run call pieces joined state'' f)) (λ text. joined_cases (nat_le (length (so_far ++ text)) 65536) state _ _ (pieces_end pieces (so_far ++ text) state))
+      read_cases state name (variable_in state.store (level_of state) name) pieces so_far (word_end (level_of state) state.store pieces) (λ state' text. with_joined so_far text state' (λ state'' joined. pieces_meaning run element pieces joined state'' f)) (λ text. joined_cases (nat_le (length (so_far ++ text)) 65536) state _ _ (pieces_end pieces (so_far ++ text) state))
   pieces_end (Element name index ∷ pieces) so_far state = refl
   pieces_end (Bracket script ∷ pieces) so_far state = refl
 
-  pub joined_end : (pieces : List Piece) (so_far text : List ℕ) (state : State S) → with_joined so_far text state (λ state' joined. pieces_meaning run call pieces joined state' f) ≡ end_meaning state (join_end so_far text (word_end (level_of state) state.store pieces))
+  pub joined_end : (pieces : List Piece) (so_far text : List ℕ) (state : State S) → with_joined so_far text state (λ state' joined. pieces_meaning run element pieces joined state' f) ≡ end_meaning state (join_end so_far text (word_end (level_of state) state.store pieces))
   joined_end pieces so_far text state = joined_cases (nat_le (length (so_far ++ text)) 65536) state _ _ (pieces_end pieces (so_far ++ text) state)
 
 pub begin_some : {K : Type 0} (room : ℕ) (text : List ℕ) (waits : List (Waiting K)) → begin_move (suc room) text waits ≡ parsed_move room waits (script_of text)
@@ -64,12 +70,22 @@ begin_some room text waits =
     let some : (suc room == 0) ≡ false = grind (arith, nat_tests) in
     rw (some, less) refl
 
+pub element_begins_some : {K : Type 0} (room depth : ℕ) (name index : List ℕ) → element_begins {K} room (suc depth) name index ≡ index_begins room depth name (index_pieces index)
+element_begins_some room depth name index =
+    let less : suc depth - 1 ≡ depth = omega arith in
+    let some : (suc depth == 0) ≡ false = grind (arith, nat_tests) in
+    rw (some, less) refl
+
 module _ {S K : Type 0} (outside : Outside S K) where
   abbrev pub run_in : ℕ → List ℕ → State S → Outcome S
   run_in room = script_meaning outside room
 
   abbrev call_in : ℕ → List (List ℕ) → State S → Outcome S
   call_in room = call_meaning outside (script_meaning outside room)
+
+  -- an element, where scripts have so much room, and indices go so deep
+  abbrev elements_in : ℕ → ℕ → List ℕ → List ℕ → State S → Outcome S
+  elements_in room depth = element_meaning (run_in room) depth
 
   -- the outcome after a move of what is done and what waits
   abbrev pub finish_moved : Moved K → State S → Outcome S
@@ -82,16 +98,62 @@ module _ {S K : Type 0} (outside : Outside S K) where
   abbrev next_in : ℕ → List Command → State S → Code → List ℕ → Outcome S
   next_in room after = on_normal (λ state result. script_rest outside room after result state)
 
+  -- ── parts ──
+
+  index_begins_same : (room depth : ℕ) (name : List ℕ) (waits : List (Waiting K)) (state : State S) (pieces : Result (List Piece) ParseFault)
+      → and_then (on_index state (λ ps. pieces_meaning (run_in room) (elements_in room depth) ps [] state (element_read name)) pieces) (waits_meaning outside waits)
+      ≡ finish_moved (moved (index_begins room depth name pieces) waits) state
+  index_begins_same room depth name waits state (Ok pieces) = refl
+  index_begins_same room depth name waits state (Err fault) = refl
+
+  part_same : (room depth : ℕ) (part : Part) (waits : List (Waiting K)) (state : State S)
+      → and_then (part_meaning (run_in room) (elements_in room depth) part state) (waits_meaning outside waits) ≡ finish_moved (moved (part_begins room depth part) waits) state
+  part_same room depth (Script script) waits state = refl
+  part_same room zero (ElementOf name index) waits state = refl
+  part_same room (suc depth) (ElementOf name index) waits state =
+      index_begins_same room depth name waits state (index_pieces index) ∙ ap (λ d. finish_moved (moved d waits) state) (sym (element_begins_some room depth name index))
+
+  element_same : (name : List ℕ) (waits : List (Waiting K)) (state : State S) (value : Result (List ℕ) ReadFault)
+      → and_then (on_read name state (λ state' text. Ended state' Normal text) value) (waits_meaning outside waits) ≡ finish_moved (moved (element_end name value) waits) state
+  element_same name waits state (Ok value) = refl
+  element_same name waits state (Err fault) = refl
+
+  index_same : (x : Indexing) (waits : List (Waiting K)) (state : State S) (end : WordEnd)
+      → and_then (end_meaning (run_in x.room) (elements_in x.room x.depth) (element_read x.name) state end) (waits_meaning outside waits)
+      ≡ finish_moved (index_move (level_of state) state.store x waits end) state
+  index_same x waits state (Whole index) = element_same (element_name x.name index) waits state (element_in state.store (level_of state) x.name index)
+  index_same x waits state (Failed text) = refl
+  index_same x waits state (AtPart part pieces so_far) =
+      and_then_assoc (part_meaning (run_in x.room) (elements_in x.room x.depth) part state) (on_normal (λ state' text. with_joined so_far text state' (λ state'' joined. pieces_meaning (run_in x.room) (elements_in x.room x.depth) pieces joined state'' (element_read x.name)))) (waits_meaning outside waits)
+      ∙ part_same x.room x.depth part (ForIndex (record x { so_far = so_far; pieces = pieces }) ∷ waits) state
+
+  indexes_same : (x : Indexing) (waits : List (Waiting K)) (state : State S) → and_then (index_rest outside x x.so_far state) (waits_meaning outside waits) ≡ finish_moved (indexes_move (level_of state) state.store x waits) state
+  indexes_same x waits state =
+      ap (λ o. and_then o (waits_meaning outside waits)) (pieces_end (run_in x.room) (elements_in x.room x.depth) (element_read x.name) x.pieces x.so_far state)
+      ∙ index_same x waits state (word_end (level_of state) state.store x.pieces x.so_far)
+
+  longer_same : (x : Indexing) (so_far : List ℕ) (b : Bool) (waits : List (Waiting K)) (state : State S)
+      → and_then (cond b (index_rest outside x so_far state) (Ended state Error limit_text)) (waits_meaning outside waits) ≡ finish_moved (moved (cond b (Indexes (record x { so_far = so_far })) (Ends Error limit_text)) waits) state
+  longer_same x so_far true waits state = refl
+  longer_same x so_far false waits state = refl
+
+  index_end_same : (x : Indexing) (waits : List (Waiting K)) (state : State S) (code : Code) (text : List ℕ) → and_then (waiting_meaning outside (ForIndex x) state code text) (waits_meaning outside waits) ≡ finish_moved (after_index x waits code text) state
+  index_end_same x waits state Normal text = longer_same x (x.so_far ++ text) (nat_le (length (x.so_far ++ text)) 65536) waits state
+  index_end_same x waits state Error text = refl
+  index_end_same x waits state (Return code) text = refl
+  index_end_same x waits state Break text = refl
+  index_end_same x waits state Continue text = refl
+
   -- ── words ──
 
-  after_bracket_same : (room : ℕ) (after : List Command) (waits : List (Waiting K)) (g : State S → List ℕ → Outcome S) (state : State S) (code : Code) (text : List ℕ) →
+  after_part_same : (room : ℕ) (after : List Command) (waits : List (Waiting K)) (g : State S → List ℕ → Outcome S) (state : State S) (code : Code) (text : List ℕ) →
       and_then (and_then (on_normal g state code text) (next_in room after)) (waits_meaning outside waits)
       ≡ and_then (on_normal (λ state' piece. and_then (g state' piece) (next_in room after)) state code text) (waits_meaning outside waits)
-  after_bracket_same room after waits g state Normal text = refl
-  after_bracket_same room after waits g state Error text = refl
-  after_bracket_same room after waits g state (Return code) text = refl
-  after_bracket_same room after waits g state Break text = refl
-  after_bracket_same room after waits g state Continue text = refl
+  after_part_same room after waits g state Normal text = refl
+  after_part_same room after waits g state Error text = refl
+  after_part_same room after waits g state (Return code) text = refl
+  after_part_same room after waits g state Break text = refl
+  after_part_same room after waits g state Continue text = refl
 
   more_same : (room : ℕ) (after : List Command) (words : List Word) (whole : List (List ℕ)) (waits : List (Waiting K)) (state : State S) (go : List (List ℕ) → Moved K)
       → ((more : List (List ℕ)) → and_then (and_then (words_rest outside room words more state) (next_in room after)) (waits_meaning outside waits) ≡ finish_moved (go more) state)
@@ -104,24 +166,26 @@ module _ {S K : Type 0} (outside : Outside S K) where
   word_same : (room : ℕ) (after : List Command) (expand : Bool) (words : List Word) (whole : List (List ℕ)) (waits : List (Waiting K)) (state : State S) (go : List (List ℕ) → Moved K)
       → ((more : List (List ℕ)) → and_then (and_then (words_rest outside room words more state) (next_in room after)) (waits_meaning outside waits) ≡ finish_moved (go more) state)
       → (end : WordEnd)
-      → and_then (and_then (end_meaning (run_in room) (call_in room) (word_done outside room expand words whole) state end) (next_in room after)) (waits_meaning outside waits)
+      → and_then (and_then (end_meaning (run_in room) (elements_in room index_depth) (word_done outside room expand words whole) state end) (next_in room after)) (waits_meaning outside waits)
       ≡ finish_moved (word_move room after expand words whole waits go end) state
   word_same room after expand words whole waits state go h (Whole text) = more_same room after words whole waits state go h (words_of expand text)
   word_same room after expand words whole waits state go h (Failed text) = refl
-  word_same room after expand words whole waits state go h (AtBracket script pieces so_far) =
+  word_same room after expand words whole waits state go h (AtPart part pieces so_far) =
       let f : State S → List ℕ → Outcome S = word_done outside room expand words whole in
-      let g : State S → List ℕ → Outcome S = λ state' text. with_joined so_far text state' (λ state'' joined. pieces_meaning (run_in room) (call_in room) pieces joined state'' f) in
-      and_then_assoc (and_then (run_in room script state) (on_normal g)) (next_in room after) (waits_meaning outside waits)
-      ∙ and_then_assoc (run_in room script state) (on_normal g) (λ state' code text. and_then (next_in room after state' code text) (waits_meaning outside waits))
-      ∙ and_then_cong (run_in room script state) _ _ (λ state' code text.
-      sym (and_then_assoc (on_normal g state' code text) (next_in room after) (waits_meaning outside waits)) ∙ after_bracket_same room after waits g state' code text)
+      let g : State S → List ℕ → Outcome S = λ state' text. with_joined so_far text state' (λ state'' joined. pieces_meaning (run_in room) (elements_in room index_depth) pieces joined state'' f) in
+      let part_outcome : Outcome S = part_meaning (run_in room) (elements_in room index_depth) part state in
+      and_then_assoc (and_then part_outcome (on_normal g)) (next_in room after) (waits_meaning outside waits)
+      ∙ and_then_assoc part_outcome (on_normal g) (λ state' code text. and_then (next_in room after state' code text) (waits_meaning outside waits))
+      ∙ and_then_cong part_outcome _ _ (λ state' code text.
+      sym (and_then_assoc (on_normal g state' code text) (next_in room after) (waits_meaning outside waits)) ∙ after_part_same room after waits g state' code text)
+      ∙ part_same room index_depth part (ForPart (record { room = room; after = after; whole = whole; so_far = so_far; expand = expand; pieces = pieces; words = words }) ∷ waits) state
 
   pub words_same : (room : ℕ) (after : List Command) (words : List Word) (whole : List (List ℕ)) (waits : List (Waiting K)) (state : State S)
       → and_then (and_then (words_rest outside room words whole state) (next_in room after)) (waits_meaning outside waits) ≡ finish_moved (words_move (level_of state) state.store room after words whole waits) state
   words_same room after [] [] waits state = refl
   words_same room after [] (name ∷ arguments) waits state = and_then_assoc (with_step state (call_in room (name ∷ arguments))) (next_in room after) (waits_meaning outside waits)
   words_same room after (word ∷ words) whole waits state =
-      ap (λ o. and_then (and_then o (next_in room after)) (waits_meaning outside waits)) (pieces_end (run_in room) (call_in room) (word_done outside room word.expand words whole) word.pieces [] state)
+      ap (λ o. and_then (and_then o (next_in room after)) (waits_meaning outside waits)) (pieces_end (run_in room) (elements_in room index_depth) (word_done outside room word.expand words whole) word.pieces [] state)
       ∙ word_same room after word.expand words whole waits state (λ more. words_move (level_of state) state.store room after words more waits) (λ more. words_same room after words more waits state) (word_end (level_of state) state.store word.pieces [])
 
   -- ── scripts ──
@@ -148,14 +212,14 @@ module _ {S K : Type 0} (outside : Outside S K) where
   command_end_same room after waits state Break text = refl
   command_end_same room after waits state Continue text = refl
 
-  bracket_end_same : (w : Wording) (waits : List (Waiting K)) (state : State S) (code : Code) (text : List ℕ) → and_then (waiting_meaning outside (ForBracket w) state code text) (waits_meaning outside waits) ≡ finish_moved (after_bracket (level_of state) state.store w waits code text) state
-  bracket_end_same w waits state Normal text =
-      ap (λ o. and_then (and_then o (next_in w.room w.after)) (waits_meaning outside waits)) (joined_end (run_in w.room) (call_in w.room) (word_done outside w.room w.expand w.words w.whole) w.pieces w.so_far text state)
+  part_end_same : (w : Wording) (waits : List (Waiting K)) (state : State S) (code : Code) (text : List ℕ) → and_then (waiting_meaning outside (ForPart w) state code text) (waits_meaning outside waits) ≡ finish_moved (after_part (level_of state) state.store w waits code text) state
+  part_end_same w waits state Normal text =
+      ap (λ o. and_then (and_then o (next_in w.room w.after)) (waits_meaning outside waits)) (joined_end (run_in w.room) (elements_in w.room index_depth) (word_done outside w.room w.expand w.words w.whole) w.pieces w.so_far text state)
       ∙ word_same w.room w.after w.expand w.words w.whole waits state (λ more. words_move (level_of state) state.store w.room w.after w.words more waits) (λ more. words_same w.room w.after w.words more waits state) (join_end w.so_far text (word_end (level_of state) state.store w.pieces))
-  bracket_end_same w waits state Error text = refl
-  bracket_end_same w waits state (Return code) text = refl
-  bracket_end_same w waits state Break text = refl
-  bracket_end_same w waits state Continue text = refl
+  part_end_same w waits state Error text = refl
+  part_end_same w waits state (Return code) text = refl
+  part_end_same w waits state Break text = refl
+  part_end_same w waits state Continue text = refl
 
   next_test_same : (room : ℕ) (turning : Turning) (waits : List (Waiting K)) (state : State S) (next : Option (List ℕ))
       → and_then (next_turn (run_in room) next (loop_rest outside room turning) state) (waits_meaning outside waits) ≡ finish_moved (next_move room turning waits next) state
@@ -192,7 +256,8 @@ module _ {S K : Type 0} (outside : Outside S K) where
 
   pub end_same : (code : Code) (text : List ℕ) (waiting : Waiting K) (waits : List (Waiting K)) (state : State S) → finish outside (Running (Ends code text) (waiting ∷ waits)) state ≡ finish_standing (end_move state.store state.context code text waiting waits) state
   end_same code text (ForCommand room after) waits state = command_end_same room after waits state code text
-  end_same code text (ForBracket w) waits state = bracket_end_same w waits state code text
+  end_same code text (ForPart w) waits state = part_end_same w waits state code text
+  end_same code text (ForIndex x) waits state = index_end_same x waits state code text
   end_same code text (ForBody room turning) waits state = body_end_same room turning waits state code text
   end_same code text (ForNext room turning) waits state = next_end_same room turning waits state code text
   end_same code text (ForStart room turning) waits state = start_end_same room turning waits state code text
@@ -207,6 +272,7 @@ module _ {S K : Type 0} (outside : Outside S K) where
   quiet_same_by : (doing : Doing K) (waits : List (Waiting K)) (state : State S) → finish_moved (moved doing waits) state ≡ finish_standing (quiet_by state.store state.context doing waits) state
   quiet_same_by (Begins room text) waits state = begin_same room text waits state
   quiet_same_by (GoesOn room commands result) waits state = go_on_same room commands result waits state
+  quiet_same_by (Indexes x) waits state = indexes_same x waits state
   quiet_same_by (Calls room words) waits state = refl
   quiet_same_by (Tests room turning) waits state = refl
   quiet_same_by (Steps room task) waits state = refl

@@ -2,7 +2,7 @@
 use Rattle.std.proofs.Common.{◌≡◌, ℕ, List, refl}
 use Rattle.tcl_control.specs.declared.code.Code.{Code}
 use Rattle.tcl_interp.specs.declared.machine.Now.{Now}
-use Rattle.tcl_interp.specs.declared.machine.Now.TheVariants.{Begins, GoesOn, Calls, Tests, Steps, Resumes, Ends}
+use Rattle.tcl_interp.specs.declared.machine.Now.TheVariants.{Begins, GoesOn, Indexes, Calls, Tests, Steps, Resumes, Ends}
 use Rattle.tcl_interp.specs.Finish.{Waiting}
 use Rattle.tcl_interp.specs.Quiet.{IsDueBy}
 use Rattle.tcl_interp.specs.Rests.{doing_of}
@@ -11,6 +11,7 @@ use Rattle.tcl_interp.specs.Steps.{IsSettledBy, NeedsStep}
 pub due_settled : {K : Type 0} (now : Now K) (waits : List (Waiting K)) → IsDueBy (doing_of now) waits → ((room : ℕ) (task : K) (code : Code) (text : List ℕ) → now ≡ Resumes room task code text → ⊥) → IsSettledBy (doing_of now) waits
 due_settled (Begins room script) waits due none = due
 due_settled (GoesOn place result) waits due none = due
+due_settled (Indexes part) waits due none = due
 due_settled (Calls room words) waits due none = tt
 due_settled (Tests room turning) waits due none = tt
 due_settled (Steps room task) waits due none = tt
@@ -20,6 +21,7 @@ due_settled (Ends code text) waits due none = due
 pub settled_needs : {K : Type 0} (now : Now K) (waits : List (Waiting K)) → IsSettledBy (doing_of now) waits → ((code : Code) (text : List ℕ) → now ≡ Ends code text → ⊥) → NeedsStep (doing_of now)
 settled_needs (Begins room script) waits settled none = settled
 settled_needs (GoesOn place result) waits settled none = settled
+settled_needs (Indexes part) waits settled none = settled
 settled_needs (Calls room words) waits settled none = tt
 settled_needs (Tests room turning) waits settled none = tt
 settled_needs (Steps room task) waits settled none = tt

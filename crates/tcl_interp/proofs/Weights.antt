@@ -5,7 +5,7 @@ use Rattle.tcl_words.specs.declared.script.Word.{Word}
 use Rattle.tcl_words.specs.declared.script.Piece.{Piece}
 use Rattle.tcl_words.specs.declared.script.Piece.TheVariants.{Literal, Variable, Element, Bracket}
 use Rattle.tcl_words.specs.declared.fault.ParseFault.{ParseFault}
-use Rattle.tcl_vars.specs.Store.{Store, variable_in}
+use Rattle.tcl_vars.specs.Store.{Store, variable_in, element_in}
 use Rattle.tcl_vars.specs.declared.fault.ReadFault.{ReadFault}
 use Rattle.tcl_control.specs.declared.code.Code.{Code}
 use Rattle.tcl_control.specs.declared.code.Code.TheVariants.{Normal, Error, Return, Break, Continue}
@@ -13,50 +13,42 @@ use Rattle.tcl_control.specs.declared.context.Context.{Context}
 use Rattle.tcl_control.specs.declared.turns.Turning.{Turning}
 use Rattle.tcl_control.specs.Levels.{here}
 use Rattle.tcl_control.specs.Source.{script_of}
-use Rattle.tcl_control.specs.Texts.{limit_text}
-use Rattle.tcl_interp.specs.Evaluation.{words_of}
+use Rattle.tcl_control.specs.Texts.{limit_text, element_name}
+use Rattle.tcl_interp.specs.Evaluation.{index_pieces, index_depth, words_of}
 use Rattle.tcl_interp.specs.Scripts.{out_of_global}
-use Rattle.tcl_interp.specs.Finish.{Wording, Doing, Begins, GoesOn, Calls, Tests, Steps, Resumes, Ends, Waiting, ForCommand, ForBracket, ForBody, ForNext, ForStart, ForCatch, ForLevels, ForProcedure, ForScript, ForAll}
-use Rattle.tcl_interp.specs.Moves.{Moved, Standing, value_text, WordEnd, Whole, Failed, AtBracket, join_end, piece_end, word_end, with_more, moved, standing, more_move, word_move, words_move, parsed_move, begin_move, go_on_move, after_command, bracket_move, after_bracket, next_move, after_body_move, after_next_move, after_start_move, global_end, end_move}
+use Rattle.tcl_interp.specs.Finish.{Wording, Indexing, Doing, Begins, GoesOn, Indexes, Calls, Tests, Steps, Resumes, Ends, Waiting, ForCommand, ForPart, ForIndex, ForBody, ForNext, ForStart, ForCatch, ForLevels, ForProcedure, ForScript, ForAll}
+use Rattle.tcl_interp.specs.Moves.{Moved, Standing, Part, Script, ElementOf, value_text, WordEnd, Whole, Failed, AtPart, join_end, piece_end, word_end, with_more, moved, standing, more_move, index_begins, element_begins, part_begins, word_move, words_move, element_end, index_move, indexes_move, parsed_move, begin_move, go_on_move, after_command, part_move, after_part, longer_index, after_index, next_move, after_body_move, after_next_move, after_start_move, global_end, end_move}
 use Rattle.tcl_interp.specs.Quiet.{quiet_by, quiet_move, quiet_moves, Leads, IsQuietBy, IsQuiet}
-use Rattle.tcl_interp.proofs.Same.{begin_some}
+use Rattle.tcl_interp.proofs.Same.{begin_some, element_begins_some}
 
 -- ── before the next step or task ──
 
--- what a script in brackets weighs is given
-module _ (script_weight : List ℕ → ℕ) where
+-- what a script in brackets, and an element of an index, weighs is given
+module _ (script_weight : List ℕ → ℕ) (element_weight : List ℕ → ℕ) where
   abbrev pub piece_weight : Piece → ℕ
   piece_weight (Literal text) = 1
   piece_weight (Variable name) = 1
-  piece_weight (Element name index) = 1
+  piece_weight (Element name index) = suc (element_weight index)
   piece_weight (Bracket script) = suc (script_weight script)
 
   abbrev pub pieces_weight : List Piece → ℕ
   pieces_weight [] = 0
   pieces_weight (piece ∷ pieces) = piece_weight piece + pieces_weight pieces
 
-  abbrev pub words_weight : List Word → ℕ
-  words_weight [] = 0
-  words_weight (word ∷ words) = suc (pieces_weight word.pieces + words_weight words)
+  abbrev pub part_weight : Part → ℕ
+  part_weight (Script script) = script_weight script
+  part_weight (ElementOf name index) = element_weight index
 
-  abbrev pub commands_weight : List Command → ℕ
-  commands_weight [] = 0
-  commands_weight (command ∷ commands) = suc (words_weight command.words + commands_weight commands)
-
-  abbrev pub parsed_weight : Result (List Command) ParseFault → ℕ
-  parsed_weight (Ok commands) = 3 + commands_weight commands
-  parsed_weight (Err fault) = 2
-
-  -- a word's end leaves less than this
+  -- the end of a word or an index leaves less than this
   abbrev pub EndWeighs : ℕ → WordEnd → Type 0
   EndWeighs bound (Whole text) = Unit {0}
   EndWeighs bound (Failed text) = Unit {0}
-  EndWeighs bound (AtBracket script pieces so_far) = suc (script_weight script + pieces_weight pieces) ≤ bound
+  EndWeighs bound (AtPart part pieces so_far) = suc (part_weight part + pieces_weight pieces) ≤ bound
 
   end_weighs_more : (m n : ℕ) (end : WordEnd) → m ≤ n → EndWeighs m end → EndWeighs n end
   end_weighs_more m n (Whole text) le w = tt
   end_weighs_more m n (Failed text) le w = tt
-  end_weighs_more m n (AtBracket script pieces so_far) le w = omega arith
+  end_weighs_more m n (AtPart part pieces so_far) le w = omega arith
 
   join_weighs : (bound : ℕ) (b : Bool) (end : WordEnd) → EndWeighs bound end → EndWeighs bound (cond b end (Failed limit_text))
   join_weighs bound true end w = w
@@ -73,8 +65,33 @@ module _ (script_weight : List ℕ → ℕ) where
   end_weighs level store (Variable name ∷ pieces) so_far =
       read_weighs (1 + pieces_weight pieces) name (variable_in store level name) pieces so_far (word_end level store pieces)
       (λ text. end_weighs_more (pieces_weight pieces) (1 + pieces_weight pieces) (word_end level store pieces text) (omega arith) (end_weighs level store pieces text))
-  end_weighs level store (Element name index ∷ pieces) so_far = tt
+  end_weighs level store (Element name index ∷ pieces) so_far = omega arith
   end_weighs level store (Bracket script ∷ pieces) so_far = omega arith
+
+-- an element, where it is given what a script weighs
+module _ (script_weight : List ℕ → ℕ) where
+  abbrev pub index_weight : (List ℕ → ℕ) → Result (List Piece) ParseFault → ℕ
+  index_weight element_weight (Ok pieces) = 3 + pieces_weight script_weight element_weight pieces
+  index_weight element_weight (Err fault) = 2
+
+  abbrev pub element_weight : ℕ → List ℕ → ℕ
+  element_weight zero index = 2
+  element_weight (suc depth) index = index_weight (element_weight depth) (index_pieces index)
+
+  abbrev pub word_weight : List Piece → ℕ
+  word_weight pieces = pieces_weight script_weight (element_weight index_depth) pieces
+
+  abbrev pub words_weight : List Word → ℕ
+  words_weight [] = 0
+  words_weight (word ∷ words) = suc (word_weight word.pieces + words_weight words)
+
+  abbrev pub commands_weight : List Command → ℕ
+  commands_weight [] = 0
+  commands_weight (command ∷ commands) = suc (words_weight command.words + commands_weight commands)
+
+  abbrev pub parsed_weight : Result (List Command) ParseFault → ℕ
+  parsed_weight (Ok commands) = 3 + commands_weight commands
+  parsed_weight (Err fault) = 2
 
 -- a script, with room for so many in it
 abbrev pub script_weight : ℕ → List ℕ → ℕ
@@ -90,6 +107,7 @@ module _ {K : Type 0} where
   abbrev pub doing_weight : Doing K → ℕ
   doing_weight (Begins room text) = script_weight room text
   doing_weight (GoesOn room commands result) = 2 + commands_weight (script_weight room) commands
+  doing_weight (Indexes x) = 2 + pieces_weight (script_weight x.room) (element_weight (script_weight x.room) x.depth) x.pieces
   doing_weight (Calls room words) = 0
   doing_weight (Tests room turning) = 0
   doing_weight (Steps room task) = 0
@@ -98,7 +116,8 @@ module _ {K : Type 0} where
 
   abbrev pub waiting_weight : Waiting K → ℕ
   waiting_weight (ForCommand room after) = 2 + commands_weight (script_weight room) after
-  waiting_weight (ForBracket w) = 3 + (pieces_weight (script_weight w.room) w.pieces + (words_weight (script_weight w.room) w.words + commands_weight (script_weight w.room) w.after))
+  waiting_weight (ForIndex x) = 2 + pieces_weight (script_weight x.room) (element_weight (script_weight x.room) x.depth) x.pieces
+  waiting_weight (ForPart w) = 3 + (word_weight (script_weight w.room) w.pieces + (words_weight (script_weight w.room) w.words + commands_weight (script_weight w.room) w.after))
   waiting_weight (ForBody room turning) = 2 + next_weight (script_weight room) turning.next
   waiting_weight (ForNext room turning) = 1
   waiting_weight (ForStart room turning) = 1
@@ -120,25 +139,53 @@ module _ {K : Type 0} where
   more_light waits whole go bound (Ok more) h = h (whole ++ more)
   more_light waits whole go bound (Err text) h = omega arith
 
+  index_begins_light : (room depth : ℕ) (name : List ℕ) (pieces : Result (List Piece) ParseFault) → doing_weight (index_begins room depth name pieces) ≤ index_weight (script_weight room) (element_weight (script_weight room) depth) pieces
+  index_begins_light room depth name (Ok pieces) = omega arith
+  index_begins_light room depth name (Err fault) = omega arith
+
+  part_light : (room depth : ℕ) (part : Part) → doing_weight (part_begins room depth part) ≤ part_weight (script_weight room) (element_weight (script_weight room) depth) part
+  part_light room depth (Script script) = omega arith
+  part_light room zero (ElementOf name index) = omega arith
+  part_light room (suc depth) (ElementOf name index) = rw (element_begins_some room depth name index) (index_begins_light room depth name (index_pieces index))
+
   word_light : (room : ℕ) (after : List Command) (expand : Bool) (words : List Word) (whole : List (List ℕ)) (waits : List (Waiting K)) (go : List (List ℕ) → Moved K) (bound : ℕ) (end : WordEnd)
       → ((more : List (List ℕ)) → weight (go more) ≤ 2 + (words_weight (script_weight room) words + (commands_weight (script_weight room) after + waits_weight waits)))
-      → EndWeighs (script_weight room) bound end
+      → EndWeighs (script_weight room) (element_weight (script_weight room) index_depth) bound end
       → weight (word_move room after expand words whole waits go end) ≤ 2 + (bound + (words_weight (script_weight room) words + (commands_weight (script_weight room) after + waits_weight waits)))
   word_light room after expand words whole waits go bound (Whole text) h w =
       let light : weight (more_move waits go (with_more whole (words_of expand text))) ≤ 2 + ((words_weight (script_weight room) words + commands_weight (script_weight room) after) + waits_weight waits) =
       more_light waits whole go (words_weight (script_weight room) words + commands_weight (script_weight room) after) (words_of expand text) (λ all. omega (arith, h all)) in
       omega arith
   word_light room after expand words whole waits go bound (Failed text) h w = omega arith
-  word_light room after expand words whole waits go bound (AtBracket script pieces so_far) h w = omega arith
+  word_light room after expand words whole waits go bound (AtPart part pieces so_far) h w = omega (arith, part_light room index_depth part)
 
   words_light : (level : ℕ) (store : Store) (room : ℕ) (after : List Command) (words : List Word) (whole : List (List ℕ)) (waits : List (Waiting K))
       → weight (words_move level store room after words whole waits) ≤ 2 + (words_weight (script_weight room) words + (commands_weight (script_weight room) after + waits_weight waits))
   words_light level store room after [] [] waits = omega arith
   words_light level store room after [] (name ∷ arguments) waits = omega arith
   words_light level store room after (word ∷ words) whole waits =
-      let light : weight (words_move level store room after (word ∷ words) whole waits) ≤ 2 + (pieces_weight (script_weight room) word.pieces + (words_weight (script_weight room) words + (commands_weight (script_weight room) after + waits_weight waits))) =
-      word_light room after word.expand words whole waits (λ more. words_move level store room after words more waits) (pieces_weight (script_weight room) word.pieces) (word_end level store word.pieces []) (λ more. words_light level store room after words more waits) (end_weighs (script_weight room) level store word.pieces []) in
+      let light : weight (words_move level store room after (word ∷ words) whole waits) ≤ 2 + (word_weight (script_weight room) word.pieces + (words_weight (script_weight room) words + (commands_weight (script_weight room) after + waits_weight waits))) =
+      word_light room after word.expand words whole waits (λ more. words_move level store room after words more waits) (word_weight (script_weight room) word.pieces) (word_end level store word.pieces []) (λ more. words_light level store room after words more waits) (end_weighs (script_weight room) (element_weight (script_weight room) index_depth) level store word.pieces []) in
       omega arith
+
+  element_light : (name : List ℕ) (value : Result (List ℕ) ReadFault) → doing_weight {K} (element_end name value) ≤ 1
+  element_light name (Ok value) = omega arith
+  element_light name (Err fault) = omega arith
+
+  index_light : (level : ℕ) (store : Store) (x : Indexing) (waits : List (Waiting K)) (bound : ℕ) (end : WordEnd) → EndWeighs (script_weight x.room) (element_weight (script_weight x.room) x.depth) bound end
+      → weight (index_move level store x waits end) < 2 + (bound + waits_weight waits)
+  index_light level store x waits bound (Whole index) w = omega (arith, element_light (element_name x.name index) (element_in store level x.name index))
+  index_light level store x waits bound (Failed text) w = omega arith
+  index_light level store x waits bound (AtPart part pieces so_far) w = omega (arith, part_light x.room x.depth part)
+
+  pub indexes_lighter : (level : ℕ) (store : Store) (x : Indexing) (waits : List (Waiting K)) → weight (indexes_move level store x waits) < doing_weight (Indexes x) + waits_weight waits
+  indexes_lighter level store x waits =
+      omega (arith, index_light level store x waits (pieces_weight (script_weight x.room) (element_weight (script_weight x.room) x.depth) x.pieces) (word_end level store x.pieces x.so_far)
+      (end_weighs (script_weight x.room) (element_weight (script_weight x.room) x.depth) level store x.pieces x.so_far))
+
+  longer_light : (x : Indexing) (so_far : List ℕ) (b : Bool) → doing_weight {K} (cond b (Indexes (record x { so_far = so_far })) (Ends Error limit_text)) ≤ 2 + pieces_weight (script_weight x.room) (element_weight (script_weight x.room) x.depth) x.pieces
+  longer_light x so_far true = omega arith
+  longer_light x so_far false = omega arith
 
   parsed_light : (room : ℕ) (waits : List (Waiting K)) (script : Result (List Command) ParseFault) → weight (parsed_move room waits script) < parsed_weight (script_weight room) script + waits_weight waits
   parsed_light room waits (Ok commands) = omega arith
@@ -190,17 +237,22 @@ module _ {K : Type 0} where
   end_lighter store context (Return code) text (ForCommand room after) waits = omega arith
   end_lighter store context Break text (ForCommand room after) waits = omega arith
   end_lighter store context Continue text (ForCommand room after) waits = omega arith
-  end_lighter store context Normal text (ForBracket w) waits =
+  end_lighter store context Normal text (ForPart w) waits =
       let level : ℕ = here context.levels store in
-      let light : weight (bracket_move level store w waits text) ≤ 2 + (pieces_weight (script_weight w.room) w.pieces + (words_weight (script_weight w.room) w.words + (commands_weight (script_weight w.room) w.after + waits_weight waits))) =
-      word_light w.room w.after w.expand w.words w.whole waits (λ more. words_move level store w.room w.after w.words more waits) (pieces_weight (script_weight w.room) w.pieces) (join_end w.so_far text (word_end level store w.pieces))
+      let light : weight (part_move level store w waits text) ≤ 2 + (word_weight (script_weight w.room) w.pieces + (words_weight (script_weight w.room) w.words + (commands_weight (script_weight w.room) w.after + waits_weight waits))) =
+      word_light w.room w.after w.expand w.words w.whole waits (λ more. words_move level store w.room w.after w.words more waits) (word_weight (script_weight w.room) w.pieces) (join_end w.so_far text (word_end level store w.pieces))
       (λ more. words_light level store w.room w.after w.words more waits)
-      (join_weighs (script_weight w.room) (pieces_weight (script_weight w.room) w.pieces) (nat_le (length (w.so_far ++ text)) 65536) (word_end level store w.pieces (w.so_far ++ text)) (end_weighs (script_weight w.room) level store w.pieces (w.so_far ++ text))) in
+      (join_weighs (script_weight w.room) (element_weight (script_weight w.room) index_depth) (word_weight (script_weight w.room) w.pieces) (nat_le (length (w.so_far ++ text)) 65536) (word_end level store w.pieces (w.so_far ++ text)) (end_weighs (script_weight w.room) (element_weight (script_weight w.room) index_depth) level store w.pieces (w.so_far ++ text))) in
       omega arith
-  end_lighter store context Error text (ForBracket w) waits = omega arith
-  end_lighter store context (Return code) text (ForBracket w) waits = omega arith
-  end_lighter store context Break text (ForBracket w) waits = omega arith
-  end_lighter store context Continue text (ForBracket w) waits = omega arith
+  end_lighter store context Error text (ForPart w) waits = omega arith
+  end_lighter store context (Return code) text (ForPart w) waits = omega arith
+  end_lighter store context Break text (ForPart w) waits = omega arith
+  end_lighter store context Continue text (ForPart w) waits = omega arith
+  end_lighter store context Normal text (ForIndex x) waits = omega (arith, longer_light x (x.so_far ++ text) (nat_le (length (x.so_far ++ text)) 65536))
+  end_lighter store context Error text (ForIndex x) waits = omega arith
+  end_lighter store context (Return code) text (ForIndex x) waits = omega arith
+  end_lighter store context Break text (ForIndex x) waits = omega arith
+  end_lighter store context Continue text (ForIndex x) waits = omega arith
   end_lighter store context code text (ForBody room turning) waits = body_lighter room turning waits code text
   end_lighter store context code text (ForNext room turning) waits = after_next_lighter room turning waits code text
   end_lighter store context code text (ForStart room turning) waits = start_lighter room turning waits code text
@@ -213,6 +265,7 @@ module _ {K : Type 0} where
   quiet_lighter_by : (store : Store) (context : Context) (doing : Doing K) (waits : List (Waiting K)) → IsQuietBy doing waits → weight (quiet_by store context doing waits).moved < weight (moved doing waits)
   quiet_lighter_by store context (Begins room text) waits q = begin_lighter room text waits
   quiet_lighter_by store context (GoesOn room commands result) waits q = omega (arith, go_on_lighter (here context.levels store) store room commands result waits)
+  quiet_lighter_by store context (Indexes x) waits q = indexes_lighter (here context.levels store) store x waits
   quiet_lighter_by store context (Calls room words) waits q = absurd q
   quiet_lighter_by store context (Tests room turning) waits q = absurd q
   quiet_lighter_by store context (Steps room task) waits q = absurd q
@@ -247,17 +300,46 @@ module _ {K : Type 0} (size : K → ℕ) where
   more_tasks waits whole go (Ok more) h = h (whole ++ more)
   more_tasks waits whole go (Err text) h = omega arith
 
+  index_begins_tasks : (room depth : ℕ) (name : List ℕ) (pieces : Result (List Piece) ParseFault) → doing_tasks (index_begins room depth name pieces) ≡ 0
+  index_begins_tasks room depth name (Ok pieces) = refl
+  index_begins_tasks room depth name (Err fault) = refl
+
+  part_begins_tasks : (room depth : ℕ) (part : Part) → doing_tasks (part_begins room depth part) ≡ 0
+  part_begins_tasks room depth (Script script) = refl
+  part_begins_tasks room zero (ElementOf name index) = refl
+  part_begins_tasks room (suc depth) (ElementOf name index) = ap doing_tasks (element_begins_some room depth name index) ∙ index_begins_tasks room depth name (index_pieces index)
+
   word_tasks : (room : ℕ) (after : List Command) (expand : Bool) (words : List Word) (whole : List (List ℕ)) (waits : List (Waiting K)) (go : List (List ℕ) → Moved K) (end : WordEnd)
       → ((more : List (List ℕ)) → tasks (go more) ≡ waits_tasks waits) → tasks (word_move room after expand words whole waits go end) ≡ waits_tasks waits
   word_tasks room after expand words whole waits go (Whole text) h = more_tasks waits whole go (words_of expand text) h
   word_tasks room after expand words whole waits go (Failed text) h = omega arith
-  word_tasks room after expand words whole waits go (AtBracket script pieces so_far) h = omega arith
+  word_tasks room after expand words whole waits go (AtPart part pieces so_far) h = omega (arith, part_begins_tasks room index_depth part)
 
   words_tasks : (level : ℕ) (store : Store) (room : ℕ) (after : List Command) (words : List Word) (whole : List (List ℕ)) (waits : List (Waiting K)) → tasks (words_move level store room after words whole waits) ≡ waits_tasks waits
   words_tasks level store room after [] [] waits = omega arith
   words_tasks level store room after [] (name ∷ arguments) waits = omega arith
   words_tasks level store room after (word ∷ words) whole waits =
       word_tasks room after word.expand words whole waits (λ more. words_move level store room after words more waits) (word_end level store word.pieces []) (λ more. words_tasks level store room after words more waits)
+
+  element_tasks : (name : List ℕ) (value : Result (List ℕ) ReadFault) → doing_tasks (element_end name value) ≡ 0
+  element_tasks name (Ok value) = refl
+  element_tasks name (Err fault) = refl
+
+  index_tasks : (level : ℕ) (store : Store) (x : Indexing) (waits : List (Waiting K)) (end : WordEnd) → tasks (index_move level store x waits end) ≡ waits_tasks waits
+  index_tasks level store x waits (Whole index) = omega (arith, element_tasks (element_name x.name index) (element_in store level x.name index))
+  index_tasks level store x waits (Failed text) = omega arith
+  index_tasks level store x waits (AtPart part pieces so_far) = omega (arith, part_begins_tasks x.room x.depth part)
+
+  longer_tasks : (x : Indexing) (so_far : List ℕ) (b : Bool) → doing_tasks (cond b (Indexes (record x { so_far = so_far })) (Ends Error limit_text)) ≡ 0
+  longer_tasks x so_far true = refl
+  longer_tasks x so_far false = refl
+
+  after_index_tasks : (x : Indexing) (waits : List (Waiting K)) (code : Code) (text : List ℕ) → tasks (after_index x waits code text) ≡ waits_tasks waits
+  after_index_tasks x waits Normal text = omega (arith, longer_tasks x (x.so_far ++ text) (nat_le (length (x.so_far ++ text)) 65536))
+  after_index_tasks x waits Error text = omega arith
+  after_index_tasks x waits (Return code) text = omega arith
+  after_index_tasks x waits Break text = omega arith
+  after_index_tasks x waits Continue text = omega arith
 
   parsed_tasks : (room : ℕ) (waits : List (Waiting K)) (script : Result (List Command) ParseFault) → tasks (parsed_move room waits script) ≡ waits_tasks waits
   parsed_tasks room waits (Ok commands) = omega arith
@@ -278,13 +360,13 @@ module _ {K : Type 0} (size : K → ℕ) where
   command_tasks room after waits Break text = refl
   command_tasks room after waits Continue text = refl
 
-  bracket_tasks : (level : ℕ) (store : Store) (w : Wording) (waits : List (Waiting K)) (code : Code) (text : List ℕ) → tasks (after_bracket level store w waits code text) ≡ waits_tasks waits
-  bracket_tasks level store w waits Normal text =
+  part_tasks : (level : ℕ) (store : Store) (w : Wording) (waits : List (Waiting K)) (code : Code) (text : List ℕ) → tasks (after_part level store w waits code text) ≡ waits_tasks waits
+  part_tasks level store w waits Normal text =
       word_tasks w.room w.after w.expand w.words w.whole waits (λ more. words_move level store w.room w.after w.words more waits) (join_end w.so_far text (word_end level store w.pieces)) (λ more. words_tasks level store w.room w.after w.words more waits)
-  bracket_tasks level store w waits Error text = omega arith
-  bracket_tasks level store w waits (Return code) text = omega arith
-  bracket_tasks level store w waits Break text = omega arith
-  bracket_tasks level store w waits Continue text = omega arith
+  part_tasks level store w waits Error text = omega arith
+  part_tasks level store w waits (Return code) text = omega arith
+  part_tasks level store w waits Break text = omega arith
+  part_tasks level store w waits Continue text = omega arith
 
   next_tasks : (room : ℕ) (turning : Turning) (waits : List (Waiting K)) (next : Option (List ℕ)) → tasks (next_move room turning waits next) ≡ waits_tasks waits
   next_tasks room turning waits None = omega arith
@@ -320,7 +402,8 @@ module _ {K : Type 0} (size : K → ℕ) where
 
   pub end_tasks : (store : Store) (context : Context) (code : Code) (text : List ℕ) (waiting : Waiting K) (waits : List (Waiting K)) → tasks (end_move store context code text waiting waits).moved ≡ waits_tasks (waiting ∷ waits)
   end_tasks store context code text (ForCommand room after) waits = command_tasks room after waits code text
-  end_tasks store context code text (ForBracket w) waits = omega (arith, bracket_tasks (here context.levels store) store w waits code text)
+  end_tasks store context code text (ForPart w) waits = omega (arith, part_tasks (here context.levels store) store w waits code text)
+  end_tasks store context code text (ForIndex x) waits = omega (arith, after_index_tasks x waits code text)
   end_tasks store context code text (ForBody room turning) waits = omega (arith, body_tasks room turning waits code text)
   end_tasks store context code text (ForNext room turning) waits = omega (arith, after_next_tasks room turning waits code text)
   end_tasks store context code text (ForStart room turning) waits = omega (arith, start_tasks room turning waits code text)
@@ -333,6 +416,7 @@ module _ {K : Type 0} (size : K → ℕ) where
   quiet_tasks_by : (store : Store) (context : Context) (doing : Doing K) (waits : List (Waiting K)) → tasks (quiet_by store context doing waits).moved ≡ tasks (moved doing waits)
   quiet_tasks_by store context (Begins room text) waits = begin_tasks room text waits ∙ omega arith
   quiet_tasks_by store context (GoesOn room commands result) waits = go_on_tasks (here context.levels store) store room commands result waits ∙ omega arith
+  quiet_tasks_by store context (Indexes x) waits = index_tasks (here context.levels store) store x waits (word_end (here context.levels store) store x.pieces x.so_far) ∙ omega arith
   quiet_tasks_by store context (Calls room words) waits = refl
   quiet_tasks_by store context (Tests room turning) waits = refl
   quiet_tasks_by store context (Steps room task) waits = refl

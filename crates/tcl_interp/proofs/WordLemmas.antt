@@ -7,7 +7,7 @@ use Rattle.tcl_vars.specs.Store.{Store}
 use Rattle.tcl_control.specs.declared.code.Code.TheVariants.{Error}
 use Rattle.tcl_interp.specs.Evaluation.{words_of}
 use Rattle.tcl_interp.specs.Finish.{Waiting, Ends}
-use Rattle.tcl_interp.specs.Moves.{Moved, moved, WordEnd, Whole, AtBracket, word_end, with_more, more_move, bracket_begins, word_move, words_move, go_on_move}
+use Rattle.tcl_interp.specs.Moves.{Moved, moved, Part, WordEnd, Whole, AtPart, word_end, with_more, more_move, word_part, word_move, words_move, go_on_move}
 use Rattle.tcl_interp.specs.Rests.{words_in_front, pieces_in_front, expand_in_front}
 
 module _ {K : Type 0} (level : ℕ) (store : Store) (room : ℕ) (waits : List (Waiting K)) where
@@ -49,13 +49,13 @@ module _ {K : Type 0} (level : ℕ) (store : Store) (room : ℕ) (waits : List (
       ap (more_move waits (λ m. words_move level store room after (drop (i + 1) words) m waits)) more
       ∙ word_ends after words i whole (Whole text) pieces less e end
 
-  -- a word that came to a bracket
-  pub word_bracket : (after : List Command) (words : List Word) (i : ℕ) (whole : List (List ℕ)) (script so_far : List ℕ) (next : ℕ) (pieces : List Piece) → i < length words → pieces ≡ pieces_in_front (drop i words)
-      → AtBracket script (drop next pieces) so_far ≡ word_end level store (drop 0 pieces) []
-      → bracket_begins room after (expand_in_front (drop i words)) (drop (i + 1) words) whole (drop next (pieces_in_front (drop i words))) so_far script waits ≡ words_move level store room after (drop i words) whole waits
-  word_bracket after words i whole script so_far next pieces less e end =
-      ap (λ ps. bracket_begins room after (expand_in_front (drop i words)) (drop (i + 1) words) whole (drop next ps) so_far script waits) (sym e)
-      ∙ word_ends after words i whole (AtBracket script (drop next pieces) so_far) pieces less e end
+  -- a word that came to a part to be evaluated
+  pub word_waits : (after : List Command) (words : List Word) (i : ℕ) (whole : List (List ℕ)) (part : Part) (so_far : List ℕ) (next : ℕ) (pieces : List Piece) → i < length words → pieces ≡ pieces_in_front (drop i words)
+      → AtPart part (drop next pieces) so_far ≡ word_end level store (drop 0 pieces) []
+      → word_part room after (expand_in_front (drop i words)) (drop (i + 1) words) whole (drop next (pieces_in_front (drop i words))) so_far part waits ≡ words_move level store room after (drop i words) whole waits
+  word_waits after words i whole part so_far next pieces less e end =
+      ap (λ ps. word_part room after (expand_in_front (drop i words)) (drop (i + 1) words) whole (drop next ps) so_far part waits) (sym e)
+      ∙ word_ends after words i whole (AtPart part (drop next pieces) so_far) pieces less e end
 
   command_at_suc : (commands : List Command) (i : ℕ) (result : List ℕ) → i < length commands
       → go_on_move level store room (drop i commands) result waits ≡ words_move level store room (drop (suc i) commands) (words_in_front (drop i commands)) [] waits

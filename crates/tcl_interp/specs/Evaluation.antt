@@ -1,5 +1,5 @@
 -- The evaluation of words and of commands in order, where it is given how a script and how a command is run.
-use Rattle.std.specs.Prelude.{ℕ, zero, suc, Bool, List, [], ◌∷◌, ◌++◌, length, nat_le, if◌then◌else◌, Result, Ok, Err, codes}
+use Rattle.std.specs.Prelude.{ℕ, zero, suc, Bool, List, [], ◌∷◌, ◌++◌, length, nat_le, if◌then◌else◌, Result, Ok, Err}
 use Rattle.tcl_text.specs.Readings.{list_of}
 use Rattle.tcl_text.specs.Splitting.{fault_text as list_text}
 use Rattle.tcl_text.specs.declared.splitting.ListFault.{ListFault}
@@ -7,13 +7,17 @@ use Rattle.tcl_words.specs.declared.script.Command.{Command}
 use Rattle.tcl_words.specs.declared.script.Word.{Word}
 use Rattle.tcl_words.specs.declared.script.Piece.{Piece}
 use Rattle.tcl_words.specs.declared.script.Piece.TheVariants.{Literal, Variable, Element, Bracket}
-use Rattle.tcl_vars.specs.Store.{Store, variable_in}
+use Rattle.tcl_words.specs.declared.fault.ParseFault.{ParseFault}
+use Rattle.tcl_words.specs.declared.fault.ParseFault.TheVariants.{TooLong}
+use Rattle.tcl_words.specs.Faults.{text_of}
+use Rattle.tcl_words.specs.Reading.{index_pieces_of}
+use Rattle.tcl_vars.specs.Store.{Store, variable_in, element_in}
 use Rattle.tcl_vars.specs.declared.fault.ReadFault.{ReadFault}
 use Rattle.tcl_control.specs.declared.code.Code.{Code}
 use Rattle.tcl_control.specs.declared.code.Code.TheVariants.{Normal, Error}
 use Rattle.tcl_control.specs.declared.context.Context.{Context}
 use Rattle.tcl_control.specs.Levels.{here}
-use Rattle.tcl_control.specs.Texts.{limit_text, message, cannot_read}
+use Rattle.tcl_control.specs.Texts.{limit_text, message, cannot_read, element_name}
 
 -- What the object of the outside commands shows, the variables, the levels and the commands, and how many steps are left.
 pub record State (S : Type 0) : Type 0 where
@@ -73,26 +77,54 @@ abbrev pub on_words : {S : Type 0} → State S → (State S → List (List ℕ) 
 on_words state after (Ok words) = after state words
 on_words state after (Err text) = Ended state Error text
 
--- How a script is run, and how a command is called with its words, are given.
-module _ {S : Type 0} (run : List ℕ → State S → Outcome S) (call : List (List ℕ) → State S → Outcome S) where
-  -- A piece of a word: its text.
+-- the pieces of the index of an element, or its fault
+unfoldable pub index_pieces : List ℕ → Result (List Piece) ParseFault
+index_pieces text = index_pieces_of text
+
+-- an element is read, whose index is whole
+abbrev pub element_read : {S : Type 0} → List ℕ → State S → List ℕ → Outcome S
+element_read name state index = on_read (element_name name index) state (λ state' value. Ended state' Normal value) (element_in state.store (level_of state) name index)
+
+abbrev pub on_index : {S : Type 0} → State S → (List Piece → Outcome S) → Result (List Piece) ParseFault → Outcome S
+on_index state after (Ok pieces) = after pieces
+on_index state after (Err fault) = Ended state Error (message (text_of fault))
+
+-- How a script is run, and how an element of an array is read, by its name and its index, are given.
+module _ {S : Type 0} (run : List ℕ → State S → Outcome S) (element : List ℕ → List ℕ → State S → Outcome S) where
+  -- A piece of a word, or of an index: its text.
   abbrev pub piece_meaning : Piece → State S → (State S → List ℕ → Outcome S) → Outcome S
   piece_meaning (Literal text) state after = after state text
   piece_meaning (Variable name) state after = with_value_of name state after
-  piece_meaning (Element name index) state after = Ended state Error (codes "not yet")
+  piece_meaning (Element name index) state after = and_then (element name index state) (on_normal after)
   piece_meaning (Bracket script) state after = and_then (run script state) (on_normal after)
 
-  -- the pieces that are left of a word, behind what stands before them
+  -- the pieces that are left of a word or an index, behind what stands before them
   abbrev pub pieces_meaning : List Piece → List ℕ → State S → (State S → List ℕ → Outcome S) → Outcome S
   pieces_meaning [] so_far state after = after state so_far
   pieces_meaning (piece ∷ pieces) so_far state after =
       piece_meaning piece state (λ state' text. with_joined so_far text state' (λ state'' joined. pieces_meaning pieces joined state'' after))
 
+-- how many indices stand in one another at most, in a script that can be read
+unfoldable pub index_depth : ℕ
+index_depth = 200
+
+module _ {S : Type 0} (run : List ℕ → State S → Outcome S) where
+  -- An element: its index is put together, and then it is read. No script is read where more than so many indices stand in one another.
+  abbrev pub element_meaning : ℕ → List ℕ → List ℕ → State S → Outcome S
+  element_meaning zero name index state = Ended state Error (message (text_of TooLong))
+  element_meaning (suc depth) name index state = on_index state (λ pieces. pieces_meaning run (element_meaning depth) pieces [] state (element_read name)) (index_pieces index)
+
+  -- the pieces of a word
+  abbrev pub word_meaning : List Piece → List ℕ → State S → (State S → List ℕ → Outcome S) → Outcome S
+  word_meaning pieces so_far state after = pieces_meaning run (element_meaning index_depth) pieces so_far state after
+
+-- How a script is run, and how a command is called with its words, are given.
+module _ {S : Type 0} (run : List ℕ → State S → Outcome S) (call : List (List ℕ) → State S → Outcome S) where
   -- the words that are left of a command, behind those before them
   abbrev pub words_meaning : List Word → List (List ℕ) → State S → (State S → List (List ℕ) → Outcome S) → Outcome S
   words_meaning [] words state after = after state words
   words_meaning (word ∷ rest) words state after =
-      pieces_meaning word.pieces [] state (λ state' text. on_words state' (λ state'' more. words_meaning rest (words ++ more) state'' after) (words_of word.expand text))
+      word_meaning run word.pieces [] state (λ state' text. on_words state' (λ state'' more. words_meaning rest (words ++ more) state'' after) (words_of word.expand text))
 
   -- A command is called once its words are put together, for one step. One without words does nothing, and takes no step.
   abbrev pub called : State S → List (List ℕ) → Outcome S

@@ -7,7 +7,7 @@ use Rattle.tcl_control.specs.declared.code.Code.{Code}
 use Rattle.tcl_control.specs.declared.code.Code.TheVariants.{Normal, Error, Break, Continue}
 use Rattle.tcl_control.specs.declared.turns.Turning.{Turning}
 use Rattle.tcl_interp.specs.Outside.{Outside}
-use Rattle.tcl_interp.specs.Evaluation.{State, Outcome, Ended, OutOfSteps, and_then, on_normal, with_step, with_joined, words_of, on_words, pieces_meaning, words_meaning, called, commands_meaning}
+use Rattle.tcl_interp.specs.Evaluation.{State, Outcome, Ended, OutOfSteps, and_then, on_normal, with_step, with_joined, words_of, on_words, pieces_meaning, element_read, element_meaning, word_meaning, words_meaning, called, commands_meaning}
 use Rattle.tcl_interp.specs.Plans.{levels_back, procedure_ended, caught, after_body, after_next, next_turn, loop_meaning}
 use Rattle.tcl_interp.specs.Scripts.{script_meaning, call_meaning, task_meaning, after_step, out_of_global}
 
@@ -22,10 +22,20 @@ pub record Wording : Type 0 where
   pub pieces : List Piece
   pub words : List Word
 
+-- An element whose index is being put together: the room for scripts in it and for indices, the array's name, what there is of the index,
+-- and what is left of it.
+pub record Indexing : Type 0 where
+  pub room : ℕ
+  pub depth : ℕ
+  pub name : List ℕ
+  pub so_far : List ℕ
+  pub pieces : List Piece
+
 -- what is done now, with the room for scripts in it
 pub data Doing (K : Type 0) : Type 0 where
   Begins : ℕ → List ℕ → Doing K
   GoesOn : ℕ → List Command → List ℕ → Doing K
+  Indexes : Indexing → Doing K
   Calls : ℕ → List (List ℕ) → Doing K
   Tests : ℕ → Turning → Doing K
   Steps : ℕ → K → Doing K
@@ -36,8 +46,10 @@ pub data Doing (K : Type 0) : Type 0 where
 pub data Waiting (K : Type 0) : Type 0 where
   -- a script, for a command of it
   ForCommand : ℕ → List Command → Waiting K
-  -- a command, for a bracket in its words
-  ForBracket : Wording → Waiting K
+  -- a command, for a bracket or an element in its words
+  ForPart : Wording → Waiting K
+  -- an index, for a bracket or an element in it
+  ForIndex : Indexing → Waiting K
   -- a loop, for its body
   ForBody : ℕ → Turning → Waiting K
   -- a loop, for what `for` runs behind the body
@@ -95,7 +107,12 @@ module _ {S K : Type 0} (outside : Outside S K) where
   -- what is left of a word, and then of the words behind it
   abbrev pub word_rest : ℕ → List Piece → List ℕ → Bool → List Word → List (List ℕ) → State S → Outcome S
   word_rest room pieces so_far expand words whole state =
-      pieces_meaning (script_meaning outside room) (call_meaning outside (script_meaning outside room)) pieces so_far state (word_done room expand words whole)
+      word_meaning (script_meaning outside room) pieces so_far state (word_done room expand words whole)
+
+  -- what is left of an index behind what there is of it, and then its element
+  abbrev pub index_rest : Indexing → List ℕ → State S → Outcome S
+  index_rest x so_far state =
+      pieces_meaning (script_meaning outside x.room) (element_meaning (script_meaning outside x.room) x.depth) x.pieces so_far state (element_read x.name)
 
   abbrev pub loop_rest : ℕ → Turning → State S → Outcome S
   loop_rest room turning state = loop_meaning (script_meaning outside room) turning state
@@ -106,6 +123,7 @@ module _ {S K : Type 0} (outside : Outside S K) where
   abbrev pub doing_meaning : Doing K → State S → Outcome S
   doing_meaning (Begins room text) state = script_meaning outside room text state
   doing_meaning (GoesOn room commands result) state = script_rest room commands result state
+  doing_meaning (Indexes x) state = index_rest x x.so_far state
   doing_meaning (Calls room words) state = with_step state (call_meaning outside (script_meaning outside room) words)
   doing_meaning (Tests room turning) state = loop_rest room turning state
   doing_meaning (Steps room task) state = with_step state (after_step outside (script_meaning outside room) state.steps task)
@@ -114,11 +132,12 @@ module _ {S K : Type 0} (outside : Outside S K) where
 
   abbrev pub waiting_meaning : Waiting K → State S → Code → List ℕ → Outcome S
   waiting_meaning (ForCommand room after) state code text = on_normal (λ state' result. script_rest room after result state') state code text
-  waiting_meaning (ForBracket w) state code text =
+  waiting_meaning (ForPart w) state code text =
       on_normal (λ state' piece.
       and_then (with_joined w.so_far piece state' (λ state'' joined. word_rest w.room w.pieces joined w.expand w.words w.whole state''))
       (on_normal (λ state'' result. script_rest w.room w.after result state'')))
       state code text
+  waiting_meaning (ForIndex x) state code text = on_normal (λ state' piece. with_joined x.so_far piece state' (λ state'' joined. index_rest x joined state'')) state code text
   waiting_meaning (ForBody room turning) state code text = after_body (next_turn (script_meaning outside room) turning.next (loop_rest room turning)) state code text
   waiting_meaning (ForNext room turning) state code text = after_next (loop_rest room turning) state code text
   waiting_meaning (ForStart room turning) state code text = on_normal (λ state' result. loop_rest room turning state') state code text

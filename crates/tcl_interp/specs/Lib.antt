@@ -9,8 +9,6 @@ pub mod Plans
 pub mod Quiet
 pub mod Rests
 pub mod Runs
-pub mod Sample
-pub mod SampleFalls
 pub mod Scripts
 pub mod Steps
 pub mod Texts

@@ -5,8 +5,9 @@ use Rattle.tcl_words.specs.declared.script.Word.{Word}
 use Rattle.tcl_words.specs.declared.script.Piece.{Piece}
 use Rattle.tcl_words.specs.declared.script.Piece.TheVariants.{Literal, Variable, Element, Bracket}
 use Rattle.tcl_words.specs.declared.fault.ParseFault.{ParseFault}
+use Rattle.tcl_words.specs.declared.fault.ParseFault.TheVariants.{TooLong}
 use Rattle.tcl_words.specs.Faults.{text_of}
-use Rattle.tcl_vars.specs.Store.{Store, variable_in}
+use Rattle.tcl_vars.specs.Store.{Store, variable_in, element_in}
 use Rattle.tcl_vars.specs.declared.fault.ReadFault.{ReadFault}
 use Rattle.tcl_control.specs.declared.code.Code.{Code}
 use Rattle.tcl_control.specs.declared.code.Code.TheVariants.{Normal, Error, Break, Continue}
@@ -17,14 +18,14 @@ use Rattle.tcl_control.specs.declared.turns.Turning.{Turning}
 use Rattle.tcl_control.specs.Commands.{Ending, caught_ending}
 use Rattle.tcl_control.specs.Levels.{here, popped}
 use Rattle.tcl_control.specs.Source.{script_of}
-use Rattle.tcl_control.specs.Texts.{limit_text, message, nesting_text, cannot_read, unknown_command}
+use Rattle.tcl_control.specs.Texts.{limit_text, message, nesting_text, cannot_read, element_name, unknown_command}
 use Rattle.tcl_control.specs.Turns.{Tested, More, NoMore, Fails as TestFails}
 use Rattle.tcl_interp.specs.declared.tasks.Act.{Act}
 use Rattle.tcl_interp.specs.declared.tasks.Act.TheVariants.{Done, Step, Run, Unknown}
-use Rattle.tcl_interp.specs.Evaluation.{words_of}
+use Rattle.tcl_interp.specs.Evaluation.{index_pieces, index_depth, words_of}
 use Rattle.tcl_interp.specs.Plans.{cut, others, joined, callers, procedure_code, procedure_text}
 use Rattle.tcl_interp.specs.Scripts.{out_of_global}
-use Rattle.tcl_interp.specs.Finish.{Wording, Doing, Begins, GoesOn, Calls, Tests, Steps, Resumes, Ends, Waiting, ForCommand, ForBracket, ForBody, ForNext, ForStart, ForCatch, ForLevels, ForProcedure, ForScript, ForAll}
+use Rattle.tcl_interp.specs.Finish.{Wording, Indexing, Doing, Begins, GoesOn, Indexes, Calls, Tests, Steps, Resumes, Ends, Waiting, ForCommand, ForPart, ForIndex, ForBody, ForNext, ForStart, ForCatch, ForLevels, ForProcedure, ForScript, ForAll}
 
 -- what is done, and what waits
 pub record Moved (K : Type 0) : Type 0 where
@@ -39,11 +40,16 @@ pub record Standing (K : Type 0) : Type 0 where
 
 -- ── words ──
 
--- a piece by itself: a text, an error, or a script to be run
+-- a part of a word that is evaluated by itself: a script in brackets, or an element by the array's name and the index
+pub data Part : Type 0 where
+  Script : List ℕ → Part
+  ElementOf : List ℕ → List ℕ → Part
+
+-- a piece by itself: a text, an error, or a part to be evaluated
 pub data PieceText : Type 0 where
   Plain : List ℕ → PieceText
   Fails : List ℕ → PieceText
-  Script : List ℕ → PieceText
+  Waits : Part → PieceText
 
 abbrev pub value_text : List ℕ → Result (List ℕ) ReadFault → PieceText
 value_text name (Ok value) = Plain value
@@ -53,14 +59,14 @@ value_text name (Err fault) = Fails (cannot_read name fault)
 abbrev pub piece_text : ℕ → Store → Piece → PieceText
 piece_text level store (Literal text) = Plain text
 piece_text level store (Variable name) = value_text name (variable_in store level name)
-piece_text level store (Element name index) = Fails (codes "not yet")
-piece_text level store (Bracket script) = Script script
+piece_text level store (Element name index) = Waits (ElementOf name index)
+piece_text level store (Bracket script) = Waits (Script script)
 
--- how far a word comes: it is whole, it fails, or a script is to be run whose result is its next piece
+-- how far a word or an index comes: it is whole, it fails, or a part is to be evaluated whose result is its next piece
 pub data WordEnd : Type 0 where
   Whole : List ℕ → WordEnd
   Failed : List ℕ → WordEnd
-  AtBracket : List ℕ → List Piece → List ℕ → WordEnd
+  AtPart : Part → List Piece → List ℕ → WordEnd
 
 abbrev pub join_end : List ℕ → List ℕ → (List ℕ → WordEnd) → WordEnd
 join_end so_far text go = if nat_le (length (so_far ++ text)) 65536 then go (so_far ++ text) else Failed limit_text
@@ -68,7 +74,7 @@ join_end so_far text go = if nat_le (length (so_far ++ text)) 65536 then go (so_
 abbrev pub piece_end : PieceText → List Piece → List ℕ → (List ℕ → WordEnd) → WordEnd
 piece_end (Plain text) pieces so_far go = join_end so_far text go
 piece_end (Fails text) pieces so_far go = Failed text
-piece_end (Script script) pieces so_far go = AtBracket script pieces so_far
+piece_end (Waits part) pieces so_far go = AtPart part pieces so_far
 
 abbrev pub word_end : ℕ → Store → List Piece → List ℕ → WordEnd
 word_end level store [] so_far = Whole so_far
@@ -88,10 +94,24 @@ module _ {K : Type 0} where
   called_move room after [] waits = moved (GoesOn room after []) waits
   called_move room after (name ∷ arguments) waits = moved (Calls room (name ∷ arguments)) (ForCommand room after ∷ waits)
 
-  -- a script in a word begins
-  abbrev pub bracket_begins : ℕ → List Command → Bool → List Word → List (List ℕ) → List Piece → List ℕ → List ℕ → List (Waiting K) → Moved K
-  bracket_begins room after expand words whole pieces so_far script waits =
-      moved (Begins room script) (ForBracket (record { room = room; after = after; whole = whole; so_far = so_far; expand = expand; pieces = pieces; words = words }) ∷ waits)
+  -- an index begins
+  abbrev pub index_begins : ℕ → ℕ → List ℕ → Result (List Piece) ParseFault → Doing K
+  index_begins room depth name (Ok pieces) = Indexes (record { room = room; depth = depth; name = name; so_far = []; pieces = pieces })
+  index_begins room depth name (Err fault) = Ends Error (message (text_of fault))
+
+  -- an element begins, with indices at most so deep in it
+  abbrev pub element_begins : ℕ → ℕ → List ℕ → List ℕ → Doing K
+  element_begins room depth name index = if depth == 0 then Ends Error (message (text_of TooLong)) else index_begins room (depth - 1) name (index_pieces index)
+
+  -- a part begins
+  abbrev pub part_begins : ℕ → ℕ → Part → Doing K
+  part_begins room depth (Script script) = Begins room script
+  part_begins room depth (ElementOf name index) = element_begins room depth name index
+
+  -- a part of a word begins
+  abbrev pub word_part : ℕ → List Command → Bool → List Word → List (List ℕ) → List Piece → List ℕ → Part → List (Waiting K) → Moved K
+  word_part room after expand words whole pieces so_far part waits =
+      moved (part_begins room index_depth part) (ForPart (record { room = room; after = after; whole = whole; so_far = so_far; expand = expand; pieces = pieces; words = words }) ∷ waits)
 
   -- with the words that are whole then
   abbrev pub more_move : List (Waiting K) → (List (List ℕ) → Moved K) → Result (List (List ℕ)) (List ℕ) → Moved K
@@ -102,12 +122,27 @@ module _ {K : Type 0} where
   abbrev pub word_move : ℕ → List Command → Bool → List Word → List (List ℕ) → List (Waiting K) → (List (List ℕ) → Moved K) → WordEnd → Moved K
   word_move room after expand words whole waits go (Whole text) = more_move waits go (with_more whole (words_of expand text))
   word_move room after expand words whole waits go (Failed text) = moved (Ends Error text) waits
-  word_move room after expand words whole waits go (AtBracket script pieces so_far) = bracket_begins room after expand words whole pieces so_far script waits
+  word_move room after expand words whole waits go (AtPart part pieces so_far) = word_part room after expand words whole pieces so_far part waits
 
   abbrev pub words_move : ℕ → Store → ℕ → List Command → List Word → List (List ℕ) → List (Waiting K) → Moved K
   words_move level store room after [] whole waits = called_move room after whole waits
   words_move level store room after (word ∷ words) whole waits =
       word_move room after word.expand words whole waits (λ more. words_move level store room after words more waits) (word_end level store word.pieces [])
+
+  -- ── elements ──
+
+  abbrev pub element_end : List ℕ → Result (List ℕ) ReadFault → Doing K
+  element_end name (Ok value) = Ends Normal value
+  element_end name (Err fault) = Ends Error (cannot_read name fault)
+
+  -- an index that comes so far
+  abbrev pub index_move : ℕ → Store → Indexing → List (Waiting K) → WordEnd → Moved K
+  index_move level store x waits (Whole index) = moved (element_end (element_name x.name index) (element_in store level x.name index)) waits
+  index_move level store x waits (Failed text) = moved (Ends Error text) waits
+  index_move level store x waits (AtPart part pieces so_far) = moved (part_begins x.room x.depth part) (ForIndex (record x { so_far = so_far; pieces = pieces }) ∷ waits)
+
+  abbrev pub indexes_move : ℕ → Store → Indexing → List (Waiting K) → Moved K
+  indexes_move level store x waits = index_move level store x waits (word_end level store x.pieces x.so_far)
 
   -- ── scripts ──
 
@@ -128,13 +163,21 @@ module _ {K : Type 0} where
   after_command room after waits Normal text = moved (GoesOn room after text) waits
   after_command room after waits code text = moved (Ends code text) waits
 
-  abbrev pub bracket_move : ℕ → Store → Wording → List (Waiting K) → List ℕ → Moved K
-  bracket_move level store w waits text =
+  abbrev pub part_move : ℕ → Store → Wording → List (Waiting K) → List ℕ → Moved K
+  part_move level store w waits text =
       word_move w.room w.after w.expand w.words w.whole waits (λ more. words_move level store w.room w.after w.words more waits) (join_end w.so_far text (word_end level store w.pieces))
 
-  abbrev pub after_bracket : ℕ → Store → Wording → List (Waiting K) → Code → List ℕ → Moved K
-  after_bracket level store w waits Normal text = bracket_move level store w waits text
-  after_bracket level store w waits code text = moved (Ends code text) waits
+  abbrev pub after_part : ℕ → Store → Wording → List (Waiting K) → Code → List ℕ → Moved K
+  after_part level store w waits Normal text = part_move level store w waits text
+  after_part level store w waits code text = moved (Ends code text) waits
+
+  -- an index with one piece more
+  abbrev pub longer_index : Indexing → List ℕ → Doing K
+  longer_index x text = if nat_le (length (x.so_far ++ text)) 65536 then Indexes (record x { so_far = x.so_far ++ text }) else Ends Error limit_text
+
+  abbrev pub after_index : Indexing → List (Waiting K) → Code → List ℕ → Moved K
+  after_index x waits Normal text = moved (longer_index x text) waits
+  after_index x waits code text = moved (Ends code text) waits
 
   -- on to the next test of a loop
   abbrev pub next_move : ℕ → Turning → List (Waiting K) → Option (List ℕ) → Moved K
@@ -170,7 +213,8 @@ module _ {K : Type 0} where
 
   abbrev pub end_move : Store → Context → Code → List ℕ → Waiting K → List (Waiting K) → Standing K
   end_move store context code text (ForCommand room after) waits = standing (after_command room after waits code text) store context
-  end_move store context code text (ForBracket w) waits = standing (after_bracket (here context.levels store) store w waits code text) store context
+  end_move store context code text (ForPart w) waits = standing (after_part (here context.levels store) store w waits code text) store context
+  end_move store context code text (ForIndex x) waits = standing (after_index x waits code text) store context
   end_move store context code text (ForBody room turning) waits = standing (after_body_move room turning waits code text) store context
   end_move store context code text (ForNext room turning) waits = standing (after_next_move room turning waits code text) store context
   end_move store context code text (ForStart room turning) waits = standing (after_start_move room turning waits code text) store context

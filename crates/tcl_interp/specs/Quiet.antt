@@ -4,8 +4,8 @@ use Rattle.tcl_vars.specs.Store.{Store}
 use Rattle.tcl_control.specs.declared.code.Code.{Code}
 use Rattle.tcl_control.specs.declared.context.Context.{Context}
 use Rattle.tcl_control.specs.Levels.{here}
-use Rattle.tcl_interp.specs.Finish.{Doing, Begins, GoesOn, Ends, Waiting}
-use Rattle.tcl_interp.specs.Moves.{Moved, Standing, moved, standing, begin_move, go_on_move, end_move}
+use Rattle.tcl_interp.specs.Finish.{Doing, Begins, GoesOn, Indexes, Ends, Waiting}
+use Rattle.tcl_interp.specs.Moves.{Moved, Standing, moved, standing, begin_move, go_on_move, indexes_move, end_move}
 
 module _ {K : Type 0} where
   -- something ends, and what waited for it goes on
@@ -16,6 +16,7 @@ module _ {K : Type 0} where
   abbrev pub quiet_by : Store → Context → Doing K → List (Waiting K) → Standing K
   quiet_by store context (Begins room text) waits = standing (begin_move room text waits) store context
   quiet_by store context (GoesOn room commands result) waits = standing (go_on_move (here context.levels store) store room commands result waits) store context
+  quiet_by store context (Indexes x) waits = standing (indexes_move (here context.levels store) store x waits) store context
   quiet_by store context (Ends code text) waits = ends_move store context code text waits
   quiet_by store context doing waits = standing (moved doing waits) store context
 
@@ -36,6 +37,7 @@ module _ {K : Type 0} where
   abbrev pub IsQuietBy : Doing K → List (Waiting K) → Type 0
   IsQuietBy (Begins room text) waits = Unit {0}
   IsQuietBy (GoesOn room commands result) waits = Unit {0}
+  IsQuietBy (Indexes x) waits = Unit {0}
   IsQuietBy (Ends code text) waits = waits ≢ []
   IsQuietBy doing waits = ⊥
 
@@ -46,6 +48,7 @@ module _ {K : Type 0} where
   abbrev pub IsDueBy : Doing K → List (Waiting K) → Type 0
   IsDueBy (Begins room text) waits = ⊥
   IsDueBy (GoesOn room commands result) waits = ⊥
+  IsDueBy (Indexes x) waits = ⊥
   IsDueBy (Ends code text) waits = waits ≡ []
   IsDueBy doing waits = Unit {0}
 

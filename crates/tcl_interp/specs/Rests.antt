@@ -11,14 +11,18 @@ use Rattle.tcl_interp.specs.declared.machine.Place.{Place}
 use Rattle.tcl_interp.specs.declared.machine.Joined.{Joined}
 use Rattle.tcl_interp.specs.declared.machine.Joined.TheVariants.{Nothing, Shared, Own}
 use Rattle.tcl_interp.specs.declared.machine.Wording.{Wording as WordsPart}
+use Rattle.tcl_interp.specs.declared.machine.Indexing.{Indexing as IndexPart}
 use Rattle.tcl_interp.specs.declared.machine.Now.{Now}
 use Rattle.tcl_interp.specs.declared.machine.Now.TheVariants as now
 use Rattle.tcl_interp.specs.declared.machine.Frame.{Frame}
 use Rattle.tcl_interp.specs.declared.machine.Frame.TheVariants as frame
 use Rattle.tcl_interp.specs.declared.machine.Machine.{Machine}
 use Rattle.tcl_interp.specs.declared.machine.Machine.TheVariants as machine
-use Rattle.tcl_interp.specs.Finish.{Wording, Doing, Begins, GoesOn, Calls, Tests, Steps, Resumes, Ends, Waiting, ForCommand, ForBracket, ForBody, ForNext, ForStart, ForCatch, ForLevels, ForProcedure, ForScript, ForAll, Rest, Idle, Running, Spent, Broken}
-use Rattle.tcl_interp.specs.Moves.{Moved, Standing, PieceText, Plain, Fails, Script, WordEnd, Whole, Failed, AtBracket}
+use Rattle.tcl_interp.specs.Finish.{Wording, Indexing, Doing, Begins, GoesOn, Indexes, Calls, Tests, Steps, Resumes, Ends, Waiting, ForCommand, ForPart, ForIndex, ForBody, ForNext, ForStart, ForCatch, ForLevels, ForProcedure, ForScript, ForAll, Rest, Idle, Running, Spent, Broken}
+use Rattle.tcl_interp.specs.Moves.{Moved, Standing, Part, Script, ElementOf, PieceText, Plain, Fails, Waits, WordEnd, Whole, Failed, AtPart}
+use Rattle.tcl_interp.specs.Evaluation.{index_pieces}
+use Rattle.tcl_interp.specs.declared.words.Part.{Part as WordPart}
+use Rattle.tcl_interp.specs.declared.words.Part.TheVariants as part
 use Rattle.tcl_interp.specs.declared.words.Value.{Value}
 use Rattle.tcl_interp.specs.declared.words.Value.TheVariants as value
 use Rattle.tcl_interp.specs.declared.words.Put.{Put}
@@ -68,21 +72,37 @@ wording_of part =
       words = drop (part.word + 1) words;
     }
 
+-- the pieces of an index that has been read
+abbrev pub read_pieces : Result (List Piece) ParseFault → List Piece
+read_pieces (Ok pieces) = pieces
+read_pieces (Err fault) = []
+
+abbrev pub pieces_in : List ℕ → List Piece
+pieces_in index = read_pieces (index_pieces index)
+
+abbrev pub indexing_of : IndexPart → Indexing
+indexing_of part = record { room = part.room; depth = part.depth; name = part.name; so_far = joined_text part.so_far; pieces = drop part.piece (pieces_in part.index) }
+
+abbrev pub part_of : WordPart → Part
+part_of (part.Script script) = Script script
+part_of (part.Element name index) = ElementOf name index
+
 abbrev pub value_of : Value → PieceText
 value_of (value.Plain text) = Plain text
 value_of (value.Fails text) = Fails text
-value_of (value.Script script) = Script script
+value_of (value.Waits part) = Waits (part_of part)
 
 -- how far a word came, of these pieces
 abbrev pub put_end : List Piece → Put → WordEnd
 put_end pieces (put.Whole text) = Whole text
 put_end pieces (put.Failed text) = Failed text
-put_end pieces (put.Bracket script next so_far) = AtBracket script (drop next pieces) (joined_text so_far)
+put_end pieces (put.AtPart part next so_far) = AtPart (part_of part) (drop next pieces) (joined_text so_far)
 
 module _ {K : Type 0} where
   abbrev pub doing_of : Now K → Doing K
   doing_of (now.Begins room script) = Begins room script
   doing_of (now.GoesOn place result) = GoesOn place.room (left_in place) result
+  doing_of (now.Indexes part) = Indexes (indexing_of part)
   doing_of (now.Calls room words) = Calls room words
   doing_of (now.Tests room turning) = Tests room turning
   doing_of (now.Steps room task) = Steps room task
@@ -91,7 +111,8 @@ module _ {K : Type 0} where
 
   abbrev pub waiting_of : Frame K → Waiting K
   waiting_of (frame.ForCommand place) = ForCommand place.room (left_in place)
-  waiting_of (frame.ForBracket part) = ForBracket (wording_of part)
+  waiting_of (frame.ForPart part) = ForPart (wording_of part)
+  waiting_of (frame.ForIndex part) = ForIndex (indexing_of part)
   waiting_of (frame.ForBody room turning) = ForBody room turning
   waiting_of (frame.ForNext room turning) = ForNext room turning
   waiting_of (frame.ForStart room turning) = ForStart room turning

@@ -7,8 +7,6 @@ mod moves;
 mod slices;
 mod steps;
 mod tasks;
-#[cfg(test)]
-mod tests;
 mod words;
 
 pub use interp::{Interp, SliceEnd};

@@ -2,7 +2,7 @@ ghost use Rattle.std.specs.Prelude.{◌≤◌, string_len};
 
 use tcl_control::{Code, Levels, Source, Turning};
 use tcl_text::{Text, TextList};
-use tcl_words::Script;
+use tcl_words::{Index, Script};
 
 /// A script of which the commands before `next` have run, and the room for scripts in it.
 #[derive(Drop)]
@@ -38,6 +38,18 @@ pub struct Wording {
     pub so_far: Joined,
 }
 
+/// An element whose index is being put together: its pieces before `piece` are joined. There is room for so many scripts, and for
+/// indices that go so deep, in it.
+#[derive(Drop)]
+pub struct Indexing {
+    pub room: u64,
+    pub depth: u64,
+    pub name: Text,
+    pub index: Index,
+    pub piece: usize,
+    pub so_far: Joined,
+}
+
 /// What is done now.
 #[derive(Drop)]
 pub enum Now<K> {
@@ -49,6 +61,7 @@ pub enum Now<K> {
         place: Place,
         result: Text,
     },
+    Indexes(Indexing),
     Calls {
         room: u64,
         words: TextList,
@@ -77,7 +90,8 @@ pub enum Now<K> {
 #[derive(Drop)]
 pub enum Frame<K> {
     ForCommand(Place),
-    ForBracket(Wording),
+    ForPart(Wording),
+    ForIndex(Indexing),
     ForBody { room: u64, turning: Turning },
     ForNext { room: u64, turning: Turning },
     ForStart { room: u64, turning: Turning },

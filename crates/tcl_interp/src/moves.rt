@@ -11,7 +11,7 @@ ghost use Rattle.tcl_interp.specs.Advances.{MoveGives};
 ghost use Rattle.tcl_interp.specs.Quiet.{Leads, IsDue};
 
 use crate::machine::{Frame, Now, Place};
-use crate::words::{after_bracket, go_on, wait};
+use crate::words::{after_part, go_on, longer_index, put_index, wait};
 use std::alloc::{AllocError, Global};
 use tcl_control::texts::{fault_text, fixed};
 use tcl_control::{Code, Context, End, ReturnCode, Source, Turning, caught};
@@ -251,10 +251,17 @@ fn ended<K: Drop>(
             }),
             code => Ok(Now::Ends { code, text }),
         },
-        Frame::ForBracket(wording) => match code {
+        Frame::ForPart(wording) => match code {
             Code::Normal => {
                 let level = context.levels.here(scopes);
-                let now = after_bracket(alloc, scopes, level, frames, wording, text)?;
+                let now = after_part(alloc, scopes, level, frames, wording, text)?;
+                Ok(now)
+            }
+            code => Ok(Now::Ends { code, text }),
+        },
+        Frame::ForIndex(indexing) => match code {
+            Code::Normal => {
+                let now = longer_index(alloc, indexing, text)?;
                 Ok(now)
             }
             code => Ok(Now::Ends { code, text }),
@@ -339,6 +346,11 @@ fn advance<K: Drop>(
             }
             None => Ok(Move::Due(Now::Ends { code, text })),
         },
+        Now::Indexes(indexing) => {
+            let level = context.levels.here(scopes);
+            let now = put_index(alloc, scopes, level, frames, indexing)?;
+            Ok(Move::On(now))
+        }
         Now::Calls { room, words } => Ok(Move::Due(Now::Calls { room, words })),
         Now::Tests { room, turning } => Ok(Move::Due(Now::Tests { room, turning })),
         Now::Steps { room, task } => Ok(Move::Due(Now::Steps { room, task })),

@@ -1,38 +1,49 @@
 ghost use Rattle.std.specs.Prelude.{◌≡◌, ◌<◌, ◌≤◌, ◌+◌, [], ◌++◌, length, drop, nat_le, if◌then◌else◌, Some, None, option_map, MatchResult, Ok, Err, ◌∷◌, OnOk, IfOk, string_len, string_bytes};
-ghost use Rattle.tcl_vars.specs.Store.{variable_in};
+ghost use Rattle.tcl_vars.specs.Store.{variable_in, element_in};
 ghost use Rattle.tcl_text.specs.Readings.{list_of};
 ghost use Rattle.tcl_control.specs.Source.{script_of};
-ghost use Rattle.tcl_interp.specs.Evaluation.{split_words, words_of};
-ghost use Rattle.tcl_interp.specs.Moves.{with_more, piece_text, word_end, called_move, words_move, bracket_move, bracket_begins, go_on_move};
-ghost use Rattle.tcl_interp.specs.Rests.{commands_in, left_in, words_in_front, pieces_in_front, expand_in_front, joined_text, value_of, put_end, wording_of, moved_of, waits_of, waiting_of};
+ghost use Rattle.tcl_control.specs.Texts.{element_name};
+ghost use Rattle.tcl_interp.specs.Evaluation.{index_depth, split_words, words_of};
+ghost use Rattle.tcl_interp.specs.Moves.{with_more, piece_text, word_end, called_move, words_move, element_begins, element_end, indexes_move, longer_index, part_begins, part_move, word_part, go_on_move};
+ghost use Rattle.tcl_interp.specs.Rests.{commands_in, doing_of, expand_in_front, indexing_of, joined_text, left_in, moved_of, part_of, pieces_in, pieces_in_front, put_end, value_of, waiting_of, waits_of, wording_of, words_in_front};
 
-use crate::machine::{Frame, Joined, Now, Place, Short, Wording};
+use crate::machine::{Frame, Indexing, Joined, Now, Place, Short, Wording};
 use std::alloc::{AllocError, Global};
-use tcl_control::texts::{cannot_read, fixed, limit, list_fault};
+use tcl_control::texts::{cannot_read, cannot_read_element, fault_text, fixed, limit, list_fault};
 use tcl_control::{Code, Source};
 use tcl_text::{SplitFault, Text, TextList};
 use tcl_vars::Scopes;
-use tcl_words::{Command, Piece, Script, Word};
+use tcl_words::{Command, Index, ParseFault, Piece, Script, Word};
 
-/// A piece by itself: a text, an error, or a script whose result it is.
+/// A part of a word that is evaluated by itself: a script in brackets, or an element, by the array's name and the index.
+#[derive(Drop)]
+pub enum Part {
+    Script(Script),
+    Element(Text, Index),
+}
+
+/// A piece by itself: a text, an error, or a part whose result it is.
 #[derive(Drop)]
 pub enum Value {
     Plain(Text),
     Fails(Text),
-    Script(Script),
+    Waits(Part),
 }
 
-/// How far a word came: it is whole, it fails, or a script is to be run whose result comes next.
+/// How far a word or an index came: it is whole, it fails, or a part is to be evaluated whose result comes next.
 #[derive(Drop)]
 pub enum Put {
     Whole(Text),
     Failed(Text),
-    Bracket {
-        script: Script,
+    AtPart {
+        part: Part,
         next: usize,
         so_far: Joined,
     },
 }
+
+/// How many indices stand in one another at most, in a script that can be read.
+const INDEX_DEPTH: u64 = 200;
 
 /// A piece's value, where variables are those of a level.
 fn piece_value(
@@ -50,8 +61,10 @@ fn piece_value(
             Ok(value) => Ok(Value::Plain(value.copy()?)),
             Err(fault) => Ok(Value::Fails(cannot_read(alloc, name, fault)?)),
         },
-        Piece::Element(_, _) => Ok(Value::Fails(fixed(alloc, "not yet")?)),
-        Piece::Bracket(script) => Ok(Value::Script(script.copy()?)),
+        Piece::Element(name, index) => {
+            Ok(Value::Waits(Part::Element(name.copy()?, index.copy()?)))
+        }
+        Piece::Bracket(script) => Ok(Value::Waits(Part::Script(script.copy()?))),
     }
 }
 
@@ -116,9 +129,9 @@ fn put_pieces(
                 None => return Ok(Put::Failed(limit(alloc)?)),
             },
             Value::Fails(text) => return Ok(Put::Failed(text)),
-            Value::Script(script) => {
-                return Ok(Put::Bracket {
-                    script,
+            Value::Waits(part) => {
+                return Ok(Put::AtPart {
+                    part,
                     next,
                     so_far: text_so_far,
                 });
@@ -302,11 +315,9 @@ fn put_words<K: Drop>(
                     text,
                 });
             }
-            Put::Bracket {
-                script,
-                next,
-                so_far,
-            } => return bracket(frames, place, word, next, whole, so_far, script),
+            Put::AtPart { part, next, so_far } => {
+                return word_part(alloc, frames, place, word, next, whole, so_far, part);
+            }
         }
         word += 1;
     }
@@ -333,22 +344,68 @@ fn put_words_past<K: Drop>(
     }
 }
 
-/// A script in the words of the command that is next is to be run.
-fn bracket<K: Drop>(
+/// The element of this array is to be read, with indices at most so deep in its index.
+fn element_begins<K: Drop>(
+    alloc: Global,
+    room: u64,
+    depth: u64,
+    name: Text,
+    index: Index,
+) -> Result<Now<K>, AllocError>
+    ensures { IfOk result (λ now. doing_of now ≡ element_begins room depth name index) }
+{
+    if depth == 0 {
+        return Ok(Now::Ends {
+            code: Code::Error,
+            text: fault_text(alloc, ParseFault::TooLong)?,
+        });
+    }
+    let _pieces = pieces_of(&index);
+    Ok(Now::Indexes(Indexing {
+        room,
+        depth: depth - 1,
+        name,
+        index,
+        piece: 0,
+        so_far: Joined::Nothing,
+    }))
+}
+
+/// A part of a word or of an index is to be evaluated.
+fn part_begins<K: Drop>(
+    alloc: Global,
+    room: u64,
+    depth: u64,
+    part: Part,
+) -> Result<Now<K>, AllocError>
+    ensures { IfOk result (λ now. doing_of now ≡ part_begins room depth (part_of part)) }
+{
+    match part {
+        Part::Script(script) => Ok(Now::Begins {
+            room,
+            script: Source::of_script(script),
+        }),
+        Part::Element(name, index) => element_begins(alloc, room, depth, name, index),
+    }
+}
+
+/// A part of the words of the command that is next is to be evaluated.
+fn word_part<K: Drop>(
+    alloc: Global,
     frames: &mut Vec<Frame<K>>,
     place: Place,
     word: usize,
     piece: usize,
     whole: TextList,
     so_far: Joined,
-    script: Script,
+    part: Part,
 ) -> Result<Now<K>, AllocError>
-    ensures { IfOk result (λ now. moved_of now frames.new.items ≡ bracket_begins place.room (drop (place.next + 1) (commands_in place.script)) (expand_in_front (drop word (words_in_front (left_in place)))) (drop (word + 1) (words_in_front (left_in place))) whole (drop piece (pieces_in_front (drop word (words_in_front (left_in place))))) (joined_text so_far) script (waits_of frames.old.items)) }
+    ensures { IfOk result (λ now. moved_of now frames.new.items ≡ word_part place.room (drop (place.next + 1) (commands_in place.script)) (expand_in_front (drop word (words_in_front (left_in place)))) (drop (word + 1) (words_in_front (left_in place))) whole (drop piece (pieces_in_front (drop word (words_in_front (left_in place))))) (joined_text so_far) (part_of part) (waits_of frames.old.items)) }
 {
     let room = place.room;
     wait(
         frames,
-        Frame::ForBracket(Wording {
+        Frame::ForPart(Wording {
             place,
             word,
             piece,
@@ -356,14 +413,116 @@ fn bracket<K: Drop>(
             so_far,
         }),
     )?;
-    Ok(Now::Begins {
-        room,
-        script: Source::of_script(script),
-    })
+    part_begins(alloc, room, INDEX_DEPTH, part)
 }
 
-/// A script in the words of a command has ended normally.
-pub fn after_bracket<K: Drop>(
+/// The pieces of an index.
+#[tactic(auto, unfolding(crate::specs::Evaluation::index_pieces))]
+fn pieces_of(index: &Index) -> &[Piece]
+    ensures { result.now ≡ pieces_in index.now }
+{
+    index.pieces()
+}
+
+/// The element of this index, where variables are those of a level.
+fn element<K: Drop>(
+    alloc: Global,
+    scopes: &Scopes,
+    level: usize,
+    name: &Text,
+    index: &Text,
+) -> Result<Now<K>, AllocError>
+    requires { level < length scopes.now }
+    ensures { IfOk result (λ now. doing_of now ≡ element_end (element_name name.now index.now) (element_in scopes.now level name.now index.now)) }
+{
+    match scopes.get_element(level, name, index) {
+        Ok(value) => Ok(Now::Ends {
+            code: Code::Normal,
+            text: value.copy()?,
+        }),
+        Err(fault) => Ok(Now::Ends {
+            code: Code::Error,
+            text: cannot_read_element(alloc, name, index, fault)?,
+        }),
+    }
+}
+
+/// Puts an index together, until a part of it is to be evaluated, and then reads its element.
+pub fn put_index<K: Drop>(
+    alloc: Global,
+    scopes: &Scopes,
+    level: usize,
+    frames: &mut Vec<Frame<K>>,
+    indexing: Indexing,
+) -> Result<Now<K>, AllocError>
+    requires { level < length scopes.now }
+    ensures { IfOk result (λ now. moved_of now frames.new.items ≡ indexes_move level scopes.now (indexing_of indexing) (waits_of frames.old.items)) }
+{
+    let Indexing {
+        room,
+        depth,
+        name,
+        index,
+        piece,
+        so_far,
+    } = indexing;
+    match put_pieces(alloc, scopes, level, pieces_of(&index), piece, so_far)? {
+        Put::Whole(text) => element(alloc, scopes, level, &name, &text),
+        Put::Failed(text) => Ok(Now::Ends {
+            code: Code::Error,
+            text,
+        }),
+        Put::AtPart { part, next, so_far } => {
+            wait(
+                frames,
+                Frame::ForIndex(Indexing {
+                    room,
+                    depth,
+                    name,
+                    index,
+                    piece: next,
+                    so_far,
+                }),
+            )?;
+            part_begins(alloc, room, depth, part)
+        }
+    }
+}
+
+/// A part of an index has ended normally.
+pub fn longer_index<K: Drop>(
+    alloc: Global,
+    indexing: Indexing,
+    text: Text,
+) -> Result<Now<K>, AllocError>
+    ensures { IfOk result (λ now. doing_of now ≡ longer_index (indexing_of indexing) text) }
+{
+    let Indexing {
+        room,
+        depth,
+        name,
+        index,
+        piece,
+        so_far,
+    } = indexing;
+    match joined(alloc, so_far, text)? {
+        Some(so_far) => Ok(Now::Indexes(Indexing {
+            room,
+            depth,
+            name,
+            index,
+            piece,
+            so_far,
+        })),
+        None => Ok(Now::Ends {
+            code: Code::Error,
+            text: limit(alloc)?,
+        }),
+    }
+}
+
+/// A part of the words of a command has ended normally.
+pub fn after_part<K: Drop>(
     alloc: Global,
     scopes: &Scopes,
     level: usize,
@@ -372,7 +531,7 @@ pub fn after_bracket<K: Drop>(
     text: Text,
 ) -> Result<Now<K>, AllocError>
     requires { level < length scopes.now }
-    ensures { IfOk result (λ now. moved_of now frames.new.items ≡ bracket_move level scopes.now (wording_of wording) (waits_of frames.old.items) text) }
+    ensures { IfOk result (λ now. moved_of now frames.new.items ≡ part_move level scopes.now (wording_of wording) (waits_of frames.old.items) text) }
 {
     let Wording {
         place,
@@ -409,11 +568,9 @@ pub fn after_bracket<K: Drop>(
             code: Code::Error,
             text,
         }),
-        Put::Bracket {
-            script,
-            next,
-            so_far,
-        } => bracket(frames, place, word, next, whole, so_far, script),
+        Put::AtPart { part, next, so_far } => {
+            word_part(alloc, frames, place, word, next, whole, so_far, part)
+        }
     }
 }
 

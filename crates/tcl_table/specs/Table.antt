@@ -8,6 +8,7 @@ use Rattle.tcl_table.specs.declared.builtin.Builtin.{Builtin as BuiltinName}
 use Rattle.tcl_table.specs.declared.builtin.Builtin.TheVariants as builtin
 use Rattle.tcl_table.specs.declared.command.Command.{Command}
 use Rattle.tcl_table.specs.declared.command.Command.TheVariants.{Builtin, Texts, Outside, Procedure}
+use Rattle.tcl_commands.specs.declared.commands.VariableCommand.TheVariants as variable
 
 -- names with commands, in the order in which they came
 abbrev pub Table : Type 0
@@ -66,10 +67,22 @@ builtins =
     ∷ (codes "proc", builtin.Proc)
     ∷ (codes "rename", builtin.Rename)
     ∷ (codes "return", builtin.Return)
-    ∷ (codes "set", builtin.Set)
     ∷ (codes "switch", builtin.Switch)
     ∷ (codes "uplevel", builtin.Uplevel)
+    ∷ (codes "upvar", builtin.Upvar)
     ∷ (codes "while", builtin.While)
+    ∷ []
+
+-- the commands on variables that know no level but their script's
+abbrev pub variables : List (List ℕ × BuiltinName)
+variables =
+    (codes "set", builtin.Variable variable.Set)
+    ∷ (codes "unset", builtin.Variable variable.Unset)
+    ∷ (codes "incr", builtin.Variable variable.Incr)
+    ∷ (codes "append", builtin.Variable variable.Append)
+    ∷ (codes "lappend", builtin.Variable variable.Lappend)
+    ∷ (codes "array", builtin.Variable variable.Array)
+    ∷ (codes "global", builtin.Variable variable.Global)
     ∷ []
 
 abbrev pub text_names : List (List ℕ)
@@ -90,7 +103,7 @@ text_names =
 
 -- The commands at first, with the names of the outside ones.
 unfoldable pub first_commands : List (List ℕ) → Table
-first_commands names = with_outside names (with_texts text_names (with_builtins builtins []))
+first_commands names = with_outside names (with_texts text_names (with_builtins variables (with_builtins builtins [])))
 
 -- The command that a name calls. One that begins with a dot is always an outside command's.
 abbrev pub command_of : Table → List ℕ → Option Command

@@ -35,6 +35,10 @@ read_reason NotArray = codes "\": variable isn't array"
 abbrev pub cannot_read : List ℕ → ReadFault → List ℕ
 cannot_read name fault = message (codes "can't read \"" ++ name ++ read_reason fault)
 
+-- an element as it is named
+abbrev pub element_name : List ℕ → List ℕ → List ℕ
+element_name name index = name ++ codes "(" ++ index ++ codes ")"
+
 abbrev pub cannot_set : List ℕ → SetFault → List ℕ
 cannot_set name SetArray = message (codes "can't set \"" ++ name ++ codes "\": variable is array")
 cannot_set name SetNotArray = message (codes "can't set \"" ++ name ++ codes "\": variable isn't array")

@@ -1,3 +1,5 @@
+use tcl_commands::VariableCommand;
+
 /// The commands that the interpreter has itself, those on texts and lists aside.
 #[derive(Clone, Copy, Debug, PartialEq, Eq)]
 pub enum Builtin {
@@ -13,8 +15,9 @@ pub enum Builtin {
     Proc,
     Rename,
     Return,
-    Set,
     Switch,
     Uplevel,
+    Upvar,
+    Variable(VariableCommand),
     While,
 }

@@ -2,7 +2,7 @@ ghost use Rattle.std.specs.Prelude.{◌≡◌, ◌≤◌, [], length, IfOk, OnOk
 ghost use Rattle.std.specs.Option.{option_copied};
 ghost use Rattle.indexmap.specs.IndexMap.{values};
 ghost use Rattle.tcl_table.specs.Names.{is_dotted, plain_name};
-ghost use Rattle.tcl_table.specs.Table.{builtins, text_names, is_procedure, procedure_count, procedures_among, value_at, with_value, without, first_commands, with_builtins, with_texts, with_outside};
+ghost use Rattle.tcl_table.specs.Table.{builtins, variables, text_names, is_procedure, procedure_count, procedures_among, value_at, with_value, without, first_commands, with_builtins, with_texts, with_outside};
 
 use crate::builtin::Builtin;
 use crate::procedure::Procedure;
@@ -10,6 +10,7 @@ use crate::texts::fixed;
 use indexmap::IndexMap;
 use std::alloc::{AllocError, Global};
 use std::marker::Model;
+use tcl_commands::VariableCommand;
 use tcl_text::Text;
 
 /// What a name calls.
@@ -136,7 +137,7 @@ pub fn first_commands(alloc: Global, outside: &[Text]) -> Result<CommandTable, A
 }
 
 fn add_builtins(table: &mut CommandTable) -> Result<(), AllocError>
-    ensures { OnOk result (table.new ≡ with_builtins builtins table.old) }
+    ensures { OnOk result (table.new ≡ with_builtins variables (with_builtins builtins table.old)) }
 {
     table.insert("break", Command::Builtin(Builtin::Break))?;
     table.insert("catch", Command::Builtin(Builtin::Catch))?;
@@ -150,10 +151,33 @@ fn add_builtins(table: &mut CommandTable) -> Result<(), AllocError>
     table.insert("proc", Command::Builtin(Builtin::Proc))?;
     table.insert("rename", Command::Builtin(Builtin::Rename))?;
     table.insert("return", Command::Builtin(Builtin::Return))?;
-    table.insert("set", Command::Builtin(Builtin::Set))?;
     table.insert("switch", Command::Builtin(Builtin::Switch))?;
     table.insert("uplevel", Command::Builtin(Builtin::Uplevel))?;
+    table.insert("upvar", Command::Builtin(Builtin::Upvar))?;
     table.insert("while", Command::Builtin(Builtin::While))?;
+    add_variables(table)
+}
+
+fn add_variable(
+    table: &mut CommandTable,
+    name: &str,
+    command: VariableCommand,
+) -> Result<(), AllocError>
+    ensures { OnOk result (table.new ≡ with_value table.old name.now (Command.Builtin (Builtin.Variable command))) }
+{
+    table.insert(name, Command::Builtin(Builtin::Variable(command)))
+}
+
+fn add_variables(table: &mut CommandTable) -> Result<(), AllocError>
+    ensures { OnOk result (table.new ≡ with_builtins variables table.old) }
+{
+    add_variable(table, "set", VariableCommand::Set)?;
+    add_variable(table, "unset", VariableCommand::Unset)?;
+    add_variable(table, "incr", VariableCommand::Incr)?;
+    add_variable(table, "append", VariableCommand::Append)?;
+    add_variable(table, "lappend", VariableCommand::Lappend)?;
+    add_variable(table, "array", VariableCommand::Array)?;
+    add_variable(table, "global", VariableCommand::Global)?;
     Ok(())
 }
 

@@ -49,6 +49,18 @@ impl Levels {
         }
     }
 
+    /// The place of the frame whose variables are seen where only so many of the levels are.
+    pub fn place_at(&self, scopes: &Scopes, count: usize) -> usize
+        ensures { result ≡ here (take count self.now) scopes.now }
+    {
+        let frames = scopes.levels();
+        let count = self.places.len().min(count);
+        match self.places[..count].last() {
+            Some(place) if *place < frames => *place,
+            _ => 0,
+        }
+    }
+
     /// A procedure begins, whose frame is at this place.
     pub fn push(&mut self, place: usize) -> Result<(), AllocError>
         ensures ok { OnOk result (self.new ≡ self.old ++ place ∷ []) }

@@ -1,7 +1,7 @@
-ghost use Rattle.std.specs.Prelude.{◌≡◌, ◌≤◌, ◌++◌, length, IfOk};
+ghost use Rattle.std.specs.Prelude.{◌≡◌, ◌≤◌, ◌++◌, length, IfOk, string_bytes};
 ghost use Rattle.tcl_text.specs.Splitting.{fault_text as list_text};
 ghost use Rattle.tcl_words.specs.Faults.{text_of};
-ghost use Rattle.tcl_table.specs.Texts.{message, limit_text, read_reason, cannot_read, cannot_set, not_boolean, unknown_command, about};
+ghost use Rattle.tcl_table.specs.Texts.{message, limit_text, read_reason, cannot_read, cannot_set, element_name, not_boolean, unknown_command, about};
 
 use std::alloc::{AllocError, Global};
 use tcl_text::{ListFault, Text, TextFault};
@@ -45,6 +45,30 @@ pub fn cannot_read(alloc: Global, name: &Text, fault: ReadFault) -> Result<Text,
     ensures { IfOk result (λ text. text ≡ cannot_read name.now fault) }
 {
     message(alloc, "can't read \"", name.as_str(), read_reason(fault))
+}
+
+/// Why an element can't be read, as its script is told of it.
+pub fn cannot_read_element(
+    alloc: Global,
+    name: &Text,
+    index: &Text,
+    fault: ReadFault,
+) -> Result<Text, AllocError>
+    ensures { IfOk result (λ text. text ≡ cannot_read (element_name name.now index.now) fault) }
+{
+    let element = element_name(alloc, name.as_str(), index.as_str())?;
+    message(alloc, "can't read \"", element.as_str(), read_reason(fault))
+}
+
+/// An element as it is named.
+fn element_name(alloc: Global, name: &str, index: &str) -> Result<String, AllocError>
+    ensures { IfOk result (λ string. string_bytes string ≡ element_name name.now index.now) }
+{
+    let mut characters = String::from_str(alloc, name)?;
+    characters.push_str("(")?;
+    characters.push_str(index)?;
+    characters.push_str(")")?;
+    Ok(characters)
 }
 
 fn read_reason(fault: ReadFault) -> &'static str

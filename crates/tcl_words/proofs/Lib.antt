@@ -37,3 +37,4 @@ pub mod Fronts
 mod ReadingExamples
 pub mod Steps
 pub mod Texts
+pub mod SliceLemmas

@@ -64,7 +64,7 @@ fn piece_of(
         Opener::Index(count) => {
             let name = text_of(alloc, source, base, base + count)?;
             let text = text_of(alloc, source, base + count + 1, base + close)?;
-            let index = Index::new(text, Pieces::from_vec(parts.into_pieces()));
+            let index = Index::new(alloc, text, Pieces::from_vec(parts.into_pieces()))?;
             Ok(Piece::Element(name, index))
         }
     }

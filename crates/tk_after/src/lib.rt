@@ -10,8 +10,3 @@ mod timers;
 pub use after::after_command;
 pub use entry::Entry;
 pub use timers::Timers;
-
-#[cfg(test)]
-mod after_tests;
-#[cfg(test)]
-mod tests;

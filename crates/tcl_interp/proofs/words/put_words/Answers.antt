@@ -1,21 +1,21 @@
 use Rattle.std.proofs.Common.{◌≡◌, ◌<◌, ◌+◌, [], length, drop, Ok, Err, ap, sym, ◌∙◌}
 use Rattle.tcl_interp.specs.Evaluation.{words_of}
-use Rattle.tcl_interp.specs.Moves.{Whole, AtBracket, word_end, with_more}
-use Rattle.tcl_interp.specs.Rests.{commands_in, left_in, words_in_front, expand_in_front, moved_of, waits_of, joined_text}
-use Rattle.tcl_interp.proofs.WordLemmas.{word_whole, word_faulty, word_bracket, ok_along}
+use Rattle.tcl_interp.specs.Moves.{Whole, AtPart, word_end, with_more}
+use Rattle.tcl_interp.specs.Rests.{commands_in, left_in, words_in_front, expand_in_front, moved_of, waits_of, joined_text, part_of}
+use Rattle.tcl_interp.proofs.WordLemmas.{word_whole, word_faulty, word_waits, ok_along}
 use Rattle.tcl_interp.proofs.words.put_words.Goals as goal
 
-pub returns-in-Bracket : goal.returns-in-Bracket
-returns-in-Bracket g c =
+pub returns-in-AtPart : goal.returns-in-AtPart
+returns-in-AtPart g c =
     let place = c.args.place in
     let words = words_in_front (left_in place) in
     let after = drop (place.next + 1) (commands_in place.script) in
     let waits = waits_of c.loop-word.frames.items in
     let pieces = c.pieces_at.result.now in
     let less : c.loop-word.word < length words = rw c.next_words.ensures at c.loop-word-test.true in
-    let end : AtBracket c.in-Bracket.script (drop c.in-Bracket.next pieces) (joined_text c.in-Bracket.so_far) ≡ word_end c.args.level c.args.scopes.now (drop 0 pieces) [] = rw c.in-Bracket.is at c.in_ok-text.ensures in
-    ok_along c.bracket.result (λ now. moved_of now c.bracket.new.frames.items) _ _ c.bracket.ensures
-    (word_bracket c.args.level c.args.scopes.now place.room waits after words c.loop-word.word c.loop-word.whole c.in-Bracket.script (joined_text c.in-Bracket.so_far) c.in-Bracket.next pieces less (rw c.next_words-in-loop-word.ensures at c.pieces_at.ensures) end
+    let end : AtPart (part_of c.in-AtPart.part) (drop c.in-AtPart.next pieces) (joined_text c.in-AtPart.so_far) ≡ word_end c.args.level c.args.scopes.now (drop 0 pieces) [] = rw c.in-AtPart.is at c.in_ok-text.ensures in
+    ok_along c.word_part.result (λ now. moved_of now c.word_part.new.frames.items) _ _ c.word_part.ensures
+    (word_waits c.args.level c.args.scopes.now place.room waits after words c.loop-word.word c.loop-word.whole (part_of c.in-AtPart.part) (joined_text c.in-AtPart.so_far) c.in-AtPart.next pieces less (rw c.next_words-in-loop-word.ensures at c.pieces_at.ensures) end
     ∙ c.loop-word.invariant)
 
 pub loop-word-preserved : goal.loop-word-preserved

@@ -118,7 +118,10 @@ fn long_texts_are_read(rt: HostRuntime) -> Result<(), Fail> {
     let brackets = repeated(alloc, b'[', 65_536)?;
     assert_eq!(rt; fault_of(alloc, &brackets)?, Some(ParseFault::TooLong));
     let quotes = repeated(alloc, b'"', 65_536)?;
-    assert_eq!(rt; fault_of(alloc, &quotes)?, Some(ParseFault::ExtraAfterQuote));
+    assert_eq!(rt;
+        fault_of(alloc, &quotes)?,
+        Some(ParseFault::ExtraAfterQuote)
+    );
     let mut backslashes = repeated(alloc, b'\\', 65_536)?;
     assert_eq!(rt; parse(alloc, &backslashes)?.commands().len(), 1);
     backslashes.push(b' ')?;

@@ -17,7 +17,8 @@ use Rattle.tcl_words.specs.declared.kind.Step.TheVariants.{On, Within, Ends}
 use Rattle.tcl_words.specs.declared.script.Piece.TheVariants.{Bracket as BracketPiece, Element}
 use Rattle.tcl_words.specs.declared.fault.ParseFault.{ParseFault}
 use Rattle.tcl_words.specs.declared.fault.ParseFault.TheVariants.{TooLong}
-use Rattle.tcl_words.proofs.Cuts.{IsCloser, FitsStep, step_cut, step_same, class_ends, class_closes}
+use Rattle.tcl_words.proofs.Cuts.{IsCloser, FitsStep, step_cut, step_same}
+use Rattle.tcl_words.proofs.Closers.{class_ends, class_closes}
 
 -- what was read of this text ends at a bracket or a parenthesis in it
 pub record Closed (text : List ℕ) (room skip : ℕ) (place : Place) (at : ℕ) (rest : Rest) : Type 0 where

@@ -25,6 +25,7 @@ pub mod ScriptsJoined
 pub mod LinesText
 pub mod Alone
 pub mod Cuts
+pub mod Closers
 pub mod Ends
 pub mod Escapes
 pub mod Inners

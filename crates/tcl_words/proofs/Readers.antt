@@ -24,7 +24,7 @@ use Rattle.tcl_words.specs.declared.nesting.Waiting.{Waiting}
 use Rattle.tcl_words.specs.declared.script.Piece.{Piece}
 use Rattle.tcl_words.specs.declared.fault.ParseFault.{ParseFault}
 use Rattle.tcl_words.specs.declared.fault.ParseFault.TheVariants.{TooLong, NoMemory}
-use Rattle.tcl_words.proofs.Cuts.{none_outside}
+use Rattle.tcl_words.proofs.Closers.{none_outside}
 use Rattle.tcl_words.proofs.Inners.{script_alone, index_alone}
 use Rattle.tcl_words.proofs.Texts.{commands_of-read}
 use Rattle.tcl_words.proofs.Nests.{chain_push, chain_pop, chain_fault, rest_skip, on_read, fault_read, end_read, full_read, link_made, resume_read}

@@ -390,6 +390,7 @@ fn part_begins<K: Drop>(
 }
 
 /// A part of the words of the command that is next is to be evaluated.
+#[tactic(auto, unfolding(crate::specs::Evaluation::index_depth))]
 fn word_part<K: Drop>(
     alloc: Global,
     frames: &mut Vec<Frame<K>>,

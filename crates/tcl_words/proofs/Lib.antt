@@ -33,6 +33,7 @@ pub mod Joins
 pub mod KindLemmas
 pub mod Nests
 pub mod Readers
+pub mod OperandLemmas
 pub mod Rooms
 pub mod Fronts
 mod ReadingExamples

@@ -1,16 +1,16 @@
 -- Reading as the code does it: a byte further, into what opens, and out of what ends.
-use Rattle.std.proofs.Common.{◌≡◌, ℕ, zero, suc, ◌+◌, ◌-◌, ◌<◌, ◌≤◌, ◌⊎◌, Bool, true, false, List, [], ◌∷◌, ◌++◌, length, drop, take, get_or, slice_index, refl, sym, ap, subst, ◌∙◌, arith, Ok, Err, Result, inl, inr}
+use Rattle.std.proofs.Common.{◌≡◌, ℕ, zero, suc, ◌+◌, ◌-◌, ◌<◌, ◌≤◌, ◌⊎◌, Bool, true, false, List, [], ◌∷◌, ◌++◌, length, drop, take, get_or, slice_index, refl, sym, ap, subst, ◌∙◌, arith, Ok, Err, inl, inr}
 use Rattle.std.specs.List.{slice_range}
 use Rattle.std.specs.Str.{IsCharBoundary, IsUtf8}
 use Rattle.std.proofs.lemmas.List.{drop-drop, length-drop, get_or-drop, length-take}
 use Rattle.std.proofs.lemmas.Str.{IsCharBoundary-start, IsCharBoundary-from_rest, IsUtf8-take, IsUtf8-drop}
-use Rattle.tcl_words.specs.Kinds.{kind_of, class_of}
+use Rattle.tcl_words.specs.Kinds.{class_of}
 use Rattle.tcl_words.specs.Changes.{Read}
 use Rattle.tcl_words.specs.declared.script.Command.{Command}
-use Rattle.tcl_words.specs.Moves.{Move, move_at}
-use Rattle.tcl_words.specs.Reading.{Level, rest_of, at_end, within, first_place, first_skip, opened_piece, commands_of, commands_in, index_pieces_of, outermost}
-use Rattle.tcl_words.specs.Parts.{Parts, Whole, joined, no_parts, with_piece, script_whole, index_whole, is_index, ended, Does, IsFine, IsCut, IsOpenerCut, name_before}
-use Rattle.tcl_words.specs.Chain.{outset, level_of, own, opened, resumed, waits_for, IsWaiting, IsChain, IsReading, IsOpening, IsEnding, IsParse}
+use Rattle.tcl_words.specs.Moves.{move_at}
+use Rattle.tcl_words.specs.Reading.{Level, rest_of, at_end, within, first_place, first_skip, opened_piece, commands_in, index_pieces_of, outermost}
+use Rattle.tcl_words.specs.Parts.{Parts, joined, no_parts, with_piece, script_whole, is_index, ended, Does, IsFine, IsOpenerCut, name_before}
+use Rattle.tcl_words.specs.Chain.{outset, level_of, own, opened, waits_for, IsWaiting, IsChain, IsReading, IsOpening, IsEnding, IsParse}
 use Rattle.tcl_words.specs.declared.kind.Place.{Place}
 use Rattle.tcl_words.specs.declared.kind.Place.TheVariants.{Start, Comment, Between, Expanded, Text, PastQuotes, InBraces, PastBraces}
 use Rattle.tcl_words.specs.declared.kind.Mode.{Mode}
@@ -23,7 +23,7 @@ use Rattle.tcl_words.specs.declared.nesting.Origin.{Origin}
 use Rattle.tcl_words.specs.declared.nesting.Waiting.{Waiting}
 use Rattle.tcl_words.specs.declared.script.Piece.{Piece}
 use Rattle.tcl_words.specs.declared.fault.ParseFault.{ParseFault}
-use Rattle.tcl_words.specs.declared.fault.ParseFault.TheVariants.{TooLong, NoMemory}
+use Rattle.tcl_words.specs.declared.fault.ParseFault.TheVariants.{NoMemory}
 use Rattle.tcl_words.proofs.Closers.{none_outside}
 use Rattle.tcl_words.proofs.Inners.{script_alone, index_alone}
 use Rattle.tcl_words.proofs.Texts.{commands_of-read}
@@ -39,13 +39,13 @@ to_base s base at within cut =
     let most : base + at ≤ length s = cut.0 in
     (omega (arith, most, length-drop base s), λ lt high. let k : 192 ≤ get_or s (base + at) 0 = cut.1 (omega (arith, lt, length-drop base s)) (omega (arith, high, byte)) in omega (arith, k, byte))
 
-moved_cut : (s : List ℕ) (i j : ℕ) → i ≡ j → IsCharBoundary s i → IsCharBoundary s j
+pub moved_cut : (s : List ℕ) (i j : ℕ) → i ≡ j → IsCharBoundary s i → IsCharBoundary s j
 moved_cut s i j e cut = subst (IsCharBoundary s) e cut
 
 -- ── a byte further ──
 
-pub read_on : (s : List ℕ) (ws : List Waiting) (o : Origin) (p new : Parts) (place next : Place) (n skip : ℕ) → IsReading s ws o p place n → n < length (drop o.base s) →
-    Does p new (drop o.base s) n place (move_at (drop o.base s) n o.inside place) (Ok (On skip next)) → IsReading s ws o new next (n + 1 + skip) × (o.base + n < o.base + (n + 1 + skip))
+pub read_on : {first : Origin} (s : List ℕ) (ws : List Waiting) (o : Origin) (p new : Parts) (place next : Place) (n skip : ℕ) → IsReading first s ws o p place n → n < length (drop o.base s) →
+    Does p new (drop o.base s) n place (move_at (drop o.base s) n o.inside place) (Ok (On skip next)) → IsReading first s ws o new next (n + 1 + skip) × (o.base + n < o.base + (n + 1 + skip))
 read_on s ws o p new place next n skip r here does = (
   record {
     chain = r.chain;
@@ -59,10 +59,10 @@ read_on s ws o p new place next n skip r here does = (
   omega arith,
 )
 
-pub read_fault : (s : List ℕ) (ws : List Waiting) (o : Origin) (p new : Parts) (place : Place) (n : ℕ) (fault : ParseFault) → IsReading s ws o p place n → n < length (drop o.base s) →
-    Does p new (drop o.base s) n place (move_at (drop o.base s) n o.inside place) (Err fault) → (own s outset ≡ Err fault) ⊎ (fault ≡ NoMemory)
-read_fault s ws o p new place n fault r here (inl e) = inl (chain_fault s outset o ws fault r.chain (fault_read p (drop o.base s) (level_of o) place n (own s o) fault here r.reads e))
-read_fault s ws o p new place n fault r here (inr e) = inr e
+pub read_fault : {first : Origin} (s : List ℕ) (ws : List Waiting) (o : Origin) (p new : Parts) (place : Place) (n : ℕ) (fault : ParseFault) → IsReading first s ws o p place n → n < length (drop o.base s) →
+    Does p new (drop o.base s) n place (move_at (drop o.base s) n o.inside place) (Err fault) → (own s first ≡ Err fault) ⊎ (fault ≡ NoMemory)
+read_fault {first} s ws o p new place n fault r here (inl e) = inl (chain_fault s first o ws fault r.chain (fault_read p (drop o.base s) (level_of o) place n (own s o) fault here r.reads e))
+read_fault {first} s ws o p new place n fault r here (inr e) = inr e
 
 opener_cut : (s : List ℕ) (base at : ℕ) (opener : Opener) → base ≤ length s → IsOpenerCut (drop base s) at opener → IsOpenerCut s (base + at) opener
 opener_cut s base at opener within cut =
@@ -75,8 +75,8 @@ opener_cut s base at opener within cut =
       first = moved_cut s _ _ g (from_base s base (at + 1 + first_skip opener) within cut.first);
     }
 
-pub read_opening : (s : List ℕ) (ws : List Waiting) (o : Origin) (p new : Parts) (place : Place) (n : ℕ) (opener : Opener) (mode : Mode) → IsReading s ws o p place n → n < length (drop o.base s) →
-    Does p new (drop o.base s) n place (move_at (drop o.base s) n o.inside place) (Ok (Within opener mode)) → IsOpening s ws o new n opener mode
+pub read_opening : {first : Origin} (s : List ℕ) (ws : List Waiting) (o : Origin) (p new : Parts) (place : Place) (n : ℕ) (opener : Opener) (mode : Mode) → IsReading first s ws o p place n → n < length (drop o.base s) →
+    Does p new (drop o.base s) n place (move_at (drop o.base s) n o.inside place) (Ok (Within opener mode)) → IsOpening first s ws o new n opener mode
 read_opening s ws o p new place n opener mode r here does = record {
   chain = r.chain;
   waits = λ some. record {
@@ -96,8 +96,8 @@ inside_ends : (inside : Bool) (s : List ℕ) (place : Place) (n : ℕ) → (move
 inside_ends true s place n e = refl
 inside_ends false s place n e = absurd (none_outside (class_of (slice_index s n)) place (slice_index s n) n (drop (n + 1) s) e)
 
-pub read_ending : (s : List ℕ) (ws : List Waiting) (o : Origin) (p new : Parts) (place : Place) (n : ℕ) → IsReading s ws o p place n → n < length (drop o.base s) →
-    Does p new (drop o.base s) n place (move_at (drop o.base s) n o.inside place) (Ok Ends) → IsEnding s ws o new place n
+pub read_ending : {first : Origin} (s : List ℕ) (ws : List Waiting) (o : Origin) (p new : Parts) (place : Place) (n : ℕ) → IsReading first s ws o p place n → n < length (drop o.base s) →
+    Does p new (drop o.base s) n place (move_at (drop o.base s) n o.inside place) (Ok Ends) → IsEnding first s ws o new place n
 read_ending s ws o p new place n r here does =
     let e : o.base + (n + 1) ≡ o.base + n + 1 = omega arith in
     record {
@@ -111,28 +111,28 @@ read_ending s ws o p new place n r here does =
 
 -- ── into what opens ──
 
-first_fine : (s : List ℕ) (opener : Opener) → IsCharBoundary s (first_skip opener) → IsFine (no_parts (first_skip opener)) s (first_place opener) (first_skip opener)
+pub first_fine : (s : List ℕ) (opener : Opener) → IsCharBoundary s (first_skip opener) → IsFine (no_parts (first_skip opener)) s (first_place opener) (first_skip opener)
 first_fine s Bracket cut = cut
 first_fine s (Index n) cut = record { before = omega arith; boundary = cut; short = omega arith }
 
-pub opening_reads : (s : List ℕ) (ws : List Waiting) (o : Origin) (p : Parts) (n : ℕ) (opener : Opener) (mode : Mode) → IsOpening s ws o p n opener mode → 0 < o.room →
-    IsReading s (ws ++ waits_for o p n opener mode ∷ []) (opened o n opener) (no_parts (first_skip opener)) (first_place opener) (first_skip opener) × (o.base + n < o.base + (n + 1) + first_skip opener)
-opening_reads s ws o p n opener mode r some =
+pub opening_reads : {first : Origin} (s : List ℕ) (ws : List Waiting) (o : Origin) (p : Parts) (n : ℕ) (opener : Opener) (mode : Mode) → IsOpening first s ws o p n opener mode → 0 < o.room →
+    IsReading first s (ws ++ waits_for o p n opener mode ∷ []) (opened o n opener) (no_parts (first_skip opener)) (first_place opener) (first_skip opener) × (o.base + n < o.base + (n + 1) + first_skip opener)
+opening_reads {first} s ws o p n opener mode r some =
     let e : o.base + n + 1 ≡ o.base + (n + 1) = omega arith in
     let f : o.base + n + 1 + first_skip opener ≡ o.base + (n + 1) + first_skip opener = omega arith in
     let base : IsCharBoundary s (o.base + (n + 1)) = moved_cut s _ _ e r.cut.behind in
-    let first : IsCharBoundary s (o.base + (n + 1) + first_skip opener) = moved_cut s _ _ f r.cut.first in
-    let cut : IsCharBoundary (drop (o.base + (n + 1)) s) (first_skip opener) = to_base s (o.base + (n + 1)) (first_skip opener) base.0 first in
+    let begins : IsCharBoundary s (o.base + (n + 1) + first_skip opener) = moved_cut s _ _ f r.cut.first in
+    let cut : IsCharBoundary (drop (o.base + (n + 1)) s) (first_skip opener) = to_base s (o.base + (n + 1)) (first_skip opener) base.0 begins in
     let k : 0 + first_skip opener ≡ first_skip opener = omega arith in
     let level : Level = level_of (opened o n opener) in
     let rest : rest_of (drop (o.base + (n + 1)) s) level (first_skip opener) (first_place opener) 0 ≡ rest_of (drop (first_skip opener) (drop (o.base + (n + 1)) s)) level 0 (first_place opener) (first_skip opener) =
     rest_skip (drop (o.base + (n + 1)) s) level (first_skip opener) (first_place opener) 0 cut.0 ∙ ap (rest_of (drop (first_skip opener) (drop (o.base + (n + 1)) s)) level 0 (first_place opener)) k in (
       record {
-        chain = chain_push s outset o ws (waits_for o p n opener mode) r.chain refl (r.waits some);
+        chain = chain_push s first o ws (waits_for o p n opener mode) r.chain refl (r.waits some);
         reads = ap (joined (no_parts (first_skip opener)) (drop (o.base + (n + 1)) s) (first_place opener) (first_skip opener)) (sym rest);
         fine = first_fine (drop (o.base + (n + 1)) s) opener cut;
         base = base;
-        within = first.0;
+        within = begins.0;
         index = refl;
         room = (let h : o.room ≤ 200 = r.room in omega (arith, h));
       },
@@ -141,7 +141,7 @@ opening_reads s ws o p n opener mode r some =
 
 -- ── out of what ends ──
 
-ended_close : (place : Place) (p : Parts) (n : ℕ) → (ended place p n).close ≡ n
+pub ended_close : (place : Place) (p : Parts) (n : ℕ) → (ended place p n).close ≡ n
 ended_close Start p n = refl
 ended_close Comment p n = refl
 ended_close Between p n = refl
@@ -177,7 +177,7 @@ ended_index PastQuotes p n e = absurd (let h : false ≡ true = e in cc)
 ended_index (InBraces depth) p n e = absurd (let h : false ≡ true = e in cc)
 ended_index PastBraces p n e = absurd (let h : false ≡ true = e in cc)
 
-parse_found : (opener : Opener) (s : List ℕ) (o : Origin) (at n : ℕ) (place : Place) (p : Parts) → IsUtf8 s → length s ≤ 65536 → o.room ≤ 200 → own s (opened o at opener) ≡ Ok (ended place p n) → is_index place ≡ is_index (first_place opener) →
+pub parse_found : (opener : Opener) (s : List ℕ) (o : Origin) (at n : ℕ) (place : Place) (p : Parts) → IsUtf8 s → length s ≤ 65536 → o.room ≤ 200 → own s (opened o at opener) ≡ Ok (ended place p n) → is_index place ≡ is_index (first_place opener) →
     IsCharBoundary s (o.base + (at + 1)) → IsCharBoundary s (o.base + (at + 1) + n) → IsParse opener (drop (o.base + (at + 1)) s) n p × (suc n ≤ length (drop (o.base + (at + 1)) s))
 parse_found Bracket s o at n place p utf8 short room e index base here =
     let text : List ℕ = drop (o.base + (at + 1)) s in
@@ -200,16 +200,16 @@ parse_found (Index m) s o at n place p utf8 short room e index base here =
     )
 
 -- what waits for what has ended
-pub record Popped (s : List ℕ) (ws : List Waiting) (w : Waiting) (p : Parts) (n : ℕ) : Type 0 where
-  pub chain : IsChain s outset ws w.origin
+pub record Popped (first : Origin) (s : List ℕ) (ws : List Waiting) (w : Waiting) (p : Parts) (n : ℕ) : Type 0 where
+  pub chain : IsChain s first ws w.origin
   pub waits : IsWaiting s w
   pub parse : IsParse w.opener (drop (w.origin.base + w.at + 1) s) n p
   pub ends : IsCharBoundary s (w.origin.base + w.at + 1 + n)
   pub past : IsCharBoundary s (w.origin.base + w.at + 1 + n + 1)
 
-pub popped : (s : List ℕ) (ws : List Waiting) (w : Waiting) (o : Origin) (p : Parts) (place : Place) (n : ℕ) → IsUtf8 s → length s ≤ 65536 → IsEnding s (ws ++ w ∷ []) o p place n → Popped s ws w p n
-popped s ws w o p place n utf8 short r =
-    let q : IsChain s outset ws w.origin × IsWaiting s w × (opened w.origin w.at w.opener ≡ o) = chain_pop s outset o ws w r.chain in
+pub popped : {first : Origin} (s : List ℕ) (ws : List Waiting) (w : Waiting) (o : Origin) (p : Parts) (place : Place) (n : ℕ) → IsUtf8 s → length s ≤ 65536 → IsEnding first s (ws ++ w ∷ []) o p place n → Popped first s ws w p n
+popped {first} s ws w o p place n utf8 short r =
+    let q : IsChain s first ws w.origin × IsWaiting s w × (opened w.origin w.at w.opener ≡ o) = chain_pop s first o ws w r.chain in
     let waiting : IsWaiting s w = q.1 in
     let ends : own s (opened w.origin w.at w.opener) ≡ Ok (ended place p n) = ap (own s) q.2 ∙ r.ends in
     let index : is_index place ≡ is_index (first_place w.opener) = r.index ∙ ap (λ x. is_index x.place) (sym q.2) in
@@ -229,10 +229,10 @@ popped s ws w o p place n utf8 short r =
       past = moved_cut s _ _ k r.past;
     }
 
-pub ending_reads : (s : List ℕ) (ws : List Waiting) (w : Waiting) (o : Origin) (p : Parts) (place : Place) (n : ℕ) → IsUtf8 s → length s ≤ 65536 → IsEnding s (ws ++ w ∷ []) o p place n →
-    IsReading s ws w.origin (with_piece w.parts (opened_piece w.opener (drop (w.origin.base + w.at + 1) s) n) (w.at + 1 + n + 1)) (Text w.mode) (w.at + 1 + n + 1) × (o.base + n < w.origin.base + (w.at + 1 + n + 1))
-ending_reads s ws w o p place n utf8 short r =
-    let q : IsChain s outset ws w.origin × IsWaiting s w × (opened w.origin w.at w.opener ≡ o) = chain_pop s outset o ws w r.chain in
+pub ending_reads : {first : Origin} (s : List ℕ) (ws : List Waiting) (w : Waiting) (o : Origin) (p : Parts) (place : Place) (n : ℕ) → IsUtf8 s → length s ≤ 65536 → IsEnding first s (ws ++ w ∷ []) o p place n →
+    IsReading first s ws w.origin (with_piece w.parts (opened_piece w.opener (drop (w.origin.base + w.at + 1) s) n) (w.at + 1 + n + 1)) (Text w.mode) (w.at + 1 + n + 1) × (o.base + n < w.origin.base + (w.at + 1 + n + 1))
+ending_reads {first} s ws w o p place n utf8 short r =
+    let q : IsChain s first ws w.origin × IsWaiting s w × (opened w.origin w.at w.opener ≡ o) = chain_pop s first o ws w r.chain in
     let waiting : IsWaiting s w = q.1 in
     let ends : own s (opened w.origin w.at w.opener) ≡ Ok (ended place p n) = ap (own s) q.2 ∙ r.ends in
     let base : w.origin.base + (w.at + 1) ≡ o.base = ap (λ x. x.base) q.2 in
@@ -262,17 +262,17 @@ ending_reads s ws w o p place n utf8 short r =
 
 -- ── as the code has them ──
 
-pub opening_as : (s : List ℕ) (ws : List Waiting) (o : Origin) (p : Parts) (n : ℕ) (opener : Opener) (mode : Mode) (ws' : List Waiting) (o' : Origin) (p' q : Parts) → IsOpening s ws o p n opener mode → 0 < o.room →
-    ws' ≡ ws ++ waits_for o q n opener mode ∷ [] → q ≡ p → o' ≡ opened o n opener → p' ≡ no_parts o'.skip → IsReading s ws' o' p' o'.place o'.skip × (o.base + n < o'.base + o'.skip)
+pub opening_as : {first : Origin} (s : List ℕ) (ws : List Waiting) (o : Origin) (p : Parts) (n : ℕ) (opener : Opener) (mode : Mode) (ws' : List Waiting) (o' : Origin) (p' q : Parts) → IsOpening first s ws o p n opener mode → 0 < o.room →
+    ws' ≡ ws ++ waits_for o q n opener mode ∷ [] → q ≡ p → o' ≡ opened o n opener → p' ≡ no_parts o'.skip → IsReading first s ws' o' p' o'.place o'.skip × (o.base + n < o'.base + o'.skip)
 opening_as s ws o p n opener mode ws' o' p' q r some ew eq eo ep = rw (ep, eo, ew, eq) (opening_reads s ws o p n opener mode r some)
 
-pub popped_as : (s : List ℕ) (ws ws' : List Waiting) (w : Waiting) (o : Origin) (p : Parts) (place : Place) (n : ℕ) → ws ≡ ws' ++ w ∷ [] → IsUtf8 s → length s ≤ 65536 → IsEnding s ws o p place n → Popped s ws' w p n
-popped_as s ws ws' w o p place n e utf8 short r = popped s ws' w o p place n utf8 short (subst (λ x. IsEnding s x o p place n) e r)
+pub popped_as : {first : Origin} (s : List ℕ) (ws ws' : List Waiting) (w : Waiting) (o : Origin) (p : Parts) (place : Place) (n : ℕ) → ws ≡ ws' ++ w ∷ [] → IsUtf8 s → length s ≤ 65536 → IsEnding first s ws o p place n → Popped first s ws' w p n
+popped_as {first} s ws ws' w o p place n e utf8 short r = popped s ws' w o p place n utf8 short (subst (λ x. IsEnding first s x o p place n) e r)
 
-pub ending_as : (s : List ℕ) (ws ws' : List Waiting) (w : Waiting) (o : Origin) (p : Parts) (place : Place) (n : ℕ) (p' dest : Parts) (x : Piece) → ws ≡ ws' ++ w ∷ [] → IsUtf8 s → length s ≤ 65536 → IsEnding s ws o p place n →
+pub ending_as : {first : Origin} (s : List ℕ) (ws ws' : List Waiting) (w : Waiting) (o : Origin) (p : Parts) (place : Place) (n : ℕ) (p' dest : Parts) (x : Piece) → ws ≡ ws' ++ w ∷ [] → IsUtf8 s → length s ≤ 65536 → IsEnding first s ws o p place n →
     p' ≡ with_piece dest x (w.at + 1 + n + 1) → dest ≡ w.parts → x ≡ opened_piece w.opener (drop (w.origin.base + w.at + 1) s) n →
-    IsReading s ws' w.origin p' (Text w.mode) (w.at + 1 + n + 1) × (o.base + n < w.origin.base + (w.at + 1 + n + 1))
-ending_as s ws ws' w o p place n p' dest x e utf8 short r ep ed ex = rw (ep, ed, ex) (ending_reads s ws' w o p place n utf8 short (subst (λ y. IsEnding s y o p place n) e r))
+    IsReading first s ws' w.origin p' (Text w.mode) (w.at + 1 + n + 1) × (o.base + n < w.origin.base + (w.at + 1 + n + 1))
+ending_as {first} s ws ws' w o p place n p' dest x e utf8 short r ep ed ex = rw (ep, ed, ex) (ending_reads s ws' w o p place n utf8 short (subst (λ y. IsEnding first s y o p place n) e r))
 
 pub step_as : (p new : Parts) (t t' : List ℕ) (n : ℕ) (inside : Bool) (place : Place) (step step' : Step) → t ≡ t' → step ≡ step' → Does p new t n place (move_at t n inside place) (Ok step) → Does p new t' n place (move_at t' n inside place) (Ok step')
 step_as p new t t' n inside place step step' e f does =
@@ -280,7 +280,7 @@ step_as p new t t' n inside place step step' e f does =
 
 -- ── the start and the end of the source ──
 
-pub first_reading : (s : List ℕ) → IsUtf8 s → IsReading s [] outset (no_parts 0) Start 0
+pub first_reading : (s : List ℕ) → IsUtf8 s → IsReading outset s [] outset (no_parts 0) Start 0
 first_reading s utf8 = record {
   chain = refl;
   reads = refl;
@@ -315,18 +315,18 @@ drop_all (x ∷ xs) zero h = absurd (omega (arith, h))
 drop_all (x ∷ xs) (suc n) h = drop_all xs n (omega (arith, h))
 
 -- where nothing is left to read
-end_reads : (s : List ℕ) (ws : List Waiting) (o : Origin) (p : Parts) (place : Place) (n : ℕ) → IsReading s ws o p place n → length s ≤ o.base + n → joined p (drop o.base s) place n (at_end o.inside place n) ≡ own s o
+pub end_reads : {first : Origin} (s : List ℕ) (ws : List Waiting) (o : Origin) (p : Parts) (place : Place) (n : ℕ) → IsReading first s ws o p place n → length s ≤ o.base + n → joined p (drop o.base s) place n (at_end o.inside place n) ≡ own s o
 end_reads s ws o p place n r end =
     let none : drop n (drop o.base s) ≡ [] = drop_all (drop o.base s) n (omega (arith, end, length-drop o.base s)) in
     ap (λ t. joined p (drop o.base s) place n (rest_of t (level_of o) 0 place n)) (sym none) ∙ r.reads
 
-pub unfinished_fault : (s : List ℕ) (ws : List Waiting) (o : Origin) (p : Parts) (place : Place) (n : ℕ) (fault : ParseFault) → IsReading s ws o p place n → length s ≤ o.base + n → o.inside ≡ true → ((at : ℕ) → at_end true place at ≡ Err fault) →
+pub unfinished_fault : (s : List ℕ) (ws : List Waiting) (o : Origin) (p : Parts) (place : Place) (n : ℕ) (fault : ParseFault) → IsReading outset s ws o p place n → length s ≤ o.base + n → o.inside ≡ true → ((at : ℕ) → at_end true place at ≡ Err fault) →
     commands_in (rest_of s outermost 0 Start 0) ≡ Err fault
 unfinished_fault s ws o p place n fault r end inside told =
     let here : own s o ≡ Err fault = sym (end_reads s ws o p place n r end) ∙ ap (λ b. joined p (drop o.base s) place n (at_end b place n)) inside ∙ ap (joined p (drop o.base s) place n) (told n) in
     outset_fault s fault (chain_fault s outset o ws fault r.chain here)
 
-chain_inside : (s : List ℕ) (first o : Origin) (w : Waiting) (ws : List Waiting) → IsChain s first (w ∷ ws) o → o.inside ≡ true
+pub chain_inside : (s : List ℕ) (first o : Origin) (w : Waiting) (ws : List Waiting) → IsChain s first (w ∷ ws) o → o.inside ≡ true
 chain_inside s first o w [] chain = ap (λ x. x.inside) (sym chain.2)
 chain_inside s first o w (v ∷ ws) chain = chain_inside s (opened w.origin w.at w.opener) o v ws chain.2
 
@@ -340,7 +340,7 @@ pub record Finishing (s : List ℕ) (p : Parts) (place : Place) : Type 0 where
   pub script : is_index place ≡ false
   pub reads : joined p s place (length s) (at_end false place (length s)) ≡ own s outset
 
-pub finishing : (s : List ℕ) (ws : List Waiting) (o : Origin) (p : Parts) (place : Place) (n : ℕ) → IsReading s ws o p place n → length s ≤ o.base + n → o.inside ≡ false → Finishing s p place
+pub finishing : (s : List ℕ) (ws : List Waiting) (o : Origin) (p : Parts) (place : Place) (n : ℕ) → IsReading outset s ws o p place n → length s ≤ o.base + n → o.inside ≡ false → Finishing s p place
 finishing s ws o p place n r end outside =
     let first : o ≡ outset = outside_first s ws o r.chain outside in
     let base : o.base ≡ 0 = ap (λ x. x.base) first in

@@ -1,5 +1,5 @@
 -- Scripts and indices within one another: what each gives by itself, and what waits for it.
-use Rattle.std.specs.Prelude.{ℕ, zero, suc, ◌+◌, ◌-◌, ◌≡◌, ◌<◌, ◌≤◌, true, false, List, [], ◌∷◌, length, drop, take, Result, Ok, Err}
+use Rattle.std.specs.Prelude.{ℕ, suc, ◌+◌, ◌-◌, ◌≡◌, ◌<◌, ◌≤◌, Bool, true, false, List, [], ◌∷◌, length, drop, take, Result, Ok, Err}
 use Rattle.std.specs.List.{slice_range}
 use Rattle.std.specs.Str.{IsCharBoundary}
 use Rattle.tcl_words.specs.Reading.{Level, rest_of, first_place, first_skip, opened_piece, commands_of, index_pieces_of}
@@ -53,9 +53,9 @@ IsChain source first [] origin = first ≡ origin
 IsChain source first (waiting ∷ others) origin = (waiting.origin ≡ first) × IsWaiting source waiting × IsChain source (opened waiting.origin waiting.at waiting.opener) others origin
 
 -- What is open gives, with the rest of the text, what it gives by itself. It began so, and reading goes on at this place of
--- it, at this position from its base; these wait for it.
-pub record IsReading (source : List ℕ) (others : List Waiting) (origin : Origin) (parts : Parts) (place : Place) (next : ℕ) : Type 0 where
-  pub chain : IsChain source outset others origin
+-- it, at this position from its base; these wait for it, the outermost of which began first.
+pub record IsReading (first : Origin) (source : List ℕ) (others : List Waiting) (origin : Origin) (parts : Parts) (place : Place) (next : ℕ) : Type 0 where
+  pub chain : IsChain source first others origin
   pub reads : joined parts (drop origin.base source) place next (rest_of (drop next (drop origin.base source)) (level_of origin) 0 place next) ≡ own source origin
   pub fine : IsFine parts (drop origin.base source) place next
   pub base : IsCharBoundary source origin.base
@@ -68,21 +68,26 @@ abbrev pub waits_for : Origin → Parts → ℕ → Opener → Mode → Waiting
 waits_for origin parts at opener mode = record { origin = origin; parts = parts; at = at; opener = opener; mode = mode }
 
 -- a bracket or a parenthesis opens at this position
-pub record IsOpening (source : List ℕ) (others : List Waiting) (origin : Origin) (parts : Parts) (at : ℕ) (opener : Opener) (mode : Mode) : Type 0 where
-  pub chain : IsChain source outset others origin
+pub record IsOpening (first : Origin) (source : List ℕ) (others : List Waiting) (origin : Origin) (parts : Parts) (at : ℕ) (opener : Opener) (mode : Mode) : Type 0 where
+  pub chain : IsChain source first others origin
   pub waits : 0 < origin.room → IsWaiting source (waits_for origin parts at opener mode)
   pub full : origin.room ≡ 0 → own source origin ≡ Err TooLong
   pub room : origin.room ≤ 200
   pub cut : IsOpenerCut source (origin.base + at) opener
 
 -- what is open ends at this position
-pub record IsEnding (source : List ℕ) (others : List Waiting) (origin : Origin) (parts : Parts) (place : Place) (at : ℕ) : Type 0 where
-  pub chain : IsChain source outset others origin
+pub record IsEnding (first : Origin) (source : List ℕ) (others : List Waiting) (origin : Origin) (parts : Parts) (place : Place) (at : ℕ) : Type 0 where
+  pub chain : IsChain source first others origin
   pub inside : origin.inside ≡ true
   pub ends : own source origin ≡ Ok (ended place parts at)
   pub index : is_index place ≡ is_index origin.place
   pub here : IsCharBoundary source (origin.base + at)
   pub past : IsCharBoundary source (origin.base + at + 1)
+
+-- Past a byte: reading goes on, further than before, or what began first has ended there.
+abbrev pub Goes : Bool → Origin → List ℕ → List Waiting → Origin → Parts → Place → ℕ → ℕ → Type 0
+Goes false first source others origin parts place next before = IsReading first source others origin parts place next × (before < origin.base + next)
+Goes true first source others origin parts place next before = (others ≡ []) × IsEnding first source others origin parts place next
 
 -- the parts of what was opened are those of its text, which ends so many bytes behind its base
 abbrev pub IsParse : Opener → List ℕ → ℕ → Parts → Type 0

@@ -4,6 +4,7 @@ pub mod Changes
 pub mod Faults
 pub mod Kinds
 pub mod Moves
+pub mod Operands
 pub mod Reading
 pub mod Falls
 pub mod Parts

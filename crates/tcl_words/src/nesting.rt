@@ -27,6 +27,8 @@ pub struct Waiting {
 /// The script or index that is being read, the place of it from where reading goes on, and those that wait for it.
 #[derive(Drop)]
 pub struct Reader {
+    /// How the outermost of them began.
+    pub first: Origin,
     pub waiting: Vec<Waiting>,
     pub origin: Origin,
     pub parts: Open,

@@ -48,7 +48,7 @@ fn one_behind(source: &str, at: usize) -> usize
 }
 
 /// What the `$` at a place is.
-fn dollar_at(source: &str, at: usize) -> Dollar
+pub fn dollar_at(source: &str, at: usize) -> Dollar
     requires within { at < length source.now }
     ensures form { result ≡ dollar_meant (drop (at + 1) source.now) }
     ensures fits { DollarFits (drop (at + 1) source.now) result }
@@ -178,7 +178,7 @@ fn read_dollar(
 }
 
 /// A byte in a text with substitution.
-fn read_text(
+pub fn read_text(
     parts: &mut Open,
     alloc: Global,
     source: &str,
@@ -511,7 +511,7 @@ fn kind_at(source: &str, at: usize, byte: u8, inside: bool) -> Kind
 }
 
 /// The byte at a place, and what it means there.
-fn look(source: &str, at: usize, inside: bool) -> (u8, Kind)
+pub fn look(source: &str, at: usize, inside: bool) -> (u8, Kind)
     requires within { at < length source.now }
     requires short { length source.now ≤ 65536 }
     ensures stands { StandsAt source.now at result.0 result.1 }

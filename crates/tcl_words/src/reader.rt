@@ -2,9 +2,9 @@
 
 ghost use Rattle.std.specs.Prelude.{◌≡◌, ◌<◌, ◌≤◌, ◌+◌, ◌-◌, ◌⊎◌, [], ◌∷◌, ◌^◌, suc, length, drop, take, true, Ok, Err, IfOk, IfErr, OnOk};
 ghost use Rattle.std.specs.Str.{IsCharBoundary};
-ghost use Rattle.tcl_words.specs.Reading.{commands_in, rest_of, outermost, opened_piece, first_skip};
+ghost use Rattle.tcl_words.specs.Reading.{commands_in, rest_of, outermost as outermost_level, opened_piece, first_skip};
 ghost use Rattle.tcl_words.specs.Parts.{IsOpenerCut, no_parts};
-ghost use Rattle.tcl_words.specs.Chain.{outset, own, opened as opened_origin, IsReading, IsOpening, IsEnding, IsParse};
+ghost use Rattle.tcl_words.specs.Chain.{outset, own, opened as opened_origin, IsReading, IsOpening, IsEnding, IsParse, Goes};
 
 use crate::fault::ParseFault;
 use crate::kind::{Mode, Opener, Place, Step};
@@ -18,8 +18,21 @@ use std::mem;
 /// How many brackets and indices may stand within one another.
 const MAX_DEPTH: usize = 200;
 
+/// How a whole script begins.
+fn outermost() -> Origin
+    ensures { result ≡ outset }
+{
+    Origin {
+        base: 0,
+        inside: false,
+        room: MAX_DEPTH,
+        skip: 0,
+        place: Place::Start,
+    }
+}
+
 /// How what is opened at a place begins.
-fn opened(origin: Origin, at: usize, opener: Opener) -> Origin
+pub fn opened(origin: Origin, at: usize, opener: Opener) -> Origin
     requires room { 0 < origin.room }
     requires within { origin.base + at < 65536 }
     requires name { first_skip opener ≤ 65536 }
@@ -39,7 +52,7 @@ fn opened(origin: Origin, at: usize, opener: Opener) -> Origin
 }
 
 /// The piece whose opener stands at a place of the source, and that ends so many bytes behind it.
-fn piece_of(
+pub fn piece_of(
     alloc: Global,
     source: &str,
     at: usize,
@@ -71,26 +84,22 @@ fn piece_of(
 }
 
 impl Reader {
-    /// A script, of which nothing is read yet.
-    fn new(alloc: Global) -> Reader
+    /// What begins so, of which nothing is read yet.
+    pub fn new(alloc: Global, first: Origin) -> Reader
+        ensures first { result.first ≡ first }
         ensures waiting { result.waiting.items ≡ [] }
-        ensures origin { result.origin ≡ outset }
-        ensures parts { result.parts ≡ no_parts 0 }
-        ensures place { result.place ≡ Place.Start }
-        ensures next { result.next ≡ 0 }
+        ensures origin { result.origin ≡ first }
+        ensures parts { result.parts ≡ no_parts first.skip }
+        ensures place { result.place ≡ first.place }
+        ensures next { result.next ≡ first.skip }
     {
         Reader {
+            first,
             waiting: Vec::new(alloc),
-            origin: Origin {
-                base: 0,
-                inside: false,
-                room: MAX_DEPTH,
-                skip: 0,
-                place: Place::Start,
-            },
-            parts: Open::new(alloc, 0),
-            place: Place::Start,
-            next: 0,
+            origin: first,
+            parts: Open::new(alloc, first.skip),
+            place: first.place,
+            next: first.skip,
         }
     }
 
@@ -103,9 +112,10 @@ impl Reader {
         mode: Mode,
     ) -> Result<(), ParseFault>
         requires short { length source.now ≤ 65536 }
-        requires opening { IsOpening source.now self.old.waiting.items self.old.origin self.old.parts self.old.next opener mode }
-        ensures ok { OnOk result (IsReading source.now self.new.waiting.items self.new.origin self.new.parts self.new.place self.new.next × (self.old.origin.base + self.old.next < self.new.origin.base + self.new.next)) }
-        ensures fault { IfErr result (λ fault. (own source.now outset ≡ Err fault) ⊎ (fault ≡ ParseFault.NoMemory)) }
+        requires opening { IsOpening self.old.first source.now self.old.waiting.items self.old.origin self.old.parts self.old.next opener mode }
+        ensures ok { OnOk result (IsReading self.old.first source.now self.new.waiting.items self.new.origin self.new.parts self.new.place self.new.next × (self.old.origin.base + self.old.next < self.new.origin.base + self.new.next)) }
+        ensures fault { IfErr result (λ fault. (own source.now self.old.first ≡ Err fault) ⊎ (fault ≡ ParseFault.NoMemory)) }
+        ensures first { self.new.first ≡ self.old.first }
     {
         if self.origin.room == 0 {
             return Err(ParseFault::TooLong);
@@ -128,9 +138,11 @@ impl Reader {
     /// What is open ends at the next byte, and what waits for it goes on.
     fn end_within(&mut self, alloc: Global, source: &str) -> Result<(), ParseFault>
         requires short { length source.now ≤ 65536 }
-        requires ending { IsEnding source.now self.old.waiting.items self.old.origin self.old.parts self.old.place self.old.next }
-        ensures ok { OnOk result (IsReading source.now self.new.waiting.items self.new.origin self.new.parts self.new.place self.new.next × (self.old.origin.base + self.old.next < self.new.origin.base + self.new.next)) }
+        requires waits { 0 < length self.old.waiting.items }
+        requires ending { IsEnding self.old.first source.now self.old.waiting.items self.old.origin self.old.parts self.old.place self.old.next }
+        ensures ok { OnOk result (IsReading self.old.first source.now self.new.waiting.items self.new.origin self.new.parts self.new.place self.new.next × (self.old.origin.base + self.old.next < self.new.origin.base + self.new.next)) }
         ensures fault { IfErr result (λ fault. fault ≡ ParseFault.NoMemory) }
+        ensures first { self.new.first ≡ self.old.first }
     {
         let Some(waiting) = self.waiting.pop() else {
             unreachable!()
@@ -147,13 +159,14 @@ impl Reader {
         Ok(())
     }
 
-    /// The next byte.
-    fn read_next(&mut self, alloc: Global, source: &str) -> Result<(), ParseFault>
+    /// The next byte, and whether what began first has ended there.
+    pub fn read_next(&mut self, alloc: Global, source: &str) -> Result<bool, ParseFault>
         requires short { length source.now ≤ 65536 }
-        requires reading { IsReading source.now self.old.waiting.items self.old.origin self.old.parts self.old.place self.old.next }
+        requires reading { IsReading self.old.first source.now self.old.waiting.items self.old.origin self.old.parts self.old.place self.old.next }
         requires within { self.old.origin.base + self.old.next < length source.now }
-        ensures ok { OnOk result (IsReading source.now self.new.waiting.items self.new.origin self.new.parts self.new.place self.new.next × (self.old.origin.base + self.old.next < self.new.origin.base + self.new.next)) }
-        ensures fault { IfErr result (λ fault. (own source.now outset ≡ Err fault) ⊎ (fault ≡ ParseFault.NoMemory)) }
+        ensures ok { IfOk result (λ ended. Goes ended self.old.first source.now self.new.waiting.items self.new.origin self.new.parts self.new.place self.new.next (self.old.origin.base + self.old.next)) }
+        ensures fault { IfErr result (λ fault. (own source.now self.old.first ≡ Err fault) ⊎ (fault ≡ ParseFault.NoMemory)) }
+        ensures first { self.new.first ≡ self.old.first }
     {
         let text = &source[self.origin.base..];
         let inside = self.origin.inside;
@@ -162,15 +175,18 @@ impl Reader {
             Step::On(skip, place) => {
                 self.next = self.next + 1 + skip;
                 self.place = place;
-                Ok(())
+                Ok(false)
             }
             Step::Within(opener, mode) => {
                 self.open_within(alloc, source, opener, mode)?;
-                Ok(())
+                Ok(false)
             }
             Step::Ends => {
+                if self.waiting.is_empty() {
+                    return Ok(true);
+                }
                 self.end_within(alloc, source)?;
-                Ok(())
+                Ok(false)
             }
         }
     }
@@ -178,10 +194,10 @@ impl Reader {
     /// The source ends.
     fn finish(mut self, alloc: Global, source: &str) -> Result<Vec<Command>, ParseFault>
         requires short { length source.now ≤ 65536 }
-        requires reading { IsReading source.now self.waiting.items self.origin self.parts self.place self.next }
+        requires reading { IsReading outset source.now self.waiting.items self.origin self.parts self.place self.next }
         requires end { length source.now ≤ self.origin.base + self.next }
-        ensures commands { IfOk result (λ commands. commands_in (rest_of source.now outermost 0 Place.Start 0) ≡ Ok commands.items) }
-        ensures fault { IfErr result (λ fault. (commands_in (rest_of source.now outermost 0 Place.Start 0) ≡ Err fault) ⊎ (fault ≡ ParseFault.NoMemory)) }
+        ensures commands { IfOk result (λ commands. commands_in (rest_of source.now outermost_level 0 Place.Start 0) ≡ Ok commands.items) }
+        ensures fault { IfErr result (λ fault. (commands_in (rest_of source.now outermost_level 0 Place.Start 0) ≡ Err fault) ⊎ (fault ≡ ParseFault.NoMemory)) }
     {
         if self.origin.inside {
             return Err(unfinished(self.place));
@@ -194,12 +210,15 @@ impl Reader {
 /// The commands of a text, in one pass over its bytes.
 pub fn read_all(alloc: Global, source: &str) -> Result<Vec<Command>, ParseFault>
     requires { length source.now ≤ 65536 }
-    ensures commands { IfOk result (λ commands. commands_in (rest_of source.now outermost 0 Place.Start 0) ≡ Ok commands.items) }
-    ensures fault { IfErr result (λ fault. (commands_in (rest_of source.now outermost 0 Place.Start 0) ≡ Err fault) ⊎ (fault ≡ ParseFault.NoMemory)) }
+    ensures commands { IfOk result (λ commands. commands_in (rest_of source.now outermost_level 0 Place.Start 0) ≡ Ok commands.items) }
+    ensures fault { IfErr result (λ fault. (commands_in (rest_of source.now outermost_level 0 Place.Start 0) ≡ Err fault) ⊎ (fault ≡ ParseFault.NoMemory)) }
 {
-    let mut reader = Reader::new(alloc);
+    let mut reader = Reader::new(alloc, outermost());
     while reader.origin.base + reader.next < source.len() {
-        reader.read_next(alloc, source)?;
+        if reader.read_next(alloc, source)? {
+            // A whole script ends with its text alone.
+            unreachable!()
+        }
     }
     let commands = reader.finish(alloc, source)?;
     Ok(commands)

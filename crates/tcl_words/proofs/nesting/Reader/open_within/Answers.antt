@@ -1,12 +1,11 @@
 use Rattle.std.proofs.Common.{◌∙◌, inl, arith}
-use Rattle.tcl_words.specs.Chain.{outset}
 use Rattle.tcl_words.specs.declared.fault.ParseFault.TheVariants.{TooLong}
 use Rattle.tcl_words.proofs.Nests.{chain_fault}
 use Rattle.tcl_words.proofs.Readers.{opening_as}
 use Rattle.tcl_words.proofs.nesting.Reader.open_within.Goals as goal
 
 pub returns-then-self-eq0-clause-fault : goal.returns-then-self-eq0-clause-fault
-returns-then-self-eq0-clause-fault c = inl (chain_fault c.args.source.now outset c.args.self.now.origin c.args.self.now.waiting.items TooLong c.requires.opening.chain (c.requires.opening.full c.if-self-eq0.true))
+returns-then-self-eq0-clause-fault c = inl (chain_fault c.args.source.now c.args.self.now.first c.args.self.now.origin c.args.self.now.waiting.items TooLong c.requires.opening.chain (c.requires.opening.full c.if-self-eq0.true))
 
 pub returns-clause-ok : goal.returns-clause-ok
 returns-clause-ok c =

@@ -1,5 +1,6 @@
-use Rattle.std.proofs.Common.{arith, subst, drop, Ok, Err}
+use Rattle.std.proofs.Common.{arith, subst, drop, Err}
 use Rattle.std.proofs.lemmas.List.{length-drop}
+use Rattle.std.proofs.lemmas.Grind.{common_steps}
 use Rattle.std.proofs.lemmas.Result.{err_from_is_err_and}
 use Rattle.tcl_words.specs.Parts.{Does}
 use Rattle.tcl_words.specs.Moves.{move_at}
@@ -22,3 +23,6 @@ open_within-requires-clause-opening c = read_opening c.args.source.now c.args.se
 
 pub end_within-requires-clause-ending : goal.end_within-requires-clause-ending
 end_within-requires-clause-ending c = read_ending c.args.source.now c.args.self.now.waiting.items c.args.self.now.origin c.args.self.now.parts c.read_byte.new.parts c.args.self.now.place c.args.self.now.next c.requires.reading (omega (arith, c.requires.within, length-drop c.args.self.now.origin.base c.args.source.now)) (step_as c.args.self.now.parts c.read_byte.new.parts c.range_from-text.result.now (drop c.args.self.now.origin.base c.args.source.now) c.args.self.now.next c.args.self.now.origin.inside c.args.self.now.place c.in_ok-step.step (Ends) c.range_from-text.ensures.value c.in-Ends.is c.in_ok-step.ensures)
+
+pub returns-then-is_empty-clause-ok : goal.returns-then-is_empty-clause-ok
+returns-then-is_empty-clause-ok c = (grind (arith, common_steps, c.is_empty.ensures, c.if-is_empty.true), read_ending c.args.source.now c.args.self.now.waiting.items c.args.self.now.origin c.args.self.now.parts c.read_byte.new.parts c.args.self.now.place c.args.self.now.next c.requires.reading (omega (arith, c.requires.within, length-drop c.args.self.now.origin.base c.args.source.now)) (step_as c.args.self.now.parts c.read_byte.new.parts c.range_from-text.result.now (drop c.args.self.now.origin.base c.args.source.now) c.args.self.now.next c.args.self.now.origin.inside c.args.self.now.place c.in_ok-step.step (Ends) c.range_from-text.ensures.value c.in-Ends.is c.in_ok-step.ensures))

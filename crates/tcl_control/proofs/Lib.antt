@@ -1,3 +1,1 @@
-pub mod AssignLemmas
 pub mod CallLemmas
-pub mod ChoiceLemmas

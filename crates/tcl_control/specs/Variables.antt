@@ -43,8 +43,11 @@ place_of levels store None = None
 abbrev pub upvar_at : List ℕ → List ℕ → List (List ℕ) → Store → Ending
 upvar_at levels word names store = linked_ending word names (here levels store) store (place_of levels store (levels_left (length levels) word))
 
+abbrev pub upvar_usage : List ℕ
+upvar_usage = codes "upvar ?level? other mine ?other mine ..?"
+
 abbrev pub upvar_misused : Store → Ending
-upvar_misused store = record { store = store; code = Error; text = wrong_words (codes "upvar ?level? other mine ?other mine ..?") }
+upvar_misused store = record { store = store; code = Error; text = wrong_words upvar_usage }
 
 -- an odd count of words has a level; otherwise it is one up
 abbrev pub upvar_with : List ℕ → List ℕ → List (List ℕ) → Store → Ending

@@ -19,11 +19,11 @@ fn fails(text: Text) -> Plan
     Plan::Ends(Code::Error, text)
 }
 
-fn otherwise_plan(alloc: Global, otherwise: Option<Text>) -> Result<Plan, AllocError>
-    ensures { IfOk result (λ plan. plan ≡ otherwise_plan otherwise) }
+fn otherwise_plan(alloc: Global, otherwise: &Option<Text>) -> Result<Plan, AllocError>
+    ensures { IfOk result (λ plan. plan ≡ otherwise_plan otherwise.now) }
 {
     match otherwise {
-        Some(body) => Ok(Plan::Runs(Source::of_text(body))),
+        Some(body) => Ok(Plan::Runs(Source::of_text(body.copy()?))),
         None => Ok(Plan::Ends(Code::Normal, fixed(alloc, "")?)),
     }
 }
@@ -34,18 +34,20 @@ fn chosen(
     scopes: &Scopes,
     level: usize,
     branches: &[Branch],
-    otherwise: Option<Text>,
+    otherwise: &Option<Text>,
 ) -> Result<Plan, AllocError>
     requires { level < length scopes.now }
-    ensures { IfOk result (λ plan. plan ≡ chosen level scopes.now branches.now otherwise) }
+    ensures { IfOk result (λ plan. plan ≡ chosen level scopes.now branches.now otherwise.now) }
 {
-    for branch in branches {
+    let mut rest = branches;
+    while let [branch, others @ ..] = rest {
         let condition = Condition::of(alloc, &branch.test)?;
         match condition.value(alloc, scopes, level)? {
             Ok(true) => return Ok(Plan::Runs(Source::of_text(branch.body.copy()?))),
             Ok(false) => {}
             Err(text) => return Ok(fails(text)),
         }
+        rest = others;
     }
     let plan = otherwise_plan(alloc, otherwise)?;
     Ok(plan)
@@ -67,7 +69,7 @@ pub fn if_plan(
                 branches,
                 otherwise,
             } = choices;
-            let plan = chosen(alloc, scopes, level, branches.as_slice(), otherwise)?;
+            let plan = chosen(alloc, scopes, level, branches.as_slice(), &otherwise)?;
             Ok(plan)
         }
         None => Ok(fails(fixed(

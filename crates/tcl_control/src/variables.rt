@@ -1,6 +1,6 @@
 //! The commands on variables, at the level of the script that calls them.
 ghost use Rattle.std.specs.Prelude.{◌≡◌, ◌<◌, length, IfOk};
-ghost use Rattle.tcl_vars.specs.Store.{Store};
+ghost use Rattle.tcl_table.specs.Texts.{wrong_words};
 ghost use Rattle.tcl_control.specs.Variables as spec;
 
 use crate::code::Code;
@@ -81,7 +81,7 @@ fn upvar_at(
 }
 
 fn upvar_misused(alloc: Global) -> Result<End, AllocError>
-    ensures { IfOk result (λ end. (store : Store) → record { store = store; code = end.code; text = end.text } ≡ spec.upvar_misused store) }
+    ensures { IfOk result (λ end. end ≡ record { code = Code.Error; text = wrong_words spec.upvar_usage }) }
 {
     Ok(error_end(fixed(
         alloc,

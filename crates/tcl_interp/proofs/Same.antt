@@ -70,7 +70,7 @@ begin_some room text waits =
     let some : (suc room == 0) ≡ false = grind (arith, nat_tests) in
     rw (some, less) refl
 
-pub element_begins_some : {K : Type 0} (room depth : ℕ) (name index : List ℕ) → element_begins {K} room (suc depth) name index ≡ index_begins room depth name (index_pieces index)
+pub element_begins_some : {K : Type 0} (room depth : ℕ) (name index : List ℕ) → element_begins {K = K} room (suc depth) name index ≡ index_begins room depth name (index_pieces index)
 element_begins_some room depth name index =
     let less : suc depth - 1 ≡ depth = omega arith in
     let some : (suc depth == 0) ≡ false = grind (arith, nat_tests) in

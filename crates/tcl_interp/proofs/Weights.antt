@@ -139,14 +139,15 @@ module _ {K : Type 0} where
   more_light waits whole go bound (Ok more) h = h (whole ++ more)
   more_light waits whole go bound (Err text) h = omega arith
 
-  index_begins_light : (room depth : ℕ) (name : List ℕ) (pieces : Result (List Piece) ParseFault) → doing_weight (index_begins room depth name pieces) ≤ index_weight (script_weight room) (element_weight (script_weight room) depth) pieces
-  index_begins_light room depth name (Ok pieces) = omega arith
-  index_begins_light room depth name (Err fault) = omega arith
+  index_begins_light : (room depth : ℕ) (name : List ℕ) (pieces : Result (List Piece) ParseFault) (waits : List (Waiting K))
+      → weight (moved (index_begins room depth name pieces) waits) ≤ index_weight (script_weight room) (element_weight (script_weight room) depth) pieces + waits_weight waits
+  index_begins_light room depth name (Ok pieces) waits = omega arith
+  index_begins_light room depth name (Err fault) waits = omega arith
 
-  part_light : (room depth : ℕ) (part : Part) → doing_weight (part_begins room depth part) ≤ part_weight (script_weight room) (element_weight (script_weight room) depth) part
-  part_light room depth (Script script) = omega arith
-  part_light room zero (ElementOf name index) = omega arith
-  part_light room (suc depth) (ElementOf name index) = rw (element_begins_some room depth name index) (index_begins_light room depth name (index_pieces index))
+  part_light : (room depth : ℕ) (part : Part) (waits : List (Waiting K)) → weight (moved (part_begins room depth part) waits) ≤ part_weight (script_weight room) (element_weight (script_weight room) depth) part + waits_weight waits
+  part_light room depth (Script script) waits = omega arith
+  part_light room zero (ElementOf name index) waits = omega arith
+  part_light room (suc depth) (ElementOf name index) waits = rw (element_begins_some {K = K} room depth name index) (index_begins_light room depth name (index_pieces index) waits)
 
   word_light : (room : ℕ) (after : List Command) (expand : Bool) (words : List Word) (whole : List (List ℕ)) (waits : List (Waiting K)) (go : List (List ℕ) → Moved K) (bound : ℕ) (end : WordEnd)
       → ((more : List (List ℕ)) → weight (go more) ≤ 2 + (words_weight (script_weight room) words + (commands_weight (script_weight room) after + waits_weight waits)))
@@ -157,7 +158,8 @@ module _ {K : Type 0} where
       more_light waits whole go (words_weight (script_weight room) words + commands_weight (script_weight room) after) (words_of expand text) (λ all. omega (arith, h all)) in
       omega arith
   word_light room after expand words whole waits go bound (Failed text) h w = omega arith
-  word_light room after expand words whole waits go bound (AtPart part pieces so_far) h w = omega (arith, part_light room index_depth part)
+  word_light room after expand words whole waits go bound (AtPart part pieces so_far) h w =
+      omega (arith, part_light room index_depth part (ForPart (record { room = room; after = after; whole = whole; so_far = so_far; expand = expand; pieces = pieces; words = words }) ∷ waits))
 
   words_light : (level : ℕ) (store : Store) (room : ℕ) (after : List Command) (words : List Word) (whole : List (List ℕ)) (waits : List (Waiting K))
       → weight (words_move level store room after words whole waits) ≤ 2 + (words_weight (script_weight room) words + (commands_weight (script_weight room) after + waits_weight waits))
@@ -168,24 +170,25 @@ module _ {K : Type 0} where
       word_light room after word.expand words whole waits (λ more. words_move level store room after words more waits) (word_weight (script_weight room) word.pieces) (word_end level store word.pieces []) (λ more. words_light level store room after words more waits) (end_weighs (script_weight room) (element_weight (script_weight room) index_depth) level store word.pieces []) in
       omega arith
 
-  element_light : (name : List ℕ) (value : Result (List ℕ) ReadFault) → doing_weight {K} (element_end name value) ≤ 1
-  element_light name (Ok value) = omega arith
-  element_light name (Err fault) = omega arith
+  element_light : (name : List ℕ) (value : Result (List ℕ) ReadFault) (waits : List (Waiting K)) → weight (moved (element_end name value) waits) ≤ 1 + waits_weight waits
+  element_light name (Ok value) waits = omega arith
+  element_light name (Err fault) waits = omega arith
 
   index_light : (level : ℕ) (store : Store) (x : Indexing) (waits : List (Waiting K)) (bound : ℕ) (end : WordEnd) → EndWeighs (script_weight x.room) (element_weight (script_weight x.room) x.depth) bound end
       → weight (index_move level store x waits end) < 2 + (bound + waits_weight waits)
-  index_light level store x waits bound (Whole index) w = omega (arith, element_light (element_name x.name index) (element_in store level x.name index))
+  index_light level store x waits bound (Whole index) w = omega (arith, element_light (element_name x.name index) (element_in store level x.name index) waits)
   index_light level store x waits bound (Failed text) w = omega arith
-  index_light level store x waits bound (AtPart part pieces so_far) w = omega (arith, part_light x.room x.depth part)
+  index_light level store x waits bound (AtPart part pieces so_far) w = omega (arith, part_light x.room x.depth part (ForIndex (record x { so_far = so_far; pieces = pieces }) ∷ waits))
 
-  pub indexes_lighter : (level : ℕ) (store : Store) (x : Indexing) (waits : List (Waiting K)) → weight (indexes_move level store x waits) < doing_weight (Indexes x) + waits_weight waits
+  pub indexes_lighter : (level : ℕ) (store : Store) (x : Indexing) (waits : List (Waiting K)) → weight (indexes_move level store x waits) < weight (moved (Indexes x) waits)
   indexes_lighter level store x waits =
       omega (arith, index_light level store x waits (pieces_weight (script_weight x.room) (element_weight (script_weight x.room) x.depth) x.pieces) (word_end level store x.pieces x.so_far)
       (end_weighs (script_weight x.room) (element_weight (script_weight x.room) x.depth) level store x.pieces x.so_far))
 
-  longer_light : (x : Indexing) (so_far : List ℕ) (b : Bool) → doing_weight {K} (cond b (Indexes (record x { so_far = so_far })) (Ends Error limit_text)) ≤ 2 + pieces_weight (script_weight x.room) (element_weight (script_weight x.room) x.depth) x.pieces
-  longer_light x so_far true = omega arith
-  longer_light x so_far false = omega arith
+  longer_light : (x : Indexing) (so_far : List ℕ) (b : Bool) (waits : List (Waiting K))
+      → weight (moved (cond b (Indexes (record x { so_far = so_far })) (Ends Error limit_text)) waits) ≤ (2 + pieces_weight (script_weight x.room) (element_weight (script_weight x.room) x.depth) x.pieces) + waits_weight waits
+  longer_light x so_far true waits = omega arith
+  longer_light x so_far false waits = omega arith
 
   parsed_light : (room : ℕ) (waits : List (Waiting K)) (script : Result (List Command) ParseFault) → weight (parsed_move room waits script) < parsed_weight (script_weight room) script + waits_weight waits
   parsed_light room waits (Ok commands) = omega arith
@@ -248,7 +251,7 @@ module _ {K : Type 0} where
   end_lighter store context (Return code) text (ForPart w) waits = omega arith
   end_lighter store context Break text (ForPart w) waits = omega arith
   end_lighter store context Continue text (ForPart w) waits = omega arith
-  end_lighter store context Normal text (ForIndex x) waits = omega (arith, longer_light x (x.so_far ++ text) (nat_le (length (x.so_far ++ text)) 65536))
+  end_lighter store context Normal text (ForIndex x) waits = omega (arith, longer_light x (x.so_far ++ text) (nat_le (length (x.so_far ++ text)) 65536) waits)
   end_lighter store context Error text (ForIndex x) waits = omega arith
   end_lighter store context (Return code) text (ForIndex x) waits = omega arith
   end_lighter store context Break text (ForIndex x) waits = omega arith
@@ -307,7 +310,7 @@ module _ {K : Type 0} (size : K → ℕ) where
   part_begins_tasks : (room depth : ℕ) (part : Part) → doing_tasks (part_begins room depth part) ≡ 0
   part_begins_tasks room depth (Script script) = refl
   part_begins_tasks room zero (ElementOf name index) = refl
-  part_begins_tasks room (suc depth) (ElementOf name index) = ap doing_tasks (element_begins_some room depth name index) ∙ index_begins_tasks room depth name (index_pieces index)
+  part_begins_tasks room (suc depth) (ElementOf name index) = ap doing_tasks (element_begins_some {K = K} room depth name index) ∙ index_begins_tasks room depth name (index_pieces index)
 
   word_tasks : (room : ℕ) (after : List Command) (expand : Bool) (words : List Word) (whole : List (List ℕ)) (waits : List (Waiting K)) (go : List (List ℕ) → Moved K) (end : WordEnd)
       → ((more : List (List ℕ)) → tasks (go more) ≡ waits_tasks waits) → tasks (word_move room after expand words whole waits go end) ≡ waits_tasks waits

@@ -345,6 +345,7 @@ fn put_words_past<K: Drop>(
 }
 
 /// The element of this array is to be read, with indices at most so deep in its index.
+#[tactic(auto, unfolding(crate::specs::Evaluation::index_pieces))]
 fn element_begins<K: Drop>(
     alloc: Global,
     room: u64,
@@ -360,7 +361,7 @@ fn element_begins<K: Drop>(
             text: fault_text(alloc, ParseFault::TooLong)?,
         });
     }
-    let _pieces = pieces_of(&index);
+    let _pieces = index.pieces();
     Ok(Now::Indexes(Indexing {
         room,
         depth: depth - 1,

@@ -8,3 +8,5 @@ pub mod CloseLemmas
 pub mod StandLemmas
 pub mod ReadLemmas
 pub mod FloorLemmas
+pub mod TextLemmas
+pub mod OperandLemmas

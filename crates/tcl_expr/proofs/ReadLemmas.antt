@@ -1,6 +1,8 @@
 -- Lemmas on reading a whole text.
-use Rattle.std.proofs.Common.{◌≡◌, ◌≤◌, ◌<◌, ℕ, min, true, false, List, [], ◌∷◌, length, drop, nat_lt, refl, sym, ap, ◌∙◌, ◌⊎◌, inl, inr, arith, Ok, Err, Result, IsOk}
+use Rattle.std.proofs.Common.{◌≡◌, ◌≤◌, ◌<◌, ℕ, zero, suc, ◌+◌, ◌-◌, min, true, false, List, [], ◌∷◌, length, drop, slice_index, nat_lt, refl, sym, ap, subst, ◌∙◌, ◌⊎◌, inl, inr, arith, Ok, Err, Result, IsOk}
 use Rattle.std.proofs.lemmas.Bool.Decides.{nat_tests}
+use Rattle.std.proofs.lemmas.List.{drop-drop, length-drop}
+use Rattle.std.proofs.Math.Seq.{drop-cons}
 use Rattle.std.specs.Str.{IsUtf8, is_utf8}
 use Rattle.std.proofs.lemmas.Str.{is_utf8-from_IsUtf8, IsUtf8-from_is_utf8}
 use Rattle.tcl_expr.specs.declared.fault.ExprFault.{ExprFault}
@@ -54,6 +56,31 @@ pub token_fails : (old new : Parser) (b : ℕ) (behind : List ℕ) (fault : Expr
 token_fails old new b behind fault whole (inl refused) still = inr refused
 token_fails old new b behind fault whole (inr fails) (place, before, stands, reads) =
     inl (sym reads ∙ token_move b behind place before ∙ ap (λ m. on_move m (λ further next left. reading further next left behind)) (fails place before stands))
+
+-- the same at a position of the text
+pub at_position : (text : List ℕ) (at : ℕ) → at < length text → drop at text ≡ slice_index text at ∷ drop (at + 1) text
+at_position text at within = let e : suc at ≡ at + 1 = omega arith in drop-cons text at 0 within ∙ ap (λ n. slice_index text at ∷ drop n text) e
+
+pub token_at : (old new : Parser) (text : List ℕ) (at skip count : ℕ) (whole : Result Tree ExprFault) → at < length text → count ≡ min skip (length text - at - 1) →
+    TakesToken old (Ok skip) new (drop at text) → StillReads old (drop at text) whole → StillReads new (drop (at + 1 + count) text) whole
+token_at old new text at skip count whole within e takes still =
+    let cut : drop at text ≡ slice_index text at ∷ drop (at + 1) text = at_position text at within in
+    let f : count ≡ min skip (length (drop (at + 1) text)) = omega (arith, e, within, length-drop (at + 1) text) in
+    subst (λ t. StillReads new t whole) (drop-drop count (at + 1) text)
+    (token_on old new (slice_index text at) (drop (at + 1) text) skip count whole f (subst (λ t. TakesToken old (Ok skip) new t) cut takes) (subst (λ t. StillReads old t whole) cut still))
+
+pub token_fails_at : (old new : Parser) (text : List ℕ) (at : ℕ) (fault : ExprFault) (whole : Result Tree ExprFault) → at < length text →
+    TakesToken old (Err fault) new (drop at text) → StillReads old (drop at text) whole → IsFaultOrMemory whole fault
+token_fails_at old new text at fault whole within takes still =
+    let cut : drop at text ≡ slice_index text at ∷ drop (at + 1) text = at_position text at within in
+    token_fails old new (slice_index text at) (drop (at + 1) text) fault whole (subst (λ t. TakesToken old (Err fault) new t) cut takes) (subst (λ t. StillReads old t whole) cut still)
+
+-- where nothing is left
+pub nothing_left : (text : List ℕ) (at : ℕ) → length text ≤ at → drop at text ≡ []
+nothing_left [] zero h = refl
+nothing_left [] (suc n) h = refl
+nothing_left (x ∷ text) zero h = absurd (omega (arith, h))
+nothing_left (x ∷ text) (suc n) h = nothing_left text n (omega (arith, h))
 
 whole_steps : (read : Result Tree ExprFault) (steps : List Step) → IsWhole read steps → compiled_by read ≡ Ok steps
 whole_steps (Ok tree) steps e = ap Ok (sym e)

@@ -74,14 +74,14 @@ module _ (old new : Parser) (opened : List Open) (steps : List Step) (level : �
       subst (λ (open_ones : List Opened). StandsNext new (at_close open_ones (close level before tree).tree)) (sym k.1)
       (record { holds = record { marks = eo ∙ o.marks; steps_are = es ∙ o.steps_are }; counted = ep ∙ omega (arith, n); due = due ∙ s.due })
 
--- an operand of one step stands where it was due
-pub operand_stands : (old new : Parser) (own : Step) (tree : Tree) (before : List Opened) → steps_of tree ≡ own ∷ [] → new.steps.items ≡ old.steps.items ++ own ∷ [] →
+-- an operand stands where it was due
+pub operand_stands : (old new : Parser) (own : List Step) (tree : Tree) (before : List Opened) → steps_of tree ≡ own → new.steps.items ≡ old.steps.items ++ own →
     new.opened.items ≡ old.opened.items → new.parens ≡ old.parens → new.is_due ≡ false → Stands old AtOperand before → Stands new (AtOperator tree) before
 operand_stands old new own tree before one es eo ep due s =
     record {
       holds = record {
         marks = eo ∙ s.holds.marks;
-        steps_are = es ∙ ap (λ l. l ++ own ∷ []) (s.holds.steps_are ∙ append_nil (written before)) ∙ ap (λ l. written before ++ l) (sym one);
+        steps_are = es ∙ ap (λ l. l ++ own) (s.holds.steps_are ∙ append_nil (written before)) ∙ ap (λ l. written before ++ l) (sym one);
       };
       counted = ep ∙ s.counted;
       due = due;

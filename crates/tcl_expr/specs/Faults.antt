@@ -5,7 +5,9 @@ use Rattle.tcl_text.specs.declared.splitting.SplitFault.TheVariants.{BadList as 
 use Rattle.tcl_text.specs.declared.text.TextFault.{TextFault}
 use Rattle.tcl_text.specs.declared.text.TextFault.TheVariants.{TooLong as TextTooLong, NoMemory as TextNoMemory}
 use Rattle.tcl_expr.specs.declared.fault.ExprFault.{ExprFault}
-use Rattle.tcl_expr.specs.declared.fault.ExprFault.TheVariants.{TooLong as ParseTooLong, NoMemory as ParseNoMemory}
+use Rattle.tcl_expr.specs.declared.fault.ExprFault.TheVariants as parse
+use Rattle.tcl_words.specs.declared.fault.ParseFault.{ParseFault}
+use Rattle.tcl_words.specs.declared.fault.ParseFault.TheVariants as script
 use Rattle.tcl_expr.specs.declared.fault.EvalFault.{EvalFault}
 use Rattle.tcl_expr.specs.declared.fault.EvalFault.TheVariants.{BadList, TooLong, NoMemory}
 
@@ -18,8 +20,19 @@ text_fault TextTooLong = TooLong
 text_fault TextNoMemory = NoMemory
 
 abbrev pub parse_fault : TextFault → ExprFault
-parse_fault TextTooLong = ParseTooLong
-parse_fault TextNoMemory = ParseNoMemory
+parse_fault TextTooLong = parse.TooLong
+parse_fault TextNoMemory = parse.NoMemory
+
+-- the fault of a script, of an index or of quotes in an expression is that of the expression
+abbrev pub script_fault : ParseFault → ExprFault
+script_fault script.TooLong = parse.TooLong
+script_fault script.MissingBrace = parse.MissingBrace
+script_fault script.MissingBracket = parse.MissingBracket
+script_fault script.MissingQuote = parse.MissingQuote
+script_fault script.ExtraAfterBrace = parse.ExtraAfterBrace
+script_fault script.ExtraAfterQuote = parse.ExtraAfterQuote
+script_fault script.MissingParen = parse.MissingParen
+script_fault script.NoMemory = parse.NoMemory
 
 -- the answer is what it should be, unless memory was refused
 abbrev pub Gives : {T : Type 0} → Result T EvalFault → Result T EvalFault → Type 0

@@ -9,6 +9,7 @@ pub mod Reading
 pub mod Run
 pub mod Standing
 pub mod Steps
+pub mod Substitution
 pub mod Tokens
 pub mod Trees
 pub mod Values

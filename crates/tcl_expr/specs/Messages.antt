@@ -45,6 +45,10 @@ operator_name (Arithmetic operator) = arithmetic_name operator
 abbrev pub parse_message : List ℕ → ExprFault → List ℕ
 parse_message source parse.TooLong = limit_text
 parse_message source parse.MissingBrace = codes "missing close-brace"
+parse_message source parse.MissingBracket = codes "missing close-bracket"
+parse_message source parse.MissingQuote = codes "missing \""
+parse_message source parse.ExtraAfterBrace = codes "extra characters after close-brace"
+parse_message source parse.ExtraAfterQuote = codes "extra characters after close-quote"
 parse_message source parse.MissingParen = codes "missing )"
 parse_message source parse.Syntax = message (codes "syntax error in expression \"" ++ source ++ codes "\"")
 parse_message source parse.NotYet = codes "not yet"

@@ -1,10 +1,9 @@
 -- The tree of a text, by recursion on its bytes: what stands open before a byte, and what the byte makes of it.
 use Rattle.std.specs.Prelude.{ℕ, zero, suc, ◌+◌, ◌-◌, Bool, true, false, not, ◌==◌, nat_lt, nat_le, if◌then◌else◌, List, [], ◌∷◌, length, take, drop, Option, Some, None, Result, Ok, Err}
-use Rattle.std.specs.List.{slice_range}
 use Rattle.std.specs.Str.{is_utf8}
 use Rattle.tcl_text.specs.Readings.{boolean_of}
 use Rattle.tcl_expr.specs.declared.fault.ExprFault.{ExprFault}
-use Rattle.tcl_expr.specs.declared.fault.ExprFault.TheVariants.{TooLong, MissingParen, Syntax, NotYet}
+use Rattle.tcl_expr.specs.declared.fault.ExprFault.TheVariants.{TooLong, MissingParen, Syntax}
 use Rattle.tcl_expr.specs.declared.operators.UnaryOperator.{UnaryOperator}
 use Rattle.tcl_expr.specs.declared.operators.UnaryOperator.TheVariants.{Negate, Keep, Complement, Not}
 use Rattle.tcl_expr.specs.declared.operators.ArithmeticOperator.{ArithmeticOperator}
@@ -20,9 +19,14 @@ use Rattle.tcl_expr.specs.declared.tokens.Mark.TheVariants as mark
 use Rattle.tcl_expr.specs.declared.tokens.Link.{Link}
 use Rattle.tcl_expr.specs.declared.tokens.Link.TheVariants as link
 use Rattle.tcl_expr.specs.declared.step.Step.{Step}
-use Rattle.tcl_expr.specs.Tokens.{mark_of, begins_newline, link_at, number_length, ends_number, name_bytes, name_at, to_close}
-use Rattle.tcl_expr.specs.Trees.{Tree, Integer, Plain, Variable, Unary, Binary, And, Or, Choice}
+use Rattle.tcl_expr.specs.Tokens.{mark_of, begins_newline, link_at, number_length, ends_number, name_bytes, to_close}
+use Rattle.tcl_expr.specs.Trees.{Tree, Integer, Plain, Unary, Binary, And, Or, Choice}
 use Rattle.tcl_expr.specs.Steps.{steps_of}
+use Rattle.tcl_expr.specs.Faults.{script_fault}
+use Rattle.tcl_expr.specs.Substitution.{piece_tree, text_tree}
+use Rattle.tcl_words.specs.Operands.{bracket_of, substitution_of, quoted_of}
+use Rattle.tcl_words.specs.declared.script.Piece.{Piece}
+use Rattle.tcl_words.specs.declared.fault.ParseFault.{ParseFault}
 
 -- ── levels: an operator binds tighter than those of a lower level ──
 
@@ -148,10 +152,37 @@ word_or_fault n opened word None = Err Syntax
 abbrev pub at_word : ℕ → List Opened → List ℕ → Result Move ExprFault
 at_word n opened text = with_text (take n text) (word_or_fault n opened (take n text) (boolean_of (take n text)))
 
-abbrev pub at_variable : List Opened → List ℕ → Result (ℕ × ℕ × ℕ) ExprFault → Result Move ExprFault
-at_variable opened behind (Ok found) =
-    with_text (slice_range behind found.0 found.1) (move found.2 (AtOperator (Variable (slice_range behind found.0 found.1))) opened)
-at_variable opened behind (Err fault) = Err fault
+-- how many parentheses, brackets and indices may still be opened in one another
+abbrev pub room_in : List Opened → ℕ
+room_in opened = 200 - parens opened
+
+abbrev pub with_operand : ℕ → List Opened → Result Tree ExprFault → Result Move ExprFault
+with_operand skip opened (Ok tree) = move skip (AtOperator tree) opened
+with_operand skip opened (Err fault) = Err fault
+
+abbrev pub with_piece : List Opened → Result (Piece × ℕ) ParseFault → Result Move ExprFault
+with_piece opened (Ok found) = with_operand found.1 opened (piece_tree (room_in opened) found.0)
+with_piece opened (Err fault) = Err (script_fault fault)
+
+abbrev pub with_pieces : List Opened → Result (List Piece × ℕ) ParseFault → Result Move ExprFault
+with_pieces opened (Ok found) = with_operand found.1 opened (text_tree (room_in opened) found.0)
+with_pieces opened (Err fault) = Err (script_fault fault)
+
+-- a `$` with nothing that it could begin is no operand
+abbrev pub with_substitution : List Opened → Result (Option (Piece × ℕ)) ParseFault → Result Move ExprFault
+with_substitution opened (Ok None) = Err Syntax
+with_substitution opened (Ok (Some found)) = with_operand found.1 opened (piece_tree (room_in opened) found.0)
+with_substitution opened (Err fault) = Err (script_fault fault)
+
+-- a bracket, a `$` and a quote, as in a script
+abbrev pub at_bracket : List Opened → List ℕ → Result Move ExprFault
+at_bracket opened behind = with_piece opened (bracket_of (room_in opened) behind)
+
+abbrev pub at_dollar : List Opened → List ℕ → Result Move ExprFault
+at_dollar opened behind = with_substitution opened (substitution_of (room_in opened) behind)
+
+abbrev pub at_quote : List Opened → List ℕ → Result Move ExprFault
+at_quote opened behind = with_pieces opened (quoted_of (room_in opened) behind)
 
 abbrev pub at_brace : List Opened → List ℕ → Result ℕ ExprFault → Result Move ExprFault
 at_brace opened behind (Ok n) = with_text (take n behind) (move (suc n) (AtOperator (Plain (take n behind))) opened)
@@ -166,11 +197,12 @@ operand_move mark.Plus opened text behind = at_sign Keep opened
 operand_move mark.Tilde opened text behind = at_sign Complement opened
 operand_move mark.Bang opened text behind = at_sign Not opened
 operand_move mark.OpenParen opened text behind = at_paren opened
-operand_move mark.Dollar opened text behind = at_variable opened behind (name_at behind)
+operand_move mark.Dollar opened text behind = at_dollar opened behind
+operand_move mark.OpenBracket opened text behind = at_bracket opened behind
+operand_move mark.Quote opened text behind = at_quote opened behind
 operand_move mark.OpenBrace opened text behind = at_brace opened behind (to_close 0 behind)
 operand_move mark.Digit opened text behind = at_number (number_length text) opened text
 operand_move mark.Letter opened text behind = at_word (name_bytes text) opened text
-operand_move mark.Later opened text behind = Err NotYet
 operand_move _ opened text behind = Err Syntax
 
 -- how reading goes on behind an operator

@@ -56,9 +56,9 @@ abbrev pub Takes : Parser → Result ℕ ExprFault → Parser → (List Opened �
 Takes old (Ok skip) new expected = (before : List Opened) → Stands old AtOperand before → Follows new skip (expected before)
 Takes old (Err fault) new expected = (fault ≡ NoMemory) ⊎ ((before : List Opened) → Stands old AtOperand before → expected before ≡ Err fault)
 
--- an operand of one step
-pub record HasOperand (old new : Parser) (own : Step) : Type 0 where
-  pub steps : new.steps.items ≡ old.steps.items ++ own ∷ []
+-- an operand of these steps
+pub record HasOperand (old new : Parser) (own : List Step) : Type 0 where
+  pub steps : new.steps.items ≡ old.steps.items ++ own
   pub opened : new.opened.items ≡ old.opened.items
   pub parens_are : new.parens ≡ old.parens
   pub due : new.is_due ≡ false

@@ -4,7 +4,7 @@ use Rattle.std.specs.Char.{digit_value}
 use Rattle.std.specs.List.{starts_with}
 use Rattle.tcl_text.specs.Readings.{base_named}
 use Rattle.tcl_expr.specs.declared.fault.ExprFault.{ExprFault}
-use Rattle.tcl_expr.specs.declared.fault.ExprFault.TheVariants.{MissingBrace, Syntax, NotYet}
+use Rattle.tcl_expr.specs.declared.fault.ExprFault.TheVariants.{MissingBrace, NotYet}
 use Rattle.tcl_expr.specs.declared.operators.ArithmeticOperator.TheVariants.{Multiply, Divide, Remainder, Add, Subtract, ShiftLeft, ShiftRight, BitAnd, BitXor, BitOr}
 use Rattle.tcl_expr.specs.declared.operators.Comparison.{Comparison}
 use Rattle.tcl_expr.specs.declared.operators.Comparison.TheVariants as comparison
@@ -54,7 +54,8 @@ mark_of b =
     else if b == 41 then mark.CloseParen
     else if b == 36 then mark.Dollar
     else if b == 123 then mark.OpenBrace
-    else if b == 34 || b == 91 then mark.Later
+    else if b == 34 then mark.Quote
+    else if b == 91 then mark.OpenBracket
     else if b == 92 then mark.Backslash
     else if is_digit b then mark.Digit
     else if is_alphabetic b then mark.Letter
@@ -184,15 +185,6 @@ ends_number behind = not (begins_name_byte behind) || is_link (word_link behind)
     is_link (Some found) = true
     is_link None = false
 
--- how many bytes stand before the first `}`
-abbrev pub to_brace : List ℕ → Option ℕ
-to_brace [] = None
-to_brace (b ∷ text) = if b == 125 then Some 0 else further (to_brace text)
-  where
-    further : Option ℕ → Option ℕ
-    further None = None
-    further (Some n) = Some (suc n)
-
 -- how many bytes stand before the brace that closes, with so many more open
 abbrev pub one_more : Result ℕ ExprFault → Result ℕ ExprFault
 one_more (Ok n) = Ok (suc n)
@@ -209,25 +201,3 @@ to_close depth (b ∷ text) =
     else if b == 125 then at_close depth (λ less. to_close less text)
     else if b == 92 then Err NotYet
     else one_more (to_close depth text)
-
--- how long the variable's name in front is: `::` or nothing, and at least one letter, digit or `_`
-abbrev pub past_colons : ℕ → ℕ
-past_colons zero = 0
-past_colons (suc n) = suc n + 2
-
-abbrev pub name_length : List ℕ → ℕ
-name_length text = if starts_with nat_eq text (codes "::") then past_colons (name_bytes (drop 2 text)) else name_bytes text
-
--- where a variable's name begins and ends behind a `$`, and where the operand ends
-abbrev pub braced_name : Option ℕ → Result (ℕ × ℕ × ℕ) ExprFault
-braced_name None = Err MissingBrace
-braced_name (Some n) = Ok (1, suc n, suc (suc n))
-
-abbrev pub plain_name : ℕ → List ℕ → Result (ℕ × ℕ × ℕ) ExprFault
-plain_name zero behind = Err Syntax
-plain_name (suc n) behind = if starts_with nat_eq behind (codes "(") then Err NotYet else Ok (0, suc n, suc n)
-
-abbrev pub name_at : List ℕ → Result (ℕ × ℕ × ℕ) ExprFault
-name_at behind =
-    if starts_with nat_eq behind (codes "{") then braced_name (to_brace (drop 1 behind))
-    else plain_name (name_length behind) (drop (name_length behind) behind)

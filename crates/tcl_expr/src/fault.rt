@@ -1,18 +1,31 @@
 use crate::operators::NumberOperator;
 use std::alloc::{AllocError, AllocFailed};
 use tcl_text::{ListFault, SplitFault, Text, TextFault};
+use tcl_words::ParseFault;
 use thiserror::Error;
 
 /// Why a text is no expression.
 #[derive(Clone, Copy, Debug, PartialEq, Eq, Drop, Error)]
 pub enum ExprFault {
-    /// More than 65,536 bytes, bytes that are not UTF-8, or more than 200 parentheses in one another (4).
+    /// More than 65,536 bytes, bytes that are not UTF-8, or more than 200 parentheses, brackets and indices in one another (4).
     #[error("limit reached: value")]
     TooLong,
-    /// An operand in braces never ends (5).
+    /// An operand in braces never ends, or a variable's name in braces (5).
     #[error("missing close-brace")]
     MissingBrace,
-    /// A parenthesis never ends (10).
+    /// A script in brackets never ends (6).
+    #[error("missing close-bracket")]
+    MissingBracket,
+    /// An operand in quotes never ends (7).
+    #[error("missing quote")]
+    MissingQuote,
+    /// In a script in brackets something follows the brace that ends a word (8).
+    #[error("extra characters after close-brace")]
+    ExtraAfterBrace,
+    /// In a script in brackets something follows the quote that ends a word (9).
+    #[error("extra characters after close-quote")]
+    ExtraAfterQuote,
+    /// A parenthesis never ends, or the index of an element (10).
     #[error("missing parenthesis")]
     MissingParen,
     /// Something stands where no operand or operator can (11).
@@ -77,6 +90,26 @@ impl From<TextFault> for ExprFault {
         match fault {
             TextFault::TooLong => ExprFault::TooLong,
             TextFault::NoMemory => ExprFault::NoMemory,
+        }
+    }
+}
+
+impl From<ParseFault> for ExprFault {
+    ghost use Rattle.std.specs.Prelude.{◌≡◌};
+    ghost use Rattle.tcl_expr.specs.Faults.{script_fault};
+
+    ghost from_gives = { λ fault e. e ≡ script_fault fault };
+
+    fn from(fault: ParseFault) -> ExprFault {
+        match fault {
+            ParseFault::TooLong => ExprFault::TooLong,
+            ParseFault::MissingBrace => ExprFault::MissingBrace,
+            ParseFault::MissingBracket => ExprFault::MissingBracket,
+            ParseFault::MissingQuote => ExprFault::MissingQuote,
+            ParseFault::ExtraAfterBrace => ExprFault::ExtraAfterBrace,
+            ParseFault::ExtraAfterQuote => ExprFault::ExtraAfterQuote,
+            ParseFault::MissingParen => ExprFault::MissingParen,
+            ParseFault::NoMemory => ExprFault::NoMemory,
         }
     }
 }

@@ -17,6 +17,7 @@ mod parser;
 mod reader;
 mod state;
 mod step;
+mod substitution;
 #[cfg(test)]
 mod tests;
 mod tokens;

@@ -99,6 +99,10 @@ impl ExprFault {
         match self {
             ExprFault::TooLong => limit(alloc),
             ExprFault::MissingBrace => fixed(alloc, "missing close-brace"),
+            ExprFault::MissingBracket => fixed(alloc, "missing close-bracket"),
+            ExprFault::MissingQuote => fixed(alloc, "missing \""),
+            ExprFault::ExtraAfterBrace => fixed(alloc, "extra characters after close-brace"),
+            ExprFault::ExtraAfterQuote => fixed(alloc, "extra characters after close-quote"),
             ExprFault::MissingParen => fixed(alloc, "missing )"),
             ExprFault::Syntax => message_about(alloc, "syntax error in expression \"", source),
             ExprFault::NotYet => fixed(alloc, "not yet"),

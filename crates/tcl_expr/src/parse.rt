@@ -23,7 +23,7 @@ pub fn parse_expr(alloc: Global, source: &[u8]) -> Result<Expr, ExprFault>
     let Ok(characters) = str::from_utf8(source) else {
         return Err(ExprFault::TooLong);
     };
-    let steps = read_all(alloc, source)?;
+    let steps = read_all(alloc, characters)?;
     let text = Text::new(alloc, characters)?;
     let expr = Expr::new(alloc, text, steps)?;
     Ok(expr)

@@ -1,5 +1,5 @@
 //! An expression, read from its bytes.
-ghost use Rattle.std.specs.Prelude.{◌≡◌, ◌≤◌, ◌^◌, ◌<◌, length, IfOk, IfErr, OnOk, [], Ok};
+ghost use Rattle.std.specs.Prelude.{◌≡◌, ◌≤◌, ◌+◌, ◌-◌, ◌^◌, ◌<◌, length, drop, slice_index, IfOk, IfErr, OnOk, [], ◌∷◌, Ok};
 ghost use Rattle.tcl_text.specs.Readings.{integer_of};
 ghost use Rattle.tcl_expr.specs.Reading as reading;
 ghost use Rattle.tcl_expr.specs.Steps.{literal_step};
@@ -11,15 +11,16 @@ use crate::open::{Open, close};
 use crate::operators::UnaryOperator;
 use crate::parser::{Parser, take_link};
 use crate::step::Step;
+use crate::substitution::{push_piece, push_text};
 use crate::tokens::{
-    Link, Mark, begins_newline, ends_number, link_at, mark_of, name_at, name_bytes, number_length,
-    to_close,
+    Link, Mark, begins_newline, ends_number, link_at, mark_of, name_bytes, number_length, to_close,
 };
 use std::alloc::{AllocError, Global};
 use tcl_text::Text;
+use tcl_words::{bracket_behind, quotes_behind, substitution_behind};
 
-/// How many parentheses may stand open in one another.
-const MAX_PARENS: usize = 200;
+/// How many parentheses, brackets and indices may stand open in one another.
+const MAX_DEPTH: usize = 200;
 
 /// The text of some bytes.
 fn text_of(alloc: Global, bytes: &[u8]) -> Result<Text, ExprFault>
@@ -45,7 +46,7 @@ fn literal(spelling: Text) -> Step
 
 /// An operand of one step.
 fn push_operand(parser: &mut Parser, step: Step) -> Result<(), ExprFault>
-    ensures ok { OnOk result (standing.HasOperand parser.old parser.new step) }
+    ensures ok { OnOk result (standing.HasOperand parser.old parser.new (step ∷ [])) }
     ensures err { IfErr result (λ fault. fault ≡ ExprFault.NoMemory) }
 {
     parser.steps.push(step)?;
@@ -65,7 +66,7 @@ fn take_sign(parser: &mut Parser, operator: UnaryOperator) -> Result<usize, Expr
 fn take_paren(parser: &mut Parser) -> Result<usize, ExprFault>
     ensures { standing.Takes parser.old result parser.new reading.at_paren }
 {
-    if parser.parens >= MAX_PARENS {
+    if parser.parens >= MAX_DEPTH {
         return Err(ExprFault::TooLong);
     }
     parser.opened.push(Open::Paren)?;
@@ -103,14 +104,70 @@ fn take_word(alloc: Global, parser: &mut Parser, text: &[u8]) -> Result<usize, E
     }
 }
 
-/// A variable, behind its `$`.
-fn take_variable(alloc: Global, parser: &mut Parser, behind: &[u8]) -> Result<usize, ExprFault>
-    requires { length behind.now ≤ 65536 }
-    ensures { standing.Takes parser.old result parser.new (λ before. reading.at_variable before behind.now (tokens.name_at behind.now)) }
+/// How many parentheses, brackets and indices may still be opened in one another.
+fn room_in(parser: &Parser) -> usize
+    ensures room { result ≡ 200 - parser.now.parens }
+    ensures most { result ≤ 200 }
 {
-    let (start, end, taken) = name_at(behind)?;
-    let name = text_of(alloc, &behind[start..end])?;
-    push_operand(parser, Step::Variable(name))?;
+    MAX_DEPTH.saturating_sub(parser.parens)
+}
+
+/// A variable or an element, behind its `$`.
+fn take_dollar(
+    alloc: Global,
+    parser: &mut Parser,
+    source: &str,
+    at: usize,
+) -> Result<usize, ExprFault>
+    requires short { length source.now ≤ 65536 }
+    requires within { at < length source.now }
+    requires ascii { slice_index source.now at < 128 }
+    ensures { standing.Takes parser.old result parser.new (λ before. reading.at_dollar before (drop (at + 1) source.now)) }
+{
+    let room = room_in(parser);
+    let Some((piece, taken)) = substitution_behind(alloc, source, at, room)? else {
+        return Err(ExprFault::Syntax);
+    };
+    push_piece(alloc, &mut parser.steps, &piece, room)?;
+    parser.is_due = false;
+    Ok(taken)
+}
+
+/// A script in brackets, behind the opening one.
+fn take_bracket(
+    alloc: Global,
+    parser: &mut Parser,
+    source: &str,
+    at: usize,
+) -> Result<usize, ExprFault>
+    requires short { length source.now ≤ 65536 }
+    requires within { at < length source.now }
+    requires ascii { slice_index source.now at < 128 }
+    ensures { standing.Takes parser.old result parser.new (λ before. reading.at_bracket before (drop (at + 1) source.now)) }
+{
+    let room = room_in(parser);
+    let (piece, taken) = bracket_behind(alloc, source, at, room)?;
+    push_piece(alloc, &mut parser.steps, &piece, room)?;
+    parser.is_due = false;
+    Ok(taken)
+}
+
+/// A text in quotes, behind the opening one.
+fn take_quotes(
+    alloc: Global,
+    parser: &mut Parser,
+    source: &str,
+    at: usize,
+) -> Result<usize, ExprFault>
+    requires short { length source.now ≤ 65536 }
+    requires within { at < length source.now }
+    requires ascii { slice_index source.now at < 128 }
+    ensures { standing.Takes parser.old result parser.new (λ before. reading.at_quote before (drop (at + 1) source.now)) }
+{
+    let room = room_in(parser);
+    let (pieces, taken) = quotes_behind(alloc, source, at, room)?;
+    push_text(alloc, &mut parser.steps, pieces.as_slice(), room)?;
+    parser.is_due = false;
     Ok(taken)
 }
 
@@ -126,10 +183,17 @@ fn take_braces(alloc: Global, parser: &mut Parser, behind: &[u8]) -> Result<usiz
 }
 
 /// What stands where an operand is due.
-fn take_operand(alloc: Global, parser: &mut Parser, text: &[u8]) -> Result<usize, ExprFault>
-    requires { length text.now ≤ 65536 }
-    ensures { standing.Takes parser.old result parser.new (standing.operand_at text.now) }
+fn take_operand(
+    alloc: Global,
+    parser: &mut Parser,
+    source: &str,
+    at: usize,
+) -> Result<usize, ExprFault>
+    requires short { length source.now ≤ 65536 }
+    requires within { at < length source.now }
+    ensures { standing.Takes parser.old result parser.new (standing.operand_at (drop at source.now)) }
 {
+    let text = &source.as_bytes()[at..];
     let [first, behind @ ..] = text else {
         return Err(ExprFault::Syntax);
     };
@@ -147,11 +211,12 @@ fn take_operand(alloc: Global, parser: &mut Parser, text: &[u8]) -> Result<usize
         Mark::Tilde => take_sign(parser, UnaryOperator::Complement),
         Mark::Bang => take_sign(parser, UnaryOperator::Not),
         Mark::OpenParen => take_paren(parser),
-        Mark::Dollar => take_variable(alloc, parser, behind),
+        Mark::Dollar => take_dollar(alloc, parser, source, at),
+        Mark::OpenBracket => take_bracket(alloc, parser, source, at),
+        Mark::Quote => take_quotes(alloc, parser, source, at),
         Mark::OpenBrace => take_braces(alloc, parser, behind),
         Mark::Digit => take_number(alloc, parser, text),
         Mark::Letter => take_word(alloc, parser, text),
-        Mark::Later => Err(ExprFault::NotYet),
         _ => Err(ExprFault::Syntax),
     }
 }
@@ -187,16 +252,22 @@ fn take_found(parser: &mut Parser, found: Option<(Link, usize)>) -> Result<usize
     Ok(length.saturating_sub(1))
 }
 
-/// What stands in front of a text, and how many further bytes it takes.
-fn take_token(alloc: Global, parser: &mut Parser, text: &[u8]) -> Result<usize, ExprFault>
-    requires { length text.now ≤ 65536 }
-    ensures { standing.TakesToken parser.old result parser.new text.now }
+/// What stands at a place, and how many further bytes it takes.
+fn take_token(
+    alloc: Global,
+    parser: &mut Parser,
+    source: &str,
+    at: usize,
+) -> Result<usize, ExprFault>
+    requires short { length source.now ≤ 65536 }
+    requires within { at < length source.now }
+    ensures { standing.TakesToken parser.old result parser.new (drop at source.now) }
 {
     if parser.is_due {
-        let skip = take_operand(alloc, parser, text)?;
+        let skip = take_operand(alloc, parser, source, at)?;
         Ok(skip)
     } else {
-        let skip = take_operator(parser, text)?;
+        let skip = take_operator(parser, &source.as_bytes()[at..])?;
         Ok(skip)
     }
 }
@@ -234,7 +305,7 @@ fn finish(parser: Parser) -> Result<Vec<Step>, ExprFault>
 }
 
 /// The steps of a text's tree, in one pass over its bytes.
-pub fn read_all(alloc: Global, source: &[u8]) -> Result<Vec<Step>, ExprFault>
+pub fn read_all(alloc: Global, source: &str) -> Result<Vec<Step>, ExprFault>
     requires { length source.now ≤ 65536 }
     ensures steps { IfOk result (λ steps. reading.compiled_by (reading.reading 0 reading.AtOperand [] source.now) ≡ Ok steps.items) }
     ensures fault { IfErr result (λ fault. standing.IsFaultOrMemory (reading.reading 0 reading.AtOperand [] source.now) fault) }
@@ -245,11 +316,11 @@ pub fn read_all(alloc: Global, source: &[u8]) -> Result<Vec<Step>, ExprFault>
         parens: 0,
         is_due: true,
     };
-    let mut rest = source;
-    while let Some((_first, behind)) = rest.split_first() {
-        let skip = take_token(alloc, &mut parser, rest)?;
-        let count = skip.min(behind.len());
-        rest = &behind[count..];
+    let mut at = 0;
+    while at < source.len() {
+        let skip = take_token(alloc, &mut parser, source, at)?;
+        let left = source.len() - at - 1;
+        at = at + 1 + skip.min(left);
     }
     let steps = finish(parser)?;
     Ok(steps)

@@ -24,6 +24,10 @@ fn parse_number(fault: ExprFault) -> &'static str {
     match fault {
         ExprFault::TooLong => "fault 4",
         ExprFault::MissingBrace => "fault 5",
+        ExprFault::MissingBracket => "fault 6",
+        ExprFault::MissingQuote => "fault 7",
+        ExprFault::ExtraAfterBrace => "fault 8",
+        ExprFault::ExtraAfterQuote => "fault 9",
         ExprFault::MissingParen => "fault 10",
         ExprFault::Syntax => "fault 11",
         ExprFault::NotYet => "not yet",
@@ -69,6 +73,8 @@ fn values_are_tcls(rt: HostRuntime) -> Result<(), Fail> {
         ("{b c} in {a {b c}}", "1"),
         ("0?2:0?4:5", "5"),
         ("1eq1", "1"),
+        ("\"10\" + 1", "11"),
+        ("\"a\\tb\" eq \"a\\x09b\"", "1"),
         ("tr", "tr"),
     ];
     assert_eq!(rt; are(rt.alloc(), &cases)?, true);
@@ -82,6 +88,12 @@ fn faults_are_numbered(rt: HostRuntime) -> Result<(), Fail> {
         ("1+", "fault 11"),
         ("(1+2", "fault 10"),
         ("{a", "fault 5"),
+        ("[a", "fault 6"),
+        ("\"a", "fault 7"),
+        ("[set {a}b]", "fault 8"),
+        ("[set \"a\"b]", "fault 9"),
+        ("$a(b", "fault 10"),
+        ("\"a\"b", "fault 11"),
         ("7/0", "fault 12"),
         ("{a}+1/0", "fault 12"),
         ("-9223372036854775808", "fault 13"),
@@ -118,5 +130,34 @@ fn variables_are_asked(rt: HostRuntime) -> Result<(), Fail> {
         return Err(Fail::from("no value"));
     };
     assert_eq!(rt; value.as_str(), "7");
+    Ok(())
+}
+
+/// A script, an element and the parts of a text in quotes are asked one after another.
+#[test]
+fn scripts_and_elements_are_asked(rt: HostRuntime) -> Result<(), Fail> {
+    let alloc = rt.alloc();
+    let expr = parse_expr(alloc, b"[get [now]] in \"$a(k$b) c\"")?;
+    let mut eval = Eval::new(alloc, expr);
+    let Ask::Command(script) = eval.resume(None).ok().ok_or("script")? else {
+        return Err(Fail::from("no script"));
+    };
+    assert_eq!(rt; script.text().as_str(), "get [now]");
+    let found = Text::new(alloc, "c")?;
+    let Ask::Variable(name) = eval.resume(Some(found)).ok().ok_or("b")? else {
+        return Err(Fail::from("no variable"));
+    };
+    assert_eq!(rt; name.as_str(), "b");
+    let one = Text::new(alloc, "1")?;
+    let Ask::Element(array, index) = eval.resume(Some(one)).ok().ok_or("a")? else {
+        return Err(Fail::from("no element"));
+    };
+    assert_eq!(rt; array.as_str(), "a");
+    assert_eq!(rt; index.as_str(), "k1");
+    let text = Text::new(alloc, "x")?;
+    let Ask::Value(value) = eval.resume(Some(text)).ok().ok_or("value")? else {
+        return Err(Fail::from("no value"));
+    };
+    assert_eq!(rt; value.as_str(), "1");
     Ok(())
 }

@@ -1,5 +1,5 @@
 //! What stands in front of a text where an operand or an operator is due.
-ghost use Rattle.std.specs.Prelude.{◌≡◌, ◌≤◌, ◌<◌, ◌+◌, ◌^◌, length, IfOk, IfSome};
+ghost use Rattle.std.specs.Prelude.{◌≡◌, ◌≢◌, ◌≤◌, ◌<◌, ◌+◌, ◌^◌, length, IfOk, IfSome};
 ghost use Rattle.std.specs.Char as chars;
 ghost use Rattle.tcl_text.specs.Readings as readings;
 ghost use Rattle.tcl_expr.specs.Tokens as tokens;
@@ -33,8 +33,8 @@ pub enum Mark {
     OpenBrace,
     Digit,
     Letter,
-    /// A quote or a bracket.
-    Later,
+    OpenBracket,
+    Quote,
     Other,
 }
 
@@ -64,7 +64,8 @@ fn is_name_byte(byte: u8) -> bool
 /// What a byte can begin.
 #[tactic(auto, unfolding(crate::specs::Tokens::mark_of))]
 pub fn mark_of(byte: u8) -> Mark
-    ensures { result ≡ tokens.mark_of byte }
+    ensures mark { result ≡ tokens.mark_of byte }
+    ensures ascii { result ≢ Mark.Other → byte < 128 }
 {
     match byte {
         b' ' | 9..=13 => Mark::White,
@@ -87,7 +88,8 @@ pub fn mark_of(byte: u8) -> Mark
         b')' => Mark::CloseParen,
         b'$' => Mark::Dollar,
         b'{' => Mark::OpenBrace,
-        b'"' | b'[' => Mark::Later,
+        b'"' => Mark::Quote,
+        b'[' => Mark::OpenBracket,
         b'\\' => Mark::Backslash,
         b'0'..=b'9' => Mark::Digit,
         b'a'..=b'z' | b'A'..=b'Z' => Mark::Letter,
@@ -327,19 +329,6 @@ pub fn ends_number(behind: &[u8]) -> bool
     !begins_name_byte(behind) || word_link(behind).is_some()
 }
 
-/// How many bytes stand before the first `}`.
-fn to_brace(text: &[u8]) -> Option<usize>
-    ensures count { result ≡ tokens.to_brace text.now }
-    ensures within { IfSome result (λ count. count < length text.now) }
-{
-    for (count, byte) in text.iter().enumerate() {
-        if *byte == b'}' {
-            return Some(count);
-        }
-    }
-    None
-}
-
 /// How many bytes stand before the brace that closes.
 pub fn to_close(text: &[u8]) -> Result<usize, ExprFault>
     ensures count { result ≡ tokens.to_close 0 text.now }
@@ -356,40 +345,4 @@ pub fn to_close(text: &[u8]) -> Result<usize, ExprFault>
         }
     }
     Err(ExprFault::MissingBrace)
-}
-
-/// How long the variable's name in front is: `::` or nothing, and at least one letter, digit or `_`.
-fn name_length(text: &[u8]) -> usize
-    requires { length text.now < 2 ^ 32 }
-    ensures length { result ≡ tokens.name_length text.now }
-    ensures within { result ≤ length text.now }
-{
-    if !text.starts_with(b"::") {
-        return name_bytes(text);
-    }
-    let count = name_bytes(&text[2..]);
-    if count == 0 { 0 } else { count + 2 }
-}
-
-/// Where a variable's name begins and ends behind a `$`, and where the operand ends.
-pub fn name_at(behind: &[u8]) -> Result<(usize, usize, usize), ExprFault>
-    requires { length behind.now < 2 ^ 32 }
-    ensures place { result ≡ tokens.name_at behind.now }
-    ensures ordered { IfOk result (λ found. found.0 ≤ found.1) }
-    ensures within { IfOk result (λ found. (found.1 ≤ found.2) × (found.2 ≤ length behind.now)) }
-{
-    if let [b'{', inside @ ..] = behind {
-        return match to_brace(inside) {
-            None => Err(ExprFault::MissingBrace),
-            Some(count) => Ok((1, count + 1, count + 2)),
-        };
-    }
-    let count = name_length(behind);
-    if count == 0 {
-        return Err(ExprFault::Syntax);
-    }
-    if behind[count..].starts_with(b"(") {
-        return Err(ExprFault::NotYet);
-    }
-    Ok((0, count, count))
 }

@@ -52,6 +52,26 @@ pub fn variable_command(
     }
 }
 
+/// What a command on variables does, called in the frame at a level with the words after its name: its result, or the text of
+/// its error.
+pub fn call_variable_command(
+    alloc: Global,
+    scopes: &mut Scopes,
+    level: usize,
+    command: VariableCommand,
+    words: &[Text],
+) -> Result<Result<Text, Text>, AllocError>
+    requires { level < length scopes.old }
+    ensures does { IfOk result (λ answer. record { store = scopes.new; answer = answer } ≡ spec.command_done command level words.now scopes.old) }
+    ensures levels { length scopes.new ≡ length scopes.old }
+{
+    match command_done(alloc, scopes, level, command, words) {
+        Ok(text) => Ok(Ok(text)),
+        Err(Refusal::Error(message)) => Ok(Err(message)),
+        Err(Refusal::NoMemory) => Err(AllocError),
+    }
+}
+
 /// The command of this name.
 #[tactic(auto, unfolding(crate::specs::Commands::command_named))]
 fn command_named(name: &str) -> Option<VariableCommand>

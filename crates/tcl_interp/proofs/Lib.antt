@@ -1,5 +1,6 @@
 -- What the proofs share.
 pub mod Bounds
+pub mod ChoiceLemmas
 pub mod Same
 pub mod Settled
 pub mod Stepping

@@ -1,8 +1,8 @@
 -- What is due, other than a task, is a step or the end.
 use Rattle.std.proofs.Common.{◌≡◌, ℕ, List, refl}
-use Rattle.tcl_interp.specs.declared.tasks.Code.{Code}
+use Rattle.tcl_control.specs.declared.code.Code.{Code}
 use Rattle.tcl_interp.specs.declared.machine.Now.{Now}
-use Rattle.tcl_interp.specs.declared.machine.Now.TheVariants.{Begins, GoesOn, Calls, Tests, Steps, Resumes, Ends}
+use Rattle.tcl_interp.specs.declared.machine.Now.TheVariants.{Begins, GoesOn, Indexes, Evaluates, Calls, Tests, Steps, Resumes, Ends}
 use Rattle.tcl_interp.specs.Finish.{Waiting}
 use Rattle.tcl_interp.specs.Quiet.{IsDueBy}
 use Rattle.tcl_interp.specs.Rests.{doing_of}
@@ -11,8 +11,10 @@ use Rattle.tcl_interp.specs.Steps.{IsSettledBy, NeedsStep}
 pub due_settled : {K : Type 0} (now : Now K) (waits : List (Waiting K)) → IsDueBy (doing_of now) waits → ((room : ℕ) (task : K) (code : Code) (text : List ℕ) → now ≡ Resumes room task code text → ⊥) → IsSettledBy (doing_of now) waits
 due_settled (Begins room script) waits due none = due
 due_settled (GoesOn place result) waits due none = due
+due_settled (Indexes part) waits due none = due
+due_settled (Evaluates room answered) waits due none = due
 due_settled (Calls room words) waits due none = tt
-due_settled (Tests turning) waits due none = tt
+due_settled (Tests room turning) waits due none = tt
 due_settled (Steps room task) waits due none = tt
 due_settled (Resumes room task code text) waits due none = none room task code text refl
 due_settled (Ends code text) waits due none = due
@@ -20,8 +22,10 @@ due_settled (Ends code text) waits due none = due
 pub settled_needs : {K : Type 0} (now : Now K) (waits : List (Waiting K)) → IsSettledBy (doing_of now) waits → ((code : Code) (text : List ℕ) → now ≡ Ends code text → ⊥) → NeedsStep (doing_of now)
 settled_needs (Begins room script) waits settled none = settled
 settled_needs (GoesOn place result) waits settled none = settled
+settled_needs (Indexes part) waits settled none = settled
+settled_needs (Evaluates room answered) waits settled none = settled
 settled_needs (Calls room words) waits settled none = tt
-settled_needs (Tests turning) waits settled none = tt
+settled_needs (Tests room turning) waits settled none = tt
 settled_needs (Steps room task) waits settled none = tt
 settled_needs (Resumes room task code text) waits settled none = settled
 settled_needs (Ends code text) waits settled none = absurd (none code text refl)

@@ -1,124 +1,201 @@
 -- The moves that take a step or resume a task keep the outcome of all that is still to do.
-use Rattle.std.proofs.Common.{◌≡◌, ℕ, zero, suc, ◌+◌, ◌≤◌, ◌<◌, Bool, true, false, drop, slice_get, List, [], ◌∷◌, Some, Result, Ok, Err, refl, ap, sym, ◌∙◌, subst, arith}
+use Rattle.std.proofs.Common.{◌≡◌, ℕ, zero, suc, ◌+◌, ◌≤◌, ◌<◌, List, [], ◌∷◌, refl, ap, sym, ◌∙◌, subst, arith}
 use Rattle.tcl_vars.specs.Store.{Store}
-use Rattle.tcl_interp.specs.declared.commands.Builtin.TheVariants.{While}
-use Rattle.tcl_interp.specs.declared.tasks.Code.{Code}
-use Rattle.tcl_interp.specs.declared.tasks.Code.TheVariants.{Normal}
+use Rattle.tcl_control.specs.declared.code.Code.{Code}
+use Rattle.tcl_control.specs.declared.code.Code.TheVariants.{Normal}
+use Rattle.tcl_control.specs.declared.context.Context.{Context}
+use Rattle.tcl_control.specs.declared.control.Call.{Call}
+use Rattle.tcl_control.specs.declared.control.Call.TheVariants as call
+use Rattle.tcl_control.specs.declared.plan.Plan.{Plan}
+use Rattle.tcl_control.specs.declared.plan.Plan.TheVariants as plan
+use Rattle.tcl_control.specs.declared.turns.Test.{Test}
+use Rattle.tcl_control.specs.declared.turns.Test.TheVariants.{Holds, Items}
+use Rattle.tcl_control.specs.declared.turns.Turning.{Turning}
+use Rattle.tcl_control.specs.Control.{Called, call_of}
+use Rattle.tcl_control.specs.Levels.{here}
+use Rattle.tcl_control.specs.Turns.{Tested, More, NoMore, Fails, items_tested}
 use Rattle.tcl_interp.specs.declared.tasks.Act.{Act}
 use Rattle.tcl_interp.specs.declared.tasks.Act.TheVariants.{Done, Step, Run, Unknown}
 use Rattle.tcl_interp.specs.Outside.{Outside, Told, Falls, RunsBelow}
-use Rattle.tcl_interp.specs.Evaluation.{State, Outcome, OutOfSteps, and_then}
-use Rattle.tcl_interp.specs.Commands.{plain_name, command_of, condition_value, on_test, after_body, turns_meaning, while_meaning}
-use Rattle.tcl_interp.specs.Scripts.{out_of_global, told_state, resumed, after_step, task_meaning, act_meaning, by_name}
-use Rattle.tcl_interp.specs.Finish.{Turning, Calls, Tests, Steps, Resumes, Waiting, loop_rest, waits_meaning}
-use Rattle.tcl_interp.specs.Moves.{Moved, moved, while_move, test_move, act_move}
-use Rattle.tcl_interp.specs.Steps.{state_with, TakesStep, TakesNone, Resumed}
+use Rattle.tcl_interp.specs.Evaluation.{State, Outcome, OutOfSteps, and_then, on_normal}
+use Rattle.tcl_interp.specs.Plans.{cut, others, levels_back, procedure_ended, caught, on_tested, loop_ended, after_body, run_at, next_turn, test_meaning, turn_meaning, turns_meaning, loop_meaning, plan_meaning}
+use Rattle.tcl_interp.specs.Expressions.{on_value, if_holds, expression_meaning}
+use Rattle.tcl_interp.specs.Scripts.{out_of_global, told_state, resumed, after_step, task_meaning, act_meaning, called_meaning}
+use Rattle.tcl_interp.specs.Finish.{Calls, Tests, Steps, Resumes, Waiting, ForTest, loop_rest, turn_rest, waits_meaning}
+use Rattle.tcl_interp.specs.Moves.{Moved, Standing, moved, standing, plan_move, items_move, test_move, act_move}
+use Rattle.tcl_interp.specs.Steps.{finish_from, TakesStep, TakesNone, Resumed}
 use Rattle.tcl_interp.specs.Quiet.{Leads}
-use Rattle.tcl_interp.proofs.Bounds.{and_then_same, after_body_same, turns_same, resumed_same, after_step_same, on_act_same, within_script}
-use Rattle.tcl_interp.proofs.Same.{and_then_assoc, finish_moved, run_in, leads_same}
+use Rattle.tcl_interp.proofs.Bounds.{and_then_same, on_value_same, if_same, turn_same, turns_same, within_expression, resumed_same, after_step_same, on_act_same, within_script}
+use Rattle.tcl_interp.proofs.Same.{and_then_assoc, finish_standing, run_in, expression_same, choice_same, leads_same}
 use Rattle.tcl_interp.proofs.Weights.{tasks, waits_tasks}
 
-module _ {S K : Type 0} (outside : Outside S K) (replaced : List (List ℕ)) where
+abbrev pub state_with : {S : Type 0} → S → Store → Context → ℕ → State S
+state_with shows store context steps = record { shows = shows; store = store; context = context; steps = steps }
+
+module _ {S K : Type 0} (outside : Outside S K) where
+  run_at_same : (room count : ℕ) (script : List ℕ) (state : State S) (after : State S → Code → List ℕ → Outcome S)
+      → and_then (run_at (run_in outside room) count script state) after
+      ≡ and_then (run_in outside room script (record state { context = cut count state.context })) (λ state' code text. and_then (levels_back (others count state.context) state' code text) after)
+  run_at_same room count script state after =
+      and_then_assoc (run_in outside room script (record state { context = cut count state.context })) (levels_back (others count state.context)) after
+
   pub act_same : (room : ℕ) (name : List ℕ) (waits : List (Waiting K)) (state : State S) (act : Act K)
-      → and_then (act_meaning outside (run_in outside replaced room) name state act) (waits_meaning outside replaced waits) ≡ finish_moved outside replaced (act_move room name waits act) state
+      → and_then (act_meaning outside (run_in outside room) name state act) (waits_meaning outside waits) ≡ finish_standing outside (act_move room name state.store state.context waits act) state
   act_same room name waits state (Done code text) = refl
   act_same room name waits state (Step task) = refl
   act_same room name waits state (Run script task) =
-      and_then_assoc (run_in outside replaced room 0 script state) (λ state' code text. task_meaning outside (run_in outside replaced room) task state' (out_of_global code) text) (waits_meaning outside replaced waits)
+      and_then_assoc (run_at (run_in outside room) 1 script state) (λ state' code text. task_meaning outside (run_in outside room) task state' (out_of_global code) text) (waits_meaning outside waits)
+      ∙ run_at_same room 1 script state (λ state' code text. and_then (task_meaning outside (run_in outside room) task state' (out_of_global code) text) (waits_meaning outside waits))
   act_same room name waits state Unknown = refl
 
-  pub while_same : (room : ℕ) (arguments : List (List ℕ)) (waits : List (Waiting K)) (state : State S)
-      → and_then (while_meaning (run_in outside replaced room) 0 arguments state) (waits_meaning outside replaced waits) ≡ finish_moved outside replaced (while_move room arguments waits) state
-  while_same room [] waits state = refl
-  while_same room (a ∷ []) waits state = refl
-  while_same room (condition ∷ body ∷ []) waits state = refl
-  while_same room (a ∷ b ∷ c ∷ rest) waits state = refl
+  pub plan_same : (room : ℕ) (waits : List (Waiting K)) (state : State S) (p : Plan)
+      → and_then (plan_meaning (run_in outside room) p state) (waits_meaning outside waits) ≡ finish_standing outside (plan_move room state.store state.context waits p) state
+  plan_same room waits state (plan.Ends code text) = refl
+  plan_same room waits state (plan.Runs script) = refl
+  plan_same room waits state (plan.Catches script name) = and_then_assoc (run_in outside room script state) (caught name) (waits_meaning outside waits)
+  plan_same room waits state (plan.RunsAt count script) = run_at_same room count script state (waits_meaning outside waits)
+  plan_same room waits state (plan.Enters body) = and_then_assoc (run_in outside room body state) procedure_ended (waits_meaning outside waits)
+  plan_same room waits state (plan.Evaluates expression) = expression_same outside room expression waits state
+  plan_same room waits state (plan.Chooses choices) = choice_same outside room choices.branches choices.otherwise waits state
+  plan_same room waits state (plan.Turns turning) = refl
+  plan_same room waits state (plan.Starts script turning) =
+      and_then_assoc (run_in outside room script state) (on_normal (λ state' text. loop_meaning (run_in outside room) turning state')) (waits_meaning outside waits)
 
   -- a task is due its step: it is resumed after it
-  pub step_same : (room : ℕ) (task : K) (waits : List (Waiting K)) (shows : S) (store : Store) → TakesStep outside replaced (moved (Steps room task) waits) shows store (moved (Resumes room task Normal []) waits) shows store
-  step_same room task waits shows store left = refl
+  pub step_same : (room : ℕ) (task : K) (waits : List (Waiting K)) (shows : S) (store : Store) (context : Context) → TakesStep outside (standing (moved (Steps room task) waits) store context) shows (standing (moved (Resumes room task Normal []) waits) store context) shows
+  step_same room task waits shows store context left = refl
 
-  on_test_cases : (turning : Turning) (waits : List (Waiting K)) (left : ℕ) (state : State S) (value : Result Bool (List ℕ)) → state.steps ≤ left
-      → and_then (on_test state (λ state'. and_then (run_in outside replaced turning.room 0 turning.body state') (after_body (turns_meaning (run_in outside replaced turning.room) 0 turning.condition turning.body left))) value) (waits_meaning outside replaced waits)
-      ≡ finish_moved outside replaced (test_move turning waits value) state
-  on_test_cases turning waits left state (Ok true) le =
-      let run : ℕ → List ℕ → State S → Outcome S = run_in outside replaced turning.room in
-      let again : State S → Outcome S = turns_meaning run 0 turning.condition turning.body left in
-      ap (λ o. and_then o (waits_meaning outside replaced waits))
-      (and_then_same left (run 0 turning.body state) (after_body again) (after_body (loop_rest outside replaced turning)) (within_script outside replaced turning.room left 0 turning.body state le)
-      (λ state' code text le'. after_body_same again (loop_rest outside replaced turning) state' code text
-      (turns_same run (within_script outside replaced turning.room) 0 turning.condition turning.body left state'.steps state' le' (omega arith))))
-      ∙ and_then_assoc (run 0 turning.body state) (after_body (loop_rest outside replaced turning)) (waits_meaning outside replaced waits)
-  on_test_cases turning waits left state (Ok false) le = refl
-  on_test_cases turning waits left state (Err text) le = refl
+  -- the body of a loop, and what comes after it, with as many turns as there are steps
+  turn_rest_same : (room : ℕ) (turning : Turning) (test : Test) (left : ℕ) (state : State S) → state.steps ≤ left
+      → turn_meaning (run_in outside room) turning (turns_meaning (run_in outside room) (record turning { test = test }) left) state ≡ turn_rest outside room (record turning { test = test }) state
+  turn_rest_same room turning test left state le =
+      let run : List ℕ → State S → Outcome S = run_in outside room in
+      let next : Turning = record turning { test = test } in
+      turn_same run (within_script outside room) turning (turns_meaning run next left) (loop_rest outside room next) state
+      (λ state' le'. turns_same run (within_script outside room) next left state'.steps state' (omega arith) (omega arith))
+
+  on_tested_cases : (room : ℕ) (turning : Turning) (waits : List (Waiting K)) (left : ℕ) (state : State S) (test : Tested) → state.steps ≤ left
+      → and_then (on_tested state (λ groups. turn_meaning (run_in outside room) turning (turns_meaning (run_in outside room) (record turning { test = Items groups }) left)) test) (waits_meaning outside waits)
+      ≡ finish_standing outside (items_move room turning state.context waits test) state
+  on_tested_cases room turning waits left state (More store groups) le =
+      let run : List ℕ → State S → Outcome S = run_in outside room in
+      let next : Turning = record turning { test = Items groups } in
+      ap (λ o. and_then o (waits_meaning outside waits)) (turn_rest_same room turning (Items groups) left (record state { store = store }) le)
+      ∙ and_then_assoc (run turning.body (record state { store = store })) (after_body (next_turn run turning.next (loop_rest outside room next))) (waits_meaning outside waits)
+  on_tested_cases room turning waits left state (NoMore store) le = refl
+  on_tested_cases room turning waits left state (Fails store text) le = refl
+
+  holds_same : (room : ℕ) (turning : Turning) (condition : List ℕ) (waits : List (Waiting K)) (left : ℕ) (state : State S) → state.steps ≤ left → turning.test ≡ Holds condition
+      → and_then (test_meaning (run_in outside room) (Holds condition) (λ test. turn_meaning (run_in outside room) turning (turns_meaning (run_in outside room) (record turning { test = test }) left)) state) (waits_meaning outside waits)
+      ≡ finish_standing outside (test_move room turning state.store state.context waits (Holds condition)) state
+  holds_same room turning condition waits left state le is =
+      let run : List ℕ → State S → Outcome S = run_in outside room in
+      let next : Turning = record turning { test = Holds condition } in
+      let again : State S → Outcome S = turn_meaning run turning (turns_meaning run next left) in
+      ap (λ o. and_then o (waits_meaning outside waits))
+      (and_then_same left (expression_meaning run condition state) (on_value (if_holds again loop_ended)) (on_value (if_holds (turn_rest outside room next) loop_ended)) (within_expression run (within_script outside room) left condition state le)
+      (λ state' code text le'. on_value_same (if_holds again loop_ended) (if_holds (turn_rest outside room next) loop_ended) state' code text
+      (λ holds. if_same again (turn_rest outside room next) loop_ended state' holds (turn_rest_same room turning (Holds condition) left state' le'))))
+      ∙ and_then_assoc (expression_meaning run condition state) (on_value (if_holds (turn_rest outside room next) loop_ended)) (waits_meaning outside waits)
+      ∙ expression_same outside room condition (ForTest room next ∷ waits) state
+      ∙ ap (λ test. finish_standing outside (test_move room (record turning { test = test }) state.store state.context waits (Holds condition)) state) (sym is)
+
+  test_cases : (room : ℕ) (turning : Turning) (waits : List (Waiting K)) (left : ℕ) (state : State S) (test : Test) → state.steps ≤ left → turning.test ≡ test
+      → and_then (test_meaning (run_in outside room) test (λ after. turn_meaning (run_in outside room) turning (turns_meaning (run_in outside room) (record turning { test = after }) left)) state) (waits_meaning outside waits)
+      ≡ finish_standing outside (test_move room turning state.store state.context waits test) state
+  test_cases room turning waits left state (Holds condition) le is = holds_same room turning condition waits left state le is
+  test_cases room turning waits left state (Items groups) le is = on_tested_cases room turning waits left state (items_tested (here state.context.levels state.store) groups state.store) le
 
   -- the test of a loop
-  pub test_same : (turning : Turning) (waits : List (Waiting K)) (shows : S) (store : Store) → TakesStep outside replaced (moved (Tests turning) waits) shows store (test_move turning waits (condition_value 0 turning.condition store)) shows store
-  test_same turning waits shows store left = on_test_cases turning waits left (state_with shows store left) (condition_value 0 turning.condition store) (omega arith)
+  pub test_same : (room : ℕ) (turning : Turning) (waits : List (Waiting K)) (shows : S) (store : Store) (context : Context)
+      → TakesStep outside (standing (moved (Tests room turning) waits) store context) shows (test_move room turning store context waits turning.test) shows
+  test_same room turning waits shows store context left = test_cases room turning waits left (state_with shows store context left) turning.test (omega arith) refl
 
-  pub test_given : (turning : Turning) (waits : List (Waiting K)) (shows : S) (store : Store) (after : Moved K) → after ≡ test_move turning waits (condition_value 0 turning.condition store)
-      → TakesStep outside replaced (moved (Tests turning) waits) shows store after shows store
-  test_given turning waits shows store after e left = test_same turning waits shows store left ∙ ap (λ m. finish_moved outside replaced m (state_with shows store left)) (sym e)
+  pub test_given : (room : ℕ) (turning : Turning) (waits : List (Waiting K)) (shows : S) (store : Store) (context : Context) (after : Standing K) → after ≡ test_move room turning store context waits turning.test
+      → TakesStep outside (standing (moved (Tests room turning) waits) store context) shows after shows
+  test_given room turning waits shows store context after e left = test_same room turning waits shows store context left ∙ ap (λ m. finish_from outside m shows left) (sym e)
 
-  -- `while` is called
-  pub call_while : (room : ℕ) (words : List (List ℕ)) (name : List ℕ) (waits : List (Waiting K)) (shows : S) (store : Store) (after : Moved K)
-      → slice_get words 0 ≡ Some name → command_of replaced (plain_name name) ≡ Some While → after ≡ while_move room (drop 1 words) waits
-      → TakesStep outside replaced (moved (Calls room words) waits) shows store after shows store
-  call_while room [] name waits shows store after first is e left = cc
-  call_while room (word ∷ arguments) name waits shows store after first is e left =
-      let same : command_of replaced (plain_name word) ≡ Some While = (let w : word ≡ name = cc in ap (λ x. command_of replaced (plain_name x)) w ∙ is) in
-      ap (λ b. and_then (by_name outside (run_in outside replaced room) word arguments 0 (state_with shows store left) b) (waits_meaning outside replaced waits)) same
-      ∙ while_same room arguments waits (state_with shows store left)
-      ∙ ap (λ m. finish_moved outside replaced m (state_with shows store left)) (sym e)
+  -- a command is called, and what is to be done is this
+  calls_as : (room : ℕ) (name : List ℕ) (arguments : List (List ℕ)) (waits : List (Waiting K)) (shows : S) (store : Store) (context : Context) (called : Called) (left : ℕ) → called ≡ call_of name arguments store context
+      → finish_from outside (standing (moved (Calls room (name ∷ arguments)) waits) store context) shows (suc left)
+      ≡ and_then (called_meaning outside (run_in outside room) name arguments (state_with shows store context left) called) (waits_meaning outside waits)
+  calls_as room name arguments waits shows store context called left e =
+      ap (λ c. and_then (called_meaning outside (run_in outside room) name arguments (state_with shows store context left) c) (waits_meaning outside waits)) (sym e)
+
+  pub call_plan : (room : ℕ) (name : List ℕ) (arguments : List (List ℕ)) (waits : List (Waiting K)) (shows : S) (store : Store) (context : Context) (store' : Store) (context' : Context) (p : Plan) (after : Standing K)
+      → record { store = store'; context = context'; call = call.Plans p } ≡ call_of name arguments store context → after ≡ plan_move room store' context' waits p
+      → TakesStep outside (standing (moved (Calls room (name ∷ arguments)) waits) store context) shows after shows
+  call_plan room name arguments waits shows store context store' context' p after called e left =
+      calls_as room name arguments waits shows store context (record { store = store'; context = context'; call = call.Plans p }) left called
+      ∙ plan_same room waits (state_with shows store' context' left) p
+      ∙ ap (λ m. finish_from outside m shows left) (sym e)
+
+  pub call_outside : (room : ℕ) (name : List ℕ) (arguments : List (List ℕ)) (waits : List (Waiting K)) (shows : S) (store : Store) (context : Context) (store' : Store) (context' : Context) (first : List ℕ) (shows'' : S) (store'' : Store) (act : Act K) (after : Standing K)
+      → record { store = store'; context = context'; call = call.Outside first } ≡ call_of name arguments store context
+      → record { shows = shows''; store = store''; act = act } ≡ outside.calls shows store' (first ∷ arguments)
+      → after ≡ act_move room name store'' context' waits act
+      → TakesStep outside (standing (moved (Calls room (name ∷ arguments)) waits) store context) shows after shows''
+  call_outside room name arguments waits shows store context store' context' first shows'' store'' act after called told e left =
+      calls_as room name arguments waits shows store context (record { store = store'; context = context'; call = call.Outside first }) left called
+      ∙ ap (λ (t : Told S K). and_then (act_meaning outside (run_in outside room) name (told_state t (state_with shows store' context' left)) t.act) (waits_meaning outside waits)) (sym told)
+      ∙ act_same room name waits (state_with shows'' store'' context' left) act
+      ∙ ap (λ m. finish_from outside m shows'' left) (sym e)
+
+  pub call_unknown : (room : ℕ) (name : List ℕ) (arguments : List (List ℕ)) (waits : List (Waiting K)) (shows : S) (store : Store) (context : Context) (store' : Store) (context' : Context) (after : Standing K)
+      → record { store = store'; context = context'; call = call.Unknown } ≡ call_of name arguments store context → after ≡ act_move room name store' context' waits Unknown
+      → TakesStep outside (standing (moved (Calls room (name ∷ arguments)) waits) store context) shows after shows
+  call_unknown room name arguments waits shows store context store' context' after called e left =
+      calls_as room name arguments waits shows store context (record { store = store'; context = context'; call = call.Unknown }) left called
+      ∙ ap (λ m. finish_from outside m shows left) (sym e)
 
   module _ (falls : Falls outside) where
     resumed_act : (room : ℕ) (m : ℕ) (task : K) (code : Code) (text : List ℕ) (state : State S) → outside.size task ≤ m
         → (let told : Told S K = outside.resumes state.shows state.store task code text in
-        resumed outside (run_in outside replaced room) (after_step outside (run_in outside replaced room) state.steps) m task state code text
-        ≡ act_meaning outside (run_in outside replaced room) [] (told_state told state.steps) told.act)
+        resumed outside (run_in outside room) (after_step outside (run_in outside room) state.steps) m task state code text
+        ≡ act_meaning outside (run_in outside room) [] (told_state told state) told.act)
     resumed_act room zero task code text state le =
-        let run : ℕ → List ℕ → State S → Outcome S = run_in outside replaced room in
-        on_act_same outside run (within_script outside replaced room) state.steps (outside.size task) (after_step outside run state.steps) (after_step outside run state.steps) (λ _ state' _ _. OutOfSteps state') (task_meaning outside run)
+        let run : List ℕ → State S → Outcome S = run_in outside room in
+        on_act_same outside run (within_script outside room) state.steps (outside.size task) (after_step outside run state.steps) (after_step outside run state.steps) (λ _ state' _ _. OutOfSteps state') (task_meaning outside run)
         (λ task' state' less. refl) (λ task' state' code' text' less le'. absurd (omega arith)) [] _ (outside.resumes state.shows state.store task code text).act (falls state.shows state.store task code text) (omega arith)
     resumed_act room (suc m) task code text state le =
-        let run : ℕ → List ℕ → State S → Outcome S = run_in outside replaced room in
-        on_act_same outside run (within_script outside replaced room) state.steps (outside.size task) (after_step outside run state.steps) (after_step outside run state.steps) (resumed outside run (after_step outside run state.steps) m) (task_meaning outside run)
+        let run : List ℕ → State S → Outcome S = run_in outside room in
+        on_act_same outside run (within_script outside room) state.steps (outside.size task) (after_step outside run state.steps) (after_step outside run state.steps) (resumed outside run (after_step outside run state.steps) m) (task_meaning outside run)
         (λ task' state' less. refl)
         (λ task' state' code' text' less le'.
-        resumed_same outside run (within_script outside replaced room) falls state'.steps (after_step outside run state.steps) (after_step outside run state'.steps)
-        (λ task'' state'' less'. after_step_same outside run (within_script outside replaced room) falls state.steps state'.steps task'' state'' (omega arith) less')
+        resumed_same outside run (within_script outside room) falls state'.steps (after_step outside run state.steps) (after_step outside run state'.steps)
+        (λ task'' state'' less'. after_step_same outside run (within_script outside room) falls state.steps state'.steps task'' state'' (omega arith) less')
         m (outside.size task') task' state' code' text' (omega arith) (omega arith) (omega arith))
         [] _ (outside.resumes state.shows state.store task code text).act (falls state.shows state.store task code text) (omega arith)
 
     -- a task is resumed
-    pub resume_same : (room : ℕ) (task : K) (code : Code) (text : List ℕ) (waits : List (Waiting K)) (shows : S) (store : Store)
+    pub resume_same : (room : ℕ) (task : K) (code : Code) (text : List ℕ) (waits : List (Waiting K)) (shows : S) (store : Store) (context : Context)
         → (let told : Told S K = outside.resumes shows store task code text in
-        TakesNone outside replaced (moved (Resumes room task code text) waits) shows store (act_move room [] waits told.act) told.shows told.store)
-    resume_same room task code text waits shows store left =
-        ap (λ o. and_then o (waits_meaning outside replaced waits)) (resumed_act room (outside.size task) task code text (state_with shows store left) (omega arith))
+        TakesNone outside (standing (moved (Resumes room task code text) waits) store context) shows (act_move room [] told.store context waits told.act) told.shows)
+    resume_same room task code text waits shows store context left =
+        ap (λ o. and_then o (waits_meaning outside waits)) (resumed_act room (outside.size task) task code text (state_with shows store context left) (omega arith))
         ∙ act_same room [] waits _ (outside.resumes shows store task code text).act
 
     -- moves without a step lead to a task, and it is resumed
-    pub settle_on : (m : Moved K) (shows : S) (store : Store) (room : ℕ) (task : K) (code : Code) (text : List ℕ) (waits : List (Waiting K)) (after : Moved K) (shows' : S) (store' : Store)
-        → Leads store m (moved (Resumes room task code text) waits) → Resumed outside room task code text waits shows store after shows' store'
-        → TakesNone outside replaced m shows store after shows' store'
-    settle_on m shows store room task code text waits after shows' store' leads (act, told, e) left =
-        leads_same outside replaced m (moved (Resumes room task code text) waits) (state_with shows store left) leads
-        ∙ subst (λ (t : Told S K). TakesNone outside replaced (moved (Resumes room task code text) waits) shows store (act_move room [] waits t.act) t.shows t.store) (sym told) (resume_same room task code text waits shows store) left
-        ∙ ap (λ x. finish_moved outside replaced x (state_with shows' store' left)) (sym e)
+    pub settle_on : (m : Standing K) (shows : S) (room : ℕ) (task : K) (code : Code) (text : List ℕ) (waits : List (Waiting K)) (store : Store) (context : Context) (after : Standing K) (shows' : S)
+        → Leads m (standing (moved (Resumes room task code text) waits) store context) → Resumed outside room task code text waits shows store context after shows'
+        → TakesNone outside m shows after shows'
+    settle_on m shows room task code text waits store context after shows' leads (store', act, told, e) left =
+        leads_same outside m (standing (moved (Resumes room task code text) waits) store context) (state_with shows m.store m.context left) leads
+        ∙ subst (λ (t : Told S K). TakesNone outside (standing (moved (Resumes room task code text) waits) store context) shows (act_move room [] t.store context waits t.act) t.shows) (sym told) (resume_same room task code text waits shows store context) left
+        ∙ ap (λ x. finish_from outside x shows' left) (sym e)
 
-  pub leads_none : (m n : Moved K) (shows : S) (store : Store) → Leads store m n → TakesNone outside replaced m shows store n shows store
-  leads_none m n shows store leads left = leads_same outside replaced m n (state_with shows store left) leads
+  pub leads_none : (m n : Standing K) (shows : S) → Leads m n → TakesNone outside m shows n shows
+  leads_none m n shows leads left = leads_same outside m n (state_with shows m.store m.context left) leads
 
 -- a task that was resumed leaves less for tasks to do
-act_falls : {K : Type 0} (size : K → ℕ) (room bound : ℕ) (waits : List (Waiting K)) (act : Act K) → RunsBelow size bound act → tasks size (act_move room [] waits act) < suc bound + waits_tasks size waits
-act_falls size room bound waits (Done code text) below = omega arith
-act_falls size room bound waits (Step task) below = omega arith
-act_falls size room bound waits (Run script task) below = omega arith
-act_falls size room bound waits Unknown below = omega arith
+act_falls : {K : Type 0} (size : K → ℕ) (room bound : ℕ) (store : Store) (context : Context) (waits : List (Waiting K)) (act : Act K) → RunsBelow size bound act → tasks size (act_move room [] store context waits act).moved < suc bound + waits_tasks size waits
+act_falls size room bound store context waits (Done code text) below = omega arith
+act_falls size room bound store context waits (Step task) below = omega arith
+act_falls size room bound store context waits (Run script task) below = omega arith
+act_falls size room bound store context waits Unknown below = omega arith
 
-pub resumed_falls : {S K : Type 0} (outside : Outside S K) → Falls outside → (room : ℕ) (task : K) (code : Code) (text : List ℕ) (waits : List (Waiting K)) (shows : S) (store : Store) (after : Moved K) (shows' : S) (store' : Store)
-    → Resumed outside room task code text waits shows store after shows' store' → tasks outside.size after < suc (outside.size task) + waits_tasks outside.size waits
-resumed_falls outside falls room task code text waits shows store after shows' store' (act, told, e) =
+pub resumed_falls : {S K : Type 0} (outside : Outside S K) → Falls outside → (room : ℕ) (task : K) (code : Code) (text : List ℕ) (waits : List (Waiting K)) (shows : S) (store : Store) (context : Context) (after : Standing K) (shows' : S)
+    → Resumed outside room task code text waits shows store context after shows' → tasks outside.size after.moved < suc (outside.size task) + waits_tasks outside.size waits
+resumed_falls outside falls room task code text waits shows store context after shows' (store', act, told, e) =
     let below : RunsBelow outside.size (outside.size task) act = subst (λ (t : Told _ _). RunsBelow outside.size (outside.size task) t.act) (sym told) (falls shows store task code text) in
-    rw e (act_falls outside.size room (outside.size task) waits act below)
+    rw e (act_falls outside.size room (outside.size task) store' context waits act below)

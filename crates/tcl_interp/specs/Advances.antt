@@ -1,13 +1,14 @@
 -- What one move of the interpreter comes to.
 use Rattle.std.specs.Prelude.{◌≡◌, List}
 use Rattle.tcl_vars.specs.Store.{Store}
+use Rattle.tcl_control.specs.declared.context.Context.{Context}
 use Rattle.tcl_interp.specs.declared.machine.Frame.{Frame}
 use Rattle.tcl_interp.specs.declared.moves.Move.{Move}
 use Rattle.tcl_interp.specs.declared.moves.Move.TheVariants.{On, Due}
-use Rattle.tcl_interp.specs.Moves.{Moved}
-use Rattle.tcl_interp.specs.Quiet.{quiet_move, IsDue, IsQuiet}
-use Rattle.tcl_interp.specs.Rests.{moved_of}
+use Rattle.tcl_interp.specs.Moves.{Standing}
+use Rattle.tcl_interp.specs.Quiet.{Moves, IsDue, IsQuiet}
+use Rattle.tcl_interp.specs.Rests.{moved_of, standing_of}
 
-abbrev pub MoveGives : {K : Type 0} → Store → Moved K → List (Frame K) → Move K → Type 0
-MoveGives store before frames (On now) = IsQuiet before × (moved_of now frames ≡ quiet_move store before)
-MoveGives store before frames (Due now) = (moved_of now frames ≡ before) × IsDue (moved_of now frames)
+abbrev pub MoveGives : {K : Type 0} → Standing K → List (Frame K) → Store → Context → Move K → Type 0
+MoveGives before frames store context (On now) = IsQuiet before.moved × Moves before (standing_of now frames store context)
+MoveGives before frames store context (Due now) = (standing_of now frames store context ≡ before) × IsDue (moved_of now frames)

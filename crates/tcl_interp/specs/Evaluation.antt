@@ -1,25 +1,39 @@
 -- The evaluation of words and of commands in order, where it is given how a script and how a command is run.
-use Rattle.std.specs.Prelude.{ℕ, zero, suc, List, [], ◌∷◌, ◌++◌, length, nat_le, if◌then◌else◌, Result, Ok, Err, codes}
+use Rattle.std.specs.Prelude.{ℕ, zero, suc, Bool, List, [], ◌∷◌, ◌++◌, length, nat_le, if◌then◌else◌, Result, Ok, Err}
+use Rattle.tcl_text.specs.Readings.{list_of}
+use Rattle.tcl_text.specs.Splitting.{fault_text as list_text}
+use Rattle.tcl_text.specs.declared.splitting.ListFault.{ListFault}
 use Rattle.tcl_words.specs.declared.script.Command.{Command}
 use Rattle.tcl_words.specs.declared.script.Word.{Word}
 use Rattle.tcl_words.specs.declared.script.Piece.{Piece}
 use Rattle.tcl_words.specs.declared.script.Piece.TheVariants.{Literal, Variable, Element, Bracket}
-use Rattle.tcl_vars.specs.Store.{Store, variable_in}
+use Rattle.tcl_words.specs.declared.fault.ParseFault.{ParseFault}
+use Rattle.tcl_words.specs.declared.fault.ParseFault.TheVariants.{TooLong}
+use Rattle.tcl_words.specs.Faults.{text_of}
+use Rattle.tcl_words.specs.Reading.{index_pieces_of}
+use Rattle.tcl_vars.specs.Store.{Store, variable_in, element_in}
 use Rattle.tcl_vars.specs.declared.fault.ReadFault.{ReadFault}
-use Rattle.tcl_interp.specs.declared.tasks.Code.{Code}
-use Rattle.tcl_interp.specs.declared.tasks.Code.TheVariants.{Normal, Error}
-use Rattle.tcl_interp.specs.Texts.{limit_text, cannot_read}
+use Rattle.tcl_control.specs.declared.code.Code.{Code}
+use Rattle.tcl_control.specs.declared.code.Code.TheVariants.{Normal, Error}
+use Rattle.tcl_control.specs.declared.context.Context.{Context}
+use Rattle.tcl_control.specs.Levels.{here}
+use Rattle.tcl_control.specs.Texts.{limit_text, message, cannot_read, element_name}
 
--- what the object of the outside commands shows, the variables, and how many steps are left
+-- What the object of the outside commands shows, the variables, the levels and the commands, and how many steps are left.
 pub record State (S : Type 0) : Type 0 where
   pub shows : S
   pub store : Store
+  pub context : Context
   pub steps : ℕ
 
 -- how a script or a command ends: in a state, with a code and a text, or for good because it needs a step and none is left
 pub data Outcome (S : Type 0) : Type 0 where
   Ended : State S → Code → List ℕ → Outcome S
   OutOfSteps : State S → Outcome S
+
+-- the place of the frame whose variables are seen
+abbrev pub level_of : {S : Type 0} → State S → ℕ
+level_of state = here state.context.levels state.store
 
 -- what comes behind something that ends
 abbrev pub and_then : {S : Type 0} → Outcome S → (State S → Code → List ℕ → Outcome S) → Outcome S
@@ -44,41 +58,81 @@ abbrev pub on_read : {S : Type 0} → List ℕ → State S → (State S → List
 on_read name state after (Ok value) = after state value
 on_read name state after (Err fault) = Ended state Error (cannot_read name fault)
 
-abbrev pub with_value_of : {S : Type 0} → ℕ → List ℕ → State S → (State S → List ℕ → Outcome S) → Outcome S
-with_value_of level name state after = on_read name state after (variable_in state.store level name)
+abbrev pub with_value_of : {S : Type 0} → List ℕ → State S → (State S → List ℕ → Outcome S) → Outcome S
+with_value_of name state after = on_read name state after (variable_in state.store (level_of state) name)
 
 -- with the text so far of a word and one piece more, where that isn't too long for a value
 abbrev pub with_joined : {S : Type 0} → List ℕ → List ℕ → State S → (State S → List ℕ → Outcome S) → Outcome S
 with_joined so_far text state after = if nat_le (length (so_far ++ text)) 65536 then after state (so_far ++ text) else Ended state Error limit_text
 
--- How a script is run at a level, and how a command is called with its words, are given.
-module _ {S : Type 0} (run : ℕ → List ℕ → State S → Outcome S) (call : ℕ → List (List ℕ) → State S → Outcome S) where
-  -- A piece of a word: its text.
-  abbrev pub piece_meaning : ℕ → Piece → State S → (State S → List ℕ → Outcome S) → Outcome S
-  piece_meaning level (Literal text) state after = after state text
-  piece_meaning level (Variable name) state after = with_value_of level name state after
-  piece_meaning level (Element name index) state after = Ended state Error (codes "not yet")
-  piece_meaning level (Bracket script) state after = and_then (run level script state) (on_normal after)
+-- The words that a word's text gives: itself, or the elements of the list that it is, where `{*}` stands before it.
+abbrev pub split_words : Result (List (List ℕ)) ListFault → Result (List (List ℕ)) (List ℕ)
+split_words (Ok items) = Ok items
+split_words (Err fault) = Err (message (list_text fault))
 
-  -- the pieces that are left of a word, behind what stands before them
-  abbrev pub pieces_meaning : ℕ → List Piece → List ℕ → State S → (State S → List ℕ → Outcome S) → Outcome S
-  pieces_meaning level [] so_far state after = after state so_far
-  pieces_meaning level (piece ∷ pieces) so_far state after =
-      piece_meaning level piece state (λ state' text. with_joined so_far text state' (λ state'' joined. pieces_meaning level pieces joined state'' after))
+abbrev pub words_of : Bool → List ℕ → Result (List (List ℕ)) (List ℕ)
+words_of expand text = if expand then split_words (list_of text) else Ok (text ∷ [])
 
+abbrev pub on_words : {S : Type 0} → State S → (State S → List (List ℕ) → Outcome S) → Result (List (List ℕ)) (List ℕ) → Outcome S
+on_words state after (Ok words) = after state words
+on_words state after (Err text) = Ended state Error text
+
+-- the pieces of the index of an element, or its fault
+unfoldable pub index_pieces : List ℕ → Result (List Piece) ParseFault
+index_pieces text = index_pieces_of text
+
+-- an element is read, whose index is whole
+abbrev pub element_read : {S : Type 0} → List ℕ → State S → List ℕ → Outcome S
+element_read name state index = on_read (element_name name index) state (λ state' value. Ended state' Normal value) (element_in state.store (level_of state) name index)
+
+abbrev pub on_index : {S : Type 0} → State S → (List Piece → Outcome S) → Result (List Piece) ParseFault → Outcome S
+on_index state after (Ok pieces) = after pieces
+on_index state after (Err fault) = Ended state Error (message (text_of fault))
+
+-- How a script is run, and how an element of an array is read, by its name and its index, are given.
+module _ {S : Type 0} (run : List ℕ → State S → Outcome S) (element : List ℕ → List ℕ → State S → Outcome S) where
+  -- A piece of a word, or of an index: its text.
+  abbrev pub piece_meaning : Piece → State S → (State S → List ℕ → Outcome S) → Outcome S
+  piece_meaning (Literal text) state after = after state text
+  piece_meaning (Variable name) state after = with_value_of name state after
+  piece_meaning (Element name index) state after = and_then (element name index state) (on_normal after)
+  piece_meaning (Bracket script) state after = and_then (run script state) (on_normal after)
+
+  -- the pieces that are left of a word or an index, behind what stands before them
+  abbrev pub pieces_meaning : List Piece → List ℕ → State S → (State S → List ℕ → Outcome S) → Outcome S
+  pieces_meaning [] so_far state after = after state so_far
+  pieces_meaning (piece ∷ pieces) so_far state after =
+      piece_meaning piece state (λ state' text. with_joined so_far text state' (λ state'' joined. pieces_meaning pieces joined state'' after))
+
+-- how many indices stand in one another at most, in a script that can be read
+unfoldable pub index_depth : ℕ
+index_depth = 200
+
+module _ {S : Type 0} (run : List ℕ → State S → Outcome S) where
+  -- An element: its index is put together, and then it is read. No script is read where more than so many indices stand in one another.
+  abbrev pub element_meaning : ℕ → List ℕ → List ℕ → State S → Outcome S
+  element_meaning zero name index state = Ended state Error (message (text_of TooLong))
+  element_meaning (suc depth) name index state = on_index state (λ pieces. pieces_meaning run (element_meaning depth) pieces [] state (element_read name)) (index_pieces index)
+
+  -- the pieces of a word
+  abbrev pub word_meaning : List Piece → List ℕ → State S → (State S → List ℕ → Outcome S) → Outcome S
+  word_meaning pieces so_far state after = pieces_meaning run (element_meaning index_depth) pieces so_far state after
+
+-- How a script is run, and how a command is called with its words, are given.
+module _ {S : Type 0} (run : List ℕ → State S → Outcome S) (call : List (List ℕ) → State S → Outcome S) where
   -- the words that are left of a command, behind those before them
-  abbrev pub words_meaning : ℕ → List Word → List (List ℕ) → State S → (State S → List (List ℕ) → Outcome S) → Outcome S
-  words_meaning level [] words state after = after state words
-  words_meaning level (word ∷ rest) words state after =
-      pieces_meaning level word.pieces [] state (λ state' text. words_meaning level rest (words ++ text ∷ []) state' after)
+  abbrev pub words_meaning : List Word → List (List ℕ) → State S → (State S → List (List ℕ) → Outcome S) → Outcome S
+  words_meaning [] words state after = after state words
+  words_meaning (word ∷ rest) words state after =
+      word_meaning run word.pieces [] state (λ state' text. on_words state' (λ state'' more. words_meaning rest (words ++ more) state'' after) (words_of word.expand text))
 
   -- A command is called once its words are put together, for one step. One without words does nothing, and takes no step.
-  abbrev pub called : ℕ → State S → List (List ℕ) → Outcome S
-  called level state [] = Ended state Normal []
-  called level state (name ∷ arguments) = with_step state (call level (name ∷ arguments))
+  abbrev pub called : State S → List (List ℕ) → Outcome S
+  called state [] = Ended state Normal []
+  called state (name ∷ arguments) = with_step state (call (name ∷ arguments))
 
   -- the commands that are left of a script, behind one with this result
-  abbrev pub commands_meaning : ℕ → List Command → List ℕ → State S → Outcome S
-  commands_meaning level [] result state = Ended state Normal result
-  commands_meaning level (command ∷ rest) result state =
-      and_then (words_meaning level command.words [] state (called level)) (on_normal (λ state' text. commands_meaning level rest text state'))
+  abbrev pub commands_meaning : List Command → List ℕ → State S → Outcome S
+  commands_meaning [] result state = Ended state Normal result
+  commands_meaning (command ∷ rest) result state =
+      and_then (words_meaning command.words [] state called) (on_normal (λ state' text. commands_meaning rest text state'))

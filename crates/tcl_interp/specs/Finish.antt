@@ -1,38 +1,48 @@
 -- What an interpreter still has to do, and the outcome of doing it, innermost first.
-use Rattle.std.specs.Prelude.{ℕ, List, [], ◌∷◌, ◌++◌, codes}
+use Rattle.std.specs.Prelude.{ℕ, Bool, List, [], ◌∷◌, ◌++◌, Option, Some, codes}
 use Rattle.tcl_words.specs.declared.script.Command.{Command}
 use Rattle.tcl_words.specs.declared.script.Word.{Word}
 use Rattle.tcl_words.specs.declared.script.Piece.{Piece}
-use Rattle.tcl_interp.specs.declared.loops.Condition.{Condition}
-use Rattle.tcl_interp.specs.declared.tasks.Code.{Code}
-use Rattle.tcl_interp.specs.declared.tasks.Code.TheVariants.{Normal, Error, Break, Continue}
+use Rattle.tcl_control.specs.declared.code.Code.{Code}
+use Rattle.tcl_control.specs.declared.code.Code.TheVariants.{Normal, Error, Break, Continue}
+use Rattle.tcl_control.specs.declared.turns.Turning.{Turning}
+use Rattle.tcl_shapes.specs.declared.branches.Branch.{Branch}
+use Rattle.tcl_expr.specs.Evaluation.{Evaluation, told}
 use Rattle.tcl_interp.specs.Outside.{Outside}
-use Rattle.tcl_interp.specs.Evaluation.{State, Outcome, Ended, OutOfSteps, and_then, on_normal, with_step, with_joined, pieces_meaning, words_meaning, called, commands_meaning}
-use Rattle.tcl_interp.specs.Commands.{turns_meaning, after_body}
+use Rattle.tcl_interp.specs.Evaluation.{State, Outcome, Ended, OutOfSteps, and_then, on_normal, with_step, with_joined, words_of, on_words, pieces_meaning, element_read, element_meaning, word_meaning, words_meaning, called, commands_meaning}
+use Rattle.tcl_interp.specs.Expressions.{value_ended, on_value, if_holds, run_meaning, otherwise_meaning, choices_meaning}
+use Rattle.tcl_interp.specs.Plans.{levels_back, procedure_ended, caught, loop_ended, after_body, after_next, next_turn, turn_meaning, loop_meaning}
 use Rattle.tcl_interp.specs.Scripts.{script_meaning, call_meaning, task_meaning, after_step, out_of_global}
 
--- a loop, and the room for scripts in it
-pub record Turning : Type 0 where
-  pub room : ℕ
-  pub condition : Condition
-  pub body : List ℕ
-
 -- a command whose words are being put together: the commands after it, the words that are whole, what there is of the next
--- one, and what is left of it and after it
+-- one, whether that is a list of words, and what is left of it and after it
 pub record Wording : Type 0 where
   pub room : ℕ
   pub after : List Command
   pub whole : List (List ℕ)
   pub so_far : List ℕ
+  pub expand : Bool
   pub pieces : List Piece
   pub words : List Word
+
+-- An element whose index is being put together: the room for scripts in it and for indices, the array's name, what there is of the index,
+-- and what is left of it.
+pub record Indexing : Type 0 where
+  pub room : ℕ
+  pub depth : ℕ
+  pub name : List ℕ
+  pub so_far : List ℕ
+  pub pieces : List Piece
 
 -- what is done now, with the room for scripts in it
 pub data Doing (K : Type 0) : Type 0 where
   Begins : ℕ → List ℕ → Doing K
   GoesOn : ℕ → List Command → List ℕ → Doing K
+  Indexes : Indexing → Doing K
+  -- an evaluation, with the answer to what it asked
+  Evaluates : ℕ → Evaluation → Option (List ℕ) → Doing K
   Calls : ℕ → List (List ℕ) → Doing K
-  Tests : Turning → Doing K
+  Tests : ℕ → Turning → Doing K
   Steps : ℕ → K → Doing K
   Resumes : ℕ → K → Code → List ℕ → Doing K
   Ends : Code → List ℕ → Doing K
@@ -41,10 +51,28 @@ pub data Doing (K : Type 0) : Type 0 where
 pub data Waiting (K : Type 0) : Type 0 where
   -- a script, for a command of it
   ForCommand : ℕ → List Command → Waiting K
-  -- a command, for a bracket in its words
-  ForBracket : Wording → Waiting K
+  -- a command, for a bracket or an element in its words
+  ForPart : Wording → Waiting K
+  -- an index, for a bracket or an element in it
+  ForIndex : Indexing → Waiting K
+  -- an evaluation, for a bracket in it
+  ForValue : ℕ → Evaluation → Waiting K
+  -- a loop, for the value of its condition
+  ForTest : ℕ → Turning → Waiting K
+  -- `if`, for the value of the first condition: its branches from there on, and its last body
+  ForChoice : ℕ → List Branch → Option (List ℕ) → Waiting K
   -- a loop, for its body
-  ForBody : Turning → Waiting K
+  ForBody : ℕ → Turning → Waiting K
+  -- a loop, for what `for` runs behind the body
+  ForNext : ℕ → Turning → Waiting K
+  -- a loop, for what `for` runs before it
+  ForStart : ℕ → Turning → Waiting K
+  -- `catch`, for its script: the name of the variable that takes the result
+  ForCatch : Option (List ℕ) → Waiting K
+  -- the levels that are there again after a script at fewer of them
+  ForLevels : List ℕ → Waiting K
+  -- a procedure, for its body
+  ForProcedure : Waiting K
   -- a task, for its script
   ForScript : ℕ → K → Waiting K
   -- the interpreter, for the script at global level that it began
@@ -71,47 +99,80 @@ at_global state Break text = Ended state Error (codes "invoked \"break\" outside
 at_global state Continue text = Ended state Error (codes "invoked \"continue\" outside of a loop")
 at_global state code text = Ended state code text
 
-module _ {S K : Type 0} (outside : Outside S K) (replaced : List (List ℕ)) where
+module _ {S K : Type 0} (outside : Outside S K) where
   -- the commands that are left of a script
   abbrev pub script_rest : ℕ → List Command → List ℕ → State S → Outcome S
   script_rest room commands result state =
-      commands_meaning (script_meaning outside replaced room) (call_meaning outside (script_meaning outside replaced room) replaced) 0 commands result state
+      commands_meaning (script_meaning outside room) (call_meaning outside (script_meaning outside room)) commands result state
 
   -- what is left of the words of a command, and then its call
   abbrev pub words_rest : ℕ → List Word → List (List ℕ) → State S → Outcome S
   words_rest room words whole state =
-      words_meaning (script_meaning outside replaced room) (call_meaning outside (script_meaning outside replaced room) replaced) 0 words whole state
-      (called (script_meaning outside replaced room) (call_meaning outside (script_meaning outside replaced room) replaced) 0)
+      words_meaning (script_meaning outside room) (call_meaning outside (script_meaning outside room)) words whole state
+      (called (script_meaning outside room) (call_meaning outside (script_meaning outside room)))
+
+  -- a word is whole, and then come the words behind it
+  abbrev pub word_done : ℕ → Bool → List Word → List (List ℕ) → State S → List ℕ → Outcome S
+  word_done room expand words whole state text = on_words state (λ state' more. words_rest room words (whole ++ more) state') (words_of expand text)
 
   -- what is left of a word, and then of the words behind it
-  abbrev pub word_rest : ℕ → List Piece → List ℕ → List Word → List (List ℕ) → State S → Outcome S
-  word_rest room pieces so_far words whole state =
-      pieces_meaning (script_meaning outside replaced room) (call_meaning outside (script_meaning outside replaced room) replaced) 0 pieces so_far state
-      (λ state' text. words_rest room words (whole ++ text ∷ []) state')
+  abbrev pub word_rest : ℕ → List Piece → List ℕ → Bool → List Word → List (List ℕ) → State S → Outcome S
+  word_rest room pieces so_far expand words whole state =
+      word_meaning (script_meaning outside room) pieces so_far state (word_done room expand words whole)
 
-  abbrev pub loop_rest : Turning → State S → Outcome S
-  loop_rest turning state = turns_meaning (script_meaning outside replaced turning.room) 0 turning.condition turning.body state.steps state
+  -- what is left of an index behind what there is of it, and then its element
+  abbrev pub index_rest : Indexing → List ℕ → State S → Outcome S
+  index_rest x so_far state =
+      pieces_meaning (script_meaning outside x.room) (element_meaning (script_meaning outside x.room) x.depth) x.pieces so_far state (element_read x.name)
+
+  abbrev pub loop_rest : ℕ → Turning → State S → Outcome S
+  loop_rest room turning state = loop_meaning (script_meaning outside room) turning state
+
+  -- what is left of an evaluation
+  abbrev pub value_rest : ℕ → Evaluation → Option (List ℕ) → State S → Outcome S
+  value_rest room evaluation given state = run_meaning (script_meaning outside room) (told evaluation given) state
+
+  -- the first branch of `if`, by whether its condition holds
+  abbrev pub choice_rest : ℕ → List Branch → Option (List ℕ) → Bool → State S → Outcome S
+  choice_rest room [] otherwise holds state = otherwise_meaning (script_meaning outside room) otherwise state
+  choice_rest room (branch ∷ branches) otherwise holds state =
+      if_holds (script_meaning outside room branch.body) (choices_meaning (script_meaning outside room) branches otherwise) holds state
+
+  -- the body of a loop, and what comes after it
+  abbrev pub turn_rest : ℕ → Turning → State S → Outcome S
+  turn_rest room turning state = turn_meaning (script_meaning outside room) turning (loop_rest room turning) state
 
   abbrev pub task_rest : ℕ → K → State S → Code → List ℕ → Outcome S
-  task_rest room task state code text = task_meaning outside (script_meaning outside replaced room) task state code text
+  task_rest room task state code text = task_meaning outside (script_meaning outside room) task state code text
 
   abbrev pub doing_meaning : Doing K → State S → Outcome S
-  doing_meaning (Begins room text) state = script_meaning outside replaced room 0 text state
+  doing_meaning (Begins room text) state = script_meaning outside room text state
   doing_meaning (GoesOn room commands result) state = script_rest room commands result state
-  doing_meaning (Calls room words) state = with_step state (call_meaning outside (script_meaning outside replaced room) replaced 0 words)
-  doing_meaning (Tests turning) state = loop_rest turning state
-  doing_meaning (Steps room task) state = with_step state (after_step outside (script_meaning outside replaced room) state.steps task)
+  doing_meaning (Indexes x) state = index_rest x x.so_far state
+  doing_meaning (Evaluates room evaluation given) state = value_rest room evaluation given state
+  doing_meaning (Calls room words) state = with_step state (call_meaning outside (script_meaning outside room) words)
+  doing_meaning (Tests room turning) state = loop_rest room turning state
+  doing_meaning (Steps room task) state = with_step state (after_step outside (script_meaning outside room) state.steps task)
   doing_meaning (Resumes room task code text) state = task_rest room task state code text
   doing_meaning (Ends code text) state = Ended state code text
 
   abbrev pub waiting_meaning : Waiting K → State S → Code → List ℕ → Outcome S
   waiting_meaning (ForCommand room after) state code text = on_normal (λ state' result. script_rest room after result state') state code text
-  waiting_meaning (ForBracket w) state code text =
+  waiting_meaning (ForPart w) state code text =
       on_normal (λ state' piece.
-      and_then (with_joined w.so_far piece state' (λ state'' joined. word_rest w.room w.pieces joined w.words w.whole state''))
+      and_then (with_joined w.so_far piece state' (λ state'' joined. word_rest w.room w.pieces joined w.expand w.words w.whole state''))
       (on_normal (λ state'' result. script_rest w.room w.after result state'')))
       state code text
-  waiting_meaning (ForBody turning) state code text = after_body (loop_rest turning) state code text
+  waiting_meaning (ForIndex x) state code text = on_normal (λ state' piece. with_joined x.so_far piece state' (λ state'' joined. index_rest x joined state'')) state code text
+  waiting_meaning (ForValue room evaluation) state code text = on_normal (λ state' value. value_rest room evaluation (Some value) state') state code text
+  waiting_meaning (ForTest room turning) state code text = on_value (if_holds (turn_rest room turning) loop_ended) state code text
+  waiting_meaning (ForChoice room branches otherwise) state code text = on_value (choice_rest room branches otherwise) state code text
+  waiting_meaning (ForBody room turning) state code text = after_body (next_turn (script_meaning outside room) turning.next (loop_rest room turning)) state code text
+  waiting_meaning (ForNext room turning) state code text = after_next (loop_rest room turning) state code text
+  waiting_meaning (ForStart room turning) state code text = on_normal (λ state' result. loop_rest room turning state') state code text
+  waiting_meaning (ForCatch name) state code text = caught name state code text
+  waiting_meaning (ForLevels levels) state code text = levels_back levels state code text
+  waiting_meaning ForProcedure state code text = procedure_ended state code text
   waiting_meaning (ForScript room task) state code text = task_rest room task state (out_of_global code) text
   waiting_meaning ForAll state code text = at_global state (out_of_global code) text
 

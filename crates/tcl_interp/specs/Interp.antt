@@ -1,12 +1,22 @@
 -- What an interpreter stands for, and what a slice of it reaches.
-use Rattle.std.specs.Prelude.{◌≡◌, ◌≢◌, ℕ, List}
+use Rattle.std.specs.Prelude.{◌≡◌, ◌≢◌, ℕ, List, [], ◌∷◌}
 use Rattle.tcl_vars.specs.Store.{Store}
+use Rattle.tcl_control.specs.declared.context.Context.{Context}
+use Rattle.tcl_control.specs.Table.{first_commands}
 use Rattle.tcl_interp.specs.declared.interp.Interp.{Interp}
 use Rattle.tcl_interp.specs.declared.interp.SliceEnd.{SliceEnd}
 use Rattle.tcl_interp.specs.declared.interp.SliceEnd.TheVariants.{Done, More, Exhausted}
 use Rattle.tcl_interp.specs.Evaluation.{State, Outcome, Ended, OutOfSteps}
 use Rattle.tcl_interp.specs.Finish.{Doing, Waiting, Rest, Idle, Running, Spent}
 use Rattle.tcl_interp.specs.Rests.{rest_by, waits_of}
+
+-- the context at first: global level, and the commands, with these outside ones
+abbrev pub first_context : List (List ℕ) → Context
+first_context names = record { levels = 0 ∷ []; commands = first_commands names }
+
+-- the context at global level
+abbrev pub at_top : Context → Context
+at_top context = record context { levels = 0 ∷ [] }
 
 module _ {K : Type 0} where
   -- what it still has to do
@@ -21,13 +31,13 @@ module _ {K : Type 0} where
   abbrev pub budget_of : Interp K → ℕ
   budget_of interp = interp.budget
 
-  -- the built-in commands that are replaced
-  abbrev pub replaced_in : Interp K → List (List ℕ)
-  replaced_in interp = interp.replaced
+  -- the levels and the commands
+  abbrev pub context_of : Interp K → Context
+  context_of interp = interp.context
 
   -- the state that it acts on, with the object of the outside commands and the variables
   abbrev pub state_of : {S : Type 0} → Interp K → S → Store → State S
-  state_of interp shows store = record { shows = shows; store = store; steps = interp.left }
+  state_of interp shows store = record { shows = shows; store = store; context = interp.context; steps = interp.left }
 
   abbrev pub IsRunning : Rest K → Type 0
   IsRunning rest = (doing : Doing K) × (waits : List (Waiting K)) × (rest ≡ Running doing waits)

@@ -1,16 +1,15 @@
 -- What the contracts cite.
 pub mod Advances
-pub mod Commands
 pub mod Evaluation
+pub mod Expressions
 pub mod Finish
 pub mod Interp
 pub mod Moves
 pub mod Outside
+pub mod Plans
 pub mod Quiet
 pub mod Rests
 pub mod Runs
-pub mod Sample
-pub mod SampleFalls
 pub mod Scripts
 pub mod Steps
 pub mod Texts

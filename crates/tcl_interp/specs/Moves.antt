@@ -1,49 +1,81 @@
--- The moves of the interpreter that take no step and call nothing outside: what is done, and what waits, after each.
-use Rattle.std.specs.Prelude.{ℕ, ◌-◌, ◌==◌, Bool, true, false, List, [], ◌∷◌, ◌++◌, length, nat_le, if◌then◌else◌, Result, Ok, Err, codes}
+-- The moves of the interpreter: what is done, what waits, the variables and the context after each.
+use Rattle.std.specs.Prelude.{ℕ, ◌-◌, ◌==◌, Bool, true, false, List, [], ◌∷◌, ◌++◌, length, nat_le, if◌then◌else◌, Option, Some, None, Result, Ok, Err, codes}
 use Rattle.tcl_words.specs.declared.script.Command.{Command}
 use Rattle.tcl_words.specs.declared.script.Word.{Word}
 use Rattle.tcl_words.specs.declared.script.Piece.{Piece}
 use Rattle.tcl_words.specs.declared.script.Piece.TheVariants.{Literal, Variable, Element, Bracket}
 use Rattle.tcl_words.specs.declared.fault.ParseFault.{ParseFault}
-use Rattle.tcl_vars.specs.Store.{Store, variable_in}
+use Rattle.tcl_words.specs.declared.fault.ParseFault.TheVariants.{TooLong}
+use Rattle.tcl_words.specs.Faults.{text_of}
+use Rattle.tcl_vars.specs.Store.{Store, variable_in, element_in}
+use Rattle.tcl_shapes.specs.declared.branches.Branch.{Branch}
+use Rattle.tcl_expr.specs.declared.ask.Ask.{Ask}
+use Rattle.tcl_expr.specs.declared.ask.Ask.TheVariants as ask
+use Rattle.tcl_expr.specs.declared.fault.EvalFault.{EvalFault}
+use Rattle.tcl_expr.specs.Evaluation.{Evaluation}
+use Rattle.tcl_expr.specs.Messages.{eval_message}
 use Rattle.tcl_vars.specs.declared.fault.ReadFault.{ReadFault}
-use Rattle.tcl_interp.specs.declared.tasks.Code.{Code}
-use Rattle.tcl_interp.specs.declared.tasks.Code.TheVariants.{Normal, Error, Break, Continue}
+use Rattle.tcl_control.specs.declared.code.Code.{Code}
+use Rattle.tcl_control.specs.declared.code.Code.TheVariants.{Normal, Error, Break, Continue}
+use Rattle.tcl_control.specs.declared.context.Context.{Context}
+use Rattle.tcl_control.specs.declared.plan.Plan.{Plan}
+use Rattle.tcl_control.specs.declared.plan.Plan.TheVariants as plan
+use Rattle.tcl_control.specs.declared.turns.Test.{Test}
+use Rattle.tcl_control.specs.declared.turns.Test.TheVariants.{Holds, Items}
+use Rattle.tcl_control.specs.declared.turns.Turning.{Turning}
+use Rattle.tcl_control.specs.Expressions.{evaluation_begins, truth_of}
+use Rattle.tcl_control.specs.Commands.{Ending, caught_ending}
+use Rattle.tcl_control.specs.Levels.{here, popped}
+use Rattle.tcl_control.specs.Source.{script_of}
+use Rattle.tcl_control.specs.Texts.{limit_text, message, nesting_text, cannot_read, element_name, unknown_command}
+use Rattle.tcl_control.specs.Turns.{Tested, More, NoMore, Fails as TestFails, items_tested}
 use Rattle.tcl_interp.specs.declared.tasks.Act.{Act}
 use Rattle.tcl_interp.specs.declared.tasks.Act.TheVariants.{Done, Step, Run, Unknown}
-use Rattle.tcl_interp.specs.Texts.{limit_text, nesting_text, wrong_words, cannot_read, unknown_command, fault_text}
-use Rattle.tcl_interp.specs.Commands.{condition_of}
-use Rattle.tcl_interp.specs.Scripts.{script_of, out_of_global}
-use Rattle.tcl_interp.specs.Finish.{Turning, Wording, Doing, Begins, GoesOn, Calls, Tests, Steps, Resumes, Ends, Waiting, ForCommand, ForBracket, ForBody, ForScript, ForAll}
+use Rattle.tcl_interp.specs.Evaluation.{index_pieces, index_depth, words_of}
+use Rattle.tcl_interp.specs.Plans.{cut, others, joined, callers, procedure_code, procedure_text}
+use Rattle.tcl_interp.specs.Scripts.{out_of_global}
+use Rattle.tcl_interp.specs.Finish.{Wording, Indexing, Doing, Begins, GoesOn, Indexes, Evaluates, Calls, Tests, Steps, Resumes, Ends, Waiting, ForCommand, ForPart, ForIndex, ForValue, ForTest, ForChoice, ForBody, ForNext, ForStart, ForCatch, ForLevels, ForProcedure, ForScript, ForAll}
 
 -- what is done, and what waits
 pub record Moved (K : Type 0) : Type 0 where
   pub doing : Doing K
   pub waits : List (Waiting K)
 
+-- the same, with the variables and the context
+pub record Standing (K : Type 0) : Type 0 where
+  pub moved : Moved K
+  pub store : Store
+  pub context : Context
+
 -- ── words ──
 
--- a piece by itself: a text, an error, or a script to be run
+-- a part of a word that is evaluated by itself: a script in brackets, or an element by the array's name and the index
+pub data Part : Type 0 where
+  Script : List ℕ → Part
+  ElementOf : List ℕ → List ℕ → Part
+
+-- a piece by itself: a text, an error, or a part to be evaluated
 pub data PieceText : Type 0 where
   Plain : List ℕ → PieceText
   Fails : List ℕ → PieceText
-  Script : List ℕ → PieceText
+  Waits : Part → PieceText
 
 abbrev pub value_text : List ℕ → Result (List ℕ) ReadFault → PieceText
 value_text name (Ok value) = Plain value
 value_text name (Err fault) = Fails (cannot_read name fault)
 
-abbrev pub piece_text : Store → Piece → PieceText
-piece_text store (Literal text) = Plain text
-piece_text store (Variable name) = value_text name (variable_in store 0 name)
-piece_text store (Element name index) = Fails (codes "not yet")
-piece_text store (Bracket script) = Script script
+-- where variables are those of a level
+abbrev pub piece_text : ℕ → Store → Piece → PieceText
+piece_text level store (Literal text) = Plain text
+piece_text level store (Variable name) = value_text name (variable_in store level name)
+piece_text level store (Element name index) = Waits (ElementOf name index)
+piece_text level store (Bracket script) = Waits (Script script)
 
--- how far a word comes: it is whole, it fails, or a script is to be run whose result is its next piece
+-- how far a word or an index comes: it is whole, it fails, or a part is to be evaluated whose result is its next piece
 pub data WordEnd : Type 0 where
   Whole : List ℕ → WordEnd
   Failed : List ℕ → WordEnd
-  AtBracket : List ℕ → List Piece → List ℕ → WordEnd
+  AtPart : Part → List Piece → List ℕ → WordEnd
 
 abbrev pub join_end : List ℕ → List ℕ → (List ℕ → WordEnd) → WordEnd
 join_end so_far text go = if nat_le (length (so_far ++ text)) 65536 then go (so_far ++ text) else Failed limit_text
@@ -51,11 +83,16 @@ join_end so_far text go = if nat_le (length (so_far ++ text)) 65536 then go (so_
 abbrev pub piece_end : PieceText → List Piece → List ℕ → (List ℕ → WordEnd) → WordEnd
 piece_end (Plain text) pieces so_far go = join_end so_far text go
 piece_end (Fails text) pieces so_far go = Failed text
-piece_end (Script script) pieces so_far go = AtBracket script pieces so_far
+piece_end (Waits part) pieces so_far go = AtPart part pieces so_far
 
-abbrev pub word_end : Store → List Piece → List ℕ → WordEnd
-word_end store [] so_far = Whole so_far
-word_end store (piece ∷ pieces) so_far = piece_end (piece_text store piece) pieces so_far (word_end store pieces)
+abbrev pub word_end : ℕ → Store → List Piece → List ℕ → WordEnd
+word_end level store [] so_far = Whole so_far
+word_end level store (piece ∷ pieces) so_far = piece_end (piece_text level store piece) pieces so_far (word_end level store pieces)
+
+-- the words so far, and those that one more gives
+abbrev pub with_more : List (List ℕ) → Result (List (List ℕ)) (List ℕ) → Result (List (List ℕ)) (List ℕ)
+with_more whole (Ok more) = Ok (whole ++ more)
+with_more whole (Err text) = Err text
 
 module _ {K : Type 0} where
   abbrev pub moved : Doing K → List (Waiting K) → Moved K
@@ -66,34 +103,104 @@ module _ {K : Type 0} where
   called_move room after [] waits = moved (GoesOn room after []) waits
   called_move room after (name ∷ arguments) waits = moved (Calls room (name ∷ arguments)) (ForCommand room after ∷ waits)
 
-  -- a script in a word begins
-  abbrev pub bracket_begins : ℕ → List Command → List Word → List (List ℕ) → List Piece → List ℕ → List ℕ → List (Waiting K) → Moved K
-  bracket_begins room after words whole pieces so_far script waits =
-      moved (Begins room script) (ForBracket (record { room = room; after = after; whole = whole; so_far = so_far; pieces = pieces; words = words }) ∷ waits)
+  -- an index begins
+  abbrev pub index_begins : ℕ → ℕ → List ℕ → Result (List Piece) ParseFault → Doing K
+  index_begins room depth name (Ok pieces) = Indexes (record { room = room; depth = depth; name = name; so_far = []; pieces = pieces })
+  index_begins room depth name (Err fault) = Ends Error (message (text_of fault))
+
+  -- an element begins, with indices at most so deep in it
+  abbrev pub element_begins : ℕ → ℕ → List ℕ → List ℕ → Doing K
+  element_begins room depth name index = if depth == 0 then Ends Error (message (text_of TooLong)) else index_begins room (depth - 1) name (index_pieces index)
+
+  -- a part begins
+  abbrev pub part_begins : ℕ → ℕ → Part → Doing K
+  part_begins room depth (Script script) = Begins room script
+  part_begins room depth (ElementOf name index) = element_begins room depth name index
+
+  -- a part of a word begins
+  abbrev pub word_part : ℕ → List Command → Bool → List Word → List (List ℕ) → List Piece → List ℕ → Part → List (Waiting K) → Moved K
+  word_part room after expand words whole pieces so_far part waits =
+      moved (part_begins room index_depth part) (ForPart (record { room = room; after = after; whole = whole; so_far = so_far; expand = expand; pieces = pieces; words = words }) ∷ waits)
+
+  -- with the words that are whole then
+  abbrev pub more_move : List (Waiting K) → (List (List ℕ) → Moved K) → Result (List (List ℕ)) (List ℕ) → Moved K
+  more_move waits go (Ok all) = go all
+  more_move waits go (Err text) = moved (Ends Error text) waits
 
   -- a word that comes so far, with the words behind it
-  abbrev pub word_move : ℕ → List Command → List Word → List (List ℕ) → List (Waiting K) → (List (List ℕ) → Moved K) → WordEnd → Moved K
-  word_move room after words whole waits go (Whole text) = go (whole ++ text ∷ [])
-  word_move room after words whole waits go (Failed text) = moved (Ends Error text) waits
-  word_move room after words whole waits go (AtBracket script pieces so_far) = bracket_begins room after words whole pieces so_far script waits
+  abbrev pub word_move : ℕ → List Command → Bool → List Word → List (List ℕ) → List (Waiting K) → (List (List ℕ) → Moved K) → WordEnd → Moved K
+  word_move room after expand words whole waits go (Whole text) = more_move waits go (with_more whole (words_of expand text))
+  word_move room after expand words whole waits go (Failed text) = moved (Ends Error text) waits
+  word_move room after expand words whole waits go (AtPart part pieces so_far) = word_part room after expand words whole pieces so_far part waits
 
-  abbrev pub words_move : Store → ℕ → List Command → List Word → List (List ℕ) → List (Waiting K) → Moved K
-  words_move store room after [] whole waits = called_move room after whole waits
-  words_move store room after (word ∷ words) whole waits =
-      word_move room after words whole waits (λ more. words_move store room after words more waits) (word_end store word.pieces [])
+  abbrev pub words_move : ℕ → Store → ℕ → List Command → List Word → List (List ℕ) → List (Waiting K) → Moved K
+  words_move level store room after [] whole waits = called_move room after whole waits
+  words_move level store room after (word ∷ words) whole waits =
+      word_move room after word.expand words whole waits (λ more. words_move level store room after words more waits) (word_end level store word.pieces [])
+
+  -- ── elements ──
+
+  abbrev pub element_end : List ℕ → Result (List ℕ) ReadFault → Doing K
+  element_end name (Ok value) = Ends Normal value
+  element_end name (Err fault) = Ends Error (cannot_read name fault)
+
+  -- an index that comes so far
+  abbrev pub index_move : ℕ → Store → Indexing → List (Waiting K) → WordEnd → Moved K
+  index_move level store x waits (Whole index) = moved (element_end (element_name x.name index) (element_in store level x.name index)) waits
+  index_move level store x waits (Failed text) = moved (Ends Error text) waits
+  index_move level store x waits (AtPart part pieces so_far) = moved (part_begins x.room x.depth part) (ForIndex (record x { so_far = so_far; pieces = pieces }) ∷ waits)
+
+  abbrev pub indexes_move : ℕ → Store → Indexing → List (Waiting K) → Moved K
+  indexes_move level store x waits = index_move level store x waits (word_end level store x.pieces x.so_far)
+
+  -- ── expressions ──
+
+  -- an evaluation begins, unless the expression has a fault
+  abbrev pub begun_as : ℕ → Result Evaluation (List ℕ) → Doing K
+  begun_as room (Ok evaluation) = Evaluates room evaluation None
+  begun_as room (Err text) = Ends Error text
+
+  abbrev pub expression_begins : ℕ → List ℕ → Doing K
+  expression_begins room text = begun_as room (evaluation_begins text)
+
+  -- it goes on with the value of a variable of this name
+  abbrev pub value_given : ℕ → Evaluation → List ℕ → Result (List ℕ) ReadFault → Doing K
+  value_given room evaluation name (Ok value) = Evaluates room evaluation (Some value)
+  value_given room evaluation name (Err fault) = Ends Error (cannot_read name fault)
+
+  -- it has asked for something, or has ended
+  abbrev pub asked_move : ℕ → Store → ℕ → Evaluation → List (Waiting K) → Ask → Moved K
+  asked_move level store room evaluation waits (ask.Variable name) = moved (value_given room evaluation name (variable_in store level name)) waits
+  asked_move level store room evaluation waits (ask.Element array index) = moved (value_given room evaluation (element_name array index) (element_in store level array index)) waits
+  asked_move level store room evaluation waits (ask.Command script) = moved (Begins room script) (ForValue room evaluation ∷ waits)
+  asked_move level store room evaluation waits (ask.Value text) = moved (Ends Normal text) waits
+
+  abbrev pub answer_move : ℕ → Store → ℕ → Evaluation → List (Waiting K) → Result Ask EvalFault → Moved K
+  answer_move level store room evaluation waits (Ok asked) = asked_move level store room evaluation waits asked
+  answer_move level store room evaluation waits (Err fault) = moved (Ends Error (eval_message fault)) waits
+
+  -- the last body of `if`
+  abbrev pub otherwise_move : ℕ → Option (List ℕ) → List (Waiting K) → Moved K
+  otherwise_move room (Some body) waits = moved (Begins room body) waits
+  otherwise_move room None waits = moved (Ends Normal []) waits
+
+  -- on to the first condition of `if`
+  abbrev pub choice_move : ℕ → List Branch → Option (List ℕ) → List (Waiting K) → Moved K
+  choice_move room [] otherwise waits = otherwise_move room otherwise waits
+  choice_move room (branch ∷ branches) otherwise waits = moved (expression_begins room branch.test) (ForChoice room (branch ∷ branches) otherwise ∷ waits)
 
   -- ── scripts ──
 
   abbrev pub parsed_move : ℕ → List (Waiting K) → Result (List Command) ParseFault → Moved K
   parsed_move room waits (Ok commands) = moved (GoesOn room commands []) waits
-  parsed_move room waits (Err fault) = moved (Ends Error (fault_text fault)) waits
+  parsed_move room waits (Err fault) = moved (Ends Error (message (text_of fault))) waits
 
   abbrev pub begin_move : ℕ → List ℕ → List (Waiting K) → Moved K
   begin_move room text waits = if room == 0 then moved (Ends Error nesting_text) waits else parsed_move (room - 1) waits (script_of text)
 
-  abbrev pub go_on_move : Store → ℕ → List Command → List ℕ → List (Waiting K) → Moved K
-  go_on_move store room [] result waits = moved (Ends Normal result) waits
-  go_on_move store room (command ∷ after) result waits = words_move store room after command.words [] waits
+  abbrev pub go_on_move : ℕ → Store → ℕ → List Command → List ℕ → List (Waiting K) → Moved K
+  go_on_move level store room [] result waits = moved (Ends Normal result) waits
+  go_on_move level store room (command ∷ after) result waits = words_move level store room after command.words [] waits
 
   -- ── something ends that was waited for ──
 
@@ -101,47 +208,122 @@ module _ {K : Type 0} where
   after_command room after waits Normal text = moved (GoesOn room after text) waits
   after_command room after waits code text = moved (Ends code text) waits
 
-  abbrev pub bracket_move : Store → Wording → List (Waiting K) → List ℕ → Moved K
-  bracket_move store w waits text =
-      word_move w.room w.after w.words w.whole waits (λ more. words_move store w.room w.after w.words more waits) (join_end w.so_far text (word_end store w.pieces))
+  abbrev pub part_move : ℕ → Store → Wording → List (Waiting K) → List ℕ → Moved K
+  part_move level store w waits text =
+      word_move w.room w.after w.expand w.words w.whole waits (λ more. words_move level store w.room w.after w.words more waits) (join_end w.so_far text (word_end level store w.pieces))
 
-  abbrev pub after_bracket : Store → Wording → List (Waiting K) → Code → List ℕ → Moved K
-  after_bracket store w waits Normal text = bracket_move store w waits text
-  after_bracket store w waits code text = moved (Ends code text) waits
+  abbrev pub after_part : ℕ → Store → Wording → List (Waiting K) → Code → List ℕ → Moved K
+  after_part level store w waits Normal text = part_move level store w waits text
+  after_part level store w waits code text = moved (Ends code text) waits
 
-  abbrev pub after_body_move : Turning → List (Waiting K) → Code → List ℕ → Moved K
-  after_body_move turning waits Normal text = moved (Tests turning) waits
-  after_body_move turning waits Continue text = moved (Tests turning) waits
-  after_body_move turning waits Break text = moved (Ends Normal []) waits
-  after_body_move turning waits code text = moved (Ends code text) waits
+  -- an index with one piece more
+  abbrev pub longer_index : Indexing → List ℕ → Doing K
+  longer_index x text = if nat_le (length (x.so_far ++ text)) 65536 then Indexes (record x { so_far = x.so_far ++ text }) else Ends Error limit_text
+
+  abbrev pub after_index : Indexing → List (Waiting K) → Code → List ℕ → Moved K
+  after_index x waits Normal text = moved (longer_index x text) waits
+  after_index x waits code text = moved (Ends code text) waits
+
+  abbrev pub after_value_move : ℕ → Evaluation → List (Waiting K) → Code → List ℕ → Moved K
+  after_value_move room evaluation waits Normal text = moved (Evaluates room evaluation (Some text)) waits
+  after_value_move room evaluation waits code text = moved (Ends code text) waits
+
+  -- the test of a loop
+  abbrev pub turn_move : ℕ → Turning → List (Waiting K) → Result Bool (List ℕ) → Moved K
+  turn_move room turning waits (Ok true) = moved (Begins room turning.body) (ForBody room turning ∷ waits)
+  turn_move room turning waits (Ok false) = moved (Ends Normal []) waits
+  turn_move room turning waits (Err text) = moved (Ends Error text) waits
+
+  abbrev pub after_test_move : ℕ → Turning → List (Waiting K) → Code → List ℕ → Moved K
+  after_test_move room turning waits Normal text = turn_move room turning waits (truth_of text)
+  after_test_move room turning waits code text = moved (Ends code text) waits
+
+  -- whether the first condition of `if` holds
+  abbrev pub chosen_move : ℕ → List Branch → Option (List ℕ) → List (Waiting K) → Result Bool (List ℕ) → Moved K
+  chosen_move room branches otherwise waits (Err text) = moved (Ends Error text) waits
+  chosen_move room [] otherwise waits (Ok holds) = otherwise_move room otherwise waits
+  chosen_move room (branch ∷ branches) otherwise waits (Ok true) = moved (Begins room branch.body) waits
+  chosen_move room (branch ∷ branches) otherwise waits (Ok false) = choice_move room branches otherwise waits
+
+  abbrev pub after_choice_move : ℕ → List Branch → Option (List ℕ) → List (Waiting K) → Code → List ℕ → Moved K
+  after_choice_move room branches otherwise waits Normal text = chosen_move room branches otherwise waits (truth_of text)
+  after_choice_move room branches otherwise waits code text = moved (Ends code text) waits
+
+  -- on to the next test of a loop
+  abbrev pub next_move : ℕ → Turning → List (Waiting K) → Option (List ℕ) → Moved K
+  next_move room turning waits None = moved (Tests room turning) waits
+  next_move room turning waits (Some script) = moved (Begins room script) (ForNext room turning ∷ waits)
+
+  abbrev pub after_body_move : ℕ → Turning → List (Waiting K) → Code → List ℕ → Moved K
+  after_body_move room turning waits Normal text = next_move room turning waits turning.next
+  after_body_move room turning waits Continue text = next_move room turning waits turning.next
+  after_body_move room turning waits Break text = moved (Ends Normal []) waits
+  after_body_move room turning waits code text = moved (Ends code text) waits
+
+  abbrev pub after_next_move : ℕ → Turning → List (Waiting K) → Code → List ℕ → Moved K
+  after_next_move room turning waits Normal text = moved (Tests room turning) waits
+  after_next_move room turning waits Break text = moved (Ends Normal []) waits
+  after_next_move room turning waits code text = moved (Ends code text) waits
+
+  abbrev pub after_start_move : ℕ → Turning → List (Waiting K) → Code → List ℕ → Moved K
+  after_start_move room turning waits Normal text = moved (Tests room turning) waits
+  after_start_move room turning waits code text = moved (Ends code text) waits
 
   abbrev pub global_end : Code → List ℕ → Doing K
   global_end Break text = Ends Error (codes "invoked \"break\" outside of a loop")
   global_end Continue text = Ends Error (codes "invoked \"continue\" outside of a loop")
   global_end code text = Ends code text
 
-  abbrev pub end_move : Store → Code → List ℕ → Waiting K → List (Waiting K) → Moved K
-  end_move store code text (ForCommand room after) waits = after_command room after waits code text
-  end_move store code text (ForBracket w) waits = after_bracket store w waits code text
-  end_move store code text (ForBody turning) waits = after_body_move turning waits code text
-  end_move store code text (ForScript room task) waits = moved (Resumes room task (out_of_global code) text) waits
-  end_move store code text ForAll waits = moved (global_end (out_of_global code) text) waits
+  abbrev pub standing : Moved K → Store → Context → Standing K
+  standing moved store context = record { moved = moved; store = store; context = context }
+
+  -- it has ended, and variables may have changed
+  abbrev pub ending_move : Ending → Context → List (Waiting K) → Standing K
+  ending_move ending context waits = standing (moved (Ends ending.code ending.text) waits) ending.store context
+
+  abbrev pub end_move : Store → Context → Code → List ℕ → Waiting K → List (Waiting K) → Standing K
+  end_move store context code text (ForCommand room after) waits = standing (after_command room after waits code text) store context
+  end_move store context code text (ForPart w) waits = standing (after_part (here context.levels store) store w waits code text) store context
+  end_move store context code text (ForIndex x) waits = standing (after_index x waits code text) store context
+  end_move store context code text (ForValue room evaluation) waits = standing (after_value_move room evaluation waits code text) store context
+  end_move store context code text (ForTest room turning) waits = standing (after_test_move room turning waits code text) store context
+  end_move store context code text (ForChoice room branches otherwise) waits = standing (after_choice_move room branches otherwise waits code text) store context
+  end_move store context code text (ForBody room turning) waits = standing (after_body_move room turning waits code text) store context
+  end_move store context code text (ForNext room turning) waits = standing (after_next_move room turning waits code text) store context
+  end_move store context code text (ForStart room turning) waits = standing (after_start_move room turning waits code text) store context
+  end_move store context code text (ForCatch name) waits = ending_move (caught_ending (here context.levels store) name code text store) context waits
+  end_move store context code text (ForLevels levels) waits = standing (moved (Ends code text) waits) store (joined levels context)
+  end_move store context code text ForProcedure waits = standing (moved (Ends (procedure_code code) (procedure_text code text)) waits) (popped store) (callers context)
+  end_move store context code text (ForScript room task) waits = standing (moved (Resumes room task (out_of_global code) text) waits) store context
+  end_move store context code text ForAll waits = standing (moved (global_end (out_of_global code) text) waits) store context
 
   -- ── commands, tests and tasks ──
 
-  -- while condition body
-  abbrev pub while_move : ℕ → List (List ℕ) → List (Waiting K) → Moved K
-  while_move room (condition ∷ body ∷ []) waits = moved (Tests (record { room = room; condition = condition_of condition; body = body })) waits
-  while_move room _ waits = moved (Ends Error (wrong_words (codes "while cond body"))) waits
+  -- a command does what its plan says
+  abbrev pub plan_move : ℕ → Store → Context → List (Waiting K) → Plan → Standing K
+  plan_move room store context waits (plan.Ends code text) = standing (moved (Ends code text) waits) store context
+  plan_move room store context waits (plan.Runs script) = standing (moved (Begins room script) waits) store context
+  plan_move room store context waits (plan.Catches script name) = standing (moved (Begins room script) (ForCatch name ∷ waits)) store context
+  plan_move room store context waits (plan.RunsAt count script) = standing (moved (Begins room script) (ForLevels (others count context) ∷ waits)) store (cut count context)
+  plan_move room store context waits (plan.Enters body) = standing (moved (Begins room body) (ForProcedure ∷ waits)) store context
+  plan_move room store context waits (plan.Evaluates expression) = standing (moved (expression_begins room expression) waits) store context
+  plan_move room store context waits (plan.Chooses choices) = standing (choice_move room choices.branches choices.otherwise waits) store context
+  plan_move room store context waits (plan.Turns turning) = standing (moved (Tests room turning) waits) store context
+  plan_move room store context waits (plan.Starts script turning) = standing (moved (Begins room script) (ForStart room turning ∷ waits)) store context
 
-  abbrev pub test_move : Turning → List (Waiting K) → Result Bool (List ℕ) → Moved K
-  test_move turning waits (Ok true) = moved (Begins turning.room turning.body) (ForBody turning ∷ waits)
-  test_move turning waits (Ok false) = moved (Ends Normal []) waits
-  test_move turning waits (Err text) = moved (Ends Error text) waits
+  abbrev pub items_move : ℕ → Turning → Context → List (Waiting K) → Tested → Standing K
+  items_move room turning context waits (More store groups) = standing (moved (Begins room turning.body) (ForBody room (record turning { test = Items groups }) ∷ waits)) store context
+  items_move room turning context waits (NoMore store) = standing (moved (Ends Normal []) waits) store context
+  items_move room turning context waits (TestFails store text) = standing (moved (Ends Error text) waits) store context
+
+  -- a loop tests whether it has another turn
+  abbrev pub test_move : ℕ → Turning → Store → Context → List (Waiting K) → Test → Standing K
+  test_move room turning store context waits (Holds condition) = standing (moved (expression_begins room condition) (ForTest room turning ∷ waits)) store context
+  test_move room turning store context waits (Items groups) = items_move room turning context waits (items_tested (here context.levels store) groups store)
 
   -- what an act of a command of this name, or of a task, leads to
-  abbrev pub act_move : ℕ → List ℕ → List (Waiting K) → Act K → Moved K
-  act_move room name waits (Done code text) = moved (Ends code text) waits
-  act_move room name waits (Step task) = moved (Steps room task) waits
-  act_move room name waits (Run script task) = moved (Begins room script) (ForScript room task ∷ waits)
-  act_move room name waits Unknown = moved (Ends Error (unknown_command name)) waits
+  abbrev pub act_move : ℕ → List ℕ → Store → Context → List (Waiting K) → Act K → Standing K
+  act_move room name store context waits (Done code text) = standing (moved (Ends code text) waits) store context
+  act_move room name store context waits (Step task) = standing (moved (Steps room task) waits) store context
+  act_move room name store context waits (Run script task) = standing (moved (Begins room script) (ForLevels (others 1 context) ∷ ForScript room task ∷ waits)) store (cut 1 context)
+  act_move room name store context waits Unknown = standing (moved (Ends Error (unknown_command name)) waits) store context

@@ -1,7 +1,7 @@
 -- The outside commands: what an object that serves them answers, as two functions of what it shows, the store and the arguments.
 use Rattle.std.specs.Prelude.{ℕ, List, ◌<◌}
 use Rattle.tcl_vars.specs.Store.{Store}
-use Rattle.tcl_interp.specs.declared.tasks.Code.{Code}
+use Rattle.tcl_control.specs.declared.code.Code.{Code}
 use Rattle.tcl_interp.specs.declared.tasks.Act.{Act}
 use Rattle.tcl_interp.specs.declared.tasks.Act.TheVariants.{Done, Step, Run, Unknown}
 

@@ -1,19 +1,22 @@
 -- The evaluation of a script.
 use Rattle.std.specs.Prelude.{ℕ, zero, suc, List, [], ◌∷◌, Option, Some, None, Result, Ok, Err}
-use Rattle.tcl_words.specs.Reading.{commands_of}
 use Rattle.tcl_words.specs.declared.script.Command.{Command}
 use Rattle.tcl_words.specs.declared.fault.ParseFault.{ParseFault}
-use Rattle.tcl_interp.specs.declared.commands.Builtin.{Builtin}
-use Rattle.tcl_interp.specs.declared.tasks.Code.{Code}
-use Rattle.tcl_interp.specs.declared.tasks.Code.TheVariants.{Normal, Error, Return, Break, Continue}
-use Rattle.tcl_interp.specs.declared.tasks.ReturnCode.{ReturnCode}
-use Rattle.tcl_interp.specs.declared.tasks.ReturnCode.TheVariants.{Normal as AsNormal, Error as AsError, Return as AsReturn, Break as AsBreak, Continue as AsContinue}
+use Rattle.tcl_words.specs.Faults.{text_of}
+use Rattle.tcl_control.specs.declared.code.Code.{Code}
+use Rattle.tcl_control.specs.declared.code.Code.TheVariants.{Normal, Error, Return, Break, Continue}
+use Rattle.tcl_control.specs.declared.code.ReturnCode.{ReturnCode}
+use Rattle.tcl_control.specs.declared.code.ReturnCode.TheVariants.{Normal as AsNormal, Error as AsError, Return as AsReturn, Break as AsBreak, Continue as AsContinue}
 use Rattle.tcl_interp.specs.declared.tasks.Act.{Act}
 use Rattle.tcl_interp.specs.declared.tasks.Act.TheVariants.{Done, Step, Run, Unknown}
 use Rattle.tcl_interp.specs.Outside.{Outside, Told}
-use Rattle.tcl_interp.specs.Texts.{nesting_text, unknown_command, fault_text}
+use Rattle.tcl_control.specs.declared.control.Call.{Call}
+use Rattle.tcl_control.specs.declared.control.Call.TheVariants as call
+use Rattle.tcl_control.specs.Control.{Called, call_of}
+use Rattle.tcl_control.specs.Source.{script_of}
+use Rattle.tcl_control.specs.Texts.{message, nesting_text, unknown_command}
 use Rattle.tcl_interp.specs.Evaluation.{State, Outcome, Ended, OutOfSteps, and_then, with_step, commands_meaning}
-use Rattle.tcl_interp.specs.Commands.{command_of, plain_name, builtin_meaning}
+use Rattle.tcl_interp.specs.Plans.{run_at, plan_meaning}
 
 -- ── the outside commands ──
 
@@ -33,24 +36,24 @@ out_of_global Break = Break
 out_of_global Continue = Continue
 
 -- what an act comes to, where it is given how a script is run, and how a task goes on after a step and after a script
-abbrev pub on_act : {S K : Type 0} → (ℕ → List ℕ → State S → Outcome S) → (K → State S → Outcome S) → (K → State S → Code → List ℕ → Outcome S) → List ℕ → State S → Act K → Outcome S
+abbrev pub on_act : {S K : Type 0} → (List ℕ → State S → Outcome S) → (K → State S → Outcome S) → (K → State S → Code → List ℕ → Outcome S) → List ℕ → State S → Act K → Outcome S
 on_act run after_step after_script name state (Done code text) = Ended state code text
 on_act run after_step after_script name state (Step task) = with_step state (after_step task)
-on_act run after_step after_script name state (Run script task) = and_then (run 0 script state) (λ state' code text. after_script task state' (out_of_global code) text)
+on_act run after_step after_script name state (Run script task) = and_then (run_at run 1 script state) (λ state' code text. after_script task state' (out_of_global code) text)
 on_act run after_step after_script name state Unknown = Ended state Error (unknown_command name)
 
-abbrev pub told_state : {S K : Type 0} → Told S K → ℕ → State S
-told_state told steps = record { shows = told.shows; store = told.store; steps = steps }
+abbrev pub told_state : {S K : Type 0} → Told S K → State S → State S
+told_state told state = record state { shows = told.shows; store = told.store }
 
-module _ {S K : Type 0} (outside : Outside S K) (run : ℕ → List ℕ → State S → Outcome S) where
+module _ {S K : Type 0} (outside : Outside S K) (run : List ℕ → State S → Outcome S) where
   -- A task goes on, given how it goes on after a step. Each script that it runs makes it smaller, and one of size 0 runs none.
   abbrev pub resumed : (K → State S → Outcome S) → ℕ → K → State S → Code → List ℕ → Outcome S
   resumed after_step zero task state code text =
       (let told : Told S K = outside.resumes state.shows state.store task code text in
-      on_act run after_step (λ _ state' _ _. OutOfSteps state') [] (told_state told state.steps) told.act)
+      on_act run after_step (λ _ state' _ _. OutOfSteps state') [] (told_state told state) told.act)
   resumed after_step (suc size) task state code text =
       (let told : Told S K = outside.resumes state.shows state.store task code text in
-      on_act run after_step (resumed after_step size) [] (told_state told state.steps) told.act)
+      on_act run after_step (resumed after_step size) [] (told_state told state) told.act)
 
   -- A task goes on after a step. There are no more such turns than steps are left.
   abbrev pub after_step : ℕ → K → State S → Outcome S
@@ -65,35 +68,35 @@ module _ {S K : Type 0} (outside : Outside S K) (run : ℕ → List ℕ → Stat
   abbrev pub act_meaning : List ℕ → State S → Act K → Outcome S
   act_meaning name state act = on_act run (after_step state.steps) task_meaning name state act
 
-  -- an outside command is called: its words begin with its plain name
-  abbrev pub outside_meaning : List ℕ → List (List ℕ) → State S → Outcome S
-  outside_meaning name arguments state =
-      (let told : Told S K = outside.calls state.shows state.store (plain_name name ∷ arguments) in
-      act_meaning name (told_state told state.steps) told.act)
+  -- an outside command is called, which first had this name
+  abbrev pub outside_meaning : List ℕ → List ℕ → List (List ℕ) → State S → Outcome S
+  outside_meaning name first arguments state =
+      (let told : Told S K = outside.calls state.shows state.store (first ∷ arguments) in
+      act_meaning name (told_state told state) told.act)
 
-  abbrev pub by_name : List ℕ → List (List ℕ) → ℕ → State S → Option Builtin → Outcome S
-  by_name name arguments level state (Some builtin) = builtin_meaning run builtin level arguments state
-  by_name name arguments level state None = outside_meaning name arguments state
+  abbrev pub by_call : List ℕ → List (List ℕ) → State S → Call → Outcome S
+  by_call name arguments state (call.Plans plan) = plan_meaning run plan state
+  by_call name arguments state (call.Outside first) = outside_meaning name first arguments state
+  by_call name arguments state call.Unknown = Ended state Error (unknown_command name)
+
+  abbrev pub called_meaning : List ℕ → List (List ℕ) → State S → Called → Outcome S
+  called_meaning name arguments state called = by_call name arguments (record state { store = called.store; context = called.context }) called.call
 
   -- a command is called
-  abbrev pub call_meaning : List (List ℕ) → ℕ → List (List ℕ) → State S → Outcome S
-  call_meaning replaced level [] state = Ended state Normal []
-  call_meaning replaced level (name ∷ arguments) state = by_name name arguments level state (command_of replaced (plain_name name))
+  abbrev pub call_meaning : List (List ℕ) → State S → Outcome S
+  call_meaning [] state = Ended state Normal []
+  call_meaning (name ∷ arguments) state = called_meaning name arguments state (call_of name arguments state.store state.context)
 
 -- ── scripts ──
-
--- the commands of a script, or its fault
-unfoldable pub script_of : List ℕ → Result (List Command) ParseFault
-script_of text = commands_of text
 
 -- a script is read whole before its first command runs
 abbrev pub on_parsed : {S : Type 0} → (List Command → Outcome S) → State S → Result (List Command) ParseFault → Outcome S
 on_parsed commands state (Ok script) = commands script
-on_parsed commands state (Err fault) = Ended state Error (fault_text fault)
+on_parsed commands state (Err fault) = Ended state Error (message (text_of fault))
 
-module _ {S K : Type 0} (outside : Outside S K) (replaced : List (List ℕ)) where
+module _ {S K : Type 0} (outside : Outside S K) where
   -- A script, with room for so many scripts that are begun and not ended, itself among them.
-  abbrev pub script_meaning : ℕ → ℕ → List ℕ → State S → Outcome S
-  script_meaning zero level text state = Ended state Error nesting_text
-  script_meaning (suc room) level text state =
-      on_parsed (λ commands. commands_meaning (script_meaning room) (call_meaning outside (script_meaning room) replaced) level commands [] state) state (script_of text)
+  abbrev pub script_meaning : ℕ → List ℕ → State S → Outcome S
+  script_meaning zero text state = Ended state Error nesting_text
+  script_meaning (suc room) text state =
+      on_parsed (λ commands. commands_meaning (script_meaning room) (call_meaning outside (script_meaning room)) commands [] state) state (script_of text)

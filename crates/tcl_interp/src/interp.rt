@@ -1,15 +1,14 @@
 ghost use Rattle.std.specs.Prelude.{◌≡◌, ◌≤◌};
-ghost use Rattle.tcl_interp.specs.declared.machine.Machine.TheVariants.{Spent as MachineSpent};
+ghost use Rattle.tcl_interp.specs.declared.machine.Machine.TheVariants.{Spent as MachineSpent, Broken as MachineBroken};
 
-use crate::commands::replaced_by;
-use crate::loops::Source;
 use crate::machine::{Frame, Machine, Now};
 use crate::slices::{Ran, run};
-use crate::tasks::{Code, Tasks};
-use crate::texts::fixed;
+use crate::tasks::Tasks;
 use std::alloc::{AllocError, Global};
 use std::mem::replace;
-use tcl_text::{Text, TextList};
+use tcl_control::texts::fixed;
+use tcl_control::{Code, Context, Levels, Source, first_commands};
+use tcl_text::Text;
 use tcl_vars::Scopes;
 
 /// How a slice ended.
@@ -27,7 +26,7 @@ pub enum SliceEnd {
 #[derive(Drop)]
 pub struct Interp<K> {
     alloc: Global,
-    replaced: TextList,
+    context: Context,
     budget: u64,
     left: u64,
     machine: Machine<K>,
@@ -38,20 +37,23 @@ pub struct Interp<K> {
 
 impl<K: Drop> Interp<K> {
     ghost use Rattle.std.specs.Prelude.{◌≡◌, ◌≢◌, ◌<◌, ◌≤◌, ◌+◌, [], Ok, IfOk, OnOk, OnErr, IsErr, All, sum};
-    ghost use Rattle.tcl_interp.specs.Commands.{replaced_by};
     ghost use Rattle.tcl_interp.specs.Finish.{finish, Idle, Running, Spent, Broken, rest_of_script, rest_of_task};
-    ghost use Rattle.tcl_interp.specs.Interp.{rest_of, left_of, budget_of, replaced_in, state_of, LeavesRest, Reaches, LeavesAfter, IsWhole};
+    ghost use Rattle.tcl_interp.specs.Rests.{doing_of, waits_of};
+    ghost use Rattle.tcl_interp.specs.Interp.{rest_of, left_of, budget_of, context_of, first_context, at_top, state_of, LeavesRest, Reaches, LeavesAfter, IsWhole};
 
     /// An interpreter that takes at most so many steps, where outside commands have these names.
     pub fn new(alloc: Global, budget: u64, outside_names: &[Text]) -> Result<Interp<K>, AllocError>
         ensures rest { IfOk result (λ interp. rest_of interp ≡ Idle) }
         ensures left { IfOk result (λ interp. left_of interp ≡ budget) }
         ensures budget { IfOk result (λ interp. budget_of interp ≡ budget) }
-        ensures replaced { IfOk result (λ interp. replaced_in interp ≡ replaced_by outside_names.now) }
+        ensures context { IfOk result (λ interp. context_of interp ≡ first_context outside_names.now) }
     {
         Ok(Interp {
             alloc,
-            replaced: replaced_by(alloc, outside_names)?,
+            context: Context {
+                levels: Levels::global(alloc)?,
+                commands: first_commands(alloc, outside_names)?,
+            },
             budget,
             left: budget,
             machine: Machine::Idle,
@@ -66,14 +68,17 @@ impl<K: Drop> Interp<K> {
         ensures ok { OnOk result (rest_of self.new ≡ rest_of_script script) }
         ensures err { OnErr result (rest_of self.new ≡ Idle) }
         ensures left { left_of self.new ≡ left_of self.old }
-        ensures replaced { replaced_in self.new ≡ replaced_in self.old }
+        ensures context { OnOk result (context_of self.new ≡ at_top (context_of self.old)) }
+        ensures kept { OnErr result (context_of self.new ≡ context_of self.old) }
         ensures budget { budget_of self.new ≡ budget_of self.old }
     {
+        let levels = Levels::global(self.alloc)?;
         self.frames.clear();
         self.frames.push(Frame::ForAll)?;
+        self.context.levels = levels;
         self.machine = Machine::Running(Now::Begins {
             room: 200,
-            script: Source::Text(script),
+            script: Source::of_text(script),
         });
         Ok(())
     }
@@ -85,11 +90,14 @@ impl<K: Drop> Interp<K> {
         ensures ok { OnOk result (rest_of self.new ≡ rest_of_task task) }
         ensures err { OnErr result (rest_of self.new ≡ Idle) }
         ensures left { left_of self.new ≡ left_of self.old }
-        ensures replaced { replaced_in self.new ≡ replaced_in self.old }
+        ensures context { OnOk result (context_of self.new ≡ at_top (context_of self.old)) }
+        ensures kept { OnErr result (context_of self.new ≡ context_of self.old) }
         ensures budget { budget_of self.new ≡ budget_of self.old }
     {
         let text = fixed(self.alloc, "")?;
+        let levels = Levels::global(self.alloc)?;
         self.frames.clear();
+        self.context.levels = levels;
         self.machine = Machine::Running(Now::Resumes {
             room: 200,
             task,
@@ -113,6 +121,52 @@ impl<K: Drop> Interp<K> {
         self.budget - self.left
     }
 
+    /// Goes on with what is to be done now, for at most so many steps.
+    fn run_on<T: Tasks<Task = K>>(
+        &mut self,
+        tasks: &mut T,
+        scopes: &mut Scopes,
+        now: Now<K>,
+        steps: u64,
+    ) -> Result<SliceEnd, AllocError>
+        requires { self.old.machine ≡ MachineBroken }
+        ensures reached { IfOk result (λ end. Reaches end (finish T.outside (Running (doing_of now) (waits_of self.old.frames.items)) (state_of self.old tasks.old scopes.old)) (state_of self.new tasks.new scopes.new) (finish T.outside (rest_of self.new) (state_of self.new tasks.new scopes.new))) }
+        ensures rest { IfOk result (λ end. LeavesRest end (rest_of self.new)) }
+        ensures more { result ≡ Ok SliceEnd.More → left_of self.new + steps ≡ left_of self.old }
+        ensures exhausted { result ≡ Ok SliceEnd.Exhausted → left_of self.new ≡ 0 }
+        ensures most { left_of self.old ≤ left_of self.new + steps }
+        ensures taken { left_of self.new ≤ left_of self.old }
+        ensures budget { budget_of self.new ≡ budget_of self.old }
+        ensures refused { OnErr result (rest_of self.new ≡ Broken) }
+        ensures left_alone { T.left_alone tasks.new ≡ T.left_alone tasks.old }
+    {
+        let ran = run(
+            self.alloc,
+            tasks,
+            scopes,
+            &mut self.context,
+            &mut self.frames,
+            &mut self.left,
+            now,
+            steps,
+        )?;
+        match ran {
+            Ran::Ended(code, text) => {
+                self.machine = Machine::Idle;
+                Ok(SliceEnd::Done(code, text))
+            }
+            Ran::Paused(now) => {
+                self.machine = Machine::Running(now);
+                Ok(SliceEnd::More)
+            }
+            Ran::Spent => {
+                self.machine = Machine::Spent;
+                self.frames.clear();
+                Ok(SliceEnd::Exhausted)
+            }
+        }
+    }
+
     /// Does what is to be done, for at most so many steps. A step is taken for each command that is called, each test of a
     /// loop and each step of a task. After refused memory every further slice is refused too.
     pub fn run_slice<T: Tasks<Task = K>>(
@@ -123,13 +177,12 @@ impl<K: Drop> Interp<K> {
     ) -> Result<SliceEnd, AllocError>
         requires positive { 0 < steps }
         requires begun { rest_of self.old ≢ Idle }
-        ensures reached { IfOk result (λ end. Reaches end (finish T.outside (replaced_in self.old) (rest_of self.old) (state_of self.old tasks.old scopes.old)) (state_of self.new tasks.new scopes.new) (finish T.outside (replaced_in self.new) (rest_of self.new) (state_of self.new tasks.new scopes.new))) }
+        ensures reached { IfOk result (λ end. Reaches end (finish T.outside (rest_of self.old) (state_of self.old tasks.old scopes.old)) (state_of self.new tasks.new scopes.new) (finish T.outside (rest_of self.new) (state_of self.new tasks.new scopes.new))) }
         ensures rest { IfOk result (λ end. LeavesRest end (rest_of self.new)) }
         ensures more { result ≡ Ok SliceEnd.More → left_of self.new + steps ≡ left_of self.old }
         ensures exhausted { result ≡ Ok SliceEnd.Exhausted → left_of self.new ≡ 0 }
         ensures most { left_of self.old ≤ left_of self.new + steps }
         ensures taken { left_of self.new ≤ left_of self.old }
-        ensures replaced { replaced_in self.new ≡ replaced_in self.old }
         ensures budget { budget_of self.new ≡ budget_of self.old }
         ensures refused { OnErr result (rest_of self.new ≡ Broken) }
         ensures broken { rest_of self.old ≡ Broken → IsErr result }
@@ -137,31 +190,8 @@ impl<K: Drop> Interp<K> {
     {
         match replace(&mut self.machine, Machine::Broken) {
             Machine::Running(now) => {
-                let ran = run(
-                    self.alloc,
-                    tasks,
-                    scopes,
-                    &mut self.frames,
-                    &self.replaced,
-                    &mut self.left,
-                    now,
-                    steps,
-                )?;
-                match ran {
-                    Ran::Ended(code, text) => {
-                        self.machine = Machine::Idle;
-                        Ok(SliceEnd::Done(code, text))
-                    }
-                    Ran::Paused(now) => {
-                        self.machine = Machine::Running(now);
-                        Ok(SliceEnd::More)
-                    }
-                    Ran::Spent => {
-                        self.machine = Machine::Spent;
-                        self.frames.clear();
-                        Ok(SliceEnd::Exhausted)
-                    }
-                }
+                let end = self.run_on(tasks, scopes, now, steps)?;
+                Ok(end)
             }
             Machine::Spent => {
                 self.machine = Machine::Spent;
@@ -181,13 +211,12 @@ impl<K: Drop> Interp<K> {
     ) -> Result<SliceEnd, AllocError>
         requires positive { All (λ size. 0 < size) sizes.now }
         requires begun { rest_of self.old ≢ Idle }
-        ensures reached { IfOk result (λ end. Reaches end (finish T.outside (replaced_in self.old) (rest_of self.old) (state_of self.old tasks.old scopes.old)) (state_of self.new tasks.new scopes.new) (finish T.outside (replaced_in self.new) (rest_of self.new) (state_of self.new tasks.new scopes.new))) }
+        ensures reached { IfOk result (λ end. Reaches end (finish T.outside (rest_of self.old) (state_of self.old tasks.old scopes.old)) (state_of self.new tasks.new scopes.new) (finish T.outside (rest_of self.new) (state_of self.new tasks.new scopes.new))) }
         ensures rest { IfOk result (λ end. LeavesAfter end (rest_of self.new)) }
         ensures more { result ≡ Ok SliceEnd.More → left_of self.new + sum sizes.now ≡ left_of self.old }
         ensures exhausted { result ≡ Ok SliceEnd.Exhausted → left_of self.new ≡ 0 }
         ensures most { left_of self.old ≤ left_of self.new + sum sizes.now }
         ensures taken { left_of self.new ≤ left_of self.old }
-        ensures replaced { replaced_in self.new ≡ replaced_in self.old }
         ensures budget { budget_of self.new ≡ budget_of self.old }
         ensures left_alone { T.left_alone tasks.new ≡ T.left_alone tasks.old }
     {
@@ -211,10 +240,9 @@ impl<K: Drop> Interp<K> {
         requires each { All (λ size. 0 < size) sizes.now }
         requires positive { 0 < then }
         requires begun { rest_of self.old ≢ Idle }
-        ensures whole { IfOk result (λ end. IsWhole end (finish T.outside (replaced_in self.old) (rest_of self.old) (state_of self.old tasks.old scopes.old)) (state_of self.new tasks.new scopes.new)) }
+        ensures whole { IfOk result (λ end. IsWhole end (finish T.outside (rest_of self.old) (state_of self.old tasks.old scopes.old)) (state_of self.new tasks.new scopes.new)) }
         ensures rest { IfOk result (λ end. LeavesAfter end (rest_of self.new)) }
         ensures taken { left_of self.new ≤ left_of self.old }
-        ensures replaced { replaced_in self.new ≡ replaced_in self.old }
         ensures budget { budget_of self.new ≡ budget_of self.old }
         ensures left_alone { T.left_alone tasks.new ≡ T.left_alone tasks.old }
     {

@@ -1,18 +1,15 @@
 //! A Tcl interpreter on a stack of its own, which can stop after any number of steps.
 #![tactic(auto)]
 
-mod commands;
+mod expressions;
 mod interp;
-mod loops;
 mod machine;
 mod moves;
 mod slices;
 mod steps;
 mod tasks;
-#[cfg(test)]
-mod tests;
-mod texts;
 mod words;
 
 pub use interp::{Interp, SliceEnd};
-pub use tasks::{Act, Code, ReturnCode, Tasks};
+pub use tasks::{Act, Tasks};
+pub use tcl_control::{Code, ReturnCode};

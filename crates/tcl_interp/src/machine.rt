@@ -1,9 +1,10 @@
-ghost use Rattle.std.specs.Prelude.{◌≤◌, string_len};
+ghost use Rattle.std.specs.Prelude.{◌≡◌, ◌<◌, ◌≤◌, is_some, length, string_len, true};
+ghost use Rattle.tcl_expr.specs.Evaluation.{is_waiting};
 
-use crate::loops::{Source, Turning};
-use crate::tasks::Code;
+use tcl_control::{Choices, Code, Levels, Source, Turning};
+use tcl_expr::Eval;
 use tcl_text::{Text, TextList};
-use tcl_words::Script;
+use tcl_words::{Index, Script};
 
 /// A script of which the commands before `next` have run, and the room for scripts in it.
 #[derive(Drop)]
@@ -39,6 +40,41 @@ pub struct Wording {
     pub so_far: Joined,
 }
 
+/// An element whose index is being put together: its pieces before `piece` are joined. There is room for so many scripts, and for
+/// indices that go so deep, in it.
+#[derive(Drop)]
+pub struct Indexing {
+    pub room: u64,
+    pub depth: u64,
+    pub name: Text,
+    pub index: Index,
+    pub piece: usize,
+    pub so_far: Joined,
+}
+
+/// An evaluation that goes on, with the answer to what it asked.
+#[derive(Drop)]
+pub struct Answered {
+    pub eval: Eval,
+    pub given: Option<Text>,
+    ghost answered: { is_some given ≡ is_waiting eval.state },
+}
+
+/// An evaluation that has asked for something.
+#[derive(Drop)]
+pub struct Asking {
+    pub eval: Eval,
+    ghost asking: { is_waiting eval.state ≡ true },
+}
+
+/// The branches of `if`, of which the condition at a place was begun.
+#[derive(Drop)]
+pub struct Choosing {
+    pub choices: Choices,
+    pub place: usize,
+    ghost within: { place < length choices.branches },
+}
+
 /// What is done now.
 #[derive(Drop)]
 pub enum Now<K> {
@@ -50,11 +86,19 @@ pub enum Now<K> {
         place: Place,
         result: Text,
     },
+    Indexes(Indexing),
+    Evaluates {
+        room: u64,
+        answered: Answered,
+    },
     Calls {
         room: u64,
         words: TextList,
     },
-    Tests(Turning),
+    Tests {
+        room: u64,
+        turning: Turning,
+    },
     Steps {
         room: u64,
         task: K,
@@ -75,8 +119,17 @@ pub enum Now<K> {
 #[derive(Drop)]
 pub enum Frame<K> {
     ForCommand(Place),
-    ForBracket(Wording),
-    ForBody(Turning),
+    ForPart(Wording),
+    ForIndex(Indexing),
+    ForValue { room: u64, asking: Asking },
+    ForTest { room: u64, turning: Turning },
+    ForChoice { room: u64, choosing: Choosing },
+    ForBody { room: u64, turning: Turning },
+    ForNext { room: u64, turning: Turning },
+    ForStart { room: u64, turning: Turning },
+    ForCatch(Option<Text>),
+    ForLevels(Levels),
+    ForProcedure,
     ForScript { room: u64, task: K },
     ForAll,
 }

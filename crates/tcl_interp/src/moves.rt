@@ -1,20 +1,24 @@
 ghost use Rattle.std.specs.Prelude.{◌≡◌, [], List, IfOk, IsOk, MatchResult, MatchOption, ◌∷◌, Err};
-ghost use Rattle.tcl_interp.specs.Scripts.{out_of_global, script_of};
-ghost use Rattle.tcl_interp.specs.Moves.{begin_move, parsed_move, end_move, after_body_move, moved, global_end};
-ghost use Rattle.tcl_interp.specs.Finish.{Waiting};
-ghost use Rattle.tcl_interp.specs.Rests.{source_text, turning_of, waiting_of, moved_of, waits_of, doing_of};
+ghost use Rattle.tcl_control.specs.Commands.{caught_ending};
+ghost use Rattle.tcl_control.specs.Levels.{here, popped};
+ghost use Rattle.tcl_control.specs.Source.{script_of};
+ghost use Rattle.tcl_interp.specs.Plans.{joined, callers, procedure_code, procedure_text};
+ghost use Rattle.tcl_interp.specs.Scripts.{out_of_global};
+ghost use Rattle.tcl_interp.specs.Moves.{begin_move, parsed_move, end_move, next_move, after_body_move, after_next_move, after_start_move, ending_move, moved, standing, global_end};
+ghost use Rattle.tcl_interp.specs.Finish.{Waiting, Ends};
+ghost use Rattle.tcl_interp.specs.Rests.{waiting_of, moved_of, waits_of, doing_of, standing_of};
 ghost use Rattle.tcl_interp.specs.Advances.{MoveGives};
 ghost use Rattle.tcl_interp.specs.Quiet.{Leads, IsDue};
 
-use crate::loops::{Source, Turning};
-use crate::machine::{Frame, Now, Place};
-use crate::tasks::{Code, ReturnCode};
-use crate::texts::{fault_text, fixed};
-use crate::words::{after_bracket, go_on};
+use crate::expressions::{chosen, evaluate, turn};
+use crate::machine::{Answered, Asking, Frame, Now, Place};
+use crate::words::{after_part, go_on, longer_index, put_index, wait};
 use std::alloc::{AllocError, Global};
+use tcl_control::texts::{fault_text, fixed};
+use tcl_control::{Code, Context, End, ReturnCode, Source, Turning, caught};
 use tcl_text::Text;
 use tcl_vars::Scopes;
-use tcl_words::{ParseFault, Script, parse};
+use tcl_words::Script;
 
 /// What a return becomes where it leaves a script at global level.
 pub fn out_of_global(code: Code) -> Code
@@ -35,20 +39,8 @@ pub fn out_of_global(code: Code) -> Code
     }
 }
 
-/// Reads a script, or tells its fault.
-#[tactic(auto, unfolding(crate::specs::Scripts::script_of))]
-pub fn read(alloc: Global, text: &Text) -> Result<Result<Script, ParseFault>, AllocError>
-    ensures { IfOk result (λ reading. MatchResult reading (λ script. (script ≡ text.now) × IsOk (script_of text.now)) (λ fault. script_of text.now ≡ Err fault)) }
-{
-    match parse(alloc, text.as_str().as_bytes()) {
-        Ok(script) => Ok(Ok(script)),
-        Err(ParseFault::NoMemory) => Err(AllocError),
-        Err(fault) => Ok(Err(fault)),
-    }
-}
-
 /// A script that has been read begins.
-#[tactic(auto, unfolding(crate::specs::Scripts::script_of))]
+#[tactic(auto, unfolding(tcl_table::specs::Source::script_of))]
 fn first_command<K>(alloc: Global, script: Script, room: u64) -> Result<Now<K>, AllocError>
     ensures { IfOk result (λ now. (waits : List (Waiting K)) → moved (doing_of now) waits ≡ parsed_move room waits (script_of script)) }
 {
@@ -65,7 +57,7 @@ fn first_command<K>(alloc: Global, script: Script, room: u64) -> Result<Now<K>, 
 
 /// A script begins: it is read whole first, unless there is no room for it.
 pub fn begun<K: Drop>(alloc: Global, script: Source, room: u64) -> Result<Now<K>, AllocError>
-    ensures { IfOk result (λ now. (waits : List (Waiting K)) → moved (doing_of now) waits ≡ begin_move room (source_text script) waits) }
+    ensures { IfOk result (λ now. (waits : List (Waiting K)) → moved (doing_of now) waits ≡ begin_move room script waits) }
 {
     if room == 0 {
         return Ok(Now::Ends {
@@ -73,30 +65,47 @@ pub fn begun<K: Drop>(alloc: Global, script: Source, room: u64) -> Result<Now<K>
             text: fixed(alloc, "too many nested evaluations (infinite loop?)")?,
         });
     }
-    match script {
-        Source::Parsed(script) => first_command(alloc, script, room - 1),
-        Source::Text(text) => match read(alloc, &text)? {
-            Ok(script) => first_command(alloc, script, room - 1),
-            Err(fault) => Ok(Now::Ends {
-                code: Code::Error,
-                text: fault_text(alloc, fault)?,
-            }),
-        },
+    match script.read(alloc)? {
+        Ok(script) => first_command(alloc, script, room - 1),
+        Err(fault) => Ok(Now::Ends {
+            code: Code::Error,
+            text: fault_text(alloc, fault)?,
+        }),
+    }
+}
+
+/// On to the next test of a loop.
+fn next_turn<K: Drop>(
+    frames: &mut Vec<Frame<K>>,
+    room: u64,
+    turning: Turning,
+) -> Result<Now<K>, AllocError>
+    ensures { IfOk result (λ now. moved_of now frames.new.items ≡ next_move room turning (waits_of frames.old.items) turning.next) }
+{
+    match &turning.next {
+        None => Ok(Now::Tests { room, turning }),
+        Some(next) => {
+            let script = next.copy()?;
+            wait(frames, Frame::ForNext { room, turning })?;
+            Ok(Now::Begins { room, script })
+        }
     }
 }
 
 /// The body of a loop has ended.
 fn after_body<K: Drop>(
     alloc: Global,
+    frames: &mut Vec<Frame<K>>,
+    room: u64,
     turning: Turning,
     code: Code,
     text: Text,
 ) -> Result<Now<K>, AllocError>
-    ensures { IfOk result (λ now. (waits : List (Waiting K)) → moved (doing_of now) waits ≡ after_body_move (turning_of turning) waits code text) }
+    ensures { IfOk result (λ now. moved_of now frames.new.items ≡ after_body_move room turning (waits_of frames.old.items) code text) }
 {
     match code {
-        Code::Normal => Ok(Now::Tests(turning)),
-        Code::Continue => Ok(Now::Tests(turning)),
+        Code::Normal => next_turn(frames, room, turning),
+        Code::Continue => next_turn(frames, room, turning),
         Code::Break => Ok(Now::Ends {
             code: Code::Normal,
             text: fixed(alloc, "")?,
@@ -104,6 +113,106 @@ fn after_body<K: Drop>(
         Code::Error => Ok(Now::Ends { code, text }),
         Code::Return(_) => Ok(Now::Ends { code, text }),
     }
+}
+
+/// What `for` runs behind the body has ended.
+fn after_next<K: Drop>(
+    alloc: Global,
+    room: u64,
+    turning: Turning,
+    code: Code,
+    text: Text,
+) -> Result<Now<K>, AllocError>
+    ensures { IfOk result (λ now. (waits : List (Waiting K)) → moved (doing_of now) waits ≡ after_next_move room turning waits code text) }
+{
+    match code {
+        Code::Normal => Ok(Now::Tests { room, turning }),
+        Code::Break => Ok(Now::Ends {
+            code: Code::Normal,
+            text: fixed(alloc, "")?,
+        }),
+        Code::Continue => Ok(Now::Ends { code, text }),
+        Code::Error => Ok(Now::Ends { code, text }),
+        Code::Return(_) => Ok(Now::Ends { code, text }),
+    }
+}
+
+/// What `for` runs before the first test has ended.
+fn after_start<K: Drop>(room: u64, turning: Turning, code: Code, text: Text) -> Now<K>
+    ensures { (waits : List (Waiting K)) → moved (doing_of result) waits ≡ after_start_move room turning waits code text }
+{
+    match code {
+        Code::Normal => Now::Tests { room, turning },
+        code => Now::Ends { code, text },
+    }
+}
+
+/// The script of `catch` has ended.
+fn after_catch<K: Drop>(
+    alloc: Global,
+    scopes: &mut Scopes,
+    context: &Context,
+    frames: &mut Vec<Frame<K>>,
+    name: Option<Text>,
+    code: Code,
+    text: Text,
+) -> Result<Now<K>, AllocError>
+    ensures { IfOk result (λ now. standing_of now frames.new.items scopes.new context.now ≡ ending_move (caught_ending (here context.now.levels scopes.old) name code text scopes.old) context.now (waits_of frames.old.items)) }
+{
+    let level = context.levels.here(scopes);
+    let End { code, text } = caught(alloc, scopes, level, name, code, text)?;
+    Ok(Now::Ends { code, text })
+}
+
+/// How a procedure ends, by how its body does.
+fn procedure_code(code: Code) -> Code
+    ensures { result ≡ procedure_code code }
+{
+    match code {
+        Code::Normal => Code::Normal,
+        Code::Error => Code::Error,
+        Code::Return(code) => match code {
+            ReturnCode::Normal => Code::Normal,
+            ReturnCode::Error => Code::Error,
+            ReturnCode::Return => Code::Return(ReturnCode::Normal),
+            ReturnCode::Break => Code::Break,
+            ReturnCode::Continue => Code::Continue,
+        },
+        Code::Break => Code::Error,
+        Code::Continue => Code::Error,
+    }
+}
+
+fn procedure_text(alloc: Global, code: Code, text: Text) -> Result<Text, AllocError>
+    ensures { IfOk result (λ told. told ≡ procedure_text code text) }
+{
+    match code {
+        Code::Break => fixed(alloc, "invoked \"break\" outside of a loop"),
+        Code::Continue => fixed(alloc, "invoked \"continue\" outside of a loop"),
+        Code::Normal => Ok(text),
+        Code::Error => Ok(text),
+        Code::Return(_) => Ok(text),
+    }
+}
+
+/// The body of a procedure has ended, and its frame goes.
+fn after_procedure<K: Drop>(
+    alloc: Global,
+    scopes: &mut Scopes,
+    context: &mut Context,
+    code: Code,
+    text: Text,
+) -> Result<Now<K>, AllocError>
+    ensures now { IfOk result (λ now. (waits : List (Waiting K)) → standing (moved (doing_of now) waits) scopes.new context.new ≡ standing (moved (Ends (procedure_code code) (procedure_text code text)) waits) (popped scopes.old) (callers context.old)) }
+{
+    if scopes.levels() > 1 {
+        scopes.pop_frame();
+    }
+    context.levels.pop();
+    Ok(Now::Ends {
+        code: procedure_code(code),
+        text: procedure_text(alloc, code, text)?,
+    })
 }
 
 /// A script at global level that the interpreter began has ended: there is no loop around it.
@@ -126,13 +235,14 @@ fn global_end<K: Drop>(alloc: Global, code: Code, text: Text) -> Result<Now<K>, 
 /// Something has ended, and what waited for it goes on.
 fn ended<K: Drop>(
     alloc: Global,
-    scopes: &Scopes,
+    scopes: &mut Scopes,
+    context: &mut Context,
     frames: &mut Vec<Frame<K>>,
     frame: Frame<K>,
     code: Code,
     text: Text,
 ) -> Result<Now<K>, AllocError>
-    ensures { IfOk result (λ now. moved_of now frames.new.items ≡ end_move scopes.now code text (waiting_of frame) (waits_of frames.old.items)) }
+    ensures { IfOk result (λ now. standing_of now frames.new.items scopes.new context.new ≡ end_move scopes.old context.old code text (waiting_of frame) (waits_of frames.old.items)) }
 {
     match frame {
         Frame::ForCommand(place) => match code {
@@ -142,18 +252,79 @@ fn ended<K: Drop>(
             }),
             code => Ok(Now::Ends { code, text }),
         },
-        Frame::ForBracket(wording) => match code {
-            Code::Normal => after_bracket(alloc, scopes, frames, wording, text),
+        Frame::ForPart(wording) => match code {
+            Code::Normal => {
+                let level = context.levels.here(scopes);
+                let now = after_part(alloc, scopes, level, frames, wording, text)?;
+                Ok(now)
+            }
             code => Ok(Now::Ends { code, text }),
         },
-        Frame::ForBody(turning) => after_body(alloc, turning, code, text),
+        Frame::ForIndex(indexing) => match code {
+            Code::Normal => {
+                let now = longer_index(alloc, indexing, text)?;
+                Ok(now)
+            }
+            code => Ok(Now::Ends { code, text }),
+        },
+        Frame::ForValue { room, asking } => match code {
+            Code::Normal => {
+                let Asking { eval } = asking;
+                Ok(Now::Evaluates {
+                    room,
+                    answered: Answered {
+                        eval,
+                        given: Some(text),
+                    },
+                })
+            }
+            code => Ok(Now::Ends { code, text }),
+        },
+        Frame::ForTest { room, turning } => match code {
+            Code::Normal => {
+                let now = turn(alloc, frames, room, turning, &text)?;
+                Ok(now)
+            }
+            code => Ok(Now::Ends { code, text }),
+        },
+        Frame::ForChoice { room, choosing } => match code {
+            Code::Normal => {
+                let now = chosen(alloc, frames, room, choosing, &text)?;
+                Ok(now)
+            }
+            code => Ok(Now::Ends { code, text }),
+        },
+        Frame::ForBody { room, turning } => {
+            let now = after_body(alloc, frames, room, turning, code, text)?;
+            Ok(now)
+        }
+        Frame::ForNext { room, turning } => {
+            let now = after_next(alloc, room, turning, code, text)?;
+            Ok(now)
+        }
+        Frame::ForStart { room, turning } => Ok(after_start(room, turning, code, text)),
+        Frame::ForCatch(name) => {
+            let now = after_catch(alloc, scopes, context, frames, name, code, text)?;
+            Ok(now)
+        }
+        Frame::ForLevels(levels) => {
+            context.levels.join(levels)?;
+            Ok(Now::Ends { code, text })
+        }
+        Frame::ForProcedure => {
+            let now = after_procedure(alloc, scopes, context, code, text)?;
+            Ok(now)
+        }
         Frame::ForScript { room, task } => Ok(Now::Resumes {
             room,
             task,
             code: out_of_global(code),
             text,
         }),
-        Frame::ForAll => global_end(alloc, code, text),
+        Frame::ForAll => {
+            let now = global_end(alloc, code, text)?;
+            Ok(now)
+        }
     }
 }
 
@@ -179,11 +350,12 @@ pub enum Move<K> {
 /// Makes one move that takes no step.
 fn advance<K: Drop>(
     alloc: Global,
-    scopes: &Scopes,
+    scopes: &mut Scopes,
+    context: &mut Context,
     frames: &mut Vec<Frame<K>>,
     now: Now<K>,
 ) -> Result<Move<K>, AllocError>
-    ensures { IfOk result (MoveGives scopes.now (moved_of now frames.old.items) frames.new.items) }
+    ensures { IfOk result (MoveGives (standing_of now frames.old.items scopes.old context.old) frames.new.items scopes.new context.new) }
 {
     match now {
         Now::Begins { room, script } => {
@@ -191,18 +363,29 @@ fn advance<K: Drop>(
             Ok(Move::On(now))
         }
         Now::GoesOn { place, result } => {
-            let now = go_on(alloc, scopes, frames, place, result)?;
+            let level = context.levels.here(scopes);
+            let now = go_on(alloc, scopes, level, frames, place, result)?;
             Ok(Move::On(now))
         }
         Now::Ends { code, text } => match wake(frames) {
             Some(frame) => {
-                let now = ended(alloc, scopes, frames, frame, code, text)?;
+                let now = ended(alloc, scopes, context, frames, frame, code, text)?;
                 Ok(Move::On(now))
             }
             None => Ok(Move::Due(Now::Ends { code, text })),
         },
+        Now::Indexes(indexing) => {
+            let level = context.levels.here(scopes);
+            let now = put_index(alloc, scopes, level, frames, indexing)?;
+            Ok(Move::On(now))
+        }
+        Now::Evaluates { room, answered } => {
+            let level = context.levels.here(scopes);
+            let now = evaluate(alloc, scopes, level, frames, room, answered)?;
+            Ok(Move::On(now))
+        }
         Now::Calls { room, words } => Ok(Move::Due(Now::Calls { room, words })),
-        Now::Tests(turning) => Ok(Move::Due(Now::Tests(turning))),
+        Now::Tests { room, turning } => Ok(Move::Due(Now::Tests { room, turning })),
         Now::Steps { room, task } => Ok(Move::Due(Now::Steps { room, task })),
         Now::Resumes {
             room,
@@ -221,16 +404,17 @@ fn advance<K: Drop>(
 /// Moves on without a step, up to where a step is needed, a task is to be resumed, or all has ended.
 pub fn quiet<K: Drop>(
     alloc: Global,
-    scopes: &Scopes,
+    scopes: &mut Scopes,
+    context: &mut Context,
     frames: &mut Vec<Frame<K>>,
     now: Now<K>,
 ) -> Result<Now<K>, AllocError>
-    ensures leads { IfOk result (λ due. Leads scopes.now (moved_of now frames.old.items) (moved_of due frames.new.items)) }
+    ensures leads { IfOk result (λ due. Leads (standing_of now frames.old.items scopes.old context.old) (standing_of due frames.new.items scopes.new context.new)) }
     ensures due { IfOk result (λ due. IsDue (moved_of due frames.new.items)) }
 {
     let mut doing = now;
     loop {
-        match advance(alloc, scopes, frames, doing)? {
+        match advance(alloc, scopes, context, frames, doing)? {
             Move::On(next) => doing = next,
             Move::Due(due) => return Ok(due),
         }

@@ -1,17 +1,16 @@
-ghost use Rattle.std.specs.Prelude.{◌≡◌, ◌<◌, ◌≤◌, ◌+◌, ◌-◌, ℕ, List, [], IfOk, OnErr};
-ghost use Rattle.tcl_interp.specs.Finish.{Waiting};
-ghost use Rattle.tcl_interp.specs.Moves.{moved};
-ghost use Rattle.tcl_interp.specs.Rests.{moved_of, waits_of, doing_of};
+ghost use Rattle.std.specs.Prelude.{◌≡◌, ◌≤◌, ◌+◌, IfOk};
+ghost use Rattle.tcl_interp.specs.Rests.{moved_of, doing_of, standing_of};
 ghost use Rattle.tcl_interp.specs.Runs.{Comes, IfPaused};
-ghost use Rattle.tcl_interp.specs.Steps.{NeedsStep, IsSettled, TakesStep, TakesNone, finish_from, state_with};
+ghost use Rattle.tcl_interp.specs.Steps.{NeedsStep, IsSettled, TakesStep, TakesNone, finish_from};
 
 use crate::machine::{Frame, Now};
 use crate::moves::quiet;
 use crate::steps::{call, resume, test};
-use crate::tasks::{Code, Tasks};
-use crate::texts::fixed;
+use crate::tasks::Tasks;
 use std::alloc::{AllocError, Global};
-use tcl_text::{Text, TextList};
+use tcl_control::texts::fixed;
+use tcl_control::{Code, Context};
+use tcl_text::Text;
 use tcl_vars::Scopes;
 
 /// Moves on without a step, through tasks too, up to where a step is needed or all has ended.
@@ -19,22 +18,25 @@ fn settle<T: Tasks>(
     alloc: Global,
     tasks: &mut T,
     scopes: &mut Scopes,
+    context: &mut Context,
     frames: &mut Vec<Frame<T::Task>>,
     now: Now<T::Task>,
 ) -> Result<Now<T::Task>, AllocError>
-    ensures ok { IfOk result (λ settled. (replaced : List (List ℕ)) → TakesNone T.outside replaced (moved_of now frames.old.items) tasks.old scopes.old (moved_of settled frames.new.items) tasks.new scopes.new) }
+    ensures ok { IfOk result (λ settled. TakesNone T.outside (standing_of now frames.old.items scopes.old context.old) tasks.old (standing_of settled frames.new.items scopes.new context.new) tasks.new) }
     ensures settled { IfOk result (λ settled. IsSettled (moved_of settled frames.new.items)) }
     ensures left { T.left_alone tasks.new ≡ T.left_alone tasks.old }
 {
     let mut doing = now;
     'moves: loop {
-        match quiet(alloc, scopes, frames, doing)? {
+        match quiet(alloc, scopes, context, frames, doing)? {
             Now::Resumes {
                 room,
                 task,
                 code,
                 text,
-            } => doing = resume(alloc, tasks, scopes, frames, room, task, code, text)?,
+            } => doing = resume(
+                alloc, tasks, scopes, context, frames, room, task, code, text,
+            )?,
             settled => return Ok(settled),
         }
     }
@@ -45,12 +47,12 @@ fn take_step<T: Tasks>(
     alloc: Global,
     tasks: &mut T,
     scopes: &mut Scopes,
+    context: &mut Context,
     frames: &mut Vec<Frame<T::Task>>,
-    replaced: &TextList,
     now: Now<T::Task>,
 ) -> Result<Now<T::Task>, AllocError>
     requires { NeedsStep (doing_of now) }
-    ensures ok { IfOk result (λ next. TakesStep T.outside replaced.now (moved_of now frames.old.items) tasks.old scopes.old (moved_of next frames.new.items) tasks.new scopes.new) }
+    ensures ok { IfOk result (λ next. TakesStep T.outside (standing_of now frames.old.items scopes.old context.old) tasks.old (standing_of next frames.new.items scopes.new context.new) tasks.new) }
     ensures left { T.left_alone tasks.new ≡ T.left_alone tasks.old }
 {
     match now {
@@ -59,15 +61,15 @@ fn take_step<T: Tasks>(
                 alloc,
                 tasks,
                 scopes,
+                context,
                 frames,
-                replaced,
                 words.as_slice(),
                 room,
             )?;
             Ok(next)
         }
-        Now::Tests(turning) => {
-            let next = test(alloc, scopes, frames, turning)?;
+        Now::Tests { room, turning } => {
+            let next = test(alloc, scopes, context, frames, turning, room)?;
             Ok(next)
         }
         Now::Steps { room, task } => Ok(Now::Resumes {
@@ -85,17 +87,17 @@ fn step_on<T: Tasks>(
     alloc: Global,
     tasks: &mut T,
     scopes: &mut Scopes,
+    context: &mut Context,
     frames: &mut Vec<Frame<T::Task>>,
-    replaced: &TextList,
     now: Now<T::Task>,
 ) -> Result<Now<T::Task>, AllocError>
     requires { NeedsStep (doing_of now) }
-    ensures ok { IfOk result (λ next. TakesStep T.outside replaced.now (moved_of now frames.old.items) tasks.old scopes.old (moved_of next frames.new.items) tasks.new scopes.new) }
+    ensures ok { IfOk result (λ next. TakesStep T.outside (standing_of now frames.old.items scopes.old context.old) tasks.old (standing_of next frames.new.items scopes.new context.new) tasks.new) }
     ensures settled { IfOk result (λ next. IsSettled (moved_of next frames.new.items)) }
     ensures left { T.left_alone tasks.new ≡ T.left_alone tasks.old }
 {
-    let next = take_step(alloc, tasks, scopes, frames, replaced, now)?;
-    let settled = settle(alloc, tasks, scopes, frames, next)?;
+    let next = take_step(alloc, tasks, scopes, context, frames, now)?;
+    let settled = settle(alloc, tasks, scopes, context, frames, next)?;
     Ok(settled)
 }
 
@@ -115,19 +117,19 @@ pub fn run<T: Tasks>(
     alloc: Global,
     tasks: &mut T,
     scopes: &mut Scopes,
+    context: &mut Context,
     frames: &mut Vec<Frame<T::Task>>,
-    replaced: &TextList,
     left: &mut u64,
     now: Now<T::Task>,
     steps: u64,
 ) -> Result<Ran<T::Task>, AllocError>
-    ensures comes { IfOk result (λ ran. Comes ran (finish_from T.outside replaced.now (moved_of now frames.old.items) (state_with tasks.old scopes.old left.old)) (state_with tasks.new scopes.new left.new) (λ next. finish_from T.outside replaced.now (moved_of next frames.new.items) (state_with tasks.new scopes.new left.new))) }
+    ensures comes { IfOk result (λ ran. Comes ran (finish_from T.outside (standing_of now frames.old.items scopes.old context.old) tasks.old left.old) (record { shows = tasks.new; store = scopes.new; context = context.new; steps = left.new }) (λ next. finish_from T.outside (standing_of next frames.new.items scopes.new context.new) tasks.new left.new)) }
     ensures paused { IfOk result (λ ran. IfPaused ran (left.new + steps ≡ left.old)) }
     ensures most { left.old ≤ left.new + steps }
     ensures taken { left.new ≤ left.old }
     ensures left_alone { T.left_alone tasks.new ≡ T.left_alone tasks.old }
 {
-    let mut doing = settle(alloc, tasks, scopes, frames, now)?;
+    let mut doing = settle(alloc, tasks, scopes, context, frames, now)?;
     for taken in 0..steps {
         match doing {
             Now::Ends { code, text } => return Ok(Ran::Ended(code, text)),
@@ -136,7 +138,7 @@ pub fn run<T: Tasks>(
                     return Ok(Ran::Spent);
                 }
                 *left -= 1;
-                doing = step_on(alloc, tasks, scopes, frames, replaced, needed)?;
+                doing = step_on(alloc, tasks, scopes, context, frames, needed)?;
             }
         }
     }

@@ -1,129 +1,102 @@
-ghost use Rattle.std.specs.Prelude.{◌≡◌, ◌<◌, [], ◌∷◌, ◌++◌, List, length, drop, IfOk, MatchResult, Ok, Err};
-ghost use Rattle.tcl_text.specs.Readings.{boolean_of};
-ghost use Rattle.tcl_vars.specs.Store.{variable_in, with_variable};
-ghost use Rattle.tcl_interp.specs.Outside.{Told};
-ghost use Rattle.tcl_interp.specs.Commands.{set_ending, value_ending, store_ending, condition_value, command_of, plain_name, truth};
-ghost use Rattle.tcl_interp.specs.Finish.{Waiting, Calls};
-ghost use Rattle.tcl_interp.specs.Moves.{moved, while_move, test_move, act_move};
-ghost use Rattle.tcl_interp.specs.Rests.{source_text, turning_of, moved_of, waits_of, doing_of};
-ghost use Rattle.tcl_interp.specs.Steps.{NeedsStep, TakesStep, Resumed, plain_words};
+ghost use Rattle.std.specs.Prelude.{◌≡◌, ◌∷◌, IfOk, OnOk};
+ghost use Rattle.tcl_vars.specs.Store.{Store};
+ghost use Rattle.tcl_control.specs.Levels.{here};
+ghost use Rattle.tcl_control.specs.Turns.{items_tested};
+ghost use Rattle.tcl_interp.specs.Plans.{cut, others};
+ghost use Rattle.tcl_interp.specs.Finish.{Calls, ForLevels, ForTest};
+ghost use Rattle.tcl_interp.specs.Moves.{moved, standing, expression_begins, plan_move, items_move, test_move, act_move};
+ghost use Rattle.tcl_interp.specs.Rests.{moved_of, standing_of, waits_of};
+ghost use Rattle.tcl_interp.specs.Steps.{TakesStep, Resumed};
 
-use crate::commands::{Builtin, command_of, plain_name};
-use crate::loops::{Condition, Source, Turning, condition_of};
+use crate::expressions::{begins, choose};
 use crate::machine::{Frame, Now};
-use crate::moves::read;
-use crate::tasks::{Act, Code, Tasks};
-use crate::texts::{cannot_read, cannot_set, fixed, not_boolean, unknown_command};
-use crate::words::{global_value, wait};
+use crate::tasks::{Act, Tasks};
+use crate::words::wait;
 use std::alloc::{AllocError, Global};
+use tcl_control::texts::{fixed, unknown_command};
+use tcl_control::{
+    Call, Code, Context, Expression, Plan, Source, Test, Turning, Verdict, call_command,
+    items_tested,
+};
+use tcl_shapes::Groups;
 use tcl_text::{Text, TextList};
-use tcl_vars::{Scopes, SetFault};
+use tcl_vars::Scopes;
 
-/// How a command that only reads and writes variables ends.
-#[derive(Drop)]
-pub struct End {
-    pub code: Code,
-    pub text: Text,
-}
-
-fn error(text: Text) -> End
-    ensures { result ≡ record { code = Code.Error; text = text } }
-{
-    End {
-        code: Code::Error,
-        text,
-    }
-}
-
-/// Reads a variable.
-fn set_read(alloc: Global, scopes: &Scopes, name: &Text) -> Result<End, AllocError>
-    ensures { IfOk result (λ end. record { store = scopes.now; code = end.code; text = end.text } ≡ value_ending name.now scopes.now (variable_in scopes.now 0 name.now)) }
-{
-    match global_value(scopes, name) {
-        Ok(value) => Ok(End {
-            code: Code::Normal,
-            text: value.copy()?,
-        }),
-        Err(fault) => Ok(error(cannot_read(alloc, name, fault)?)),
-    }
-}
-
-/// Sets a variable.
-fn set_write(
+/// A script runs where only so many of the levels are.
+fn run_at<K: Drop>(
     alloc: Global,
-    scopes: &mut Scopes,
-    name: &Text,
-    value: &Text,
-) -> Result<End, AllocError>
-    ensures { IfOk result (λ end. record { store = scopes.new; code = end.code; text = end.text } ≡ store_ending name.now value.now scopes.old (with_variable scopes.old 0 name.now value.now)) }
+    context: &mut Context,
+    frames: &mut Vec<Frame<K>>,
+    count: usize,
+) -> Result<(), AllocError>
+    ensures { OnOk result ((context.new ≡ cut count context.old) × (waits_of frames.new.items ≡ ForLevels (others count context.old) ∷ waits_of frames.old.items)) }
 {
-    let _frames = scopes.levels();
-    match scopes.set(0, name, value.copy()?) {
-        Ok(()) => Ok(End {
-            code: Code::Normal,
-            text: value.copy()?,
-        }),
-        Err(SetFault::NoMemory) => Err(AllocError),
-        Err(fault) => Ok(error(cannot_set(alloc, name, fault)?)),
-    }
+    let others = context.levels.cut(alloc, count)?;
+    wait(frames, Frame::ForLevels(others))?;
+    Ok(())
 }
 
-/// Calls `set` with these words, the first of which is its name (set(n)).
-fn set(alloc: Global, scopes: &mut Scopes, words: &[Text]) -> Result<End, AllocError>
-    ensures { IfOk result (λ end. record { store = scopes.new; code = end.code; text = end.text } ≡ set_ending 0 (drop 1 words.now) scopes.old) }
+/// A command does what its plan says.
+fn follow<K: Drop>(
+    alloc: Global,
+    context: &mut Context,
+    frames: &mut Vec<Frame<K>>,
+    plan: Plan,
+    room: u64,
+) -> Result<Now<K>, AllocError>
+    ensures { IfOk result (λ now. (store : Store) → standing_of now frames.new.items store context.new ≡ plan_move room store context.old (waits_of frames.old.items) plan) }
 {
-    match words {
-        [_, name] => set_read(alloc, scopes, name),
-        [_, name, value] => set_write(alloc, scopes, name, value),
-        _ => Ok(error(fixed(alloc, "wrong # args: should be \"set name ?value?\"")?)),
-    }
-}
-
-/// A loop's body, read where it can be.
-fn body_of(alloc: Global, text: &Text) -> Result<Source, AllocError>
-    ensures { IfOk result (λ body. source_text body ≡ text.now) }
-{
-    match read(alloc, text)? {
-        Ok(script) => Ok(Source::Parsed(script)),
-        Err(_) => Ok(Source::Text(text.copy()?)),
-    }
-}
-
-/// Calls `while` with these words, the first of which is its name (while(n)).
-fn begin_while<K: Drop>(alloc: Global, words: &[Text], room: u64) -> Result<Now<K>, AllocError>
-    ensures { IfOk result (λ now. (waits : List (Waiting K)) → moved (doing_of now) waits ≡ while_move room (drop 1 words.now) waits) }
-{
-    match words {
-        [_, condition, body] => Ok(Now::Tests(Turning {
-            room,
-            condition: condition_of(alloc, condition)?,
-            body: body_of(alloc, body)?,
-        })),
-        _ => Ok(Now::Ends {
-            code: Code::Error,
-            text: fixed(alloc, "wrong # args: should be \"while cond body\"")?,
-        }),
+    match plan {
+        Plan::Ends(code, text) => Ok(Now::Ends { code, text }),
+        Plan::Runs(script) => Ok(Now::Begins { room, script }),
+        Plan::Catches(script, name) => {
+            wait(frames, Frame::ForCatch(name))?;
+            Ok(Now::Begins { room, script })
+        }
+        Plan::RunsAt(count, script) => {
+            run_at(alloc, context, frames, count)?;
+            Ok(Now::Begins { room, script })
+        }
+        Plan::Enters(script) => {
+            wait(frames, Frame::ForProcedure)?;
+            Ok(Now::Begins { room, script })
+        }
+        Plan::Evaluates(expression) => {
+            let now = begins(alloc, &expression, room)?;
+            Ok(now)
+        }
+        Plan::Chooses(choices) => {
+            let now = choose(alloc, frames, room, choices, 0)?;
+            Ok(now)
+        }
+        Plan::Turns(turning) => Ok(Now::Tests { room, turning }),
+        Plan::Starts(script, turning) => {
+            wait(frames, Frame::ForStart { room, turning })?;
+            Ok(Now::Begins { room, script })
+        }
     }
 }
 
 /// What an act of a command of this name, or of a task, leads to.
 fn act_on<K: Drop>(
     alloc: Global,
+    context: &mut Context,
     frames: &mut Vec<Frame<K>>,
     act: Act<K>,
     name: &str,
     room: u64,
 ) -> Result<Now<K>, AllocError>
-    ensures { IfOk result (λ now. moved_of now frames.new.items ≡ act_move room name.now (waits_of frames.old.items) act) }
+    ensures { IfOk result (λ now. (store : Store) → standing_of now frames.new.items store context.new ≡ act_move room name.now store context.old (waits_of frames.old.items) act) }
 {
     match act {
         Act::Done(code, text) => Ok(Now::Ends { code, text }),
         Act::Step(task) => Ok(Now::Steps { room, task }),
         Act::Run { script, task } => {
             wait(frames, Frame::ForScript { room, task })?;
+            run_at(alloc, context, frames, 1)?;
             Ok(Now::Begins {
                 room,
-                script: Source::Text(script),
+                script: Source::of_text(script),
             })
         }
         Act::Unknown => Ok(Now::Ends {
@@ -133,115 +106,137 @@ fn act_on<K: Drop>(
     }
 }
 
-/// A loop's condition, or the error's text.
-fn truth_of(
+/// A loop tests whether there are items left.
+fn test_items<K: Drop>(
     alloc: Global,
-    scopes: &Scopes,
-    condition: &Condition,
-) -> Result<Result<bool, Text>, AllocError>
-    ensures { IfOk result (λ truth. truth ≡ condition_value 0 condition.now scopes.now) }
-{
-    match condition {
-        Condition::Word(text) => truth(alloc, text),
-        Condition::Variable(name) => match global_value(scopes, name) {
-            Ok(value) => truth(alloc, value),
-            Err(fault) => Ok(Err(cannot_read(alloc, name, fault)?)),
-        },
-    }
-}
-
-/// A text as a boolean, or the error's text.
-fn truth(alloc: Global, text: &Text) -> Result<Result<bool, Text>, AllocError>
-    ensures { IfOk result (λ value. value ≡ truth text.now (boolean_of text.now)) }
-{
-    match text.boolean() {
-        Ok(value) => Ok(Ok(value)),
-        Err(_) => Ok(Err(not_boolean(alloc, text)?)),
-    }
-}
-
-/// The body of a loop, shared where it has been read.
-fn copy_of(body: &Source) -> Result<Source, AllocError>
-    ensures { IfOk result (λ copy. source_text copy ≡ source_text body.now) }
-{
-    match body {
-        Source::Text(text) => Ok(Source::Text(text.copy()?)),
-        Source::Parsed(script) => Ok(Source::Parsed(script.copy()?)),
-    }
-}
-
-/// A loop tests its condition.
-pub fn test<K: Drop>(
-    alloc: Global,
-    scopes: &Scopes,
+    scopes: &mut Scopes,
+    context: &Context,
     frames: &mut Vec<Frame<K>>,
-    turning: Turning,
+    groups: Groups,
+    body: Source,
+    next: Option<Source>,
+    room: u64,
 ) -> Result<Now<K>, AllocError>
-    ensures { IfOk result (λ now. moved_of now frames.new.items ≡ test_move (turning_of turning) (waits_of frames.old.items) (condition_value 0 turning.condition scopes.now)) }
+    ensures { IfOk result (λ now. standing_of now frames.new.items scopes.new context.now ≡ items_move room (record { test = Test.Items groups; body = body; next = next }) context.now (waits_of frames.old.items) (items_tested (here context.now.levels scopes.old) groups scopes.old)) }
 {
-    match truth_of(alloc, scopes, &turning.condition)? {
-        Ok(true) => {
-            let room = turning.room;
-            let script = copy_of(&turning.body)?;
-            wait(frames, Frame::ForBody(turning))?;
+    let level = context.levels.here(scopes);
+    match items_tested(alloc, scopes, level, groups)? {
+        Verdict::More(groups) => {
+            let script = body.copy()?;
+            let test = Test::Items(groups);
+            let turning = Turning { test, body, next };
+            wait(frames, Frame::ForBody { room, turning })?;
             Ok(Now::Begins { room, script })
         }
-        Ok(false) => Ok(Now::Ends {
+        Verdict::NoMore => Ok(Now::Ends {
             code: Code::Normal,
             text: fixed(alloc, "")?,
         }),
-        Err(text) => Ok(Now::Ends {
+        Verdict::Fails(text) => Ok(Now::Ends {
             code: Code::Error,
             text,
         }),
     }
 }
 
-/// The words of an outside command, the first of which is its plain name.
-fn plain_words(alloc: Global, words: &[Text]) -> Result<TextList, AllocError>
-    ensures { IfOk result (λ plain. plain ≡ plain_words words.now) }
+/// A loop evaluates its condition.
+fn test_condition<K: Drop>(
+    alloc: Global,
+    frames: &mut Vec<Frame<K>>,
+    condition: Expression,
+    body: Source,
+    next: Option<Source>,
+    room: u64,
+) -> Result<Now<K>, AllocError>
+    ensures { IfOk result (λ now. moved_of now frames.new.items ≡ moved (expression_begins room condition) (ForTest room (record { test = Test.Holds condition; body = body; next = next }) ∷ waits_of frames.old.items)) }
 {
-    match words {
-        [] => Ok(TextList::new(alloc)),
-        [name, arguments @ ..] => {
-            let mut plain = TextList::new(alloc);
-            plain.push(plain_text(alloc, name)?)?;
-            with_copies(plain, arguments)
+    let now = begins(alloc, &condition, room)?;
+    let test = Test::Holds(condition);
+    let turning = Turning { test, body, next };
+    wait(frames, Frame::ForTest { room, turning })?;
+    Ok(now)
+}
+
+/// A loop tests whether it has another turn.
+pub fn test<K: Drop>(
+    alloc: Global,
+    scopes: &mut Scopes,
+    context: &Context,
+    frames: &mut Vec<Frame<K>>,
+    turning: Turning,
+    room: u64,
+) -> Result<Now<K>, AllocError>
+    ensures { IfOk result (λ now. standing_of now frames.new.items scopes.new context.now ≡ test_move room turning scopes.old context.now (waits_of frames.old.items) turning.test) }
+{
+    let Turning { test, body, next } = turning;
+    match test {
+        Test::Holds(condition) => {
+            let now = test_condition(alloc, frames, condition, body, next, room)?;
+            Ok(now)
+        }
+        Test::Items(groups) => {
+            let now = test_items(alloc, scopes, context, frames, groups, body, next, room)?;
+            Ok(now)
         }
     }
 }
 
 /// These texts, and copies of more.
-fn with_copies(mut texts: TextList, more: &[Text]) -> Result<TextList, AllocError>
-    ensures { IfOk result (λ all. all ≡ texts ++ more.now) }
+fn with_copies(alloc: Global, first: Text, more: &[Text]) -> Result<TextList, AllocError>
+    ensures { IfOk result (λ all. all ≡ first ∷ more.now) }
 {
+    let mut texts = TextList::new(alloc);
+    texts.push(first)?;
     for text in more {
         texts.push(text.copy()?)?;
     }
     Ok(texts)
 }
 
-/// A command's plain name as a text.
-fn plain_text(alloc: Global, name: &Text) -> Result<Text, AllocError>
-    ensures { IfOk result (λ plain. plain ≡ plain_name name.now) }
-{
-    let characters = name.as_str();
-    let plain = plain_name(characters);
-    fixed(alloc, plain)
-}
-
-/// Calls an outside command with these words, the first of which is its name.
+/// Calls an outside command, which first had this name, with these words behind it.
 fn call_outside<T: Tasks>(
     alloc: Global,
     tasks: &mut T,
     scopes: &mut Scopes,
-    words: &[Text],
+    first: Text,
+    arguments: &[Text],
 ) -> Result<Act<T::Task>, AllocError>
-    ensures ok { IfOk result (λ act. record { shows = tasks.new; store = scopes.new; act = act } ≡ T.outside.calls tasks.old scopes.old (plain_words words.now)) }
+    ensures ok { IfOk result (λ act. record { shows = tasks.new; store = scopes.new; act = act } ≡ T.outside.calls tasks.old scopes.old (first ∷ arguments.now)) }
     ensures left { T.left_alone tasks.new ≡ T.left_alone tasks.old }
 {
-    let plain = plain_words(alloc, words)?;
-    tasks.call(scopes, plain.as_slice())
+    let words = with_copies(alloc, first, arguments)?;
+    tasks.call(scopes, words.as_slice())
+}
+
+/// Calls a command of this name with these words behind it.
+fn call_named<T: Tasks>(
+    alloc: Global,
+    tasks: &mut T,
+    scopes: &mut Scopes,
+    context: &mut Context,
+    frames: &mut Vec<Frame<T::Task>>,
+    name: &Text,
+    arguments: &[Text],
+    room: u64,
+) -> Result<Now<T::Task>, AllocError>
+    ensures ok { IfOk result (λ now. TakesStep T.outside (standing (moved (Calls room (name.now ∷ arguments.now)) (waits_of frames.old.items)) scopes.old context.old) tasks.old (standing_of now frames.new.items scopes.new context.new) tasks.new) }
+    ensures left { T.left_alone tasks.new ≡ T.left_alone tasks.old }
+{
+    match call_command(alloc, scopes, context, name, arguments)? {
+        Call::Plans(plan) => {
+            let now = follow(alloc, context, frames, plan, room)?;
+            Ok(now)
+        }
+        Call::Outside(first) => {
+            let act = call_outside(alloc, tasks, scopes, first, arguments)?;
+            let now = act_on(alloc, context, frames, act, name.as_str(), room)?;
+            Ok(now)
+        }
+        Call::Unknown => Ok(Now::Ends {
+            code: Code::Error,
+            text: unknown_command(alloc, name.as_str())?,
+        }),
+    }
 }
 
 /// Calls a command with these words, of which there is one at least.
@@ -249,32 +244,21 @@ pub fn call<T: Tasks>(
     alloc: Global,
     tasks: &mut T,
     scopes: &mut Scopes,
+    context: &mut Context,
     frames: &mut Vec<Frame<T::Task>>,
-    replaced: &TextList,
     words: &[Text],
     room: u64,
 ) -> Result<Now<T::Task>, AllocError>
-    ensures ok { IfOk result (λ now. TakesStep T.outside replaced.now (moved (Calls room words.now) (waits_of frames.old.items)) tasks.old scopes.old (moved_of now frames.new.items) tasks.new scopes.new) }
+    ensures ok { IfOk result (λ now. TakesStep T.outside (standing (moved (Calls room words.now) (waits_of frames.old.items)) scopes.old context.old) tasks.old (standing_of now frames.new.items scopes.new context.new) tasks.new) }
     ensures left { T.left_alone tasks.new ≡ T.left_alone tasks.old }
 {
-    let Some(name) = words.first() else {
-        return Ok(Now::Ends {
+    match words {
+        [] => Ok(Now::Ends {
             code: Code::Normal,
             text: fixed(alloc, "")?,
-        });
-    };
-    match command_of(replaced, plain_name(name.as_str())) {
-        Some(Builtin::Set) => {
-            let End { code, text } = set(alloc, scopes, words)?;
-            Ok(Now::Ends { code, text })
-        }
-        Some(Builtin::While) => {
-            let now = begin_while(alloc, words, room)?;
-            Ok(now)
-        }
-        None => {
-            let act = call_outside(alloc, tasks, scopes, words)?;
-            let now = act_on(alloc, frames, act, name.as_str(), room)?;
+        }),
+        [name, arguments @ ..] => {
+            let now = call_named(alloc, tasks, scopes, context, frames, name, arguments, room)?;
             Ok(now)
         }
     }
@@ -285,15 +269,17 @@ pub fn resume<T: Tasks>(
     alloc: Global,
     tasks: &mut T,
     scopes: &mut Scopes,
+    context: &mut Context,
     frames: &mut Vec<Frame<T::Task>>,
     room: u64,
     task: T::Task,
     code: Code,
     text: Text,
 ) -> Result<Now<T::Task>, AllocError>
-    ensures ok { IfOk result (λ now. Resumed T.outside room task code text (waits_of frames.old.items) tasks.old scopes.old (moved_of now frames.new.items) tasks.new scopes.new) }
+    ensures ok { IfOk result (λ now. Resumed T.outside room task code text (waits_of frames.old.items) tasks.old scopes.old context.old (standing_of now frames.new.items scopes.new context.new) tasks.new) }
     ensures left { T.left_alone tasks.new ≡ T.left_alone tasks.old }
 {
     let act = tasks.resume(scopes, task, code, text)?;
-    act_on(alloc, frames, act, "", room)
+    let now = act_on(alloc, context, frames, act, "", room)?;
+    Ok(now)
 }

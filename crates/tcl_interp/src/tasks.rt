@@ -1,28 +1,9 @@
 ghost use Rattle.std.specs.Prelude.{◌≡◌, IfOk};
 
 use std::alloc::AllocError;
+use tcl_control::Code;
 use tcl_text::Text;
 use tcl_vars::Scopes;
-
-/// What a return becomes where it leaves a procedure or a script at global level: its `-code`.
-#[derive(Clone, Copy, Debug, PartialEq, Eq)]
-pub enum ReturnCode {
-    Normal,
-    Error,
-    Return,
-    Break,
-    Continue,
-}
-
-/// How a script or a command ended: Tcl's codes 0 to 4.
-#[derive(Clone, Copy, Debug, PartialEq, Eq)]
-pub enum Code {
-    Normal,
-    Error,
-    Return(ReturnCode),
-    Break,
-    Continue,
-}
 
 /// What an outside command, or a task that it began, does next.
 #[derive(Drop)]

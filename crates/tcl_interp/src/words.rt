@@ -1,58 +1,70 @@
 ghost use Rattle.std.specs.Prelude.{◌≡◌, ◌<◌, ◌≤◌, ◌+◌, [], ◌++◌, length, drop, nat_le, if◌then◌else◌, Some, None, option_map, MatchResult, Ok, Err, ◌∷◌, OnOk, IfOk, string_len, string_bytes};
-ghost use Rattle.tcl_vars.specs.Store.{variable_in};
-ghost use Rattle.tcl_interp.specs.Moves.{piece_text, word_end, called_move, words_move, bracket_move, bracket_begins, go_on_move};
-ghost use Rattle.tcl_interp.specs.Rests.{commands_in, left_in, words_in_front, pieces_in_front, joined_text, value_of, put_end, wording_of, moved_of, waits_of, waiting_of};
+ghost use Rattle.tcl_vars.specs.Store.{variable_in, element_in};
+ghost use Rattle.tcl_text.specs.Readings.{list_of};
+ghost use Rattle.tcl_control.specs.Source.{script_of};
+ghost use Rattle.tcl_control.specs.Texts.{element_name};
+ghost use Rattle.tcl_interp.specs.Evaluation.{index_depth, split_words, words_of};
+ghost use Rattle.tcl_interp.specs.Moves.{with_more, piece_text, word_end, called_move, words_move, element_begins, element_end, indexes_move, longer_index, part_begins, part_move, word_part, go_on_move};
+ghost use Rattle.tcl_interp.specs.Rests.{commands_in, doing_of, expand_in_front, indexing_of, joined_text, left_in, moved_of, part_of, pieces_in, pieces_in_front, put_end, value_of, waiting_of, waits_of, wording_of, words_in_front};
 
-use crate::loops::Source;
-use crate::machine::{Frame, Joined, Now, Place, Short, Wording};
-use crate::tasks::Code;
-use crate::texts::{cannot_read, fixed, limit};
+use crate::machine::{Frame, Indexing, Joined, Now, Place, Short, Wording};
 use std::alloc::{AllocError, Global};
-use tcl_text::{Text, TextList};
-use tcl_vars::{ReadFault, Scopes};
-use tcl_words::{Command, Piece, Script, Word};
+use tcl_control::texts::{cannot_read, cannot_read_element, fault_text, fixed, limit, list_fault};
+use tcl_control::{Code, Source};
+use tcl_text::{SplitFault, Text, TextList};
+use tcl_vars::Scopes;
+use tcl_words::{Command, Index, ParseFault, Piece, Script, Word};
 
-/// A piece by itself: a text, an error, or a script whose result it is.
+/// A part of a word that is evaluated by itself: a script in brackets, or an element, by the array's name and the index.
+#[derive(Drop)]
+pub enum Part {
+    Script(Script),
+    Element(Text, Index),
+}
+
+/// A piece by itself: a text, an error, or a part whose result it is.
 #[derive(Drop)]
 pub enum Value {
     Plain(Text),
     Fails(Text),
-    Script(Script),
+    Waits(Part),
 }
 
-/// How far a word came: it is whole, it fails, or a script is to be run whose result comes next.
+/// How far a word or an index came: it is whole, it fails, or a part is to be evaluated whose result comes next.
 #[derive(Drop)]
 pub enum Put {
     Whole(Text),
     Failed(Text),
-    Bracket {
-        script: Script,
+    AtPart {
+        part: Part,
         next: usize,
         so_far: Joined,
     },
 }
 
-/// The value of a variable at global level.
-pub fn global_value<'a>(scopes: &'a Scopes, name: &Text) -> Result<&'a Text, ReadFault>
-    ensures { MatchResult result
-        (λ text. variable_in scopes.now 0 name.now ≡ Ok text.now)
-        (λ fault. variable_in scopes.now 0 name.now ≡ Err fault) }
-{
-    let _frames = scopes.levels();
-    scopes.get(0, name)
-}
+/// How many indices stand in one another at most, in a script that can be read.
+const INDEX_DEPTH: u64 = 200;
 
-fn piece_value(alloc: Global, scopes: &Scopes, piece: &Piece) -> Result<Value, AllocError>
-    ensures { IfOk result (λ value. value_of value ≡ piece_text scopes.now piece.now) }
+/// A piece's value, where variables are those of a level.
+fn piece_value(
+    alloc: Global,
+    scopes: &Scopes,
+    level: usize,
+    piece: &Piece,
+) -> Result<Value, AllocError>
+    requires { level < length scopes.now }
+    ensures { IfOk result (λ value. value_of value ≡ piece_text level scopes.now piece.now) }
 {
     match piece {
         Piece::Literal(text) => Ok(Value::Plain(text.copy()?)),
-        Piece::Variable(name) => match global_value(scopes, name) {
+        Piece::Variable(name) => match scopes.get(level, name) {
             Ok(value) => Ok(Value::Plain(value.copy()?)),
             Err(fault) => Ok(Value::Fails(cannot_read(alloc, name, fault)?)),
         },
-        Piece::Element(_, _) => Ok(Value::Fails(fixed(alloc, "not yet")?)),
-        Piece::Bracket(script) => Ok(Value::Script(script.copy()?)),
+        Piece::Element(name, index) => {
+            Ok(Value::Waits(Part::Element(name.copy()?, index.copy()?)))
+        }
+        Piece::Bracket(script) => Ok(Value::Waits(Part::Script(script.copy()?))),
     }
 }
 
@@ -98,16 +110,18 @@ fn whole_text(alloc: Global, joined: Joined) -> Result<Text, AllocError>
 fn put_pieces(
     alloc: Global,
     scopes: &Scopes,
+    level: usize,
     pieces: &[Piece],
     from: usize,
     so_far: Joined,
 ) -> Result<Put, AllocError>
-    ensures { IfOk result (λ put. put_end pieces.now put ≡ word_end scopes.now (drop from pieces.now) (joined_text so_far)) }
+    requires { level < length scopes.now }
+    ensures { IfOk result (λ put. put_end pieces.now put ≡ word_end level scopes.now (drop from pieces.now) (joined_text so_far)) }
 {
     let mut next = from;
     let mut text_so_far = so_far;
     while next < pieces.len() {
-        let value = piece_value(alloc, scopes, &pieces[next])?;
+        let value = piece_value(alloc, scopes, level, &pieces[next])?;
         next += 1;
         match value {
             Value::Plain(text) => match joined(alloc, text_so_far, text)? {
@@ -115,9 +129,9 @@ fn put_pieces(
                 None => return Ok(Put::Failed(limit(alloc)?)),
             },
             Value::Fails(text) => return Ok(Put::Failed(text)),
-            Value::Script(script) => {
-                return Ok(Put::Bracket {
-                    script,
+            Value::Waits(part) => {
+                return Ok(Put::AtPart {
+                    part,
                     next,
                     so_far: text_so_far,
                 });
@@ -128,7 +142,7 @@ fn put_pieces(
 }
 
 /// The commands of a script.
-#[tactic(auto, unfolding(crate::specs::Scripts::script_of))]
+#[tactic(auto, unfolding(tcl_table::specs::Source::script_of))]
 fn commands(script: &Script) -> &[Command]
     ensures { result.now ≡ commands_in script.now }
 {
@@ -152,6 +166,69 @@ fn pieces_at(words: &[Word], index: usize) -> &[Piece]
     match words.get(index) {
         Some(word) => word.pieces.as_slice(),
         None => &[],
+    }
+}
+
+/// Whether the word at an index is a list of words.
+fn expand_at(words: &[Word], index: usize) -> bool
+    ensures { result ≡ expand_in_front (drop index words.now) }
+{
+    match words.get(index) {
+        Some(word) => word.expand,
+        None => false,
+    }
+}
+
+/// The words so far, and those that a word of this text gives; or the error's text.
+fn with_words(
+    alloc: Global,
+    whole: TextList,
+    expand: bool,
+    text: Text,
+) -> Result<Result<TextList, Text>, AllocError>
+    ensures { IfOk result (λ all. all ≡ with_more whole (words_of expand text)) }
+{
+    if expand {
+        with_elements(alloc, whole, &text)
+    } else {
+        let mut all = whole;
+        all.push(text)?;
+        Ok(Ok(all))
+    }
+}
+
+/// The words so far, and those that the word at an index gives, which has this text; or the error's text.
+fn with_word(
+    alloc: Global,
+    whole: TextList,
+    words: &[Word],
+    index: usize,
+    text: Text,
+) -> Result<Result<TextList, Text>, AllocError>
+    ensures { IfOk result (λ all. all ≡ with_more whole (words_of (expand_in_front (drop index words.now)) text)) }
+{
+    with_words(alloc, whole, expand_at(words, index), text)
+}
+
+/// The words so far, and the elements of a list.
+fn with_elements(
+    alloc: Global,
+    whole: TextList,
+    list: &Text,
+) -> Result<Result<TextList, Text>, AllocError>
+    ensures { IfOk result (λ all. all ≡ with_more whole (split_words (list_of list.now))) }
+{
+    match list.split_list(alloc) {
+        Ok(elements) => {
+            let mut all = whole;
+            let items = elements.as_slice();
+            for element in items {
+                all.push(element.copy()?)?;
+            }
+            Ok(Ok(all))
+        }
+        Err(SplitFault::BadList(fault)) => Ok(Err(list_fault(alloc, fault)?)),
+        Err(SplitFault::NoMemory) => Err(AllocError),
     }
 }
 
@@ -200,12 +277,14 @@ fn called<K: Drop>(
 fn put_words<K: Drop>(
     alloc: Global,
     scopes: &Scopes,
+    level: usize,
     frames: &mut Vec<Frame<K>>,
     place: Place,
     from: usize,
     so_far: TextList,
 ) -> Result<Now<K>, AllocError>
-    ensures { IfOk result (λ now. moved_of now frames.new.items ≡ words_move scopes.now place.room (drop (place.next + 1) (commands_in place.script)) (drop from (words_in_front (left_in place))) so_far (waits_of frames.old.items)) }
+    requires { level < length scopes.now }
+    ensures { IfOk result (λ now. moved_of now frames.new.items ≡ words_move level scopes.now place.room (drop (place.next + 1) (commands_in place.script)) (drop from (words_in_front (left_in place))) so_far (waits_of frames.old.items)) }
 {
     let mut whole = so_far;
     let mut word = from;
@@ -213,22 +292,32 @@ fn put_words<K: Drop>(
         match put_pieces(
             alloc,
             scopes,
+            level,
             pieces_at(next_words(&place), word),
             0,
             Joined::Nothing,
         )? {
-            Put::Whole(text) => whole.push(text)?,
+            Put::Whole(text) => {
+                let more = with_word(alloc, whole, next_words(&place), word, text)?;
+                match more {
+                    Ok(all) => whole = all,
+                    Err(text) => {
+                        return Ok(Now::Ends {
+                            code: Code::Error,
+                            text,
+                        });
+                    }
+                }
+            }
             Put::Failed(text) => {
                 return Ok(Now::Ends {
                     code: Code::Error,
                     text,
                 });
             }
-            Put::Bracket {
-                script,
-                next,
-                so_far,
-            } => return bracket(frames, place, word, next, whole, so_far, script),
+            Put::AtPart { part, next, so_far } => {
+                return word_part(alloc, frames, place, word, next, whole, so_far, part);
+            }
         }
         word += 1;
     }
@@ -239,36 +328,86 @@ fn put_words<K: Drop>(
 fn put_words_past<K: Drop>(
     alloc: Global,
     scopes: &Scopes,
+    level: usize,
     frames: &mut Vec<Frame<K>>,
     place: Place,
     word: usize,
     whole: TextList,
 ) -> Result<Now<K>, AllocError>
-    ensures { IfOk result (λ now. moved_of now frames.new.items ≡ words_move scopes.now place.room (drop (place.next + 1) (commands_in place.script)) (drop (word + 1) (words_in_front (left_in place))) whole (waits_of frames.old.items)) }
+    requires { level < length scopes.now }
+    ensures { IfOk result (λ now. moved_of now frames.new.items ≡ words_move level scopes.now place.room (drop (place.next + 1) (commands_in place.script)) (drop (word + 1) (words_in_front (left_in place))) whole (waits_of frames.old.items)) }
 {
     if word < next_words(&place).len() {
-        put_words(alloc, scopes, frames, place, word + 1, whole)
+        put_words(alloc, scopes, level, frames, place, word + 1, whole)
     } else {
         called(alloc, frames, place, whole)
     }
 }
 
-/// A script in the words of the command that is next is to be run.
-fn bracket<K: Drop>(
+/// The element of this array is to be read, with indices at most so deep in its index.
+#[tactic(auto, unfolding(crate::specs::Evaluation::index_pieces))]
+fn element_begins<K: Drop>(
+    alloc: Global,
+    room: u64,
+    depth: u64,
+    name: Text,
+    index: Index,
+) -> Result<Now<K>, AllocError>
+    ensures { IfOk result (λ now. doing_of now ≡ element_begins room depth name index) }
+{
+    if depth == 0 {
+        return Ok(Now::Ends {
+            code: Code::Error,
+            text: fault_text(alloc, ParseFault::TooLong)?,
+        });
+    }
+    let _pieces = index.pieces();
+    Ok(Now::Indexes(Indexing {
+        room,
+        depth: depth - 1,
+        name,
+        index,
+        piece: 0,
+        so_far: Joined::Nothing,
+    }))
+}
+
+/// A part of a word or of an index is to be evaluated.
+fn part_begins<K: Drop>(
+    alloc: Global,
+    room: u64,
+    depth: u64,
+    part: Part,
+) -> Result<Now<K>, AllocError>
+    ensures { IfOk result (λ now. doing_of now ≡ part_begins room depth (part_of part)) }
+{
+    match part {
+        Part::Script(script) => Ok(Now::Begins {
+            room,
+            script: Source::of_script(script),
+        }),
+        Part::Element(name, index) => element_begins(alloc, room, depth, name, index),
+    }
+}
+
+/// A part of the words of the command that is next is to be evaluated.
+#[tactic(auto, unfolding(crate::specs::Evaluation::index_depth))]
+fn word_part<K: Drop>(
+    alloc: Global,
     frames: &mut Vec<Frame<K>>,
     place: Place,
     word: usize,
     piece: usize,
     whole: TextList,
     so_far: Joined,
-    script: Script,
+    part: Part,
 ) -> Result<Now<K>, AllocError>
-    ensures { IfOk result (λ now. moved_of now frames.new.items ≡ bracket_begins place.room (drop (place.next + 1) (commands_in place.script)) (drop (word + 1) (words_in_front (left_in place))) whole (drop piece (pieces_in_front (drop word (words_in_front (left_in place))))) (joined_text so_far) script (waits_of frames.old.items)) }
+    ensures { IfOk result (λ now. moved_of now frames.new.items ≡ word_part place.room (drop (place.next + 1) (commands_in place.script)) (expand_in_front (drop word (words_in_front (left_in place)))) (drop (word + 1) (words_in_front (left_in place))) whole (drop piece (pieces_in_front (drop word (words_in_front (left_in place))))) (joined_text so_far) (part_of part) (waits_of frames.old.items)) }
 {
     let room = place.room;
     wait(
         frames,
-        Frame::ForBracket(Wording {
+        Frame::ForPart(Wording {
             place,
             word,
             piece,
@@ -276,27 +415,131 @@ fn bracket<K: Drop>(
             so_far,
         }),
     )?;
-    Ok(Now::Begins {
-        room,
-        script: Source::Parsed(script),
-    })
+    part_begins(alloc, room, INDEX_DEPTH, part)
 }
 
-/// A script in the words of a command has ended normally.
-pub fn after_bracket<K: Drop>(
+/// The pieces of an index.
+#[tactic(auto, unfolding(crate::specs::Evaluation::index_pieces))]
+fn pieces_of(index: &Index) -> &[Piece]
+    ensures { result.now ≡ pieces_in index.now }
+{
+    index.pieces()
+}
+
+/// The element of this index, where variables are those of a level.
+fn element<K: Drop>(
     alloc: Global,
     scopes: &Scopes,
+    level: usize,
+    name: &Text,
+    index: &Text,
+) -> Result<Now<K>, AllocError>
+    requires { level < length scopes.now }
+    ensures { IfOk result (λ now. doing_of now ≡ element_end (element_name name.now index.now) (element_in scopes.now level name.now index.now)) }
+{
+    match scopes.get_element(level, name, index) {
+        Ok(value) => Ok(Now::Ends {
+            code: Code::Normal,
+            text: value.copy()?,
+        }),
+        Err(fault) => Ok(Now::Ends {
+            code: Code::Error,
+            text: cannot_read_element(alloc, name, index, fault)?,
+        }),
+    }
+}
+
+/// Puts an index together, until a part of it is to be evaluated, and then reads its element.
+pub fn put_index<K: Drop>(
+    alloc: Global,
+    scopes: &Scopes,
+    level: usize,
+    frames: &mut Vec<Frame<K>>,
+    indexing: Indexing,
+) -> Result<Now<K>, AllocError>
+    requires { level < length scopes.now }
+    ensures { IfOk result (λ now. moved_of now frames.new.items ≡ indexes_move level scopes.now (indexing_of indexing) (waits_of frames.old.items)) }
+{
+    let Indexing {
+        room,
+        depth,
+        name,
+        index,
+        piece,
+        so_far,
+    } = indexing;
+    match put_pieces(alloc, scopes, level, pieces_of(&index), piece, so_far)? {
+        Put::Whole(text) => element(alloc, scopes, level, &name, &text),
+        Put::Failed(text) => Ok(Now::Ends {
+            code: Code::Error,
+            text,
+        }),
+        Put::AtPart { part, next, so_far } => {
+            wait(
+                frames,
+                Frame::ForIndex(Indexing {
+                    room,
+                    depth,
+                    name,
+                    index,
+                    piece: next,
+                    so_far,
+                }),
+            )?;
+            part_begins(alloc, room, depth, part)
+        }
+    }
+}
+
+/// A part of an index has ended normally.
+pub fn longer_index<K: Drop>(
+    alloc: Global,
+    indexing: Indexing,
+    text: Text,
+) -> Result<Now<K>, AllocError>
+    ensures { IfOk result (λ now. doing_of now ≡ longer_index (indexing_of indexing) text) }
+{
+    let Indexing {
+        room,
+        depth,
+        name,
+        index,
+        piece,
+        so_far,
+    } = indexing;
+    match joined(alloc, so_far, text)? {
+        Some(so_far) => Ok(Now::Indexes(Indexing {
+            room,
+            depth,
+            name,
+            index,
+            piece,
+            so_far,
+        })),
+        None => Ok(Now::Ends {
+            code: Code::Error,
+            text: limit(alloc)?,
+        }),
+    }
+}
+
+/// A part of the words of a command has ended normally.
+pub fn after_part<K: Drop>(
+    alloc: Global,
+    scopes: &Scopes,
+    level: usize,
     frames: &mut Vec<Frame<K>>,
     wording: Wording,
     text: Text,
 ) -> Result<Now<K>, AllocError>
-    ensures { IfOk result (λ now. moved_of now frames.new.items ≡ bracket_move scopes.now (wording_of wording) (waits_of frames.old.items) text) }
+    requires { level < length scopes.now }
+    ensures { IfOk result (λ now. moved_of now frames.new.items ≡ part_move level scopes.now (wording_of wording) (waits_of frames.old.items) text) }
 {
     let Wording {
         place,
         word,
         piece,
-        mut whole,
+        whole,
         so_far,
     } = wording;
     let Some(so_far) = joined(alloc, so_far, text)? else {
@@ -308,23 +551,28 @@ pub fn after_bracket<K: Drop>(
     match put_pieces(
         alloc,
         scopes,
+        level,
         pieces_at(next_words(&place), word),
         piece,
         so_far,
     )? {
         Put::Whole(text) => {
-            whole.push(text)?;
-            put_words_past(alloc, scopes, frames, place, word, whole)
+            let more = with_word(alloc, whole, next_words(&place), word, text)?;
+            match more {
+                Ok(whole) => put_words_past(alloc, scopes, level, frames, place, word, whole),
+                Err(text) => Ok(Now::Ends {
+                    code: Code::Error,
+                    text,
+                }),
+            }
         }
         Put::Failed(text) => Ok(Now::Ends {
             code: Code::Error,
             text,
         }),
-        Put::Bracket {
-            script,
-            next,
-            so_far,
-        } => bracket(frames, place, word, next, whole, so_far, script),
+        Put::AtPart { part, next, so_far } => {
+            word_part(alloc, frames, place, word, next, whole, so_far, part)
+        }
     }
 }
 
@@ -332,14 +580,16 @@ pub fn after_bracket<K: Drop>(
 pub fn go_on<K: Drop>(
     alloc: Global,
     scopes: &Scopes,
+    level: usize,
     frames: &mut Vec<Frame<K>>,
     place: Place,
     previous: Text,
 ) -> Result<Now<K>, AllocError>
-    ensures { IfOk result (λ now. moved_of now frames.new.items ≡ go_on_move scopes.now place.room (left_in place) previous (waits_of frames.old.items)) }
+    requires { level < length scopes.now }
+    ensures { IfOk result (λ now. moved_of now frames.new.items ≡ go_on_move level scopes.now place.room (left_in place) previous (waits_of frames.old.items)) }
 {
     if place.next < commands(&place.script).len() {
-        put_words(alloc, scopes, frames, place, 0, TextList::new(alloc))
+        put_words(alloc, scopes, level, frames, place, 0, TextList::new(alloc))
     } else {
         Ok(Now::Ends {
             code: Code::Normal,

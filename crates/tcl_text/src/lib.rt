@@ -17,6 +17,7 @@ mod splitting;
 mod text;
 mod white_space;
 
+pub use backslash::{Escape, Meaning, escape_behind};
 pub use boolean::NotBoolean;
 pub use commands::{answers, integers, items};
 pub use edit::{Edit, EditFault};

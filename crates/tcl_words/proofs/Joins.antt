@@ -1,21 +1,23 @@
--- What was read joined with a rest of the text: how a byte goes over from the rest to what was read.
-use Rattle.std.proofs.Common.{◌≡◌, ℕ, ◌+◌, ◌-◌, ◌<◌, ◌≤◌, List, [], ◌∷◌, ◌++◌, length, take, drop, refl, sym, ap, ◌∙◌, append_assoc, append-nil, arith, Ok, Err, slice_index}
+-- What was read joined with a rest of the text: how bytes and parts go over from the rest to what was read.
+use Rattle.std.proofs.Common.{◌≡◌, ℕ, suc, ◌+◌, ◌-◌, ◌<◌, ◌≤◌, Bool, List, [], ◌∷◌, ◌++◌, length, take, drop, refl, sym, ap, ◌∙◌, append_assoc, append-nil, arith, Ok, Err, slice_index}
 use Rattle.std.specs.List.{slice_range}
 use Rattle.std.proofs.lemmas.List.{drop-drop}
 use Rattle.std.proofs.lemmas.List.Edits.{between_more, between_none}
 use Rattle.std.proofs.Math.Seq.{take-add}
-use Rattle.tcl_words.specs.Reading.{Read, put, byte_before, literal_before, name_ended, variable_before, word_ended, command_ended, bare_word, braced_word, word_before, command_before, command_of}
-use Rattle.tcl_words.specs.Parts.{Parts, joined, with_word, with_name}
-use Rattle.tcl_words.specs.declared.kind.Place.TheVariants.{Start, Between, Bare, Name, Brace, Braced, Dollar, Colon, Colons}
-use Rattle.tcl_words.specs.declared.script.WordForm.TheVariants.{Bare as BareForm, Braced as BracedForm}
+use Rattle.tcl_words.specs.Changes.{Rest, Read, put, piece_before, last_rest, literal_before, command_of, word_of, pieces_of, Change, bytes, name, text_ends, word_ends, command_ends, word_begins, command_begins, changed, changed_by}
+use Rattle.tcl_words.specs.Parts.{Parts, joined, with_text, with_word, with_command, with_piece, with_literal, with_braced, so_far}
+use Rattle.tcl_words.specs.declared.kind.Place.TheVariants.{Start, Comment, Between, Expanded, Text, PastQuotes, InBraces, PastBraces}
+use Rattle.tcl_words.specs.declared.kind.Mode.{Mode}
+use Rattle.tcl_words.specs.declared.kind.Mode.TheVariants.{Bare, Quotes, Parens}
+use Rattle.tcl_words.specs.declared.script.WordForm.TheVariants.{Bare as BareForm, Quoted as QuotedForm, Braced as BracedForm}
 use Rattle.tcl_words.specs.declared.script.Piece.{Piece}
 use Rattle.tcl_words.specs.declared.script.Piece.TheVariants.{Literal, Variable}
 
-pub slice_more : (s : List ℕ) (mark at b : ℕ) → mark ≤ at → at < length s → slice_index s at ≡ b → slice_range s mark (at + 1) ≡ slice_range s mark at ++ b ∷ []
-slice_more s mark at b le lt e = between_more s mark at 0 le lt ∙ ap (λ x. slice_range s mark at ++ x ∷ []) e
-
 pub slice_none : (s : List ℕ) (at : ℕ) → slice_range s at at ≡ []
 slice_none s at = between_none s at
+
+pub slice_one : (s : List ℕ) (at b : ℕ) → at < length s → slice_index s at ≡ b → slice_range s at (at + 1) ≡ b ∷ []
+slice_one s at b lt e = between_more s at at 0 (omega arith) lt ∙ ap (λ t. t ++ slice_index s at ∷ []) (slice_none s at) ∙ ap (λ x. x ∷ []) e
 
 pub slice_split : (s : List ℕ) (mark stop at : ℕ) → mark ≤ stop → stop ≤ at → slice_range s mark at ≡ slice_range s mark stop ++ slice_range s stop at
 slice_split s mark stop at h k =
@@ -25,98 +27,109 @@ slice_split s mark stop at h k =
     ∙ take-add (stop - mark) (at - stop) (drop mark s)
     ∙ ap (λ t. slice_range s mark stop ++ take (at - stop) t) (drop-drop (stop - mark) mark s ∙ ap (λ n. drop n s) m)
 
-pub literal_before-append : (bytes : List ℕ) (pieces : List Piece) → literal_before bytes pieces ≡ literal_before bytes [] ++ pieces
+-- the first bytes of what stands behind a position
+pub slice_behind : (s : List ℕ) (from n : ℕ) → slice_range s from (from + n) ≡ take n (drop from s)
+slice_behind s from n = let e : from + n - from ≡ n = omega arith in ap (λ k. take k (drop from s)) e
+
+pub literal_before-append : (own : List ℕ) (pieces : List Piece) → literal_before own pieces ≡ literal_before own [] ++ pieces
 literal_before-append [] pieces = refl
-literal_before-append (b ∷ bytes) pieces = refl
+literal_before-append (b ∷ own) pieces = refl
 
--- a byte of the literal, the name or the text in braces
-byte_over : (s : List ℕ) (mark at b : ℕ) (bytes : List ℕ) → mark ≤ at → at < length s → slice_index s at ≡ b → slice_range s mark at ++ b ∷ bytes ≡ slice_range s mark (at + 1) ++ bytes
-byte_over s mark at b bytes le lt e = sym (append_assoc (slice_range s mark at) (b ∷ []) bytes) ∙ ap (λ t. t ++ bytes) (sym (slice_more s mark at b le lt e))
+-- bytes of the literal as the source has them
+pub over : (p : Parts) (s : List ℕ) (at end : ℕ) (own rest : List ℕ) → p.mark ≤ at → at ≤ end → slice_range s at end ≡ own → so_far p s at ++ (own ++ rest) ≡ so_far p s end ++ rest
+over p s at end own rest h k e =
+    append_assoc p.literal (slice_range s p.mark at) (own ++ rest)
+    ∙ ap (λ t. p.literal ++ t) (sym (append_assoc (slice_range s p.mark at) own rest) ∙ ap (λ t. t ++ rest) (ap (λ t. slice_range s p.mark at ++ t) (sym e) ∙ sym (slice_split s p.mark at end h k)))
+    ∙ sym (append_assoc p.literal (slice_range s p.mark end) rest)
 
-pub bare_byte : (p : Parts) (s : List ℕ) (at b : ℕ) (r : Read) → p.mark ≤ at → at < length s → slice_index s at ≡ b → joined p s Bare at (put (byte_before b) r) ≡ joined p s Bare (at + 1) r
-bare_byte p s at b (Ok rest) le lt e = rw (byte_over s p.mark at b rest.bytes le lt e) refl
-bare_byte p s at b (Err fault) le lt e = refl
+pub text_bytes : (p : Parts) (s : List ℕ) (mode : Mode) (at end : ℕ) (own : List ℕ) (r : Read) → p.mark ≤ at → at ≤ end → slice_range s at end ≡ own →
+    joined p s (Text mode) at (put (changed (bytes own ∷ [])) r) ≡ joined p s (Text mode) end r
+text_bytes p s Bare at end own (Ok rest) h k e = rw (over p s at end own rest.bytes h k e) refl
+text_bytes p s Quotes at end own (Ok rest) h k e = rw (over p s at end own rest.bytes h k e) refl
+text_bytes p s Parens at end own (Ok rest) h k e = rw (over p s at end own rest.bytes h k e) refl
+text_bytes p s mode at end own (Err fault) h k e = refl
 
-pub name_byte : (p : Parts) (s : List ℕ) (at b : ℕ) (r : Read) → p.mark ≤ at → at < length s → slice_index s at ≡ b → joined p s Name at (put (byte_before b) r) ≡ joined p s Name (at + 1) r
-name_byte p s at b (Ok rest) le lt e = rw (byte_over s p.mark at b rest.bytes le lt e) refl
-name_byte p s at b (Err fault) le lt e = refl
+pub brace_bytes : (p : Parts) (s : List ℕ) (depth next at end : ℕ) (own : List ℕ) (r : Read) → p.mark ≤ at → at ≤ end → slice_range s at end ≡ own →
+    joined p s (InBraces depth) at (put (changed (bytes own ∷ [])) r) ≡ joined p s (InBraces next) end r
+brace_bytes p s depth next at end own (Ok rest) h k e = rw (over p s at end own rest.bytes h k e) refl
+brace_bytes p s depth next at end own (Err fault) h k e = refl
 
-pub brace_byte : (p : Parts) (s : List ℕ) (d n at b : ℕ) (r : Read) → p.mark ≤ at → at < length s → slice_index s at ≡ b → joined p s (Brace d) at (put (byte_before b) r) ≡ joined p s (Brace n) (at + 1) r
-brace_byte p s d n at b (Ok rest) le lt e = rw (byte_over s p.mark at b rest.bytes le lt e) refl
-brace_byte p s d n at b (Err fault) le lt e = refl
+-- bytes of the literal that the source writes otherwise
+pub otherwise : (p : Parts) (s : List ℕ) (at end : ℕ) (own rest : List ℕ) → so_far p s at ++ (own ++ rest) ≡ ((so_far p s at ++ own) ++ slice_range s end end) ++ rest
+otherwise p s at end own rest = simp (slice_none, append-nil, append_assoc)
 
-pub bare_ended : (p : Parts) (s : List ℕ) (at : ℕ) (r : Read) → joined p s Bare at (put (word_ended at) r) ≡ joined (with_word p BareForm (p.pieces ++ literal_before (slice_range s p.mark at) []) at) s Between at r
-bare_ended p s at (Ok rest) = simp (append-nil, append_assoc)
-bare_ended p s at (Err fault) = refl
+pub text_meant : (p : Parts) (s : List ℕ) (mode : Mode) (at end : ℕ) (own : List ℕ) (r : Read) →
+    joined p s (Text mode) at (put (changed (bytes own ∷ [])) r) ≡ joined (record p { literal = so_far p s at ++ own; mark = end }) s (Text mode) end r
+text_meant p s Bare at end own (Ok rest) = rw (otherwise p s at end own rest.bytes) refl
+text_meant p s Quotes at end own (Ok rest) = rw (otherwise p s at end own rest.bytes) refl
+text_meant p s Parens at end own (Ok rest) = rw (otherwise p s at end own rest.bytes) refl
+text_meant p s mode at end own (Err fault) = refl
 
-pub braced_ended : (p : Parts) (s : List ℕ) (at : ℕ) (r : Read) → joined p s Braced at (put (word_ended at) r) ≡ joined (with_word p BracedForm (p.pieces ++ Literal (slice_range s p.mark p.stop) ∷ []) at) s Between at r
-braced_ended p s at (Ok rest) = simp (append-nil, append_assoc)
-braced_ended p s at (Err fault) = refl
+pub brace_meant : (p : Parts) (s : List ℕ) (depth at end : ℕ) (own : List ℕ) (r : Read) →
+    joined p s (InBraces depth) at (put (changed (bytes own ∷ [])) r) ≡ joined (record p { literal = so_far p s at ++ own; mark = end }) s (InBraces depth) end r
+brace_meant p s depth at end own (Ok rest) = rw (otherwise p s at end own rest.bytes) refl
+brace_meant p s depth at end own (Err fault) = refl
 
-pub command_over : (p : Parts) (s : List ℕ) (at : ℕ) (r : Read) → joined p s Between at (put command_ended r) ≡ joined (record p { commands = p.commands ++ command_of p.command_start p.words ∷ []; words = [] }) s Start (at + 1) r
-command_over p s at (Ok rest) = simp (append-nil, append_assoc)
-command_over p s at (Err fault) = refl
+-- a piece, and before it the literal that is open
+piece_over : (p : Parts) (s : List ℕ) (at end : ℕ) (own : Piece) (rest : Rest) →
+    p.pieces ++ literal_before (so_far p s at ++ []) (own ∷ literal_before rest.bytes rest.pieces)
+    ≡ ((p.pieces ++ literal_before (so_far p s at) []) ++ own ∷ []) ++ literal_before (([] ++ slice_range s end end) ++ rest.bytes) rest.pieces
+piece_over p s at end own rest =
+    rw (append-nil (so_far p s at), slice_none s end)
+    (ap (λ t. p.pieces ++ t) (literal_before-append (so_far p s at) (own ∷ literal_before rest.bytes rest.pieces)) ∙ simp append_assoc)
 
-pub between_over : (p : Parts) (s : List ℕ) (at : ℕ) (r : Read) → joined p s Between at r ≡ joined p s Between (at + 1) r
-between_over p s at (Ok rest) = refl
-between_over p s at (Err fault) = refl
+pub text_piece : (p : Parts) (s : List ℕ) (mode : Mode) (at end : ℕ) (own : Piece) (r : Read) →
+    joined p s (Text mode) at (put (piece_before own) r) ≡ joined (with_piece (with_literal p s at) own end) s (Text mode) end r
+text_piece p s Bare at end own (Ok rest) = rw (piece_over p s at end own rest) refl
+text_piece p s Quotes at end own (Ok rest) = rw (piece_over p s at end own rest) refl
+text_piece p s Parens at end own (Ok rest) = rw (piece_over p s at end own rest) refl
+text_piece p s mode at end own (Err fault) = refl
 
-pub dollar_over : (p : Parts) (s : List ℕ) (at : ℕ) (r : Read) → joined p s Bare at r ≡ joined (record p { stop = at }) s Dollar (at + 1) r
-dollar_over p s at (Ok rest) = refl
-dollar_over p s at (Err fault) = refl
+-- the same, where the piece is what a bracket or a parenthesis opened
+pub text_opened : (p : Parts) (s : List ℕ) (mode : Mode) (at end : ℕ) (own : Piece) (r : Read) →
+    joined p s (Text mode) at (put (changed []) (put (piece_before own) r)) ≡ joined (with_piece (with_literal p s at) own end) s (Text mode) end r
+text_opened p s mode at end own (Ok rest) = text_piece p s mode at end own (Ok rest)
+text_opened p s mode at end own (Err fault) = refl
 
-pub closed_over : (p : Parts) (s : List ℕ) (at : ℕ) (r : Read) → joined p s (Brace 0) at r ≡ joined (record p { stop = at }) s Braced (at + 1) r
-closed_over p s at (Ok rest) = refl
-closed_over p s at (Err fault) = refl
+-- a text ends, and with it its last literal
+text_over : (p : Parts) (s : List ℕ) (at : ℕ) → p.pieces ++ literal_before (so_far p s at ++ []) [] ≡ (p.pieces ++ literal_before (so_far p s at) []) ++ []
+text_over p s at = simp append-nil
 
--- a `$` that stands for itself, and what followed it
-stood_over : (s : List ℕ) (mark stop at : ℕ) (own bytes : List ℕ) → mark ≤ stop → stop ≤ at → slice_range s stop at ≡ own → slice_range s mark stop ++ (own ++ bytes) ≡ slice_range s mark at ++ bytes
-stood_over s mark stop at own bytes h k e =
-    sym (append_assoc (slice_range s mark stop) own bytes)
-    ∙ ap (λ t. (slice_range s mark stop ++ t) ++ bytes) (sym e)
-    ∙ ap (λ t. t ++ bytes) (sym (slice_split s mark stop at h k))
+pub bare_ended : (p : Parts) (s : List ℕ) (at next : ℕ) (r : Read) → joined p s (Text Bare) at (put (changed_by text_ends) r) ≡ joined (with_literal p s at) s PastBraces next r
+bare_ended p s at next (Ok rest) = rw (text_over p s at) refl
+bare_ended p s at next (Err fault) = refl
 
-pub dollar_stood : (p : Parts) (s : List ℕ) (at : ℕ) (r : Read) → p.mark ≤ p.stop → at ≡ p.stop + 1 → slice_range s p.stop at ≡ 36 ∷ [] → joined p s Dollar at (put (byte_before 36) r) ≡ joined p s Bare at r
-dollar_stood p s at (Ok rest) h k e = rw (stood_over s p.mark p.stop at (36 ∷ []) rest.bytes h (omega arith) e) refl
-dollar_stood p s at (Err fault) h k e = refl
+pub quotes_ended : (p : Parts) (s : List ℕ) (at next : ℕ) (r : Read) → joined p s (Text Quotes) at (put (changed (text_ends ∷ [])) r) ≡ joined (with_literal p s at) s PastQuotes next r
+quotes_ended p s at next (Ok rest) = rw (text_over p s at) refl
+quotes_ended p s at next (Err fault) = refl
 
-pub colon_stood : (p : Parts) (s : List ℕ) (at : ℕ) (r : Read) → p.mark ≤ p.stop → at ≡ p.stop + 2 → slice_range s p.stop at ≡ 36 ∷ 58 ∷ [] → joined p s Colon at (put (λ rest. byte_before 36 (byte_before 58 rest)) r) ≡ joined p s Bare at r
-colon_stood p s at (Ok rest) h k e = rw (stood_over s p.mark p.stop at (36 ∷ 58 ∷ []) rest.bytes h (omega arith) e) refl
-colon_stood p s at (Err fault) h k e = refl
+pub braces_ended : (p : Parts) (s : List ℕ) (at next : ℕ) (r : Read) → joined p s (InBraces 0) at (put (changed (text_ends ∷ [])) r) ≡ joined (with_braced p s at) s PastBraces next r
+braces_ended p s at next (Ok rest) = rw (append-nil (so_far p s at), append-nil (p.pieces ++ Literal (so_far p s at) ∷ [])) refl
+braces_ended p s at next (Err fault) = refl
 
-pub colons_stood : (p : Parts) (s : List ℕ) (at : ℕ) (r : Read) → p.mark ≤ p.stop → at ≡ p.stop + 3 → slice_range s p.stop at ≡ 36 ∷ 58 ∷ 58 ∷ [] → joined p s Colons at (put (λ rest. byte_before 36 (byte_before 58 (byte_before 58 rest))) r) ≡ joined p s Bare at r
-colons_stood p s at (Ok rest) h k e = rw (stood_over s p.mark p.stop at (36 ∷ 58 ∷ 58 ∷ []) rest.bytes h (omega arith) e) refl
-colons_stood p s at (Err fault) h k e = refl
+pub word_ended : (p : Parts) (s : List ℕ) (at here next : ℕ) (r : Read) → joined p s PastBraces here (put (changed_by (word_ends at)) r) ≡ joined (with_word p at) s Between next r
+word_ended p s at here next (Ok rest) = simp (append-nil, append_assoc)
+word_ended p s at here next (Err fault) = refl
 
-named_over : (p : Parts) (s : List ℕ) (own : List ℕ) (at : ℕ) (bytes : List ℕ) (pieces : List Piece) → slice_range s (p.stop + 1) (at + 1) ≡ own →
-    p.pieces ++ literal_before (slice_range s p.mark p.stop ++ []) (Variable (own ++ bytes) ∷ pieces)
-    ≡ (p.pieces ++ literal_before (slice_range s p.mark p.stop) []) ++ Variable (slice_range s (p.stop + 1) (at + 1) ++ bytes) ∷ pieces
-named_over p s own at bytes pieces e =
-    ap (λ t. p.pieces ++ literal_before t (Variable (own ++ bytes) ∷ pieces)) (append-nil (slice_range s p.mark p.stop))
-    ∙ ap (λ t. p.pieces ++ t) (literal_before-append (slice_range s p.mark p.stop) (Variable (own ++ bytes) ∷ pieces))
-    ∙ sym (append_assoc p.pieces (literal_before (slice_range s p.mark p.stop) []) (Variable (own ++ bytes) ∷ pieces))
-    ∙ ap (λ t. (p.pieces ++ literal_before (slice_range s p.mark p.stop) []) ++ Variable (t ++ bytes) ∷ pieces) (sym e)
+pub command_ended : (p : Parts) (s : List ℕ) (here next : ℕ) (r : Read) → joined p s Between here (put (changed_by command_ends) r) ≡ joined (with_command p) s Start next r
+command_ended p s here next (Ok rest) = simp (append-nil, append_assoc)
+command_ended p s here next (Err fault) = refl
 
-pub dollar_named : (p : Parts) (s : List ℕ) (at b : ℕ) (r : Read) → slice_range s (p.stop + 1) (at + 1) ≡ b ∷ [] → joined p s Dollar at (put (variable_before (b ∷ [])) r) ≡ joined (with_name p s) s Name (at + 1) r
-dollar_named p s at b (Ok rest) e = rw (named_over p s (b ∷ []) at rest.bytes rest.pieces e) refl
-dollar_named p s at b (Err fault) e = refl
+pub bare_begun : (p : Parts) (s : List ℕ) (expand : Bool) (start here at : ℕ) (r : Read) →
+    joined p s Between here (put (changed_by (word_begins BareForm expand start)) r) ≡ joined (record p { word_start = start; form = BareForm; expand = expand; pieces = []; literal = []; mark = at }) s (Text Bare) at r
+bare_begun p s expand start here at (Ok rest) = rw (slice_none s at) refl
+bare_begun p s expand start here at (Err fault) = refl
 
-pub colons_named : (p : Parts) (s : List ℕ) (at b : ℕ) (r : Read) → slice_range s (p.stop + 1) (at + 1) ≡ 58 ∷ 58 ∷ b ∷ [] → joined p s Colons at (put (variable_before (58 ∷ 58 ∷ b ∷ [])) r) ≡ joined (with_name p s) s Name (at + 1) r
-colons_named p s at b (Ok rest) e = rw (named_over p s (58 ∷ 58 ∷ b ∷ []) at rest.bytes rest.pieces e) refl
-colons_named p s at b (Err fault) e = refl
+pub quotes_begun : (p : Parts) (s : List ℕ) (expand : Bool) (start here at : ℕ) (r : Read) →
+    joined p s Between here (put (changed (word_begins QuotedForm expand start ∷ [])) r) ≡ joined (record p { word_start = start; form = QuotedForm; expand = expand; pieces = []; literal = []; mark = at }) s (Text Quotes) at r
+quotes_begun p s expand start here at (Ok rest) = rw (slice_none s at) refl
+quotes_begun p s expand start here at (Err fault) = refl
 
-pub name_over : (p : Parts) (s : List ℕ) (at : ℕ) (r : Read) → joined p s Name at (put name_ended r) ≡ joined (record p { pieces = p.pieces ++ Variable (slice_range s p.mark at) ∷ []; mark = at }) s Bare at r
-name_over p s at (Ok rest) = simp (slice_none, append-nil, append_assoc)
-name_over p s at (Err fault) = refl
+pub braces_begun : (p : Parts) (s : List ℕ) (expand : Bool) (start here at : ℕ) (r : Read) →
+    joined p s Between here (put (changed (word_begins BracedForm expand start ∷ [])) r) ≡ joined (record p { word_start = start; form = BracedForm; expand = expand; pieces = []; literal = []; mark = at }) s (InBraces 0) at r
+braces_begun p s expand start here at (Ok rest) = rw (slice_none s at) refl
+braces_begun p s expand start here at (Err fault) = refl
 
-pub bare_begun : (p : Parts) (s : List ℕ) (at : ℕ) (r : Read) → p.pieces ≡ [] → joined p s Between at (put (word_before bare_word at) r) ≡ joined (record p { word_start = at; mark = at }) s Bare at r
-bare_begun p s at (Ok rest) e = simp (slice_none, e)
-bare_begun p s at (Err fault) e = refl
-
-pub braces_begun : (p : Parts) (s : List ℕ) (at : ℕ) (r : Read) → p.pieces ≡ [] → joined p s Between at (put (word_before braced_word at) r) ≡ joined (record p { word_start = at; mark = at + 1 }) s (Brace 0) (at + 1) r
-braces_begun p s at (Ok rest) e = simp (slice_none, e)
-braces_begun p s at (Err fault) e = refl
-
-pub command_begun : (p : Parts) (s : List ℕ) (at : ℕ) (r : Read) → p.words ≡ [] → joined p s Start at (put (command_before at) r) ≡ joined (record p { command_start = at }) s Between at r
-command_begun p s at (Ok rest) e = simp e
-command_begun p s at (Err fault) e = refl
+pub command_begun : (p : Parts) (s : List ℕ) (start here at : ℕ) (r : Read) → joined p s Start here (put (changed_by (command_begins start)) r) ≡ joined (record p { command_start = start; words = [] }) s Between at r
+command_begun p s start here at (Ok rest) = refl
+command_begun p s start here at (Err fault) = refl

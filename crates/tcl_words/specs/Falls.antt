@@ -37,7 +37,7 @@ pieces_fall a = omega (arith, pieces_most a.pieces.items)
 pub words_fall : (a : WordsInside) → deep-Words a ≤ words_room a.words.items
 words_fall a = omega (arith, words_most a.words.items)
 
-pub index_falls : (a : IndexInside) → pieces_room a.pieces < text_room a.text → deep-Index a ≤ text_room a.text
+pub index_falls : (a : IndexInside) → pieces_room a.parsed.value.pieces < text_room a.parsed.value.text → deep-Index a ≤ text_room a.parsed.value.text
 index_falls a h = omega arith
 
 pub script_falls : (a : ScriptInside) → commands_room a.parsed.value.commands.items ≤ text_room a.parsed.value.text → deep-Script a ≤ text_room a.parsed.value.text

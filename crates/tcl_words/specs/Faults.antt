@@ -3,7 +3,7 @@ use Rattle.std.specs.Prelude.{ℕ, List, [], codes}
 use Rattle.tcl_text.specs.declared.text.TextFault.{TextFault}
 use Rattle.tcl_text.specs.declared.text.TextFault.TheVariants.{TooLong as TextTooLong, NoMemory as TextNoMemory}
 use Rattle.tcl_words.specs.declared.fault.ParseFault.{ParseFault}
-use Rattle.tcl_words.specs.declared.fault.ParseFault.TheVariants.{TooLong, MissingBrace, MissingBracket, MissingQuote, ExtraAfterBrace, ExtraAfterQuote, MissingParen, NotYet, NoMemory}
+use Rattle.tcl_words.specs.declared.fault.ParseFault.TheVariants.{TooLong, MissingBrace, MissingBracket, MissingQuote, ExtraAfterBrace, ExtraAfterQuote, MissingParen, NoMemory}
 
 abbrev pub fault_of : TextFault → ParseFault
 fault_of TextTooLong = TooLong
@@ -18,5 +18,4 @@ text_of MissingQuote = codes "missing \""
 text_of ExtraAfterBrace = codes "extra characters after close-brace"
 text_of ExtraAfterQuote = codes "extra characters after close-quote"
 text_of MissingParen = codes "missing )"
-text_of NotYet = codes "not yet"
 text_of NoMemory = []

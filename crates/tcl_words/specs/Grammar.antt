@@ -1,191 +1,327 @@
--- The grammar of scripts, as a relation between a text and its commands. It cuts texts into gaps, commands,
--- words and pieces, and says nothing of how a text is read. A script is read with how it ends: with nothing
--- more to say, or with the fault of the word that would come next.
-use Rattle.std.specs.Prelude.{ℕ, ◌+◌, ◌≡◌, ◌≢◌, ◌≤◌, ◌⊎◌, List, [], ◌∷◌, ◌++◌, length, Option, Some, None}
+-- The grammar of scripts, as a relation between a text and its commands. It cuts texts into gaps, commands, words and
+-- pieces, and says nothing of how a text is read. What stands at the front of a text is read with how that goes on: with
+-- a text that is left behind it, or with the fault of the text.
+use Rattle.std.specs.Prelude.{ℕ, zero, suc, ◌+◌, ◌≡◌, ◌≢◌, ◌≤◌, ◌⊎◌, Bool, true, false, not, ◌&&◌, ◌||◌, ◌==◌, nat_eq, List, [], ◌∷◌, ◌++◌, length, drop}
+use Rattle.std.specs.List.{starts_with}
 use Rattle.std.specs.Str.{IsUtf8}
-use Rattle.tcl_words.specs.Kinds.{kind_of, EndsWord}
-use Rattle.tcl_words.specs.Later.{IsLaterForm}
-use Rattle.tcl_words.specs.Reading.{command_of, word_of}
-use Rattle.tcl_words.specs.declared.kind.Kind.TheVariants.{Blank, Letter}
-use Rattle.tcl_words.specs.declared.script.WordForm.TheVariants.{Braced, Bare}
+use Rattle.tcl_text.specs.Backslash.{escape}
+use Rattle.tcl_words.specs.Kinds.{class_of, is_letter, begins_newline, begins_expansion}
+use Rattle.tcl_words.specs.Changes.{command_of, word_of}
+use Rattle.tcl_words.specs.declared.kind.Mode.{Mode}
+use Rattle.tcl_words.specs.declared.kind.Mode.TheVariants.{Bare, Quotes, Parens}
+use Rattle.tcl_words.specs.declared.kind.Kind.{Kind}
+use Rattle.tcl_words.specs.declared.kind.Kind.TheVariants.{Blank, Newline, Semicolon, Dollar, OpenBracket, CloseBracket, Backslash, Continuation}
+use Rattle.tcl_words.specs.declared.script.WordForm.{WordForm}
+use Rattle.tcl_words.specs.declared.script.WordForm.TheVariants.{Bare as BareForm, Quoted as QuotedForm, Braced as BracedForm}
 use Rattle.tcl_words.specs.declared.script.Span.{Span}
 use Rattle.tcl_words.specs.declared.script.Piece.{Piece}
 use Rattle.tcl_words.specs.declared.script.Piece.TheVariants.{Literal, Variable, Element, Bracket}
 use Rattle.tcl_words.specs.declared.script.Word.{Word}
 use Rattle.tcl_words.specs.declared.script.Command.{Command}
 use Rattle.tcl_words.specs.declared.fault.ParseFault.{ParseFault}
-use Rattle.tcl_words.specs.declared.fault.ParseFault.TheVariants.{TooLong, MissingBrace, MissingBracket, MissingQuote, ExtraAfterBrace, ExtraAfterQuote, MissingParen, NotYet, NoMemory}
+use Rattle.tcl_words.specs.declared.fault.ParseFault.TheVariants.{TooLong, MissingBrace, MissingBracket, MissingQuote, ExtraAfterBrace, ExtraAfterQuote, MissingParen}
+
+-- How a text goes on behind what stands at its front.
+pub data Ending : Type 0 where
+  -- this is left of it
+  leaves : List ℕ → Ending
+  -- it has this fault
+  fails : ParseFault → Ending
+
+-- What is read by itself within a script: a script in brackets, or the index of an element.
+pub data Inner : Type 0 where
+  script : Inner
+  index : Inner
+
+-- this byte is the first
+abbrev pub begins : ℕ → List ℕ → Bool
+begins b [] = false
+begins b (c ∷ text) = c == b
+
+abbrev pub begins_letter : List ℕ → Bool
+begins_letter [] = false
+begins_letter (b ∷ text) = is_letter b
+
+-- a name stands at the front: `::` or nothing, and then a letter, a digit or `_`
+abbrev pub begins_name : List ℕ → Bool
+begins_name text = begins_letter text || (starts_with nat_eq text (58 ∷ 58 ∷ []) && begins_letter (drop 2 text))
+
+-- A byte of this class, and then this text, end the word before them. `inside` says that the script or the index ends at a
+-- closing bracket or parenthesis.
+abbrev pub class_ends : Bool → Kind → List ℕ → Bool
+class_ends inside Blank behind = true
+class_ends inside Newline behind = true
+class_ends inside Semicolon behind = true
+class_ends inside CloseBracket behind = inside
+class_ends inside Backslash behind = begins_newline behind
+class_ends inside class behind = false
+
+-- a word can end before this text
+abbrev pub ends_word : Bool → List ℕ → Bool
+ends_word inside [] = true
+ends_word inside (b ∷ text) = class_ends inside (class_of b) text
+
+-- a `{*}` stands at the front, before a character that doesn't end the word
+abbrev pub begins_mark : Bool → List ℕ → Bool
+begins_mark inside [] = false
+begins_mark inside (b ∷ text) = b == 123 && (begins_expansion text && not (ends_word inside (drop 2 text)))
+
+-- letters, digits and `_`
+abbrev pub AreLetters : List ℕ → Type 0
+AreLetters [] = Unit {0}
+AreLetters (b ∷ text) = (is_letter b ≡ true) × AreLetters text
+
+-- a variable's name: at least one of these, and before that `::` or nothing
+abbrev pub IsName : List ℕ → Type 0
+IsName name = (b : ℕ) × (letters : List ℕ) × (is_letter b ≡ true) × AreLetters letters × ((name ≡ b ∷ letters) ⊎ (name ≡ 58 ∷ 58 ∷ b ∷ letters))
+
+-- no `}`
+abbrev pub HasNoBrace : List ℕ → Type 0
+HasNoBrace [] = Unit {0}
+HasNoBrace (b ∷ text) = (b ≢ 125) × HasNoBrace text
+
+-- an index ends at a parenthesis; read by itself it ends where the text does
+abbrev pub index_stops : Bool → List ℕ → Bool
+index_stops inside [] = not inside
+index_stops inside (b ∷ text) = inside && b == 41
+
+-- the body ends before this text
+abbrev pub stops : Bool → Mode → List ℕ → Bool
+stops inside Bare text = ends_word inside text
+stops inside Quotes text = begins 34 text
+stops inside Parens text = index_stops inside text
+
+-- the fault of a body that never ends
+abbrev pub unended_fault : Mode → ParseFault
+unended_fault Bare = MissingBracket
+unended_fault Quotes = MissingQuote
+unended_fault Parens = MissingParen
+
+-- what stands for itself where a body goes on
+abbrev pub is_plain : Kind → Bool
+is_plain Dollar = false
+is_plain OpenBracket = false
+is_plain Backslash = false
+is_plain Continuation = false
+is_plain kind = true
+
+-- what stands for itself goes together into literals, as long as can be
+abbrev pub with_bytes : List ℕ → List Piece → List Piece
+with_bytes [] pieces = pieces
+with_bytes (b ∷ bytes) [] = Literal (b ∷ bytes) ∷ []
+with_bytes (b ∷ bytes) (Literal text ∷ pieces) = Literal (b ∷ (bytes ++ text)) ∷ pieces
+with_bytes (b ∷ bytes) (Variable name ∷ pieces) = Literal (b ∷ bytes) ∷ Variable name ∷ pieces
+with_bytes (b ∷ bytes) (Element name key ∷ pieces) = Literal (b ∷ bytes) ∷ Element name key ∷ pieces
+with_bytes (b ∷ bytes) (Bracket own ∷ pieces) = Literal (b ∷ bytes) ∷ Bracket own ∷ pieces
+
+-- The pieces of a body at the front of a text, where `IsInner` says how scripts in brackets and indices are read. With a
+-- fault the pieces are those before it.
+pub data ArePieces (IsInner : Inner → List ℕ → Ending → Type 0) (inside : Bool) (mode : Mode) : List ℕ → List Piece → Ending → Type 0 where
+  -- it ends before this text
+  stop : {text : List ℕ} → stops inside mode text ≡ true → ArePieces IsInner inside mode text [] (leaves text)
+  -- it should have ended
+  unended : stops inside mode [] ≡ false → ArePieces IsInner inside mode [] [] (fails (unended_fault mode))
+  -- a byte that stands for itself
+  byte : {b : ℕ} {text : List ℕ} {pieces : List Piece} {ending : Ending} → stops inside mode (b ∷ text) ≡ false → is_plain (class_of b) ≡ true →
+      ArePieces IsInner inside mode text pieces ending → ArePieces IsInner inside mode (b ∷ text) (with_bytes (b ∷ []) pieces) ending
+  -- a backslash, with as much of the text behind it as it takes
+  backslash : {text : List ℕ} {pieces : List Piece} {ending : Ending} → stops inside mode (92 ∷ text) ≡ false →
+      ArePieces IsInner inside mode (drop (escape text).length text) pieces ending → ArePieces IsInner inside mode (92 ∷ text) (with_bytes (escape text).meaning pieces) ending
+  -- a `$` that stands for itself
+  dollar : {text : List ℕ} {pieces : List Piece} {ending : Ending} → begins_name text ≡ false → begins 123 text ≡ false →
+      ArePieces IsInner inside mode text pieces ending → ArePieces IsInner inside mode (36 ∷ text) (with_bytes (36 ∷ []) pieces) ending
+  -- `$name`: the name goes as far as it can
+  variable : (name : List ℕ) {text : List ℕ} {pieces : List Piece} {ending : Ending} → IsName name → begins_letter text ≡ false → begins 40 text ≡ false →
+      ArePieces IsInner inside mode text pieces ending → ArePieces IsInner inside mode (36 ∷ (name ++ text)) (Variable name ∷ pieces) ending
+  -- `${name}`: any text up to the first brace
+  braced_name : (name : List ℕ) {text : List ℕ} {pieces : List Piece} {ending : Ending} → HasNoBrace name →
+      ArePieces IsInner inside mode text pieces ending → ArePieces IsInner inside mode (36 ∷ 123 ∷ (name ++ 125 ∷ text)) (Variable name ∷ pieces) ending
+  unclosed_name : {text : List ℕ} → HasNoBrace text → ArePieces IsInner inside mode (36 ∷ 123 ∷ text) [] (fails MissingBrace)
+  -- `$name(index)`
+  element : (name own : List ℕ) {text : List ℕ} {pieces : List Piece} {ending : Ending} → IsName name → IsInner index (own ++ 41 ∷ text) (leaves (41 ∷ text)) →
+      ArePieces IsInner inside mode text pieces ending → ArePieces IsInner inside mode (36 ∷ (name ++ 40 ∷ (own ++ 41 ∷ text))) (Element name own ∷ pieces) ending
+  faulty_index : (name : List ℕ) {text : List ℕ} {fault : ParseFault} → IsName name → IsInner index text (fails fault) →
+      ArePieces IsInner inside mode (36 ∷ (name ++ 40 ∷ text)) [] (fails fault)
+  -- a script in brackets
+  bracket : (own : List ℕ) {text : List ℕ} {pieces : List Piece} {ending : Ending} → IsInner script (own ++ 93 ∷ text) (leaves (93 ∷ text)) →
+      ArePieces IsInner inside mode text pieces ending → ArePieces IsInner inside mode (91 ∷ (own ++ 93 ∷ text)) (Bracket own ∷ pieces) ending
+  faulty_script : {text : List ℕ} {fault : ParseFault} → IsInner script text (fails fault) → ArePieces IsInner inside mode (91 ∷ text) [] (fails fault)
+
+-- a blank or a tab
+abbrev pub begins_space : List ℕ → Bool
+begins_space [] = false
+begins_space (b ∷ text) = b == 32 || b == 9
+
+abbrev pub AreSpaces : List ℕ → Type 0
+AreSpaces [] = Unit {0}
+AreSpaces (b ∷ text) = (begins_space (b ∷ text) ≡ true) × AreSpaces text
+
+-- What stands between braces, each of which has its match but where it follows a backslash, and the text that it is: a
+-- backslash before a newline gives a blank, with the blanks and tabs behind it.
+pub data IsBraced : List ℕ → List ℕ → Type 0 where
+  none : IsBraced [] []
+  byte : {b : ℕ} {text value : List ℕ} → b ≢ 123 → b ≢ 125 → b ≢ 92 → IsBraced text value → IsBraced (b ∷ text) (b ∷ value)
+  pair : {b : ℕ} {text value : List ℕ} → b ≢ 10 → IsBraced text value → IsBraced (92 ∷ b ∷ text) (92 ∷ b ∷ value)
+  continuation : (spaces : List ℕ) {text value : List ℕ} → AreSpaces spaces → begins_space text ≡ false → IsBraced text value → IsBraced (92 ∷ 10 ∷ (spaces ++ text)) (32 ∷ value)
+  braces : (own text : List ℕ) {inner value : List ℕ} → IsBraced own inner → IsBraced text value → IsBraced (123 ∷ (own ++ 125 ∷ text)) (123 ∷ (inner ++ 125 ∷ value))
+
+-- The text past an opening brace that has no match in it.
+pub data IsUnclosed : List ℕ → Type 0 where
+  ends : {text value : List ℕ} → IsBraced text value → IsUnclosed text
+  backslash : (text : List ℕ) {value : List ℕ} → IsBraced text value → IsUnclosed (text ++ 92 ∷ [])
+  opens : (before text : List ℕ) {value : List ℕ} → IsBraced before value → IsUnclosed text → IsUnclosed (before ++ 123 ∷ text)
+
+-- the first byte of a bare word
+abbrev pub begins_bare : Bool → List ℕ → Bool
+begins_bare inside text = not (ends_word inside text) && (not (begins 123 text) && not (begins 34 text))
+
+-- A word's own text, without a `{*}`, where `rest` follows it.
+pub data IsOwnWord (IsInner : Inner → List ℕ → Ending → Type 0) (inside : Bool) (rest : List ℕ) : List ℕ → WordForm → List Piece → Type 0 where
+  bare_word : {own : List ℕ} {pieces : List Piece} → begins_bare inside (own ++ rest) ≡ true → ArePieces IsInner inside Bare (own ++ rest) pieces (leaves rest) →
+      IsOwnWord IsInner inside rest own BareForm pieces
+  quoted_word : (own : List ℕ) {pieces : List Piece} → ArePieces IsInner inside Quotes (own ++ 34 ∷ rest) pieces (leaves (34 ∷ rest)) →
+      IsOwnWord IsInner inside rest (34 ∷ (own ++ 34 ∷ [])) QuotedForm pieces
+  braced_word : (own : List ℕ) {value : List ℕ} → IsBraced own value → IsOwnWord IsInner inside rest (123 ∷ (own ++ 125 ∷ [])) BracedForm (Literal value ∷ [])
+
+-- The fault of a text at whose front a word's own text would stand: the word never ends, something in it is at fault, or
+-- something follows the quote or the brace that ends it.
+pub data IsFaultyOwn (IsInner : Inner → List ℕ → Ending → Type 0) (inside : Bool) : List ℕ → ParseFault → Type 0 where
+  faulty_bare : {text : List ℕ} {pieces : List Piece} {fault : ParseFault} → begins_bare inside text ≡ true → ArePieces IsInner inside Bare text pieces (fails fault) →
+      IsFaultyOwn IsInner inside text fault
+  faulty_quoted : {text : List ℕ} {pieces : List Piece} {fault : ParseFault} → ArePieces IsInner inside Quotes text pieces (fails fault) →
+      IsFaultyOwn IsInner inside (34 ∷ text) fault
+  followed_quoted : (own rest : List ℕ) {pieces : List Piece} → ArePieces IsInner inside Quotes (own ++ 34 ∷ rest) pieces (leaves (34 ∷ rest)) → ends_word inside rest ≡ false →
+      IsFaultyOwn IsInner inside (34 ∷ (own ++ 34 ∷ rest)) ExtraAfterQuote
+  unclosed_braced : {text : List ℕ} → IsUnclosed text → IsFaultyOwn IsInner inside (123 ∷ text) MissingBrace
+  followed_braced : (own rest : List ℕ) {value : List ℕ} → IsBraced own value → ends_word inside rest ≡ false → IsFaultyOwn IsInner inside (123 ∷ (own ++ 125 ∷ rest)) ExtraAfterBrace
+
+-- what stands before a word's own text: `{*}`, or nothing
+abbrev pub IsMark : Bool → Bool → List ℕ → List ℕ → Type 0
+IsMark inside false mark text = (mark ≡ []) × (begins_mark inside text ≡ false)
+IsMark inside true mark text = (mark ≡ 123 ∷ 42 ∷ 125 ∷ []) × (ends_word inside text ≡ false)
+
+-- A word at this position, where `rest` follows it.
+pub record IsWord (IsInner : Inner → List ℕ → Ending → Type 0) (inside : Bool) (rest : List ℕ) (at : ℕ) (text : List ℕ) (word : Word) : Type 0 where
+  pub expand : Bool
+  pub mark : List ℕ
+  pub own : List ℕ
+  pub form : WordForm
+  pub pieces : List Piece
+  pub cut : text ≡ mark ++ own
+  pub marked : IsMark inside expand mark (own ++ rest)
+  pub is : IsOwnWord IsInner inside rest own form pieces
+  pub ends : ends_word inside rest ≡ true
+  pub same : word ≡ word_of form expand at pieces (at + length text)
+
+-- A text at whose front a word would stand, with `{*}` or without, has this fault.
+pub record IsFaultyWord (IsInner : Inner → List ℕ → Ending → Type 0) (inside : Bool) (text : List ℕ) (fault : ParseFault) : Type 0 where
+  pub expand : Bool
+  pub mark : List ℕ
+  pub own : List ℕ
+  pub cut : text ≡ mark ++ own
+  pub marked : IsMark inside expand mark own
+  pub is : IsFaultyOwn IsInner inside own fault
 
 -- a newline or `;`
 abbrev pub IsSeparator : ℕ → Type 0
 IsSeparator b = (b ≡ 10) ⊎ (b ≡ 59)
 
--- blanks alone
-abbrev pub AreBlanks : List ℕ → Type 0
-AreBlanks [] = Unit {0}
-AreBlanks (b ∷ text) = (kind_of b ≡ Blank) × AreBlanks text
+-- What parts the words of a command: blank characters, and backslashes before newlines.
+pub data AreBlanks : List ℕ → Type 0 where
+  none : AreBlanks []
+  blank : {b : ℕ} {text : List ℕ} → class_of b ≡ Blank → AreBlanks text → AreBlanks (b ∷ text)
+  continuation : {text : List ℕ} → AreBlanks text → AreBlanks (92 ∷ 10 ∷ text)
 
--- bytes of names alone
-abbrev pub AreLetters : List ℕ → Type 0
-AreLetters [] = Unit {0}
-AreLetters (b ∷ text) = (kind_of b ≡ Letter) × AreLetters text
+-- A comment's text: a backslash goes with the byte behind it, and no newline stands for itself.
+pub data IsNote : List ℕ → Type 0 where
+  none : IsNote []
+  byte : {b : ℕ} {text : List ℕ} → b ≢ 10 → b ≢ 92 → IsNote text → IsNote (b ∷ text)
+  pair : {b : ℕ} {text : List ℕ} → IsNote text → IsNote (92 ∷ b ∷ text)
 
--- no newline
-abbrev pub IsNote : List ℕ → Type 0
-IsNote [] = Unit {0}
-IsNote (b ∷ text) = (b ≢ 10) × IsNote text
+-- a comment that goes on to the end of the text, where a backslash may be the last byte
+abbrev pub IsLastNote : List ℕ → Type 0
+IsLastNote text = IsNote text ⊎ ((front : List ℕ) × (text ≡ front ++ 92 ∷ []) × IsNote front)
 
--- what may stand where a command could begin: white space, separators, and comments that end
+-- What may stand where a command could begin: blanks, separators, and comments that end.
 pub data IsGap : List ℕ → Type 0 where
   none : IsGap []
-  blank : {b : ℕ} {text : List ℕ} → kind_of b ≡ Blank → IsGap text → IsGap (b ∷ text)
+  blank : {b : ℕ} {text : List ℕ} → class_of b ≡ Blank → IsGap text → IsGap (b ∷ text)
+  continuation : {text : List ℕ} → IsGap text → IsGap (92 ∷ 10 ∷ text)
   separator : {b : ℕ} {text : List ℕ} → IsSeparator b → IsGap text → IsGap (b ∷ text)
   comment : (note text : List ℕ) → IsNote note → IsGap text → IsGap (35 ∷ (note ++ 10 ∷ text))
 
--- a word can end before this: nothing follows, or a byte that ends words
-abbrev pub WordEnds : List ℕ → Type 0
-WordEnds [] = Unit {0}
-WordEnds (b ∷ rest) = EndsWord (kind_of b)
+-- how a script goes on at the end of the text
+abbrev pub end_of_text : Bool → Ending
+end_of_text true = fails MissingBracket
+end_of_text false = leaves []
 
--- a variable's name: a letter, a digit or `_`, at least once, and before that `::` or nothing
-abbrev pub IsName : List ℕ → Type 0
-IsName name = (b : ℕ) × (letters : List ℕ) × (kind_of b ≡ Letter) × AreLetters letters × ((name ≡ b ∷ letters) ⊎ (name ≡ 58 ∷ 58 ∷ b ∷ letters))
+-- The end of a script: the bracket that closes it, or the end of the text.
+pub data IsEnd (inside : Bool) : List ℕ → Ending → Type 0 where
+  closes : {text : List ℕ} → inside ≡ true → IsEnd inside (93 ∷ text) (leaves (93 ∷ text))
+  stands : IsEnd inside [] (end_of_text inside)
 
--- a byte of a name is the first
-abbrev pub BeginsLetter : List ℕ → Type 0
-BeginsLetter [] = ⊥
-BeginsLetter (b ∷ text) = kind_of b ≡ Letter
+-- How a script ends where a word could begin.
+pub data IsEnding (IsInner : Inner → List ℕ → Ending → Type 0) (inside : Bool) : List ℕ → Ending → Type 0 where
+  ends : {text : List ℕ} {ending : Ending} → IsEnd inside text ending → IsEnding IsInner inside text ending
+  faulty : {text : List ℕ} {fault : ParseFault} → IsFaultyWord IsInner inside text fault → IsEnding IsInner inside text (fails fault)
 
--- so is `:`, and then such a byte
-abbrev pub BeginsColon : List ℕ → Type 0
-BeginsColon [] = ⊥
-BeginsColon (b ∷ text) = (b ≡ 58) × BeginsLetter text
+-- How a script ends where a command could begin.
+pub data IsLast (IsInner : Inner → List ℕ → Ending → Type 0) (inside : Bool) : List ℕ → Ending → Type 0 where
+  ends : {text : List ℕ} {ending : Ending} → IsEnd inside text ending → IsLast IsInner inside text ending
+  -- a comment holds all that is left, a bracket too
+  comment : {note : List ℕ} → IsLastNote note → IsLast IsInner inside (35 ∷ note) (end_of_text inside)
+  faulty : {text : List ℕ} {fault : ParseFault} → begins 35 text ≡ false → IsFaultyWord IsInner inside text fault → IsLast IsInner inside text (fails fault)
 
--- a name stands at the front
-abbrev pub BeginsName : List ℕ → Type 0
-BeginsName [] = ⊥
-BeginsName (b ∷ text) = (kind_of b ≡ Letter) ⊎ ((b ≡ 58) × BeginsColon text)
-
--- bytes that stand for themselves: none ends the word, and no `$` has a name after it
-abbrev pub IsPlain : List ℕ → Type 0
-IsPlain [] = Unit {0}
-IsPlain (b ∷ text) = (¬ EndsWord (kind_of b)) × (b ≡ 36 → ¬ BeginsName text) × IsPlain text
-
--- a literal goes as far as it can, and so does a name
-abbrev pub NoLiteral : List Piece → Type 0
-NoLiteral [] = Unit {0}
-NoLiteral (Literal text ∷ pieces) = ⊥
-NoLiteral (Variable name ∷ pieces) = Unit {0}
-NoLiteral (Element name index ∷ pieces) = Unit {0}
-NoLiteral (Bracket script ∷ pieces) = Unit {0}
-
--- the pieces of a bare word
-abbrev pub ArePieces : List ℕ → List Piece → Type 0
-ArePieces text [] = text ≡ []
-ArePieces text (Literal bytes ∷ pieces) = (rest : List ℕ) × (text ≡ bytes ++ rest) × (bytes ≢ []) × IsPlain bytes × NoLiteral pieces × ArePieces rest pieces
-ArePieces text (Variable name ∷ pieces) = (rest : List ℕ) × (text ≡ 36 ∷ (name ++ rest)) × IsName name × (¬ BeginsLetter rest) × ArePieces rest pieces
-ArePieces text (Element name index ∷ pieces) = ⊥
-ArePieces text (Bracket script ∷ pieces) = ⊥
-
--- a bare word has bytes, and no brace is the first
-abbrev pub BeginsBare : List ℕ → Type 0
-BeginsBare [] = ⊥
-BeginsBare (b ∷ text) = b ≢ 123
-
--- each brace has its match
-pub data IsBalanced : List ℕ → Type 0 where
-  none : IsBalanced []
-  byte : {b : ℕ} {text : List ℕ} → b ≢ 123 → b ≢ 125 → IsBalanced text → IsBalanced (b ∷ text)
-  braces : (inner text : List ℕ) → IsBalanced inner → IsBalanced text → IsBalanced (123 ∷ (inner ++ 125 ∷ text))
-
--- the text past an opening brace, which has no match in it
-pub data IsUnclosed : List ℕ → Type 0 where
-  ends : {text : List ℕ} → IsBalanced text → IsUnclosed text
-  opens : (before text : List ℕ) → IsBalanced before → IsUnclosed text → IsUnclosed (before ++ 123 ∷ text)
-
--- a word in braces, begun at this position
-abbrev pub IsBracedWord : ℕ → List ℕ → Word → Type 0
-IsBracedWord at text word = (inner : List ℕ) × (text ≡ 123 ∷ (inner ++ 125 ∷ [])) × IsBalanced inner × (word ≡ word_of Braced at (Literal inner ∷ []) (at + length text))
-
--- a bare word
-abbrev pub IsBareWord : ℕ → List ℕ → Word → Type 0
-IsBareWord at text word = (pieces : List Piece) × BeginsBare text × ArePieces text pieces × (word ≡ word_of Bare at pieces (at + length text))
-
-abbrev pub IsWord : ℕ → List ℕ → Word → Type 0
-IsWord at text word = IsBracedWord at text word ⊎ IsBareWord at text word
-
--- the fault of a text at whose front a word would stand
-abbrev pub IsFaultyWord : List ℕ → ParseFault → Type 0
-IsFaultyWord text MissingBrace = (inner : List ℕ) × (text ≡ 123 ∷ inner) × IsUnclosed inner
-IsFaultyWord text ExtraAfterBrace = (inner : List ℕ) × (b : ℕ) × (rest : List ℕ) × (text ≡ 123 ∷ (inner ++ 125 ∷ b ∷ rest)) × IsBalanced inner × (¬ EndsWord (kind_of b))
-IsFaultyWord text TooLong = ⊥
-IsFaultyWord text MissingBracket = ⊥
-IsFaultyWord text MissingQuote = ⊥
-IsFaultyWord text ExtraAfterQuote = ⊥
-IsFaultyWord text MissingParen = ⊥
-IsFaultyWord text NotYet = ⊥
-IsFaultyWord text NoMemory = ⊥
-
--- how a text ends where a word could begin
-abbrev pub IsEnding : List ℕ → Option ParseFault → Type 0
-IsEnding text None = text ≡ []
-IsEnding text (Some fault) = IsFaultyWord text fault
-
--- how a text ends where a command could begin: perhaps with a comment
-abbrev pub IsLast : List ℕ → Option ParseFault → Type 0
-IsLast text None = (text ≡ []) ⊎ ((note : List ℕ) × (text ≡ 35 ∷ note) × IsNote note)
-IsLast text (Some fault) = IsFaultyWord text fault
-
--- the further words of a command, and then what comes after it
-abbrev pub AreFurther : (ℕ → List ℕ → Type 0) → ℕ → List ℕ → List Word → Type 0
-AreFurther IsAfter at text [] = IsAfter at text
-AreFurther IsAfter at text (word ∷ words) =
+-- The further words of a command, and then what comes after it.
+abbrev pub AreFurther : (Inner → List ℕ → Ending → Type 0) → Bool → (ℕ → List ℕ → Type 0) → ℕ → List ℕ → List Word → Type 0
+AreFurther IsInner inside IsAfter at text [] = IsAfter at text
+AreFurther IsInner inside IsAfter at text (word ∷ words) =
     (blanks : List ℕ) × (own : List ℕ) × (rest : List ℕ) × (text ≡ blanks ++ (own ++ rest)) × AreBlanks blanks
-    × IsWord (at + length blanks) own word × WordEnds rest × AreFurther IsAfter (at + length blanks + length own) rest words
+    × IsWord IsInner inside rest (at + length blanks) own word × AreFurther IsInner inside IsAfter (at + length blanks + length own) rest words
 
--- blanks, and then a separator before the rest of the script, or the end
+-- Blanks, and then a separator before the rest of the script, or the end.
 abbrev pub IsRest : (ℕ → List ℕ → Type 0) → (List ℕ → Type 0) → ℕ → List ℕ → Type 0
-IsRest IsNext IsEnd at text =
+IsRest IsNext IsLastOf at text =
     (blanks : List ℕ) × (rest : List ℕ) × (text ≡ blanks ++ rest) × AreBlanks blanks
-    × (((b : ℕ) × (after : List ℕ) × (rest ≡ b ∷ after) × IsSeparator b × IsNext (at + length blanks + 1) after) ⊎ IsEnd rest)
+    × (((b : ℕ) × (after : List ℕ) × (rest ≡ b ∷ after) × IsSeparator b × IsNext (at + length blanks + 1) after) ⊎ IsLastOf rest)
 
--- no comment begins here
-abbrev pub NoHash : List ℕ → Type 0
-NoHash [] = Unit {0}
-NoHash (b ∷ text) = b ≢ 35
-
--- The commands of a text that begins at this position, and how it ends. Where it ends with a fault in a
--- command, that command has the words before the fault.
-abbrev pub IsScript : ℕ → List ℕ → List Command → Option ParseFault → Type 0
-IsScript at text [] ending = (gap : List ℕ) × (rest : List ℕ) × (text ≡ gap ++ rest) × IsGap gap × IsLast rest ending
-IsScript at text (command ∷ commands) ending =
+-- The commands of a script at the front of a text that begins at this position. Where there is a fault in a command, that
+-- command has the words before the fault.
+abbrev pub IsScript : (Inner → List ℕ → Ending → Type 0) → Bool → ℕ → List ℕ → List Command → Ending → Type 0
+IsScript IsInner inside at text [] ending = (gap : List ℕ) × (rest : List ℕ) × (text ≡ gap ++ rest) × IsGap gap × IsLast IsInner inside rest ending
+IsScript IsInner inside at text (command ∷ commands) ending =
     (gap : List ℕ) × (own : List ℕ) × (rest : List ℕ) × (word : Word) × (words : List Word)
-    × (text ≡ gap ++ (own ++ rest)) × IsGap gap × NoHash own
-    × IsWord (at + length gap) own word × WordEnds rest
-    × AreFurther (IsRest (λ next after. IsScript next after commands ending) (λ last. (commands ≡ []) × IsEnding last ending)) (at + length gap + length own) rest words
+    × (text ≡ gap ++ (own ++ rest)) × IsGap gap × (begins 35 (own ++ rest) ≡ false)
+    × IsWord IsInner inside rest (at + length gap) own word
+    × AreFurther IsInner inside (IsRest (λ next after. IsScript IsInner inside next after commands ending) (λ last. (commands ≡ []) × IsEnding IsInner inside last ending)) (at + length gap + length own) rest words
     × (command ≡ command_of (at + length gap) (word ∷ words))
+
+-- What brackets and indices hold where so many may still be opened in one another: a script, or the pieces of an index,
+-- with positions counted from its own first byte. Where none may be opened, that is a fault at the opener.
+abbrev pub IsInnerOf : ℕ → Inner → List ℕ → Ending → Type 0
+IsInnerOf zero inner text ending = ending ≡ fails TooLong
+IsInnerOf (suc room) script text ending = (commands : List Command) × IsScript (IsInnerOf room) true 0 text commands ending
+IsInnerOf (suc room) index text ending = (pieces : List Piece) × ArePieces (IsInnerOf room) true Parens text pieces ending
 
 -- a script's text: at most 65,536 bytes of UTF-8
 abbrev pub IsText : List ℕ → Type 0
 IsText text = (length text ≤ 65536) × IsUtf8 text
 
--- a form that is not read yet stands in the text
-abbrev pub HoldsLaterForm : List ℕ → Type 0
-HoldsLaterForm text = (before : List ℕ) × (form : List ℕ) × (after : List ℕ) × (text ≡ before ++ (form ++ after)) × IsLaterForm form
-
--- The text is a script of these commands.
+-- The text is a script of these commands. At most 200 brackets and indices stand in one another.
 pub record IsScriptOf (text : List ℕ) (commands : List Command) : Type 0 where
   pub is_text : IsText text
-  pub none_later : ¬ HoldsLaterForm text
-  pub cut : IsScript 0 text commands None
+  pub cut : IsScript (IsInnerOf 200) false 0 text commands (leaves [])
 
--- The text is no script, and this is its first fault from the left. That it is no text of a script counts
--- before all else.
+-- The text is no script, and this is its first fault from the left. That it is no text of a script counts before all else.
 abbrev pub IsFaultOf : List ℕ → ParseFault → Type 0
-IsFaultOf text fault =
-    ((fault ≡ TooLong) × (¬ IsText text))
-    ⊎ (((fault ≡ NotYet) × IsText text × HoldsLaterForm text)
-    ⊎ (IsText text × (¬ HoldsLaterForm text) × (commands : List Command) × IsScript 0 text commands (Some fault)))
+IsFaultOf text fault = ((fault ≡ TooLong) × (¬ IsText text)) ⊎ (IsText text × (commands : List Command) × IsScript (IsInnerOf 200) false 0 text commands (fails fault))
+
+-- The text, read by itself, is an index of these pieces, or has this fault.
+abbrev pub IsIndexOf : List ℕ → List Piece → Type 0
+IsIndexOf text pieces = ArePieces (IsInnerOf 200) false Parens text pieces (leaves [])
+
+abbrev pub IsIndexFaultOf : List ℕ → ParseFault → Type 0
+IsIndexFaultOf text fault = (pieces : List Piece) × ArePieces (IsInnerOf 200) false Parens text pieces (fails fault)
 
 -- the span is where this part stands in the text
 abbrev pub IsSlice : List ℕ → Span → List ℕ → Type 0
@@ -194,7 +330,8 @@ IsSlice text span own = (before : List ℕ) × (after : List ℕ) × (text ≡ b
 -- each word's span is where a text of that word stands
 abbrev pub WordsAreSlices : List ℕ → List Word → Type 0
 WordsAreSlices text [] = Unit {0}
-WordsAreSlices text (word ∷ words) = ((own : List ℕ) × IsSlice text word.span own × IsWord word.span.start own word) × WordsAreSlices text words
+WordsAreSlices text (word ∷ words) =
+    ((own : List ℕ) × (rest : List ℕ) × IsSlice text word.span own × IsWord (IsInnerOf 200) false rest word.span.start own word) × WordsAreSlices text words
 
 -- likewise in each command, whose span goes from its first word to the end of its last
 abbrev pub CommandsAreSlices : List ℕ → List Command → Type 0

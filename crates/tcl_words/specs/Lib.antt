@@ -1,9 +1,13 @@
 -- What the contracts cite.
+pub mod Chain
+pub mod Changes
 pub mod Faults
-pub mod Grammar
 pub mod Kinds
+pub mod Moves
+pub mod Operands
 pub mod Reading
 pub mod Falls
-pub mod Later
 pub mod Parts
 pub mod Room
+pub mod Grammar
+pub mod Joining

@@ -5,10 +5,10 @@ use thiserror::Error;
 /// Why a text is no script.
 #[derive(Clone, Copy, Debug, PartialEq, Eq, Drop, Error)]
 pub enum ParseFault {
-    /// More than 65,536 bytes, or bytes that are not UTF-8 (4).
+    /// More than 65,536 bytes, bytes that are not UTF-8, or brackets and indices more than 200 deep (4).
     #[error("limit reached: value")]
     TooLong,
-    /// A word in braces never ends (5).
+    /// A word in braces never ends, or a variable's name in braces (5).
     #[error("missing close-brace")]
     MissingBrace,
     /// A bracketed script never ends (6).
@@ -26,9 +26,6 @@ pub enum ParseFault {
     /// The index of an element never ends (10).
     #[error("missing parenthesis")]
     MissingParen,
-    /// The script has a form of the language that is not read yet.
-    #[error("not yet")]
-    NotYet,
     /// Memory was refused.
     #[error("out of memory")]
     NoMemory,
@@ -50,7 +47,6 @@ impl ParseFault {
             ParseFault::ExtraAfterBrace => "extra characters after close-brace",
             ParseFault::ExtraAfterQuote => "extra characters after close-quote",
             ParseFault::MissingParen => "missing )",
-            ParseFault::NotYet => "not yet",
             ParseFault::NoMemory => "",
         }
     }

@@ -1,7 +1,6 @@
 ghost use Rattle.std.specs.Prelude.{◌≡◌, ◌≢◌, ◌<◌};
-ghost use Rattle.tcl_words.specs.Kinds.{kind_of};
 
-/// What a byte can mean in a script.
+/// What a byte of a script can mean by itself, and with what stands behind it.
 #[derive(Clone, Copy, Debug, PartialEq, Eq, Drop)]
 pub enum Kind {
     /// Blank, tab, vertical tab, form feed or carriage return.
@@ -10,11 +9,20 @@ pub enum Kind {
     Semicolon,
     Hash,
     Dollar,
-    Colon,
+    Quote,
+    OpenBracket,
+    /// A `]` in a script that ends at one.
+    CloseBracket,
     OpenBrace,
+    /// The `{` of a `{*}` before a character that doesn't end the word.
+    Expansion,
     CloseBrace,
-    /// An ASCII letter, a digit or `_`: a byte of a variable's name.
-    Letter,
+    /// A `)` in an index that ends at one.
+    CloseParen,
+    /// A backslash, but before a newline.
+    Backslash,
+    /// A backslash before a newline.
+    Continuation,
     Other,
 }
 
@@ -27,52 +35,60 @@ pub enum Place {
     Comment,
     /// In a command, past a word and a blank.
     Between,
-    /// In a bare word.
-    Bare,
-    /// In a bare word, past a `$`.
-    Dollar,
-    /// In a bare word, past `$:`.
-    Colon,
-    /// In a bare word, past `$::`.
-    Colons,
-    /// In a bare word, in a variable's name.
-    Name,
+    /// Past the `{*}` of a word.
+    Expanded,
+    /// In a text with substitution.
+    Text(Mode),
+    /// Past the quote that ends a word.
+    PastQuotes,
     /// In a word in braces, of which so many beyond the first are open.
-    Brace(usize),
+    InBraces(usize),
     /// Past the brace that ends a word.
-    Braced,
+    PastBraces,
 }
 
-/// What a byte can mean.
-pub fn kind_of(byte: u8) -> Kind
-    ensures kind { result ≡ kind_of byte }
-    ensures ascii { result ≢ Kind.Other → byte < 128 }
-    ensures dollar { result ≡ Kind.Dollar → byte ≡ 36 }
-    ensures colon { result ≡ Kind.Colon → byte ≡ 58 }
-{
-    if byte == b'\n' {
-        Kind::Newline
-    } else if byte == b' ' || byte == b'\t' || byte == 11 || byte == 12 || byte == b'\r' {
-        Kind::Blank
-    } else if byte == b';' {
-        Kind::Semicolon
-    } else if byte == b'#' {
-        Kind::Hash
-    } else if byte == b'$' {
-        Kind::Dollar
-    } else if byte == b':' {
-        Kind::Colon
-    } else if byte == b'{' {
-        Kind::OpenBrace
-    } else if byte == b'}' {
-        Kind::CloseBrace
-    } else if (b'a' <= byte && byte <= b'z')
-        || (b'A' <= byte && byte <= b'Z')
-        || (b'0' <= byte && byte <= b'9')
-        || byte == b'_'
-    {
-        Kind::Letter
-    } else {
-        Kind::Other
-    }
+/// Where a text with substitution stands.
+#[derive(Clone, Copy, Debug, PartialEq, Eq, Drop)]
+pub enum Mode {
+    /// In a word without quotes and braces.
+    Bare,
+    /// In a word in quotes.
+    Quotes,
+    /// In the parentheses of `$name(index)`.
+    Parens,
+}
+
+/// What a `$` is, by what stands behind it.
+#[derive(Clone, Copy, Debug, PartialEq, Eq, Drop)]
+pub enum Dollar {
+    /// A text: no name follows.
+    Alone,
+    /// A variable, whose name has so many bytes.
+    Named(usize),
+    /// An element, whose array's name has so many bytes; its index follows in parentheses.
+    Indexed(usize),
+    /// A variable, whose name of so many bytes follows in braces.
+    Braced(usize),
+    /// An opening brace that has no closing one.
+    Unclosed,
+}
+
+/// What is read by itself within a script, before the script goes on.
+#[derive(Clone, Copy, Debug, PartialEq, Eq, Drop)]
+pub enum Opener {
+    /// A script in brackets.
+    Bracket,
+    /// The index of an element, behind a `$`, a name of so many bytes and a parenthesis.
+    Index(usize),
+}
+
+/// How reading goes on past a byte.
+#[derive(Clone, Copy, Debug, PartialEq, Eq, Drop)]
+pub enum Step {
+    /// At a place, past so many further bytes.
+    On(usize, Place),
+    /// In what this opens; then, past that, in the text that holds it.
+    Within(Opener, Mode),
+    /// No further: what was read within ends here.
+    Ends,
 }

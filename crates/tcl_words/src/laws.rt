@@ -1,8 +1,10 @@
 //! Laws of the grammar, as contracts of functions that do nothing.
 
 ghost use Rattle.std.specs.Prelude.{◌≡◌, ℕ, List, Ok, Err};
-ghost use Rattle.tcl_words.specs.Reading.{commands_of};
-ghost use Rattle.tcl_words.specs.Grammar.{IsScriptOf, IsFaultOf, CommandsAreSlices};
+ghost use Rattle.tcl_words.specs.Reading.{commands_of, index_pieces_of};
+ghost use Rattle.tcl_words.specs.Grammar.{IsScriptOf, IsFaultOf, IsIndexOf, IsIndexFaultOf, CommandsAreSlices};
+ghost use Rattle.tcl_words.specs.Joining.{lines_of, CommandsAlike};
+ghost use Rattle.tcl_words.specs.declared.script.Piece.{Piece};
 ghost use Rattle.tcl_words.specs.declared.script.Command.{Command};
 ghost use Rattle.tcl_words.specs.declared.fault.ParseFault.{ParseFault};
 
@@ -18,6 +20,14 @@ pub fn faults_are_told()
     ensures only { (text : List ℕ) (fault : ParseFault) → commands_of text ≡ Err fault → IsFaultOf text fault }
 {}
 
+/// The function that reads an index by itself is the grammar too, both ways.
+pub fn indices_are_read()
+    ensures index { (text : List ℕ) (pieces : List Piece) → IsIndexOf text pieces → index_pieces_of text ≡ Ok pieces }
+    ensures only_index { (text : List ℕ) (pieces : List Piece) → index_pieces_of text ≡ Ok pieces → IsIndexOf text pieces }
+    ensures fault { (text : List ℕ) (fault : ParseFault) → IsIndexFaultOf text fault → index_pieces_of text ≡ Err fault }
+    ensures only_fault { (text : List ℕ) (fault : ParseFault) → index_pieces_of text ≡ Err fault → IsIndexFaultOf text fault }
+{}
+
 /// At most one script belongs to a text, or one fault, and never both.
 pub fn one_script_or_fault()
     ensures one_script { (text : List ℕ) (commands others : List Command) → IsScriptOf text commands → IsScriptOf text others → commands ≡ others }
@@ -28,4 +38,9 @@ pub fn one_script_or_fault()
 /// Each command and each word of a script stands in the text where its span says.
 pub fn spans_are_slices()
     ensures { (text : List ℕ) (commands : List Command) → IsScriptOf text commands → CommandsAreSlices text commands }
+{}
+
+/// The sources of a script's commands, joined by newlines, are a script of the same commands.
+pub fn lines_are_a_script()
+    ensures { (text : List ℕ) (commands : List Command) → IsScriptOf text commands → (others : List Command) × IsScriptOf (lines_of text commands) others × CommandsAlike commands others }
 {}

@@ -3,16 +3,23 @@
 
 mod fault;
 mod kind;
-mod later;
 mod laws;
+mod look;
+mod nesting;
 mod open;
+mod operands;
 mod parser;
 mod read;
+mod reader;
 mod script;
 #[cfg(test)]
 mod tests;
 
 pub use fault::ParseFault;
-pub use laws::{commands_are_read, faults_are_told, one_script_or_fault, spans_are_slices};
+pub use laws::{
+    commands_are_read, faults_are_told, indices_are_read, lines_are_a_script, one_script_or_fault,
+    spans_are_slices,
+};
+pub use operands::{bracket_behind, quotes_behind, substitution_behind};
 pub use parser::parse;
 pub use script::{Command, Index, Piece, Pieces, Script, Span, Word, WordForm, Words};

@@ -1,11 +1,7 @@
-ghost use Rattle.std.specs.Prelude.{◌≡◌, ◌<◌, ◌≤◌, [], ◌∷◌, ◌++◌, length, OnOk, IfOk};
+ghost use Rattle.std.specs.Prelude.{◌≡◌, ◌<◌, ◌≤◌, ◌+◌, ◌-◌, [], ◌∷◌, ◌++◌, length, OnOk, IfOk, encode_utf8, false};
 ghost use Rattle.std.specs.List.{slice_range};
 ghost use Rattle.std.specs.Str.{IsCharBoundary};
-ghost use Rattle.tcl_words.specs.Reading.{command_of, literal_before, word_of};
-ghost use Rattle.tcl_words.specs.Room.{piece_room, commands_room};
-ghost use Rattle.tcl_words.specs.Parts.{with_word, with_name};
-ghost use Rattle.tcl_words.specs.declared.script.WordForm.TheVariants.{Bare as BareForm, Braced as BracedForm};
-ghost use Rattle.tcl_words.specs.declared.script.Piece.TheVariants.{Literal, Variable};
+ghost use Rattle.tcl_words.specs.Parts.{with_word, with_command, with_piece, with_literal, with_braced, so_far, no_parts};
 
 use crate::script::{Command, Piece, Pieces, Span, Word, WordForm, Words};
 use std::alloc::{AllocError, Global};
@@ -13,7 +9,8 @@ use std::marker::Model;
 use std::mem;
 use tcl_text::{Text, TextFault};
 
-/// What was read of a script so far: its commands, and the parts that are still open.
+/// What was read of a script or an index so far: its commands, and the parts that are still open. Places are
+/// counted from where the script begins.
 #[derive(Drop)]
 pub struct Open {
     commands: Vec<Command>,
@@ -21,16 +18,17 @@ pub struct Open {
     words: Vec<Word>,
     last_end: usize,
     word_start: usize,
+    form: WordForm,
+    expand: bool,
     pieces: Vec<Piece>,
+    literal: String,
     mark: usize,
-    stop: usize,
 }
 
 impl Model for Open {
     ghost use Rattle.tcl_words.specs.Parts.{Parts};
-    ghost use Rattle.std.specs.Prelude.{◌≡◌};
-    ghost use Rattle.tcl_words.specs.Reading.{words_end};
-    ghost use Rattle.tcl_words.specs.Room.{IsFlat};
+    ghost use Rattle.std.specs.Prelude.{◌≡◌, string_bytes};
+    ghost use Rattle.tcl_words.specs.Changes.{words_end};
 
     ghost Value = { Parts };
 
@@ -39,18 +37,20 @@ impl Model for Open {
       command_start = o.command_start;
       words = o.words.items;
       word_start = o.word_start;
+      form = o.form;
+      expand = o.expand;
       pieces = o.pieces.items;
+      literal = string_bytes o.literal;
       mark = o.mark;
-      stop = o.stop;
     } };
 
-    ghost invariant = { λ o. (o.last_end ≡ words_end o.command_start o.words.items) × IsFlat o.pieces.items o.words.items o.commands.items };
+    ghost invariant = { λ o. o.last_end ≡ words_end o.command_start o.words.items };
 }
 
 impl Open {
     /// Nothing yet.
-    pub fn new(alloc: Global) -> Open
-        ensures { result ≡ record { commands = []; command_start = 0; words = []; word_start = 0; pieces = []; mark = 0; stop = 0 } }
+    pub fn new(alloc: Global, mark: usize) -> Open
+        ensures { result ≡ no_parts mark }
     {
         Open {
             commands: Vec::new(alloc),
@@ -58,52 +58,115 @@ impl Open {
             words: Vec::new(alloc),
             last_end: 0,
             word_start: 0,
+            form: WordForm::Bare,
+            expand: false,
             pieces: Vec::new(alloc),
-            mark: 0,
-            stop: 0,
+            literal: String::new(alloc),
+            mark,
         }
     }
 
     /// The commands.
     pub fn into_commands(self) -> Vec<Command>
-        ensures commands { result.items ≡ self.commands }
-        ensures room { commands_room result.items ≤ 2 }
+        ensures { result.items ≡ self.commands }
     {
         let Open { commands, .. } = self;
         commands
     }
 
+    /// The pieces.
+    pub fn into_pieces(self) -> Vec<Piece>
+        ensures { result.items ≡ self.pieces }
+    {
+        let Open { pieces, .. } = self;
+        pieces
+    }
+
     /// A command begins here.
-    pub fn begin_command(&mut self, at: usize)
-        requires { self.old.words ≡ [] }
-        ensures { self.new ≡ record self.old { command_start = at } }
+    pub fn begin_command(&mut self, alloc: Global, at: usize)
+        ensures { self.new ≡ record self.old { command_start = at; words = [] } }
     {
         self.command_start = at;
+        self.words = Vec::new(alloc);
         self.last_end = at;
     }
 
-    /// A word begins here, and a literal of it at `mark`.
-    pub fn begin_word(&mut self, at: usize, mark: usize)
-        ensures { self.new ≡ record self.old { word_start = at; mark = mark } }
+    /// A word of this form begins here, and a literal of it at `mark`.
+    pub fn begin_word(
+        &mut self,
+        alloc: Global,
+        form: WordForm,
+        expand: bool,
+        at: usize,
+        mark: usize,
+    )
+        ensures { self.new ≡ record self.old { word_start = at; form = form; expand = expand; pieces = []; literal = []; mark = mark } }
     {
         self.word_start = at;
+        self.form = form;
+        self.expand = expand;
+        self.pieces = Vec::new(alloc);
+        self.literal = String::new(alloc);
         self.mark = mark;
     }
 
-    /// The literal that is open ends here, or may do so.
-    pub fn set_stop(&mut self, at: usize)
-        ensures { self.new ≡ record self.old { stop = at } }
+    /// The literal that is open goes on past the mark with bytes that aren't the source's: it is kept up to here.
+    pub fn keep_literal(&mut self, source: &str, end: usize) -> Result<(), AllocError>
+        requires ordered { self.old.mark ≤ end }
+        requires begins { IsCharBoundary source.now self.old.mark }
+        requires ends { IsCharBoundary source.now end }
+        ensures ok { OnOk result (self.new ≡ record self.old { literal = so_far self.old source.now end; mark = end }) }
     {
-        self.stop = at;
+        self.literal.push_str(&source[self.mark..end])?;
+        self.mark = end;
+        Ok(())
     }
 
-    /// The word that is open has one more piece.
-    fn push_piece(&mut self, piece: Piece) -> Result<(), AllocError>
-        requires { piece_room piece ≡ 0 }
-        ensures ok { OnOk result (self.new ≡ record self.old { pieces = self.old.pieces ++ piece ∷ [] }) }
+    /// A character that the source writes otherwise, up to the new mark.
+    pub fn push_char(&mut self, character: char, mark: usize) -> Result<(), AllocError>
+        ensures ok { OnOk result (self.new ≡ record self.old { literal = self.old.literal ++ encode_utf8 character; mark = mark }) }
+    {
+        self.literal.push(character)?;
+        self.mark = mark;
+        Ok(())
+    }
+
+    /// The literal that is open goes on as the source does from here.
+    pub fn set_mark(&mut self, mark: usize)
+        ensures { self.new ≡ record self.old { mark = mark } }
+    {
+        self.mark = mark;
+    }
+
+    /// The word that is open has one more piece, up to the mark.
+    pub fn push_piece(&mut self, piece: Piece, mark: usize) -> Result<(), AllocError>
+        ensures ok { OnOk result (self.new ≡ with_piece self.old piece mark) }
     {
         self.pieces.push(piece)?;
+        self.mark = mark;
         Ok(())
+    }
+
+    /// The text of the literal that is open.
+    fn take_literal(&mut self, alloc: Global, source: &str, end: usize) -> Result<Text, AllocError>
+        requires ordered { self.old.mark ≤ end }
+        requires within { end ≤ length source.now }
+        requires short { length source.now ≤ 65536 }
+        requires kept { length self.old.literal ≤ self.old.mark }
+        requires begins { IsCharBoundary source.now self.old.mark }
+        requires ends { IsCharBoundary source.now end }
+        ensures text { IfOk result (λ text. text ≡ so_far self.old source.now end) }
+        ensures ok { OnOk result (self.new ≡ record self.old { literal = []; mark = end }) }
+    {
+        if self.literal.is_empty() {
+            let text = text_of(alloc, source, self.mark, end)?;
+            self.mark = end;
+            return Ok(text);
+        }
+        self.keep_literal(source, end)?;
+        let literal = mem::replace(&mut self.literal, String::new(alloc));
+        let text = short_text(alloc, literal.as_str())?;
+        Ok(text)
     }
 
     /// The literal that is open ends; it is a piece where it has bytes.
@@ -111,93 +174,42 @@ impl Open {
         requires ordered { self.old.mark ≤ end }
         requires within { end ≤ length source.now }
         requires short { length source.now ≤ 65536 }
+        requires kept { length self.old.literal ≤ self.old.mark }
         requires begins { IsCharBoundary source.now self.old.mark }
         requires ends { IsCharBoundary source.now end }
-        ensures ok { OnOk result (self.new ≡ record self.old { pieces = self.old.pieces ++ literal_before (slice_range source.now self.old.mark end) [] }) }
+        ensures ok { OnOk result (self.new ≡ with_literal self.old source.now end) }
     {
-        if self.mark < end {
-            let text = text_of(alloc, source, self.mark, end)?;
-            self.push_piece(Piece::Literal(text))?;
+        if self.literal.is_empty() && self.mark == end {
+            return Ok(());
         }
+        let text = self.take_literal(alloc, source, end)?;
+        self.push_piece(Piece::Literal(text), end)?;
         Ok(())
     }
 
-    /// The bare word that is open ends, and with it its last literal.
-    pub fn end_bare_word(
-        &mut self,
-        alloc: Global,
-        source: &str,
-        end: usize,
-    ) -> Result<(), AllocError>
+    /// The literal that is open ends, which is all of a word in braces.
+    pub fn end_braced(&mut self, alloc: Global, source: &str, end: usize) -> Result<(), AllocError>
         requires ordered { self.old.mark ≤ end }
         requires within { end ≤ length source.now }
         requires short { length source.now ≤ 65536 }
+        requires kept { length self.old.literal ≤ self.old.mark }
         requires begins { IsCharBoundary source.now self.old.mark }
         requires ends { IsCharBoundary source.now end }
-        ensures ok { OnOk result (self.new ≡ with_word self.old BareForm (self.old.pieces ++ literal_before (slice_range source.now self.old.mark end) []) end) }
+        ensures ok { OnOk result (self.new ≡ with_braced self.old source.now end) }
     {
-        self.end_literal(alloc, source, end)?;
-        self.end_word(alloc, WordForm::Bare, end)?;
-        Ok(())
-    }
-
-    /// The word in braces that is open ends, whose text is one literal.
-    pub fn end_braced_word(
-        &mut self,
-        alloc: Global,
-        source: &str,
-        end: usize,
-    ) -> Result<(), AllocError>
-        requires ordered { self.old.mark ≤ self.old.stop }
-        requires within { self.old.stop ≤ length source.now }
-        requires short { length source.now ≤ 65536 }
-        requires begins { IsCharBoundary source.now self.old.mark }
-        requires ends { IsCharBoundary source.now self.old.stop }
-        ensures ok { OnOk result (self.new ≡ with_word self.old BracedForm (self.old.pieces ++ Literal (slice_range source.now self.old.mark self.old.stop) ∷ []) end) }
-    {
-        let text = text_of(alloc, source, self.mark, self.stop)?;
-        self.push_piece(Piece::Literal(text))?;
-        self.end_word(alloc, WordForm::Braced, end)?;
-        Ok(())
-    }
-
-    /// A name begins after the `$` at which the literal that is open ends.
-    pub fn begin_name(&mut self, alloc: Global, source: &str) -> Result<(), AllocError>
-        requires ordered { self.old.mark ≤ self.old.stop }
-        requires within { self.old.stop < length source.now }
-        requires short { length source.now ≤ 65536 }
-        requires begins { IsCharBoundary source.now self.old.mark }
-        requires ends { IsCharBoundary source.now self.old.stop }
-        ensures ok { OnOk result (self.new ≡ with_name self.old source.now) }
-    {
-        self.end_literal(alloc, source, self.stop)?;
-        self.mark = self.stop + 1;
-        Ok(())
-    }
-
-    /// The name that is open ends, and a literal begins.
-    pub fn end_name(&mut self, alloc: Global, source: &str, end: usize) -> Result<(), AllocError>
-        requires ordered { self.old.mark ≤ end }
-        requires within { end ≤ length source.now }
-        requires short { length source.now ≤ 65536 }
-        requires begins { IsCharBoundary source.now self.old.mark }
-        requires ends { IsCharBoundary source.now end }
-        ensures ok { OnOk result (self.new ≡ record self.old { pieces = self.old.pieces ++ Variable (slice_range source.now self.old.mark end) ∷ []; mark = end }) }
-    {
-        let name = text_of(alloc, source, self.mark, end)?;
-        self.push_piece(Piece::Variable(name))?;
-        self.mark = end;
+        let text = self.take_literal(alloc, source, end)?;
+        self.push_piece(Piece::Literal(text), end)?;
         Ok(())
     }
 
     /// The word that is open ends.
-    pub fn end_word(&mut self, alloc: Global, form: WordForm, end: usize) -> Result<(), AllocError>
-        ensures ok { OnOk result (self.new ≡ record self.old { words = self.old.words ++ word_of form self.old.word_start self.old.pieces end ∷ []; pieces = [] }) }
+    pub fn end_word(&mut self, alloc: Global, end: usize) -> Result<(), AllocError>
+        ensures ok { OnOk result (self.new ≡ with_word self.old end) }
     {
         let pieces = mem::replace(&mut self.pieces, Vec::new(alloc));
         self.words.push(Word {
-            form,
-            expand: false,
+            form: self.form,
+            expand: self.expand,
             pieces: Pieces::from_vec(pieces),
             span: Span {
                 start: self.word_start,
@@ -210,7 +222,7 @@ impl Open {
 
     /// The command that is open ends.
     pub fn end_command(&mut self, alloc: Global) -> Result<(), AllocError>
-        ensures ok { OnOk result (self.new ≡ record self.old { commands = self.old.commands ++ command_of self.old.command_start self.old.words ∷ []; words = [] }) }
+        ensures ok { OnOk result (self.new ≡ with_command self.old) }
     {
         let words = mem::replace(&mut self.words, Vec::new(alloc));
         let end = mem::replace(&mut self.last_end, self.command_start);
@@ -225,8 +237,20 @@ impl Open {
     }
 }
 
+/// These characters, as a text.
+fn short_text(alloc: Global, characters: &str) -> Result<Text, AllocError>
+    requires { length characters.now ≤ 65536 }
+    ensures ok { IfOk result (λ text. text ≡ characters.now) }
+{
+    match Text::new(alloc, characters) {
+        Ok(text) => Ok(text),
+        Err(TextFault::NoMemory) => Err(AllocError),
+        Err(TextFault::TooLong) => unreachable!(),
+    }
+}
+
 /// The bytes of the source from one place up to another, as a text.
-fn text_of(alloc: Global, source: &str, start: usize, end: usize) -> Result<Text, AllocError>
+pub fn text_of(alloc: Global, source: &str, start: usize, end: usize) -> Result<Text, AllocError>
     requires ordered { start ≤ end }
     requires within { end ≤ length source.now }
     requires short { length source.now ≤ 65536 }
@@ -234,9 +258,5 @@ fn text_of(alloc: Global, source: &str, start: usize, end: usize) -> Result<Text
     requires ends { IsCharBoundary source.now end }
     ensures ok { IfOk result (λ text. text ≡ slice_range source.now start end) }
 {
-    match Text::new(alloc, &source[start..end]) {
-        Ok(text) => Ok(text),
-        Err(TextFault::NoMemory) => Err(AllocError),
-        Err(TextFault::TooLong) => unreachable!(),
-    }
+    short_text(alloc, &source[start..end])
 }

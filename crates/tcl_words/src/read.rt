@@ -1,351 +1,619 @@
-ghost use Rattle.std.specs.Prelude.{◌≡◌, ◌≢◌, ◌<◌, ◌≤◌, [], length, slice_index};
-ghost use Rattle.tcl_words.specs.Kinds.{kind_of};
-ghost use Rattle.tcl_words.specs.Reading.{after_word, in_bare, in_dollar, in_colon, in_colons, in_name, in_brace, in_braced, in_between, in_start, in_comment, in_place};
-ghost use Rattle.tcl_words.specs.Parts.{Reads, Ends, EndsLastWord, IsFine, StandsAt};
+//! What a byte does where it stands: each function makes the definition's move on what is open.
+
+ghost use Rattle.std.specs.Prelude.{◌≡◌, ◌≢◌, ◌<◌, ◌≤◌, ◌+◌, ◌-◌, ℕ, [], ◌∷◌, length, drop, take, slice_index, IfOk, OnOk, IsTrue, true, false, Err, ◌↔◌, encode_utf8};
+ghost use Rattle.std.specs.List.{slice_range};
+ghost use Rattle.std.specs.Str.{IsCharBoundary};
+ghost use Rattle.tcl_text.specs.Backslash.{escape};
+ghost use Rattle.tcl_text.specs.Escaped.{bytes_meant};
+ghost use Rattle.tcl_words.specs.Kinds.{kind_of as kind_meant, dollar_of as dollar_meant, begins_expansion, begins_newline};
+ghost use Rattle.tcl_words.specs.Moves.{Move, word_over, in_text, at_dollar, in_bare, in_quotes, in_parens, in_braces, at_word, in_expanded, in_between, in_start, in_comment, move_of, move_at, fails};
+ghost use Rattle.tcl_words.specs.Parts.{Does, DollarFits, IsFine, IsCut, IsExpansion, StandsAt, EndsWord, Escaped, Finishes, is_index, with_piece, with_literal};
+ghost use Rattle.tcl_words.specs.Reading.{at_end};
+ghost use Rattle.tcl_words.specs.declared.script.Piece.TheVariants.{Variable};
 
 use crate::fault::ParseFault;
-use crate::kind::{Kind, Place, kind_of};
-use crate::open::Open;
-use crate::script::WordForm;
-use std::alloc::Global;
+use crate::kind::{Dollar, Kind, Mode, Opener, Place, Step};
+use crate::look::{dollar_of, kind_of};
+use crate::open::{Open, text_of};
+use crate::script::{Piece, WordForm};
+use std::alloc::{AllocError, Global};
+use tcl_text::{Escape, Meaning, escape_behind};
 
-/// A byte that ends a word has been read, and the word has ended.
-pub fn after_word(
+/// What the backslash at a place stands for.
+fn escape_at(source: &str, at: usize) -> Escape
+    requires within { at < length source.now }
+    ensures meaning { bytes_meant result.meaning ≡ (escape (drop (at + 1) source.now)).meaning }
+    ensures length { result.length ≡ (escape (drop (at + 1) source.now)).length }
+    ensures within { at + 1 + result.length ≤ length source.now }
+{
+    escape_behind(&source.as_bytes()[at + 1..])
+}
+
+/// How many bytes a backslash before a newline takes behind it.
+fn blanks_behind(source: &str, at: usize) -> usize
+    requires within { at < length source.now }
+    ensures length { result ≡ (escape (drop (at + 1) source.now)).length }
+    ensures within { at + 1 + result ≤ length source.now }
+{
+    escape_at(source, at).length
+}
+
+/// How many bytes a backslash takes behind it where it is not substituted: one, or none at the end.
+fn one_behind(source: &str, at: usize) -> usize
+    requires within { at < length source.now }
+    ensures length { result ≡ length (take 1 (drop (at + 1) source.now)) }
+    ensures within { at + 1 + result ≤ length source.now }
+{
+    if at + 1 < source.len() { 1 } else { 0 }
+}
+
+/// What the `$` at a place is.
+pub fn dollar_at(source: &str, at: usize) -> Dollar
+    requires within { at < length source.now }
+    ensures form { result ≡ dollar_meant (drop (at + 1) source.now) }
+    ensures fits { DollarFits (drop (at + 1) source.now) result }
+{
+    dollar_of(&source.as_bytes()[at + 1..])
+}
+
+/// Whether no byte of a longer character follows.
+fn is_ascii_behind(source: &str, at: usize) -> bool
+    requires within { at < length source.now }
+    ensures { IsTrue result ↔ slice_index (drop (at + 1) source.now) 0 < 128 }
+{
+    match source.as_bytes()[at + 1..].first() {
+        Some(byte) => byte.is_ascii(),
+        None => true,
+    }
+}
+
+/// The character that a backslash stands for, before one of ASCII, and how many bytes it takes behind it.
+fn escaped_char(source: &str, at: usize) -> (char, usize)
+    requires within { at < length source.now }
+    requires ascii { slice_index (drop (at + 1) source.now) 0 < 128 }
+    ensures meaning { encode_utf8 result.0 ≡ (escape (drop (at + 1) source.now)).meaning }
+    ensures length { result.1 ≡ (escape (drop (at + 1) source.now)).length }
+    ensures within { at + 1 + result.1 ≤ length source.now }
+{
+    let escape = escape_at(source, at);
+    match escape.meaning {
+        Meaning::Byte(byte) => (char::from(byte), escape.length),
+        Meaning::Character(character) => (character, escape.length),
+    }
+}
+
+/// What a backslash stands for is part of the literal that is open.
+fn push_escape(parts: &mut Open, source: &str, at: usize) -> Result<usize, AllocError>
+    requires within { at < length source.now }
+    requires short { length source.now ≤ 65536 }
+    requires cut { IsCut parts.old source.now at }
+    requires begins { IsCharBoundary source.now at }
+    requires behind { IsCharBoundary source.now (at + 1) }
+    ensures { IfOk result (λ taken. Escaped parts.old parts.new source.now at taken) }
+{
+    parts.keep_literal(source, at)?;
+    if !is_ascii_behind(source, at) {
+        // The first byte of a longer character stands for itself, and the others follow as they are.
+        parts.set_mark(at + 1);
+        return Ok(1);
+    }
+    let (character, taken) = escaped_char(source, at);
+    parts.push_char(character, at + 1 + taken)?;
+    Ok(taken)
+}
+
+/// A variable's name is the next piece.
+fn push_name(
+    parts: &mut Open,
+    alloc: Global,
+    source: &str,
+    at: usize,
+    start: usize,
+    end: usize,
+    mark: usize,
+) -> Result<(), AllocError>
+    requires within { at ≤ length source.now }
+    requires short { length source.now ≤ 65536 }
+    requires cut { IsCut parts.old source.now at }
+    requires ends { IsCharBoundary source.now at }
+    requires name_ordered { start ≤ end }
+    requires name_within { end ≤ length source.now }
+    requires name_begins { IsCharBoundary source.now start }
+    requires name_ends { IsCharBoundary source.now end }
+    ensures ok { OnOk result (parts.new ≡ with_piece (with_literal parts.old source.now at) (Variable (slice_range source.now start end)) mark) }
+{
+    parts.end_literal(alloc, source, at)?;
+    let name = text_of(alloc, source, start, end)?;
+    parts.push_piece(Piece::Variable(name), mark)?;
+    Ok(())
+}
+
+/// A `$` in a text with substitution.
+fn read_dollar(
+    parts: &mut Open,
+    alloc: Global,
+    source: &str,
+    at: usize,
+    byte: u8,
+    mode: Mode,
+) -> Result<Step, ParseFault>
+    requires stands { StandsAt source.now at byte Kind.Dollar }
+    requires fine { IsCut parts.old source.now at }
+    ensures { Does parts.old parts.new source.now at (Place.Text mode) (in_text mode Kind.Dollar byte (drop (at + 1) source.now)) result }
+{
+    match dollar_at(source, at) {
+        Dollar::Alone => Ok(Step::On(0, Place::Text(mode))),
+        Dollar::Named(count) => {
+            let start = at + 1;
+            push_name(
+                parts,
+                alloc,
+                source,
+                at,
+                start,
+                start + count,
+                start + count,
+            )?;
+            Ok(Step::On(count, Place::Text(mode)))
+        }
+        Dollar::Indexed(count) => {
+            parts.end_literal(alloc, source, at)?;
+            Ok(Step::Within(Opener::Index(count), mode))
+        }
+        Dollar::Braced(count) => {
+            let start = at + 2;
+            push_name(
+                parts,
+                alloc,
+                source,
+                at,
+                start,
+                start + count,
+                start + count + 1,
+            )?;
+            Ok(Step::On(count + 2, Place::Text(mode)))
+        }
+        Dollar::Unclosed => Err(ParseFault::MissingBrace),
+    }
+}
+
+/// A byte in a text with substitution.
+pub fn read_text(
     parts: &mut Open,
     alloc: Global,
     source: &str,
     at: usize,
     byte: u8,
     kind: Kind,
-) -> Result<Place, ParseFault>
+    mode: Mode,
+) -> Result<Step, ParseFault>
     requires stands { StandsAt source.now at byte kind }
-    requires ascii { kind ≢ Kind.Other }
-    requires fine { parts.old.pieces ≡ [] }
-    ensures { Reads parts.old parts.new source.now at Place.Between (after_word kind byte at) result }
+    requires fine { IsCut parts.old source.now at }
+    ensures { Does parts.old parts.new source.now at (Place.Text mode) (in_text mode kind byte (drop (at + 1) source.now)) result }
 {
+    match kind {
+        Kind::Dollar => {
+            let step = read_dollar(parts, alloc, source, at, byte, mode)?;
+            Ok(step)
+        }
+        Kind::OpenBracket => {
+            parts.end_literal(alloc, source, at)?;
+            Ok(Step::Within(Opener::Bracket, mode))
+        }
+        Kind::Backslash | Kind::Continuation => {
+            let taken = push_escape(parts, source, at)?;
+            Ok(Step::On(taken, Place::Text(mode)))
+        }
+        _ => Ok(Step::On(0, Place::Text(mode))),
+    }
+}
+
+/// A byte that ends a word, once its pieces have ended.
+fn end_word(
+    parts: &mut Open,
+    alloc: Global,
+    source: &str,
+    at: usize,
+    byte: u8,
+    kind: Kind,
+) -> Result<Step, ParseFault>
+    requires stands { StandsAt source.now at byte kind }
+    requires ends { EndsWord kind }
+    ensures { (other : Move) → Does parts.old parts.new source.now at Place.PastBraces (word_over kind at (drop (at + 1) source.now) other) result }
+{
+    parts.end_word(alloc, at)?;
     match kind {
         Kind::Newline | Kind::Semicolon => {
             parts.end_command(alloc)?;
-            Ok(Place::Start)
+            Ok(Step::On(0, Place::Start))
         }
-        _ => Ok(Place::Between),
+        Kind::CloseBracket => {
+            parts.end_command(alloc)?;
+            Ok(Step::Ends)
+        }
+        Kind::Continuation => Ok(Step::On(blanks_behind(source, at), Place::Between)),
+        _ => Ok(Step::On(0, Place::Between)),
+    }
+}
+
+/// A byte past the brace or the quote that ends a word.
+fn read_past(
+    parts: &mut Open,
+    alloc: Global,
+    source: &str,
+    at: usize,
+    byte: u8,
+    kind: Kind,
+    fault: ParseFault,
+) -> Result<Step, ParseFault>
+    requires stands { StandsAt source.now at byte kind }
+    ensures { Does parts.old parts.new source.now at Place.PastBraces (word_over kind at (drop (at + 1) source.now) (fails fault)) result }
+{
+    match kind {
+        Kind::Blank | Kind::Newline | Kind::Semicolon | Kind::Continuation | Kind::CloseBracket => {
+            let step = end_word(parts, alloc, source, at, byte, kind)?;
+            Ok(step)
+        }
+        _ => Err(fault),
     }
 }
 
 /// A byte in a bare word.
-pub fn read_bare(
+fn read_bare(
     parts: &mut Open,
     alloc: Global,
     source: &str,
     at: usize,
     byte: u8,
     kind: Kind,
-) -> Result<Place, ParseFault>
+) -> Result<Step, ParseFault>
     requires stands { StandsAt source.now at byte kind }
-    requires fine { IsFine parts.old source.now Place.Bare at }
-    ensures { Reads parts.old parts.new source.now at Place.Bare (in_bare kind byte at) result }
+    requires fine { IsCut parts.old source.now at }
+    ensures { Does parts.old parts.new source.now at (Place.Text Mode.Bare) (in_bare kind byte at (drop (at + 1) source.now)) result }
 {
     match kind {
-        Kind::Blank | Kind::Newline | Kind::Semicolon => {
-            parts.end_bare_word(alloc, source, at)?;
-            after_word(parts, alloc, source, at, byte, kind)
+        Kind::Blank | Kind::Newline | Kind::Semicolon | Kind::Continuation | Kind::CloseBracket => {
+            parts.end_literal(alloc, source, at)?;
+            let step = end_word(parts, alloc, source, at, byte, kind)?;
+            Ok(step)
         }
-        Kind::Dollar => {
-            parts.set_stop(at);
-            Ok(Place::Dollar)
-        }
-        _ => Ok(Place::Bare),
-    }
-}
-
-/// A byte past a `$` in a bare word.
-pub fn read_dollar(
-    parts: &mut Open,
-    alloc: Global,
-    source: &str,
-    at: usize,
-    byte: u8,
-    kind: Kind,
-) -> Result<Place, ParseFault>
-    requires stands { StandsAt source.now at byte kind }
-    requires fine { IsFine parts.old source.now Place.Dollar at }
-    ensures { Reads parts.old parts.new source.now at Place.Dollar (in_dollar kind byte at) result }
-{
-    match kind {
-        Kind::Letter => {
-            parts.begin_name(alloc, source)?;
-            Ok(Place::Name)
-        }
-        Kind::Colon => Ok(Place::Colon),
-        _ => read_bare(parts, alloc, source, at, byte, kind),
-    }
-}
-
-/// A byte past `$:` in a bare word.
-pub fn read_colon(
-    parts: &mut Open,
-    alloc: Global,
-    source: &str,
-    at: usize,
-    byte: u8,
-    kind: Kind,
-) -> Result<Place, ParseFault>
-    requires stands { StandsAt source.now at byte kind }
-    requires fine { IsFine parts.old source.now Place.Colon at }
-    ensures { Reads parts.old parts.new source.now at Place.Colon (in_colon kind byte at) result }
-{
-    match kind {
-        Kind::Colon => Ok(Place::Colons),
-        _ => read_bare(parts, alloc, source, at, byte, kind),
-    }
-}
-
-/// A byte past `$::` in a bare word.
-pub fn read_colons(
-    parts: &mut Open,
-    alloc: Global,
-    source: &str,
-    at: usize,
-    byte: u8,
-    kind: Kind,
-) -> Result<Place, ParseFault>
-    requires stands { StandsAt source.now at byte kind }
-    requires fine { IsFine parts.old source.now Place.Colons at }
-    ensures { Reads parts.old parts.new source.now at Place.Colons (in_colons kind byte at) result }
-{
-    match kind {
-        Kind::Letter => {
-            parts.begin_name(alloc, source)?;
-            Ok(Place::Name)
-        }
-        _ => read_bare(parts, alloc, source, at, byte, kind),
-    }
-}
-
-/// A byte in a variable's name or past it.
-pub fn read_name(
-    parts: &mut Open,
-    alloc: Global,
-    source: &str,
-    at: usize,
-    byte: u8,
-    kind: Kind,
-) -> Result<Place, ParseFault>
-    requires stands { StandsAt source.now at byte kind }
-    requires fine { IsFine parts.old source.now Place.Name at }
-    ensures { Reads parts.old parts.new source.now at Place.Name (in_name kind byte at) result }
-{
-    match kind {
-        Kind::Letter => Ok(Place::Name),
         _ => {
-            parts.end_name(alloc, source, at)?;
-            read_bare(parts, alloc, source, at, byte, kind)
+            let step = read_text(parts, alloc, source, at, byte, kind, Mode::Bare)?;
+            Ok(step)
+        }
+    }
+}
+
+/// A byte in a word in quotes.
+fn read_quotes(
+    parts: &mut Open,
+    alloc: Global,
+    source: &str,
+    at: usize,
+    byte: u8,
+    kind: Kind,
+) -> Result<Step, ParseFault>
+    requires stands { StandsAt source.now at byte kind }
+    requires fine { IsCut parts.old source.now at }
+    ensures { Does parts.old parts.new source.now at (Place.Text Mode.Quotes) (in_quotes kind byte (drop (at + 1) source.now)) result }
+{
+    match kind {
+        Kind::Quote => {
+            parts.end_literal(alloc, source, at)?;
+            Ok(Step::On(0, Place::PastQuotes))
+        }
+        _ => {
+            let step = read_text(parts, alloc, source, at, byte, kind, Mode::Quotes)?;
+            Ok(step)
+        }
+    }
+}
+
+/// A byte in an index.
+fn read_parens(
+    parts: &mut Open,
+    alloc: Global,
+    source: &str,
+    at: usize,
+    byte: u8,
+    kind: Kind,
+) -> Result<Step, ParseFault>
+    requires stands { StandsAt source.now at byte kind }
+    requires fine { IsCut parts.old source.now at }
+    ensures { Does parts.old parts.new source.now at (Place.Text Mode.Parens) (in_parens kind byte (drop (at + 1) source.now)) result }
+{
+    match kind {
+        Kind::CloseParen => {
+            parts.end_literal(alloc, source, at)?;
+            Ok(Step::Ends)
+        }
+        _ => {
+            let step = read_text(parts, alloc, source, at, byte, kind, Mode::Parens)?;
+            Ok(step)
         }
     }
 }
 
 /// A byte in a word in braces.
-pub fn read_brace(
+fn read_braces(
     parts: &mut Open,
+    alloc: Global,
     source: &str,
     at: usize,
     byte: u8,
     kind: Kind,
     depth: usize,
-) -> Result<Place, ParseFault>
+) -> Result<Step, ParseFault>
     requires stands { StandsAt source.now at byte kind }
-    requires fine { IsFine parts.old source.now (Place.Brace depth) at }
-    ensures { Reads parts.old parts.new source.now at (Place.Brace depth) (in_brace depth kind byte at) result }
+    requires fine { IsFine parts.old source.now (Place.InBraces depth) at }
+    ensures { Does parts.old parts.new source.now at (Place.InBraces depth) (in_braces depth kind byte (drop (at + 1) source.now)) result }
 {
     match kind {
-        Kind::OpenBrace => Ok(Place::Brace(depth + 1)),
         Kind::CloseBrace => {
             if depth > 0 {
-                return Ok(Place::Brace(depth - 1));
+                return Ok(Step::On(0, Place::InBraces(depth - 1)));
             }
-            parts.set_stop(at);
-            Ok(Place::Braced)
+            parts.end_braced(alloc, source, at)?;
+            Ok(Step::On(0, Place::PastBraces))
         }
-        _ => Ok(Place::Brace(depth)),
+        Kind::OpenBrace | Kind::Expansion => Ok(Step::On(0, Place::InBraces(depth + 1))),
+        Kind::Backslash => Ok(Step::On(one_behind(source, at), Place::InBraces(depth))),
+        Kind::Continuation => {
+            let taken = push_escape(parts, source, at)?;
+            Ok(Step::On(taken, Place::InBraces(depth)))
+        }
+        _ => Ok(Step::On(0, Place::InBraces(depth))),
     }
 }
 
-/// A byte past the brace that ends a word.
-pub fn read_braced(
+/// A byte with which a word begins; the word starts there, or at the `{*}` before it.
+fn read_word(
     parts: &mut Open,
     alloc: Global,
     source: &str,
     at: usize,
     byte: u8,
     kind: Kind,
-) -> Result<Place, ParseFault>
+    expand: bool,
+    start: usize,
+) -> Result<Step, ParseFault>
     requires stands { StandsAt source.now at byte kind }
-    requires fine { IsFine parts.old source.now Place.Braced at }
-    ensures { Reads parts.old parts.new source.now at Place.Braced (in_braced kind byte at) result }
+    requires begins { IsCharBoundary source.now at }
+    ensures { Does parts.old parts.new source.now at Place.Between (at_word expand start kind byte at (drop (at + 1) source.now)) result }
 {
     match kind {
-        Kind::Blank | Kind::Newline | Kind::Semicolon => {
-            parts.end_braced_word(alloc, source, at)?;
-            after_word(parts, alloc, source, at, byte, kind)
+        Kind::OpenBrace | Kind::Expansion => {
+            parts.begin_word(alloc, WordForm::Braced, expand, start, at + 1);
+            Ok(Step::On(0, Place::InBraces(0)))
         }
-        _ => Err(ParseFault::ExtraAfterBrace),
+        Kind::Quote => {
+            parts.begin_word(alloc, WordForm::Quoted, expand, start, at + 1);
+            Ok(Step::On(0, Place::Text(Mode::Quotes)))
+        }
+        _ => {
+            parts.begin_word(alloc, WordForm::Bare, expand, start, at);
+            let step = read_bare(parts, alloc, source, at, byte, kind)?;
+            Ok(step)
+        }
+    }
+}
+
+/// A byte past `{*}`, which is a word of its own where the word ends there.
+fn read_expanded(
+    parts: &mut Open,
+    alloc: Global,
+    source: &str,
+    at: usize,
+    byte: u8,
+    kind: Kind,
+) -> Result<Step, ParseFault>
+    requires stands { StandsAt source.now at byte kind }
+    requires expansion { IsExpansion source.now at }
+    ensures { Does parts.old parts.new source.now at Place.Expanded (in_expanded kind byte at (drop (at + 1) source.now)) result }
+{
+    match kind {
+        Kind::Blank | Kind::Newline | Kind::Semicolon | Kind::Continuation | Kind::CloseBracket => {
+            parts.begin_word(alloc, WordForm::Braced, false, at - 3, at - 2);
+            parts.end_braced(alloc, source, at - 1)?;
+            end_word(parts, alloc, source, at, byte, kind)
+        }
+        _ => read_word(parts, alloc, source, at, byte, kind, true, at - 3),
     }
 }
 
 /// A byte in a command, past a word and a blank.
-pub fn read_between(
+fn read_between(
     parts: &mut Open,
     alloc: Global,
     source: &str,
     at: usize,
     byte: u8,
     kind: Kind,
-) -> Result<Place, ParseFault>
+) -> Result<Step, ParseFault>
     requires stands { StandsAt source.now at byte kind }
-    requires fine { IsFine parts.old source.now Place.Between at }
-    ensures { Reads parts.old parts.new source.now at Place.Between (in_between kind byte at) result }
+    requires begins { IsCharBoundary source.now at }
+    ensures { Does parts.old parts.new source.now at Place.Between (in_between kind byte at (drop (at + 1) source.now)) result }
 {
     match kind {
-        Kind::Blank | Kind::Newline | Kind::Semicolon => {
-            after_word(parts, alloc, source, at, byte, kind)
+        Kind::Blank => Ok(Step::On(0, Place::Between)),
+        Kind::Newline | Kind::Semicolon => {
+            parts.end_command(alloc)?;
+            Ok(Step::On(0, Place::Start))
         }
-        Kind::OpenBrace => {
-            parts.begin_word(at, at + 1);
-            Ok(Place::Brace(0))
+        Kind::Continuation => Ok(Step::On(blanks_behind(source, at), Place::Between)),
+        Kind::CloseBracket => {
+            parts.end_command(alloc)?;
+            Ok(Step::Ends)
         }
+        Kind::Expansion => Ok(Step::On(2, Place::Expanded)),
         _ => {
-            parts.begin_word(at, at);
-            read_bare(parts, alloc, source, at, byte, kind)
+            let step = read_word(parts, alloc, source, at, byte, kind, false, at)?;
+            Ok(step)
         }
     }
 }
 
 /// A byte where a command may begin.
-pub fn read_start(
+fn read_start(
     parts: &mut Open,
     alloc: Global,
     source: &str,
     at: usize,
     byte: u8,
     kind: Kind,
-) -> Result<Place, ParseFault>
+) -> Result<Step, ParseFault>
     requires stands { StandsAt source.now at byte kind }
-    requires fine { IsFine parts.old source.now Place.Start at }
-    ensures { Reads parts.old parts.new source.now at Place.Start (in_start kind byte at) result }
+    requires begins { IsCharBoundary source.now at }
+    ensures { Does parts.old parts.new source.now at Place.Start (in_start kind byte at (drop (at + 1) source.now)) result }
 {
     match kind {
-        Kind::Blank | Kind::Newline | Kind::Semicolon => Ok(Place::Start),
-        Kind::Hash => Ok(Place::Comment),
+        Kind::Blank | Kind::Newline | Kind::Semicolon => Ok(Step::On(0, Place::Start)),
+        Kind::Continuation => Ok(Step::On(blanks_behind(source, at), Place::Start)),
+        Kind::CloseBracket => Ok(Step::Ends),
+        Kind::Hash => Ok(Step::On(0, Place::Comment)),
         _ => {
-            parts.begin_command(at);
-            read_between(parts, alloc, source, at, byte, kind)
+            parts.begin_command(alloc, at);
+            let step = read_between(parts, alloc, source, at, byte, kind)?;
+            Ok(step)
         }
     }
 }
 
 /// A byte in a comment.
-pub fn read_comment(
+fn read_comment(
     parts: &Open,
     source: &str,
     at: usize,
     byte: u8,
     kind: Kind,
-) -> Result<Place, ParseFault>
+) -> Result<Step, ParseFault>
     requires stands { StandsAt source.now at byte kind }
-    requires fine { IsFine parts.now source.now Place.Comment at }
-    ensures { Reads parts.now parts.now source.now at Place.Comment (in_comment kind byte at) result }
+    ensures { Does parts.now parts.now source.now at Place.Comment (in_comment kind (drop (at + 1) source.now)) result }
 {
     match kind {
-        Kind::Newline => Ok(Place::Start),
-        _ => Ok(Place::Comment),
+        Kind::Newline => Ok(Step::On(0, Place::Start)),
+        Kind::Backslash | Kind::Continuation => {
+            Ok(Step::On(one_behind(source, at), Place::Comment))
+        }
+        _ => Ok(Step::On(0, Place::Comment)),
     }
 }
 
-/// The byte at a place of the source, and what it can mean.
-fn look(source: &str, at: usize) -> (u8, Kind)
+/// What a byte at a place means.
+fn kind_at(source: &str, at: usize, byte: u8, inside: bool) -> Kind
+    requires within { at < length source.now }
+    ensures kind { result ≡ kind_meant inside byte (drop (at + 1) source.now) }
+    ensures ascii { result ≢ Kind.Other → byte < 128 }
+    ensures expansion { result ≡ Kind.Expansion → begins_expansion (drop (at + 1) source.now) ≡ true }
+    ensures continuation { result ≡ Kind.Continuation → begins_newline (drop (at + 1) source.now) ≡ true }
+{
+    kind_of(inside, byte, &source.as_bytes()[at + 1..])
+}
+
+/// The byte at a place, and what it means there.
+pub fn look(source: &str, at: usize, inside: bool) -> (u8, Kind)
     requires within { at < length source.now }
     requires short { length source.now ≤ 65536 }
     ensures stands { StandsAt source.now at result.0 result.1 }
     ensures byte { result.0 ≡ slice_index source.now at }
-    ensures kind { result.1 ≡ kind_of result.0 }
+    ensures kind { result.1 ≡ kind_meant inside result.0 (drop (at + 1) source.now) }
 {
-    let byte = source.as_bytes()[at];
-    (byte, kind_of(byte))
+    let bytes = source.as_bytes();
+    let byte = bytes[at];
+    (byte, kind_at(source, at, byte, inside))
 }
 
-/// The byte at a place of the source, read where it stands.
+/// A byte of a script or an index, at this place of it; `inside` says whether a bracket or a parenthesis ends it.
 pub fn read_byte(
     parts: &mut Open,
     alloc: Global,
     source: &str,
     at: usize,
+    inside: bool,
     place: Place,
-) -> Result<Place, ParseFault>
+) -> Result<Step, ParseFault>
     requires within { at < length source.now }
     requires short { length source.now ≤ 65536 }
     requires fine { IsFine parts.old source.now place at }
-    ensures { let byte = slice_index source.now at in Reads parts.old parts.new source.now at place (in_place place (kind_of byte) byte at) result }
+    ensures { Does parts.old parts.new source.now at place (move_at source.now at inside place) result }
 {
-    let (byte, kind) = look(source, at);
+    let (byte, kind) = look(source, at, inside);
     match place {
         Place::Start => read_start(parts, alloc, source, at, byte, kind),
         Place::Comment => read_comment(parts, source, at, byte, kind),
         Place::Between => read_between(parts, alloc, source, at, byte, kind),
-        Place::Bare => read_bare(parts, alloc, source, at, byte, kind),
-        Place::Dollar => read_dollar(parts, alloc, source, at, byte, kind),
-        Place::Colon => read_colon(parts, alloc, source, at, byte, kind),
-        Place::Colons => read_colons(parts, alloc, source, at, byte, kind),
-        Place::Name => read_name(parts, alloc, source, at, byte, kind),
-        Place::Brace(depth) => read_brace(parts, source, at, byte, kind, depth),
-        Place::Braced => read_braced(parts, alloc, source, at, byte, kind),
+        Place::Expanded => read_expanded(parts, alloc, source, at, byte, kind),
+        Place::Text(Mode::Bare) => read_bare(parts, alloc, source, at, byte, kind),
+        Place::Text(Mode::Quotes) => read_quotes(parts, alloc, source, at, byte, kind),
+        Place::Text(Mode::Parens) => read_parens(parts, alloc, source, at, byte, kind),
+        Place::PastQuotes => read_past(
+            parts,
+            alloc,
+            source,
+            at,
+            byte,
+            kind,
+            ParseFault::ExtraAfterQuote,
+        ),
+        Place::InBraces(depth) => read_braces(parts, alloc, source, at, byte, kind, depth),
+        Place::PastBraces => read_past(
+            parts,
+            alloc,
+            source,
+            at,
+            byte,
+            kind,
+            ParseFault::ExtraAfterBrace,
+        ),
     }
 }
 
-/// The source ends in a command, and its last word with it.
-fn finish_word(
-    parts: &mut Open,
-    alloc: Global,
-    source: &str,
-    place: Place,
-) -> Result<(), ParseFault>
-    requires short { length source.now ≤ 65536 }
-    requires fine { IsFine parts.old source.now place (length source.now) }
-    requires command { (place ≢ Place.Start) × (place ≢ Place.Comment) }
-    ensures { EndsLastWord parts.old parts.new source.now place (length source.now) result }
-{
-    let at = source.len();
-    match place {
-        Place::Start | Place::Comment => unreachable!(),
-        Place::Between => Ok(()),
-        Place::Bare | Place::Dollar | Place::Colon | Place::Colons => {
-            parts.end_bare_word(alloc, source, at)?;
-            Ok(())
-        }
-        Place::Name => {
-            parts.end_name(alloc, source, at)?;
-            parts.end_bare_word(alloc, source, at)?;
-            Ok(())
-        }
-        Place::Brace(_) => Err(ParseFault::MissingBrace),
-        Place::Braced => {
-            parts.end_braced_word(alloc, source, at)?;
-            Ok(())
-        }
-    }
-}
-
-/// The source ends.
+/// The text of a script ends, and what is open of it: not in quotes, braces or an index.
 pub fn finish(parts: &mut Open, alloc: Global, source: &str, place: Place) -> Result<(), ParseFault>
     requires short { length source.now ≤ 65536 }
     requires fine { IsFine parts.old source.now place (length source.now) }
-    ensures { Ends parts.old parts.new source.now place (length source.now) result }
+    requires script { is_index place ≡ false }
+    ensures { Finishes parts.old parts.new source.now place (length source.now) result }
 {
+    let at = source.len();
     match place {
         Place::Start | Place::Comment => Ok(()),
-        _ => {
-            finish_word(parts, alloc, source, place)?;
+        Place::Between => {
             parts.end_command(alloc)?;
             Ok(())
         }
+        Place::Expanded => {
+            parts.begin_word(alloc, WordForm::Braced, false, at - 3, at - 2);
+            parts.end_braced(alloc, source, at - 1)?;
+            parts.end_word(alloc, at)?;
+            parts.end_command(alloc)?;
+            Ok(())
+        }
+        Place::Text(Mode::Bare) => {
+            parts.end_literal(alloc, source, at)?;
+            parts.end_word(alloc, at)?;
+            parts.end_command(alloc)?;
+            Ok(())
+        }
+        Place::PastQuotes | Place::PastBraces => {
+            parts.end_word(alloc, at)?;
+            parts.end_command(alloc)?;
+            Ok(())
+        }
+        Place::Text(Mode::Quotes) => Err(ParseFault::MissingQuote),
+        Place::Text(Mode::Parens) => unreachable!(),
+        Place::InBraces(_) => Err(ParseFault::MissingBrace),
+    }
+}
+
+/// The fault of a text that ends where a bracket or a parenthesis is to come.
+pub fn unfinished(place: Place) -> ParseFault
+    ensures { (at : ℕ) → at_end true place at ≡ Err result }
+{
+    match place {
+        Place::Text(Mode::Quotes) => ParseFault::MissingQuote,
+        Place::Text(Mode::Parens) => ParseFault::MissingParen,
+        Place::InBraces(_) => ParseFault::MissingBrace,
+        _ => ParseFault::MissingBracket,
     }
 }

@@ -107,10 +107,17 @@ impl Model for Pieces {
     ghost size_decreases = { λ a h. pieces_fall a };
 }
 
-/// What stands between the parentheses of `$name(index)`. Contracts see its source.
+/// What stands between the parentheses of `$name(index)`, read and shared by its copies. Contracts see its source, of which
+/// the pieces are the parse.
 #[derive(Drop)]
 #[cycle(script)]
 pub struct Index {
+    parsed: Rc<ParsedIndex>,
+}
+
+#[derive(Drop)]
+#[cycle(script)]
+struct ParsedIndex {
     text: Text,
     pieces: Pieces,
 }
@@ -120,18 +127,20 @@ impl Model for Index {
 
     ghost Value = { List ℕ };
 
-    ghost view = { λ i. i.text };
+    ghost view = { λ i. i.parsed.value.text };
 
-    ghost use Rattle.std.specs.Prelude.{◌<◌};
+    ghost use Rattle.std.specs.Prelude.{◌≡◌, ◌<◌, Ok};
+    ghost use Rattle.tcl_words.specs.Reading.{index_pieces_of};
     ghost use Rattle.tcl_words.specs.Room.{text_room, pieces_room};
 
-    ghost invariant = { λ i. pieces_room i.pieces < text_room i.text };
+    ghost invariant = { λ i.
+        (index_pieces_of i.parsed.value.text ≡ Ok i.parsed.value.pieces) × (pieces_room i.parsed.value.pieces < text_room i.parsed.value.text) };
 
     ghost size = { text_room };
 
     ghost use Rattle.tcl_words.specs.Falls.{index_falls};
 
-    ghost size_decreases = { λ a h. index_falls a h };
+    ghost size_decreases = { λ a h. index_falls a h.1 };
 }
 
 /// A script, read and shared by its copies. Contracts see its source alone, of which the commands are the parse:
@@ -222,13 +231,13 @@ impl Script {
     }
 
     /// A script of this text, of which these are the commands.
+    #[tactic(auto, using(crate::proofs::Texts::commands_of_fit))]
     pub(crate) fn new(
         alloc: Global,
         text: Text,
         commands: Vec<Command>,
     ) -> Result<Script, AllocError>
-        requires parsed { commands_of text ≡ Ok commands.items }
-        requires room { commands_room commands.items ≤ text_room text }
+        requires { commands_of text ≡ Ok commands.items }
         ensures { IfOk result (λ script. script ≡ text) }
     {
         Ok(Script {
@@ -247,10 +256,40 @@ impl Script {
 }
 
 impl Index {
+    ghost use Rattle.std.specs.Prelude.{◌≡◌, Ok, IfOk};
+    ghost use Rattle.tcl_words.specs.Reading.{index_pieces_of};
+
     /// The source, that is what stands between the parentheses.
     pub fn text(&self) -> &Text
         ensures { result.now ≡ self.now }
     {
-        &self.text
+        &self.parsed.text
+    }
+
+    /// Its pieces, in order.
+    pub fn pieces(&self) -> &[Piece]
+        ensures { index_pieces_of self.now ≡ Ok result.now }
+    {
+        Pieces::as_slice(&self.parsed.pieces)
+    }
+
+    /// An index of this text, of which these are the pieces.
+    #[tactic(auto, using(crate::proofs::Rooms::pieces_fit))]
+    pub(crate) fn new(alloc: Global, text: Text, pieces: Pieces) -> Result<Index, AllocError>
+        requires { index_pieces_of text ≡ Ok pieces }
+        ensures { IfOk result (λ index. index ≡ text) }
+    {
+        Ok(Index {
+            parsed: Rc::new(alloc, ParsedIndex { text, pieces })?,
+        })
+    }
+
+    /// The same index, shared.
+    pub fn copy(&self) -> Result<Index, AllocError>
+        ensures ok { IfOk result (λ index. index ≡ self.now) }
+    {
+        Ok(Index {
+            parsed: self.parsed.clone()?,
+        })
     }
 }

@@ -1,164 +1,130 @@
 use crate::fault::ParseFault;
 use crate::parser::parse;
-use crate::script::{Piece, Script, WordForm};
+use crate::script::{Piece, Span, WordForm};
 use std::alloc::{AllocError, Global};
+use std::process::Abort;
 use std::test::Fail;
 
-/// What the words of the commands past the first are, with `<a>` for the value of the variable a: the words
-/// of a command with bars between them, a command a line. It is what a procedure of Tcl 8.6 that shows its
-/// arguments writes, called by these commands where each variable has that value.
-fn shown(alloc: Global, script: &Script) -> Result<String, AllocError> {
-    let mut text = String::new(alloc);
-    for (number, command) in script.commands().iter().enumerate() {
-        if number > 0 {
-            text.push('\n')?;
-        }
-        for (place, word) in command.words.as_slice().iter().enumerate() {
-            if place > 1 {
-                text.push('|')?;
-            }
-            for piece in word.pieces.as_slice() {
-                match piece {
-                    Piece::Literal(literal) if place > 0 => text.push_str(literal.as_str())?,
-                    Piece::Variable(name) if place > 0 => {
-                        text.push('<')?;
-                        let name = name.as_str();
-                        text.push_str(name.strip_prefix("::").unwrap_or(name))?;
-                        text.push('>')?;
-                    }
-                    _ => {}
-                }
-            }
-        }
+/// The fault of a text, if it has one.
+fn fault_of(alloc: Global, source: &[u8]) -> Result<Option<ParseFault>, ParseFault> {
+    match parse(alloc, source) {
+        Ok(_) => Ok(None),
+        Err(ParseFault::NoMemory) => Err(ParseFault::NoMemory),
+        Err(fault) => Ok(Some(fault)),
     }
-    Ok(text)
 }
 
 #[test]
-fn words_are_tcls(rt: HostRuntime) -> Result<(), Fail> {
-    let alloc = rt.alloc();
-    let cases = [
-        ("show a b c", "a|b|c"),
-        ("  show a  b\t c  ", "a|b|c"),
-        ("show a\nshow b", "a\nb"),
-        ("show a;show b", "a\nb"),
-        (";;show a;\n;show b;;", "a\nb"),
-        ("# nothing\nshow a", "a"),
-        ("show a # b", "a|#|b"),
-        ("show a;# b\nshow c", "a\nc"),
-        ("show a; # b ; show c\n show d", "a\nd"),
-        ("show a#b #c", "a#b|#c"),
-        ("#{\nshow a", "a"),
-        ("show {a b} c", "a b|c"),
-        ("show {}", ""),
-        ("show {} {} a", "||a"),
-        ("show {a {b c} d}", "a {b c} d"),
-        ("show {a\nb;c # d}", "a\nb;c # d"),
-        ("show {{}{}}", "{}{}"),
-        ("show a{b}c a{ }", "a{b}c|a{|}"),
-        ("show a}b }", "a}b|}"),
-        ("show {$a}", "$a"),
-        ("show $a", "<a>"),
-        ("show $a$b", "<a><b>"),
-        ("show x$a.y", "x<a>.y"),
-        ("show $a;show $b", "<a>\n<b>"),
-        ("show $", "$"),
-        ("show $ $. a$", "$|$.|a$"),
-        ("show $$a", "$<a>"),
-        ("show $:", "$:"),
-        ("show $:a", "$:a"),
-        // A name has a letter, a digit or `_`, where Tcl has names of colons alone.
-        ("show $::. $::", "$::.|$::"),
-        ("show $::a", "<a>"),
-        ("show x$::a.$b", "x<a>.<b>"),
-        ("show $a_1 $A9", "<a_1>|<A9>"),
-        ("show $a-b $a/$b", "<a>-b|<a>/<b>"),
-        ("show a:b::c", "a:b::c"),
-        ("show $a{b}", "<a>{b}"),
-        ("show é $aé é$a {é}", "é|<a>é|é<a>|é"),
-        ("show a\x0bb a\x0cb a\rb", "a|b|a|b|a|b"),
-        ("show =a,b", "=a,b"),
-        ("", ""),
-        ("   \n;\t", ""),
-        ("# only", ""),
-    ];
-    for (source, words) in cases {
-        let script = parse(alloc, source.as_bytes())?;
-        assert_eq!(rt; shown(alloc, &script)?.as_str(), words);
-        assert_eq!(rt; script.text().as_str(), source);
-        assert_eq!(rt; script.copy()?.commands().len(), script.commands().len());
+fn pieces_of_a_word(rt: HostRuntime) -> Result<(), Fail> {
+    let script = parse(rt.alloc(), b"set \"a\\x41$b$c(d$e)[f g]\"")?;
+    assert_eq!(rt; script.text().as_str().len(), 25);
+    let again = script.copy()?;
+    let commands = again.commands();
+    assert_eq!(rt; commands.len(), 1);
+    let words = commands[0].words.as_slice();
+    assert_eq!(rt; words.len(), 2);
+    assert!(rt; words[1].form == WordForm::Quoted);
+    match words[1].pieces.as_slice() {
+        [
+            Piece::Literal(literal),
+            Piece::Variable(name),
+            Piece::Element(array, index),
+            Piece::Bracket(inner),
+        ] => {
+            assert_eq!(rt; literal.as_str(), "aA");
+            assert_eq!(rt; name.as_str(), "b");
+            assert_eq!(rt; array.as_str(), "c");
+            assert_eq!(rt; index.text().as_str(), "d$e");
+            assert_eq!(rt; index.pieces().len(), 2);
+            assert_eq!(rt; inner.text().as_str(), "f g");
+            assert_eq!(rt; inner.commands().len(), 1);
+        }
+        _ => assert!(rt; false, "other pieces"),
     }
     Ok(())
 }
 
 #[test]
 fn faults_are_told(rt: HostRuntime) -> Result<(), Fail> {
-    let alloc = rt.alloc();
     let cases = [
-        ("{", "missing close-brace"),
-        ("show {a {b}", "missing close-brace"),
-        ("show a; show {b", "missing close-brace"),
-        ("{a}b", "extra characters after close-brace"),
-        ("show {}}", "extra characters after close-brace"),
-        ("show {a}{b}", "extra characters after close-brace"),
-        ("show {a}$b {", "extra characters after close-brace"),
-        ("show {a}\u{e9}", "extra characters after close-brace"),
-        ("show {", "missing close-brace"),
-        ("show a\\", "not yet"),
-        ("# \"", "not yet"),
-        ("show {[}", "not yet"),
-        ("show {*}", "not yet"),
-        ("show ${a}", "not yet"),
-        ("show $a_1(", "not yet"),
-        ("show $::a(b) {", "not yet"),
+        ("a {b", "missing close-brace"),
+        ("a [b", "missing close-bracket"),
+        ("a \"b", "missing \""),
+        ("a {b}c \"", "extra characters after close-brace"),
+        ("a [b \"c\"d", "extra characters after close-quote"),
+        ("a \"$b(c", "missing )"),
     ];
     for (source, text) in cases {
-        match parse(alloc, source.as_bytes()) {
-            Ok(_) => assert!(rt; false, "no fault in {source}"),
-            Err(fault) => assert_eq!(rt; fault.text(), text),
+        match fault_of(rt.alloc(), source.as_bytes())? {
+            None => assert!(rt; false, "no fault in {source}"),
+            Some(fault) => assert_eq!(rt; fault.text(), text),
         }
     }
-    assert!(rt; matches!(parse(alloc, b"a\xff["), Err(ParseFault::TooLong)));
+    assert_eq!(rt; fault_of(rt.alloc(), b"a\xff[")?, Some(ParseFault::TooLong));
     Ok(())
+}
+
+/// Whether a part of a script stands there.
+fn assert_span(rt: &impl Abort, span: Span, start: usize, end: usize) {
+    assert_eq!(rt; span.start, start);
+    assert_eq!(rt; span.end, end);
 }
 
 #[test]
 fn spans_are_slices(rt: HostRuntime) -> Result<(), Fail> {
-    let alloc = rt.alloc();
-    let source = "# c\n set a {b c} ;$d";
-    let script = parse(alloc, source.as_bytes())?;
+    let script = parse(rt.alloc(), b"# c\n set {*}$a {b c} ;\"d\"")?;
     let commands = script.commands();
     assert_eq!(rt; commands.len(), 2);
+    assert_span(&rt, commands[0].span, 5, 20);
+    assert_span(&rt, commands[1].span, 22, 25);
     let words = commands[0].words.as_slice();
     assert_eq!(rt; words.len(), 3);
-    assert!(rt; words[2].form == WordForm::Braced && words[1].form == WordForm::Bare);
-    let spans = [
-        (commands[0].span, 5, 16),
-        (words[0].span, 5, 8),
-        (words[1].span, 9, 10),
-        (words[2].span, 11, 16),
-        (commands[1].span, 18, 20),
-    ];
-    for (span, start, end) in spans {
-        assert_eq!(rt; span.start, start);
-        assert_eq!(rt; span.end, end);
+    assert_span(&rt, words[0].span, 5, 8);
+    assert_span(&rt, words[1].span, 9, 14);
+    assert_span(&rt, words[2].span, 15, 20);
+    assert!(rt; words[1].expand && words[1].form == WordForm::Bare);
+    assert!(rt; !words[2].expand && words[2].form == WordForm::Braced);
+    Ok(())
+}
+
+/// So many bytes of one kind.
+fn repeated(alloc: Global, byte: u8, count: usize) -> Result<Vec<u8>, AllocError> {
+    let mut bytes = Vec::new(alloc);
+    for _ in 0..count {
+        bytes.push(byte)?;
     }
+    Ok(bytes)
+}
+
+#[test]
+fn depth_is_bounded(rt: HostRuntime) -> Result<(), Fail> {
+    let alloc = rt.alloc();
+    let mut deep = repeated(alloc, b'[', 200)?;
+    assert_eq!(rt; fault_of(alloc, &deep)?, Some(ParseFault::MissingBracket));
+    for _ in 0..200 {
+        deep.push(b']')?;
+    }
+    assert_eq!(rt; parse(alloc, &deep)?.commands().len(), 1);
+    deep.insert(0, b'[')?;
+    assert_eq!(rt; fault_of(alloc, &deep)?, Some(ParseFault::TooLong));
     Ok(())
 }
 
 #[test]
 fn long_texts_are_read(rt: HostRuntime) -> Result<(), Fail> {
     let alloc = rt.alloc();
-    let mut bytes = Vec::new(alloc);
-    for _ in 0..32_768 {
-        bytes.push(b'{')?;
-    }
-    assert!(rt; matches!(parse(alloc, &bytes), Err(ParseFault::MissingBrace)));
-    for _ in 0..32_768 {
-        bytes.push(b'}')?;
-    }
-    assert_eq!(rt; parse(alloc, &bytes)?.commands().len(), 1);
-    bytes.push(b' ')?;
-    assert!(rt; matches!(parse(alloc, &bytes), Err(ParseFault::TooLong)));
+    let braces = repeated(alloc, b'{', 65_536)?;
+    assert_eq!(rt; fault_of(alloc, &braces)?, Some(ParseFault::MissingBrace));
+    let brackets = repeated(alloc, b'[', 65_536)?;
+    assert_eq!(rt; fault_of(alloc, &brackets)?, Some(ParseFault::TooLong));
+    let quotes = repeated(alloc, b'"', 65_536)?;
+    assert_eq!(rt;
+        fault_of(alloc, &quotes)?,
+        Some(ParseFault::ExtraAfterQuote)
+    );
+    let mut backslashes = repeated(alloc, b'\\', 65_536)?;
+    assert_eq!(rt; parse(alloc, &backslashes)?.commands().len(), 1);
+    backslashes.push(b' ')?;
+    assert_eq!(rt; fault_of(alloc, &backslashes)?, Some(ParseFault::TooLong));
     Ok(())
 }

@@ -1,11 +1,13 @@
 -- Steps only fall while what is due at a moment is done, and then no timer is due.
 use Rattle.std.proofs.Common.{◌≡◌, ℕ, zero, suc, ◌≤◌, ◌<◌, List, [], ◌∷◌, Option, Some, None, refl, sym, ap, subst, arith}
-use Rattle.tcl_interp.specs.declared.tasks.Code.{Code}
-use Rattle.tcl_interp.specs.declared.tasks.Code.TheVariants.{Normal, Error, Return, Break, Continue}
+use Rattle.tcl_control.specs.declared.code.Code.{Code}
+use Rattle.tcl_control.specs.declared.code.Code.TheVariants.{Normal, Error, Return, Break, Continue}
 use Rattle.tcl_interp.specs.Evaluation.{State, Outcome, Ended, OutOfSteps, and_then}
 use Rattle.tcl_interp.specs.Scripts.{out_of_global, script_meaning}
 use Rattle.tcl_interp.specs.Finish.{at_global}
-use Rattle.tcl_interp.proofs.Bounds.{Within, within_and_then, within_script}
+use Rattle.tcl_interp.specs.Plans.{run_at}
+use Rattle.tcl_control.specs.declared.context.Context.{Context}
+use Rattle.tcl_interp.proofs.Bounds.{Within, within_and_then, within_run_at, within_script}
 use Rattle.tcl_vars.specs.Store.{Store}
 use Rattle.tk_after.specs.declared.entry.Entry.{Entry}
 use Rattle.tk_after.specs.Timers.{entry_with, first_due, idle_ids}
@@ -23,7 +25,8 @@ within_global_end n state Continue text le = le
 
 within_global : (n : ℕ) (script : List ℕ) (state : State Shown) → state.steps ≤ n → Within n (script_at_global script state)
 within_global n script state le =
-    within_and_then n (script_meaning outside [] 200 0 script state) (λ left code text. at_global left (out_of_global code) text) (within_script outside [] 200 n 0 script state le)
+    within_and_then n (run_at (script_meaning outside 200) 1 script state) (λ left code text. at_global left (out_of_global code) text)
+    (within_run_at (script_meaning outside 200) (within_script outside 200) n 1 script state le)
     (λ left code text within. within_global_end n left (out_of_global code) text within)
 
 -- where something ends, fewer steps are left
@@ -48,18 +51,19 @@ below_then n (Ended state code text) f less within = lower (f state) (within sta
 below_then n (OutOfSteps state) f less within = tt
 
 -- a script that is started takes a step
-below_started : (id : ℕ) (script : List ℕ) (shows : Shown) (store : Store) (steps : ℕ) → Below steps (started_script id script (record { shows = shows; store = store; steps = steps }))
+below_started : (id : ℕ) (script : List ℕ) (shows : Shown) (store : Store) (context : Context) (steps : ℕ)
+    → Below steps (started_script id script (record { shows = shows; store = store; context = context; steps = steps }))
 unfolding started_script
-below_started id script shows store zero = tt
-below_started id script shows store (suc left) =
-    let state : State Shown = record { shows = taken id shows; store = store; steps = left } in
+below_started id script shows store context zero = tt
+below_started id script shows store context (suc left) =
+    let state : State Shown = record { shows = taken id shows; store = store; context = context; steps = left } in
     let after : State Shown → Code → List ℕ → Outcome Shown = λ state code text. done (with_report code text state) in
     let le : left ≤ left = omega arith in
     below_within left (and_then (script_at_global script state) after)
     (within_and_then left (script_at_global script state) after (within_global left script state le) (λ state code text within. within))
 
 below_start : (id : ℕ) (script : List ℕ) (state : State Shown) → Below state.steps (started_script id script state)
-below_start id script state = below_started id script state.shows state.store state.steps
+below_start id script state = below_started id script state.shows state.store state.context state.steps
 
 within_if : (n id : ℕ) (o : Option Entry) (state : State Shown) → state.steps ≤ n → Within n (started_if id o state)
 within_if n id None state le = le

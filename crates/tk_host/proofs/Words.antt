@@ -4,7 +4,7 @@ use Rattle.std.specs.Prelude.{codes}
 use Rattle.std.proofs.lemmas.List.{take_all}
 use Rattle.tcl_vars.specs.Store.{Store}
 use Rattle.tk_host.specs.Shown.{Shown}
-use Rattle.tk_host.specs.Outside.{after_told, told_by}
+use Rattle.tk_host.specs.Outside.{after_told, clock_told, told_by}
 
 none_left : {X : Type 0} (xs : List X) → length xs < 1 → xs ≡ []
 none_left [] short = refl
@@ -25,3 +25,11 @@ after_by [] name shown store long is after = absurd (omega (arith, long))
 after_by (word ∷ words) name shown store long is after =
     ap (λ arguments. after_told arguments shown store) (take_all (length (word ∷ words) - 1) words (omega arith))
     ∙ ap (λ first. told_by (first ∷ words) shown store) (sym after ∙ is)
+
+-- the command `clock` by its name
+pub clock_by : (words : List (List ℕ)) (name : List ℕ) (shown : Shown) (store : Store) → 1 ≤ length words → name ≡ get_or words 0 name → name ≡ codes "clock"
+    → clock_told (take (length words - 1) (drop 1 words)) shown store ≡ told_by words shown store
+clock_by [] name shown store long is clock = absurd (omega (arith, long))
+clock_by (word ∷ words) name shown store long is clock =
+    ap (λ arguments. clock_told arguments shown store) (take_all (length (word ∷ words) - 1) words (omega arith))
+    ∙ ap (λ first. told_by (first ∷ words) shown store) (sym clock ∙ is)

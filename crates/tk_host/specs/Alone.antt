@@ -7,7 +7,7 @@ use Rattle.tk_host.specs.declared.state.AppState.TheVariants.{Running, Exhausted
 use Rattle.tk_host.specs.Shown.{Shown}
 use Rattle.tk_host.specs.Spec.{Spec}
 use Rattle.tk_host.specs.Application.{Application, fresh}
-use Rattle.tk_host.specs.Global.{script_at_global, with_report}
+use Rattle.tk_host.specs.Global.{global_with, script_at_global, with_report}
 use Rattle.tk_host.specs.Settle.{settle_meaning}
 
 -- what its scripts find at a moment
@@ -16,12 +16,20 @@ shown_at moment application =
     record { moment = moment; size = record { width = application.width; height = application.height }; transcript = application.transcript; window = application.window; own = application.own }
 
 abbrev pub state_at : ℕ → Application → State Shown
-state_at moment application = record { shows = shown_at moment application; store = application.store; steps = application.steps }
+state_at moment application =
+    record { shows = shown_at moment application; store = application.store; context = global_with application.commands; steps = application.steps }
 
 -- the application that an evaluation leaves
 abbrev pub with_left : State Shown → Application → Application
 with_left left application =
-    record application { store = left.store; transcript = left.shows.transcript; window = left.shows.window; own = left.shows.own; steps = left.steps }
+    record application {
+      store = left.store;
+      commands = left.context.commands;
+      transcript = left.shows.transcript;
+      window = left.shows.window;
+      own = left.shows.own;
+      steps = left.steps;
+    }
 
 abbrev pub after_outcome : Outcome Shown → Application → Application
 after_outcome (Ended left code text) application = with_left (with_report code text left) application

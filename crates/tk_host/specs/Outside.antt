@@ -1,12 +1,13 @@
 -- The commands that an application serves itself, and how what is due at a moment is done one act after another.
 use Rattle.std.specs.Prelude.{ℕ, Bool, true, false, List, [], ◌∷◌, ◌++◌, Option, Some, None, is_some, Result, Ok, Err, if◌then◌else◌, codes, bytes_eq, nat_le}
+use Rattle.std.specs.Fmt.{decimal}
 use Rattle.std.specs.Option.{option_map_or}
 use Rattle.tcl_text.specs.Answers.{Answer}
 use Rattle.tcl_vars.specs.Store.{Store}
 use Rattle.tcl_interp.specs.declared.tasks.Act.{Act}
 use Rattle.tcl_interp.specs.declared.tasks.Act.TheVariants.{Done, Step, Run, Unknown}
-use Rattle.tcl_interp.specs.declared.tasks.Code.{Code}
-use Rattle.tcl_interp.specs.declared.tasks.Code.TheVariants.{Normal, Error, Return, Break, Continue}
+use Rattle.tcl_control.specs.declared.code.Code.{Code}
+use Rattle.tcl_control.specs.declared.code.Code.TheVariants.{Normal, Error, Return, Break, Continue}
 use Rattle.tcl_interp.specs.Outside.{Outside, Told}
 use Rattle.tcl_interp.specs.Texts.{message, wrong_words}
 use Rattle.tk_after.specs.declared.entry.Entry.{Entry}
@@ -56,13 +57,29 @@ after_told arguments shown =
     let answered = after_words shown.moment arguments shown.own in
     told (act_of answered.1) (record shown { own = answered.0 })
 
+-- ── clock ──
+
+abbrev pub milliseconds_told : List (List ℕ) → Shown → Store → Told Shown Settling
+milliseconds_told [] shown = told (Done Normal (message (decimal shown.moment))) shown
+milliseconds_told words shown = failed (wrong_words (codes "clock milliseconds")) shown
+
+-- clock milliseconds: the moment
+abbrev pub clock_told : List (List ℕ) → Shown → Store → Told Shown Settling
+clock_told [] = failed (wrong_words (codes "clock option ?arg ..?"))
+clock_told (option ∷ words) = if bytes_eq option (codes "milliseconds") then milliseconds_told words else failed (bad_option option)
+
+-- the names of the commands
+abbrev pub served_names : List (List ℕ)
+served_names = codes "puts" ∷ codes "after" ∷ codes "clock" ∷ []
+
 -- a command by its name
 abbrev pub told_by : List (List ℕ) → Shown → Store → Told Shown Settling
 told_by [] = told Unknown
 told_by (name ∷ arguments) =
     if bytes_eq name (codes "puts") then puts_told arguments
     else (if bytes_eq name (codes "after") then after_told arguments
-    else told Unknown)
+    else (if bytes_eq name (codes "clock") then clock_told arguments
+    else told Unknown))
 
 -- ── what is due at a moment ──
 

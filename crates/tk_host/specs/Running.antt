@@ -1,12 +1,17 @@
 -- How what was begun is run to its end.
 use Rattle.std.specs.Prelude.{◌≡◌, Bool, true, false}
 use Rattle.tcl_interp.specs.Evaluation.{State, Outcome, Ended, OutOfSteps}
+use Rattle.tcl_interp.specs.Interp.{at_top}
 use Rattle.tk_host.specs.declared.running.RunEnd.{RunEnd}
 use Rattle.tk_host.specs.declared.running.RunEnd.TheVariants as run
 use Rattle.tk_host.specs.declared.state.AppState.{AppState}
 use Rattle.tk_host.specs.declared.state.AppState.TheVariants.{Exhausted}
 use Rattle.tk_host.specs.Shown.{Shown}
 use Rattle.tk_host.specs.Global.{with_report}
+
+-- a state at global level
+abbrev pub from_top : State Shown → State Shown
+from_top state = record state { context = at_top state.context }
 
 -- a run has come to an outcome, in the state that it left
 abbrev pub ComesTo : RunEnd → Outcome Shown → State Shown → Type 0

@@ -1,6 +1,6 @@
 -- What is done at a moment: timers that are due, layout, and idle scripts.
 use Rattle.std.specs.Prelude.{ℕ, zero, suc, List, [], ◌∷◌, Option, Some, None}
-use Rattle.tcl_interp.specs.declared.tasks.Code.TheVariants.{Normal}
+use Rattle.tcl_control.specs.declared.code.Code.TheVariants.{Normal}
 use Rattle.tcl_interp.specs.Evaluation.{State, Outcome, Ended, OutOfSteps, and_then, with_step}
 use Rattle.tk_after.specs.declared.entry.Entry.{Entry}
 use Rattle.tk_after.specs.Timers.{entry_with, first_due, idle_ids}

@@ -2,7 +2,7 @@
 use Rattle.std.specs.Prelude.{◌≡◌, ℕ, ◌<◌, Bool, true, false, List, [], ◌∷◌, Option, Some, None, is_some, if◌then◌else◌}
 use Rattle.std.proofs.Common.{arith}
 use Rattle.tcl_interp.specs.declared.tasks.Act.TheVariants.{Step}
-use Rattle.tcl_interp.specs.declared.tasks.Code.{Code}
+use Rattle.tcl_control.specs.declared.code.Code.{Code}
 use Rattle.tcl_interp.specs.Outside.{Falls, RunsBelow, Told}
 use Rattle.tcl_vars.specs.Store.{Store}
 use Rattle.tk_after.specs.declared.entry.Entry.{Entry}

@@ -28,9 +28,9 @@ pub struct Application {
 }
 
 impl Model for Application {
-    ghost use Rattle.std.specs.Prelude.{◌≡◌, true, []};
+    ghost use Rattle.std.specs.Prelude.{◌≡◌, true};
     ghost use Rattle.tcl_interp.specs.Finish.{Idle};
-    ghost use Rattle.tcl_interp.specs.Interp.{left_of, replaced_in, rest_of};
+    ghost use Rattle.tcl_interp.specs.Interp.{context_of, left_of, rest_of};
     ghost use Rattle.tk_host.specs.Held.{Part};
 
     ghost Value = { Part };
@@ -42,6 +42,7 @@ impl Model for Application {
         width = a.rect.width;
         height = a.rect.height;
         store = a.scopes;
+        commands = (context_of a.interp).commands;
         transcript = a.console.transcript;
         window = a.console.window;
         title = a.title;
@@ -52,7 +53,7 @@ impl Model for Application {
       waiting = a.script;
     } };
 
-    ghost invariant = { λ a. (replaced_in a.interp ≡ []) × (a.at_rest ≡ true → rest_of a.interp ≡ Idle) × (a.console.size ≡ record { width = a.rect.width; height = a.rect.height }) };
+    ghost invariant = { λ a. (a.at_rest ≡ true → rest_of a.interp ≡ Idle) × (a.console.size ≡ record { width = a.rect.width; height = a.rect.height }) };
 }
 
 impl Application {
@@ -74,7 +75,11 @@ impl Application {
         ensures { IfOk result (λ application. application ≡ added (given name rect script budget)) }
     {
         let title = name.copy()?;
-        let commands = [short_text(alloc, "puts")?, short_text(alloc, "after")?];
+        let commands = [
+            short_text(alloc, "puts")?,
+            short_text(alloc, "after")?,
+            short_text(alloc, "clock")?,
+        ];
         let size = Size {
             width: rect.width,
             height: rect.height,

@@ -1,4 +1,4 @@
-use crate::message::{bad_option_text, short_text};
+use crate::message::{bad_option_text, message_of, short_text};
 use crate::round::Round;
 use crate::settling::Settling;
 use crate::transcript::{Line, Stream};
@@ -42,7 +42,7 @@ impl Console {
     ghost use Rattle.tcl_vars.specs.Store.{Store};
     ghost use Rattle.tk_after.specs.Timers.{own_of, due_moments, entry_with, first_due, fresh, least};
     ghost use Rattle.tk_host.specs.Application.{unlaid};
-    ghost use Rattle.tk_host.specs.Outside.{after_told, idle_told, is_due, next_told, puts_told, put_told, rest_told, started_told, timer_told, with_end, written};
+    ghost use Rattle.tk_host.specs.Outside.{after_told, clock_told, idle_told, is_due, milliseconds_told, next_told, puts_told, put_told, rest_told, started_told, timer_told, with_end, written};
     ghost use Rattle.tk_host.specs.Shown.{laid, setting_of, with_line};
 
     /// Nothing was written and nothing waits, at moment 0.
@@ -155,6 +155,37 @@ impl Console {
             Ok(text) => Ok(Act::Done(Code::Normal, text)),
             Err(text) => Ok(Act::Done(Code::Error, text)),
         }
+    }
+
+    /// `clock milliseconds`, with the words behind both.
+    fn milliseconds(&self, words: &[Text]) -> Result<Act<Settling>, AllocError>
+        ensures { IfOk result (λ act. (store : Store) → record { shows = self.now; store = store; act = act } ≡ milliseconds_told words.now self.now store) }
+    {
+        if words.is_empty() {
+            let digits = format!(in self.alloc; "{}", self.moment)?;
+            let moment = message_of(self.alloc, digits.as_str())?;
+            return Ok(Act::Done(Code::Normal, moment));
+        }
+        let usage = short_text(self.alloc, "wrong # args: should be \"clock milliseconds\"")?;
+        Ok(Act::Done(Code::Error, usage))
+    }
+
+    /// The command `clock` (clock(n)), with the words behind its name.
+    fn clock(&self, arguments: &[Text]) -> Result<Act<Settling>, AllocError>
+        ensures { IfOk result (λ act. (store : Store) → record { shows = self.now; store = store; act = act } ≡ clock_told arguments.now self.now store) }
+    {
+        let [option, words @ ..] = arguments else {
+            let usage = short_text(
+                self.alloc,
+                "wrong # args: should be \"clock option ?arg ..?\"",
+            )?;
+            return Ok(Act::Done(Code::Error, usage));
+        };
+        if option.as_str() == "milliseconds" {
+            return self.milliseconds(words);
+        }
+        let fault = bad_option_text(self.alloc, option)?;
+        Ok(Act::Done(Code::Error, fault))
     }
 
     /// Tells how a script at global level has ended, where it tells of a fault.
@@ -301,6 +332,10 @@ impl Tasks for Console {
                 "puts" => self.puts(arguments),
                 "after" => {
                     let act = self.after(arguments)?;
+                    Ok(act)
+                }
+                "clock" => {
+                    let act = self.clock(arguments)?;
                     Ok(act)
                 }
                 _ => Ok(Act::Unknown),

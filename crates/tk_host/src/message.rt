@@ -18,7 +18,7 @@ pub fn short_text(alloc: Global, characters: &str) -> Result<Text, AllocError>
 }
 
 /// A message, or in place of one that is too long for a value what tells of the limit.
-fn message_of(alloc: Global, characters: &str) -> Result<Text, AllocError>
+pub fn message_of(alloc: Global, characters: &str) -> Result<Text, AllocError>
     ensures { IfOk result (λ text. text ≡ message characters.now) }
 {
     match Text::new(alloc, characters) {

@@ -1,9 +1,9 @@
-ghost use Rattle.std.specs.Prelude.{◌≡◌, ◌≢◌, ◌<◌, true, [], IfOk, OnOk};
+ghost use Rattle.std.specs.Prelude.{◌≡◌, ◌≢◌, ◌<◌, true, IfOk, OnOk};
 ghost use Rattle.tcl_interp.specs.Finish.{Idle, finish};
-ghost use Rattle.tcl_interp.specs.Interp.{replaced_in, rest_of, state_of};
+ghost use Rattle.tcl_interp.specs.Interp.{rest_of, state_of};
 ghost use Rattle.tk_host.specs.Global.{reported, script_at_global};
 ghost use Rattle.tk_host.specs.Outside.{outside};
-ghost use Rattle.tk_host.specs.Running.{ComesTo, IfEnded, Leaves};
+ghost use Rattle.tk_host.specs.Running.{ComesTo, IfEnded, Leaves, from_top};
 ghost use Rattle.tk_host.specs.Settle.{settle_meaning};
 ghost use Rattle.tk_host.specs.Shown.{setting_of};
 
@@ -33,10 +33,8 @@ fn run_to_end(
 ) -> Result<RunEnd, AllocError>
     requires positive { 0 < slice }
     requires begun { rest_of interp.old ≢ Idle }
-    requires own { replaced_in interp.old ≡ [] }
-    ensures end { IfOk result (λ end. ComesTo end (finish outside [] (rest_of interp.old) (state_of interp.old console.old scopes.old)) (state_of interp.new console.new scopes.new)) }
+    ensures end { IfOk result (λ end. ComesTo end (finish outside (rest_of interp.old) (state_of interp.old console.old scopes.old)) (state_of interp.new console.new scopes.new)) }
     ensures idle { IfOk result (λ end. IfEnded end (rest_of interp.new ≡ Idle)) }
-    ensures own { replaced_in interp.new ≡ [] }
     ensures setting { setting_of console.new ≡ setting_of console.old }
 {
     'slices: loop {
@@ -68,10 +66,8 @@ fn run_begun(
 ) -> Result<bool, AllocError>
     requires positive { 0 < slice }
     requires begun { rest_of interp.old ≢ Idle }
-    requires own { replaced_in interp.old ≡ [] }
-    ensures left { IfOk result (λ enough. Leaves (finish outside [] (rest_of interp.old) (state_of interp.old console.old scopes.old)) enough (state_of interp.new console.new scopes.new)) }
+    ensures left { IfOk result (λ enough. Leaves (finish outside (rest_of interp.old) (state_of interp.old console.old scopes.old)) enough (state_of interp.new console.new scopes.new)) }
     ensures idle { IfOk result (λ enough. enough ≡ true → rest_of interp.new ≡ Idle) }
-    ensures own { replaced_in interp.new ≡ [] }
     ensures setting { setting_of console.new ≡ setting_of console.old }
 {
     match run_to_end(interp, console, scopes, slice)? {
@@ -93,10 +89,8 @@ pub fn run_script(
 ) -> Result<bool, AllocError>
     requires positive { 0 < slice }
     requires idle { rest_of interp.old ≡ Idle }
-    requires own { replaced_in interp.old ≡ [] }
-    ensures left { IfOk result (λ enough. Leaves (script_at_global script (state_of interp.old console.old scopes.old)) enough (state_of interp.new console.new scopes.new)) }
+    ensures left { IfOk result (λ enough. Leaves (script_at_global script (from_top (state_of interp.old console.old scopes.old))) enough (state_of interp.new console.new scopes.new)) }
     ensures idle { IfOk result (λ enough. enough ≡ true → rest_of interp.new ≡ Idle) }
-    ensures own { replaced_in interp.new ≡ [] }
     ensures setting { setting_of console.new ≡ setting_of console.old }
 {
     interp.begin(script)?;
@@ -114,10 +108,8 @@ pub fn run_settling(
 ) -> Result<bool, AllocError>
     requires positive { 0 < slice }
     requires idle { rest_of interp.old ≡ Idle }
-    requires own { replaced_in interp.old ≡ [] }
-    ensures left { IfOk result (λ enough. Leaves (settle_meaning moment (state_of interp.old console.old scopes.old)) enough (state_of interp.new console.new scopes.new)) }
+    ensures left { IfOk result (λ enough. Leaves (settle_meaning moment (from_top (state_of interp.old console.old scopes.old))) enough (state_of interp.new console.new scopes.new)) }
     ensures idle { IfOk result (λ enough. enough ≡ true → rest_of interp.new ≡ Idle) }
-    ensures own { replaced_in interp.new ≡ [] }
     ensures setting { setting_of console.new ≡ setting_of console.old }
 {
     interp.begin_task(console.settling(moment))?;

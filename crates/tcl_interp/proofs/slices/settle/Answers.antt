@@ -1,8 +1,8 @@
 use Rattle.std.proofs.Common.{◌<◌, ◌+◌, suc, ◌∙◌, arith}
 use Rattle.tcl_interp.specs.Finish.{Resumes}
-use Rattle.tcl_interp.specs.Moves.{moved}
+use Rattle.tcl_interp.specs.Moves.{moved, standing}
 use Rattle.tcl_interp.specs.Quiet.{Leads}
-use Rattle.tcl_interp.specs.Rests.{moved_of, waits_of}
+use Rattle.tcl_interp.specs.Rests.{standing_of, waits_of}
 use Rattle.tcl_interp.proofs.Settled.{due_settled}
 use Rattle.tcl_interp.proofs.Stepping.{settle_on, leads_none, resumed_falls}
 use Rattle.tcl_interp.proofs.Weights.{tasks, waits_tasks, leads_tasks}
@@ -11,34 +11,36 @@ use Rattle.tcl_interp.proofs.slices.settle.Goals as goal
 pub moves-smaller : goal.moves-smaller
 moves-smaller g c =
     let outside = g.T.Tasks.outside in
-    let m = moved_of c.moves.doing c.moves.frames.items in
+    let m = standing_of c.moves.doing c.moves.frames.items c.moves.scopes c.moves.context in
     let waits = waits_of c.quiet.new.frames.items in
     let r = c.in-Resumes in
-    let leads : Leads c.moves.scopes m (moved (Resumes r.room r.task r.code r.text) waits) = rw r.is at c.in_ok-settled.ensures.leads in
-    let after = moved_of c.in_ok-doing-in-Resumes.doing c.resume.new.frames.items in
-    let less : tasks outside.size after < suc (outside.size r.task) + waits_tasks outside.size waits = resumed_falls outside g.met.T.Tasks.falls r.room r.task r.code r.text waits c.moves.tasks c.moves.scopes after c.resume.new.tasks c.resume.new.scopes c.in_ok-doing-in-Resumes.ensures.ok in
-    omega (arith, less, leads_tasks outside.size c.moves.scopes m (moved (Resumes r.room r.task r.code r.text) waits) leads)
+    let due = standing (moved (Resumes r.room r.task r.code r.text) waits) c.quiet.new.scopes c.quiet.new.context in
+    let leads : Leads m due = rw r.is at c.in_ok-settled.ensures.leads in
+    let after = standing_of c.in_ok-doing-in-Resumes.doing c.resume.new.frames.items c.resume.new.scopes c.resume.new.context in
+    let less : tasks outside.size after.moved < suc (outside.size r.task) + waits_tasks outside.size waits = resumed_falls outside g.met.T.Tasks.falls r.room r.task r.code r.text waits c.moves.tasks c.quiet.new.scopes c.quiet.new.context after c.resume.new.tasks c.in_ok-doing-in-Resumes.ensures.ok in
+    omega (arith, less, leads_tasks outside.size m due leads)
 
 pub moves-preserved : goal.moves-preserved
 moves-preserved g c =
     let outside = g.T.Tasks.outside in
-    let m = moved_of c.moves.doing c.moves.frames.items in
+    let m = standing_of c.moves.doing c.moves.frames.items c.moves.scopes c.moves.context in
     let waits = waits_of c.quiet.new.frames.items in
     let r = c.in-Resumes in
-    let leads : Leads c.moves.scopes m (moved (Resumes r.room r.task r.code r.text) waits) = rw r.is at c.in_ok-settled.ensures.leads in
-    let after = moved_of c.in_ok-doing-in-Resumes.doing c.resume.new.frames.items in
+    let due = standing (moved (Resumes r.room r.task r.code r.text) waits) c.quiet.new.scopes c.quiet.new.context in
+    let leads : Leads m due = rw r.is at c.in_ok-settled.ensures.leads in
+    let after = standing_of c.in_ok-doing-in-Resumes.doing c.resume.new.frames.items c.resume.new.scopes c.resume.new.context in
     record {
-      same = λ replaced left. c.moves.invariant.same replaced left ∙ settle_on outside replaced g.met.T.Tasks.falls m c.moves.tasks c.moves.scopes r.room r.task r.code r.text waits after c.resume.new.tasks c.resume.new.scopes leads c.in_ok-doing-in-Resumes.ensures.ok left;
+      same = λ left. c.moves.invariant.same left ∙ settle_on outside g.met.T.Tasks.falls m c.moves.tasks r.room r.task r.code r.text waits c.quiet.new.scopes c.quiet.new.context after c.resume.new.tasks leads c.in_ok-doing-in-Resumes.ensures.ok left;
       left = c.in_ok-doing-in-Resumes.ensures.left ∙ c.moves.invariant.left;
     }
 
 pub returns-in_default : goal.returns-in_default
 returns-in_default g c =
     let outside = g.T.Tasks.outside in
-    let m = moved_of c.moves.doing c.moves.frames.items in
-    let n = moved_of c.in_ok-settled.settled c.quiet.new.frames.items in
+    let m = standing_of c.moves.doing c.moves.frames.items c.moves.scopes c.moves.context in
+    let n = standing_of c.in_ok-settled.settled c.quiet.new.frames.items c.quiet.new.scopes c.quiet.new.context in
     record {
-      ok = λ replaced left. c.moves.invariant.same replaced left ∙ leads_none outside replaced m n c.moves.tasks c.moves.scopes c.in_ok-settled.ensures.leads left;
+      ok = λ left. c.moves.invariant.same left ∙ leads_none outside m n c.moves.tasks c.in_ok-settled.ensures.leads left;
       settled = due_settled c.in_ok-settled.settled (waits_of c.quiet.new.frames.items) c.in_ok-settled.ensures.due c.in_default.not-Resumes;
       left = c.moves.invariant.left;
     }

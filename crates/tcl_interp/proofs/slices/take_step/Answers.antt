@@ -1,5 +1,6 @@
 use Rattle.std.proofs.Common.{sym, subst}
-use Rattle.tcl_interp.specs.Rests.{moved_of, turning_of, waits_of}
+use Rattle.tcl_interp.specs.Rests.{moved_of, standing_of, waits_of}
+use Rattle.tcl_interp.specs.Moves.{standing}
 use Rattle.tcl_interp.specs.Steps.{TakesStep}
 use Rattle.tcl_interp.proofs.Stepping.{test_given}
 use Rattle.tcl_interp.proofs.slices.take_step.Goals as goal
@@ -7,6 +8,6 @@ use Rattle.tcl_interp.proofs.slices.take_step.Goals as goal
 pub returns-in_ok-next-in-Tests-clause-ok : goal.returns-in_ok-next-in-Tests-clause-ok
 returns-in_ok-next-in-Tests-clause-ok g c =
     let outside = g.T.Tasks.outside in
-    let after = moved_of c.in_ok-next-in-Tests.next c.test.new.frames.items in
-    subst (λ now. TakesStep outside c.args.replaced.now (moved_of now c.args.frames.now.items) c.args.tasks.now c.args.scopes.now after c.args.tasks.now c.args.scopes.now) (sym c.in-Tests.is)
-    (test_given outside c.args.replaced.now (turning_of c.in-Tests.turning) (waits_of c.args.frames.now.items) c.args.tasks.now c.args.scopes.now after c.in_ok-next-in-Tests.ensures)
+    let after = standing_of c.in_ok-next-in-Tests.next c.test.new.frames.items c.test.new.scopes c.args.context.now in
+    subst (λ now. TakesStep outside (standing_of now c.args.frames.now.items c.args.scopes.now c.args.context.now) c.args.tasks.now after c.args.tasks.now) (sym c.in-Tests.is)
+    (test_given outside c.in-Tests.room c.in-Tests.turning (waits_of c.args.frames.now.items) c.args.tasks.now c.args.scopes.now c.args.context.now after c.in_ok-next-in-Tests.ensures)

@@ -1,13 +1,19 @@
-use Rattle.std.proofs.Common.{◌≡◌, Some, slice_get, sym, ap, ◌∙◌}
-use Rattle.tcl_interp.specs.declared.commands.Builtin.TheVariants.{While}
-use Rattle.tcl_interp.specs.Commands.{command_of, plain_name}
-use Rattle.tcl_interp.specs.Rests.{moved_of, waits_of}
-use Rattle.tcl_interp.proofs.Stepping.{call_while}
+use Rattle.std.proofs.Common.{◌≡◌, ℕ, ◌-◌, ◌≤◌, List, [], ◌∷◌, length, get_or, take, drop, ap, ◌∙◌, subst, arith}
+use Rattle.std.proofs.lemmas.List.{take_all}
+use Rattle.tcl_interp.specs.Finish.{Calls}
+use Rattle.tcl_interp.specs.Moves.{moved, standing}
+use Rattle.tcl_interp.specs.Rests.{standing_of, waits_of}
+use Rattle.tcl_interp.specs.Steps.{TakesStep}
 use Rattle.tcl_interp.proofs.steps.call.Goals as goal
 
-pub returns-in_ok-now-in-Some-While-clause-ok : goal.returns-in_ok-now-in-Some-While-clause-ok
-returns-in_ok-now-in-Some-While-clause-ok g c =
-    let name = c.in-Some.name.now in
-    let first : slice_get c.args.words.now 0 ≡ Some name = sym c.in-Some.ensures.value in
-    let is : command_of c.args.replaced.now (plain_name name) ≡ Some While = (let named : c.plain_name.result.now ≡ plain_name name = c.plain_name.ensures ∙ ap plain_name c.as_str.ensures.bytes in rw (← named) (sym (rw c.in-Some-While.field-0-is at c.in-Some-While.ensures))) in
-    call_while g.T.Tasks.outside c.args.replaced.now c.args.room c.args.words.now name (waits_of c.args.frames.now.items) c.args.tasks.now c.args.scopes.now (moved_of c.in_ok-now-in-Some-While.now c.args.frames.now.items) first is (c.in_ok-now-in-Some-While.ensures (waits_of c.args.frames.now.items))
+-- words are the first of them and the others
+name_and_arguments : (words : List (List ℕ)) (name : List ℕ) → 1 ≤ length words → name ≡ get_or words 0 name → name ∷ take (length words - 1) (drop 1 words) ≡ words
+name_and_arguments [] name long is = absurd (omega (arith, long))
+name_and_arguments (word ∷ words) name long is = ap (λ first. first ∷ take (length (word ∷ words) - 1) words) is ∙ ap (λ others. word ∷ others) (take_all (length (word ∷ words) - 1) words (omega arith))
+
+pub returns-in_ok-now-in-len1-up-clause-ok : goal.returns-in_ok-now-in-len1-up-clause-ok
+returns-in_ok-now-in-len1-up-clause-ok g c =
+    let waits = waits_of c.args.frames.now.items in
+    let after = standing_of c.in_ok-now-in-len1-up.now c.call_named.new.frames.items c.call_named.new.scopes c.call_named.new.context in
+    subst (λ words. TakesStep g.T.Tasks.outside (standing (moved (Calls c.args.room words) waits) c.args.scopes.now c.args.context.now) c.args.tasks.now after c.call_named.new.tasks)
+    (name_and_arguments c.args.words.now c.name-item.result c.in-len1-up.len_at_least c.name-item.is) c.in_ok-now-in-len1-up.ensures.ok

@@ -9,5 +9,5 @@ returns-then-place-commands g c =
     let place = c.args.place in
     let less : place.next < length (commands_in place.script) = rw c.commands.ensures at c.if-place-commands.true in
     ok_along c.put_words.result (λ now. moved_of now c.put_words.new.frames.items) _ _ c.put_words.ensures
-    (ap (λ none. words_move c.args.scopes.now place.room (drop (place.next + 1) (commands_in place.script)) (words_in_front (left_in place)) none (waits_of c.args.frames.now.items)) c.new.ensures
-    ∙ sym (command_at c.args.scopes.now place.room (waits_of c.args.frames.now.items) (commands_in place.script) place.next c.args.previous less))
+    (ap (λ none. words_move c.args.level c.args.scopes.now place.room (drop (place.next + 1) (commands_in place.script)) (words_in_front (left_in place)) none (waits_of c.args.frames.now.items)) c.new.ensures
+    ∙ sym (command_at c.args.level c.args.scopes.now place.room (waits_of c.args.frames.now.items) (commands_in place.script) place.next c.args.previous less))

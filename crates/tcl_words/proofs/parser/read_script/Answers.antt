@@ -1,24 +1,18 @@
-use Rattle.std.proofs.Common.{◌∙◌, ap, sym, inl}
+use Rattle.std.proofs.Common.{◌∙◌, ap, inl}
 use Rattle.std.proofs.lemmas.Result.{err_from_is_err_and}
 use Rattle.tcl_words.specs.Reading.{commands_of}
-use Rattle.tcl_words.proofs.Commands.{commands_of-not_utf8, commands_of-later, commands_of-parsed, commands_of-faulty}
+use Rattle.tcl_words.proofs.Texts.{commands_of-not_utf8, commands_of-parsed, commands_of-faulty}
 use Rattle.tcl_words.proofs.parser.read_script.Goals as goal
 
 pub returns-in_default-clause-fault : goal.returns-in_default-clause-fault
 returns-in_default-clause-fault c = inl (commands_of-not_utf8 c.args.source.now c.if-source-gt-MAX_BYTES.false c.in_default.ensures.cases.0)
 
-pub returns-then-holds_later_form-clause-fault : goal.returns-then-holds_later_form-clause-fault
-returns-then-holds_later_form-clause-fault c =
-    inl (commands_of-later c.args.source.now c.if-source-gt-MAX_BYTES.false c.in-Ok.ensures.cases.1 (sym c.holds_later_form.ensures ∙ c.if-holds_later_form.true))
-
 pub returns-in_err-commands-clause-fault : goal.returns-in_err-commands-clause-fault
 returns-in_err-commands-clause-fault c =
     let p = err_from_is_err_and c.from_residual.result c.from_residual.ensures.1 in
-    rw (p.1, p.2) (commands_of-faulty c.in-Ok.text.now c.args.source.now c.in_err-commands.field-0.0 c.in-Ok.ensures.cases.0 c.if-source-gt-MAX_BYTES.false
-    c.in-Ok.ensures.cases.1 (sym c.holds_later_form.ensures ∙ c.if-holds_later_form.false) c.in_err-commands.ensures.fault)
+    rw (p.1, p.2) (commands_of-faulty c.in-Ok.text.now c.args.source.now c.in_err-commands.field-0.0 c.in-Ok.ensures.cases.0 c.if-source-gt-MAX_BYTES.false c.in-Ok.ensures.cases.1 c.in_err-commands.ensures.fault)
 
-pub new-requires-2-clause-parsed : goal.new-requires-2-clause-parsed
-new-requires-2-clause-parsed c =
+pub new-requires-2 : goal.new-requires-2
+new-requires-2 c =
     ap commands_of (c.in_ok-text.ensures.ok ∙ c.in-Ok.ensures.cases.0)
-    ∙ commands_of-parsed c.in-Ok.text.now c.args.source.now _ c.in-Ok.ensures.cases.0 c.if-source-gt-MAX_BYTES.false
-    c.in-Ok.ensures.cases.1 (sym c.holds_later_form.ensures ∙ c.if-holds_later_form.false) c.in_ok-commands.ensures.commands
+    ∙ commands_of-parsed c.in-Ok.text.now c.args.source.now _ c.in-Ok.ensures.cases.0 c.if-source-gt-MAX_BYTES.false c.in-Ok.ensures.cases.1 c.in_ok-commands.ensures.commands

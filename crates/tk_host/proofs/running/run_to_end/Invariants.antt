@@ -1,6 +1,6 @@
-use Rattle.std.proofs.Common.{◌≡◌, ◌≢◌, []}
+use Rattle.std.proofs.Common.{◌≡◌, ◌≢◌}
 use Rattle.tcl_interp.specs.Finish.{Idle, finish}
-use Rattle.tcl_interp.specs.Interp.{replaced_in, rest_of, left_of, state_of}
+use Rattle.tcl_interp.specs.Interp.{rest_of, left_of, state_of}
 use Rattle.tk_host.specs.Outside.{outside}
 use Rattle.tk_host.specs.Shown.{setting_of}
 use Rattle.tk_host.proofs.running.run_to_end.Given as goal
@@ -9,9 +9,8 @@ use Rattle.tk_host.proofs.running.run_to_end.Given as goal
 abbrev pub invariant-slices : goal.invariant-slices
 invariant-slices l = record {
   begun : rest_of l.interp ≢ Idle;
-  own : replaced_in l.interp ≡ [];
   setting : setting_of l.console ≡ setting_of l.fn.console;
-  same : finish outside [] (rest_of l.interp) (state_of l.interp l.console l.scopes) ≡ finish outside [] (rest_of l.fn.interp) (state_of l.fn.interp l.fn.console l.fn.scopes);
+  same : finish outside (rest_of l.interp) (state_of l.interp l.console l.scopes) ≡ finish outside (rest_of l.fn.interp) (state_of l.fn.interp l.fn.console l.fn.scopes);
 }
 
 -- a slice that leaves more to do has taken steps

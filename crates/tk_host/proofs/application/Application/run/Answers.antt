@@ -1,5 +1,5 @@
 use Rattle.std.proofs.Common.{refl, sym, ap, ◌∙◌}
-use Rattle.tcl_interp.specs.Interp.{left_of, state_of}
+use Rattle.tcl_interp.specs.Interp.{context_of, left_of, state_of}
 use Rattle.tk_host.specs.Application.{Application}
 use Rattle.tk_host.specs.Alone.{after_script, with_left}
 use Rattle.tk_host.specs.Held.{Part}
@@ -14,6 +14,7 @@ returns c =
       width = inside.rect.width;
       height = inside.rect.height;
       store = inside.scopes;
+      commands = (context_of inside.interp).commands;
       transcript = inside.console.transcript;
       window = inside.console.window;
       title = inside.title;
@@ -24,7 +25,7 @@ returns c =
     let part : Application → Part = λ a. record { rect = inside.rect; application = a; waiting = inside.script } in
     let after : Part → Part = λ p. record p { application = after_script c.args.moment c.args.script p.application } in
     let left = state_of c.run_script.new.interp c.run_script.new.console c.run_script.new.scopes in
-    let clock = c.set_moment.ensures ∙ clock_at app c.args.moment inside.console c.self.invariant.2 refl refl refl in
+    let clock = c.set_moment.ensures ∙ clock_at app c.args.moment inside.console c.self.invariant.1 refl refl refl in
     ap (λ s. part (record (with_left left app) { state = s })) c.unless_spent-self-inside.ensures
     ∙ ap part (left_by_script app c.args.moment c.args.script c.in_ok-enough.enough c.set_moment.new.self left clock c.in_ok-enough.ensures.left)
     ∙ ap after c.self.view_is

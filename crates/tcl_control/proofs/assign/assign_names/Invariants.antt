@@ -1,0 +1,9 @@
+use Rattle.std.proofs.Common.{◌≡◌, length, drop}
+use Rattle.tcl_control.specs.Assign.{assigned}
+use Rattle.tcl_control.proofs.assign.assign_names.Given as goal
+
+abbrev pub invariant-loop-name : goal.invariant-loop-name
+invariant-loop-name l = record {
+  same : assigned l.level (drop l.name-index l.names) (drop l.at l.items) l.scopes ≡ assigned l.level l.names (drop l.from l.items) l.fn.scopes;
+  levels : length l.scopes ≡ length l.fn.scopes;
+}

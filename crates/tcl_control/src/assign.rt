@@ -1,0 +1,96 @@
+ghost use Rattle.std.specs.Prelude.{◌≡◌, ◌<◌, length, drop, IfOk, Ok};
+ghost use Rattle.tcl_vars.specs.Store.{with_variable};
+ghost use Rattle.tcl_control.specs.Assign.{done, on_set, first_of, assigned, groups_assigned};
+
+use std::alloc::{AllocError, Global};
+use tcl_shapes::Group;
+use tcl_table::texts::{cannot_set, fixed};
+use tcl_text::Text;
+use tcl_vars::{Scopes, SetFault};
+
+/// Sets a variable of a level, or gives the error's text.
+pub fn set_one(
+    alloc: Global,
+    scopes: &mut Scopes,
+    level: usize,
+    name: &Text,
+    value: Text,
+) -> Result<Option<Text>, AllocError>
+    requires { level < length scopes.old }
+    ensures set { IfOk result (λ refused. record { store = scopes.new; refused = refused } ≡ on_set name.now scopes.old done (with_variable scopes.old level name.now value)) }
+    ensures levels { length scopes.new ≡ length scopes.old }
+{
+    match scopes.set(level, name, value) {
+        Ok(()) => Ok(None),
+        Err(SetFault::NoMemory) => Err(AllocError),
+        Err(fault) => Ok(Some(cannot_set(alloc, name, fault)?)),
+    }
+}
+
+/// The item at a place, or the empty text.
+fn item_at(alloc: Global, items: &[Text], at: usize) -> Result<Text, AllocError>
+    ensures { IfOk result (λ item. item ≡ first_of (drop at items.now)) }
+{
+    match items.get(at) {
+        Some(item) => item.copy(),
+        None => fixed(alloc, ""),
+    }
+}
+
+/// The place behind an item, where there is one.
+fn behind_item(items: &[Text], at: usize) -> usize
+    ensures { drop result items.now ≡ drop 1 (drop at items.now) }
+{
+    if at < items.len() { at + 1 } else { at }
+}
+
+/// Gives names the items from a place on.
+fn assign_names(
+    alloc: Global,
+    scopes: &mut Scopes,
+    level: usize,
+    names: &[Text],
+    items: &[Text],
+    from: usize,
+) -> Result<Option<Text>, AllocError>
+    requires { level < length scopes.old }
+    ensures set { IfOk result (λ refused. record { store = scopes.new; refused = refused } ≡ assigned level names.now (drop from items.now) scopes.old) }
+    ensures levels { length scopes.new ≡ length scopes.old }
+{
+    let mut at = from;
+    for name in names {
+        let value = item_at(alloc, items, at)?;
+        match set_one(alloc, scopes, level, name, value)? {
+            Some(text) => return Ok(Some(text)),
+            None => at = behind_item(items, at),
+        }
+    }
+    Ok(None)
+}
+
+/// Gives the names of groups the items of a turn.
+pub fn assign_groups(
+    alloc: Global,
+    scopes: &mut Scopes,
+    level: usize,
+    groups: &[Group],
+) -> Result<Option<Text>, AllocError>
+    requires { level < length scopes.old }
+    ensures set { IfOk result (λ refused. record { store = scopes.new; refused = refused } ≡ groups_assigned level groups.now scopes.old) }
+    ensures levels { length scopes.new ≡ length scopes.old }
+{
+    for group in groups {
+        let refused = assign_names(
+            alloc,
+            scopes,
+            level,
+            group.names.as_slice(),
+            group.items.as_slice(),
+            group.next,
+        )?;
+        if let Some(text) = refused {
+            return Ok(Some(text));
+        }
+    }
+    Ok(None)
+}

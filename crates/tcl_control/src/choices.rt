@@ -1,0 +1,231 @@
+ghost use Rattle.std.specs.Prelude.{◌≡◌, ◌∷◌, [], IfOk};
+ghost use Rattle.tcl_text.specs.Readings.{list_of};
+ghost use Rattle.tcl_shapes.specs.Branches.{choices_of, arms_of};
+ghost use Rattle.tcl_control.specs.Choices.{if_plan, ends_open, is_dash, matches, takes, body_of, arm_for, by_arms, by_pairs, switched, switched_past, switch_plan, switch_usage, bad_option, no_body};
+
+use crate::code::Code;
+use crate::plan::Plan;
+use std::alloc::{AllocError, Global};
+use tcl_shapes::{Branch, if_choices, switch_arms};
+use tcl_table::Source;
+use tcl_table::texts::{about, fixed, list_fault};
+use tcl_text::{SplitFault, Text};
+
+fn fails(text: Text) -> Plan
+    ensures { result ≡ Plan.Ends Code.Error text }
+{
+    Plan::Ends(Code::Error, text)
+}
+
+/// `if` (if(n)).
+pub fn if_plan(alloc: Global, words: &[Text]) -> Result<Plan, AllocError>
+    ensures { IfOk result (λ plan. plan ≡ if_plan words.now) }
+{
+    match if_choices(alloc, words)? {
+        Some(choices) => Ok(Plan::Chooses(choices)),
+        None => Ok(fails(fixed(
+            alloc,
+            "wrong # args: should be \"if cond ?then? body ?elseif cond ?then? body ..? ?else? ?body?\"",
+        )?)),
+    }
+}
+
+/// How `switch` compares.
+#[derive(Clone, Copy, Debug, PartialEq, Eq)]
+pub enum Matching {
+    Exact,
+    Glob,
+}
+
+fn matches(matching: Matching, pattern: &Text, value: &Text) -> bool
+    ensures { result ≡ matches matching pattern.now value.now }
+{
+    match matching {
+        Matching::Exact => pattern.as_str() == value.as_str(),
+        Matching::Glob => Text::glob_match(pattern, value),
+    }
+}
+
+fn is_dash(body: &Text) -> bool
+    ensures { result ≡ is_dash body.now }
+{
+    body.as_str() == "-"
+}
+
+/// Whether an arm takes a value, with these behind it.
+fn takes(matching: Matching, value: &Text, arm: &Branch, behind: &[Branch]) -> bool
+    ensures { result ≡ takes matching value.now arm.now behind.now }
+{
+    matches(matching, &arm.test, value) || (behind.is_empty() && arm.test.as_str() == "default")
+}
+
+fn ends_open(arms: &[Branch]) -> bool
+    ensures { result ≡ ends_open arms.now }
+{
+    match arms.last() {
+        Some(arm) => is_dash(&arm.body),
+        None => false,
+    }
+}
+
+/// The first body that stands for itself.
+fn body_of(alloc: Global, arms: &[Branch]) -> Result<Plan, AllocError>
+    ensures { IfOk result (λ plan. plan ≡ body_of arms.now) }
+{
+    for arm in arms {
+        if !is_dash(&arm.body) {
+            return Ok(Plan::Runs(Source::of_text(arm.body.copy()?)));
+        }
+    }
+    Ok(Plan::Ends(Code::Normal, fixed(alloc, "")?))
+}
+
+/// The body of the first arm that takes a value.
+fn arm_for(
+    alloc: Global,
+    matching: Matching,
+    value: &Text,
+    arms: &[Branch],
+) -> Result<Plan, AllocError>
+    ensures { IfOk result (λ plan. plan ≡ arm_for matching value.now arms.now) }
+{
+    let mut rest = arms;
+    'arms: while let [arm, behind @ ..] = rest {
+        if takes(matching, value, arm, behind) {
+            return body_of(alloc, rest);
+        }
+        rest = behind;
+    }
+    Ok(Plan::Ends(Code::Normal, fixed(alloc, "")?))
+}
+
+fn no_body(alloc: Global) -> Result<Plan, AllocError>
+    ensures { IfOk result (λ plan. plan ≡ no_body) }
+{
+    Ok(fails(fixed(alloc, "extra switch pattern with no body")?))
+}
+
+fn by_arms(
+    alloc: Global,
+    matching: Matching,
+    value: &Text,
+    items: &[Text],
+) -> Result<Plan, AllocError>
+    ensures { IfOk result (λ plan. plan ≡ by_arms matching value.now (arms_of items.now)) }
+{
+    match switch_arms(alloc, items)? {
+        Some(arms) => {
+            if ends_open(arms.as_slice()) {
+                return no_body(alloc);
+            }
+            let plan = arm_for(alloc, matching, value, arms.as_slice())?;
+            Ok(plan)
+        }
+        None => no_body(alloc),
+    }
+}
+
+fn switched(
+    alloc: Global,
+    matching: Matching,
+    value: &Text,
+    pairs: &Text,
+) -> Result<Plan, AllocError>
+    ensures { IfOk result (λ plan. plan ≡ switched matching value.now pairs.now) }
+{
+    match pairs.split_list(alloc) {
+        Ok(items) => by_arms(alloc, matching, value, items.as_slice()),
+        Err(SplitFault::BadList(fault)) => Ok(fails(list_fault(alloc, fault)?)),
+        Err(SplitFault::NoMemory) => Err(AllocError),
+    }
+}
+
+fn bad_option(alloc: Global, word: &Text) -> Result<Plan, AllocError>
+    ensures { IfOk result (λ plan. plan ≡ bad_option word.now) }
+{
+    Ok(fails(about(alloc, "bad option \"", word.as_str())?))
+}
+
+fn switch_usage(alloc: Global) -> Result<Plan, AllocError>
+    ensures { IfOk result (λ plan. plan ≡ switch_usage) }
+{
+    Ok(fails(fixed(
+        alloc,
+        "wrong # args: should be \"switch ?-exact|-glob? ?--? value pairs\"",
+    )?))
+}
+
+/// `switch` behind one option.
+fn switched_by(alloc: Global, option: &Text, value: &Text, pairs: &Text) -> Result<Plan, AllocError>
+    ensures { IfOk result (λ plan. plan ≡ switch_plan (option.now ∷ value.now ∷ pairs.now ∷ [])) }
+{
+    let name = option.as_str();
+    if name == "-exact" {
+        switched(alloc, Matching::Exact, value, pairs)
+    } else if name == "-glob" {
+        switched(alloc, Matching::Glob, value, pairs)
+    } else if name == "--" {
+        switched(alloc, Matching::Exact, value, pairs)
+    } else {
+        bad_option(alloc, option)
+    }
+}
+
+fn switched_past(
+    alloc: Global,
+    matching: Matching,
+    option: &Text,
+    value: &Text,
+    pairs: &Text,
+) -> Result<Plan, AllocError>
+    ensures { IfOk result (λ plan. plan ≡ switched_past matching option.now value.now pairs.now) }
+{
+    if option.as_str() == "--" {
+        switched(alloc, matching, value, pairs)
+    } else {
+        bad_option(alloc, option)
+    }
+}
+
+/// `switch` behind two options.
+fn switched_by_two(
+    alloc: Global,
+    option: &Text,
+    other: &Text,
+    value: &Text,
+    pairs: &Text,
+) -> Result<Plan, AllocError>
+    ensures { IfOk result (λ plan. plan ≡ switch_plan (option.now ∷ other.now ∷ value.now ∷ pairs.now ∷ [])) }
+{
+    let name = option.as_str();
+    if name == "-exact" {
+        switched_past(alloc, Matching::Exact, other, value, pairs)
+    } else if name == "-glob" {
+        switched_past(alloc, Matching::Glob, other, value, pairs)
+    } else if name == "--" {
+        switch_usage(alloc)
+    } else {
+        bad_option(alloc, option)
+    }
+}
+
+/// `switch` (switch(n)).
+pub fn switch_plan(alloc: Global, words: &[Text]) -> Result<Plan, AllocError>
+    ensures { IfOk result (λ plan. plan ≡ switch_plan words.now) }
+{
+    match words {
+        [value, pairs] => {
+            let plan = switched(alloc, Matching::Exact, value, pairs)?;
+            Ok(plan)
+        }
+        [option, value, pairs] => {
+            let plan = switched_by(alloc, option, value, pairs)?;
+            Ok(plan)
+        }
+        [option, other, value, pairs] => {
+            let plan = switched_by_two(alloc, option, other, value, pairs)?;
+            Ok(plan)
+        }
+        _ => switch_usage(alloc),
+    }
+}

@@ -1,0 +1,633 @@
+ghost use Rattle.std.specs.Prelude.{◌≡◌, ◌<◌, ◌≤◌, [], ◌∷◌, length, codes, Some, IfOk};
+ghost use Rattle.tcl_text.specs.Commands.{text_command_of};
+ghost use Rattle.tcl_text.specs.Readings.{integer_of};
+ghost use Rattle.tcl_text.specs.StringCommands.{concat_words};
+ghost use Rattle.tcl_vars.specs.Store.{with_variable};
+ghost use Rattle.tcl_control.specs.Commands.{code_number, stored_ending, caught_ending, break_plan, catch_plan, continue_plan, error_plan, eval_plan, expr_plan, for_plan, foreach_plan, info_plan, return_plan, texts_plan, uplevel_plan, while_plan, fails, misused, on_joined, code_of, code_of_integer, code_numbered, unsigned_of, absolute, relative, runs_up, uplevel_usage, returns_as, returns_code, is_level, levels_left, runs_at, level_plan, exists_plan};
+ghost use Rattle.tcl_vars.specs.Store.{Store};
+ghost use Rattle.tcl_control.specs.Control.{recorded_plan, proc_call, rename_call, builtin_call, by_command, call_of, keeps};
+
+use crate::choices::{if_plan, switch_plan};
+use crate::code::{Code, ReturnCode};
+use crate::context::Context;
+use crate::define::{make_procedure, rename};
+use crate::expression::Expression;
+use crate::plan::Plan;
+use crate::procedure::call_procedure;
+use crate::turns::{Test, Turning};
+use crate::variables::{upvar_end, variable_end};
+use std::alloc::{AllocError, Global};
+use tcl_shapes::{foreach_groups, has_body};
+use tcl_table::texts::{about, cannot_set, fixed, told};
+use tcl_table::{Builtin, Command, Source, is_dotted, plain_name};
+use tcl_text::{Text, TextList};
+use tcl_vars::{Scopes, SetFault};
+
+/// What is to be done for a command that is called.
+#[derive(Drop)]
+pub enum Call {
+    /// What the command says.
+    Plans(Plan),
+    /// An outside command is called, which first had this name.
+    Outside(Text),
+    /// There is no command of the name.
+    Unknown,
+}
+
+fn fails(text: Text) -> Plan
+    ensures { result ≡ fails text }
+{
+    Plan::Ends(Code::Error, text)
+}
+
+/// `break` (break(n)).
+fn break_plan(alloc: Global, words: &[Text]) -> Result<Plan, AllocError>
+    ensures { IfOk result (λ plan. plan ≡ break_plan words.now) }
+{
+    match words {
+        [] => Ok(Plan::Ends(Code::Break, fixed(alloc, "")?)),
+        _ => Ok(fails(fixed(alloc, "wrong # args: should be \"break\"")?)),
+    }
+}
+
+/// `continue` (continue(n)).
+fn continue_plan(alloc: Global, words: &[Text]) -> Result<Plan, AllocError>
+    ensures { IfOk result (λ plan. plan ≡ continue_plan words.now) }
+{
+    match words {
+        [] => Ok(Plan::Ends(Code::Continue, fixed(alloc, "")?)),
+        _ => Ok(fails(fixed(alloc, "wrong # args: should be \"continue\"")?)),
+    }
+}
+
+/// `error` (error(n)).
+fn error_plan(alloc: Global, words: &[Text]) -> Result<Plan, AllocError>
+    ensures { IfOk result (λ plan. plan ≡ error_plan words.now) }
+{
+    match words {
+        [text] => Ok(fails(text.copy()?)),
+        _ => Ok(fails(fixed(alloc, "wrong # args: should be \"error message\"")?)),
+    }
+}
+
+/// `catch` (catch(n)).
+fn catch_plan(alloc: Global, words: &[Text]) -> Result<Plan, AllocError>
+    ensures { IfOk result (λ plan. plan ≡ catch_plan words.now) }
+{
+    match words {
+        [script] => Ok(Plan::Catches(Source::of_text(script.copy()?), None)),
+        [script, name] => Ok(Plan::Catches(Source::of_text(script.copy()?), Some(name.copy()?))),
+        _ => Ok(fails(fixed(alloc, "wrong # args: should be \"catch script ?name?\"")?)),
+    }
+}
+
+/// `while` (while(n)).
+fn while_plan(alloc: Global, words: &[Text]) -> Result<Plan, AllocError>
+    ensures { IfOk result (λ plan. plan ≡ while_plan words.now) }
+{
+    match words {
+        [condition, body] => Ok(Plan::Turns(Turning {
+            test: Test::Holds(Expression::of(alloc, condition)?),
+            body: Source::read_of(alloc, body)?,
+            next: None,
+        })),
+        _ => Ok(fails(fixed(alloc, "wrong # args: should be \"while cond body\"")?)),
+    }
+}
+
+/// `for` (for(n)).
+fn for_plan(alloc: Global, words: &[Text]) -> Result<Plan, AllocError>
+    ensures { IfOk result (λ plan. plan ≡ for_plan words.now) }
+{
+    match words {
+        [start, condition, next, body] => Ok(Plan::Starts(
+            Source::of_text(start.copy()?),
+            Turning {
+                test: Test::Holds(Expression::of(alloc, condition)?),
+                body: Source::read_of(alloc, body)?,
+                next: Some(Source::read_of(alloc, next)?),
+            },
+        )),
+        _ => Ok(fails(fixed(
+            alloc,
+            "wrong # args: should be \"for start cond next body\"",
+        )?)),
+    }
+}
+
+/// `foreach` (foreach(n)).
+fn foreach_plan(alloc: Global, words: &[Text]) -> Result<Plan, AllocError>
+    ensures { IfOk result (λ plan. plan ≡ foreach_plan words.now) }
+{
+    if !(has_body(words) && words.len() > 2) {
+        return Ok(fails(fixed(
+            alloc,
+            "wrong # args: should be \"foreach names list ?names list ..? body\"",
+        )?));
+    }
+    let body = Source::read_of(alloc, &words[words.len() - 1])?;
+    match foreach_groups(alloc, words)? {
+        Ok(groups) => Ok(Plan::Turns(Turning {
+            test: Test::Items(groups),
+            body,
+            next: None,
+        })),
+        Err(text) => Ok(fails(text)),
+    }
+}
+
+/// The table of commands has changed, unless that was refused.
+fn recorded(alloc: Global, refused: Option<Text>) -> Result<Plan, AllocError>
+    ensures { IfOk result (λ plan. plan ≡ recorded_plan refused) }
+{
+    match refused {
+        None => Ok(Plan::Ends(Code::Normal, fixed(alloc, "")?)),
+        Some(text) => Ok(fails(text)),
+    }
+}
+
+/// `proc` (proc(n)).
+fn proc_plan(alloc: Global, context: &mut Context, words: &[Text]) -> Result<Plan, AllocError>
+    ensures { IfOk result (λ plan. (store : Store) → record { store = store; context = context.new; call = Call.Plans plan } ≡ proc_call words.now store context.old) }
+{
+    match words {
+        [name, parameters, body] => {
+            let refused = make_procedure(alloc, &mut context.commands, name, parameters, body)?;
+            let plan = recorded(alloc, refused)?;
+            Ok(plan)
+        }
+        _ => Ok(fails(fixed(alloc, "wrong # args: should be \"proc name params body\"")?)),
+    }
+}
+
+/// `rename` (rename(n)).
+fn rename_plan(alloc: Global, context: &mut Context, words: &[Text]) -> Result<Plan, AllocError>
+    ensures { IfOk result (λ plan. (store : Store) → record { store = store; context = context.new; call = Call.Plans plan } ≡ rename_call words.now store context.old) }
+{
+    match words {
+        [old, new] => {
+            let refused = rename(alloc, &mut context.commands, old, new)?;
+            let plan = recorded(alloc, refused)?;
+            Ok(plan)
+        }
+        _ => Ok(fails(fixed(alloc, "wrong # args: should be \"rename old new\"")?)),
+    }
+}
+
+/// A first text, and copies of more.
+fn with_copies(alloc: Global, first: Text, more: &[Text]) -> Result<TextList, AllocError>
+    ensures { IfOk result (λ all. all ≡ first ∷ more.now) }
+{
+    let mut texts = TextList::new(alloc);
+    texts.push(first)?;
+    for text in more {
+        texts.push(text.copy()?)?;
+    }
+    Ok(texts)
+}
+
+/// Words joined as by `concat` (concat(n)).
+#[tactic(auto, unfolding(tcl_text::specs::Commands::command_named))]
+fn concatenated(alloc: Global, words: &[Text]) -> Result<Result<Text, Text>, AllocError>
+    ensures { IfOk result (λ answer. answer ≡ concat_words words.now) }
+{
+    let all = with_copies(alloc, fixed(alloc, "concat")?, words)?;
+    match Text::text_command(alloc, all.as_slice())? {
+        Some(answer) => Ok(answer),
+        None => unreachable!(),
+    }
+}
+
+/// `eval` (eval(n)).
+fn eval_plan(alloc: Global, words: &[Text]) -> Result<Plan, AllocError>
+    ensures { IfOk result (λ plan. plan ≡ eval_plan words.now) }
+{
+    match words {
+        [] => Ok(fails(fixed(alloc, "wrong # args: should be \"eval arg ?arg ..?\"")?)),
+        [_, ..] => match concatenated(alloc, words)? {
+            Ok(script) => Ok(Plan::Runs(Source::of_text(script))),
+            Err(text) => Ok(fails(text)),
+        },
+    }
+}
+
+/// `expr` (expr(n)).
+fn expr_plan(alloc: Global, words: &[Text]) -> Result<Plan, AllocError>
+    ensures { IfOk result (λ plan. plan ≡ expr_plan words.now) }
+{
+    match words {
+        [] => Ok(fails(fixed(alloc, "wrong # args: should be \"expr arg ?arg ..?\"")?)),
+        [_, ..] => match concatenated(alloc, words)? {
+            Ok(text) => Ok(Plan::Evaluates(Expression::of(alloc, &text)?)),
+            Err(text) => Ok(fails(text)),
+        },
+    }
+}
+
+/// The completion code of a word.
+fn code_of(word: &Text) -> Option<ReturnCode>
+    ensures { result ≡ code_of word.now }
+{
+    let name = word.as_str();
+    if name == "ok" {
+        Some(ReturnCode::Normal)
+    } else if name == "error" {
+        Some(ReturnCode::Error)
+    } else if name == "return" {
+        Some(ReturnCode::Return)
+    } else if name == "break" {
+        Some(ReturnCode::Break)
+    } else if name == "continue" {
+        Some(ReturnCode::Continue)
+    } else {
+        match word.integer() {
+            Ok(number) => code_of_number(number),
+            Err(_) => None,
+        }
+    }
+}
+
+fn code_of_number(number: i64) -> Option<ReturnCode>
+    ensures { result ≡ code_of_integer (Some number) }
+{
+    if number < 0 {
+        return None;
+    }
+    code_numbered(number as u64)
+}
+
+fn code_numbered(number: u64) -> Option<ReturnCode>
+    ensures { result ≡ code_numbered number }
+{
+    if number == 0 {
+        Some(ReturnCode::Normal)
+    } else if number == 1 {
+        Some(ReturnCode::Error)
+    } else if number == 2 {
+        Some(ReturnCode::Return)
+    } else if number == 3 {
+        Some(ReturnCode::Break)
+    } else if number == 4 {
+        Some(ReturnCode::Continue)
+    } else {
+        None
+    }
+}
+
+fn returns_as(alloc: Global, option: &Text, word: &Text, text: Text) -> Result<Plan, AllocError>
+    ensures { IfOk result (λ plan. plan ≡ returns_as option.now word.now text) }
+{
+    if option.as_str() != "-code" {
+        return Ok(fails(about(alloc, "bad option \"", option.as_str())?));
+    }
+    match code_of(word) {
+        Some(code) => Ok(Plan::Ends(Code::Return(code), text)),
+        None => Ok(fails(about(alloc, "bad completion code \"", word.as_str())?)),
+    }
+}
+
+/// `return` of one value.
+fn returns_value(alloc: Global, text: &Text) -> Result<Plan, AllocError>
+    ensures { IfOk result (λ plan. plan ≡ return_plan (text.now ∷ [])) }
+{
+    if text.as_str() == "-code" {
+        Ok(fails(fixed(alloc, "value for \"-code\" missing")?))
+    } else {
+        Ok(Plan::Ends(Code::Return(ReturnCode::Normal), text.copy()?))
+    }
+}
+
+/// `return` (return(n)).
+fn return_plan(alloc: Global, words: &[Text]) -> Result<Plan, AllocError>
+    ensures { IfOk result (λ plan. plan ≡ return_plan words.now) }
+{
+    match words {
+        [] => Ok(Plan::Ends(Code::Return(ReturnCode::Normal), fixed(alloc, "")?)),
+        [text] => returns_value(alloc, text),
+        [option, word] => {
+            let plan = returns_as(alloc, option, word, fixed(alloc, "")?)?;
+            Ok(plan)
+        }
+        [option, word, text] => {
+            let plan = returns_as(alloc, option, word, text.copy()?)?;
+            Ok(plan)
+        }
+        _ => Ok(fails(fixed(
+            alloc,
+            "wrong # args: should be \"return ?-code code? ?value?\"",
+        )?)),
+    }
+}
+
+/// Whether a word is a level: it begins with a digit or `#`.
+fn is_level(word: &[u8]) -> bool
+    ensures { result ≡ is_level word.now }
+{
+    match word {
+        [] => false,
+        [byte, ..] => (b'0' <= *byte && *byte <= b'9') || *byte == b'#',
+    }
+}
+
+/// A number from 0 on, as a word gives it.
+fn unsigned(word: &Text) -> Option<u64>
+    ensures { result ≡ unsigned_of (integer_of word.now) }
+{
+    match word.integer() {
+        Ok(number) if number >= 0 => Some(number as u64),
+        _ => None,
+    }
+}
+
+/// How many of so many levels a word leaves.
+pub fn levels_left(alloc: Global, count: usize, word: &Text) -> Result<Option<usize>, AllocError>
+    ensures { IfOk result (λ left. left ≡ levels_left count word.now) }
+{
+    match word.as_str().strip_prefix("#") {
+        Some(rest) => Ok(absolute(count, unsigned(&told(alloc, rest)?))),
+        None => Ok(relative(count, unsigned(word))),
+    }
+}
+
+fn absolute(count: usize, number: Option<u64>) -> Option<usize>
+    ensures { result ≡ absolute count number }
+{
+    match number {
+        Some(number) if number < count as u64 => Some(number as usize + 1),
+        _ => None,
+    }
+}
+
+fn relative(count: usize, number: Option<u64>) -> Option<usize>
+    ensures { result ≡ relative count number }
+{
+    match number {
+        Some(number) if number < count as u64 => Some(count - number as usize),
+        _ => None,
+    }
+}
+
+fn runs_at(
+    alloc: Global,
+    word: &str,
+    words: &[Text],
+    count: Option<usize>,
+) -> Result<Plan, AllocError>
+    ensures { IfOk result (λ plan. plan ≡ runs_at word.now words.now count) }
+{
+    match count {
+        Some(count) => match concatenated(alloc, words)? {
+            Ok(script) => Ok(Plan::RunsAt(count, Source::of_text(script))),
+            Err(text) => Ok(fails(text)),
+        },
+        None => Ok(fails(about(alloc, "bad level \"", word)?)),
+    }
+}
+
+/// One level up.
+fn runs_up(alloc: Global, count: usize, words: &[Text]) -> Result<Plan, AllocError>
+    ensures { IfOk result (λ plan. plan ≡ runs_up count words.now) }
+{
+    runs_at(alloc, "1", words, relative(count, Some(1)))
+}
+
+/// `uplevel` at so many levels (uplevel(n)).
+fn uplevel_plan(alloc: Global, count: usize, words: &[Text]) -> Result<Plan, AllocError>
+    ensures { IfOk result (λ plan. plan ≡ uplevel_plan count words.now) }
+{
+    let [first, rest @ ..] = words else {
+        return uplevel_usage(alloc);
+    };
+    if !is_level(first.as_str().as_bytes()) {
+        return runs_up(alloc, count, words);
+    }
+    if rest.is_empty() {
+        return uplevel_usage(alloc);
+    }
+    let left = levels_left(alloc, count, first)?;
+    runs_at(alloc, first.as_str(), rest, left)
+}
+
+fn uplevel_usage(alloc: Global) -> Result<Plan, AllocError>
+    ensures { IfOk result (λ plan. plan ≡ misused uplevel_usage) }
+{
+    Ok(fails(fixed(
+        alloc,
+        "wrong # args: should be \"uplevel ?level? arg ?arg ..?\"",
+    )?))
+}
+
+/// `info level` at so many levels (info(n)).
+fn level_plan(alloc: Global, count: usize, words: &[Text]) -> Result<Plan, AllocError>
+    ensures { IfOk result (λ plan. plan ≡ level_plan count words.now) }
+{
+    match words {
+        [] => {
+            let number = if count == 0 { 0 } else { count - 1 };
+            let digits = format!(in alloc; "{number}")?;
+            Ok(Plan::Ends(Code::Normal, told(alloc, digits.as_str())?))
+        }
+        _ => Ok(fails(fixed(alloc, "wrong # args: should be \"info level\"")?)),
+    }
+}
+
+/// `info exists` (info(n)).
+fn exists_plan(
+    alloc: Global,
+    scopes: &Scopes,
+    level: usize,
+    words: &[Text],
+) -> Result<Plan, AllocError>
+    requires { level < length scopes.now }
+    ensures { IfOk result (λ plan. plan ≡ exists_plan level scopes.now words.now) }
+{
+    match words {
+        [name] => {
+            let answer = if scopes.exists(level, name) { "1" } else { "0" };
+            Ok(Plan::Ends(Code::Normal, told(alloc, answer)?))
+        }
+        _ => Ok(fails(fixed(alloc, "wrong # args: should be \"info exists name\"")?)),
+    }
+}
+
+/// `info` at so many levels (info(n)).
+fn info_plan(
+    alloc: Global,
+    scopes: &Scopes,
+    count: usize,
+    level: usize,
+    words: &[Text],
+) -> Result<Plan, AllocError>
+    requires { level < length scopes.now }
+    ensures { IfOk result (λ plan. plan ≡ info_plan count level scopes.now words.now) }
+{
+    let [option, rest @ ..] = words else {
+        return Ok(fails(fixed(alloc, "wrong # args: should be \"info option ?arg ..?\"")?));
+    };
+    if option.as_str() == "level" {
+        level_plan(alloc, count, rest)
+    } else if option.as_str() == "exists" {
+        exists_plan(alloc, scopes, level, rest)
+    } else {
+        Ok(fails(about(alloc, "bad option \"", option.as_str())?))
+    }
+}
+
+/// How a command that only reads and writes variables ends.
+#[derive(Drop)]
+pub struct End {
+    pub code: Code,
+    pub text: Text,
+}
+
+pub fn error_end(text: Text) -> End
+    ensures { result ≡ record { code = Code.Error; text = text } }
+{
+    End {
+        code: Code::Error,
+        text,
+    }
+}
+
+/// A command on texts or lists, which first had this name.
+fn texts_plan(alloc: Global, first: &Text, words: &[Text]) -> Result<Plan, AllocError>
+    ensures { IfOk result (λ plan. plan ≡ texts_plan first.now (text_command_of (first.now ∷ words.now))) }
+{
+    let all = with_copies(alloc, first.copy()?, words)?;
+    match Text::text_command(alloc, all.as_slice())? {
+        Some(Ok(text)) => Ok(Plan::Ends(Code::Normal, text)),
+        Some(Err(text)) => Ok(fails(text)),
+        None => Ok(fails(first.copy()?)),
+    }
+}
+
+/// Calls a command of this crate with these words behind its name.
+fn builtin_call(
+    alloc: Global,
+    builtin: Builtin,
+    scopes: &mut Scopes,
+    context: &mut Context,
+    words: &[Text],
+) -> Result<Call, AllocError>
+    ensures { IfOk result (λ call. record { store = scopes.new; context = context.new; call = call } ≡ builtin_call builtin words.now scopes.old context.old) }
+{
+    match builtin {
+        Builtin::Break => Ok(Call::Plans(break_plan(alloc, words)?)),
+        Builtin::Catch => Ok(Call::Plans(catch_plan(alloc, words)?)),
+        Builtin::Continue => Ok(Call::Plans(continue_plan(alloc, words)?)),
+        Builtin::Error => Ok(Call::Plans(error_plan(alloc, words)?)),
+        Builtin::Eval => Ok(Call::Plans(eval_plan(alloc, words)?)),
+        Builtin::Expr => Ok(Call::Plans(expr_plan(alloc, words)?)),
+        Builtin::For => Ok(Call::Plans(for_plan(alloc, words)?)),
+        Builtin::Foreach => Ok(Call::Plans(foreach_plan(alloc, words)?)),
+        Builtin::If => Ok(Call::Plans(if_plan(alloc, words)?)),
+        Builtin::Info => {
+            let level = context.levels.here(scopes);
+            let count = context.levels.count();
+            Ok(Call::Plans(info_plan(alloc, scopes, count, level, words)?))
+        }
+        Builtin::Proc => Ok(Call::Plans(proc_plan(alloc, context, words)?)),
+        Builtin::Rename => Ok(Call::Plans(rename_plan(alloc, context, words)?)),
+        Builtin::Return => Ok(Call::Plans(return_plan(alloc, words)?)),
+        Builtin::Switch => Ok(Call::Plans(switch_plan(alloc, words)?)),
+        Builtin::Uplevel => {
+            let count = context.levels.count();
+            Ok(Call::Plans(uplevel_plan(alloc, count, words)?))
+        }
+        Builtin::Upvar => {
+            let End { code, text } = upvar_end(alloc, scopes, &context.levels, words)?;
+            Ok(Call::Plans(Plan::Ends(code, text)))
+        }
+        Builtin::Variable(command) => {
+            let End { code, text } = variable_end(alloc, scopes, &context.levels, command, words)?;
+            Ok(Call::Plans(Plan::Ends(code, text)))
+        }
+        Builtin::While => Ok(Call::Plans(while_plan(alloc, words)?)),
+    }
+}
+
+/// Calls a command of this name with these words behind it.
+pub fn call_command(
+    alloc: Global,
+    scopes: &mut Scopes,
+    context: &mut Context,
+    name: &Text,
+    words: &[Text],
+) -> Result<Call, AllocError>
+    ensures { IfOk result (λ call. record { store = scopes.new; context = context.new; call = call } ≡ call_of name.now words.now scopes.old context.old) }
+{
+    let plain = plain_name(name.as_str());
+    if is_dotted(plain) {
+        return Ok(Call::Outside(told(alloc, plain)?));
+    }
+    match context.commands.get(plain) {
+        Some(Command::Builtin(builtin)) => {
+            let call = builtin_call(alloc, *builtin, scopes, context, words)?;
+            Ok(call)
+        }
+        Some(Command::Texts(first)) => Ok(Call::Plans(texts_plan(alloc, first, words)?)),
+        Some(Command::Procedure(procedure)) => {
+            let plan = call_procedure(alloc, scopes, &mut context.levels, name, procedure, words)?;
+            Ok(Call::Plans(plan))
+        }
+        Some(Command::Outside(first)) => Ok(Call::Outside(first.copy()?)),
+        None => Ok(Call::Unknown),
+    }
+}
+
+fn code_number(code: Code) -> &'static str
+    ensures number { result.now ≡ code_number code }
+    ensures short { length result.now ≤ 65536 }
+{
+    match code {
+        Code::Normal => "0",
+        Code::Error => "1",
+        Code::Return(_) => "2",
+        Code::Break => "3",
+        Code::Continue => "4",
+    }
+}
+
+/// The result of a script whose code is answered is put into a variable.
+fn caught_into(
+    alloc: Global,
+    scopes: &mut Scopes,
+    level: usize,
+    name: &Text,
+    number: Text,
+    text: Text,
+) -> Result<End, AllocError>
+    requires { level < length scopes.old }
+    ensures { IfOk result (λ end. record { store = scopes.new; code = end.code; text = end.text } ≡ stored_ending number name.now scopes.old (with_variable scopes.old level name.now text)) }
+{
+    match scopes.set(level, name, text) {
+        Ok(()) => Ok(End {
+            code: Code::Normal,
+            text: number,
+        }),
+        Err(SetFault::NoMemory) => Err(AllocError),
+        Err(fault) => Ok(error_end(cannot_set(alloc, name, fault)?)),
+    }
+}
+
+/// How `catch` ends, by how its script did: it answers the code, and puts the result into the variable of a name (catch(n)).
+pub fn caught(
+    alloc: Global,
+    scopes: &mut Scopes,
+    level: usize,
+    name: Option<Text>,
+    code: Code,
+    text: Text,
+) -> Result<End, AllocError>
+    requires { level < length scopes.old }
+    ensures { IfOk result (λ end. record { store = scopes.new; code = end.code; text = end.text } ≡ caught_ending level name code text scopes.old) }
+{
+    let number = fixed(alloc, code_number(code))?;
+    match name {
+        None => Ok(End {
+            code: Code::Normal,
+            text: number,
+        }),
+        Some(name) => caught_into(alloc, scopes, level, &name, number, text),
+    }
+}

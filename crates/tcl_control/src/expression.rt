@@ -1,0 +1,93 @@
+ghost use Rattle.std.specs.Prelude.{◌≡◌, IfOk};
+ghost use Rattle.tcl_control.specs.Expressions.{evaluation_begins, truth_of};
+
+use std::alloc::{AllocError, Global};
+use std::marker::Model;
+use tcl_expr::{Eval, Expr, ExprFault, parse_expr};
+use tcl_table::texts::not_boolean;
+use tcl_text::Text;
+
+/// How an expression was read.
+#[derive(Drop)]
+pub enum ExpressionForm {
+    /// Whole.
+    Read(Expr),
+    /// Up to a fault, of which this is told.
+    Faulty(Text, Text),
+}
+
+/// An expression that a command was given, read once. Contracts see its text.
+#[derive(Drop)]
+pub struct Expression {
+    form: ExpressionForm,
+}
+
+impl Model for Expression {
+    ghost use Rattle.std.specs.Prelude.{ℕ, List};
+    ghost use Rattle.tcl_control.specs.Expressions.{expression_text, HasFault};
+
+    ghost Value = { List ℕ };
+
+    ghost view = { λ e. expression_text e.form };
+
+    ghost invariant = { λ e. HasFault e.form };
+}
+
+impl Expression {
+    ghost use Rattle.tcl_expr.specs.declared.state.State.TheVariants.{Ready};
+
+    /// The expression of a text (expr(n)).
+    #[tactic(auto, unfolding(crate::specs::Expressions::evaluation_begins))]
+    pub fn of(alloc: Global, text: &Text) -> Result<Expression, AllocError>
+        ensures { IfOk result (λ expression. expression ≡ text.now) }
+    {
+        match parse_expr(alloc, text.as_str().as_bytes()) {
+            Ok(expr) => Ok(Expression {
+                form: ExpressionForm::Read(expr),
+            }),
+            Err(ExprFault::NoMemory) => Err(AllocError),
+            Err(fault) => Ok(Expression {
+                form: ExpressionForm::Faulty(text.copy()?, fault.text(alloc, text.as_str())?),
+            }),
+        }
+    }
+
+    /// The same expression, shared.
+    pub fn copy(&self) -> Result<Expression, AllocError>
+        ensures { IfOk result (λ expression. expression ≡ self.now) }
+    {
+        match &self.form {
+            ExpressionForm::Read(expr) => Ok(Expression {
+                form: ExpressionForm::Read(expr.copy()?),
+            }),
+            ExpressionForm::Faulty(text, told) => Ok(Expression {
+                form: ExpressionForm::Faulty(text.copy()?, told.copy()?),
+            }),
+        }
+    }
+
+    /// Its evaluation from the beginning, or the text of its fault.
+    #[tactic(auto, unfolding(crate::specs::Expressions::evaluation_begins))]
+    pub fn begin(&self, alloc: Global) -> Result<Result<Eval, Text>, AllocError>
+        ensures begun { IfOk result (λ begun. begun ≡ evaluation_begins self.now) }
+        ensures ready { IfOk result (λ begun. IfOk begun (λ eval. eval.state ≡ Ready)) }
+    {
+        match &self.form {
+            ExpressionForm::Read(expr) => {
+                let _read = expr.text();
+                Ok(Ok(Eval::new(alloc, expr.copy()?)))
+            }
+            ExpressionForm::Faulty(_, told) => Ok(Err(told.copy()?)),
+        }
+    }
+}
+
+/// The value of a condition as a boolean, or the error's text.
+pub fn truth(alloc: Global, value: &Text) -> Result<Result<bool, Text>, AllocError>
+    ensures { IfOk result (λ truth. truth ≡ truth_of value.now) }
+{
+    match value.boolean() {
+        Ok(truth) => Ok(Ok(truth)),
+        Err(_) => Ok(Err(not_boolean(alloc, value)?)),
+    }
+}

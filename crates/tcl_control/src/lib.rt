@@ -1,0 +1,26 @@
+//! The commands that run scripts, or that change how they run: what each does with its words, the variables and the commands.
+#![tactic(auto)]
+
+mod assign;
+mod choices;
+mod code;
+mod context;
+mod control;
+mod define;
+mod expression;
+mod plan;
+mod procedure;
+mod turns;
+mod variables;
+
+pub use code::{Code, ReturnCode};
+pub use context::Context;
+pub use control::{Call, End, call_command, caught};
+pub use expression::{Expression, truth};
+pub use plan::Plan;
+pub use procedure::pop_last;
+pub use tcl_shapes::{Branch, Branches, Choices};
+pub use tcl_table::{
+    Builtin, Command, CommandTable, Levels, Procedure, Source, first_commands, plain_name, texts,
+};
+pub use turns::{Test, Turning, Verdict, items_tested};

@@ -1,0 +1,29 @@
+use crate::code::Code;
+use crate::expression::Expression;
+use crate::turns::Turning;
+use tcl_shapes::Choices;
+use tcl_table::Source;
+use tcl_text::Text;
+
+/// What a command does, once its words are known.
+#[derive(Drop)]
+pub enum Plan {
+    /// It has ended, with a code and a result or an error's text.
+    Ends(Code, Text),
+    /// It ends as a script does.
+    Runs(Source),
+    /// A script runs, and the answer is its code; its result is put into the variable of this name.
+    Catches(Source, Option<Text>),
+    /// A script runs where only so many of the levels are, and it ends as the script does.
+    RunsAt(usize, Source),
+    /// A procedure's body runs, in the last frame.
+    Enters(Source),
+    /// It ends with the value of an expression.
+    Evaluates(Expression),
+    /// The first body whose condition holds runs.
+    Chooses(Choices),
+    /// A loop is to be tested.
+    Turns(Turning),
+    /// A script runs, and then a loop is tested.
+    Starts(Source, Turning),
+}

@@ -1,0 +1,57 @@
+ghost use Rattle.std.specs.Prelude.{◌≡◌, ◌<◌, length, map, IfOk};
+ghost use Rattle.tcl_control.specs.Turns.{tested_as, items_tested};
+
+use crate::assign::assign_groups;
+use crate::expression::Expression;
+use std::alloc::{AllocError, Global};
+use tcl_shapes::Groups;
+use tcl_table::Source;
+use tcl_text::Text;
+use tcl_vars::Scopes;
+
+/// What a loop tests before each turn.
+#[derive(Drop)]
+pub enum Test {
+    /// Whether a condition holds.
+    Holds(Expression),
+    /// Whether there are items left, which are then given to their names.
+    Items(Groups),
+}
+
+/// A loop: what it tests, its body, and what `for` runs after the body.
+#[derive(Drop)]
+pub struct Turning {
+    pub test: Test,
+    pub body: Source,
+    pub next: Option<Source>,
+}
+
+/// What a test for items came to.
+#[derive(Drop)]
+pub enum Verdict {
+    /// There is another turn, behind which these are left.
+    More(Groups),
+    /// There is none.
+    NoMore,
+    /// The error's text.
+    Fails(Text),
+}
+
+/// Gives names their items, where some are left and variables are those of a level.
+pub fn items_tested(
+    alloc: Global,
+    scopes: &mut Scopes,
+    level: usize,
+    groups: Groups,
+) -> Result<Verdict, AllocError>
+    requires { level < length scopes.old }
+    ensures { IfOk result (λ verdict. tested_as verdict scopes.new ≡ items_tested level groups scopes.old) }
+{
+    if !groups.has_more() {
+        return Ok(Verdict::NoMore);
+    }
+    match assign_groups(alloc, scopes, level, groups.as_slice())? {
+        Some(text) => Ok(Verdict::Fails(text)),
+        None => Ok(Verdict::More(groups.advanced(alloc)?)),
+    }
+}

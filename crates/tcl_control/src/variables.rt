@@ -1,0 +1,113 @@
+//! The commands on variables, at the level of the script that calls them.
+ghost use Rattle.std.specs.Prelude.{◌≡◌, ◌<◌, length, IfOk};
+ghost use Rattle.tcl_table.specs.Texts.{wrong_words};
+ghost use Rattle.tcl_control.specs.Variables as spec;
+
+use crate::code::Code;
+use crate::control::{End, error_end, levels_left};
+use std::alloc::{AllocError, Global};
+use tcl_commands::{VariableCommand, call_variable_command, upvar_command};
+use tcl_table::Levels;
+use tcl_table::texts::{about, fixed};
+use tcl_text::Text;
+use tcl_vars::Scopes;
+
+/// How a command ends that answers this.
+fn end_of(answer: Result<Text, Text>) -> End
+    ensures code { result.code ≡ spec.answer_code answer }
+    ensures text { result.text ≡ spec.answer_text answer }
+{
+    match answer {
+        Ok(text) => End {
+            code: Code::Normal,
+            text,
+        },
+        Err(text) => error_end(text),
+    }
+}
+
+/// A command that knows no level but its script's (set(n), unset(n), incr(n), append(n), lappend(n), array(n), global(n)).
+pub fn variable_end(
+    alloc: Global,
+    scopes: &mut Scopes,
+    levels: &Levels,
+    command: VariableCommand,
+    words: &[Text],
+) -> Result<End, AllocError>
+    ensures { IfOk result (λ end. record { store = scopes.new; code = end.code; text = end.text } ≡ spec.variable_ending command levels.now words.now scopes.old) }
+{
+    let level = levels.here(scopes);
+    let answer = call_variable_command(alloc, scopes, level, command, words)?;
+    Ok(end_of(answer))
+}
+
+/// Links names of the frame at a level to those of the frame at another place, which must be an earlier one.
+fn linked(
+    alloc: Global,
+    scopes: &mut Scopes,
+    level: usize,
+    place: Option<usize>,
+    word: &str,
+    names: &[Text],
+) -> Result<End, AllocError>
+    requires { level < length scopes.old }
+    ensures { IfOk result (λ end. record { store = scopes.new; code = end.code; text = end.text } ≡ spec.linked_ending word.now names.now level scopes.old place) }
+{
+    match place {
+        Some(place) if place < level => {
+            let answer = upvar_command(alloc, scopes, level, place, names)?;
+            Ok(end_of(answer))
+        }
+        _ => Ok(error_end(about(alloc, "bad level \"", word)?)),
+    }
+}
+
+/// Links names to those of the frame at the level that a word gives.
+fn upvar_at(
+    alloc: Global,
+    scopes: &mut Scopes,
+    levels: &Levels,
+    word: &Text,
+    names: &[Text],
+) -> Result<End, AllocError>
+    ensures { IfOk result (λ end. record { store = scopes.new; code = end.code; text = end.text } ≡ spec.upvar_at levels.now word.now names.now scopes.old) }
+{
+    let level = levels.here(scopes);
+    let place = match levels_left(alloc, levels.count(), word)? {
+        Some(count) => Some(levels.place_at(scopes, count)),
+        None => None,
+    };
+    linked(alloc, scopes, level, place, word.as_str(), names)
+}
+
+fn upvar_misused(alloc: Global) -> Result<End, AllocError>
+    ensures { IfOk result (λ end. end ≡ record { code = Code.Error; text = wrong_words spec.upvar_usage }) }
+{
+    Ok(error_end(fixed(
+        alloc,
+        "wrong # args: should be \"upvar ?level? other mine ?other mine ..?\"",
+    )?))
+}
+
+/// `upvar` (upvar(n)).
+pub fn upvar_end(
+    alloc: Global,
+    scopes: &mut Scopes,
+    levels: &Levels,
+    words: &[Text],
+) -> Result<End, AllocError>
+    ensures { IfOk result (λ end. record { store = scopes.new; code = end.code; text = end.text } ≡ spec.upvar_ending levels.now words.now scopes.old) }
+{
+    let [word, names @ ..] = words else {
+        return upvar_misused(alloc);
+    };
+    if names.is_empty() {
+        return upvar_misused(alloc);
+    }
+    if words.len() % 2 == 0 {
+        let one_up = fixed(alloc, "1")?;
+        upvar_at(alloc, scopes, levels, &one_up, words)
+    } else {
+        upvar_at(alloc, scopes, levels, word, names)
+    }
+}

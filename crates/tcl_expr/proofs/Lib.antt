@@ -1,0 +1,15 @@
+-- Lemmas.
+pub mod ArithmeticLemmas
+pub mod ShiftLemmas
+pub mod StepLemmas
+pub mod CompileLemmas
+pub mod BraceLemmas
+pub mod CloseLemmas
+pub mod StandLemmas
+pub mod ReadLemmas
+pub mod FloorLemmas
+pub mod TextLemmas
+pub mod OperandLemmas
+pub mod GrammarRead
+pub mod GrammarCut
+pub mod GrammarLaws

@@ -1,0 +1,6 @@
+use Rattle.std.proofs.Common.{◌≡◌, ◌+◌, drop}
+use Rattle.tcl_expr.specs.Tokens.{name_bytes}
+use Rattle.tcl_expr.proofs.tokens.name_bytes.Given as goal
+
+abbrev pub invariant-loop-count : goal.invariant-loop-count
+invariant-loop-count l = l.count + name_bytes (drop l.count l.text) ≡ name_bytes l.text

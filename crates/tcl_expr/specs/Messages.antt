@@ -1,0 +1,63 @@
+-- What an application is told of a fault.
+use Rattle.std.specs.Prelude.{ℕ, List, [], ◌++◌, length, nat_le, if◌then◌else◌, codes}
+use Rattle.tcl_text.specs.Splitting.{fault_text as list_fault_text}
+use Rattle.tcl_expr.specs.declared.operators.UnaryOperator.{UnaryOperator}
+use Rattle.tcl_expr.specs.declared.operators.UnaryOperator.TheVariants.{Negate, Keep, Complement, Not}
+use Rattle.tcl_expr.specs.declared.operators.ArithmeticOperator.{ArithmeticOperator}
+use Rattle.tcl_expr.specs.declared.operators.ArithmeticOperator.TheVariants.{Multiply, Divide, Remainder, Add, Subtract, ShiftLeft, ShiftRight, BitAnd, BitXor, BitOr}
+use Rattle.tcl_expr.specs.declared.operators.NumberOperator.{NumberOperator}
+use Rattle.tcl_expr.specs.declared.operators.NumberOperator.TheVariants.{Unary, Arithmetic}
+use Rattle.tcl_expr.specs.declared.fault.ExprFault.{ExprFault}
+use Rattle.tcl_expr.specs.declared.fault.ExprFault.TheVariants as parse
+use Rattle.tcl_expr.specs.declared.fault.EvalFault.{EvalFault}
+use Rattle.tcl_expr.specs.declared.fault.EvalFault.TheVariants as eval
+
+-- in place of a message past 65,536 bytes too
+abbrev pub limit_text : List ℕ
+limit_text = codes "limit reached: value"
+
+abbrev pub message : List ℕ → List ℕ
+message text = if nat_le (length text) 65536 then text else limit_text
+
+abbrev pub unary_name : UnaryOperator → List ℕ
+unary_name Negate = codes "-"
+unary_name Keep = codes "+"
+unary_name Complement = codes "~"
+unary_name Not = codes "!"
+
+abbrev pub arithmetic_name : ArithmeticOperator → List ℕ
+arithmetic_name Multiply = codes "*"
+arithmetic_name Divide = codes "/"
+arithmetic_name Remainder = codes "%"
+arithmetic_name Add = codes "+"
+arithmetic_name Subtract = codes "-"
+arithmetic_name ShiftLeft = codes "<<"
+arithmetic_name ShiftRight = codes ">>"
+arithmetic_name BitAnd = codes "&"
+arithmetic_name BitXor = codes "^"
+arithmetic_name BitOr = codes "|"
+
+abbrev pub operator_name : NumberOperator → List ℕ
+operator_name (Unary operator) = unary_name operator
+operator_name (Arithmetic operator) = arithmetic_name operator
+
+-- of an expression with this source; want of memory has no such text
+abbrev pub parse_message : List ℕ → ExprFault → List ℕ
+parse_message source parse.TooLong = limit_text
+parse_message source parse.MissingBrace = codes "missing close-brace"
+parse_message source parse.MissingBracket = codes "missing close-bracket"
+parse_message source parse.MissingQuote = codes "missing \""
+parse_message source parse.ExtraAfterBrace = codes "extra characters after close-brace"
+parse_message source parse.ExtraAfterQuote = codes "extra characters after close-quote"
+parse_message source parse.MissingParen = codes "missing )"
+parse_message source parse.Syntax = message (codes "syntax error in expression \"" ++ source ++ codes "\"")
+parse_message source parse.NoMemory = []
+
+abbrev pub eval_message : EvalFault → List ℕ
+eval_message (eval.NotBoolean text) = message (codes "expected boolean value but got \"" ++ text ++ codes "\"")
+eval_message (eval.BadList fault) = list_fault_text fault
+eval_message eval.TooLong = limit_text
+eval_message eval.DivideByZero = codes "divide by zero"
+eval_message eval.Overflow = codes "integer value too large to represent"
+eval_message (eval.NotNumber operator) = message (codes "can't use non-numeric string as operand of \"" ++ operator_name operator ++ codes "\"")
+eval_message eval.NoMemory = []

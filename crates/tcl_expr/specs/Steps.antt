@@ -1,0 +1,67 @@
+-- The steps of a tree, and what they come to. A stack is a list of values, the topmost first.
+use Rattle.std.specs.Prelude.{ℕ, zero, suc, true, false, ◌++◌, List, [], ◌∷◌, length, if◌then◌else◌, ℤ, pos, Option, Some, None, Ok, Err}
+use Rattle.tcl_text.specs.Readings.{integer_of}
+use Rattle.tcl_expr.specs.declared.fault.EvalFault.TheVariants.{Overflow}
+use Rattle.tcl_expr.specs.declared.value.Value.{Value}
+use Rattle.tcl_expr.specs.declared.value.Value.TheVariants.{Number, Words}
+use Rattle.tcl_expr.specs.declared.step.Step.{Step}
+use Rattle.tcl_expr.specs.declared.step.Step.TheVariants as step
+use Rattle.tcl_expr.specs.Values.{truth_value, text_of, unary_value, binary_value}
+use Rattle.tcl_expr.specs.Run.{Run, AsksVariable, AsksElement, AsksCommand, Ends, on_result, on_truth}
+use Rattle.tcl_expr.specs.Trees.{Tree, Integer, Plain, Variable, Element, Command, Joined, Unary, Binary, And, Or, Choice, joined, final_text}
+
+-- ── what steps come to ──
+
+-- the topmost value, and those below it; the steps of a tree never take more than there are
+abbrev pub top_of : List Value → Value
+top_of [] = Number (pos 0)
+top_of (v ∷ stack) = v
+
+abbrev pub below : List Value → List Value
+below [] = []
+below (v ∷ stack) = stack
+
+-- What a step makes of a stack, where `go` is what comes behind it with so many steps left out.
+abbrev pub perform : Step → List Value → (ℕ → List Value → Run) → Run
+perform step.TooLarge stack go = Ends (Err Overflow)
+perform (step.Plain text) stack go = go 0 (Words text ∷ stack)
+perform (step.Variable name) stack go = AsksVariable name (λ text. go 0 (Words text ∷ stack))
+perform (step.Element array) stack go = AsksElement array (text_of (top_of stack)) (λ text. go 0 (Words text ∷ below stack))
+perform (step.Command script) stack go = AsksCommand script (λ text. go 0 (Words text ∷ stack))
+perform step.Join stack go = on_result (joined (top_of (below stack)) (top_of stack)) (λ v. go 0 (v ∷ below (below stack)))
+perform (step.Unary operator) stack go = on_result (unary_value operator (top_of stack)) (λ v. go 0 (v ∷ below stack))
+perform (step.Binary operator) stack go =
+    on_result (binary_value operator (top_of (below stack)) (top_of stack)) (λ v. go 0 (v ∷ below (below stack)))
+perform (step.And count) stack go =
+    on_truth (top_of stack) (λ truth. if truth then go 0 (below stack) else go count (truth_value false ∷ below stack))
+perform (step.Or count) stack go =
+    on_truth (top_of stack) (λ truth. if truth then go count (truth_value true ∷ below stack) else go 0 (below stack))
+perform step.Truth stack go = on_truth (top_of stack) (λ truth. go 0 (truth_value truth ∷ below stack))
+perform (step.Branch count) stack go = on_truth (top_of stack) (λ truth. if truth then go 0 (below stack) else go count (below stack))
+perform (step.Jump count) stack go = go count stack
+
+-- what steps come to, of which so many are left out
+abbrev pub execute : ℕ → List Step → List Value → Run
+execute skip [] stack = Ends (Ok (final_text (top_of stack)))
+execute (suc skip) (step ∷ steps) stack = execute skip steps stack
+execute zero (step ∷ steps) stack = perform step stack (λ skip next. execute skip steps next)
+
+-- ── the steps of a tree ──
+
+abbrev pub literal_step : List ℕ → Option ℤ → Step
+literal_step spelling (Some n) = step.Plain spelling
+literal_step spelling None = step.TooLarge
+
+abbrev pub steps_of : Tree → List Step
+steps_of (Integer spelling) = literal_step spelling (integer_of spelling) ∷ []
+steps_of (Plain text) = step.Plain text ∷ []
+steps_of (Variable name) = step.Variable name ∷ []
+steps_of (Element array index) = steps_of index ++ step.Element array ∷ []
+steps_of (Command script) = step.Command script ∷ []
+steps_of (Joined a b) = steps_of a ++ (steps_of b ++ step.Join ∷ [])
+steps_of (Unary operator a) = steps_of a ++ step.Unary operator ∷ []
+steps_of (Binary operator a b) = steps_of a ++ (steps_of b ++ step.Binary operator ∷ [])
+steps_of (And a b) = steps_of a ++ step.And (suc (length (steps_of b))) ∷ (steps_of b ++ step.Truth ∷ [])
+steps_of (Or a b) = steps_of a ++ step.Or (suc (length (steps_of b))) ∷ (steps_of b ++ step.Truth ∷ [])
+steps_of (Choice a b c) =
+    steps_of a ++ step.Branch (suc (length (steps_of b))) ∷ (steps_of b ++ step.Jump (length (steps_of c)) ∷ steps_of c)

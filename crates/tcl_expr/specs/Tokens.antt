@@ -1,0 +1,183 @@
+-- What stands in front of a text where an operand or an operator is due.
+use Rattle.std.specs.Prelude.{ℕ, zero, suc, ◌+◌, Bool, true, false, not, ◌==◌, nat_eq, nat_lt, nat_le, ◌&&◌, ◌||◌, if◌then◌else◌, List, [], ◌∷◌, drop, Option, Some, None, codes}
+use Rattle.std.specs.Char.{digit_value}
+use Rattle.std.specs.List.{starts_with}
+use Rattle.tcl_text.specs.Readings.{base_named}
+use Rattle.tcl_expr.specs.declared.operators.ArithmeticOperator.TheVariants.{Multiply, Divide, Remainder, Add, Subtract, ShiftLeft, ShiftRight, BitAnd, BitXor, BitOr}
+use Rattle.tcl_expr.specs.declared.operators.Comparison.{Comparison}
+use Rattle.tcl_expr.specs.declared.operators.Comparison.TheVariants as comparison
+use Rattle.tcl_expr.specs.declared.operators.TextOperator.{TextOperator}
+use Rattle.tcl_expr.specs.declared.operators.TextOperator.TheVariants as text_test
+use Rattle.tcl_expr.specs.declared.operators.ArithmeticOperator.{ArithmeticOperator}
+use Rattle.tcl_expr.specs.declared.operators.BinaryOperator.TheVariants as binary
+use Rattle.tcl_expr.specs.declared.operators.Infix.TheVariants.{And, Or, Binary}
+use Rattle.tcl_expr.specs.declared.tokens.Mark.{Mark}
+use Rattle.tcl_expr.specs.declared.tokens.Mark.TheVariants as mark
+use Rattle.tcl_expr.specs.declared.tokens.Link.{Link}
+use Rattle.tcl_expr.specs.declared.tokens.Link.TheVariants as link
+
+-- ── bytes ──
+
+abbrev pub is_digit : ℕ → Bool
+is_digit b = nat_le 48 b && nat_le b 57
+
+abbrev pub is_alphabetic : ℕ → Bool
+is_alphabetic b = (nat_le 97 b && nat_le b 122) || (nat_le 65 b && nat_le b 90)
+
+-- a letter, a digit or `_`
+abbrev pub is_name_byte : ℕ → Bool
+is_name_byte b = is_alphabetic b || is_digit b || b == 95
+
+-- what a byte can begin
+unfoldable pub mark_of : ℕ → Mark
+mark_of b =
+    if b == 32 || (nat_le 9 b && nat_le b 13) then mark.White
+    else if b == 43 then mark.Plus
+    else if b == 45 then mark.Minus
+    else if b == 42 then mark.Star
+    else if b == 47 then mark.Slash
+    else if b == 37 then mark.Percent
+    else if b == 60 then mark.Less
+    else if b == 62 then mark.Greater
+    else if b == 61 then mark.Equals
+    else if b == 33 then mark.Bang
+    else if b == 38 then mark.Ampersand
+    else if b == 124 then mark.Bar
+    else if b == 94 then mark.Caret
+    else if b == 126 then mark.Tilde
+    else if b == 63 then mark.Question
+    else if b == 58 then mark.Colon
+    else if b == 40 then mark.OpenParen
+    else if b == 41 then mark.CloseParen
+    else if b == 36 then mark.Dollar
+    else if b == 123 then mark.OpenBrace
+    else if b == 34 then mark.Quote
+    else if b == 91 then mark.OpenBracket
+    else if b == 92 then mark.Backslash
+    else if is_digit b then mark.Digit
+    else if is_alphabetic b then mark.Letter
+    else mark.Other
+
+abbrev pub first_mark : List ℕ → Mark
+first_mark [] = mark.Other
+first_mark (b ∷ text) = mark_of b
+
+abbrev pub begins_newline : List ℕ → Bool
+begins_newline [] = false
+begins_newline (b ∷ text) = b == 10
+
+abbrev pub begins_letter : List ℕ → Bool
+begins_letter [] = false
+begins_letter (b ∷ text) = is_alphabetic b
+
+abbrev pub begins_name_byte : List ℕ → Bool
+begins_name_byte [] = false
+begins_name_byte (b ∷ text) = is_name_byte b
+
+-- how many bytes of a name stand in front
+abbrev pub name_bytes : List ℕ → ℕ
+name_bytes [] = 0
+name_bytes (b ∷ text) = if is_name_byte b then suc (name_bytes text) else 0
+
+-- ── operators ──
+
+abbrev pub arithmetic_link : ArithmeticOperator → Link
+arithmetic_link operator = link.Infix (Binary (binary.Arithmetic operator))
+
+abbrev pub comparison_link : Comparison → Link
+comparison_link operator = link.Infix (Binary (binary.Comparison operator))
+
+abbrev pub text_link : TextOperator → Link
+text_link operator = link.Infix (Binary (binary.Text operator))
+
+-- an operator word ends before a byte that is no letter
+abbrev pub is_word : List ℕ → List ℕ → Bool
+is_word word text = starts_with nat_eq text word && not (begins_letter (drop 2 text))
+
+abbrev pub word_link : List ℕ → Option (Link × ℕ)
+word_link text =
+    if is_word (codes "eq") text then Some (text_link text_test.Same, 2)
+    else if is_word (codes "ne") text then Some (text_link text_test.Different, 2)
+    else if is_word (codes "in") text then Some (text_link text_test.In, 2)
+    else if is_word (codes "ni") text then Some (text_link text_test.NotIn, 2)
+    else None
+
+-- the operators that begin alike: as long as can be
+abbrev pub less_link : Mark → Link × ℕ
+less_link mark.Less = (arithmetic_link ShiftLeft, 2)
+less_link mark.Equals = (comparison_link comparison.LessOrEqual, 2)
+less_link _ = (comparison_link comparison.Less, 1)
+
+abbrev pub greater_link : Mark → Link × ℕ
+greater_link mark.Greater = (arithmetic_link ShiftRight, 2)
+greater_link mark.Equals = (comparison_link comparison.GreaterOrEqual, 2)
+greater_link _ = (comparison_link comparison.Greater, 1)
+
+abbrev pub and_link : Mark → Link × ℕ
+and_link mark.Ampersand = (link.Infix And, 2)
+and_link _ = (arithmetic_link BitAnd, 1)
+
+abbrev pub or_link : Mark → Link × ℕ
+or_link mark.Bar = (link.Infix Or, 2)
+or_link _ = (arithmetic_link BitOr, 1)
+
+abbrev pub equals_link : Comparison → Mark → Option (Link × ℕ)
+equals_link operator mark.Equals = Some (comparison_link operator, 2)
+equals_link operator _ = None
+
+-- the operator in front of a text that begins with a byte of this kind, and how long it is
+abbrev pub link_by : Mark → List ℕ → List ℕ → Option (Link × ℕ)
+link_by mark.Plus text behind = Some (arithmetic_link Add, 1)
+link_by mark.Minus text behind = Some (arithmetic_link Subtract, 1)
+link_by mark.Star text behind = Some (arithmetic_link Multiply, 1)
+link_by mark.Slash text behind = Some (arithmetic_link Divide, 1)
+link_by mark.Percent text behind = Some (arithmetic_link Remainder, 1)
+link_by mark.Caret text behind = Some (arithmetic_link BitXor, 1)
+link_by mark.Less text behind = Some (less_link (first_mark behind))
+link_by mark.Greater text behind = Some (greater_link (first_mark behind))
+link_by mark.Ampersand text behind = Some (and_link (first_mark behind))
+link_by mark.Bar text behind = Some (or_link (first_mark behind))
+link_by mark.Equals text behind = equals_link comparison.Same (first_mark behind)
+link_by mark.Bang text behind = equals_link comparison.Different (first_mark behind)
+link_by mark.Question text behind = Some (link.Question, 1)
+link_by mark.Colon text behind = Some (link.Colon, 1)
+link_by mark.CloseParen text behind = Some (link.Close, 1)
+link_by mark.Letter text behind = word_link text
+link_by _ text behind = None
+
+abbrev pub link_at : List ℕ → Option (Link × ℕ)
+link_at [] = None
+link_at (b ∷ behind) = link_by (mark_of b) (b ∷ behind) behind
+
+-- ── operands ──
+
+-- how many digits of a base stand in front
+abbrev pub digits : ℕ → List ℕ → ℕ
+digits base [] = 0
+digits base (b ∷ text) = if nat_lt (digit_value b) base then suc (digits base text) else 0
+
+-- `0` and the letter of a base with at least one digit, or else octal digits
+abbrev pub based_or : List ℕ → ℕ → ℕ
+based_or text zero = suc (digits 8 text)
+based_or text (suc n) = suc n + 2
+
+abbrev pub past_zero_by : Option ℕ → List ℕ → List ℕ → ℕ
+past_zero_by (Some base) text behind = based_or text (digits base behind)
+past_zero_by None text behind = suc (digits 8 text)
+
+abbrev pub past_zero : List ℕ → ℕ
+past_zero [] = 1
+past_zero (b ∷ behind) = past_zero_by (base_named b) (b ∷ behind) behind
+
+-- how long the number in front of a text is that begins with a digit: as long as can be
+abbrev pub number_length : List ℕ → ℕ
+number_length [] = 0
+number_length (b ∷ text) = if b == 48 then past_zero text else digits 10 (b ∷ text)
+
+-- a number ends before a byte that is none of a name, or before an operator word
+abbrev pub ends_number : List ℕ → Bool
+ends_number behind = not (begins_name_byte behind) || is_link (word_link behind)
+  where
+    is_link : Option (Link × ℕ) → Bool
+    is_link (Some found) = true
+    is_link None = false

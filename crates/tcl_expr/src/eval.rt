@@ -1,0 +1,147 @@
+ghost use Rattle.std.specs.Prelude.{◌≡◌, IfOk};
+ghost use Rattle.tcl_expr.specs.Machine.{Halts};
+ghost use Rattle.tcl_expr.specs.Reading.{compiled};
+ghost use Rattle.tcl_expr.specs.Evaluation.{Repeats, state_after, steps_in, with_given};
+
+use crate::ask::Ask;
+use crate::expr::Expr;
+use crate::fault::EvalFault;
+use crate::machine::{Halt, run};
+use crate::operands::Operands;
+use crate::state::State;
+use crate::value::Value;
+use std::alloc::{AllocError, Global};
+use std::marker::Model;
+use tcl_text::Text;
+
+/// The evaluation of an expression, which stops where something has to be asked and goes on once it is answered.
+#[derive(Drop)]
+pub struct Eval {
+    alloc: Global,
+    expr: Expr,
+    place: usize,
+    stack: Operands,
+    state: State,
+}
+
+impl Model for Eval {
+    ghost use Rattle.tcl_expr.specs.Evaluation.{Evaluation, evaluation_at};
+    ghost use Rattle.tcl_expr.specs.Reading.{compiled};
+
+    ghost Value = { Evaluation };
+
+    ghost view = { λ e. evaluation_at e.place (compiled e.expr) e.stack e.state };
+}
+
+/// Goes on from a place, with the answer to what was asked.
+fn go_on(
+    alloc: Global,
+    expr: &Expr,
+    place: usize,
+    stack: &mut Operands,
+    given: Option<Text>,
+) -> Result<Halt, EvalFault>
+    ensures { Halts (steps_in (compiled expr.now)) place (with_given given stack.old) result stack.new }
+{
+    if let Some(text) = given {
+        stack.push(Value::Words(text))?;
+    }
+    let halt = run(alloc, stack, expr.steps(), place)?;
+    Ok(halt)
+}
+
+/// The state once this is told.
+fn state_of(ask: &Ask) -> Result<State, AllocError>
+    ensures { IfOk result (λ state. state ≡ state_after ask.now) }
+{
+    match ask {
+        Ask::Value(text) => {
+            let text = text.copy()?;
+            Ok(State::Ended(text))
+        }
+        _ => Ok(State::Waiting),
+    }
+}
+
+/// What is told again in a state, if all is told.
+fn repeated(state: &State) -> Option<Result<Ask, EvalFault>>
+    ensures { Repeats state.now result }
+{
+    match state {
+        State::Ended(text) => match text.copy() {
+            Ok(text) => Some(Ok(Ask::Value(text))),
+            Err(_refused) => Some(Err(EvalFault::NoMemory)),
+        },
+        State::Failed(fault) => Some(Err(fault.copied())),
+        _ => None,
+    }
+}
+
+impl Eval {
+    ghost use Rattle.std.specs.Prelude.{◌≡◌, ◌⊎◌, [], Option, is_some, Ok, IfOk};
+    ghost use Rattle.tcl_expr.specs.declared.state.State.TheVariants.{Failed, Ready};
+    ghost use Rattle.tcl_expr.specs.declared.fault.EvalFault.TheVariants.{NoMemory};
+    ghost use Rattle.tcl_expr.specs.Evaluation.{Tells, evaluation_at, told, is_waiting, to_come, with_given};
+    ghost use Rattle.tcl_expr.specs.Machine.{AsksBy};
+    ghost use Rattle.tcl_expr.specs.Reading.{tree_of, compiled};
+    ghost use Rattle.tcl_expr.specs.Trees.{Tree, evaluation};
+
+    /// The evaluation of an expression, from its beginning. It takes no memory.
+    pub fn new(alloc: Global, expr: Expr) -> Eval
+        ensures value { (tree : Tree) → tree_of expr ≡ Ok tree → told result None ≡ evaluation tree }
+        ensures ready { result.state ≡ Ready }
+        ensures whole { result ≡ evaluation_at 0 (compiled expr) [] Ready }
+    {
+        Eval {
+            alloc,
+            expr,
+            place: 0,
+            stack: Operands::new(alloc),
+            state: State::Ready,
+        }
+    }
+
+    /// It ends with a fault, and answers that from now on, or `NoMemory` where the fault's text can't be shared.
+    fn fail(&mut self, fault: EvalFault) -> Result<Ask, EvalFault>
+        ensures { (result ≡ Err fault) × (self.new.state ≡ Failed fault) ⊎ (result ≡ Err NoMemory) × (self.new.state ≡ Failed NoMemory) }
+    {
+        match fault.copied() {
+            EvalFault::NoMemory => {
+                self.state = State::Failed(EvalFault::NoMemory);
+                Err(EvalFault::NoMemory)
+            }
+            copy => {
+                self.state = State::Failed(copy);
+                Err(fault)
+            }
+        }
+    }
+
+    /// Goes on until something is asked, or to the end. Where the last answer asked for something, and only there, its text is
+    /// given. After a value or a fault that is answered again, and after `NoMemory` that.
+    pub fn resume(&mut self, given: Option<Text>) -> Result<Ask, EvalFault>
+        requires { is_some given ≡ is_waiting self.old.state }
+        ensures tells { Tells (told self.old given) result self.new }
+        ensures asks { IfOk result (λ ask. AsksBy self.old.steps ask self.new.steps) }
+    {
+        if let Some(answer) = repeated(&self.state) {
+            return match answer {
+                Ok(ask) => Ok(ask),
+                Err(fault) => self.fail(fault),
+            };
+        }
+        match go_on(self.alloc, &self.expr, self.place, &mut self.stack, given) {
+            Ok(halt) => {
+                self.place = halt.place;
+                match state_of(&halt.ask) {
+                    Ok(state) => {
+                        self.state = state;
+                        Ok(halt.ask)
+                    }
+                    Err(_refused) => self.fail(EvalFault::NoMemory),
+                }
+            }
+            Err(fault) => self.fail(fault),
+        }
+    }
+}

@@ -1,0 +1,69 @@
+use crate::step::Step;
+use std::alloc::{AllocError, Global};
+use std::marker::Model;
+use std::rc::Rc;
+use tcl_text::Text;
+
+/// An expression, read and shared by its copies. Contracts see its source alone, of which the steps are those of its tree.
+#[derive(Drop)]
+pub struct Expr {
+    parsed: Rc<ParsedExpr>,
+}
+
+#[derive(Drop)]
+struct ParsedExpr {
+    text: Text,
+    steps: Vec<Step>,
+}
+
+impl Model for Expr {
+    ghost use Rattle.std.specs.Prelude.{ℕ, List};
+
+    ghost Value = { List ℕ };
+
+    ghost use Rattle.std.specs.Prelude.{◌≡◌, Ok};
+    ghost use Rattle.tcl_expr.specs.Reading.{compiled};
+
+    ghost view = { λ e. e.parsed.value.text };
+
+    ghost invariant = { λ e. compiled e.parsed.value.text ≡ Ok e.parsed.value.steps.items };
+}
+
+impl Expr {
+    ghost use Rattle.std.specs.Prelude.{◌≡◌, Ok, IfOk, IsOk};
+    ghost use Rattle.tcl_expr.specs.Reading.{compiled, tree_of};
+
+    /// An expression of this text, of which these are the steps.
+    pub(crate) fn new(alloc: Global, text: Text, steps: Vec<Step>) -> Result<Expr, AllocError>
+        requires { compiled text ≡ Ok steps.items }
+        ensures { IfOk result (λ expr. expr ≡ text) }
+    {
+        Ok(Expr {
+            parsed: Rc::new(alloc, ParsedExpr { text, steps })?,
+        })
+    }
+
+    /// The source, which has a tree.
+    pub fn text(&self) -> &Text
+        ensures text { result.now ≡ self.now }
+        ensures tree { IsOk (tree_of self.now) }
+    {
+        &self.parsed.text
+    }
+
+    /// The steps.
+    pub(crate) fn steps(&self) -> &[Step]
+        ensures { compiled self.now ≡ Ok result.now }
+    {
+        self.parsed.steps.as_slice()
+    }
+
+    /// The same expression, shared.
+    pub fn copy(&self) -> Result<Expr, AllocError>
+        ensures { IfOk result (λ expr. expr ≡ self.now) }
+    {
+        Ok(Expr {
+            parsed: self.parsed.clone()?,
+        })
+    }
+}

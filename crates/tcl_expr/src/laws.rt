@@ -1,0 +1,37 @@
+//! Laws of the definitions, as contracts of functions that do nothing.
+ghost use Rattle.std.specs.Prelude.{◌≡◌, ◌≢◌, ◌↔◌, ℕ, ℤ, pos, List, Ok, Err};
+ghost use Rattle.tcl_expr.specs.Arithmetic.{floor_quotient, floor_remainder, IsFloorDivision};
+ghost use Rattle.tcl_expr.specs.Grammar.{IsTreeOf, IsFaultOf, OneTreeOrFault};
+ghost use Rattle.tcl_expr.specs.Machine.{WeighsLess};
+ghost use Rattle.tcl_expr.specs.Reading.{tree_of};
+ghost use Rattle.tcl_expr.specs.Trees.{Tree};
+ghost use Rattle.tcl_expr.specs.declared.fault.ExprFault.{ExprFault as Fault};
+
+/// The quotient that is rounded down and the remainder with the divisor's sign are those of a division.
+#[tactic(auto, using(crate::proofs::FloorLemmas::floor_division))]
+pub fn quotients_round_down()
+    ensures { (a b : ℤ) → b ≢ pos 0 → IsFloorDivision a b (floor_quotient a b) (floor_remainder a b) }
+{}
+
+/// An evaluation that is resumed uses its steps up: however an interpreter weighs them, as by what a script in brackets may cost it,
+/// what is asked and what is left weigh no more than what was left before.
+#[tactic(auto, using(crate::proofs::StepLemmas::weighs_less))]
+pub fn questions_use_steps_up()
+    ensures { WeighsLess }
+{}
+
+/// `tree_of` gives a tree exactly where the grammar relates it to the text.
+pub fn trees_are_read()
+    ensures { (text : List ℕ) (tree : Tree) → IsTreeOf text tree ↔ (tree_of text ≡ Ok tree) }
+{}
+
+/// `tree_of` gives a fault exactly where the grammar relates it to the text.
+pub fn faults_are_told()
+    ensures { (text : List ℕ) (fault : Fault) → IsFaultOf text fault ↔ (tree_of text ≡ Err fault) }
+{}
+
+/// A text is an expression with one tree, or has one fault.
+#[tactic(auto, using(crate::proofs::GrammarLaws::one_tree_or_fault))]
+pub fn one_tree_or_fault()
+    ensures { OneTreeOrFault }
+{}

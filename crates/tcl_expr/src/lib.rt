@@ -1,0 +1,37 @@
+//! Tcl expressions, read once and evaluated step by step.
+#![tactic(auto)]
+
+mod arithmetic;
+mod ask;
+mod braces;
+mod eval;
+mod expr;
+mod fault;
+mod laws;
+mod machine;
+mod message;
+mod open;
+mod operands;
+mod operators;
+mod parse;
+mod parser;
+mod reader;
+mod state;
+mod step;
+mod substitution;
+mod tokens;
+mod value;
+
+pub use ask::Ask;
+pub use eval::Eval;
+pub use expr::Expr;
+pub use fault::{EvalFault, ExprFault};
+pub use laws::{
+    faults_are_told, one_tree_or_fault, questions_use_steps_up, quotients_round_down,
+    trees_are_read,
+};
+pub use operators::{
+    ArithmeticOperator, BinaryOperator, Comparison, Infix, NumberOperator, TextOperator,
+    UnaryOperator,
+};
+pub use parse::parse_expr;

@@ -1,0 +1,137 @@
+//! What an application is told of a fault.
+ghost use Rattle.std.specs.Prelude.{◌≡◌, ◌≤◌, ◌++◌, length, codes, IfOk};
+ghost use Rattle.tcl_expr.specs.Messages.{message, limit_text, unary_name, arithmetic_name, operator_name};
+ghost use Rattle.tcl_text.specs.Splitting.{fault_text};
+
+use crate::fault::{EvalFault, ExprFault};
+use crate::operators::{ArithmeticOperator, NumberOperator, UnaryOperator};
+use std::alloc::{AllocError, Global};
+use tcl_text::{ListFault, Text, TextFault};
+
+/// A text of these characters, which are few enough.
+fn fixed(alloc: Global, characters: &str) -> Result<Text, AllocError>
+    requires { length characters.now ≤ 65536 }
+    ensures { IfOk result (λ text. text ≡ characters.now) }
+{
+    match Text::new(alloc, characters) {
+        Ok(text) => Ok(text),
+        Err(_) => Err(AllocError),
+    }
+}
+
+/// The text that stands in place of one past 65,536 bytes.
+fn limit(alloc: Global) -> Result<Text, AllocError>
+    ensures { IfOk result (λ text. text ≡ limit_text) }
+{
+    fixed(alloc, "limit reached: value")
+}
+
+/// A message about a subject, between what stands before it and a quote.
+fn message_about(alloc: Global, before: &str, subject: &str) -> Result<Text, AllocError>
+    ensures { IfOk result (λ text. text ≡ message (before.now ++ subject.now ++ codes "\"")) }
+{
+    let mut characters = String::from_str(alloc, before)?;
+    characters.push_str(subject)?;
+    characters.push_str("\"")?;
+    match Text::new(alloc, characters.as_str()) {
+        Ok(text) => Ok(text),
+        Err(TextFault::TooLong) => limit(alloc),
+        Err(TextFault::NoMemory) => Err(AllocError),
+    }
+}
+
+fn unary_name(operator: UnaryOperator) -> &'static str
+    ensures { result.now ≡ unary_name operator }
+{
+    match operator {
+        UnaryOperator::Negate => "-",
+        UnaryOperator::Keep => "+",
+        UnaryOperator::Complement => "~",
+        UnaryOperator::Not => "!",
+    }
+}
+
+fn arithmetic_name(operator: ArithmeticOperator) -> &'static str
+    ensures { result.now ≡ arithmetic_name operator }
+{
+    match operator {
+        ArithmeticOperator::Multiply => "*",
+        ArithmeticOperator::Divide => "/",
+        ArithmeticOperator::Remainder => "%",
+        ArithmeticOperator::Add => "+",
+        ArithmeticOperator::Subtract => "-",
+        ArithmeticOperator::ShiftLeft => "<<",
+        ArithmeticOperator::ShiftRight => ">>",
+        ArithmeticOperator::BitAnd => "&",
+        ArithmeticOperator::BitXor => "^",
+        ArithmeticOperator::BitOr => "|",
+    }
+}
+
+fn operator_name(operator: NumberOperator) -> &'static str
+    ensures { result.now ≡ operator_name operator }
+{
+    match operator {
+        NumberOperator::Unary(operator) => unary_name(operator),
+        NumberOperator::Arithmetic(operator) => arithmetic_name(operator),
+    }
+}
+
+fn list_message(fault: ListFault) -> &'static str
+    ensures text { result.now ≡ fault_text fault }
+    ensures short { length result.now ≤ 65536 }
+{
+    match fault {
+        ListFault::OpenBrace => "unmatched open brace in list",
+        ListFault::OpenQuote => "unmatched open quote in list",
+        ListFault::ExtraCharacters => "extra characters after list element",
+    }
+}
+
+impl ExprFault {
+    ghost use Rattle.std.specs.Prelude.{◌≡◌, IfOk};
+    ghost use Rattle.tcl_expr.specs.Messages.{parse_message};
+
+    /// The fault of a text as an application is told of it. Refused memory has no such text: it is empty.
+    pub fn text(&self, alloc: Global, source: &str) -> Result<Text, AllocError>
+        ensures { IfOk result (λ text. text ≡ parse_message source.now self.now) }
+    {
+        match self {
+            ExprFault::TooLong => limit(alloc),
+            ExprFault::MissingBrace => fixed(alloc, "missing close-brace"),
+            ExprFault::MissingBracket => fixed(alloc, "missing close-bracket"),
+            ExprFault::MissingQuote => fixed(alloc, "missing \""),
+            ExprFault::ExtraAfterBrace => fixed(alloc, "extra characters after close-brace"),
+            ExprFault::ExtraAfterQuote => fixed(alloc, "extra characters after close-quote"),
+            ExprFault::MissingParen => fixed(alloc, "missing )"),
+            ExprFault::Syntax => message_about(alloc, "syntax error in expression \"", source),
+            ExprFault::NoMemory => fixed(alloc, ""),
+        }
+    }
+}
+
+impl EvalFault {
+    ghost use Rattle.std.specs.Prelude.{◌≡◌, IfOk};
+    ghost use Rattle.tcl_expr.specs.Messages.{eval_message};
+
+    /// The fault as an application is told of it. Refused memory has no such text: it is empty.
+    pub fn text(&self, alloc: Global) -> Result<Text, AllocError>
+        ensures { IfOk result (λ text. text ≡ eval_message self.now) }
+    {
+        match self {
+            EvalFault::NotBoolean(text) => {
+                message_about(alloc, "expected boolean value but got \"", text.as_str())
+            }
+            EvalFault::BadList(fault) => fixed(alloc, list_message(*fault)),
+            EvalFault::TooLong => limit(alloc),
+            EvalFault::DivideByZero => fixed(alloc, "divide by zero"),
+            EvalFault::Overflow => fixed(alloc, "integer value too large to represent"),
+            EvalFault::NotNumber(operator) => message_about(
+                alloc,
+                "can't use non-numeric string as operand of \"",
+                operator_name(*operator),
+            ),
+            EvalFault::NoMemory => fixed(alloc, ""),
+        }
+    }
+}

@@ -1,0 +1,30 @@
+ghost use Rattle.std.specs.Prelude.{◌≡◌, IfOk, IfErr, IsOk};
+ghost use Rattle.tcl_expr.specs.Reading.{tree_of};
+ghost use Rattle.tcl_expr.specs.Standing.{IsFaultOrMemory};
+
+use crate::expr::Expr;
+use crate::fault::ExprFault;
+use crate::reader::read_all;
+use std::alloc::Global;
+use tcl_text::Text;
+
+/// How many bytes an expression has at most, as any text.
+const MAX_BYTES: usize = 65_536;
+
+/// Reads an expression whole, by the rules of expr(n). The first fault from the left is told.
+pub fn parse_expr(alloc: Global, source: &[u8]) -> Result<Expr, ExprFault>
+    ensures text { IfOk result (λ expr. expr ≡ source.now) }
+    ensures tree { IfOk result (λ _. IsOk (tree_of source.now)) }
+    ensures fault { IfErr result (λ fault. IsFaultOrMemory (tree_of source.now) fault) }
+{
+    if source.len() > MAX_BYTES {
+        return Err(ExprFault::TooLong);
+    }
+    let Ok(characters) = str::from_utf8(source) else {
+        return Err(ExprFault::TooLong);
+    };
+    let steps = read_all(alloc, characters)?;
+    let text = Text::new(alloc, characters)?;
+    let expr = Expr::new(alloc, text, steps)?;
+    Ok(expr)
+}

@@ -1,0 +1,171 @@
+ghost use Rattle.std.specs.Prelude.{◌≡◌, [], ◌∷◌, ◌++◌, drop, IfOk, OnOk, OnErr};
+ghost use Rattle.tcl_shapes.specs.Branches.{branch_of, choices_of, choices_from, arms_of, Follows, FollowsArm};
+
+use std::alloc::{AllocError, Global};
+use std::marker::Model;
+use tcl_text::Text;
+
+/// A body, behind its condition or pattern.
+#[derive(Drop)]
+pub struct Branch {
+    pub test: Text,
+    pub body: Text,
+}
+
+/// Branches in order.
+#[derive(Drop)]
+pub struct Branches {
+    list: Vec<Branch>,
+}
+
+impl Model for Branches {
+    ghost use Rattle.std.specs.Prelude.{List};
+    ghost use Rattle.tcl_shapes.specs.declared.branches.Branch.{Branch};
+
+    ghost Value = { List Branch };
+
+    ghost view = { λ b. b.list.items };
+}
+
+impl Branches {
+    fn new(alloc: Global) -> Branches
+        ensures { result ≡ [] }
+    {
+        Branches {
+            list: Vec::new(alloc),
+        }
+    }
+
+    fn push(&mut self, test: Text, body: Text) -> Result<(), AllocError>
+        ensures ok { OnOk result (self.new ≡ self.old ++ branch_of test body ∷ []) }
+        ensures err { OnErr result (self.new ≡ self.old) }
+    {
+        self.list.push(Branch { test, body })?;
+        Ok(())
+    }
+
+    /// The branches, in order.
+    pub fn as_slice(&self) -> &[Branch]
+        ensures { result.now ≡ self.now }
+    {
+        self.list.as_slice()
+    }
+}
+
+/// What `if` chooses from: its branches, and a last body.
+#[derive(Drop)]
+pub struct Choices {
+    pub branches: Branches,
+    pub otherwise: Option<Text>,
+}
+
+/// Where the words of `if` have come to.
+#[derive(Drop)]
+pub enum Clause {
+    /// A condition is next.
+    AtTest,
+    /// Behind a condition: `then` or a body is next.
+    AtThen(Text),
+    /// Behind `then`: a body is next.
+    AtBody(Text),
+    /// Behind a body.
+    Behind,
+    /// Behind `else`.
+    AtLast,
+    /// Behind the last body.
+    AtEnd(Text),
+}
+
+/// One more word of `if`; none where it doesn't fit. A body goes with its condition to the branches.
+fn next_clause(
+    branches: &mut Branches,
+    clause: Clause,
+    word: &Text,
+) -> Result<Option<Clause>, AllocError>
+    ensures { IfOk result (λ next. Follows clause word.now branches.old next branches.new) }
+{
+    match clause {
+        Clause::AtTest => Ok(Some(Clause::AtThen(word.copy()?))),
+        Clause::AtThen(test) => {
+            if word.as_str() == "then" {
+                return Ok(Some(Clause::AtBody(test)));
+            }
+            branches.push(test, word.copy()?)?;
+            Ok(Some(Clause::Behind))
+        }
+        Clause::AtBody(test) => {
+            branches.push(test, word.copy()?)?;
+            Ok(Some(Clause::Behind))
+        }
+        Clause::Behind => {
+            if word.as_str() == "elseif" {
+                Ok(Some(Clause::AtTest))
+            } else if word.as_str() == "else" {
+                Ok(Some(Clause::AtLast))
+            } else {
+                Ok(Some(Clause::AtEnd(word.copy()?)))
+            }
+        }
+        Clause::AtLast => Ok(Some(Clause::AtEnd(word.copy()?))),
+        Clause::AtEnd(_) => Ok(None),
+    }
+}
+
+/// What the words of `if` behind its name offer; none where they don't fit (if(n)).
+#[tactic(auto, unfolding(crate::specs::Branches::choices_of))]
+pub fn if_choices(alloc: Global, words: &[Text]) -> Result<Option<Choices>, AllocError>
+    ensures { IfOk result (λ choices. choices ≡ choices_of words.now) }
+{
+    let mut branches = Branches::new(alloc);
+    let mut clause = Clause::AtTest;
+    for word in words {
+        match next_clause(&mut branches, clause, word)? {
+            Some(next) => clause = next,
+            None => return Ok(None),
+        }
+    }
+    match clause {
+        Clause::Behind => Ok(Some(Choices {
+            branches,
+            otherwise: None,
+        })),
+        Clause::AtEnd(body) => Ok(Some(Choices {
+            branches,
+            otherwise: Some(body),
+        })),
+        _ => Ok(None),
+    }
+}
+
+/// One more item of the pairs of `switch`: a pattern is held until its body goes with it to the arms.
+fn next_arm(
+    arms: &mut Branches,
+    held: Option<Text>,
+    item: &Text,
+) -> Result<Option<Text>, AllocError>
+    ensures { IfOk result (λ next. FollowsArm held item.now arms.old next arms.new) }
+{
+    match held {
+        None => Ok(Some(item.copy()?)),
+        Some(pattern) => {
+            arms.push(pattern, item.copy()?)?;
+            Ok(None)
+        }
+    }
+}
+
+/// The pairs of `switch`; none where the last pattern has no body (switch(n)).
+#[tactic(auto, unfolding(crate::specs::Branches::arms_of))]
+pub fn switch_arms(alloc: Global, items: &[Text]) -> Result<Option<Branches>, AllocError>
+    ensures { IfOk result (λ arms. arms ≡ arms_of items.now) }
+{
+    let mut arms = Branches::new(alloc);
+    let mut held = None;
+    for item in items {
+        held = next_arm(&mut arms, held, item)?;
+    }
+    match held {
+        None => Ok(Some(arms)),
+        Some(_) => Ok(None),
+    }
+}

@@ -1,0 +1,177 @@
+ghost use Rattle.std.specs.Prelude.{◌≡◌, [], ◌∷◌, ◌++◌, map, length, IfOk, OnOk, OnErr};
+ghost use Rattle.std.specs.List.{list_any};
+ghost use Rattle.tcl_text.specs.Readings.{list_of};
+ghost use Rattle.tcl_shapes.specs.Groups.{group_named, group_of, groups_from, groups_of, has_body, next_place, advanced, has_more, FollowsGroup};
+
+use crate::texts::{fixed, list_fault};
+use std::alloc::{AllocError, Global};
+use std::marker::Model;
+use tcl_text::{SplitFault, Text, TextList};
+
+/// Names, and items of which so many are taken.
+#[derive(Drop)]
+pub struct Group {
+    pub names: TextList,
+    pub items: TextList,
+    pub next: usize,
+}
+
+/// Groups in order.
+#[derive(Drop)]
+pub struct Groups {
+    list: Vec<Group>,
+}
+
+impl Model for Groups {
+    ghost use Rattle.std.specs.Prelude.{List};
+    ghost use Rattle.tcl_shapes.specs.declared.groups.Group.{Group};
+
+    ghost Value = { List Group };
+
+    ghost view = { λ g. g.list.items };
+}
+
+impl Groups {
+    fn new(alloc: Global) -> Groups
+        ensures { result ≡ [] }
+    {
+        Groups {
+            list: Vec::new(alloc),
+        }
+    }
+
+    fn push(&mut self, group: Group) -> Result<(), AllocError>
+        ensures ok { OnOk result (self.new ≡ self.old ++ group ∷ []) }
+        ensures err { OnErr result (self.new ≡ self.old) }
+    {
+        self.list.push(group)?;
+        Ok(())
+    }
+
+    /// The groups, in order.
+    pub fn as_slice(&self) -> &[Group]
+        ensures { result.now ≡ self.now }
+    {
+        self.list.as_slice()
+    }
+
+    /// Whether a group has items left.
+    pub fn has_more(&self) -> bool
+        ensures { result ≡ list_any has_more self.now }
+    {
+        self.list
+            .as_slice()
+            .iter()
+            .any(|group| group.next < group.items.len())
+    }
+
+    /// Past the items of a turn.
+    pub fn advanced(self, alloc: Global) -> Result<Groups, AllocError>
+        ensures { IfOk result (λ groups. groups ≡ map advanced self) }
+    {
+        let Groups { list } = self;
+        let mut groups = Groups::new(alloc);
+        'turn: for group in list {
+            groups.push(past_turn(group))?;
+        }
+        Ok(groups)
+    }
+}
+
+fn past_turn(group: Group) -> Group
+    ensures { result ≡ advanced group }
+{
+    let Group { names, items, next } = group;
+    let next = next_place(names.len(), items.len(), next);
+    Group { names, items, next }
+}
+
+fn next_place(names: usize, items: usize, next: usize) -> usize
+    ensures { result ≡ next_place names items next }
+{
+    if next < items && names < items - next {
+        next + names
+    } else {
+        items
+    }
+}
+
+/// A list of items behind its names, or the error's text.
+fn group_named(
+    alloc: Global,
+    names: TextList,
+    items: &Text,
+) -> Result<Result<Group, Text>, AllocError>
+    ensures { IfOk result (λ group. group ≡ group_named names (list_of items.now)) }
+{
+    match items.split_list(alloc) {
+        Ok(items) => Ok(Ok(Group {
+            names,
+            items,
+            next: 0,
+        })),
+        Err(SplitFault::BadList(fault)) => Ok(Err(list_fault(alloc, fault)?)),
+        Err(SplitFault::NoMemory) => Err(AllocError),
+    }
+}
+
+/// A list of names and a list of items, or the error's text.
+fn group_of(alloc: Global, names: &Text, items: &Text) -> Result<Result<Group, Text>, AllocError>
+    ensures { IfOk result (λ group. group ≡ group_of (list_of names.now) (list_of items.now)) }
+{
+    match names.split_list(alloc) {
+        Ok(names) => {
+            if names.is_empty() {
+                return Ok(Err(fixed(alloc, "foreach varlist is empty")?));
+            }
+            let group = group_named(alloc, names, items)?;
+            Ok(group)
+        }
+        Err(SplitFault::BadList(fault)) => Ok(Err(list_fault(alloc, fault)?)),
+        Err(SplitFault::NoMemory) => Err(AllocError),
+    }
+}
+
+/// One more word of `foreach`: names are held until their items go with them to the groups.
+fn next_group(
+    alloc: Global,
+    groups: &mut Groups,
+    held: Option<Text>,
+    word: &Text,
+) -> Result<Result<Option<Text>, Text>, AllocError>
+    ensures { IfOk result (λ next. FollowsGroup held word.now groups.old next groups.new) }
+{
+    match held {
+        None => Ok(Ok(Some(word.copy()?))),
+        Some(names) => match group_of(alloc, &names, word)? {
+            Ok(group) => {
+                groups.push(group)?;
+                Ok(Ok(None))
+            }
+            Err(text) => Ok(Err(text)),
+        },
+    }
+}
+
+/// The names and items of `foreach`, up to a last word alone, or the first error's text (foreach(n)).
+#[tactic(auto, unfolding(crate::specs::Groups::groups_of))]
+pub fn foreach_groups(alloc: Global, words: &[Text]) -> Result<Result<Groups, Text>, AllocError>
+    ensures { IfOk result (λ groups. groups ≡ groups_of words.now) }
+{
+    let mut groups = Groups::new(alloc);
+    let mut held = None;
+    for word in words {
+        match next_group(alloc, &mut groups, held, word)? {
+            Ok(next) => held = next,
+            Err(text) => return Ok(Err(text)),
+        }
+    }
+    Ok(Ok(groups))
+}
+
+/// Whether a body stands behind names and items.
+pub fn has_body(words: &[Text]) -> bool
+    ensures { result ≡ has_body words.now }
+{
+    words.len() % 2 == 1
+}

@@ -1,0 +1,162 @@
+ghost use Rattle.std.specs.Prelude.{◌≡◌, [], ◌∷◌, ◌++◌, option_map, IfOk, OnOk, OnErr};
+ghost use Rattle.tcl_vars.specs.Name.{element_of};
+ghost use Rattle.tcl_text.specs.Readings.{list_of};
+ghost use Rattle.tcl_shapes.specs.Parameters.{has_colons, is_element, is_parameter_name, parameter_named, parameter_parts, parameter_of, parameters_of, parameters_in};
+
+use crate::texts::{fixed, list_fault};
+use std::alloc::{AllocError, Global};
+use std::marker::Model;
+use tcl_text::{SplitFault, Text};
+
+/// A parameter of a procedure, and its default.
+#[derive(Drop)]
+pub struct Parameter {
+    pub name: Text,
+    pub fallback: Option<Text>,
+}
+
+/// Parameters in order.
+#[derive(Drop)]
+pub struct Parameters {
+    list: Vec<Parameter>,
+}
+
+impl Model for Parameters {
+    ghost use Rattle.std.specs.Prelude.{List};
+    ghost use Rattle.tcl_shapes.specs.declared.parameters.Parameter.{Parameter};
+
+    ghost Value = { List Parameter };
+
+    ghost view = { λ p. p.list.items };
+}
+
+impl Parameters {
+    fn new(alloc: Global) -> Parameters
+        ensures { result ≡ [] }
+    {
+        Parameters {
+            list: Vec::new(alloc),
+        }
+    }
+
+    fn push(&mut self, parameter: Parameter) -> Result<(), AllocError>
+        ensures ok { OnOk result (self.new ≡ self.old ++ parameter ∷ []) }
+        ensures err { OnErr result (self.new ≡ self.old) }
+    {
+        self.list.push(parameter)?;
+        Ok(())
+    }
+
+    /// The parameters, in order.
+    pub fn as_slice(&self) -> &[Parameter]
+        ensures { result.now ≡ self.now }
+    {
+        self.list.as_slice()
+    }
+}
+
+fn has_colons(name: &[u8]) -> bool
+    ensures { result ≡ has_colons name.now }
+{
+    let mut rest = name;
+    'bytes: while let [_, behind @ ..] = rest {
+        if rest.starts_with(b"::") {
+            return true;
+        }
+        rest = behind;
+    }
+    false
+}
+
+/// The array and the index of a name `array(index)`.
+fn element_of<'a>(name: &'a str) -> Option<(&'a str, &'a str)>
+    ensures { option_map (λ p. (p.0.now, p.1.now)) result ≡ element_of name.now }
+{
+    name.strip_suffix(')')?.split_once('(')
+}
+
+fn is_element(name: &str) -> bool
+    ensures { result ≡ is_element name.now }
+{
+    element_of(name).is_some()
+}
+
+fn is_parameter_name(name: &Text) -> bool
+    ensures { result ≡ is_parameter_name name.now }
+{
+    let characters = name.as_str();
+    !(characters.is_empty() || is_element(characters) || has_colons(characters.as_bytes()))
+}
+
+fn parameter_named(
+    alloc: Global,
+    name: &Text,
+    fallback: Option<Text>,
+) -> Result<Result<Parameter, Text>, AllocError>
+    ensures { IfOk result (λ parameter. parameter ≡ parameter_named name.now fallback) }
+{
+    if is_parameter_name(name) {
+        Ok(Ok(Parameter {
+            name: name.copy()?,
+            fallback,
+        }))
+    } else {
+        Ok(Err(fixed(alloc, "bad parameter list")?))
+    }
+}
+
+fn parameter_parts(alloc: Global, parts: &[Text]) -> Result<Result<Parameter, Text>, AllocError>
+    ensures { IfOk result (λ parameter. parameter ≡ parameter_parts parts.now) }
+{
+    match parts {
+        [name] => {
+            let parameter = parameter_named(alloc, name, None)?;
+            Ok(parameter)
+        }
+        [name, fallback] => {
+            let parameter = parameter_named(alloc, name, Some(fallback.copy()?))?;
+            Ok(parameter)
+        }
+        _ => Ok(Err(fixed(alloc, "bad parameter list")?)),
+    }
+}
+
+/// A parameter as a list of its name and perhaps a default, or the error's text.
+fn parameter_of(alloc: Global, item: &Text) -> Result<Result<Parameter, Text>, AllocError>
+    ensures { IfOk result (λ parameter. parameter ≡ parameter_of (list_of item.now)) }
+{
+    match item.split_list(alloc) {
+        Ok(parts) => {
+            let parameter = parameter_parts(alloc, parts.as_slice())?;
+            Ok(parameter)
+        }
+        Err(SplitFault::BadList(fault)) => Ok(Err(list_fault(alloc, fault)?)),
+        Err(SplitFault::NoMemory) => Err(AllocError),
+    }
+}
+
+/// The parameters that items give, or the first error's text.
+fn parameters_of(alloc: Global, items: &[Text]) -> Result<Result<Parameters, Text>, AllocError>
+    ensures { IfOk result (λ parameters. parameters ≡ parameters_of items.now) }
+{
+    let mut parameters = Parameters::new(alloc);
+    for item in items {
+        match parameter_of(alloc, item)? {
+            Ok(parameter) => parameters.push(parameter)?,
+            Err(text) => return Ok(Err(text)),
+        }
+    }
+    Ok(Ok(parameters))
+}
+
+/// The parameters that a list gives, or the error's text.
+#[tactic(auto, unfolding(crate::specs::Parameters::parameters_in))]
+pub fn parameters_in(alloc: Global, list: &Text) -> Result<Result<Parameters, Text>, AllocError>
+    ensures { IfOk result (λ parameters. parameters ≡ parameters_in (list_of list.now)) }
+{
+    match list.split_list(alloc) {
+        Ok(items) => parameters_of(alloc, items.as_slice()),
+        Err(SplitFault::BadList(fault)) => Ok(Err(list_fault(alloc, fault)?)),
+        Err(SplitFault::NoMemory) => Err(AllocError),
+    }
+}

@@ -1,0 +1,69 @@
+-- A map under text keys does what the list of its named entries says.
+use Rattle.std.proofs.Common.{◌≡◌, ℕ, zero, suc, ◌<◌, Bool, true, false, cond, List, [], ◌∷◌, length, get_or, Option, None, Some, is_some, slice_get, position, String, string_bytes, string_eq, bytes_eq, refl, sym, ap, ◌∙◌, arith}
+use Rattle.std.proofs.lemmas.List.Quantifiers.{position-Some}
+use Rattle.std.specs.Map.{keys_of, lookup, remove_entry}
+use Rattle.indexmap.specs.IndexMap.{insert_entry, set_value_at}
+use Rattle.tcl_table.specs.Named.{named}
+
+-- the test by which a map finds the key with these bytes
+abbrev pub is_key : {Z : Type 0} → List ℕ → String Z → Bool
+is_key name k = bytes_eq name (string_bytes k)
+
+module _ {Z V : Type 0} where
+  pub lookup-named : (name : List ℕ) (es : List (String Z × V)) → lookup (bytes_eq name) (named es) ≡ lookup (is_key name) es
+  lookup-named name [] = refl
+  lookup-named name (e ∷ es) = ap (cond (is_key name e.0) (Some e.1)) (lookup-named name es)
+
+  pub named-remove_entry : (name : List ℕ) (es : List (String Z × V)) → named (remove_entry (is_key name) es) ≡ remove_entry (bytes_eq name) (named es)
+  named-remove_entry name [] = refl
+  named-remove_entry name (e ∷ es) = by (is_key name e.0) (named-remove_entry name es)
+    where
+      by : (b : Bool) → named (remove_entry (is_key name) es) ≡ remove_entry (bytes_eq name) (named es)
+          → named (cond b es (e ∷ remove_entry (is_key name) es)) ≡ cond b (named es) ((string_bytes e.0, e.1) ∷ remove_entry (bytes_eq name) (named es))
+      by true rest = refl
+      by false rest = ap (λ l. (string_bytes e.0, e.1) ∷ l) rest
+
+  module _ (v : V) where
+    pub named-insert_entry : (k : String Z) (es : List (String Z × V)) → named (insert_entry string_eq es k v) ≡ insert_entry bytes_eq (named es) (string_bytes k) v
+    named-insert_entry k [] = refl
+    named-insert_entry k (e ∷ es) = by (string_eq k e.0) (named-insert_entry k es)
+      where
+        by : (b : Bool) → named (insert_entry string_eq es k v) ≡ insert_entry bytes_eq (named es) (string_bytes k) v
+            → named (cond b ((e.0, v) ∷ es) (e ∷ insert_entry string_eq es k v))
+            ≡ cond b ((string_bytes e.0, v) ∷ named es) ((string_bytes e.0, e.1) ∷ insert_entry bytes_eq (named es) (string_bytes k) v)
+        by true rest = refl
+        by false rest = ap (λ l. (string_bytes e.0, e.1) ∷ l) rest
+
+    module _ (name : List ℕ) where
+      at_first : (es : List (String Z × V)) (i : ℕ) (d : String Z) → i < length (keys_of es) → is_key name (get_or (keys_of es) i d) ≡ true
+          → ((j : ℕ) → j < i → is_key name (get_or (keys_of es) j d) ≡ false)
+          → named (set_value_at es i v) ≡ insert_entry bytes_eq (named es) name v
+      at_first [] i d within holds fails = absurd (omega arith)
+      at_first (e ∷ es) zero d within holds fails =
+          sym (ap (λ b. cond b ((string_bytes e.0, v) ∷ named es) ((string_bytes e.0, e.1) ∷ insert_entry bytes_eq (named es) name v)) holds)
+      at_first (e ∷ es) (suc i) d within holds fails =
+          let here : is_key name e.0 ≡ false = fails 0 (omega arith) in
+          ap (λ l. (string_bytes e.0, e.1) ∷ l) (at_first es i d (omega arith) holds (λ j h. fails (suc j) (omega arith)))
+          ∙ sym (ap (λ b. cond b ((string_bytes e.0, v) ∷ named es) ((string_bytes e.0, e.1) ∷ insert_entry bytes_eq (named es) name v)) here)
+
+      -- a write at the index where a name is found
+      pub named-set_value_at : (es : List (String Z × V)) (i : ℕ) → position (is_key name) (keys_of es) ≡ Some i → named (set_value_at es i v) ≡ insert_entry bytes_eq (named es) name v
+      named-set_value_at [] i found = absurd (cc)
+      named-set_value_at (e ∷ es) i found =
+          let it = position-Some (is_key name) (keys_of (e ∷ es)) i e.0 found in
+          at_first (e ∷ es) i e.0 it.0 it.1 it.2
+
+-- the entries after an insertion, in the words of the calls
+pub named-inserted : {Z V : Type 0} (name : List ℕ) (value : V) (key : String Z) (old new : List (String Z × V)) → string_bytes key ≡ name → new ≡ insert_entry string_eq old key value
+    → named new ≡ insert_entry bytes_eq (named old) name value
+named-inserted name value key old new same is = ap named is ∙ named-insert_entry value key old ∙ ap (λ n. insert_entry bytes_eq (named old) n value) same
+
+pub slice_get-named : {Z V : Type 0} (es : List (String Z × V)) (i : ℕ) (e : String Z × V) → slice_get es i ≡ Some e → slice_get (named es) i ≡ Some (string_bytes e.0, e.1)
+slice_get-named [] i e at = absurd (cc)
+slice_get-named (f ∷ fs) zero e at = let same : f ≡ e = cc in ap (λ x. Some (string_bytes x.0, x.1)) same
+slice_get-named (f ∷ fs) (suc i) e at = slice_get-named fs i e at
+
+-- a look-up that finds nothing
+pub none_of : {V : Type 0} (o : Option V) → false ≡ is_some o → None ≡ o
+none_of None h = refl
+none_of (Some x) h = absurd (cc)

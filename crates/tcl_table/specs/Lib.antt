@@ -1,0 +1,7 @@
+-- What the contracts cite.
+pub mod Levels
+pub mod Named
+pub mod Names
+pub mod Source
+pub mod Table
+pub mod Texts

@@ -1,0 +1,23 @@
+-- A script that is to be run.
+use Rattle.std.specs.Prelude.{◌≡◌, ℕ, List, Result, Err}
+use Rattle.tcl_words.specs.Reading.{commands_of}
+use Rattle.tcl_words.specs.declared.script.Command.{Command}
+use Rattle.tcl_words.specs.declared.fault.ParseFault.{ParseFault}
+use Rattle.tcl_table.specs.declared.source.SourceForm.{SourceForm}
+use Rattle.tcl_table.specs.declared.source.SourceForm.TheVariants.{Unread, Read, Faulty}
+
+-- the commands of a script, or its fault
+unfoldable pub script_of : List ℕ → Result (List Command) ParseFault
+script_of text = commands_of text
+
+-- the text of a script, however far it has been read
+abbrev pub source_text : SourceForm → List ℕ
+source_text (Unread text) = text
+source_text (Read script) = script
+source_text (Faulty text fault) = text
+
+-- where a fault is kept, it is the script's
+abbrev pub HasFault : SourceForm → Type 0
+HasFault (Unread text) = Unit {0}
+HasFault (Read script) = Unit {0}
+HasFault (Faulty text fault) = script_of text ≡ Err fault

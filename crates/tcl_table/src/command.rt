@@ -1,0 +1,210 @@
+ghost use Rattle.std.specs.Prelude.{◌≡◌, ◌≤◌, [], length, IfOk, OnOk, OnErr};
+ghost use Rattle.std.specs.Option.{option_copied};
+ghost use Rattle.indexmap.specs.IndexMap.{values};
+ghost use Rattle.tcl_table.specs.Names.{is_dotted, plain_name};
+ghost use Rattle.tcl_table.specs.Table.{builtins, variables, text_names, is_procedure, procedure_count, procedures_among, value_at, with_value, without, first_commands, with_builtins, with_texts, with_outside};
+
+use crate::builtin::Builtin;
+use crate::procedure::Procedure;
+use crate::texts::fixed;
+use indexmap::IndexMap;
+use std::alloc::{AllocError, Global};
+use std::marker::Model;
+use tcl_commands::VariableCommand;
+use tcl_text::Text;
+
+/// What a name calls.
+#[derive(Drop)]
+pub enum Command {
+    /// A command of this crate.
+    Builtin(Builtin),
+    /// The command on texts or lists that first had this name.
+    Texts(Text),
+    /// The outside command that first had this name.
+    Outside(Text),
+    /// A procedure.
+    Procedure(Procedure),
+}
+
+/// A command's name without a leading `::`.
+pub fn plain_name(name: &str) -> &str
+    ensures { result.now ≡ plain_name name.now }
+{
+    match name.strip_prefix("::") {
+        Some(rest) => rest,
+        None => name,
+    }
+}
+
+/// Whether a name begins with a dot.
+pub fn is_dotted(name: &str) -> bool
+    ensures { result ≡ is_dotted name.now }
+{
+    name.starts_with(".")
+}
+
+/// The commands by their names.
+#[derive(Drop)]
+pub struct CommandTable {
+    entries: IndexMap<String, Command>,
+    alloc: Global,
+}
+
+impl Model for CommandTable {
+    ghost use Rattle.std.specs.Prelude.{ℕ, List};
+    ghost use Rattle.tcl_table.specs.declared.command.Command.{Command};
+    ghost use Rattle.tcl_table.specs.Named.{named};
+
+    ghost Value = { List (List ℕ × Command) };
+
+    ghost view = { λ t. named t.entries.entries };
+}
+
+impl CommandTable {
+    /// No commands. It takes no memory.
+    fn new(alloc: Global) -> CommandTable
+        ensures { result ≡ [] }
+    {
+        CommandTable {
+            entries: IndexMap::new(alloc),
+            alloc,
+        }
+    }
+
+    /// The command of a name.
+    pub fn get(&self, name: &str) -> Option<&Command>
+        ensures { option_copied result ≡ value_at self.now name.now }
+    {
+        self.entries.get(name)
+    }
+
+    /// Gives a name a command.
+    pub fn insert(&mut self, name: &str, command: Command) -> Result<(), AllocError>
+        ensures ok { OnOk result (self.new ≡ with_value self.old name.now command) }
+        ensures err { OnErr result (self.new ≡ self.old) }
+    {
+        let name = String::from_str(self.alloc, name)?;
+        self.entries.insert(name, command)?;
+        Ok(())
+    }
+
+    /// Takes a name out, with its command.
+    pub fn remove(&mut self, name: &str) -> Option<Command>
+        ensures value { result ≡ value_at self.old name.now }
+        ensures rest { self.new ≡ without self.old name.now }
+    {
+        self.entries.shift_remove(name)
+    }
+
+    /// How many procedures there are.
+    pub fn procedures(&self) -> usize
+        ensures { result ≡ procedure_count self.now }
+    {
+        count_procedures(&self.entries)
+    }
+}
+
+fn count_procedures(commands: &IndexMap<String, Command>) -> usize
+    ensures { result ≡ procedures_among (values commands.now) }
+{
+    let mut count = 0;
+    for command in commands.values() {
+        if is_procedure(command) {
+            count += 1;
+        }
+    }
+    count
+}
+
+fn is_procedure(command: &Command) -> bool
+    ensures { result ≡ is_procedure command.now }
+{
+    matches!(command, Command::Procedure(_))
+}
+
+/// The commands at first, where outside commands have these names.
+#[tactic(auto, unfolding(crate::specs::Table::first_commands))]
+pub fn first_commands(alloc: Global, outside: &[Text]) -> Result<CommandTable, AllocError>
+    ensures { IfOk result (λ table. table ≡ first_commands outside.now) }
+{
+    let mut table = CommandTable::new(alloc);
+    add_builtins(&mut table)?;
+    add_texts(alloc, &mut table)?;
+    for name in outside {
+        table.insert(name.as_str(), Command::Outside(name.copy()?))?;
+    }
+    Ok(table)
+}
+
+fn add_builtins(table: &mut CommandTable) -> Result<(), AllocError>
+    ensures { OnOk result (table.new ≡ with_builtins variables (with_builtins builtins table.old)) }
+{
+    table.insert("break", Command::Builtin(Builtin::Break))?;
+    table.insert("catch", Command::Builtin(Builtin::Catch))?;
+    table.insert("continue", Command::Builtin(Builtin::Continue))?;
+    table.insert("error", Command::Builtin(Builtin::Error))?;
+    table.insert("eval", Command::Builtin(Builtin::Eval))?;
+    table.insert("expr", Command::Builtin(Builtin::Expr))?;
+    table.insert("for", Command::Builtin(Builtin::For))?;
+    table.insert("foreach", Command::Builtin(Builtin::Foreach))?;
+    table.insert("if", Command::Builtin(Builtin::If))?;
+    table.insert("info", Command::Builtin(Builtin::Info))?;
+    table.insert("proc", Command::Builtin(Builtin::Proc))?;
+    table.insert("rename", Command::Builtin(Builtin::Rename))?;
+    table.insert("return", Command::Builtin(Builtin::Return))?;
+    table.insert("switch", Command::Builtin(Builtin::Switch))?;
+    table.insert("uplevel", Command::Builtin(Builtin::Uplevel))?;
+    table.insert("upvar", Command::Builtin(Builtin::Upvar))?;
+    table.insert("while", Command::Builtin(Builtin::While))?;
+    add_variables(table)
+}
+
+fn add_variable(
+    table: &mut CommandTable,
+    name: &str,
+    command: VariableCommand,
+) -> Result<(), AllocError>
+    ensures { OnOk result (table.new ≡ with_value table.old name.now (Command.Builtin (Builtin.Variable command))) }
+{
+    table.insert(name, Command::Builtin(Builtin::Variable(command)))
+}
+
+fn add_variables(table: &mut CommandTable) -> Result<(), AllocError>
+    ensures { OnOk result (table.new ≡ with_builtins variables table.old) }
+{
+    add_variable(table, "set", VariableCommand::Set)?;
+    add_variable(table, "unset", VariableCommand::Unset)?;
+    add_variable(table, "incr", VariableCommand::Incr)?;
+    add_variable(table, "append", VariableCommand::Append)?;
+    add_variable(table, "lappend", VariableCommand::Lappend)?;
+    add_variable(table, "array", VariableCommand::Array)?;
+    add_variable(table, "global", VariableCommand::Global)?;
+    Ok(())
+}
+
+fn add_text(alloc: Global, table: &mut CommandTable, name: &str) -> Result<(), AllocError>
+    requires { length name.now ≤ 65536 }
+    ensures { OnOk result (table.new ≡ with_value table.old name.now (Command.Texts name.now)) }
+{
+    let first = fixed(alloc, name)?;
+    table.insert(name, Command::Texts(first))?;
+    Ok(())
+}
+
+fn add_texts(alloc: Global, table: &mut CommandTable) -> Result<(), AllocError>
+    ensures { OnOk result (table.new ≡ with_texts text_names table.old) }
+{
+    add_text(alloc, table, "list")?;
+    add_text(alloc, table, "llength")?;
+    add_text(alloc, table, "lindex")?;
+    add_text(alloc, table, "lrange")?;
+    add_text(alloc, table, "linsert")?;
+    add_text(alloc, table, "lreplace")?;
+    add_text(alloc, table, "lsearch")?;
+    add_text(alloc, table, "lsort")?;
+    add_text(alloc, table, "join")?;
+    add_text(alloc, table, "split")?;
+    add_text(alloc, table, "concat")?;
+    add_text(alloc, table, "string")?;
+    Ok(())
+}

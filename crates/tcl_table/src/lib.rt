@@ -1,0 +1,15 @@
+//! What the names of commands call, the levels that scripts see, scripts that are read once, and the texts of errors.
+#![tactic(auto)]
+
+mod builtin;
+mod command;
+mod levels;
+mod procedure;
+mod source;
+pub mod texts;
+
+pub use builtin::Builtin;
+pub use command::{Command, CommandTable, first_commands, is_dotted, plain_name};
+pub use levels::Levels;
+pub use procedure::Procedure;
+pub use source::Source;

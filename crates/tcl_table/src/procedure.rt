@@ -1,0 +1,9 @@
+use crate::source::Source;
+use tcl_shapes::Parameters;
+
+/// A procedure: its parameters, and its body, which is read when it is made.
+#[derive(Drop)]
+pub struct Procedure {
+    pub parameters: Parameters,
+    pub body: Source,
+}

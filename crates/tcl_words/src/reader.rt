@@ -1,0 +1,225 @@
+//! Reading of a script with all that stands within it, byte by byte and without recursion.
+
+ghost use Rattle.std.specs.Prelude.{◌≡◌, ◌<◌, ◌≤◌, ◌+◌, ◌-◌, ◌⊎◌, [], ◌∷◌, ◌^◌, suc, length, drop, take, true, Ok, Err, IfOk, IfErr, OnOk};
+ghost use Rattle.std.specs.Str.{IsCharBoundary};
+ghost use Rattle.tcl_words.specs.Reading.{commands_in, rest_of, outermost as outermost_level, opened_piece, first_skip};
+ghost use Rattle.tcl_words.specs.Parts.{IsOpenerCut, no_parts};
+ghost use Rattle.tcl_words.specs.Chain.{outset, own, opened as opened_origin, IsReading, IsOpening, IsEnding, IsParse, Goes};
+
+use crate::fault::ParseFault;
+use crate::kind::{Mode, Opener, Place, Step};
+use crate::nesting::{Origin, Reader, Waiting};
+use crate::open::{Open, text_of};
+use crate::read::{finish, read_byte, unfinished};
+use crate::script::{Command, Index, Piece, Pieces, Script};
+use std::alloc::Global;
+use std::mem;
+
+/// How many brackets and indices may stand within one another.
+const MAX_DEPTH: usize = 200;
+
+/// How a whole script begins.
+fn outermost() -> Origin
+    ensures { result ≡ outset }
+{
+    Origin {
+        base: 0,
+        inside: false,
+        room: MAX_DEPTH,
+        skip: 0,
+        place: Place::Start,
+    }
+}
+
+/// How what is opened at a place begins.
+pub fn opened(origin: Origin, at: usize, opener: Opener) -> Origin
+    requires room { 0 < origin.room }
+    requires within { origin.base + at < 65536 }
+    requires name { first_skip opener ≤ 65536 }
+    ensures { result ≡ opened_origin origin at opener }
+{
+    let (skip, place) = match opener {
+        Opener::Bracket => (0, Place::Start),
+        Opener::Index(count) => (count + 1, Place::Text(Mode::Parens)),
+    };
+    Origin {
+        base: origin.base + (at + 1),
+        inside: true,
+        room: origin.room - 1,
+        skip,
+        place,
+    }
+}
+
+/// The piece whose opener stands at a place of the source, and that ends so many bytes behind it.
+pub fn piece_of(
+    alloc: Global,
+    source: &str,
+    at: usize,
+    close: usize,
+    opener: Opener,
+    parts: Open,
+) -> Result<Piece, ParseFault>
+    requires short { length source.now ≤ 65536 }
+    requires cut { IsOpenerCut source.now at opener }
+    requires ends { IsCharBoundary source.now (at + 1 + close) }
+    requires parse { IsParse opener (drop (at + 1) source.now) close parts }
+    ensures ok { IfOk result (λ piece. piece ≡ opened_piece opener (drop (at + 1) source.now) close) }
+    ensures fault { IfErr result (λ fault. fault ≡ ParseFault.NoMemory) }
+{
+    let base = at + 1;
+    match opener {
+        Opener::Bracket => {
+            let text = text_of(alloc, source, base, base + close)?;
+            let script = Script::new(alloc, text, parts.into_commands())?;
+            Ok(Piece::Bracket(script))
+        }
+        Opener::Index(count) => {
+            let name = text_of(alloc, source, base, base + count)?;
+            let text = text_of(alloc, source, base + count + 1, base + close)?;
+            let index = Index::new(alloc, text, Pieces::from_vec(parts.into_pieces()))?;
+            Ok(Piece::Element(name, index))
+        }
+    }
+}
+
+impl Reader {
+    /// What begins so, of which nothing is read yet.
+    pub fn new(alloc: Global, first: Origin) -> Reader
+        ensures first { result.first ≡ first }
+        ensures waiting { result.waiting.items ≡ [] }
+        ensures origin { result.origin ≡ first }
+        ensures parts { result.parts ≡ no_parts first.skip }
+        ensures place { result.place ≡ first.place }
+        ensures next { result.next ≡ first.skip }
+    {
+        Reader {
+            first,
+            waiting: Vec::new(alloc),
+            origin: first,
+            parts: Open::new(alloc, first.skip),
+            place: first.place,
+            next: first.skip,
+        }
+    }
+
+    /// A bracket or a parenthesis opens at the next byte.
+    fn open_within(
+        &mut self,
+        alloc: Global,
+        source: &str,
+        opener: Opener,
+        mode: Mode,
+    ) -> Result<(), ParseFault>
+        requires short { length source.now ≤ 65536 }
+        requires opening { IsOpening self.old.first source.now self.old.waiting.items self.old.origin self.old.parts self.old.next opener mode }
+        ensures ok { OnOk result (IsReading self.old.first source.now self.new.waiting.items self.new.origin self.new.parts self.new.place self.new.next × (self.old.origin.base + self.old.next < self.new.origin.base + self.new.next)) }
+        ensures fault { IfErr result (λ fault. (own source.now self.old.first ≡ Err fault) ⊎ (fault ≡ ParseFault.NoMemory)) }
+        ensures first { self.new.first ≡ self.old.first }
+    {
+        if self.origin.room == 0 {
+            return Err(ParseFault::TooLong);
+        }
+        let origin = opened(self.origin, self.next, opener);
+        let parts = mem::replace(&mut self.parts, Open::new(alloc, origin.skip));
+        self.waiting.push(Waiting {
+            origin: self.origin,
+            parts,
+            at: self.next,
+            opener,
+            mode,
+        })?;
+        self.origin = origin;
+        self.place = origin.place;
+        self.next = origin.skip;
+        Ok(())
+    }
+
+    /// What is open ends at the next byte, and what waits for it goes on.
+    fn end_within(&mut self, alloc: Global, source: &str) -> Result<(), ParseFault>
+        requires short { length source.now ≤ 65536 }
+        requires waits { 0 < length self.old.waiting.items }
+        requires ending { IsEnding self.old.first source.now self.old.waiting.items self.old.origin self.old.parts self.old.place self.old.next }
+        ensures ok { OnOk result (IsReading self.old.first source.now self.new.waiting.items self.new.origin self.new.parts self.new.place self.new.next × (self.old.origin.base + self.old.next < self.new.origin.base + self.new.next)) }
+        ensures fault { IfErr result (λ fault. fault ≡ ParseFault.NoMemory) }
+        ensures first { self.new.first ≡ self.old.first }
+    {
+        let Some(waiting) = self.waiting.pop() else {
+            unreachable!()
+        };
+        let close = self.next;
+        let at = waiting.origin.base + waiting.at;
+        let inner = mem::replace(&mut self.parts, waiting.parts);
+        let piece = piece_of(alloc, source, at, close, waiting.opener, inner)?;
+        let next = waiting.at + 1 + close + 1;
+        self.parts.push_piece(piece, next)?;
+        self.origin = waiting.origin;
+        self.place = Place::Text(waiting.mode);
+        self.next = next;
+        Ok(())
+    }
+
+    /// The next byte, and whether what began first has ended there.
+    pub fn read_next(&mut self, alloc: Global, source: &str) -> Result<bool, ParseFault>
+        requires short { length source.now ≤ 65536 }
+        requires reading { IsReading self.old.first source.now self.old.waiting.items self.old.origin self.old.parts self.old.place self.old.next }
+        requires within { self.old.origin.base + self.old.next < length source.now }
+        ensures ok { IfOk result (λ ended. Goes ended self.old.first source.now self.new.waiting.items self.new.origin self.new.parts self.new.place self.new.next (self.old.origin.base + self.old.next)) }
+        ensures fault { IfErr result (λ fault. (own source.now self.old.first ≡ Err fault) ⊎ (fault ≡ ParseFault.NoMemory)) }
+        ensures first { self.new.first ≡ self.old.first }
+    {
+        let text = &source[self.origin.base..];
+        let inside = self.origin.inside;
+        let step = read_byte(&mut self.parts, alloc, text, self.next, inside, self.place)?;
+        match step {
+            Step::On(skip, place) => {
+                self.next = self.next + 1 + skip;
+                self.place = place;
+                Ok(false)
+            }
+            Step::Within(opener, mode) => {
+                self.open_within(alloc, source, opener, mode)?;
+                Ok(false)
+            }
+            Step::Ends => {
+                if self.waiting.is_empty() {
+                    return Ok(true);
+                }
+                self.end_within(alloc, source)?;
+                Ok(false)
+            }
+        }
+    }
+
+    /// The source ends.
+    fn finish(mut self, alloc: Global, source: &str) -> Result<Vec<Command>, ParseFault>
+        requires short { length source.now ≤ 65536 }
+        requires reading { IsReading outset source.now self.waiting.items self.origin self.parts self.place self.next }
+        requires end { length source.now ≤ self.origin.base + self.next }
+        ensures commands { IfOk result (λ commands. commands_in (rest_of source.now outermost_level 0 Place.Start 0) ≡ Ok commands.items) }
+        ensures fault { IfErr result (λ fault. (commands_in (rest_of source.now outermost_level 0 Place.Start 0) ≡ Err fault) ⊎ (fault ≡ ParseFault.NoMemory)) }
+    {
+        if self.origin.inside {
+            return Err(unfinished(self.place));
+        }
+        finish(&mut self.parts, alloc, source, self.place)?;
+        Ok(self.parts.into_commands())
+    }
+}
+
+/// The commands of a text, in one pass over its bytes.
+pub fn read_all(alloc: Global, source: &str) -> Result<Vec<Command>, ParseFault>
+    requires { length source.now ≤ 65536 }
+    ensures commands { IfOk result (λ commands. commands_in (rest_of source.now outermost_level 0 Place.Start 0) ≡ Ok commands.items) }
+    ensures fault { IfErr result (λ fault. (commands_in (rest_of source.now outermost_level 0 Place.Start 0) ≡ Err fault) ⊎ (fault ≡ ParseFault.NoMemory)) }
+{
+    let mut reader = Reader::new(alloc, outermost());
+    while reader.origin.base + reader.next < source.len() {
+        if reader.read_next(alloc, source)? {
+            // A whole script ends with its text alone.
+            unreachable!()
+        }
+    }
+    let commands = reader.finish(alloc, source)?;
+    Ok(commands)
+}

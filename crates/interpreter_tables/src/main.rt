@@ -17,7 +17,6 @@ use crate::runner::Runner;
 use anyhow::{Context, Result, bail};
 use std::alloc::Global;
 use std::{env, fs};
-use tcl_interp::{Code, SliceEnd};
 
 /// What a table has shown so far.
 #[derive(Clone, Copy)]
@@ -32,15 +31,7 @@ fn ending(alloc: Global, script: &str, budget: u64, slice: u64) -> Result<String
 {
     let names = names(alloc)?;
     let mut runner = Runner::new(alloc, budget, names.as_slice())?;
-    runner.begin(script)?;
-    let end = runner.to_end(&[], slice)?;
-    let left = runner.steps_left();
-    match end {
-        SliceEnd::Done(Code::Error, text) => Ok(format!(in alloc; "!{left} {}", text.as_str())?),
-        SliceEnd::Done(_, text) => Ok(format!(in alloc; "={left} {}", text.as_str())?),
-        SliceEnd::Exhausted => Ok(String::from_str(alloc, "-")?),
-        SliceEnd::More => bail!("there is more to do"),
-    }
+    runner.ending(script, slice)
 }
 
 /// A line's script, with its newlines.

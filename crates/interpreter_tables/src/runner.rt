@@ -1,12 +1,12 @@
 //! An interpreter with its variables, whose outside commands are those of the panel.
-ghost use Rattle.std.specs.Prelude.{◌≡◌, ◌≢◌, ◌<◌, IfOk, OnOk, All};
+ghost use Rattle.std.specs.Prelude.{◌≡◌, ◌≢◌, ◌<◌, ◌+◌, IfOk, OnOk, All};
 ghost use Rattle.tcl_interp.specs.Finish.{Idle};
-ghost use Rattle.tcl_interp.specs.Interp.{rest_of, LeavesRest, LeavesAfter};
+ghost use Rattle.tcl_interp.specs.Interp.{rest_of, left_of, budget_of, LeavesRest, LeavesAfter};
 
 use crate::panel::Panel;
-use anyhow::Result;
+use anyhow::{Result, bail};
 use std::alloc::Global;
-use tcl_interp::{Interp, SliceEnd};
+use tcl_interp::{Code, Interp, SliceEnd};
 use tcl_text::Text;
 use tcl_vars::Scopes;
 
@@ -76,13 +76,35 @@ impl Runner {
         Ok(end)
     }
 
+    /// How a script ends that is run in slices of one size, as a table has it.
+    pub fn ending(&mut self, script: &str, slice: u64) -> Result<String>
+        requires idle { rest_of self.old.interp ≡ Idle }
+        requires positive { 0 < slice }
+    {
+        self.begin(script)?;
+        let end = self.to_end(&[], slice)?;
+        let left = self.steps_left();
+        match end {
+            SliceEnd::Done(Code::Error, text) => {
+                Ok(format!(in self.alloc; "!{left} {}", text.as_str())?)
+            }
+            SliceEnd::Done(_, text) => Ok(format!(in self.alloc; "={left} {}", text.as_str())?),
+            SliceEnd::Exhausted => Ok(String::from_str(self.alloc, "-")?),
+            SliceEnd::More => bail!("there is more to do"),
+        }
+    }
+
     /// The steps that are left.
-    pub fn steps_left(&self) -> u64 {
+    pub fn steps_left(&self) -> u64
+        ensures { result ≡ left_of self.now.interp }
+    {
         self.interp.steps_left()
     }
 
     /// The steps that were taken.
-    pub fn steps_used(&self) -> u64 {
+    pub fn steps_used(&self) -> u64
+        ensures { result + left_of self.now.interp ≡ budget_of self.now.interp }
+    {
         self.interp.steps_used()
     }
 }

@@ -9,6 +9,21 @@ use std::alloc::{AllocError, Global};
 use tcl_interp::{Code, SliceEnd};
 use tcl_text::Text;
 
+/// What is shown of an interpreter that has run nothing yet.
+#[derive(Clone, Copy, Drop)]
+enum Scene {
+    /// Each slice of a loop without an end takes its steps, up to the last one of the budget.
+    Endless,
+    /// A task alone takes the steps that it needs.
+    Task,
+    /// Scripts one after another find the variables as they are.
+    ScriptsInTurn,
+    /// An outside command replaces a built-in one of its name.
+    Replaced,
+    /// A script and the bodies of 199 loops are 200 scripts; one more isn't run.
+    Nested(u64),
+}
+
 /// What a slice answers, in a word.
 fn word_of(end: &SliceEnd) -> &'static str {
     match end {
@@ -19,9 +34,9 @@ fn word_of(end: &SliceEnd) -> &'static str {
     }
 }
 
-/// Each slice of a loop without an end takes its steps, up to the last one of the budget.
-fn show_endless(rt: &(impl Print + AllocGlobal)) -> Result<()> {
-    let mut runner = Runner::new(rt.alloc(), 5, &[])?;
+fn show_endless(rt: &(impl Print + AllocGlobal), runner: &mut Runner) -> Result<()>
+    requires { rest_of runner.old.interp ≡ Idle }
+{
     runner.begin("while 1 {}")?;
     let SliceEnd::More = runner.slice(2)? else {
         bail!("the first slice ends the loop");
@@ -41,21 +56,13 @@ fn show_endless(rt: &(impl Print + AllocGlobal)) -> Result<()> {
     Ok(())
 }
 
-/// The result of a task alone.
-fn task_result(runner: &mut Runner) -> Result<Text>
+fn show_task(rt: &(impl Print + AllocGlobal), runner: &mut Runner) -> Result<()>
     requires { rest_of runner.old.interp ≡ Idle }
 {
     runner.begin_task(11)?;
-    match runner.slice(9)? {
-        SliceEnd::Done(_, text) => Ok(text),
-        _ => bail!("the task has no end"),
-    }
-}
-
-/// A task alone takes the steps that it needs.
-fn show_task(rt: &(impl Print + AllocGlobal)) -> Result<()> {
-    let mut runner = Runner::new(rt.alloc(), 9, &[])?;
-    let text = task_result(&mut runner)?;
+    let SliceEnd::Done(_, text) = runner.slice(9)? else {
+        bail!("the task has no end");
+    };
     println!(rt; "task: {}, {} left", text.as_str(), runner.steps_left())?;
     Ok(())
 }
@@ -72,11 +79,11 @@ fn result_of(runner: &mut Runner, script: &str) -> Result<Text>
     }
 }
 
-/// Scripts one after another find the variables as they are.
-fn show_scripts_in_turn(rt: &(impl Print + AllocGlobal)) -> Result<()> {
-    let mut runner = Runner::new(rt.alloc(), 9, &[])?;
-    let first = result_of(&mut runner, "set x kept; set y 2")?;
-    let second = result_of(&mut runner, "set x")?;
+fn show_scripts_in_turn(rt: &(impl Print + AllocGlobal), runner: &mut Runner) -> Result<()>
+    requires { rest_of runner.old.interp ≡ Idle }
+{
+    let first = result_of(runner, "set x kept; set y 2")?;
+    let second = result_of(runner, "set x")?;
     println!(rt;
         "scripts in turn: {} {}, {} left",
         first.as_str(),
@@ -86,11 +93,10 @@ fn show_scripts_in_turn(rt: &(impl Print + AllocGlobal)) -> Result<()> {
     Ok(())
 }
 
-/// An outside command replaces a built-in one of its name.
-fn show_replaced(rt: &(impl Print + AllocGlobal)) -> Result<()> {
-    let names = [Text::new(rt.alloc(), "set")?];
-    let mut runner = Runner::new(rt.alloc(), 9, &names)?;
-    let answer = result_of(&mut runner, "set x 1")?;
+fn show_replaced(rt: &(impl Print + AllocGlobal), runner: &mut Runner) -> Result<()>
+    requires { rest_of runner.old.interp ≡ Idle }
+{
+    let answer = result_of(runner, "set x 1")?;
     println!(rt; "replaced: {}", answer.as_str())?;
     Ok(())
 }
@@ -108,33 +114,64 @@ fn nested(alloc: Global, loops: u64) -> Result<String, AllocError> {
     Ok(script)
 }
 
-/// How a script ends, in words.
-fn end_of(alloc: Global, runner: &mut Runner, script: &str) -> Result<String>
+fn show_nested(rt: &(impl Print + AllocGlobal), runner: &mut Runner, loops: u64) -> Result<()>
     requires { rest_of runner.old.interp ≡ Idle }
 {
-    runner.begin(script)?;
-    match runner.to_end(&[], 7)? {
-        SliceEnd::Done(Code::Error, text) => Ok(format!(in alloc; "error {}", text.as_str())?),
-        SliceEnd::Done(_, text) => Ok(format!(in alloc; "done {}", text.as_str())?),
-        _ => bail!("the loops have no end"),
+    let script = nested(rt.alloc(), loops)?;
+    runner.begin(script.as_str())?;
+    let SliceEnd::Done(code, text) = runner.to_end(&[], 7)? else {
+        bail!("the loops have no end");
+    };
+    let end = match code {
+        Code::Error => "error",
+        _ => "done",
+    };
+    println!(rt;
+        "{loops} loops: {end} {}, {} left",
+        text.as_str(),
+        runner.steps_left()
+    )?;
+    Ok(())
+}
+
+impl Scene {
+    /// The steps that may be taken.
+    fn budget(self) -> u64 {
+        match self {
+            Scene::Endless => 5,
+            Scene::Task => 9,
+            Scene::ScriptsInTurn => 9,
+            Scene::Replaced => 9,
+            Scene::Nested(_) => 1000,
+        }
+    }
+
+    fn show(self, rt: &(impl Print + AllocGlobal), runner: &mut Runner) -> Result<()>
+        requires { rest_of runner.old.interp ≡ Idle }
+    {
+        match self {
+            Scene::Endless => show_endless(rt, runner),
+            Scene::Task => show_task(rt, runner),
+            Scene::ScriptsInTurn => show_scripts_in_turn(rt, runner),
+            Scene::Replaced => show_replaced(rt, runner),
+            Scene::Nested(loops) => show_nested(rt, runner, loops),
+        }
     }
 }
 
-/// The script and the bodies of 199 loops are 200 scripts; one more isn't run.
-fn show_nested(rt: &(impl Print + AllocGlobal), loops: u64) -> Result<()> {
-    let script = nested(rt.alloc(), loops)?;
-    let mut runner = Runner::new(rt.alloc(), 1000, &[])?;
-    let end = end_of(rt.alloc(), &mut runner, script.as_str())?;
-    println!(rt; "{loops} loops: {}, {} left", end.as_str(), runner.steps_left())?;
-    Ok(())
+/// Shows a scene, where outside commands have these names.
+fn show_scene(rt: &(impl Print + AllocGlobal), scene: Scene, names: &[Text]) -> Result<()> {
+    let mut runner = Runner::new(rt.alloc(), scene.budget(), names)?;
+    scene.show(rt, &mut runner)
 }
 
 /// Shows all of these.
 pub fn show(rt: &(impl Print + AllocGlobal)) -> Result<()> {
-    show_endless(rt)?;
-    show_task(rt)?;
-    show_scripts_in_turn(rt)?;
-    show_replaced(rt)?;
-    show_nested(rt, 199)?;
-    show_nested(rt, 200)
+    let replaced = [Text::new(rt.alloc(), "set")?];
+    show_scene(rt, Scene::Endless, &[])?;
+    show_scene(rt, Scene::Task, &[])?;
+    show_scene(rt, Scene::ScriptsInTurn, &[])?;
+    show_scene(rt, Scene::Replaced, &replaced)?;
+    show_scene(rt, Scene::Nested(199), &[])?;
+    show_scene(rt, Scene::Nested(200), &[])
 }

@@ -8,7 +8,7 @@ pub mod CloseLemmas
 pub mod StandLemmas
 pub mod ReadLemmas
 pub mod FloorLemmas
-pub mod TextLemmas
+pub mod DueLemmas
 pub mod OperandLemmas
 pub mod GrammarRead
 pub mod GrammarCut

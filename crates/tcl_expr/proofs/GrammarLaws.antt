@@ -1,5 +1,5 @@
 -- The tree or the fault of a text is that of the grammar.
-use Rattle.std.proofs.Common.{◌≡◌, ◌≤◌, ◌<◌, ◌⊎◌, inl, inr, ℕ, ◌↔◌, true, false, List, length, Result, Ok, Err, sym, ap, subst, ◌∙◌, arith}
+use Rattle.std.proofs.Common.{◌≡◌, ◌≤◌, ◌<◌, ◌⊎◌, inl, inr, ℕ, ◌↔◌, true, false, List, length, Result, Ok, Err, IsOk, refl, sym, ap, subst, ◌∙◌, arith}
 use Rattle.std.proofs.lemmas.Bool.{cases_lt}
 use Rattle.std.specs.Str.{IsUtf8, is_utf8}
 use Rattle.std.proofs.lemmas.Str.{is_utf8-from_IsUtf8, IsUtf8-from_is_utf8}
@@ -7,7 +7,8 @@ use Rattle.tcl_expr.specs.declared.fault.ExprFault.{ExprFault}
 use Rattle.tcl_expr.specs.declared.fault.ExprFault.TheVariants.{TooLong}
 use Rattle.tcl_expr.specs.Trees.{Tree}
 use Rattle.tcl_expr.specs.Reading.{tree_of}
-use Rattle.tcl_expr.specs.Grammar.{IsText, Gives, IsTreeOf, IsFaultOf, OneTreeOrFault}
+use Rattle.tcl_expr.specs.Standing.{IsFaultOrMemory}
+use Rattle.tcl_expr.specs.Grammar.{IsText, Gives, IsTreeOf, IsFaultOf, IsExpression, IsFaultOfOrMemory, OneTreeOrFault}
 use Rattle.tcl_expr.proofs.ReadLemmas.{tree_of-long, tree_of-not_utf8, tree_of-read}
 use Rattle.tcl_expr.proofs.GrammarRead.{decide, whole_read}
 use Rattle.tcl_expr.proofs.GrammarCut.{whole_cut}
@@ -65,6 +66,17 @@ trees text tree = (tree_read text tree, tree_cut text tree (text_or_none text))
 
 pub faults : (text : List ℕ) (fault : ExprFault) → IsFaultOf text fault ↔ (tree_of text ≡ Err fault)
 faults text fault = (fault_read text fault (text_or_none text), fault_cut text fault (text_or_none text))
+
+expression_by : (text : List ℕ) (read : Result Tree ExprFault) → tree_of text ≡ read → IsOk read → IsExpression text
+expression_by text (Ok tree) e ok = (tree, tree_cut text tree (text_or_none text) e)
+expression_by text (Err fault) e ok = absurd (cc)
+
+pub expression_read : (text : List ℕ) → IsOk (tree_of text) → IsExpression text
+expression_read text ok = expression_by text (tree_of text) refl ok
+
+pub fault_told : (text : List ℕ) (fault : ExprFault) → IsFaultOrMemory (tree_of text) fault → IsFaultOfOrMemory text fault
+fault_told text fault (inl e) = inl (fault_cut text fault (text_or_none text) e)
+fault_told text fault (inr e) = inr e
 
 pub one_tree_or_fault : OneTreeOrFault
 one_tree_or_fault = record {

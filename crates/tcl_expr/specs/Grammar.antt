@@ -8,7 +8,7 @@ use Rattle.tcl_words.specs.declared.script.Piece.{Piece}
 use Rattle.tcl_words.specs.declared.fault.ParseFault.{ParseFault}
 use Rattle.tcl_expr.specs.declared.braces.BracePlace.TheVariants.{Plain as Unescaped}
 use Rattle.tcl_expr.specs.declared.fault.ExprFault.{ExprFault}
-use Rattle.tcl_expr.specs.declared.fault.ExprFault.TheVariants.{TooLong, MissingParen, Syntax}
+use Rattle.tcl_expr.specs.declared.fault.ExprFault.TheVariants.{TooLong, MissingParen, Syntax, NoMemory}
 use Rattle.tcl_expr.specs.declared.operators.UnaryOperator.{UnaryOperator}
 use Rattle.tcl_expr.specs.declared.operators.UnaryOperator.TheVariants.{Negate, Keep, Complement, Not}
 use Rattle.tcl_expr.specs.declared.operators.Infix.{Infix}
@@ -212,6 +212,13 @@ IsTreeOf text tree = IsText text × Gives text (Ok tree)
 -- The text is no expression, and this is its first fault from the left. That it is no text counts before all else.
 abbrev pub IsFaultOf : List ℕ → ExprFault → Type 0
 IsFaultOf text fault = ((fault ≡ TooLong) × (¬ IsText text)) ⊎ (IsText text × Gives text (Err fault))
+
+abbrev pub IsExpression : List ℕ → Type 0
+IsExpression text = (tree : Tree) × IsTreeOf text tree
+
+-- what may be answered of a text that isn't read: its fault, or want of memory
+abbrev pub IsFaultOfOrMemory : List ℕ → ExprFault → Type 0
+IsFaultOfOrMemory text fault = IsFaultOf text fault ⊎ (fault ≡ NoMemory)
 
 -- a text has at most one tree, at most one fault, and never both
 pub record OneTreeOrFault : Type 0 where

@@ -1,4 +1,5 @@
 ghost use Rattle.std.specs.Prelude.{◌≡◌, IfOk, IfErr, IsOk};
+ghost use Rattle.tcl_expr.specs.Grammar.{IsExpression, IsFaultOfOrMemory};
 ghost use Rattle.tcl_expr.specs.Reading.{tree_of};
 ghost use Rattle.tcl_expr.specs.Standing.{IsFaultOrMemory};
 
@@ -11,8 +12,8 @@ use tcl_text::Text;
 /// How many bytes an expression has at most, as any text.
 const MAX_BYTES: usize = 65_536;
 
-/// Reads an expression whole, by the rules of expr(n). The first fault from the left is told.
-pub fn parse_expr(alloc: Global, source: &[u8]) -> Result<Expr, ExprFault>
+/// Reads the steps of an expression.
+fn read_expr(alloc: Global, source: &[u8]) -> Result<Expr, ExprFault>
     ensures text { IfOk result (λ expr. expr ≡ source.now) }
     ensures tree { IfOk result (λ _. IsOk (tree_of source.now)) }
     ensures fault { IfErr result (λ fault. IsFaultOrMemory (tree_of source.now) fault) }
@@ -27,4 +28,15 @@ pub fn parse_expr(alloc: Global, source: &[u8]) -> Result<Expr, ExprFault>
     let text = Text::new(alloc, characters)?;
     let expr = Expr::new(alloc, text, steps)?;
     Ok(expr)
+}
+
+/// Reads an expression whole, by the rules of expr(n). The first fault from the left is told.
+pub fn parse_expr(alloc: Global, source: &[u8]) -> Result<Expr, ExprFault>
+    ensures text { IfOk result (λ expr. expr ≡ source.now) }
+    ensures expression { IfOk result (λ _. IsExpression source.now) }
+    ensures fault_of { IfErr result (λ fault. IsFaultOfOrMemory source.now fault) }
+    ensures tree { IfOk result (λ _. IsOk (tree_of source.now)) }
+    ensures fault { IfErr result (λ fault. IsFaultOrMemory (tree_of source.now) fault) }
+{
+    read_expr(alloc, source)
 }

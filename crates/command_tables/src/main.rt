@@ -5,6 +5,9 @@
 //! result, or `!` and its error. An empty line ends the variables, and a line that begins with `#` says something.
 #![tactic(auto)]
 
+#[cfg(test)]
+mod tests;
+
 use anyhow::{Context, Result, bail};
 use std::alloc::Global;
 use std::{env, fs};

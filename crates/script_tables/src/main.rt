@@ -10,6 +10,8 @@
 
 mod pictures;
 mod shown;
+#[cfg(test)]
+mod tests;
 
 use crate::pictures::without_pictures;
 use crate::shown::told;

@@ -13,8 +13,6 @@ mod lists;
 mod sorting;
 mod splits;
 mod strings;
-#[cfg(test)]
-mod tests;
 
 use crate::text::Text;
 use answers::Refusal;

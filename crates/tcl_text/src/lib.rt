@@ -26,5 +26,3 @@ pub use list::TextList;
 pub use splitting::{ListFault, SplitFault};
 pub use text::{Text, TextFault};
 
-#[cfg(test)]
-mod reading_tests;

@@ -14,5 +14,3 @@ pub use fault::{ChangeFault, LinkFault, ReadFault, SetFault, UnsetFault};
 pub use scopes::Scopes;
 pub use table::Table;
 
-#[cfg(test)]
-mod tests;

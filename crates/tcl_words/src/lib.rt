@@ -12,8 +12,6 @@ mod parser;
 mod read;
 mod reader;
 mod script;
-#[cfg(test)]
-mod tests;
 
 pub use fault::ParseFault;
 pub use laws::{

@@ -15,8 +15,6 @@ mod section;
 mod settling;
 mod spec;
 mod state;
-#[cfg(test)]
-mod tests;
 mod transcript;
 mod window;
 

@@ -23,5 +23,3 @@ pub use reading::read_session;
 pub use session::{AppBlock, AppBlocks, Session};
 pub use tk_host::Rect;
 
-#[cfg(test)]
-mod tests;

@@ -1,11 +1,11 @@
 //! Calls in turn, with the answers that tclsh 8.6 gives to the same commands (set, unset, upvar, info exists, array) at the levels of two
 //! nested procedures. The order of elements alone is this crate's: that in which they were made.
-use super::*;
 use std::alloc::Global;
 use std::fmt::Display;
 use std::process::Abort;
 use std::test::Fail;
 use tcl_text::{Text, TextList};
+use tcl_vars::{ReadFault, Scopes};
 
 enum Call {
     Set(usize, &'static str, &'static str),

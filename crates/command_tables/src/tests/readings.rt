@@ -1,8 +1,8 @@
 //! What a Tcl shell answers for the same texts, but for the limits of 64 bits and where the form of a list is this crate's own:
 //! each element that begins with `#` is quoted, and one with a brace or bracket never stands bare.
-use super::*;
 use std::alloc::AllocError;
 use std::test::Fail;
+use tcl_text::{SplitFault, Text, TextFault, TextList};
 
 #[test]
 fn integers(rt: HostRuntime) -> Result<(), Fail> {

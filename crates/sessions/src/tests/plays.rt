@@ -1,6 +1,6 @@
 use crate::tests::fakes::{Pieces, Sink};
-use crate::{Outcome, PlayFault, play, read_session, run};
 use std::test::Fail;
+use tkhost::{Outcome, PlayFault, play, read_session, run};
 
 /// Sessions, and the sections that they come to.
 const PLAYED: [(&[u8], &[u8]); 6] = [

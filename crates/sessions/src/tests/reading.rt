@@ -1,7 +1,7 @@
-use crate::{LineFault, SessionFault, read_session};
 use std::alloc::Global;
 use std::process::Abort;
 use std::test::Fail;
+use tkhost::{LineFault, SessionFault, read_session};
 
 const HELLO_AND_BYE: &[u8] =
     b"tkhost 1\napp a 0 0 100 50 100\nscript 1\nputs hello\napp b 100 0 100 50 100\nscript 1\nputs bye\nevents\n0 end\n";

@@ -1,9 +1,7 @@
-use crate::fault::ParseFault;
-use crate::parser::parse;
-use crate::script::{Piece, Span, WordForm};
 use std::alloc::{AllocError, Global};
 use std::process::Abort;
 use std::test::Fail;
+use tcl_words::{ParseFault, Piece, Span, WordForm, parse};
 
 /// The fault of a text, if it has one.
 fn fault_of(alloc: Global, source: &[u8]) -> Result<Option<ParseFault>, ParseFault> {

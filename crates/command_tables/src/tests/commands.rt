@@ -1,7 +1,7 @@
 //! Answers of the commands, on examples of their manual pages.
-use crate::text::Text;
 use std::alloc::Global;
 use std::test::Fail;
+use tcl_text::Text;
 
 /// Words with `|` between each two, and the result of their command in tclsh 8.6. `crates/command_tables` has many more.
 static RESULTS: [(&str, &str); 12] = [

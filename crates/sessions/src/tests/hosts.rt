@@ -2,10 +2,10 @@
 
 ghost use Rattle.std.specs.Prelude.{◌≢◌};
 
-use crate::{Host, HostFault, Phase, Rect};
 use std::alloc::Global;
 use std::test::Fail;
 use tcl_text::Text;
+use tk_host::{Host, HostFault, Phase, Rect};
 
 const LEFT: Rect = Rect {
     x: 0,

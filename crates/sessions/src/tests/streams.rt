@@ -1,6 +1,6 @@
 use crate::tests::fakes::{Endless, Pieces, Sink};
-use crate::{InputFault, Outcome, read_input, write_whole};
 use std::test::Fail;
+use tkhost::{InputFault, Outcome, read_input, write_whole};
 
 const TEXT: &[u8] = b"app a running 99\nout 0 hello\ntree\ntimers\ndone\n";
 

@@ -25,4 +25,3 @@ pub use integer::NotInteger;
 pub use list::TextList;
 pub use splitting::{ListFault, SplitFault};
 pub use text::{Text, TextFault};
-

@@ -13,4 +13,3 @@ pub use content::Content;
 pub use fault::{ChangeFault, LinkFault, ReadFault, SetFault, UnsetFault};
 pub use scopes::Scopes;
 pub use table::Table;
-

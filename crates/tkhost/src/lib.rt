@@ -22,4 +22,3 @@ pub use program::run;
 pub use reading::read_session;
 pub use session::{AppBlock, AppBlocks, Session};
 pub use tk_host::Rect;
-

@@ -16,7 +16,7 @@ use crate::machine::{Answered, Asking, Choosing, Frame, Now};
 use crate::words::wait;
 use std::alloc::{AllocError, Global};
 use tcl_control::texts::{cannot_read, cannot_read_element, fixed};
-use tcl_control::{Choices, Code, Expression, Source, Turning, truth};
+use tcl_control::{Choices, Code, CommandTable, Expression, Source, Turning, truth};
 use tcl_expr::{Ask, Eval, EvalFault};
 use tcl_text::Text;
 use tcl_vars::Scopes;
@@ -221,16 +221,18 @@ fn otherwise<K: Drop>(alloc: Global, room: u64, body: &Option<Text>) -> Result<N
 /// On to the condition of `if` at a place.
 pub fn choose<K: Drop>(
     alloc: Global,
+    table: &mut CommandTable,
     frames: &mut Vec<Frame<K>>,
     room: u64,
     choices: Choices,
     place: usize,
 ) -> Result<Now<K>, AllocError>
-    ensures { IfOk result (λ now. moved_of now frames.new.items ≡ choice_move room (drop place choices.branches) choices.otherwise (waits_of frames.old.items)) }
+    ensures table { table.new ≡ table.old }
+    ensures now { IfOk result (λ now. moved_of now frames.new.items ≡ choice_move room (drop place choices.branches) choices.otherwise (waits_of frames.old.items)) }
 {
     let branches = choices.branches.as_slice();
     if place < branches.len() {
-        let expression = Expression::of(alloc, &branches[place].test)?;
+        let expression = Expression::read_by(alloc, table, &branches[place].test)?;
         let choosing = Box::new(alloc, Choosing { choices, place })?;
         wait(frames, Frame::ForChoice { room, choosing })?;
         return begins(alloc, &expression, room);
@@ -242,12 +244,14 @@ pub fn choose<K: Drop>(
 /// The condition of `if` that was begun has this value.
 pub fn chosen<K: Drop>(
     alloc: Global,
+    table: &mut CommandTable,
     frames: &mut Vec<Frame<K>>,
     room: u64,
     choosing: Box<Choosing>,
     value: &Text,
 ) -> Result<Now<K>, AllocError>
-    ensures { IfOk result (λ now. moved_of now frames.new.items ≡ chosen_move room (drop choosing.value.place choosing.value.choices.branches) choosing.value.choices.otherwise (waits_of frames.old.items) (truth_of value.now)) }
+    ensures table { table.new ≡ table.old }
+    ensures now { IfOk result (λ now. moved_of now frames.new.items ≡ chosen_move room (drop choosing.value.place choosing.value.choices.branches) choosing.value.choices.otherwise (waits_of frames.old.items) (truth_of value.now)) }
 {
     let Choosing { choices, place } = Box::into_inner(choosing);
     match truth(alloc, value)? {
@@ -256,7 +260,7 @@ pub fn chosen<K: Drop>(
             script: Source::of_text(choices.branches.as_slice()[place].body.copy()?),
         }),
         Ok(false) => {
-            let now = choose(alloc, frames, room, choices, place + 1)?;
+            let now = choose(alloc, table, frames, room, choices, place + 1)?;
             Ok(now)
         }
         Err(text) => Ok(Now::Ends {

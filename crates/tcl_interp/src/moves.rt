@@ -15,7 +15,7 @@ use crate::machine::{Answered, Asking, Frame, Now, Place};
 use crate::words::{after_part, go_on, longer_index, put_index, wait};
 use std::alloc::{AllocError, Global};
 use tcl_control::texts::{fault_text, fixed};
-use tcl_control::{Code, Context, End, ReturnCode, Source, Turning, caught};
+use tcl_control::{Code, CommandTable, Context, End, ReturnCode, Source, Turning, caught};
 use tcl_text::Text;
 use tcl_vars::Scopes;
 use tcl_words::Script;
@@ -56,8 +56,14 @@ fn first_command<K>(alloc: Global, script: Script, room: u64) -> Result<Now<K>, 
 }
 
 /// A script begins: it is read whole first, unless there is no room for it.
-pub fn begun<K: Drop>(alloc: Global, script: Source, room: u64) -> Result<Now<K>, AllocError>
-    ensures { IfOk result (λ now. (waits : List (Waiting K)) → moved (doing_of now) waits ≡ begin_move room script waits) }
+pub fn begun<K: Drop>(
+    alloc: Global,
+    table: &mut CommandTable,
+    script: Source,
+    room: u64,
+) -> Result<Now<K>, AllocError>
+    ensures table { table.new ≡ table.old }
+    ensures now { IfOk result (λ now. (waits : List (Waiting K)) → moved (doing_of now) waits ≡ begin_move room script waits) }
 {
     if room == 0 {
         return Ok(Now::Ends {
@@ -65,7 +71,7 @@ pub fn begun<K: Drop>(alloc: Global, script: Source, room: u64) -> Result<Now<K>
             text: fixed(alloc, "too many nested evaluations (infinite loop?)")?,
         });
     }
-    match script.read(alloc)? {
+    match script.read(table)? {
         Ok(script) => first_command(alloc, script, room - 1),
         Err(fault) => Ok(Now::Ends {
             code: Code::Error,
@@ -300,7 +306,7 @@ fn ended<K: Drop>(
         },
         Frame::ForChoice { room, choosing } => match code {
             Code::Normal => {
-                let now = chosen(alloc, frames, room, choosing, &text)?;
+                let now = chosen(alloc, &mut context.commands, frames, room, choosing, &text)?;
                 Ok(now)
             }
             code => Ok(Now::Ends { code, text }),
@@ -370,7 +376,7 @@ fn advance<K: Drop>(
 {
     match now {
         Now::Begins { room, script } => {
-            let now = begun(alloc, script, room)?;
+            let now = begun(alloc, &mut context.commands, script, room)?;
             Ok(Move::On(now))
         }
         Now::GoesOn { place, result } => {

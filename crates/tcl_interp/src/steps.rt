@@ -65,7 +65,7 @@ fn follow<K: Drop>(
             Ok(now)
         }
         Plan::Chooses(choices) => {
-            let now = choose(alloc, frames, room, choices, 0)?;
+            let now = choose(alloc, &mut context.commands, frames, room, choices, 0)?;
             Ok(now)
         }
         Plan::Turns(turning) => Ok(Now::Tests {

@@ -1,6 +1,8 @@
 -- Moves in a row, up to where a step, a task or the end is due.
 use Rattle.std.specs.Prelude.{◌≡◌, ◌≢◌, ℕ, zero, suc, List, [], ◌∷◌, Option, Result, Ok, Err, IfOk}
 use Rattle.tcl_vars.specs.Store.{Store}
+use Rattle.tcl_vars.specs.declared.fault.ReadFault.{ReadFault}
+use Rattle.tcl_control.specs.Texts.{cannot_read}
 use Rattle.tcl_expr.specs.declared.ask.Ask.{Ask}
 use Rattle.tcl_expr.specs.declared.fault.EvalFault.{EvalFault}
 use Rattle.tcl_expr.specs.Evaluation.{Evaluation, told, answered}
@@ -16,6 +18,11 @@ use Rattle.tcl_interp.specs.Moves.{Moved, Standing, moved, standing, begin_move,
 abbrev pub told_run : Result Ask EvalFault → Evaluation → Run
 told_run (Ok asked) next = asks asked (answered next)
 told_run (Err fault) next = RunEnds (Err fault)
+
+-- the value of what an evaluation asked for by this name, or the error's text
+abbrev pub value_or_text : List ℕ → Result (List ℕ) ReadFault → Result (List ℕ) (List ℕ)
+value_or_text name (Ok value) = Ok value
+value_or_text name (Err fault) = Err (cannot_read name fault)
 
 module _ {K : Type 0} where
   -- something ends, and what waited for it goes on
@@ -64,6 +71,10 @@ module _ {K : Type 0} where
 
   abbrev pub IsQuiet : Moved K → Type 0
   IsQuiet m = IsQuietBy m.doing m.waits
+
+  -- some number of moves does, and a quiet one behind them
+  abbrev pub MovesOn : Standing K → Standing K → Type 0
+  MovesOn from to = (between : Standing K) × Leads from between × IsQuiet between.moved × Moves between to
 
   -- a step is needed, a task is to be resumed, or all has ended
   abbrev pub IsDueBy : Doing K → List (Waiting K) → Type 0

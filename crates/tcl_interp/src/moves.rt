@@ -15,7 +15,7 @@ use crate::machine::{Answered, Asking, Frame, Now, Place};
 use crate::words::{after_part, go_on, longer_index, put_index, wait};
 use std::alloc::{AllocError, Global};
 use tcl_control::texts::{fault_text, fixed};
-use tcl_control::{Code, CommandTable, Context, End, ReturnCode, Source, Turning, caught};
+use tcl_control::{Code, CommandTable, Context, End, Looping, ReturnCode, Source, caught};
 use tcl_text::Text;
 use tcl_vars::Scopes;
 use tcl_words::Script;
@@ -84,11 +84,11 @@ pub fn begun<K: Drop>(
 fn next_turn<K: Drop>(
     frames: &mut Vec<Frame<K>>,
     room: u64,
-    turning: Box<Turning>,
+    turning: Looping,
 ) -> Result<Now<K>, AllocError>
-    ensures { IfOk result (λ now. moved_of now frames.new.items ≡ next_move room turning.value (waits_of frames.old.items) turning.value.next) }
+    ensures { IfOk result (λ now. moved_of now frames.new.items ≡ next_move room turning (waits_of frames.old.items) turning.next) }
 {
-    match &turning.next {
+    match &turning.get().next {
         None => Ok(Now::Tests { room, turning }),
         Some(next) => {
             let script = next.copy()?;
@@ -103,11 +103,11 @@ fn after_body<K: Drop>(
     alloc: Global,
     frames: &mut Vec<Frame<K>>,
     room: u64,
-    turning: Box<Turning>,
+    turning: Looping,
     code: Code,
     text: Text,
 ) -> Result<Now<K>, AllocError>
-    ensures { IfOk result (λ now. moved_of now frames.new.items ≡ after_body_move room turning.value (waits_of frames.old.items) code text) }
+    ensures { IfOk result (λ now. moved_of now frames.new.items ≡ after_body_move room turning (waits_of frames.old.items) code text) }
 {
     match code {
         Code::Normal => next_turn(frames, room, turning),
@@ -125,11 +125,11 @@ fn after_body<K: Drop>(
 fn after_next<K: Drop>(
     alloc: Global,
     room: u64,
-    turning: Box<Turning>,
+    turning: Looping,
     code: Code,
     text: Text,
 ) -> Result<Now<K>, AllocError>
-    ensures { IfOk result (λ now. (waits : List (Waiting K)) → moved (doing_of now) waits ≡ after_next_move room turning.value waits code text) }
+    ensures { IfOk result (λ now. (waits : List (Waiting K)) → moved (doing_of now) waits ≡ after_next_move room turning waits code text) }
 {
     match code {
         Code::Normal => Ok(Now::Tests { room, turning }),
@@ -144,8 +144,8 @@ fn after_next<K: Drop>(
 }
 
 /// What `for` runs before the first test has ended.
-fn after_start<K: Drop>(room: u64, turning: Box<Turning>, code: Code, text: Text) -> Now<K>
-    ensures { (waits : List (Waiting K)) → moved (doing_of result) waits ≡ after_start_move room turning.value waits code text }
+fn after_start<K: Drop>(room: u64, turning: Looping, code: Code, text: Text) -> Now<K>
+    ensures { (waits : List (Waiting K)) → moved (doing_of result) waits ≡ after_start_move room turning waits code text }
 {
     match code {
         Code::Normal => Now::Tests { room, turning },
@@ -360,6 +360,8 @@ fn wake<K: Drop>(frames: &mut Vec<Frame<K>>) -> Option<Frame<K>>
 pub enum Move<K> {
     /// There is more to do.
     On(Now<K>),
+    /// So there is, several moves on.
+    Far(Now<K>),
     /// A step is needed, a task is to be resumed, or all has ended.
     Due(Now<K>),
 }
@@ -397,9 +399,8 @@ fn advance<K: Drop>(
             Ok(Move::On(now))
         }
         Now::Evaluates { room, answered } => {
-            let level = context.levels.here(scopes);
-            let now = evaluate(alloc, scopes, level, frames, room, answered)?;
-            Ok(Move::On(now))
+            let now = evaluate(alloc, scopes, context, frames, room, answered)?;
+            Ok(Move::Far(now))
         }
         Now::Calls { room, words } => Ok(Move::Due(Now::Calls { room, words })),
         Now::Tests { room, turning } => Ok(Move::Due(Now::Tests { room, turning })),
@@ -433,6 +434,7 @@ pub fn quiet<K: Drop>(
     loop {
         match advance(alloc, scopes, context, frames, doing)? {
             Move::On(next) => doing = next,
+            Move::Far(next) => doing = next,
             Move::Due(due) => return Ok(due),
         }
     }

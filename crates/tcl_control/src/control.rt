@@ -19,7 +19,7 @@ use crate::variables::{upvar_end, variable_end};
 use std::alloc::{AllocError, Global};
 use tcl_shapes::{foreach_groups, has_body};
 use tcl_table::texts::{about, cannot_set, fixed, told};
-use tcl_table::{Builtin, Command, Source, is_dotted, plain_name};
+use tcl_table::{Builtin, Command, CommandTable, Source, is_dotted, plain_name};
 use tcl_text::{Text, TextList};
 use tcl_vars::{Scopes, SetFault};
 
@@ -82,13 +82,14 @@ fn catch_plan(alloc: Global, words: &[Text]) -> Result<Plan, AllocError>
 }
 
 /// `while` (while(n)).
-fn while_plan(alloc: Global, words: &[Text]) -> Result<Plan, AllocError>
-    ensures { IfOk result (λ plan. plan ≡ while_plan words.now) }
+fn while_plan(alloc: Global, table: &mut CommandTable, words: &[Text]) -> Result<Plan, AllocError>
+    ensures table { table.new ≡ table.old }
+    ensures plan { IfOk result (λ plan. plan ≡ while_plan words.now) }
 {
     match words {
         [condition, body] => Ok(Plan::Turns(Turning {
-            test: Test::Holds(Expression::of(alloc, condition)?),
-            body: Source::read_of(alloc, body)?,
+            test: Test::Holds(Expression::read_by(alloc, table, condition)?),
+            body: Source::read_by(table, body)?,
             next: None,
         })),
         _ => Ok(fails(fixed(alloc, "wrong # args: should be \"while cond body\"")?)),
@@ -96,16 +97,17 @@ fn while_plan(alloc: Global, words: &[Text]) -> Result<Plan, AllocError>
 }
 
 /// `for` (for(n)).
-fn for_plan(alloc: Global, words: &[Text]) -> Result<Plan, AllocError>
-    ensures { IfOk result (λ plan. plan ≡ for_plan words.now) }
+fn for_plan(alloc: Global, table: &mut CommandTable, words: &[Text]) -> Result<Plan, AllocError>
+    ensures table { table.new ≡ table.old }
+    ensures plan { IfOk result (λ plan. plan ≡ for_plan words.now) }
 {
     match words {
         [start, condition, next, body] => Ok(Plan::Starts(
             Source::of_text(start.copy()?),
             Turning {
-                test: Test::Holds(Expression::of(alloc, condition)?),
-                body: Source::read_of(alloc, body)?,
-                next: Some(Source::read_of(alloc, next)?),
+                test: Test::Holds(Expression::read_by(alloc, table, condition)?),
+                body: Source::read_by(table, body)?,
+                next: Some(Source::read_by(table, next)?),
             },
         )),
         _ => Ok(fails(fixed(
@@ -116,8 +118,9 @@ fn for_plan(alloc: Global, words: &[Text]) -> Result<Plan, AllocError>
 }
 
 /// `foreach` (foreach(n)).
-fn foreach_plan(alloc: Global, words: &[Text]) -> Result<Plan, AllocError>
-    ensures { IfOk result (λ plan. plan ≡ foreach_plan words.now) }
+fn foreach_plan(alloc: Global, table: &mut CommandTable, words: &[Text]) -> Result<Plan, AllocError>
+    ensures table { table.new ≡ table.old }
+    ensures plan { IfOk result (λ plan. plan ≡ foreach_plan words.now) }
 {
     if !(has_body(words) && words.len() > 2) {
         return Ok(fails(fixed(
@@ -125,7 +128,7 @@ fn foreach_plan(alloc: Global, words: &[Text]) -> Result<Plan, AllocError>
             "wrong # args: should be \"foreach names list ?names list ..? body\"",
         )?));
     }
-    let body = Source::read_of(alloc, &words[words.len() - 1])?;
+    let body = Source::read_by(table, &words[words.len() - 1])?;
     match foreach_groups(alloc, words)? {
         Ok(groups) => Ok(Plan::Turns(Turning {
             test: Test::Items(groups),
@@ -212,13 +215,14 @@ fn eval_plan(alloc: Global, words: &[Text]) -> Result<Plan, AllocError>
 }
 
 /// `expr` (expr(n)).
-fn expr_plan(alloc: Global, words: &[Text]) -> Result<Plan, AllocError>
-    ensures { IfOk result (λ plan. plan ≡ expr_plan words.now) }
+fn expr_plan(alloc: Global, table: &mut CommandTable, words: &[Text]) -> Result<Plan, AllocError>
+    ensures table { table.new ≡ table.old }
+    ensures plan { IfOk result (λ plan. plan ≡ expr_plan words.now) }
 {
     match words {
         [] => Ok(fails(fixed(alloc, "wrong # args: should be \"expr arg ?arg ..?\"")?)),
         [_, ..] => match concatenated(alloc, words)? {
-            Ok(text) => Ok(Plan::Evaluates(Expression::of(alloc, &text)?)),
+            Ok(text) => Ok(Plan::Evaluates(Expression::read_by(alloc, table, &text)?)),
             Err(text) => Ok(fails(text)),
         },
     }
@@ -517,9 +521,9 @@ fn builtin_call(
         Builtin::Continue => Ok(Call::Plans(continue_plan(alloc, words)?)),
         Builtin::Error => Ok(Call::Plans(error_plan(alloc, words)?)),
         Builtin::Eval => Ok(Call::Plans(eval_plan(alloc, words)?)),
-        Builtin::Expr => Ok(Call::Plans(expr_plan(alloc, words)?)),
-        Builtin::For => Ok(Call::Plans(for_plan(alloc, words)?)),
-        Builtin::Foreach => Ok(Call::Plans(foreach_plan(alloc, words)?)),
+        Builtin::Expr => Ok(Call::Plans(expr_plan(alloc, &mut context.commands, words)?)),
+        Builtin::For => Ok(Call::Plans(for_plan(alloc, &mut context.commands, words)?)),
+        Builtin::Foreach => Ok(Call::Plans(foreach_plan(alloc, &mut context.commands, words)?)),
         Builtin::If => Ok(Call::Plans(if_plan(alloc, words)?)),
         Builtin::Info => {
             let level = context.levels.here(scopes);
@@ -542,7 +546,7 @@ fn builtin_call(
             let End { code, text } = variable_end(alloc, scopes, &context.levels, command, words)?;
             Ok(Call::Plans(Plan::Ends(code, text)))
         }
-        Builtin::While => Ok(Call::Plans(while_plan(alloc, words)?)),
+        Builtin::While => Ok(Call::Plans(while_plan(alloc, &mut context.commands, words)?)),
     }
 }
 

@@ -4,6 +4,7 @@ ghost use Rattle.tcl_control.specs.Expressions.{evaluation_begins, truth_of};
 use std::alloc::{AllocError, Global};
 use std::marker::Model;
 use tcl_expr::{Eval, Expr, ExprFault, parse_expr};
+use tcl_table::CommandTable;
 use tcl_table::texts::not_boolean;
 use tcl_text::Text;
 
@@ -50,6 +51,27 @@ impl Expression {
                 form: ExpressionForm::Faulty(text.copy()?, fault.text(alloc, text.as_str())?),
             }),
         }
+    }
+
+    /// The expression of a text, which a table keeps, so that it is read once as long as it is kept (expr(n)).
+    pub fn read_by(
+        alloc: Global,
+        table: &mut CommandTable,
+        text: &Text,
+    ) -> Result<Expression, AllocError>
+        ensures table { table.new ≡ table.old }
+        ensures expression { IfOk result (λ expression. expression ≡ text.now) }
+    {
+        if let Some(expr) = table.kept_expression(text)? {
+            return Ok(Expression {
+                form: ExpressionForm::Read(expr),
+            });
+        }
+        let expression = Expression::of(alloc, text)?;
+        if let ExpressionForm::Read(expr) = &expression.form {
+            table.keep_expression(expr)?;
+        }
+        Ok(expression)
     }
 
     /// The same expression, shared.

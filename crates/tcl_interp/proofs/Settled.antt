@@ -1,5 +1,5 @@
 -- What is due, other than a task, is a step or the end.
-use Rattle.std.proofs.Common.{◌≡◌, ℕ, List, refl}
+use Rattle.std.proofs.Common.{◌≡◌, ℕ, List, Box, Global, refl}
 use Rattle.tcl_control.specs.declared.code.Code.{Code}
 use Rattle.tcl_interp.specs.declared.machine.Now.{Now}
 use Rattle.tcl_interp.specs.declared.machine.Now.TheVariants.{Begins, GoesOn, Indexes, Evaluates, Calls, Tests, Steps, Resumes, Ends}
@@ -8,7 +8,7 @@ use Rattle.tcl_interp.specs.Quiet.{IsDueBy}
 use Rattle.tcl_interp.specs.Rests.{doing_of}
 use Rattle.tcl_interp.specs.Steps.{IsSettledBy, NeedsStep}
 
-pub due_settled : {K : Type 0} (now : Now K) (waits : List (Waiting K)) → IsDueBy (doing_of now) waits → ((room : ℕ) (task : K) (code : Code) (text : List ℕ) → now ≡ Resumes room task code text → ⊥) → IsSettledBy (doing_of now) waits
+pub due_settled : {K : Type 0} (now : Now K) (waits : List (Waiting K)) → IsDueBy (doing_of now) waits → ((room : ℕ) (task : Box K Global) (code : Code) (text : List ℕ) → now ≡ Resumes room task code text → ⊥) → IsSettledBy (doing_of now) waits
 due_settled (Begins room script) waits due none = due
 due_settled (GoesOn place result) waits due none = due
 due_settled (Indexes part) waits due none = due

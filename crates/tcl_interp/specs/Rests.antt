@@ -102,28 +102,28 @@ module _ {K : Type 0} where
   abbrev pub doing_of : Now K → Doing K
   doing_of (now.Begins room script) = Begins room script
   doing_of (now.GoesOn place result) = GoesOn place.room (left_in place) result
-  doing_of (now.Indexes part) = Indexes (indexing_of part)
-  doing_of (now.Evaluates room answered) = Evaluates room answered.eval answered.given
+  doing_of (now.Indexes part) = Indexes (indexing_of part.value)
+  doing_of (now.Evaluates room answered) = Evaluates room answered.value.eval answered.value.given
   doing_of (now.Calls room words) = Calls room words
-  doing_of (now.Tests room turning) = Tests room turning
-  doing_of (now.Steps room task) = Steps room task
-  doing_of (now.Resumes room task code text) = Resumes room task code text
+  doing_of (now.Tests room turning) = Tests room turning.value
+  doing_of (now.Steps room task) = Steps room task.value
+  doing_of (now.Resumes room task code text) = Resumes room task.value code text
   doing_of (now.Ends code text) = Ends code text
 
   abbrev pub waiting_of : Frame K → Waiting K
   waiting_of (frame.ForCommand place) = ForCommand place.room (left_in place)
-  waiting_of (frame.ForPart part) = ForPart (wording_of part)
-  waiting_of (frame.ForIndex part) = ForIndex (indexing_of part)
-  waiting_of (frame.ForValue room asking) = ForValue room asking.eval
-  waiting_of (frame.ForTest room turning) = ForTest room turning
-  waiting_of (frame.ForChoice room choosing) = ForChoice room (drop choosing.place choosing.choices.branches) choosing.choices.otherwise
-  waiting_of (frame.ForBody room turning) = ForBody room turning
-  waiting_of (frame.ForNext room turning) = ForNext room turning
-  waiting_of (frame.ForStart room turning) = ForStart room turning
+  waiting_of (frame.ForPart part) = ForPart (wording_of part.value)
+  waiting_of (frame.ForIndex part) = ForIndex (indexing_of part.value)
+  waiting_of (frame.ForValue room asking) = ForValue room asking.value.eval
+  waiting_of (frame.ForTest room turning) = ForTest room turning.value
+  waiting_of (frame.ForChoice room choosing) = ForChoice room (drop choosing.value.place choosing.value.choices.branches) choosing.value.choices.otherwise
+  waiting_of (frame.ForBody room turning) = ForBody room turning.value
+  waiting_of (frame.ForNext room turning) = ForNext room turning.value
+  waiting_of (frame.ForStart room turning) = ForStart room turning.value
   waiting_of (frame.ForCatch name) = ForCatch name
   waiting_of (frame.ForLevels levels) = ForLevels levels
   waiting_of frame.ForProcedure = ForProcedure
-  waiting_of (frame.ForScript room task) = ForScript room task
+  waiting_of (frame.ForScript room task) = ForScript room task.value
   waiting_of frame.ForAll = ForAll
 
   -- what waits, innermost first: the last frame

@@ -16,7 +16,7 @@ use crate::machine::{Answered, Asking, Choosing, Frame, Now};
 use crate::words::wait;
 use std::alloc::{AllocError, Global};
 use tcl_control::texts::{cannot_read, cannot_read_element, fixed};
-use tcl_control::{Choices, Code, Expression, Source, Turning, truth};
+use tcl_control::{Choices, Code, CommandTable, Expression, Source, Turning, truth};
 use tcl_expr::{Ask, Eval, EvalFault};
 use tcl_text::Text;
 use tcl_vars::Scopes;
@@ -32,7 +32,7 @@ pub fn begins<K: Drop>(
     match expression.begin(alloc)? {
         Ok(eval) => Ok(Now::Evaluates {
             room,
-            answered: Answered { eval, given: None },
+            answered: Box::new(alloc, Answered { eval, given: None })?,
         }),
         Err(text) => Ok(Now::Ends {
             code: Code::Error,
@@ -55,13 +55,13 @@ fn variable_given<K: Drop>(
     ensures { IfOk result (λ now. doing_of now ≡ value_given room eval name.now (variable_in scopes.now level name.now)) }
 {
     match scopes.get(level, name) {
-        Ok(value) => Ok(Now::Evaluates {
-            room,
-            answered: Answered {
-                eval,
-                given: Some(value.copy()?),
-            },
-        }),
+        Ok(value) => {
+            let given = Some(value.copy()?);
+            Ok(Now::Evaluates {
+                room,
+                answered: Box::new(alloc, Answered { eval, given })?,
+            })
+        }
         Err(fault) => Ok(Now::Ends {
             code: Code::Error,
             text: cannot_read(alloc, name, fault)?,
@@ -84,13 +84,13 @@ fn element_given<K: Drop>(
     ensures { IfOk result (λ now. doing_of now ≡ value_given room eval (element_name array.now index.now) (element_in scopes.now level array.now index.now)) }
 {
     match scopes.get_element(level, array, index) {
-        Ok(value) => Ok(Now::Evaluates {
-            room,
-            answered: Answered {
-                eval,
-                given: Some(value.copy()?),
-            },
-        }),
+        Ok(value) => {
+            let given = Some(value.copy()?);
+            Ok(Now::Evaluates {
+                room,
+                answered: Box::new(alloc, Answered { eval, given })?,
+            })
+        }
         Err(fault) => Ok(Now::Ends {
             code: Code::Error,
             text: cannot_read_element(alloc, array, index, fault)?,
@@ -122,13 +122,8 @@ fn asked<K: Drop>(
             Ok(now)
         }
         Ask::Command(script) => {
-            wait(
-                frames,
-                Frame::ForValue {
-                    room,
-                    asking: Asking { eval },
-                },
-            )?;
+            let asking = Box::new(alloc, Asking { eval })?;
+            wait(frames, Frame::ForValue { room, asking })?;
             Ok(Now::Begins {
                 room,
                 script: Source::of_script(script),
@@ -162,12 +157,12 @@ pub fn evaluate<K: Drop>(
     level: usize,
     frames: &mut Vec<Frame<K>>,
     room: u64,
-    answered: Answered,
+    answered: Box<Answered>,
 ) -> Result<Now<K>, AllocError>
     requires { level < length scopes.now }
-    ensures { IfOk result (λ now. EvaluationMoves level scopes.now room answered.eval answered.given (waits_of frames.old.items) (moved_of now frames.new.items)) }
+    ensures { IfOk result (λ now. EvaluationMoves level scopes.now room answered.value.eval answered.value.given (waits_of frames.old.items) (moved_of now frames.new.items)) }
 {
-    let Answered { mut eval, given } = answered;
+    let Answered { mut eval, given } = Box::into_inner(answered);
     match eval.resume(given) {
         Ok(ask) => {
             let now = asked(alloc, scopes, level, frames, room, eval, ask)?;
@@ -185,10 +180,10 @@ pub fn turn<K: Drop>(
     alloc: Global,
     frames: &mut Vec<Frame<K>>,
     room: u64,
-    turning: Turning,
+    turning: Box<Turning>,
     value: &Text,
 ) -> Result<Now<K>, AllocError>
-    ensures { IfOk result (λ now. moved_of now frames.new.items ≡ turn_move room turning (waits_of frames.old.items) (truth_of value.now)) }
+    ensures { IfOk result (λ now. moved_of now frames.new.items ≡ turn_move room turning.value (waits_of frames.old.items) (truth_of value.now)) }
 {
     match truth(alloc, value)? {
         Ok(true) => {
@@ -226,17 +221,19 @@ fn otherwise<K: Drop>(alloc: Global, room: u64, body: &Option<Text>) -> Result<N
 /// On to the condition of `if` at a place.
 pub fn choose<K: Drop>(
     alloc: Global,
+    table: &mut CommandTable,
     frames: &mut Vec<Frame<K>>,
     room: u64,
     choices: Choices,
     place: usize,
 ) -> Result<Now<K>, AllocError>
-    ensures { IfOk result (λ now. moved_of now frames.new.items ≡ choice_move room (drop place choices.branches) choices.otherwise (waits_of frames.old.items)) }
+    ensures table { table.new ≡ table.old }
+    ensures now { IfOk result (λ now. moved_of now frames.new.items ≡ choice_move room (drop place choices.branches) choices.otherwise (waits_of frames.old.items)) }
 {
     let branches = choices.branches.as_slice();
     if place < branches.len() {
-        let expression = Expression::of(alloc, &branches[place].test)?;
-        let choosing = Choosing { choices, place };
+        let expression = Expression::read_by(alloc, table, &branches[place].test)?;
+        let choosing = Box::new(alloc, Choosing { choices, place })?;
         wait(frames, Frame::ForChoice { room, choosing })?;
         return begins(alloc, &expression, room);
     }
@@ -247,21 +244,23 @@ pub fn choose<K: Drop>(
 /// The condition of `if` that was begun has this value.
 pub fn chosen<K: Drop>(
     alloc: Global,
+    table: &mut CommandTable,
     frames: &mut Vec<Frame<K>>,
     room: u64,
-    choosing: Choosing,
+    choosing: Box<Choosing>,
     value: &Text,
 ) -> Result<Now<K>, AllocError>
-    ensures { IfOk result (λ now. moved_of now frames.new.items ≡ chosen_move room (drop choosing.place choosing.choices.branches) choosing.choices.otherwise (waits_of frames.old.items) (truth_of value.now)) }
+    ensures table { table.new ≡ table.old }
+    ensures now { IfOk result (λ now. moved_of now frames.new.items ≡ chosen_move room (drop choosing.value.place choosing.value.choices.branches) choosing.value.choices.otherwise (waits_of frames.old.items) (truth_of value.now)) }
 {
-    let Choosing { choices, place } = choosing;
+    let Choosing { choices, place } = Box::into_inner(choosing);
     match truth(alloc, value)? {
         Ok(true) => Ok(Now::Begins {
             room,
             script: Source::of_text(choices.branches.as_slice()[place].body.copy()?),
         }),
         Ok(false) => {
-            let now = choose(alloc, frames, room, choices, place + 1)?;
+            let now = choose(alloc, table, frames, room, choices, place + 1)?;
             Ok(now)
         }
         Err(text) => Ok(Now::Ends {

@@ -95,6 +95,7 @@ impl<K: Drop> Interp<K> {
         ensures budget { budget_of self.new ≡ budget_of self.old }
     {
         let text = fixed(self.alloc, "")?;
+        let task = Box::new(self.alloc, task)?;
         let levels = Levels::global(self.alloc)?;
         self.frames.clear();
         self.context.levels = levels;

@@ -75,7 +75,7 @@ pub struct Choosing {
     ghost within: { place < length choices.branches },
 }
 
-/// What is done now.
+/// What is done now. A move carries it along, so what is large stands behind a box.
 #[derive(Drop)]
 pub enum Now<K> {
     Begins {
@@ -86,10 +86,10 @@ pub enum Now<K> {
         place: Place,
         result: Text,
     },
-    Indexes(Indexing),
+    Indexes(Box<Indexing>),
     Evaluates {
         room: u64,
-        answered: Answered,
+        answered: Box<Answered>,
     },
     Calls {
         room: u64,
@@ -97,15 +97,15 @@ pub enum Now<K> {
     },
     Tests {
         room: u64,
-        turning: Turning,
+        turning: Box<Turning>,
     },
     Steps {
         room: u64,
-        task: K,
+        task: Box<K>,
     },
     Resumes {
         room: u64,
-        task: K,
+        task: Box<K>,
         code: Code,
         text: Text,
     },
@@ -115,22 +115,22 @@ pub enum Now<K> {
     },
 }
 
-/// What waits for something to end.
+/// What waits for something to end, with what is large behind a box.
 #[derive(Drop)]
 pub enum Frame<K> {
     ForCommand(Place),
-    ForPart(Wording),
-    ForIndex(Indexing),
-    ForValue { room: u64, asking: Asking },
-    ForTest { room: u64, turning: Turning },
-    ForChoice { room: u64, choosing: Choosing },
-    ForBody { room: u64, turning: Turning },
-    ForNext { room: u64, turning: Turning },
-    ForStart { room: u64, turning: Turning },
+    ForPart(Box<Wording>),
+    ForIndex(Box<Indexing>),
+    ForValue { room: u64, asking: Box<Asking> },
+    ForTest { room: u64, turning: Box<Turning> },
+    ForChoice { room: u64, choosing: Box<Choosing> },
+    ForBody { room: u64, turning: Box<Turning> },
+    ForNext { room: u64, turning: Box<Turning> },
+    ForStart { room: u64, turning: Box<Turning> },
     ForCatch(Option<Text>),
     ForLevels(Levels),
     ForProcedure,
-    ForScript { room: u64, task: K },
+    ForScript { room: u64, task: Box<K> },
     ForAll,
 }
 

@@ -1,11 +1,11 @@
-ghost use Rattle.std.specs.Prelude.{◌≡◌, [], List, IfOk, IsOk, MatchResult, MatchOption, ◌∷◌, Err};
+ghost use Rattle.std.specs.Prelude.{◌≡◌, [], List, Some, IfOk, IsOk, MatchResult, MatchOption, ◌∷◌, Err};
 ghost use Rattle.tcl_control.specs.Commands.{caught_ending};
 ghost use Rattle.tcl_control.specs.Levels.{here, popped};
 ghost use Rattle.tcl_control.specs.Source.{script_of};
 ghost use Rattle.tcl_interp.specs.Plans.{joined, callers, procedure_code, procedure_text};
 ghost use Rattle.tcl_interp.specs.Scripts.{out_of_global};
 ghost use Rattle.tcl_interp.specs.Moves.{begin_move, parsed_move, end_move, next_move, after_body_move, after_next_move, after_start_move, ending_move, moved, standing, global_end};
-ghost use Rattle.tcl_interp.specs.Finish.{Waiting, Ends};
+ghost use Rattle.tcl_interp.specs.Finish.{Waiting, Ends, Evaluates};
 ghost use Rattle.tcl_interp.specs.Rests.{waiting_of, moved_of, waits_of, doing_of, standing_of};
 ghost use Rattle.tcl_interp.specs.Advances.{MoveGives};
 ghost use Rattle.tcl_interp.specs.Quiet.{Leads, IsDue};
@@ -15,7 +15,7 @@ use crate::machine::{Answered, Asking, Frame, Now, Place};
 use crate::words::{after_part, go_on, longer_index, put_index, wait};
 use std::alloc::{AllocError, Global};
 use tcl_control::texts::{fault_text, fixed};
-use tcl_control::{Code, Context, End, ReturnCode, Source, Turning, caught};
+use tcl_control::{Code, CommandTable, Context, End, ReturnCode, Source, Turning, caught};
 use tcl_text::Text;
 use tcl_vars::Scopes;
 use tcl_words::Script;
@@ -56,8 +56,14 @@ fn first_command<K>(alloc: Global, script: Script, room: u64) -> Result<Now<K>, 
 }
 
 /// A script begins: it is read whole first, unless there is no room for it.
-pub fn begun<K: Drop>(alloc: Global, script: Source, room: u64) -> Result<Now<K>, AllocError>
-    ensures { IfOk result (λ now. (waits : List (Waiting K)) → moved (doing_of now) waits ≡ begin_move room script waits) }
+pub fn begun<K: Drop>(
+    alloc: Global,
+    table: &mut CommandTable,
+    script: Source,
+    room: u64,
+) -> Result<Now<K>, AllocError>
+    ensures table { table.new ≡ table.old }
+    ensures now { IfOk result (λ now. (waits : List (Waiting K)) → moved (doing_of now) waits ≡ begin_move room script waits) }
 {
     if room == 0 {
         return Ok(Now::Ends {
@@ -65,7 +71,7 @@ pub fn begun<K: Drop>(alloc: Global, script: Source, room: u64) -> Result<Now<K>
             text: fixed(alloc, "too many nested evaluations (infinite loop?)")?,
         });
     }
-    match script.read(alloc)? {
+    match script.read(table)? {
         Ok(script) => first_command(alloc, script, room - 1),
         Err(fault) => Ok(Now::Ends {
             code: Code::Error,
@@ -78,9 +84,9 @@ pub fn begun<K: Drop>(alloc: Global, script: Source, room: u64) -> Result<Now<K>
 fn next_turn<K: Drop>(
     frames: &mut Vec<Frame<K>>,
     room: u64,
-    turning: Turning,
+    turning: Box<Turning>,
 ) -> Result<Now<K>, AllocError>
-    ensures { IfOk result (λ now. moved_of now frames.new.items ≡ next_move room turning (waits_of frames.old.items) turning.next) }
+    ensures { IfOk result (λ now. moved_of now frames.new.items ≡ next_move room turning.value (waits_of frames.old.items) turning.value.next) }
 {
     match &turning.next {
         None => Ok(Now::Tests { room, turning }),
@@ -97,11 +103,11 @@ fn after_body<K: Drop>(
     alloc: Global,
     frames: &mut Vec<Frame<K>>,
     room: u64,
-    turning: Turning,
+    turning: Box<Turning>,
     code: Code,
     text: Text,
 ) -> Result<Now<K>, AllocError>
-    ensures { IfOk result (λ now. moved_of now frames.new.items ≡ after_body_move room turning (waits_of frames.old.items) code text) }
+    ensures { IfOk result (λ now. moved_of now frames.new.items ≡ after_body_move room turning.value (waits_of frames.old.items) code text) }
 {
     match code {
         Code::Normal => next_turn(frames, room, turning),
@@ -119,11 +125,11 @@ fn after_body<K: Drop>(
 fn after_next<K: Drop>(
     alloc: Global,
     room: u64,
-    turning: Turning,
+    turning: Box<Turning>,
     code: Code,
     text: Text,
 ) -> Result<Now<K>, AllocError>
-    ensures { IfOk result (λ now. (waits : List (Waiting K)) → moved (doing_of now) waits ≡ after_next_move room turning waits code text) }
+    ensures { IfOk result (λ now. (waits : List (Waiting K)) → moved (doing_of now) waits ≡ after_next_move room turning.value waits code text) }
 {
     match code {
         Code::Normal => Ok(Now::Tests { room, turning }),
@@ -138,8 +144,8 @@ fn after_next<K: Drop>(
 }
 
 /// What `for` runs before the first test has ended.
-fn after_start<K: Drop>(room: u64, turning: Turning, code: Code, text: Text) -> Now<K>
-    ensures { (waits : List (Waiting K)) → moved (doing_of result) waits ≡ after_start_move room turning waits code text }
+fn after_start<K: Drop>(room: u64, turning: Box<Turning>, code: Code, text: Text) -> Now<K>
+    ensures { (waits : List (Waiting K)) → moved (doing_of result) waits ≡ after_start_move room turning.value waits code text }
 {
     match code {
         Code::Normal => Now::Tests { room, turning },
@@ -232,6 +238,23 @@ fn global_end<K: Drop>(alloc: Global, code: Code, text: Text) -> Result<Now<K>, 
     }
 }
 
+/// A script that an evaluation asked for has ended normally.
+fn value_given<K: Drop>(
+    alloc: Global,
+    room: u64,
+    asking: Box<Asking>,
+    text: Text,
+) -> Result<Now<K>, AllocError>
+    ensures { IfOk result (λ now. doing_of now ≡ Evaluates room asking.value.eval (Some text)) }
+{
+    let Asking { eval } = Box::into_inner(asking);
+    let given = Some(text);
+    Ok(Now::Evaluates {
+        room,
+        answered: Box::new(alloc, Answered { eval, given })?,
+    })
+}
+
 /// Something has ended, and what waited for it goes on.
 fn ended<K: Drop>(
     alloc: Global,
@@ -269,14 +292,8 @@ fn ended<K: Drop>(
         },
         Frame::ForValue { room, asking } => match code {
             Code::Normal => {
-                let Asking { eval } = asking;
-                Ok(Now::Evaluates {
-                    room,
-                    answered: Answered {
-                        eval,
-                        given: Some(text),
-                    },
-                })
+                let now = value_given(alloc, room, asking, text)?;
+                Ok(now)
             }
             code => Ok(Now::Ends { code, text }),
         },
@@ -289,7 +306,7 @@ fn ended<K: Drop>(
         },
         Frame::ForChoice { room, choosing } => match code {
             Code::Normal => {
-                let now = chosen(alloc, frames, room, choosing, &text)?;
+                let now = chosen(alloc, &mut context.commands, frames, room, choosing, &text)?;
                 Ok(now)
             }
             code => Ok(Now::Ends { code, text }),
@@ -359,7 +376,7 @@ fn advance<K: Drop>(
 {
     match now {
         Now::Begins { room, script } => {
-            let now = begun(alloc, script, room)?;
+            let now = begun(alloc, &mut context.commands, script, room)?;
             Ok(Move::On(now))
         }
         Now::GoesOn { place, result } => {

@@ -34,9 +34,12 @@ fn settle<T: Tasks>(
                 task,
                 code,
                 text,
-            } => doing = resume(
-                alloc, tasks, scopes, context, frames, room, task, code, text,
-            )?,
+            } => {
+                let task = Box::into_inner(task);
+                doing = resume(
+                    alloc, tasks, scopes, context, frames, room, task, code, text,
+                )?;
+            }
             settled => return Ok(settled),
         }
     }

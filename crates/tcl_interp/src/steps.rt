@@ -3,10 +3,10 @@ ghost use Rattle.tcl_vars.specs.Store.{Store};
 ghost use Rattle.tcl_control.specs.Levels.{here};
 ghost use Rattle.tcl_control.specs.Turns.{items_tested};
 ghost use Rattle.tcl_interp.specs.Plans.{cut, others};
-ghost use Rattle.tcl_interp.specs.Finish.{Calls, ForLevels, ForTest};
-ghost use Rattle.tcl_interp.specs.Moves.{moved, standing, expression_begins, plan_move, items_move, test_move, act_move};
+ghost use Rattle.tcl_interp.specs.Finish.{Calls, ForLevels};
+ghost use Rattle.tcl_interp.specs.Moves.{moved, standing, plan_move, items_move, test_move, act_move};
 ghost use Rattle.tcl_interp.specs.Rests.{moved_of, standing_of, waits_of};
-ghost use Rattle.tcl_interp.specs.Steps.{TakesStep, Resumed};
+ghost use Rattle.tcl_interp.specs.Steps.{IsThroughItems, TakesStep, Resumed};
 
 use crate::expressions::{begins, choose};
 use crate::machine::{Frame, Now};
@@ -15,8 +15,7 @@ use crate::words::wait;
 use std::alloc::{AllocError, Global};
 use tcl_control::texts::{fixed, unknown_command};
 use tcl_control::{
-    Call, Code, Context, Expression, Plan, Source, Test, Turning, Verdict, call_command,
-    items_tested,
+    Call, Code, Context, Plan, Source, Test, Turning, Verdict, call_command, items_tested,
 };
 use tcl_shapes::Groups;
 use tcl_text::{Text, TextList};
@@ -66,11 +65,15 @@ fn follow<K: Drop>(
             Ok(now)
         }
         Plan::Chooses(choices) => {
-            let now = choose(alloc, frames, room, choices, 0)?;
+            let now = choose(alloc, &mut context.commands, frames, room, choices, 0)?;
             Ok(now)
         }
-        Plan::Turns(turning) => Ok(Now::Tests { room, turning }),
+        Plan::Turns(turning) => Ok(Now::Tests {
+            room,
+            turning: Box::new(alloc, turning)?,
+        }),
         Plan::Starts(script, turning) => {
+            let turning = Box::new(alloc, turning)?;
             wait(frames, Frame::ForStart { room, turning })?;
             Ok(Now::Begins { room, script })
         }
@@ -90,8 +93,12 @@ fn act_on<K: Drop>(
 {
     match act {
         Act::Done(code, text) => Ok(Now::Ends { code, text }),
-        Act::Step(task) => Ok(Now::Steps { room, task }),
+        Act::Step(task) => Ok(Now::Steps {
+            room,
+            task: Box::new(alloc, task)?,
+        }),
         Act::Run { script, task } => {
+            let task = Box::new(alloc, task)?;
             wait(frames, Frame::ForScript { room, task })?;
             run_at(alloc, context, frames, 1)?;
             Ok(Now::Begins {
@@ -124,7 +131,7 @@ fn test_items<K: Drop>(
         Verdict::More(groups) => {
             let script = body.copy()?;
             let test = Test::Items(groups);
-            let turning = Turning { test, body, next };
+            let turning = Box::new(alloc, Turning { test, body, next })?;
             wait(frames, Frame::ForBody { room, turning })?;
             Ok(Now::Begins { room, script })
         }
@@ -139,22 +146,26 @@ fn test_items<K: Drop>(
     }
 }
 
-/// A loop evaluates its condition.
-fn test_condition<K: Drop>(
+/// A loop through items tests whether it has another turn.
+fn test_groups<K: Drop>(
     alloc: Global,
+    scopes: &mut Scopes,
+    context: &Context,
     frames: &mut Vec<Frame<K>>,
-    condition: Expression,
-    body: Source,
-    next: Option<Source>,
+    turning: Turning,
     room: u64,
 ) -> Result<Now<K>, AllocError>
-    ensures { IfOk result (λ now. moved_of now frames.new.items ≡ moved (expression_begins room condition) (ForTest room (record { test = Test.Holds condition; body = body; next = next }) ∷ waits_of frames.old.items)) }
+    requires { IsThroughItems turning.test }
+    ensures { IfOk result (λ now. standing_of now frames.new.items scopes.new context.now ≡ test_move room turning scopes.old context.now (waits_of frames.old.items) turning.test) }
 {
-    let now = begins(alloc, &condition, room)?;
-    let test = Test::Holds(condition);
-    let turning = Turning { test, body, next };
-    wait(frames, Frame::ForTest { room, turning })?;
-    Ok(now)
+    let Turning { test, body, next } = turning;
+    match test {
+        Test::Items(groups) => {
+            let now = test_items(alloc, scopes, context, frames, groups, body, next, room)?;
+            Ok(now)
+        }
+        Test::Holds(_) => unreachable!(),
+    }
 }
 
 /// A loop tests whether it has another turn.
@@ -163,19 +174,20 @@ pub fn test<K: Drop>(
     scopes: &mut Scopes,
     context: &Context,
     frames: &mut Vec<Frame<K>>,
-    turning: Turning,
+    turning: Box<Turning>,
     room: u64,
 ) -> Result<Now<K>, AllocError>
-    ensures { IfOk result (λ now. standing_of now frames.new.items scopes.new context.now ≡ test_move room turning scopes.old context.now (waits_of frames.old.items) turning.test) }
+    ensures { IfOk result (λ now. standing_of now frames.new.items scopes.new context.now ≡ test_move room turning.value scopes.old context.now (waits_of frames.old.items) turning.value.test) }
 {
-    let Turning { test, body, next } = turning;
-    match test {
+    match &turning.test {
         Test::Holds(condition) => {
-            let now = test_condition(alloc, frames, condition, body, next, room)?;
+            let now = begins(alloc, condition, room)?;
+            wait(frames, Frame::ForTest { room, turning })?;
             Ok(now)
         }
-        Test::Items(groups) => {
-            let now = test_items(alloc, scopes, context, frames, groups, body, next, room)?;
+        Test::Items(_) => {
+            let turning = Box::into_inner(turning);
+            let now = test_groups(alloc, scopes, context, frames, turning, room)?;
             Ok(now)
         }
     }

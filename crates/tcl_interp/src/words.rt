@@ -362,14 +362,15 @@ fn element_begins<K: Drop>(
         });
     }
     let _pieces = index.pieces();
-    Ok(Now::Indexes(Indexing {
+    let indexing = Indexing {
         room,
         depth: depth - 1,
         name,
         index,
         piece: 0,
         so_far: Joined::Nothing,
-    }))
+    };
+    Ok(Now::Indexes(Box::new(alloc, indexing)?))
 }
 
 /// A part of a word or of an index is to be evaluated.
@@ -405,16 +406,14 @@ fn word_part<K: Drop>(
     ensures { IfOk result (λ now. moved_of now frames.new.items ≡ word_part place.room (drop (place.next + 1) (commands_in place.script)) (expand_in_front (drop word (words_in_front (left_in place)))) (drop (word + 1) (words_in_front (left_in place))) whole (drop piece (pieces_in_front (drop word (words_in_front (left_in place))))) (joined_text so_far) (part_of part) (waits_of frames.old.items)) }
 {
     let room = place.room;
-    wait(
-        frames,
-        Frame::ForPart(Wording {
-            place,
-            word,
-            piece,
-            whole,
-            so_far,
-        }),
-    )?;
+    let wording = Wording {
+        place,
+        word,
+        piece,
+        whole,
+        so_far,
+    };
+    wait(frames, Frame::ForPart(Box::new(alloc, wording)?))?;
     part_begins(alloc, room, INDEX_DEPTH, part)
 }
 
@@ -455,10 +454,10 @@ pub fn put_index<K: Drop>(
     scopes: &Scopes,
     level: usize,
     frames: &mut Vec<Frame<K>>,
-    indexing: Indexing,
+    indexing: Box<Indexing>,
 ) -> Result<Now<K>, AllocError>
     requires { level < length scopes.now }
-    ensures { IfOk result (λ now. moved_of now frames.new.items ≡ indexes_move level scopes.now (indexing_of indexing) (waits_of frames.old.items)) }
+    ensures { IfOk result (λ now. moved_of now frames.new.items ≡ indexes_move level scopes.now (indexing_of indexing.value) (waits_of frames.old.items)) }
 {
     let Indexing {
         room,
@@ -467,7 +466,7 @@ pub fn put_index<K: Drop>(
         index,
         piece,
         so_far,
-    } = indexing;
+    } = Box::into_inner(indexing);
     match put_pieces(alloc, scopes, level, pieces_of(&index), piece, so_far)? {
         Put::Whole(text) => element(alloc, scopes, level, &name, &text),
         Put::Failed(text) => Ok(Now::Ends {
@@ -475,17 +474,15 @@ pub fn put_index<K: Drop>(
             text,
         }),
         Put::AtPart { part, next, so_far } => {
-            wait(
-                frames,
-                Frame::ForIndex(Indexing {
-                    room,
-                    depth,
-                    name,
-                    index,
-                    piece: next,
-                    so_far,
-                }),
-            )?;
+            let indexing = Indexing {
+                room,
+                depth,
+                name,
+                index,
+                piece: next,
+                so_far,
+            };
+            wait(frames, Frame::ForIndex(Box::new(alloc, indexing)?))?;
             part_begins(alloc, room, depth, part)
         }
     }
@@ -494,10 +491,10 @@ pub fn put_index<K: Drop>(
 /// A part of an index has ended normally.
 pub fn longer_index<K: Drop>(
     alloc: Global,
-    indexing: Indexing,
+    indexing: Box<Indexing>,
     text: Text,
 ) -> Result<Now<K>, AllocError>
-    ensures { IfOk result (λ now. doing_of now ≡ longer_index (indexing_of indexing) text) }
+    ensures { IfOk result (λ now. doing_of now ≡ longer_index (indexing_of indexing.value) text) }
 {
     let Indexing {
         room,
@@ -506,16 +503,19 @@ pub fn longer_index<K: Drop>(
         index,
         piece,
         so_far,
-    } = indexing;
+    } = Box::into_inner(indexing);
     match joined(alloc, so_far, text)? {
-        Some(so_far) => Ok(Now::Indexes(Indexing {
-            room,
-            depth,
-            name,
-            index,
-            piece,
-            so_far,
-        })),
+        Some(so_far) => {
+            let indexing = Indexing {
+                room,
+                depth,
+                name,
+                index,
+                piece,
+                so_far,
+            };
+            Ok(Now::Indexes(Box::new(alloc, indexing)?))
+        }
         None => Ok(Now::Ends {
             code: Code::Error,
             text: limit(alloc)?,
@@ -529,11 +529,11 @@ pub fn after_part<K: Drop>(
     scopes: &Scopes,
     level: usize,
     frames: &mut Vec<Frame<K>>,
-    wording: Wording,
+    wording: Box<Wording>,
     text: Text,
 ) -> Result<Now<K>, AllocError>
     requires { level < length scopes.now }
-    ensures { IfOk result (λ now. moved_of now frames.new.items ≡ part_move level scopes.now (wording_of wording) (waits_of frames.old.items) text) }
+    ensures { IfOk result (λ now. moved_of now frames.new.items ≡ part_move level scopes.now (wording_of wording.value) (waits_of frames.old.items) text) }
 {
     let Wording {
         place,
@@ -541,7 +541,7 @@ pub fn after_part<K: Drop>(
         piece,
         whole,
         so_far,
-    } = wording;
+    } = Box::into_inner(wording);
     let Some(so_far) = joined(alloc, so_far, text)? else {
         return Ok(Now::Ends {
             code: Code::Error,

@@ -14,10 +14,10 @@ script_of text = commands_of text
 abbrev pub source_text : SourceForm → List ℕ
 source_text (Unread text) = text
 source_text (Read script) = script
-source_text (Faulty text fault) = text
+source_text (Faulty fault text) = text
 
 -- where a fault is kept, it is the script's
 abbrev pub HasFault : SourceForm → Type 0
 HasFault (Unread text) = Unit {0}
 HasFault (Read script) = Unit {0}
-HasFault (Faulty text fault) = script_of text ≡ Err fault
+HasFault (Faulty fault text) = script_of text ≡ Err fault

@@ -1,17 +1,21 @@
-ghost use Rattle.std.specs.Prelude.{◌≡◌, ◌≤◌, [], length, IfOk, OnOk, OnErr};
+ghost use Rattle.std.specs.Prelude.{◌≡◌, ◌≤◌, [], length, Err, IfOk, IfSome, IsOk, MatchResult, OnOk, OnErr};
 ghost use Rattle.std.specs.Option.{option_copied};
 ghost use Rattle.indexmap.specs.IndexMap.{values};
 ghost use Rattle.tcl_table.specs.Names.{is_dotted, plain_name};
+ghost use Rattle.tcl_table.specs.Source.{script_of};
 ghost use Rattle.tcl_table.specs.Table.{builtins, variables, text_names, is_procedure, procedure_count, procedures_among, value_at, with_value, without, first_commands, with_builtins, with_texts, with_outside};
 
 use crate::builtin::Builtin;
+use crate::kept::{expression_at, place_of, script_at, vacant_places};
 use crate::procedure::Procedure;
 use crate::texts::fixed;
 use indexmap::IndexMap;
 use std::alloc::{AllocError, Global};
 use std::marker::Model;
 use tcl_commands::VariableCommand;
+use tcl_expr::Expr;
 use tcl_text::Text;
+use tcl_words::{ParseFault, Script, parse};
 
 /// What a name calls.
 #[derive(Drop)]
@@ -43,10 +47,13 @@ pub fn is_dotted(name: &str) -> bool
     name.starts_with(".")
 }
 
-/// The commands by their names.
+/// The commands by their names, and beside them what was read of the scripts and expressions that they run. Contracts see the
+/// commands alone: what is kept of a text is what that text says, whether or not it is kept.
 #[derive(Drop)]
 pub struct CommandTable {
     entries: IndexMap<String, Command>,
+    scripts: Vec<Option<Script>>,
+    expressions: Vec<Option<Expr>>,
     alloc: Global,
 }
 
@@ -61,14 +68,16 @@ impl Model for CommandTable {
 }
 
 impl CommandTable {
-    /// No commands. It takes no memory.
-    fn new(alloc: Global) -> CommandTable
-        ensures { result ≡ [] }
+    /// No commands.
+    fn new(alloc: Global) -> Result<CommandTable, AllocError>
+        ensures { IfOk result (λ table. table ≡ []) }
     {
-        CommandTable {
+        Ok(CommandTable {
             entries: IndexMap::new(alloc),
+            scripts: vacant_places(alloc)?,
+            expressions: vacant_places(alloc)?,
             alloc,
-        }
+        })
     }
 
     /// The command of a name.
@@ -94,6 +103,55 @@ impl CommandTable {
         ensures rest { self.new ≡ without self.old name.now }
     {
         self.entries.shift_remove(name)
+    }
+
+    /// The script of a text, or its fault. It is kept, and read once as long as it is.
+    #[tactic(auto, unfolding(crate::specs::Source::script_of))]
+    pub fn read(&mut self, text: &Text) -> Result<Result<Script, ParseFault>, AllocError>
+        ensures table { self.new ≡ self.old }
+        ensures reading { IfOk result (λ reading. MatchResult reading (λ script. (script ≡ text.now) × IsOk (script_of text.now)) (λ fault. script_of text.now ≡ Err fault)) }
+    {
+        let place = place_of(text);
+        if let Some(script) = script_at(self.scripts.as_slice(), place, text)? {
+            return Ok(Ok(script));
+        }
+        match parse(self.alloc, text.as_str().as_bytes()) {
+            Ok(script) => {
+                self.keep_script(place, &script)?;
+                Ok(Ok(script))
+            }
+            Err(ParseFault::NoMemory) => Err(AllocError),
+            Err(fault) => Ok(Err(fault)),
+        }
+    }
+
+    /// Keeps a script at a place, instead of what is there.
+    fn keep_script(&mut self, place: usize, script: &Script) -> Result<(), AllocError>
+        ensures { self.new ≡ self.old }
+    {
+        if place < self.scripts.len() {
+            self.scripts[place] = Some(script.copy()?);
+        }
+        Ok(())
+    }
+
+    /// The expression of a text, if it is kept.
+    pub fn kept_expression(&self, text: &Text) -> Result<Option<Expr>, AllocError>
+        ensures { IfOk result (λ kept. IfSome kept (λ expr. expr ≡ text.now)) }
+    {
+        let _ = &self.entries;
+        expression_at(self.expressions.as_slice(), place_of(text), text)
+    }
+
+    /// Keeps an expression.
+    pub fn keep_expression(&mut self, expr: &Expr) -> Result<(), AllocError>
+        ensures { self.new ≡ self.old }
+    {
+        let place = place_of(expr.text());
+        if place < self.expressions.len() {
+            self.expressions[place] = Some(expr.copy()?);
+        }
+        Ok(())
     }
 
     /// How many procedures there are.
@@ -127,7 +185,7 @@ fn is_procedure(command: &Command) -> bool
 pub fn first_commands(alloc: Global, outside: &[Text]) -> Result<CommandTable, AllocError>
     ensures { IfOk result (λ table. table ≡ first_commands outside.now) }
 {
-    let mut table = CommandTable::new(alloc);
+    let mut table = CommandTable::new(alloc)?;
     add_builtins(&mut table)?;
     add_texts(alloc, &mut table)?;
     for name in outside {

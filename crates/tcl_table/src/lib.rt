@@ -3,6 +3,7 @@
 
 mod builtin;
 mod command;
+mod kept;
 mod levels;
 mod procedure;
 mod source;

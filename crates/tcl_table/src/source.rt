@@ -1,6 +1,7 @@
 ghost use Rattle.std.specs.Prelude.{◌≡◌, IfOk, IsOk, MatchResult, Err};
 ghost use Rattle.tcl_table.specs.Source.{script_of};
 
+use crate::command::CommandTable;
 use std::alloc::{AllocError, Global};
 use std::marker::Model;
 use tcl_text::Text;
@@ -14,7 +15,7 @@ pub enum SourceForm {
     /// Into its commands.
     Read(Script),
     /// Up to its fault.
-    Faulty(Text, ParseFault),
+    Faulty(ParseFault, Text),
 }
 
 /// A script that is to be run, read at most once. Contracts see its text.
@@ -62,8 +63,19 @@ impl Source {
             Ok(script) => Ok(Source::of_script(script)),
             Err(ParseFault::NoMemory) => Err(AllocError),
             Err(fault) => Ok(Source {
-                form: SourceForm::Faulty(text.copy()?, fault),
+                form: SourceForm::Faulty(fault, text.copy()?),
             }),
+        }
+    }
+
+    /// A script by its text, read at once by a table, which keeps it, so that its copies are read. One with a fault is left unread.
+    pub fn read_by(table: &mut CommandTable, text: &Text) -> Result<Source, AllocError>
+        ensures table { table.new ≡ table.old }
+        ensures source { IfOk result (λ source. source ≡ text.now) }
+    {
+        match table.read(text)? {
+            Ok(script) => Ok(Source::of_script(script)),
+            Err(_) => Ok(Source::of_text(text.copy()?)),
         }
     }
 
@@ -78,29 +90,29 @@ impl Source {
             SourceForm::Read(script) => Ok(Source {
                 form: SourceForm::Read(script.copy()?),
             }),
-            SourceForm::Faulty(text, fault) => Ok(Source {
-                form: SourceForm::Faulty(text.copy()?, *fault),
+            SourceForm::Faulty(fault, text) => Ok(Source {
+                form: SourceForm::Faulty(*fault, text.copy()?),
             }),
         }
     }
 
-    /// The script's commands, or its fault.
+    /// The script's commands, or its fault; a table reads what hasn't been read.
     #[tactic(auto, unfolding(crate::specs::Source::script_of))]
-    pub fn read(self, alloc: Global) -> Result<Result<Script, ParseFault>, AllocError>
-        ensures { IfOk result (λ reading. MatchResult reading (λ script. (script ≡ self) × IsOk (script_of self)) (λ fault. script_of self ≡ Err fault)) }
+    pub fn read(self, table: &mut CommandTable) -> Result<Result<Script, ParseFault>, AllocError>
+        ensures table { table.new ≡ table.old }
+        ensures reading { IfOk result (λ reading. MatchResult reading (λ script. (script ≡ self) × IsOk (script_of self)) (λ fault. script_of self ≡ Err fault)) }
     {
         let Source { form } = self;
         match form {
-            SourceForm::Unread(text) => match parse(alloc, text.as_str().as_bytes()) {
-                Ok(script) => Ok(Ok(script)),
-                Err(ParseFault::NoMemory) => Err(AllocError),
-                Err(fault) => Ok(Err(fault)),
-            },
+            SourceForm::Unread(text) => {
+                let reading = table.read(&text)?;
+                Ok(reading)
+            }
             SourceForm::Read(script) => {
                 let _commands = script.commands();
                 Ok(Ok(script))
             }
-            SourceForm::Faulty(_, fault) => Ok(Err(fault)),
+            SourceForm::Faulty(fault, _) => Ok(Err(fault)),
         }
     }
 }

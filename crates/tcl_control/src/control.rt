@@ -14,7 +14,7 @@ use crate::define::{make_procedure, rename};
 use crate::expression::Expression;
 use crate::plan::Plan;
 use crate::procedure::call_procedure;
-use crate::turns::{Test, Turning};
+use crate::turns::{Looping, Test, Turning};
 use crate::variables::{upvar_end, variable_end};
 use std::alloc::{AllocError, Global};
 use tcl_shapes::{foreach_groups, has_body};
@@ -87,11 +87,14 @@ fn while_plan(alloc: Global, table: &mut CommandTable, words: &[Text]) -> Result
     ensures plan { IfOk result (λ plan. plan ≡ while_plan words.now) }
 {
     match words {
-        [condition, body] => Ok(Plan::Turns(Turning {
-            test: Test::Holds(Expression::read_by(alloc, table, condition)?),
-            body: Source::read_by(table, body)?,
-            next: None,
-        })),
+        [condition, body] => {
+            let turning = Turning {
+                test: Test::Holds(Expression::read_by(alloc, table, condition)?),
+                body: Source::read_by(table, body)?,
+                next: None,
+            };
+            Ok(Plan::Turns(Looping::new(alloc, turning)?))
+        }
         _ => Ok(fails(fixed(alloc, "wrong # args: should be \"while cond body\"")?)),
     }
 }
@@ -102,14 +105,15 @@ fn for_plan(alloc: Global, table: &mut CommandTable, words: &[Text]) -> Result<P
     ensures plan { IfOk result (λ plan. plan ≡ for_plan words.now) }
 {
     match words {
-        [start, condition, next, body] => Ok(Plan::Starts(
-            Source::of_text(start.copy()?),
-            Turning {
+        [start, condition, next, body] => {
+            let turning = Turning {
                 test: Test::Holds(Expression::read_by(alloc, table, condition)?),
                 body: Source::read_by(table, body)?,
                 next: Some(Source::read_by(table, next)?),
-            },
-        )),
+            };
+            let start = Source::of_text(start.copy()?);
+            Ok(Plan::Starts(start, Looping::new(alloc, turning)?))
+        }
         _ => Ok(fails(fixed(
             alloc,
             "wrong # args: should be \"for start cond next body\"",
@@ -130,11 +134,14 @@ fn foreach_plan(alloc: Global, table: &mut CommandTable, words: &[Text]) -> Resu
     }
     let body = Source::read_by(table, &words[words.len() - 1])?;
     match foreach_groups(alloc, words)? {
-        Ok(groups) => Ok(Plan::Turns(Turning {
-            test: Test::Items(groups),
-            body,
-            next: None,
-        })),
+        Ok(groups) => {
+            let turning = Turning {
+                test: Test::Items(groups),
+                body,
+                next: None,
+            };
+            Ok(Plan::Turns(Looping::new(alloc, turning)?))
+        }
         Err(text) => Ok(fails(text)),
     }
 }

@@ -23,4 +23,4 @@ pub use tcl_shapes::{Branch, Branches, Choices};
 pub use tcl_table::{
     Builtin, Command, CommandTable, Levels, Procedure, Source, first_commands, plain_name, texts,
 };
-pub use turns::{Test, Turning, Verdict, items_tested};
+pub use turns::{Looping, Test, Turning, Verdict, items_tested};

@@ -1,6 +1,6 @@
 use crate::code::Code;
 use crate::expression::Expression;
-use crate::turns::Turning;
+use crate::turns::Looping;
 use tcl_shapes::Choices;
 use tcl_table::Source;
 use tcl_text::Text;
@@ -23,7 +23,7 @@ pub enum Plan {
     /// The first body whose condition holds runs.
     Chooses(Choices),
     /// A loop is to be tested.
-    Turns(Turning),
+    Turns(Looping),
     /// A script runs, and then a loop is tested.
-    Starts(Source, Turning),
+    Starts(Source, Looping),
 }

@@ -4,6 +4,7 @@ ghost use Rattle.tcl_control.specs.Turns.{tested_as, items_tested};
 use crate::assign::assign_groups;
 use crate::expression::Expression;
 use std::alloc::{AllocError, Global};
+use std::marker::Model;
 use tcl_shapes::Groups;
 use tcl_table::Source;
 use tcl_text::Text;
@@ -24,6 +25,46 @@ pub struct Turning {
     pub test: Test,
     pub body: Source,
     pub next: Option<Source>,
+}
+
+/// A loop that is handed on without being moved. Contracts see the loop.
+#[derive(Drop)]
+pub struct Looping {
+    turning: Box<Turning>,
+}
+
+impl Model for Looping {
+    ghost use Rattle.tcl_control.specs.declared.turns.Turning.{Turning};
+
+    ghost Value = { Turning };
+
+    ghost view = { λ l. l.turning.value };
+}
+
+impl Looping {
+    /// This loop.
+    pub fn new(alloc: Global, turning: Turning) -> Result<Looping, AllocError>
+        ensures { IfOk result (λ looping. looping ≡ turning) }
+    {
+        Ok(Looping {
+            turning: Box::new(alloc, turning)?,
+        })
+    }
+
+    /// The loop. It takes no memory.
+    pub fn get(&self) -> &Turning
+        ensures { result.now ≡ self.now }
+    {
+        &self.turning
+    }
+
+    /// The loop, taken out. It takes no memory.
+    pub fn into_inner(self) -> Turning
+        ensures { result ≡ self }
+    {
+        let Looping { turning } = self;
+        Box::into_inner(turning)
+    }
 }
 
 /// What a test for items came to.

@@ -16,7 +16,7 @@ use crate::machine::{Answered, Asking, Choosing, Frame, Now};
 use crate::words::wait;
 use std::alloc::{AllocError, Global};
 use tcl_control::texts::{cannot_read, cannot_read_element, fixed};
-use tcl_control::{Choices, Code, CommandTable, Expression, Source, Turning, truth};
+use tcl_control::{Choices, Code, CommandTable, Expression, Looping, Source, truth};
 use tcl_expr::{Ask, Eval, EvalFault};
 use tcl_text::Text;
 use tcl_vars::Scopes;
@@ -180,14 +180,14 @@ pub fn turn<K: Drop>(
     alloc: Global,
     frames: &mut Vec<Frame<K>>,
     room: u64,
-    turning: Box<Turning>,
+    turning: Looping,
     value: &Text,
 ) -> Result<Now<K>, AllocError>
-    ensures { IfOk result (λ now. moved_of now frames.new.items ≡ turn_move room turning.value (waits_of frames.old.items) (truth_of value.now)) }
+    ensures { IfOk result (λ now. moved_of now frames.new.items ≡ turn_move room turning (waits_of frames.old.items) (truth_of value.now)) }
 {
     match truth(alloc, value)? {
         Ok(true) => {
-            let script = turning.body.copy()?;
+            let script = turning.get().body.copy()?;
             wait(frames, Frame::ForBody { room, turning })?;
             Ok(Now::Begins { room, script })
         }

@@ -1,7 +1,7 @@
 ghost use Rattle.std.specs.Prelude.{◌≡◌, ◌<◌, ◌≤◌, is_some, length, string_len, true};
 ghost use Rattle.tcl_expr.specs.Evaluation.{is_waiting};
 
-use tcl_control::{Choices, Code, Levels, Source, Turning};
+use tcl_control::{Choices, Code, Levels, Looping, Source};
 use tcl_expr::Eval;
 use tcl_text::{Text, TextList};
 use tcl_words::{Index, Script};
@@ -97,7 +97,7 @@ pub enum Now<K> {
     },
     Tests {
         room: u64,
-        turning: Box<Turning>,
+        turning: Looping,
     },
     Steps {
         room: u64,
@@ -122,11 +122,11 @@ pub enum Frame<K> {
     ForPart(Box<Wording>),
     ForIndex(Box<Indexing>),
     ForValue { room: u64, asking: Box<Asking> },
-    ForTest { room: u64, turning: Box<Turning> },
+    ForTest { room: u64, turning: Looping },
     ForChoice { room: u64, choosing: Box<Choosing> },
-    ForBody { room: u64, turning: Box<Turning> },
-    ForNext { room: u64, turning: Box<Turning> },
-    ForStart { room: u64, turning: Box<Turning> },
+    ForBody { room: u64, turning: Looping },
+    ForNext { room: u64, turning: Looping },
+    ForStart { room: u64, turning: Looping },
     ForCatch(Option<Text>),
     ForLevels(Levels),
     ForProcedure,

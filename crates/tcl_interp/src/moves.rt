@@ -15,7 +15,7 @@ use crate::machine::{Answered, Asking, Frame, Now, Place};
 use crate::words::{after_part, go_on, longer_index, put_index, wait};
 use std::alloc::{AllocError, Global};
 use tcl_control::texts::{fault_text, fixed};
-use tcl_control::{Code, CommandTable, Context, End, ReturnCode, Source, Turning, caught};
+use tcl_control::{Code, CommandTable, Context, End, Looping, ReturnCode, Source, caught};
 use tcl_text::Text;
 use tcl_vars::Scopes;
 use tcl_words::Script;
@@ -84,11 +84,11 @@ pub fn begun<K: Drop>(
 fn next_turn<K: Drop>(
     frames: &mut Vec<Frame<K>>,
     room: u64,
-    turning: Box<Turning>,
+    turning: Looping,
 ) -> Result<Now<K>, AllocError>
-    ensures { IfOk result (λ now. moved_of now frames.new.items ≡ next_move room turning.value (waits_of frames.old.items) turning.value.next) }
+    ensures { IfOk result (λ now. moved_of now frames.new.items ≡ next_move room turning (waits_of frames.old.items) turning.next) }
 {
-    match &turning.next {
+    match &turning.get().next {
         None => Ok(Now::Tests { room, turning }),
         Some(next) => {
             let script = next.copy()?;
@@ -103,11 +103,11 @@ fn after_body<K: Drop>(
     alloc: Global,
     frames: &mut Vec<Frame<K>>,
     room: u64,
-    turning: Box<Turning>,
+    turning: Looping,
     code: Code,
     text: Text,
 ) -> Result<Now<K>, AllocError>
-    ensures { IfOk result (λ now. moved_of now frames.new.items ≡ after_body_move room turning.value (waits_of frames.old.items) code text) }
+    ensures { IfOk result (λ now. moved_of now frames.new.items ≡ after_body_move room turning (waits_of frames.old.items) code text) }
 {
     match code {
         Code::Normal => next_turn(frames, room, turning),
@@ -125,11 +125,11 @@ fn after_body<K: Drop>(
 fn after_next<K: Drop>(
     alloc: Global,
     room: u64,
-    turning: Box<Turning>,
+    turning: Looping,
     code: Code,
     text: Text,
 ) -> Result<Now<K>, AllocError>
-    ensures { IfOk result (λ now. (waits : List (Waiting K)) → moved (doing_of now) waits ≡ after_next_move room turning.value waits code text) }
+    ensures { IfOk result (λ now. (waits : List (Waiting K)) → moved (doing_of now) waits ≡ after_next_move room turning waits code text) }
 {
     match code {
         Code::Normal => Ok(Now::Tests { room, turning }),
@@ -144,8 +144,8 @@ fn after_next<K: Drop>(
 }
 
 /// What `for` runs before the first test has ended.
-fn after_start<K: Drop>(room: u64, turning: Box<Turning>, code: Code, text: Text) -> Now<K>
-    ensures { (waits : List (Waiting K)) → moved (doing_of result) waits ≡ after_start_move room turning.value waits code text }
+fn after_start<K: Drop>(room: u64, turning: Looping, code: Code, text: Text) -> Now<K>
+    ensures { (waits : List (Waiting K)) → moved (doing_of result) waits ≡ after_start_move room turning waits code text }
 {
     match code {
         Code::Normal => Now::Tests { room, turning },

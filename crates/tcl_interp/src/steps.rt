@@ -15,7 +15,7 @@ use crate::words::wait;
 use std::alloc::{AllocError, Global};
 use tcl_control::texts::{fixed, unknown_command};
 use tcl_control::{
-    Call, Code, Context, Plan, Source, Test, Turning, Verdict, call_command, items_tested,
+    Call, Code, Context, Looping, Plan, Source, Test, Turning, Verdict, call_command, items_tested,
 };
 use tcl_shapes::Groups;
 use tcl_text::{Text, TextList};
@@ -68,12 +68,8 @@ fn follow<K: Drop>(
             let now = choose(alloc, &mut context.commands, frames, room, choices, 0)?;
             Ok(now)
         }
-        Plan::Turns(turning) => Ok(Now::Tests {
-            room,
-            turning: Box::new(alloc, turning)?,
-        }),
+        Plan::Turns(turning) => Ok(Now::Tests { room, turning }),
         Plan::Starts(script, turning) => {
-            let turning = Box::new(alloc, turning)?;
             wait(frames, Frame::ForStart { room, turning })?;
             Ok(Now::Begins { room, script })
         }
@@ -131,7 +127,7 @@ fn test_items<K: Drop>(
         Verdict::More(groups) => {
             let script = body.copy()?;
             let test = Test::Items(groups);
-            let turning = Box::new(alloc, Turning { test, body, next })?;
+            let turning = Looping::new(alloc, Turning { test, body, next })?;
             wait(frames, Frame::ForBody { room, turning })?;
             Ok(Now::Begins { room, script })
         }
@@ -174,19 +170,19 @@ pub fn test<K: Drop>(
     scopes: &mut Scopes,
     context: &Context,
     frames: &mut Vec<Frame<K>>,
-    turning: Box<Turning>,
+    turning: Looping,
     room: u64,
 ) -> Result<Now<K>, AllocError>
-    ensures { IfOk result (λ now. standing_of now frames.new.items scopes.new context.now ≡ test_move room turning.value scopes.old context.now (waits_of frames.old.items) turning.value.test) }
+    ensures { IfOk result (λ now. standing_of now frames.new.items scopes.new context.now ≡ test_move room turning scopes.old context.now (waits_of frames.old.items) turning.test) }
 {
-    match &turning.test {
+    match &turning.get().test {
         Test::Holds(condition) => {
             let now = begins(alloc, condition, room)?;
             wait(frames, Frame::ForTest { room, turning })?;
             Ok(now)
         }
         Test::Items(_) => {
-            let turning = Box::into_inner(turning);
+            let turning = turning.into_inner();
             let now = test_groups(alloc, scopes, context, frames, turning, room)?;
             Ok(now)
         }

@@ -12,12 +12,12 @@ on_same : {K : Type 0} (after : Moved K) (room : ℕ) (waits : List (Waiting K))
     → after ≡ chosen_move room (drop b.place b.choices.branches) b.choices.otherwise waits truth
 on_same after room waits truth a b e h = rw (sym e) h
 
-pub returns-in_ok-now-in-Ok-false : goal.returns-in_ok-now-in-Ok-false
-returns-in_ok-now-in-Ok-false g c =
+pub returns-in_ok-now-in-Ok-false-clause-now : goal.returns-in_ok-now-in-Ok-false-clause-now
+returns-in_ok-now-in-Ok-false-clause-now g c =
     let choosing = c.into_inner-choices.result in
     let waits = waits_of c.args.frames.now.items in
     let fails : Ok false ≡ truth_of c.args.value.now = sym (ap Ok c.in-Ok-false.field-0-test) ∙ sym c.in-Ok-false.is ∙ c.in_ok-truth.ensures in
     on_same _ c.args.room waits (truth_of c.args.value.now) choosing c.args.choosing.value c.into_inner-choices.ensures
-    (c.in_ok-now-in-Ok-false.ensures
+    (c.in_ok-now-in-Ok-false.ensures.now
     ∙ chosen_on c.args.room choosing.choices.otherwise waits choosing.choices.branches choosing.place choosing.within
     ∙ ap (chosen_move c.args.room (drop choosing.place choosing.choices.branches) choosing.choices.otherwise waits) fails)

@@ -1,6 +1,7 @@
 //! Changes of a text in place.
 ghost use Rattle.std.specs.Prelude.{◌≡◌, ◌≢◌, ◌++◌, Ok, Err, IfOk, IfErr, OnOk, OnErr};
 ghost use Rattle.tcl_text.specs.Edit.{edited, within_limit, with_more, written_anew};
+ghost use Rattle.tcl_text.specs.ListForm.{IsListForm};
 ghost use Rattle.tcl_text.specs.Readings.{list_form, list_of};
 
 use crate::list::TextList;
@@ -84,9 +85,27 @@ fn push_items(alloc: Global, text: &mut Text, items: &[Text]) -> Result<(), Edit
     ensures refused { IfErr result (λ fault. fault ≢ EditFault.NoMemory → written_anew (with_more items.now (list_of text.old)) ≡ Err fault) }
     ensures err { OnErr result (text.new ≡ text.old) }
 {
+    if text.is_list_form() {
+        return push_behind(alloc, text, items);
+    }
     let all = with_more(alloc, text, items)?;
     *text = list_text(alloc, all.as_slice())?;
     Ok(())
+}
+
+// Adds items to the list whose form a text is.
+#[tactic(auto, using(crate::proofs::EditLemmas::limits))]
+fn push_behind(alloc: Global, text: &mut Text, items: &[Text]) -> Result<(), EditFault>
+    requires { IsListForm text.old }
+    ensures ok { OnOk result (written_anew (with_more items.now (list_of text.old)) ≡ Ok text.new) }
+    ensures refused { IfErr result (λ fault. fault ≢ EditFault.NoMemory → written_anew (with_more items.now (list_of text.old)) ≡ Err fault) }
+    ensures err { OnErr result (text.new ≡ text.old) }
+{
+    match text.push_items(alloc, items) {
+        Ok(()) => Ok(()),
+        Err(TextFault::TooLong) => Err(EditFault::TooLong),
+        Err(TextFault::NoMemory) => Err(EditFault::NoMemory),
+    }
 }
 
 // The items of the list that a text is, with more behind them.

@@ -15,7 +15,7 @@ use thiserror::Error;
 pub enum Edit<'a> {
     /// Characters are added behind it (append(n)).
     Characters(&'a str),
-    /// Items are added to the list that it is, which is written anew (lappend(n)).
+    /// Items are added to the list that it is, in its one form (lappend(n)).
     Items(&'a [Text]),
 }
 
@@ -45,7 +45,8 @@ impl From<AllocError> for EditFault {
 }
 
 impl Text {
-    /// Changes the text. Characters that are added to a text which no copy shares cost no more than they are long.
+    /// Changes the text. What is added to a text which no copy shares costs no more than it is long: characters always, items
+    /// where the text was made as a list of items.
     #[tactic(auto, unfolding(crate::specs::Edit::edited))]
     pub fn edit(&mut self, alloc: Global, edit: Edit<'_>) -> Result<(), EditFault>
         ensures ok { OnOk result (edited edit.entry self.old ≡ Ok self.new) }
@@ -93,7 +94,7 @@ fn push_items(alloc: Global, text: &mut Text, items: &[Text]) -> Result<(), Edit
     Ok(())
 }
 
-// Adds items to the list whose form a text is.
+// Adds items to the list whose form a text is, without reading it.
 #[tactic(auto, using(crate::proofs::EditLemmas::limits))]
 fn push_behind(alloc: Global, text: &mut Text, items: &[Text]) -> Result<(), EditFault>
     requires { IsListForm text.old }

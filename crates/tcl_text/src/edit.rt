@@ -45,8 +45,8 @@ impl From<AllocError> for EditFault {
 }
 
 impl Text {
-    /// Changes the text. What is added to a text which no copy shares costs no more than it is long: characters always, items
-    /// where the text was made as a list of items.
+    /// Changes the text. Items that are added to a text which was made as a list, and characters that are added to another, cost
+    /// no more than they are long where no copy shares the text; else the change costs what the text is long.
     #[tactic(auto, unfolding(crate::specs::Edit::edited))]
     pub fn edit(&mut self, alloc: Global, edit: Edit<'_>) -> Result<(), EditFault>
         ensures ok { OnOk result (edited edit.entry self.old ≡ Ok self.new) }

@@ -111,7 +111,7 @@ impl TextForm {
 
     /// The characters, where they are known to be the form of a list.
     fn as_list(&self) -> Option<&str>
-        ensures { IfSome result (λ list. IsListForm (form_bytes self.now)) }
+        ensures { IfSome result (λ _. IsListForm (form_bytes self.now)) }
     {
         match self {
             TextForm::Listed(list) => Some(list.as_ref().as_str()),
@@ -119,7 +119,7 @@ impl TextForm {
         }
     }
 
-    /// Adds characters at the end; in place, where no copy shares the form.
+    /// Adds characters at the end; in place, where no copy shares the form and it isn't known to be a list's.
     fn push_str(&mut self, alloc: Global, characters: &str) -> Result<(), AllocError>
         ensures ok { OnOk result (form_bytes self.new ≡ form_bytes self.old ++ characters.now) }
         ensures err { OnErr result (form_bytes self.new ≡ form_bytes self.old) }
@@ -261,8 +261,8 @@ impl Text {
         self.form.as_str()
     }
 
-    /// Adds characters at the end; in place, where no copy shares the text. `TooLong` (4), and nothing is added, where the
-    /// text would pass 65,536 bytes.
+    /// Adds characters at the end; in place, where no copy shares the text and it wasn't made as a list. `TooLong` (4), and
+    /// nothing is added, where the text would pass 65,536 bytes.
     pub fn push_str(&mut self, alloc: Global, characters: &str) -> Result<(), TextFault>
         ensures ok { OnOk result (self.new ≡ self.old ++ characters.now) }
         ensures short { OnOk result (length (self.old ++ characters.now) ≤ 65536) }

@@ -6,9 +6,10 @@ use Rattle.std.specs.Char.{digit_value}
 use Rattle.std.proofs.lemmas.Bool.{cases_Bool, and_parts, or_parts, or_cases, eqb-true, both_ways, not-true, cases_eq, leb-true, le-ltb}
 use Rattle.std.proofs.lemmas.List.{take-append-le, take-append-drop}
 use Rattle.tcl_text.specs.Backslash.{Digits, Escape, Mark, byte_mark, digits_from, escape, escape_mark, is_white, kind_of, marks, marks_past, numbered}
+use Rattle.tcl_text.specs.ListForm.{others_form}
 use Rattle.tcl_text.specs.Readings.{IsElement, IsElementEnd, are_balanced, bare, Reading, begins_comment, begun, between, braced, can_be_bare, can_be_braced, element_form, elements, has_joined_line, is_special, is_white_mark, letter_of, list_form, list_of, meant, onto, reading, with_backslashes, written}
 use Rattle.tcl_text.proofs.BackslashLemmas.{escape_within}
-use Rattle.tcl_text.proofs.ListFormLemmas.{list_form-cons, others_form}
+use Rattle.tcl_text.proofs.ListFormLemmas.{list_form-cons}
 use Rattle.tcl_text.proofs.ListReading.{reads_element}
 use Rattle.tcl_text.specs.declared.splitting.ByteKind.{ByteKind}
 use Rattle.tcl_text.specs.declared.splitting.ByteKind.TheVariants.{White, OpenBrace, CloseBrace, Quote, Backslash, Other}

@@ -2,7 +2,7 @@
 use Rattle.std.specs.Prelude.{ℕ, List, take, string_bytes}
 use Rattle.tcl_text.specs.declared.short.ShortText.{ShortText}
 use Rattle.tcl_text.specs.declared.text.TextForm.{TextForm}
-use Rattle.tcl_text.specs.declared.text.TextForm.TheVariants.{Short, Shared}
+use Rattle.tcl_text.specs.declared.text.TextForm.TheVariants.{Short, Shared, Listed}
 
 abbrev pub short_bytes : ShortText → List ℕ
 short_bytes s = take s.length s.bytes
@@ -10,3 +10,4 @@ short_bytes s = take s.length s.bytes
 abbrev pub form_bytes : TextForm → List ℕ
 form_bytes (Short s) = short_bytes s
 form_bytes (Shared r) = string_bytes r.value
+form_bytes (Listed r) = r.value

@@ -1,6 +1,7 @@
 //! Changes of a text in place.
 ghost use Rattle.std.specs.Prelude.{◌≡◌, ◌≢◌, ◌++◌, Ok, Err, IfOk, IfErr, OnOk, OnErr};
 ghost use Rattle.tcl_text.specs.Edit.{edited, within_limit, with_more, written_anew};
+ghost use Rattle.tcl_text.specs.ListForm.{IsListForm};
 ghost use Rattle.tcl_text.specs.Readings.{list_form, list_of};
 
 use crate::list::TextList;
@@ -14,7 +15,7 @@ use thiserror::Error;
 pub enum Edit<'a> {
     /// Characters are added behind it (append(n)).
     Characters(&'a str),
-    /// Items are added to the list that it is, which is written anew (lappend(n)).
+    /// Items are added to the list that it is, in its one form (lappend(n)).
     Items(&'a [Text]),
 }
 
@@ -44,7 +45,8 @@ impl From<AllocError> for EditFault {
 }
 
 impl Text {
-    /// Changes the text. Characters that are added to a text which no copy shares cost no more than they are long.
+    /// Changes the text. Items that are added to a text which was made as a list, and characters that are added to another, cost
+    /// no more than they are long where no copy shares the text; else the change costs what the text is long.
     #[tactic(auto, unfolding(crate::specs::Edit::edited))]
     pub fn edit(&mut self, alloc: Global, edit: Edit<'_>) -> Result<(), EditFault>
         ensures ok { OnOk result (edited edit.entry self.old ≡ Ok self.new) }
@@ -84,9 +86,27 @@ fn push_items(alloc: Global, text: &mut Text, items: &[Text]) -> Result<(), Edit
     ensures refused { IfErr result (λ fault. fault ≢ EditFault.NoMemory → written_anew (with_more items.now (list_of text.old)) ≡ Err fault) }
     ensures err { OnErr result (text.new ≡ text.old) }
 {
+    if text.is_list_form() {
+        return push_behind(alloc, text, items);
+    }
     let all = with_more(alloc, text, items)?;
     *text = list_text(alloc, all.as_slice())?;
     Ok(())
+}
+
+// Adds items to the list whose form a text is, without reading it.
+#[tactic(auto, using(crate::proofs::EditLemmas::limits))]
+fn push_behind(alloc: Global, text: &mut Text, items: &[Text]) -> Result<(), EditFault>
+    requires { IsListForm text.old }
+    ensures ok { OnOk result (written_anew (with_more items.now (list_of text.old)) ≡ Ok text.new) }
+    ensures refused { IfErr result (λ fault. fault ≢ EditFault.NoMemory → written_anew (with_more items.now (list_of text.old)) ≡ Err fault) }
+    ensures err { OnErr result (text.new ≡ text.old) }
+{
+    match text.push_items(alloc, items) {
+        Ok(()) => Ok(()),
+        Err(TextFault::TooLong) => Err(EditFault::TooLong),
+        Err(TextFault::NoMemory) => Err(EditFault::NoMemory),
+    }
 }
 
 // The items of the list that a text is, with more behind them.

@@ -12,6 +12,7 @@ mod integer;
 pub mod laws;
 mod list;
 mod list_form;
+mod list_string;
 mod short;
 mod splitting;
 mod text;

@@ -1,5 +1,7 @@
-ghost use Rattle.std.specs.Prelude.{◌≡◌, ◌≢◌, ◌<◌, ◌≤◌, ◌↔◌, ◌++◌, length, IfOk, IfErr, OnOk, OnErr, IsErrOf, IsUtf8, MatchBool, string_bytes, string_len};
+ghost use Rattle.std.specs.Prelude.{◌≡◌, ◌≢◌, ◌<◌, ◌≤◌, ◌↔◌, ◌++◌, length, IfOk, IfErr, IfSome, OnOk, OnErr, IsErrOf, IsTrue, IsUtf8, MatchBool, string_bytes, string_len};
+ghost use Rattle.tcl_text.specs.ListForm.{IsListForm, IsOthersForm};
 
+use crate::list_string::ListString;
 use crate::short::{SHORT_BYTES, ShortText};
 use std::alloc::{AllocError, AllocFailed, Global};
 use std::marker::Model;
@@ -49,6 +51,8 @@ enum TextForm {
     Short(ShortText),
     /// In memory that copies share.
     Shared(Rc<String>),
+    /// In memory that copies share, and known to be the form of a list.
+    Listed(Rc<ListString>),
 }
 
 /// A value of a Tcl script: at most 65,536 bytes of UTF-8. Short ones are kept in place, and others are shared by their copies.
@@ -70,6 +74,7 @@ impl Model for Text {
 }
 
 impl TextForm {
+    ghost use Rattle.tcl_text.specs.ListForm.{IsListForm, IsOthersForm};
     ghost use Rattle.tcl_text.specs.TextForm.{form_bytes};
 
     /// These characters, which it takes over.
@@ -82,6 +87,17 @@ impl TextForm {
         Ok(TextForm::Shared(Rc::new(alloc, string)?))
     }
 
+    /// These characters, the form of a list, which it takes over.
+    fn of_list(alloc: Global, string: String) -> Result<TextForm, AllocError>
+        requires { IsListForm (string_bytes string) }
+        ensures { IfOk result (λ form. form_bytes form ≡ string_bytes string) }
+    {
+        if string.len() <= SHORT_BYTES {
+            return Ok(TextForm::Short(ShortText::new(string.as_str())));
+        }
+        Ok(TextForm::Listed(Rc::new(alloc, ListString::new(string))?))
+    }
+
     /// The characters.
     fn as_str(&self) -> &str
         ensures { result.now ≡ form_bytes self.now }
@@ -89,10 +105,21 @@ impl TextForm {
         match self {
             TextForm::Short(short) => short.as_str(),
             TextForm::Shared(string) => string.as_ref().as_str(),
+            TextForm::Listed(list) => list.as_ref().as_str(),
         }
     }
 
-    /// Adds characters at the end; in place, where no copy shares the form.
+    /// The characters, where they are known to be the form of a list.
+    fn as_list(&self) -> Option<&str>
+        ensures { IfSome result (λ _. IsListForm (form_bytes self.now)) }
+    {
+        match self {
+            TextForm::Listed(list) => Some(list.as_ref().as_str()),
+            TextForm::Short(_) | TextForm::Shared(_) => None,
+        }
+    }
+
+    /// Adds characters at the end; in place, where no copy shares the form and it isn't known to be a list's.
     fn push_str(&mut self, alloc: Global, characters: &str) -> Result<(), AllocError>
         ensures ok { OnOk result (form_bytes self.new ≡ form_bytes self.old ++ characters.now) }
         ensures err { OnErr result (form_bytes self.new ≡ form_bytes self.old) }
@@ -103,6 +130,24 @@ impl TextForm {
             return Ok(());
         }
         *self = self.longer(alloc, characters)?;
+        Ok(())
+    }
+
+    /// Adds the form of more items to that of a list; in place, where no copy shares it and it is known to be one.
+    fn push_others(&mut self, alloc: Global, more: &str) -> Result<(), AllocError>
+        requires list { IsListForm (form_bytes self.old) }
+        requires others { IsOthersForm more.now }
+        ensures ok { OnOk result (form_bytes self.new ≡ form_bytes self.old ++ more.now) }
+        ensures err { OnErr result (form_bytes self.new ≡ form_bytes self.old) }
+    {
+        if let TextForm::Listed(list) = self
+            && ListString::push_others_alone(list, more)?
+        {
+            return Ok(());
+        }
+        let mut string = String::from_str(alloc, self.as_str())?;
+        string.push_str(more)?;
+        *self = TextForm::of_list(alloc, string)?;
         Ok(())
     }
 
@@ -190,6 +235,24 @@ impl Text {
         })
     }
 
+    /// A text of the characters of a string, the form of a list, which are known to be few enough.
+    pub(crate) fn of_list(alloc: Global, string: String) -> Result<Text, AllocError>
+        requires list { IsListForm (string_bytes string) }
+        requires short { string_len string ≤ 65536 }
+        ensures { IfOk result (λ text. text ≡ string_bytes string) }
+    {
+        Ok(Text {
+            form: TextForm::of_list(alloc, string)?,
+        })
+    }
+
+    /// Whether the text is known to be the form of a list. It may be one without that.
+    pub(crate) fn is_list_form(&self) -> bool
+        ensures { IsTrue result → IsListForm self.now }
+    {
+        self.form.as_list().is_some()
+    }
+
     /// The characters.
     pub fn as_str(&self) -> &str
         ensures bytes { result.now ≡ self.now }
@@ -198,8 +261,8 @@ impl Text {
         self.form.as_str()
     }
 
-    /// Adds characters at the end; in place, where no copy shares the text. `TooLong` (4), and nothing is added, where the
-    /// text would pass 65,536 bytes.
+    /// Adds characters at the end; in place, where no copy shares the text and it wasn't made as a list. `TooLong` (4), and
+    /// nothing is added, where the text would pass 65,536 bytes.
     pub fn push_str(&mut self, alloc: Global, characters: &str) -> Result<(), TextFault>
         ensures ok { OnOk result (self.new ≡ self.old ++ characters.now) }
         ensures short { OnOk result (length (self.old ++ characters.now) ≤ 65536) }
@@ -214,6 +277,24 @@ impl Text {
         Ok(())
     }
 
+    /// Adds the form of more items to that of a list; in place, where no copy shares the text and it is known to be one.
+    /// `TooLong` (4), and nothing is added, where the text would pass 65,536 bytes.
+    pub(crate) fn push_others(&mut self, alloc: Global, more: &str) -> Result<(), TextFault>
+        requires list { IsListForm self.old }
+        requires others { IsOthersForm more.now }
+        ensures ok { OnOk result (self.new ≡ self.old ++ more.now) }
+        ensures short { OnOk result (length (self.old ++ more.now) ≤ 65536) }
+        ensures too_long { IfErr result (λ fault. fault ≢ TextFault.NoMemory → 65536 < length (self.old ++ more.now)) }
+        ensures err { OnErr result (self.new ≡ self.old) }
+    {
+        let length = self.as_str().len();
+        if MAX_BYTES - length < more.len() {
+            return Err(TextFault::TooLong);
+        }
+        self.form.push_others(alloc, more)?;
+        Ok(())
+    }
+
     /// An equal text, which shares the characters.
     pub fn copy(&self) -> Result<Text, AllocError>
         ensures ok { IfOk result (λ text. text ≡ self.now) }
@@ -221,6 +302,7 @@ impl Text {
         let form = match &self.form {
             TextForm::Short(short) => TextForm::Short(*short),
             TextForm::Shared(string) => TextForm::Shared(string.clone()?),
+            TextForm::Listed(list) => TextForm::Listed(list.clone()?),
         };
         Ok(Text { form })
     }

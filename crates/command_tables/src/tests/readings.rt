@@ -2,7 +2,7 @@
 //! each element that begins with `#` is quoted, and one with a brace or bracket never stands bare.
 use std::alloc::AllocError;
 use std::test::Fail;
-use tcl_text::{SplitFault, Text, TextFault, TextList};
+use tcl_text::{Edit, EditFault, SplitFault, Text, TextFault, TextList};
 
 #[test]
 fn integers(rt: HostRuntime) -> Result<(), Fail> {
@@ -266,6 +266,29 @@ fn joined_lists(rt: HostRuntime) -> Result<(), Fail> {
     Ok(())
 }
 
+// A list grows alike where a copy shares it, and the copy stays.
+#[test]
+fn grown_lists(rt: HostRuntime) -> Result<(), Fail> {
+    let items = ["longer than a short text", "b", "", "{", "c d", "#"];
+    let texts = texts_of(&rt, items.as_slice())?;
+    let mut alone = Text::new(rt.alloc(), "")?;
+    let mut shared = Text::new(rt.alloc(), "")?;
+    for text in texts.as_slice() {
+        let before = shared.copy()?;
+        let more = [text.copy()?];
+        assert_eq!(rt; before.as_str(), alone.as_str());
+        alone.edit(rt.alloc(), Edit::Items(more.as_slice()))?;
+        shared.edit(rt.alloc(), Edit::Items(more.as_slice()))?;
+        assert_eq!(rt; shared.as_str(), alone.as_str());
+        assert!(rt; before.as_str().len() < shared.as_str().len());
+    }
+    assert_eq!(rt;
+        alone.as_str(),
+        "{longer than a short text} b {} \\{ {c d} {#}"
+    );
+    Ok(())
+}
+
 #[test]
 fn lists_of_texts(rt: HostRuntime) -> Result<(), Fail> {
     let mut texts = Vec::new(rt.alloc());
@@ -316,7 +339,15 @@ fn limits(rt: HostRuntime) -> Result<(), Fail> {
     let longest = Text::new(rt.alloc(), characters.as_str())?;
     assert_eq!(rt; longest.as_str().len(), 65_536);
     let alone = Text::join_list(rt.alloc(), [longest].as_slice())?;
+    let mut grown = alone.copy()?;
     let two = [alone, Text::new(rt.alloc(), "b")?];
+    assert!(rt;
+        matches!(
+            grown.edit(rt.alloc(), Edit::Items(&two[1..])),
+            Err(EditFault::TooLong)
+        )
+    );
+    assert!(rt; grown == two[0]);
     match Text::join_list(rt.alloc(), two.as_slice()) {
         Err(TextFault::TooLong) => {}
         Err(fault) => return Err(fault.into()),

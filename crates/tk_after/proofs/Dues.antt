@@ -1,15 +1,15 @@
 -- The timer that goes first.
-use Rattle.std.proofs.Common.{◌≡◌, ℕ, ◌+◌, ◌<◌, ◌≤◌, zero, suc, min, List, [], ◌∷◌, length, get_or, drop, Option, Some, None, refl, sym, ap, ◌∙◌, subst, eq-eqb, cond, Bool, true, false, arith}
+use Rattle.std.proofs.Common.{◌≡◌, ℕ, ◌+◌, ◌<◌, ◌≤◌, zero, suc, min, List, [], ◌∷◌, ◌++◌, length, get_or, drop, append_assoc, append-nil, Option, Some, None, refl, sym, ap, ◌∙◌, subst, eq-eqb, cond, Bool, true, false, arith}
 use Rattle.std.specs.Prelude.{Contains, find, filter, not, ◌==◌, nat_le, nat_lt, if◌then◌else◌, IfSome, IsSomeAnd, slice_get}
 use Rattle.std.specs.List.{cons_option, position, position_or_len}
-use Rattle.std.specs.Option.{MatchOption, option_map_or, option_and_then}
+use Rattle.std.specs.Option.{MatchOption, is_none, is_some, option_map_or, option_and_then}
 use Rattle.std.proofs.lemmas.Bool.Decides.{nat_tests}
 use Rattle.std.proofs.lemmas.List.{drop_more, drop_all}
 use Rattle.std.proofs.lemmas.Option.{slice_get_past, IfSome_then, MatchOption-at_none, MatchOption-at_some, option_and_then_some, none-some, same_Some}
 use Rattle.std.proofs.lemmas.Bool.{ltb-true, ltb-false, leb-true, leb-false, le-leb, lt-leb, eqb-true, false≢true}
 use Rattle.std.proofs.lemmas.List.Folds.{find_at}
 use Rattle.tk_after.specs.declared.entry.Entry.{Entry}
-use Rattle.tk_after.specs.Timers.{IsNumbered, entry_with, lesser, least, due_moments, is_due_at, first_due, IsFirstDue, NothingDue, IsPlaceOf}
+use Rattle.tk_after.specs.Timers.{IsNumbered, entry_with, ids, idle_ids, lesser, least, due_moments, is_due_at, first_due, IsFirstDue, NothingDue, IsPlaceOf}
 use Rattle.tk_after.proofs.Numbers.{id_at_least}
 
 -- no number is below the least
@@ -55,6 +55,35 @@ next_due_more entries i e o lt is =
 
 pub next_due_all : (entries : List Entry) (i : ℕ) (o : Option ℕ) → length entries ≤ i → lesser o (least (due_moments (drop i entries))) ≡ o
 next_due_all entries i o le = ap (λ (es : List Entry). lesser o (least (due_moments es))) (drop_all i entries le) ∙ lesser-None o
+
+-- the number of a timer, where it is an idle script
+abbrev pub idle_id_of : Entry → List ℕ
+idle_id_of e = if is_none e.due then e.id ∷ [] else []
+
+idle_ids_first : (e : Entry) (rest : List Entry) → idle_id_of e ++ idle_ids rest ≡ idle_ids (e ∷ rest)
+idle_ids_first e rest = elim (is_none e.due) as (λ b. (if b then e.id ∷ [] else []) ++ idle_ids rest ≡ ids (if b then e ∷ filter (λ (x : Entry). is_none x.due) rest else filter (λ (x : Entry). is_none x.due) rest)) [ true ↦ refl | false ↦ refl ]
+
+-- which a test tells
+pub idle_id_told : (e : Entry) (told : Bool) → is_some e.due ≡ not told → idle_id_of e ≡ (if told then e.id ∷ [] else [])
+idle_id_told e told tells = by e.due told tells
+  where
+    by : (o : Option ℕ) (b : Bool) → is_some o ≡ not b → (if is_none o then e.id ∷ [] else []) ≡ (if b then e.id ∷ [] else [])
+    by None true h = refl
+    by None false h = absurd (cc)
+    by (Some x) true h = absurd (cc)
+    by (Some x) false h = refl
+
+-- one timer on in a list of the idle scripts, and at its end
+pub idle_ids_more : (entries : List Entry) (i : ℕ) (e : Entry) (list : List ℕ) → i < length entries → e ≡ get_or entries i e →
+    (list ++ idle_id_of e) ++ idle_ids (drop (i + 1) entries) ≡ list ++ idle_ids (drop i entries)
+idle_ids_more entries i e list lt is =
+    let F : List Entry → List ℕ = λ es. list ++ idle_ids es in
+    append_assoc list (idle_id_of e) (idle_ids (drop (i + 1) entries))
+    ∙ ap (λ xs. list ++ xs) (idle_ids_first e (drop (i + 1) entries))
+    ∙ ap (λ (x : Entry). F (x ∷ drop (i + 1) entries)) is ∙ sym (ap F (drop_more entries i e lt))
+
+pub idle_ids_all : (entries : List Entry) (i : ℕ) (list : List ℕ) → length entries ≤ i → list ++ idle_ids (drop i entries) ≡ list
+idle_ids_all entries i list le = ap (λ (es : List Entry). list ++ idle_ids es) (drop_all i entries le) ∙ append-nil list
 
 -- what runs first, by when the earliest is due
 pub first_due-at : (moment due : ℕ) (entries : List Entry) → least (due_moments entries) ≡ Some due → due ≤ moment → first_due moment entries ≡ find (is_due_at due) entries

@@ -191,11 +191,13 @@ fn ids_of(alloc: Global, entries: &[Entry]) -> Result<Vec<u64>, AllocError>
 fn idle_ids_of(alloc: Global, entries: &[Entry]) -> Result<Vec<u64>, AllocError>
     ensures { IfOk result (λ list. list.items ≡ idle_ids entries.now) }
 {
-    entries
-        .iter()
-        .filter(|entry| entry.due.is_none())
-        .map(|entry| entry.id)
-        .collect(alloc)
+    let mut list = Vec::new(alloc);
+    for entry in entries {
+        if entry.due.is_none() {
+            list.push(entry.id)?;
+        }
+    }
+    Ok(list)
 }
 
 /// The earlier of two moments, of which there may be none.

@@ -392,6 +392,26 @@ module _ {K : Type 0} where
   pub quiet_lighter : (m n : Standing K) → IsQuiet m.moved → Moves m n → weight n.moved < weight m.moved
   quiet_lighter m n q e = quiet_lighter_by m.store m.context m.moved.doing m.moved.waits n q e
 
+  light_by : (store : Store) (context : Context) (doing : Doing K) (waits : List (Waiting K)) (n : Standing K) → MovesBy store context doing waits n → weight n.moved ≤ weight (moved doing waits)
+  light_by store context (Begins room text) waits n e = omega (arith, quiet_lighter_by store context (Begins room text) waits n tt e)
+  light_by store context (GoesOn room commands result) waits n e = omega (arith, quiet_lighter_by store context (GoesOn room commands result) waits n tt e)
+  light_by store context (Indexes x) waits n e = omega (arith, quiet_lighter_by store context (Indexes x) waits n tt e)
+  light_by store context (Evaluates room evaluation given) waits n e = omega (arith, quiet_lighter_by store context (Evaluates room evaluation given) waits n tt e)
+  light_by store context (Calls room words) waits n e = rw e (omega arith)
+  light_by store context (Tests room turning) waits n e = rw e (omega arith)
+  light_by store context (Steps room task) waits n e = rw e (omega arith)
+  light_by store context (Resumes room task code text) waits n e = rw e (omega arith)
+  light_by store context (Ends code text) [] n e = rw e (omega arith)
+  light_by store context (Ends code text) (waiting ∷ waits) n e = rw e (omega (arith, end_lighter store context code text waiting waits))
+
+  leads_light_by : (moves : ℕ) (m n : Standing K) → LeadsBy moves m n → weight n.moved ≤ weight m.moved
+  leads_light_by zero m n e = rw e (omega arith)
+  leads_light_by (suc moves) m n (between, first, last) = omega (arith, light_by between.store between.context between.moved.doing between.moved.waits n last, leads_light_by moves m between first)
+
+  -- moves without a step make nothing heavier
+  pub leads_light : (m n : Standing K) → Leads m n → weight n.moved ≤ weight m.moved
+  leads_light m n (moves, leads) = leads_light_by moves m n leads
+
 -- ── tasks ──
 
 module _ {K : Type 0} (size : K → ℕ) where
@@ -613,3 +633,11 @@ module _ {K : Type 0} (size : K → ℕ) where
 -- one move more
 pub leads_on : {K : Type 0} (m n k : Standing K) → Leads m n → Moves n k → Leads m k
 leads_on m n k (moves, leads) last = (suc moves, (n, leads, last))
+
+leads_all_by : {K : Type 0} (m n : Standing K) (moves : ℕ) (k : Standing K) → Leads m n → LeadsBy moves n k → Leads m k
+leads_all_by m n zero k first e = rw e first
+leads_all_by m n (suc moves) k first (between, before, last) = leads_on m between k (leads_all_by m n moves between first before) last
+
+-- moves, and more moves behind them
+pub leads_all : {K : Type 0} (m n k : Standing K) → Leads m n → Leads n k → Leads m k
+leads_all m n k first (moves, leads) = leads_all_by m n moves k first leads

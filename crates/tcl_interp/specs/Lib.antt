@@ -8,6 +8,7 @@ pub mod Moves
 pub mod Outside
 pub mod Plans
 pub mod Quiet
+pub mod Replies
 pub mod Rests
 pub mod Runs
 pub mod Scripts

@@ -65,6 +65,10 @@ module _ {K : Type 0} where
   abbrev pub IsQuiet : Moved K → Type 0
   IsQuiet m = IsQuietBy m.doing m.waits
 
+  -- some number of moves does, and a quiet one behind them
+  abbrev pub MovesOn : Standing K → Standing K → Type 0
+  MovesOn from to = (between : Standing K) × Leads from between × IsQuiet between.moved × Moves between to
+
   -- a step is needed, a task is to be resumed, or all has ended
   abbrev pub IsDueBy : Doing K → List (Waiting K) → Type 0
   IsDueBy (Begins room text) waits = ⊥

@@ -1,25 +1,27 @@
 //! Evaluations of expressions, and the conditions of `if` and of loops.
-ghost use Rattle.std.specs.Prelude.{◌≡◌, ◌≢◌, ◌<◌, List, drop, length, true, IfOk};
+ghost use Rattle.std.specs.Prelude.{◌≡◌, ◌≢◌, ◌<◌, ◌∷◌, List, drop, length, true, IfOk};
 ghost use Rattle.tcl_vars.specs.Store.{variable_in, element_in};
 ghost use Rattle.tcl_expr.specs.declared.fault.EvalFault.TheVariants.{NoMemory};
-ghost use Rattle.tcl_expr.specs.Evaluation.{is_waiting, state_after};
+ghost use Rattle.tcl_expr.specs.Evaluation.{is_waiting};
 ghost use Rattle.tcl_expr.specs.Messages.{eval_message};
 ghost use Rattle.tcl_control.specs.declared.code.Code.TheVariants.{Error};
 ghost use Rattle.tcl_control.specs.Expressions.{truth_of};
 ghost use Rattle.tcl_control.specs.Texts.{element_name};
-ghost use Rattle.tcl_interp.specs.Moves.{moved, expression_begins, value_given, asked_move, otherwise_move, choice_move, turn_move, chosen_move};
-ghost use Rattle.tcl_interp.specs.Finish.{Waiting, Ends};
-ghost use Rattle.tcl_interp.specs.Quiet.{EvaluationMoves};
-ghost use Rattle.tcl_interp.specs.Rests.{doing_of, moved_of, waits_of};
+ghost use Rattle.tcl_interp.specs.Moves.{moved, standing, expression_begins, otherwise_move, choice_move, turn_move, chosen_move};
+ghost use Rattle.tcl_interp.specs.Finish.{Waiting, Begins, Ends, Evaluates, ForValue};
+ghost use Rattle.tcl_interp.specs.Quiet.{MovesOn};
+ghost use Rattle.tcl_interp.specs.Replies.{found, reply_to};
+ghost use Rattle.tcl_interp.specs.Rests.{doing_of, moved_of, standing_of, waits_of};
 
 use crate::machine::{Answered, Asking, Choosing, Frame, Now};
 use crate::words::wait;
 use std::alloc::{AllocError, Global};
 use tcl_control::texts::{cannot_read, cannot_read_element, fixed};
-use tcl_control::{Choices, Code, CommandTable, Expression, Looping, Source, truth};
+use tcl_control::{Choices, Code, CommandTable, Context, Expression, Looping, Source, truth};
 use tcl_expr::{Ask, Eval, EvalFault};
 use tcl_text::Text;
 use tcl_vars::Scopes;
+use tcl_words::Script;
 
 /// An expression begins, unless it has a fault.
 pub fn begins<K: Drop>(
@@ -41,99 +43,88 @@ pub fn begins<K: Drop>(
     }
 }
 
-/// An evaluation has asked for a variable, where variables are those of a level.
-fn variable_given<K: Drop>(
+/// What an evaluation gets for what it asked.
+#[derive(Drop)]
+pub enum Reply {
+    /// The text that it asked for.
+    Given(Text),
+    /// No such text is there: the error's text.
+    Missing(Text),
+    /// A script has to give it.
+    Script(Script),
+    /// Nothing: this is its value.
+    Value(Text),
+}
+
+/// The value of a variable, where variables are those of a level, or the error's text.
+fn variable_reply(
     alloc: Global,
     scopes: &Scopes,
     level: usize,
-    room: u64,
-    eval: Eval,
     name: &Text,
-) -> Result<Now<K>, AllocError>
-    requires level { level < length scopes.now }
-    requires asking { is_waiting eval.state ≡ true }
-    ensures { IfOk result (λ now. doing_of now ≡ value_given room eval name.now (variable_in scopes.now level name.now)) }
+) -> Result<Reply, AllocError>
+    requires { level < length scopes.now }
+    ensures { IfOk result (λ reply. reply ≡ found name.now (variable_in scopes.now level name.now)) }
 {
     match scopes.get(level, name) {
-        Ok(value) => {
-            let given = Some(value.copy()?);
-            Ok(Now::Evaluates {
-                room,
-                answered: Box::new(alloc, Answered { eval, given })?,
-            })
-        }
-        Err(fault) => Ok(Now::Ends {
-            code: Code::Error,
-            text: cannot_read(alloc, name, fault)?,
-        }),
+        Ok(value) => Ok(Reply::Given(value.copy()?)),
+        Err(fault) => Ok(Reply::Missing(cannot_read(alloc, name, fault)?)),
     }
 }
 
-/// An evaluation has asked for an element, where variables are those of a level.
-fn element_given<K: Drop>(
+/// The value of an element, where variables are those of a level, or the error's text.
+fn element_reply(
     alloc: Global,
     scopes: &Scopes,
     level: usize,
-    room: u64,
-    eval: Eval,
     array: &Text,
     index: &Text,
-) -> Result<Now<K>, AllocError>
-    requires level { level < length scopes.now }
-    requires asking { is_waiting eval.state ≡ true }
-    ensures { IfOk result (λ now. doing_of now ≡ value_given room eval (element_name array.now index.now) (element_in scopes.now level array.now index.now)) }
+) -> Result<Reply, AllocError>
+    requires { level < length scopes.now }
+    ensures { IfOk result (λ reply. reply ≡ found (element_name array.now index.now) (element_in scopes.now level array.now index.now)) }
 {
     match scopes.get_element(level, array, index) {
-        Ok(value) => {
-            let given = Some(value.copy()?);
-            Ok(Now::Evaluates {
-                room,
-                answered: Box::new(alloc, Answered { eval, given })?,
-            })
-        }
-        Err(fault) => Ok(Now::Ends {
-            code: Code::Error,
-            text: cannot_read_element(alloc, array, index, fault)?,
-        }),
+        Ok(value) => Ok(Reply::Given(value.copy()?)),
+        Err(fault) => Ok(Reply::Missing(cannot_read_element(alloc, array, index, fault)?)),
     }
 }
 
-/// An evaluation has asked for something, or has ended.
-fn asked<K: Drop>(
-    alloc: Global,
-    scopes: &Scopes,
-    level: usize,
-    frames: &mut Vec<Frame<K>>,
-    room: u64,
-    eval: Eval,
-    ask: Ask,
-) -> Result<Now<K>, AllocError>
-    requires level { level < length scopes.now }
-    requires state { eval.state ≡ state_after ask }
-    ensures { IfOk result (λ now. moved_of now frames.new.items ≡ asked_move level scopes.now room eval (waits_of frames.old.items) ask) }
+/// What is there for what an evaluation asks, where variables are those of a level.
+fn reply_to(alloc: Global, scopes: &Scopes, level: usize, ask: Ask) -> Result<Reply, AllocError>
+    requires { level < length scopes.now }
+    ensures { IfOk result (λ reply. reply ≡ reply_to level scopes.now ask) }
 {
     match ask {
         Ask::Variable(name) => {
-            let now = variable_given(alloc, scopes, level, room, eval, &name)?;
-            Ok(now)
+            let reply = variable_reply(alloc, scopes, level, &name)?;
+            Ok(reply)
         }
         Ask::Element(array, index) => {
-            let now = element_given(alloc, scopes, level, room, eval, &array, &index)?;
-            Ok(now)
+            let reply = element_reply(alloc, scopes, level, &array, &index)?;
+            Ok(reply)
         }
-        Ask::Command(script) => {
-            let asking = Box::new(alloc, Asking { eval })?;
-            wait(frames, Frame::ForValue { room, asking })?;
-            Ok(Now::Begins {
-                room,
-                script: Source::of_script(script),
-            })
-        }
-        Ask::Value(text) => Ok(Now::Ends {
-            code: Code::Normal,
-            text,
-        }),
+        Ask::Command(script) => Ok(Reply::Script(script)),
+        Ask::Value(text) => Ok(Reply::Value(text)),
     }
+}
+
+/// An evaluation has asked for the result of a script.
+fn script_asked<K: Drop>(
+    alloc: Global,
+    frames: &mut Vec<Frame<K>>,
+    room: u64,
+    eval: Eval,
+    script: Script,
+) -> Result<Now<K>, AllocError>
+    requires { is_waiting eval.state ≡ true }
+    ensures { IfOk result (λ now. moved_of now frames.new.items ≡ moved (Begins room script) (ForValue room eval ∷ waits_of frames.old.items)) }
+{
+    let asking = Box::new(alloc, Asking { eval })?;
+    wait(frames, Frame::ForValue { room, asking })?;
+    Ok(Now::Begins {
+        room,
+        script: Source::of_script(script),
+    })
 }
 
 /// An evaluation has this fault.
@@ -150,27 +141,42 @@ fn failed<K: Drop>(alloc: Global, fault: &EvalFault) -> Result<Now<K>, AllocErro
     }
 }
 
-/// An evaluation goes on, up to where it asks for something or ends.
+/// An evaluation goes on, up to where it asks for the result of a script or ends. What it asks of variables is answered here.
 pub fn evaluate<K: Drop>(
     alloc: Global,
     scopes: &Scopes,
-    level: usize,
+    context: &Context,
     frames: &mut Vec<Frame<K>>,
     room: u64,
     answered: Box<Answered>,
 ) -> Result<Now<K>, AllocError>
-    requires { level < length scopes.now }
-    ensures { IfOk result (λ now. EvaluationMoves level scopes.now room answered.value.eval answered.value.given (waits_of frames.old.items) (moved_of now frames.new.items)) }
+    ensures { IfOk result (λ now. MovesOn (standing (moved (Evaluates room answered.value.eval answered.value.given) (waits_of frames.old.items)) scopes.now context.now) (standing_of now frames.new.items scopes.now context.now)) }
 {
-    let Answered { mut eval, given } = Box::into_inner(answered);
-    match eval.resume(given) {
-        Ok(ask) => {
-            let now = asked(alloc, scopes, level, frames, room, eval, ask)?;
-            Ok(now)
-        }
-        Err(fault) => {
-            let now = failed(alloc, &fault)?;
-            Ok(now)
+    let level = context.levels.here(scopes);
+    let Answered {
+        mut eval,
+        mut given,
+    } = Box::into_inner(answered);
+    'answers: loop {
+        let ask = match eval.resume(given) {
+            Ok(ask) => ask,
+            Err(fault) => return failed(alloc, &fault),
+        };
+        match reply_to(alloc, scopes, level, ask)? {
+            Reply::Given(text) => given = Some(text),
+            Reply::Missing(text) => {
+                return Ok(Now::Ends {
+                    code: Code::Error,
+                    text,
+                });
+            }
+            Reply::Script(script) => return script_asked(alloc, frames, room, eval, script),
+            Reply::Value(text) => {
+                return Ok(Now::Ends {
+                    code: Code::Normal,
+                    text,
+                });
+            }
         }
     }
 }

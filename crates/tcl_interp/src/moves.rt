@@ -360,6 +360,8 @@ fn wake<K: Drop>(frames: &mut Vec<Frame<K>>) -> Option<Frame<K>>
 pub enum Move<K> {
     /// There is more to do.
     On(Now<K>),
+    /// So there is, several moves on.
+    Far(Now<K>),
     /// A step is needed, a task is to be resumed, or all has ended.
     Due(Now<K>),
 }
@@ -397,9 +399,8 @@ fn advance<K: Drop>(
             Ok(Move::On(now))
         }
         Now::Evaluates { room, answered } => {
-            let level = context.levels.here(scopes);
-            let now = evaluate(alloc, scopes, level, frames, room, answered)?;
-            Ok(Move::On(now))
+            let now = evaluate(alloc, scopes, context, frames, room, answered)?;
+            Ok(Move::Far(now))
         }
         Now::Calls { room, words } => Ok(Move::Due(Now::Calls { room, words })),
         Now::Tests { room, turning } => Ok(Move::Due(Now::Tests { room, turning })),
@@ -433,6 +434,7 @@ pub fn quiet<K: Drop>(
     loop {
         match advance(alloc, scopes, context, frames, doing)? {
             Move::On(next) => doing = next,
+            Move::Far(next) => doing = next,
             Move::Due(due) => return Ok(due),
         }
     }

@@ -1,26 +1,27 @@
-use Rattle.std.proofs.Common.{◌≡◌, ℕ, List, Ok, Err, ◌⊎◌, inl, inr, ap, sym}
-use Rattle.tcl_vars.specs.Store.{Store}
-use Rattle.tcl_interp.specs.declared.machine.Answered.{Answered}
-use Rattle.tcl_interp.specs.Finish.{Waiting}
-use Rattle.tcl_interp.specs.Quiet.{EvaluationMoves}
-use Rattle.tcl_interp.specs.Rests.{moved_of, waits_of}
-use Rattle.tcl_interp.specs.Moves.{Moved, moved}
+use Rattle.std.proofs.Common.{Some, sym}
+use Rattle.tcl_interp.specs.declared.expressions.Reply.TheVariants.{Given}
+use Rattle.tcl_interp.specs.Finish.{Evaluates}
+use Rattle.tcl_interp.specs.Moves.{moved, standing}
+use Rattle.tcl_interp.specs.Rests.{waits_of}
+use Rattle.tcl_interp.proofs.Answering.{RepliesBy, replies_by}
+use Rattle.tcl_interp.proofs.Weights.{quiet_lighter, leads_on}
+use Rattle.tcl_interp.proofs.expressions.evaluate.Given.{Over}
 use Rattle.tcl_interp.proofs.expressions.evaluate.Goals as goal
 
-on_same : {K : Type 0} (level : ℕ) (store : Store) (room : ℕ) (waits : List (Waiting K)) (after : Moved K) (a b : Answered) → a ≡ b
-    → EvaluationMoves level store room a.eval a.given waits after → EvaluationMoves level store room b.eval b.given waits after
-on_same level store room waits after a b e h = rw (sym e) h
+-- the move that an answer makes
+given_move : (g : Over) (c : goal.In-Given g) → RepliesBy c.args.scopes.now c.args.context.now c.args.room (waits_of c.answers.frames.items) c.answers.eval c.answers.given c.resume.new.self (Given c.in-Given.text)
+given_move g c = replies_by c.args.scopes.now c.args.context.now c.args.room (waits_of c.answers.frames.items) c.answers.eval c.answers.given c.resume.new.self c.here-level.result c.in-Ok.ask (Given c.in-Given.text)
+    c.here-level.ensures.value c.in-Ok.ensures.tells c.in-Ok.ensures.asks (rw c.in-Given.is at c.in_ok-text.ensures)
 
-pub returns-in_ok-now-in-Ok : goal.returns-in_ok-now-in-Ok
-returns-in_ok-now-in-Ok g c =
-    on_same c.args.level c.args.scopes.now c.args.room (waits_of c.args.frames.now.items) (moved_of c.in_ok-now-in-Ok.now c.asked.new.frames.items) c.into_inner-eval.result c.args.answered.value c.into_inner-eval.ensures
-    (Ok c.in-Ok.ask, c.resume.new.self, c.in-Ok.ensures.tells.0, c.in-Ok.ensures.asks, c.in_ok-now-in-Ok.ensures)
+pub answers-smaller : goal.answers-smaller
+answers-smaller g c =
+    let waits = waits_of c.answers.frames.items in
+    quiet_lighter (standing (moved (Evaluates c.args.room c.answers.eval c.answers.given) waits) c.args.scopes.now c.args.context.now) (standing (moved (Evaluates c.args.room c.resume.new.self (Some c.in-Given.text)) waits) c.args.scopes.now c.args.context.now) tt (given_move g c).0
 
-first_of : {A B : Type 0} → A ⊎ B → (B → ⊥) → A
-first_of (inl a) none = a
-first_of (inr b) none = absurd (none b)
-
-pub returns-in_ok-now-in-Err : goal.returns-in_ok-now-in-Err
-returns-in_ok-now-in-Err g c =
-    on_same c.args.level c.args.scopes.now c.args.room (waits_of c.args.frames.now.items) (moved_of c.in_ok-now-in-Err.now c.args.frames.now.items) c.into_inner-eval.result c.args.answered.value c.into_inner-eval.ensures
-    (Err c.in-Err.fault, c.resume.new.self, first_of c.in-Err.ensures.tells.0 c.in_ok-now-in-Err.ensures.memory, tt, ap (λ doing. moved doing (waits_of c.args.frames.now.items)) c.in_ok-now-in-Err.ensures.doing)
+pub answers-preserved : goal.answers-preserved
+answers-preserved g c =
+    let waits = waits_of c.answers.frames.items in
+    record {
+      leads = leads_on _ (standing (moved (Evaluates c.args.room c.answers.eval c.answers.given) waits) c.args.scopes.now c.args.context.now) (standing (moved (Evaluates c.args.room c.resume.new.self (Some c.in-Given.text)) waits) c.args.scopes.now c.args.context.now) c.answers.invariant.leads (given_move g c).0;
+      waiting = sym (given_move g c).1;
+    }

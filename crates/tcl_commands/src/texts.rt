@@ -69,7 +69,7 @@ pub fn too_large<T>(alloc: Global) -> Result<T, Refusal>
     Err(error(alloc, "integer value too large to represent"))
 }
 
-/// The error that the last of keys and values is a key (23).
+/// The error that the last of keys and values is a key.
 pub fn missing_value<T>(alloc: Global, key: &str) -> Result<T, Refusal>
     ensures { Gives result (spec.missing_value key.now) }
 {

@@ -1,5 +1,5 @@
 //! The commands of set(n), incr(n), append(n) and lappend(n), and `info exists` of info(n).
-ghost use Rattle.std.specs.Prelude.{◌≡◌, ◌<◌, ◌≤◌, [], ◌++◌, length, IfOk, OnOk, codes, string_bytes};
+ghost use Rattle.std.specs.Prelude.{◌≡◌, ◌<◌, ◌≤◌, [], ◌∷◌, ◌++◌, length, IfOk, OnOk, codes, string_bytes};
 ghost use Rattle.std.specs.List.{concat};
 ghost use Rattle.std.specs.Option.{option_copied};
 ghost use Rattle.tcl_text.specs.Answers.{Gives, answers};
@@ -182,9 +182,26 @@ pub fn append_words(
     ensures levels { length scopes.new ≡ length scopes.old }
 {
     match words {
+        [name, value] => append_one(alloc, scopes, level, name, value),
         [name, values @ ..] => append(alloc, scopes, level, name, values),
         [] => wrong_words(alloc, Usage::Append),
     }
+}
+
+/// Adds one value behind a variable, which needs no text of its own.
+fn append_one(
+    alloc: Global,
+    scopes: &mut Scopes,
+    level: usize,
+    name: &Text,
+    value: &Text,
+) -> Result<Text, Refusal>
+    requires { level < length scopes.old }
+    ensures does { Does result scopes.new
+        (spec.changed level name.now [] (λ text. answers (text ++ concat (value.now ∷ []))) scopes.old) }
+    ensures levels { length scopes.new ≡ length scopes.old }
+{
+    change(alloc, scopes, level, name, Edit::Characters(value.as_str()))
 }
 
 /// Adds values behind a variable.

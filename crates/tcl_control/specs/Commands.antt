@@ -3,7 +3,6 @@ use Rattle.std.specs.Prelude.{ℕ, ◌+◌, ◌-◌, ◌||◌, ◌&&◌, nat_le,
 use Rattle.std.specs.List.{starts_with}
 use Rattle.std.specs.Fmt.{decimal}
 use Rattle.tcl_text.specs.Answers.{Answer}
-use Rattle.tcl_text.specs.Commands.{text_command_of}
 use Rattle.tcl_text.specs.Readings.{integer_of}
 use Rattle.tcl_text.specs.StringCommands.{concat_words}
 use Rattle.tcl_vars.specs.Store.{Store, with_variable, has_variable}
@@ -211,10 +210,9 @@ pub record Ending : Type 0 where
 
 -- ── texts and lists ──
 
-abbrev pub texts_plan : List ℕ → Option Answer → Plan
-texts_plan first (Some (Ok text)) = Ends Normal text
-texts_plan first (Some (Err text)) = fails text
-texts_plan first None = fails first
+abbrev pub texts_plan : Answer → Plan
+texts_plan (Ok text) = Ends Normal text
+texts_plan (Err text) = fails text
 
 -- ── catch ──
 

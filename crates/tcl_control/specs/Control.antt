@@ -1,6 +1,6 @@
 -- What a command that is called does, by its name.
 use Rattle.std.specs.Prelude.{ℕ, List, [], ◌∷◌, length, Option, Some, None, codes}
-use Rattle.tcl_text.specs.Commands.{text_command_of}
+use Rattle.tcl_text.specs.Commands.{command_answer}
 use Rattle.tcl_vars.specs.Store.{Store}
 use Rattle.tcl_table.specs.declared.builtin.Builtin.{Builtin as BuiltinName}
 use Rattle.tcl_table.specs.declared.builtin.Builtin.TheVariants as builtin
@@ -79,7 +79,7 @@ builtin_call builtin.While words store context = keeps store context (while_plan
 
 abbrev pub by_command : List ℕ → List (List ℕ) → Store → Context → Option Command → Called
 by_command name words store context (Some (command.Builtin builtin)) = builtin_call builtin words store context
-by_command name words store context (Some (command.Texts first)) = keeps store context (texts_plan first (text_command_of (first ∷ words)))
+by_command name words store context (Some (command.Texts text)) = keeps store context (texts_plan (command_answer text words))
 by_command name words store context (Some (command.Outside first)) = record { store = store; context = context; call = Outside first }
 by_command name words store context (Some (command.Procedure procedure)) = in_procedure context (procedure_call name procedure words store context.levels)
 by_command name words store context None = record { store = store; context = context; call = Unknown }

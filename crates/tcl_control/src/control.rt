@@ -1,5 +1,6 @@
 ghost use Rattle.std.specs.Prelude.{◌≡◌, ◌<◌, ◌≤◌, [], ◌∷◌, length, codes, Some, IfOk};
-ghost use Rattle.tcl_text.specs.Commands.{text_command_of};
+ghost use Rattle.std.specs.Option.{option_copied};
+ghost use Rattle.tcl_text.specs.Commands.{command_answer};
 ghost use Rattle.tcl_text.specs.Readings.{integer_of};
 ghost use Rattle.tcl_text.specs.StringCommands.{concat_words};
 ghost use Rattle.tcl_vars.specs.Store.{with_variable};
@@ -20,7 +21,7 @@ use std::alloc::{AllocError, Global};
 use tcl_shapes::{foreach_groups, has_body};
 use tcl_table::texts::{about, cannot_set, fixed, told};
 use tcl_table::{Builtin, Command, CommandTable, Source, is_dotted, plain_name};
-use tcl_text::{Text, TextList};
+use tcl_text::{Text, TextCommand};
 use tcl_vars::{Scopes, SetFault};
 
 /// What is to be done for a command that is called.
@@ -81,6 +82,26 @@ fn catch_plan(alloc: Global, words: &[Text]) -> Result<Plan, AllocError>
     }
 }
 
+/// A loop with this condition and body, and what runs behind the body.
+fn conditional(
+    alloc: Global,
+    table: &mut CommandTable,
+    condition: &Text,
+    body: &Text,
+    next: Option<&Text>,
+) -> Result<Looping, AllocError>
+    ensures table { table.new ≡ table.old }
+    ensures looping { IfOk result (λ looping. looping ≡ record { test = Test.Holds condition.now; body = body.now; next = option_copied next.entry }) }
+{
+    let test = Test::Holds(Expression::read_by(alloc, table, condition)?);
+    let body = Source::read_by(table, body)?;
+    let next = match next {
+        Some(next) => Some(Source::read_by(table, next)?),
+        None => None,
+    };
+    Looping::new(alloc, Turning { test, body, next })
+}
+
 /// `while` (while(n)).
 fn while_plan(alloc: Global, table: &mut CommandTable, words: &[Text]) -> Result<Plan, AllocError>
     ensures table { table.new ≡ table.old }
@@ -88,12 +109,8 @@ fn while_plan(alloc: Global, table: &mut CommandTable, words: &[Text]) -> Result
 {
     match words {
         [condition, body] => {
-            let turning = Turning {
-                test: Test::Holds(Expression::read_by(alloc, table, condition)?),
-                body: Source::read_by(table, body)?,
-                next: None,
-            };
-            Ok(Plan::Turns(Looping::new(alloc, turning)?))
+            let turning = conditional(alloc, table, condition, body, None)?;
+            Ok(Plan::Turns(turning))
         }
         _ => Ok(fails(fixed(alloc, "wrong # args: should be \"while cond body\"")?)),
     }
@@ -106,13 +123,8 @@ fn for_plan(alloc: Global, table: &mut CommandTable, words: &[Text]) -> Result<P
 {
     match words {
         [start, condition, next, body] => {
-            let turning = Turning {
-                test: Test::Holds(Expression::read_by(alloc, table, condition)?),
-                body: Source::read_by(table, body)?,
-                next: Some(Source::read_by(table, next)?),
-            };
-            let start = Source::of_text(start.copy()?);
-            Ok(Plan::Starts(start, Looping::new(alloc, turning)?))
+            let turning = conditional(alloc, table, condition, body, Some(next))?;
+            Ok(Plan::Starts(Source::of_text(start.copy()?), turning))
         }
         _ => Ok(fails(fixed(
             alloc,
@@ -184,28 +196,11 @@ fn rename_plan(alloc: Global, context: &mut Context, words: &[Text]) -> Result<P
     }
 }
 
-/// A first text, and copies of more.
-fn with_copies(alloc: Global, first: Text, more: &[Text]) -> Result<TextList, AllocError>
-    ensures { IfOk result (λ all. all ≡ first ∷ more.now) }
-{
-    let mut texts = TextList::new(alloc);
-    texts.push(first)?;
-    for text in more {
-        texts.push(text.copy()?)?;
-    }
-    Ok(texts)
-}
-
 /// Words joined as by `concat` (concat(n)).
-#[tactic(auto, unfolding(tcl_text::specs::Commands::command_named))]
 fn concatenated(alloc: Global, words: &[Text]) -> Result<Result<Text, Text>, AllocError>
     ensures { IfOk result (λ answer. answer ≡ concat_words words.now) }
 {
-    let all = with_copies(alloc, fixed(alloc, "concat")?, words)?;
-    match Text::text_command(alloc, all.as_slice())? {
-        Some(answer) => Ok(answer),
-        None => unreachable!(),
-    }
+    TextCommand::Concat.answer(alloc, words)
 }
 
 /// `eval` (eval(n)).
@@ -500,15 +495,13 @@ pub fn error_end(text: Text) -> End
     }
 }
 
-/// A command on texts or lists, which first had this name.
-fn texts_plan(alloc: Global, first: &Text, words: &[Text]) -> Result<Plan, AllocError>
-    ensures { IfOk result (λ plan. plan ≡ texts_plan first.now (text_command_of (first.now ∷ words.now))) }
+/// A command on texts or lists.
+fn texts_plan(alloc: Global, command: TextCommand, words: &[Text]) -> Result<Plan, AllocError>
+    ensures { IfOk result (λ plan. plan ≡ texts_plan (command_answer command words.now)) }
 {
-    let all = with_copies(alloc, first.copy()?, words)?;
-    match Text::text_command(alloc, all.as_slice())? {
-        Some(Ok(text)) => Ok(Plan::Ends(Code::Normal, text)),
-        Some(Err(text)) => Ok(fails(text)),
-        None => Ok(fails(first.copy()?)),
+    match command.answer(alloc, words)? {
+        Ok(text) => Ok(Plan::Ends(Code::Normal, text)),
+        Err(text) => Ok(fails(text)),
     }
 }
 
@@ -576,7 +569,7 @@ pub fn call_command(
             let call = builtin_call(alloc, *builtin, scopes, context, words)?;
             Ok(call)
         }
-        Some(Command::Texts(first)) => Ok(Call::Plans(texts_plan(alloc, first, words)?)),
+        Some(Command::Texts(command)) => Ok(Call::Plans(texts_plan(alloc, *command, words)?)),
         Some(Command::Procedure(procedure)) => {
             let plan = call_procedure(alloc, scopes, &mut context.levels, name, procedure, words)?;
             Ok(Call::Plans(plan))

@@ -1,5 +1,5 @@
 -- What the parts of the interpreter stand for.
-use Rattle.std.specs.Prelude.{ℕ, ◌+◌, Bool, false, List, [], ◌∷◌, map, reverse, drop, Result, Ok, Err, string_bytes}
+use Rattle.std.specs.Prelude.{◌≡◌, ℕ, ◌+◌, Bool, false, List, [], ◌∷◌, map, reverse, drop, Result, Ok, Err}
 use Rattle.tcl_words.specs.declared.script.Command.{Command}
 use Rattle.tcl_words.specs.declared.script.Word.{Word}
 use Rattle.tcl_words.specs.declared.script.Piece.{Piece}
@@ -8,8 +8,6 @@ use Rattle.tcl_vars.specs.Store.{Store}
 use Rattle.tcl_control.specs.declared.context.Context.{Context}
 use Rattle.tcl_control.specs.Source.{script_of}
 use Rattle.tcl_interp.specs.declared.machine.Place.{Place}
-use Rattle.tcl_interp.specs.declared.machine.Joined.{Joined}
-use Rattle.tcl_interp.specs.declared.machine.Joined.TheVariants.{Nothing, Shared, Own}
 use Rattle.tcl_interp.specs.declared.machine.Wording.{Wording as WordsPart}
 use Rattle.tcl_interp.specs.declared.machine.Indexing.{Indexing as IndexPart}
 use Rattle.tcl_interp.specs.declared.machine.Now.{Now}
@@ -19,7 +17,7 @@ use Rattle.tcl_interp.specs.declared.machine.Frame.TheVariants as frame
 use Rattle.tcl_interp.specs.declared.machine.Machine.{Machine}
 use Rattle.tcl_interp.specs.declared.machine.Machine.TheVariants as machine
 use Rattle.tcl_interp.specs.Finish.{Wording, Indexing, Doing, Begins, GoesOn, Indexes, Evaluates, Calls, Tests, Steps, Resumes, Ends, Waiting, ForCommand, ForPart, ForIndex, ForValue, ForTest, ForChoice, ForBody, ForNext, ForStart, ForCatch, ForLevels, ForProcedure, ForScript, ForAll, Rest, Idle, Running, Spent, Broken}
-use Rattle.tcl_interp.specs.Moves.{Moved, Standing, Part, Script, ElementOf, PieceText, Plain, Fails, Waits, WordEnd, Whole, Failed, AtPart}
+use Rattle.tcl_interp.specs.Moves.{Moved, Standing, Part, Script, ElementOf, PieceText, Plain, Fails, Waits, WordEnd, Whole, Failed, AtPart, word_end}
 use Rattle.tcl_interp.specs.Evaluation.{index_pieces}
 use Rattle.tcl_interp.specs.declared.words.Part.{Part as WordPart}
 use Rattle.tcl_interp.specs.declared.words.Part.TheVariants as part
@@ -40,11 +38,6 @@ commands_in text = read_commands (script_of text)
 abbrev pub left_in : Place → List Command
 left_in place = drop place.next (commands_in place.script)
 
-abbrev pub joined_text : Joined → List ℕ
-joined_text Nothing = []
-joined_text (Shared text) = text
-joined_text (Own short) = string_bytes short.string
-
 -- the words of the command in front, and the pieces of the word in front
 abbrev pub words_in_front : List Command → List Word
 words_in_front [] = []
@@ -59,6 +52,10 @@ abbrev pub expand_in_front : List Word → Bool
 expand_in_front [] = false
 expand_in_front (word ∷ words) = word.expand
 
+-- the word in front is one text, and no list
+abbrev pub IsSingle : ℕ → Store → List Word → List ℕ → Type 0
+IsSingle level store words text = (expand_in_front words ≡ false) × (Whole text ≡ word_end level store (pieces_in_front words) [])
+
 abbrev pub wording_of : WordsPart → Wording
 wording_of part =
     let words = words_in_front (left_in part.place) in
@@ -66,7 +63,7 @@ wording_of part =
       room = part.place.room;
       after = drop (part.place.next + 1) (commands_in part.place.script);
       whole = part.whole;
-      so_far = joined_text part.so_far;
+      so_far = part.so_far;
       expand = expand_in_front (drop part.word words);
       pieces = drop part.piece (pieces_in_front (drop part.word words));
       words = drop (part.word + 1) words;
@@ -81,7 +78,7 @@ abbrev pub pieces_in : List ℕ → List Piece
 pieces_in index = read_pieces (index_pieces index)
 
 abbrev pub indexing_of : IndexPart → Indexing
-indexing_of part = record { room = part.room; depth = part.depth; name = part.name; so_far = joined_text part.so_far; pieces = drop part.piece (pieces_in part.index) }
+indexing_of part = record { room = part.room; depth = part.depth; name = part.name; so_far = part.so_far; pieces = drop part.piece (pieces_in part.index) }
 
 abbrev pub part_of : WordPart → Part
 part_of (part.Script script) = Script script
@@ -96,7 +93,7 @@ value_of (value.Waits part) = Waits (part_of part)
 abbrev pub put_end : List Piece → Put → WordEnd
 put_end pieces (put.Whole text) = Whole text
 put_end pieces (put.Failed text) = Failed text
-put_end pieces (put.AtPart part next so_far) = AtPart (part_of part) (drop next pieces) (joined_text so_far)
+put_end pieces (put.AtPart part next so_far) = AtPart (part_of part) (drop next pieces) so_far
 
 module _ {K : Type 0} where
   abbrev pub doing_of : Now K → Doing K

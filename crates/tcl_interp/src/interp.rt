@@ -36,7 +36,7 @@ pub struct Interp<K> {
 }
 
 impl<K: Drop> Interp<K> {
-    ghost use Rattle.std.specs.Prelude.{◌≡◌, ◌≢◌, ◌<◌, ◌≤◌, ◌+◌, [], Ok, IfOk, OnOk, OnErr, IsErr, All, sum};
+    ghost use Rattle.std.specs.Prelude.{◌≡◌, ◌≢◌, ◌⊎◌, ◌<◌, ◌≤◌, ◌+◌, [], Ok, IfOk, OnOk, OnErr, IsErr, All, sum};
     ghost use Rattle.tcl_interp.specs.Finish.{finish, Idle, Running, Spent, Broken, rest_of_script, rest_of_task};
     ghost use Rattle.tcl_interp.specs.Rests.{doing_of, waits_of};
     ghost use Rattle.tcl_interp.specs.Interp.{rest_of, left_of, budget_of, context_of, first_context, at_top, state_of, LeavesRest, Reaches, LeavesAfter, IsWhole};
@@ -61,20 +61,22 @@ impl<K: Drop> Interp<K> {
         })
     }
 
-    /// Begins a script at global level. It takes no step, and is read in the first slice.
+    /// Begins a script at global level, where nothing runs: nothing has begun, all has ended, or the steps are spent. It takes no step,
+    /// and is read in the first slice.
     #[tactic(auto, unfolding(crate::specs::Rests::waits_of))]
     pub fn begin(&mut self, script: Text) -> Result<(), AllocError>
-        requires { rest_of self.old ≡ Idle }
+        requires { (rest_of self.old ≡ Idle) ⊎ (rest_of self.old ≡ Spent) }
         ensures ok { OnOk result (rest_of self.new ≡ rest_of_script script) }
-        ensures err { OnErr result (rest_of self.new ≡ Idle) }
+        ensures err { OnErr result (rest_of self.new ≡ rest_of self.old) }
         ensures left { left_of self.new ≡ left_of self.old }
         ensures context { OnOk result (context_of self.new ≡ at_top (context_of self.old)) }
         ensures kept { OnErr result (context_of self.new ≡ context_of self.old) }
         ensures budget { budget_of self.new ≡ budget_of self.old }
     {
         let levels = Levels::global(self.alloc)?;
-        self.frames.clear();
-        self.frames.push(Frame::ForAll)?;
+        let mut frames = Vec::new(self.alloc);
+        frames.push(Frame::ForAll)?;
+        self.frames = frames;
         self.context.levels = levels;
         self.machine = Machine::Running(Now::Begins {
             room: 200,
@@ -83,12 +85,12 @@ impl<K: Drop> Interp<K> {
         Ok(())
     }
 
-    /// Begins a task, which is resumed with the normal code and the empty text.
+    /// Begins a task, which is resumed with the normal code and the empty text, where nothing runs.
     #[tactic(auto, unfolding(crate::specs::Rests::waits_of))]
     pub fn begin_task(&mut self, task: K) -> Result<(), AllocError>
-        requires { rest_of self.old ≡ Idle }
+        requires { (rest_of self.old ≡ Idle) ⊎ (rest_of self.old ≡ Spent) }
         ensures ok { OnOk result (rest_of self.new ≡ rest_of_task task) }
-        ensures err { OnErr result (rest_of self.new ≡ Idle) }
+        ensures err { OnErr result (rest_of self.new ≡ rest_of self.old) }
         ensures left { left_of self.new ≡ left_of self.old }
         ensures context { OnOk result (context_of self.new ≡ at_top (context_of self.old)) }
         ensures kept { OnErr result (context_of self.new ≡ context_of self.old) }
@@ -219,6 +221,7 @@ impl<K: Drop> Interp<K> {
         ensures most { left_of self.old ≤ left_of self.new + sum sizes.now }
         ensures taken { left_of self.new ≤ left_of self.old }
         ensures budget { budget_of self.new ≡ budget_of self.old }
+        ensures refused { OnErr result (rest_of self.new ≡ Broken) }
         ensures left_alone { T.left_alone tasks.new ≡ T.left_alone tasks.old }
     {
         for size in sizes {
@@ -245,6 +248,7 @@ impl<K: Drop> Interp<K> {
         ensures rest { IfOk result (λ end. LeavesAfter end (rest_of self.new)) }
         ensures taken { left_of self.new ≤ left_of self.old }
         ensures budget { budget_of self.new ≡ budget_of self.old }
+        ensures refused { OnErr result (rest_of self.new ≡ Broken) }
         ensures left_alone { T.left_alone tasks.new ≡ T.left_alone tasks.old }
     {
         match self.run_slices(tasks, scopes, sizes)? {

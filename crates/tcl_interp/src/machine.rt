@@ -1,4 +1,4 @@
-ghost use Rattle.std.specs.Prelude.{◌≡◌, ◌<◌, ◌≤◌, is_some, length, string_len, true};
+ghost use Rattle.std.specs.Prelude.{◌≡◌, ◌<◌, is_some, length, true};
 ghost use Rattle.tcl_expr.specs.Evaluation.{is_waiting};
 
 use tcl_control::{Choices, Code, Levels, Looping, Source};
@@ -14,21 +14,6 @@ pub struct Place {
     pub room: u64,
 }
 
-/// At most as many bytes as a value has.
-#[derive(Drop)]
-pub struct Short {
-    pub string: String,
-    ghost short: { string_len string ≤ 65536 },
-}
-
-/// The text so far of a word. Its first piece is shared, and from the second on the pieces are copied.
-#[derive(Drop)]
-pub enum Joined {
-    Nothing,
-    Shared(Text),
-    Own(Short),
-}
-
 /// The next command of a script, whose words are being put together: those before `word` are whole, and the pieces of that
 /// word before `piece` are joined.
 #[derive(Drop)]
@@ -37,7 +22,7 @@ pub struct Wording {
     pub word: usize,
     pub piece: usize,
     pub whole: TextList,
-    pub so_far: Joined,
+    pub so_far: Text,
 }
 
 /// An element whose index is being put together: its pieces before `piece` are joined. There is room for so many scripts, and for
@@ -49,7 +34,7 @@ pub struct Indexing {
     pub name: Text,
     pub index: Index,
     pub piece: usize,
-    pub so_far: Joined,
+    pub so_far: Text,
 }
 
 /// An evaluation that goes on, with the answer to what it asked.

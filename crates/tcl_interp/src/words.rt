@@ -1,17 +1,17 @@
-ghost use Rattle.std.specs.Prelude.{◌≡◌, ◌<◌, ◌≤◌, ◌+◌, [], ◌++◌, length, drop, nat_le, if◌then◌else◌, Some, None, option_map, MatchResult, Ok, Err, ◌∷◌, OnOk, IfOk, string_len, string_bytes};
+ghost use Rattle.std.specs.Prelude.{◌≡◌, ◌<◌, ◌≤◌, ◌+◌, [], ◌++◌, length, drop, nat_le, if◌then◌else◌, Some, None, option_map, MatchResult, Ok, Err, ◌∷◌, OnOk, IfOk, IfSome};
 ghost use Rattle.tcl_vars.specs.Store.{variable_in, element_in};
 ghost use Rattle.tcl_text.specs.Readings.{list_of};
 ghost use Rattle.tcl_control.specs.Source.{script_of};
 ghost use Rattle.tcl_control.specs.Texts.{element_name};
 ghost use Rattle.tcl_interp.specs.Evaluation.{index_depth, split_words, words_of};
 ghost use Rattle.tcl_interp.specs.Moves.{with_more, piece_text, word_end, called_move, words_move, element_begins, element_end, indexes_move, longer_index, part_begins, part_move, word_part, go_on_move};
-ghost use Rattle.tcl_interp.specs.Rests.{commands_in, doing_of, expand_in_front, indexing_of, joined_text, left_in, moved_of, part_of, pieces_in, pieces_in_front, put_end, value_of, waiting_of, waits_of, wording_of, words_in_front};
+ghost use Rattle.tcl_interp.specs.Rests.{commands_in, doing_of, expand_in_front, indexing_of, IsSingle, left_in, moved_of, part_of, pieces_in, pieces_in_front, put_end, value_of, waiting_of, waits_of, wording_of, words_in_front};
 
-use crate::machine::{Frame, Indexing, Joined, Now, Place, Short, Wording};
+use crate::machine::{Frame, Indexing, Now, Place, Wording};
 use std::alloc::{AllocError, Global};
 use tcl_control::texts::{cannot_read, cannot_read_element, fault_text, fixed, limit, list_fault};
 use tcl_control::{Code, Source};
-use tcl_text::{SplitFault, Text, TextList};
+use tcl_text::{SplitFault, Text, TextFault, TextList};
 use tcl_vars::Scopes;
 use tcl_words::{Command, Index, ParseFault, Piece, Script, Word};
 
@@ -38,7 +38,7 @@ pub enum Put {
     AtPart {
         part: Part,
         next: usize,
-        so_far: Joined,
+        so_far: Text,
     },
 }
 
@@ -68,42 +68,19 @@ fn piece_value(
     }
 }
 
-fn lengthened(mut string: String, text: &Text) -> Result<Option<Joined>, AllocError>
-    requires { string_len string ≤ 65536 }
-    ensures { IfOk result (λ joined. option_map joined_text joined ≡ (if nat_le (length (string_bytes string ++ text.now)) 65536 then Some (string_bytes string ++ text.now) else None)) }
-{
-    let characters = text.as_str();
-    if characters.len() > 65_536 - string.len() {
-        return Ok(None);
-    }
-    string.push_str(characters)?;
-    Ok(Some(Joined::Own(Short { string })))
-}
-
 /// A word's text with one more piece, none where it is too long.
-fn joined(alloc: Global, so_far: Joined, text: Text) -> Result<Option<Joined>, AllocError>
-    ensures { IfOk result (λ joined. option_map joined_text joined ≡ (if nat_le (length (joined_text so_far ++ text)) 65536 then Some (joined_text so_far ++ text) else None)) }
+fn joined(alloc: Global, so_far: Text, text: Text) -> Result<Option<Text>, AllocError>
+    ensures { IfOk result (λ joined. joined ≡ (if nat_le (length (so_far ++ text)) 65536 then Some (so_far ++ text) else None)) }
 {
-    match so_far {
-        Joined::Nothing => {
-            let _short = text.as_str();
-            Ok(Some(Joined::Shared(text)))
-        }
-        Joined::Shared(first) => {
-            let string = String::from_str(alloc, first.as_str())?;
-            lengthened(string, &text)
-        }
-        Joined::Own(Short { string }) => lengthened(string, &text),
+    if so_far.as_str().is_empty() {
+        let _short = text.as_str();
+        return Ok(Some(text));
     }
-}
-
-fn whole_text(alloc: Global, joined: Joined) -> Result<Text, AllocError>
-    ensures { IfOk result (λ text. text ≡ joined_text joined) }
-{
-    match joined {
-        Joined::Nothing => fixed(alloc, ""),
-        Joined::Shared(text) => Ok(text),
-        Joined::Own(short) => fixed(alloc, short.string.as_str()),
+    let mut all = so_far;
+    match all.push_str(alloc, text.as_str()) {
+        Ok(()) => Ok(Some(all)),
+        Err(TextFault::TooLong) => Ok(None),
+        Err(TextFault::NoMemory) => Err(AllocError),
     }
 }
 
@@ -113,10 +90,10 @@ fn put_pieces(
     level: usize,
     pieces: &[Piece],
     from: usize,
-    so_far: Joined,
+    so_far: Text,
 ) -> Result<Put, AllocError>
     requires { level < length scopes.now }
-    ensures { IfOk result (λ put. put_end pieces.now put ≡ word_end level scopes.now (drop from pieces.now) (joined_text so_far)) }
+    ensures { IfOk result (λ put. put_end pieces.now put ≡ word_end level scopes.now (drop from pieces.now) so_far) }
 {
     let mut next = from;
     let mut text_so_far = so_far;
@@ -138,7 +115,7 @@ fn put_pieces(
             }
         }
     }
-    Ok(Put::Whole(whole_text(alloc, text_so_far)?))
+    Ok(Put::Whole(text_so_far))
 }
 
 /// The commands of a script.
@@ -273,6 +250,30 @@ fn called<K: Drop>(
     Ok(Now::Calls { room, words: whole })
 }
 
+/// The text of the word at an index, where that is one text or the value of one variable, as most words are: it needs no text
+/// of its own.
+fn single_text(
+    scopes: &Scopes,
+    level: usize,
+    words: &[Word],
+    index: usize,
+) -> Result<Option<Text>, AllocError>
+    requires { level < length scopes.now }
+    ensures { IfOk result (λ single. IfSome single (IsSingle level scopes.now (drop index words.now))) }
+{
+    let Some(word) = words.get(index) else {
+        return Ok(None);
+    };
+    match word.pieces.as_slice() {
+        [Piece::Literal(text)] if !word.expand => Ok(Some(text.copy()?)),
+        [Piece::Variable(name)] if !word.expand => match scopes.get(level, name) {
+            Ok(value) => Ok(Some(value.copy()?)),
+            Err(_) => Ok(None),
+        },
+        _ => Ok(None),
+    }
+}
+
 /// Puts the words of the command that is next together, from this one on, until a script is to be run.
 fn put_words<K: Drop>(
     alloc: Global,
@@ -289,16 +290,16 @@ fn put_words<K: Drop>(
     let mut whole = so_far;
     let mut word = from;
     while word < next_words(&place).len() {
-        match put_pieces(
-            alloc,
-            scopes,
-            level,
-            pieces_at(next_words(&place), word),
-            0,
-            Joined::Nothing,
-        )? {
+        let words = next_words(&place);
+        if let Some(text) = single_text(scopes, level, words, word)? {
+            whole.push(text)?;
+            word += 1;
+            continue;
+        }
+        let pieces = pieces_at(words, word);
+        match put_pieces(alloc, scopes, level, pieces, 0, fixed(alloc, "")?)? {
             Put::Whole(text) => {
-                let more = with_word(alloc, whole, next_words(&place), word, text)?;
+                let more = with_word(alloc, whole, words, word, text)?;
                 match more {
                     Ok(all) => whole = all,
                     Err(text) => {
@@ -368,7 +369,7 @@ fn element_begins<K: Drop>(
         name,
         index,
         piece: 0,
-        so_far: Joined::Nothing,
+        so_far: fixed(alloc, "")?,
     };
     Ok(Now::Indexes(Box::new(alloc, indexing)?))
 }
@@ -400,10 +401,10 @@ fn word_part<K: Drop>(
     word: usize,
     piece: usize,
     whole: TextList,
-    so_far: Joined,
+    so_far: Text,
     part: Part,
 ) -> Result<Now<K>, AllocError>
-    ensures { IfOk result (λ now. moved_of now frames.new.items ≡ word_part place.room (drop (place.next + 1) (commands_in place.script)) (expand_in_front (drop word (words_in_front (left_in place)))) (drop (word + 1) (words_in_front (left_in place))) whole (drop piece (pieces_in_front (drop word (words_in_front (left_in place))))) (joined_text so_far) (part_of part) (waits_of frames.old.items)) }
+    ensures { IfOk result (λ now. moved_of now frames.new.items ≡ word_part place.room (drop (place.next + 1) (commands_in place.script)) (expand_in_front (drop word (words_in_front (left_in place)))) (drop (word + 1) (words_in_front (left_in place))) whole (drop piece (pieces_in_front (drop word (words_in_front (left_in place))))) so_far (part_of part) (waits_of frames.old.items)) }
 {
     let room = place.room;
     let wording = Wording {
@@ -589,7 +590,8 @@ pub fn go_on<K: Drop>(
     ensures { IfOk result (λ now. moved_of now frames.new.items ≡ go_on_move level scopes.now place.room (left_in place) previous (waits_of frames.old.items)) }
 {
     if place.next < commands(&place.script).len() {
-        put_words(alloc, scopes, level, frames, place, 0, TextList::new(alloc))
+        let words = TextList::with_capacity(alloc, next_words(&place).len())?;
+        put_words(alloc, scopes, level, frames, place, 0, words)
     } else {
         Ok(Now::Ends {
             code: Code::Normal,

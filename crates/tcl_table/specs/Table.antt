@@ -9,6 +9,8 @@ use Rattle.tcl_table.specs.declared.builtin.Builtin.TheVariants as builtin
 use Rattle.tcl_table.specs.declared.command.Command.{Command}
 use Rattle.tcl_table.specs.declared.command.Command.TheVariants.{Builtin, Texts, Outside, Procedure}
 use Rattle.tcl_commands.specs.declared.commands.VariableCommand.TheVariants as variable
+use Rattle.tcl_text.specs.declared.commands.TextCommand.{TextCommand}
+use Rattle.tcl_text.specs.declared.commands.TextCommand.TheVariants as text
 
 -- names with commands, in the order in which they came
 abbrev pub Table : Type 0
@@ -44,9 +46,9 @@ with_builtins [] table = table
 with_builtins (entry ∷ entries) table = with_builtins entries (with_value table entry.0 (Builtin entry.1))
 
 -- with commands on texts and lists
-abbrev pub with_texts : List (List ℕ) → Table → Table
+abbrev pub with_texts : List (List ℕ × TextCommand) → Table → Table
 with_texts [] table = table
-with_texts (name ∷ names) table = with_texts names (with_value table name (Texts name))
+with_texts (entry ∷ entries) table = with_texts entries (with_value table entry.0 (Texts entry.1))
 
 -- with outside commands, which replace others of their names
 abbrev pub with_outside : List (List ℕ) → Table → Table
@@ -86,25 +88,26 @@ variables =
     ∷ (codes "global", builtin.Variable variable.Global)
     ∷ []
 
-abbrev pub text_names : List (List ℕ)
-text_names =
-    codes "list"
-    ∷ codes "llength"
-    ∷ codes "lindex"
-    ∷ codes "lrange"
-    ∷ codes "linsert"
-    ∷ codes "lreplace"
-    ∷ codes "lsearch"
-    ∷ codes "lsort"
-    ∷ codes "join"
-    ∷ codes "split"
-    ∷ codes "concat"
-    ∷ codes "string"
+-- the commands on texts and lists
+abbrev pub texts : List (List ℕ × TextCommand)
+texts =
+    (codes "list", text.List)
+    ∷ (codes "llength", text.Llength)
+    ∷ (codes "lindex", text.Lindex)
+    ∷ (codes "lrange", text.Lrange)
+    ∷ (codes "linsert", text.Linsert)
+    ∷ (codes "lreplace", text.Lreplace)
+    ∷ (codes "lsearch", text.Lsearch)
+    ∷ (codes "lsort", text.Lsort)
+    ∷ (codes "join", text.Join)
+    ∷ (codes "split", text.Split)
+    ∷ (codes "concat", text.Concat)
+    ∷ (codes "string", text.String)
     ∷ []
 
 -- The commands at first, with the names of the outside ones.
 unfoldable pub first_commands : List (List ℕ) → Table
-first_commands names = with_outside names (with_texts text_names (with_builtins variables (with_builtins builtins [])))
+first_commands names = with_outside names (with_texts texts (with_builtins variables (with_builtins builtins [])))
 
 -- The command that a name calls. One that begins with a dot is always an outside command's.
 abbrev pub command_of : Table → List ℕ → Option Command

@@ -3,18 +3,17 @@ ghost use Rattle.std.specs.Option.{option_copied};
 ghost use Rattle.indexmap.specs.IndexMap.{values};
 ghost use Rattle.tcl_table.specs.Names.{is_dotted, plain_name};
 ghost use Rattle.tcl_table.specs.Source.{script_of};
-ghost use Rattle.tcl_table.specs.Table.{builtins, variables, text_names, is_procedure, procedure_count, procedures_among, value_at, with_value, without, first_commands, with_builtins, with_texts, with_outside};
+ghost use Rattle.tcl_table.specs.Table.{builtins, variables, texts, is_procedure, procedure_count, procedures_among, value_at, with_value, without, first_commands, with_builtins, with_texts, with_outside};
 
 use crate::builtin::Builtin;
 use crate::kept::{expression_at, place_of, script_at, vacant_places};
 use crate::procedure::Procedure;
-use crate::texts::fixed;
 use indexmap::IndexMap;
 use std::alloc::{AllocError, Global};
 use std::marker::Model;
 use tcl_commands::VariableCommand;
 use tcl_expr::Expr;
-use tcl_text::Text;
+use tcl_text::{Text, TextCommand};
 use tcl_words::{ParseFault, Script, parse};
 
 /// What a name calls.
@@ -22,8 +21,8 @@ use tcl_words::{ParseFault, Script, parse};
 pub enum Command {
     /// A command of this crate.
     Builtin(Builtin),
-    /// The command on texts or lists that first had this name.
-    Texts(Text),
+    /// A command on texts or lists.
+    Texts(TextCommand),
     /// The outside command that first had this name.
     Outside(Text),
     /// A procedure.
@@ -187,7 +186,7 @@ pub fn first_commands(alloc: Global, outside: &[Text]) -> Result<CommandTable, A
 {
     let mut table = CommandTable::new(alloc)?;
     add_builtins(&mut table)?;
-    add_texts(alloc, &mut table)?;
+    add_texts(&mut table)?;
     for name in outside {
         table.insert(name.as_str(), Command::Outside(name.copy()?))?;
     }
@@ -240,29 +239,30 @@ fn add_variables(table: &mut CommandTable) -> Result<(), AllocError>
     Ok(())
 }
 
-fn add_text(alloc: Global, table: &mut CommandTable, name: &str) -> Result<(), AllocError>
-    requires { length name.now ≤ 65536 }
-    ensures { OnOk result (table.new ≡ with_value table.old name.now (Command.Texts name.now)) }
+fn add_text(
+    table: &mut CommandTable,
+    name: &str,
+    command: TextCommand,
+) -> Result<(), AllocError>
+    ensures { OnOk result (table.new ≡ with_value table.old name.now (Command.Texts command)) }
 {
-    let first = fixed(alloc, name)?;
-    table.insert(name, Command::Texts(first))?;
-    Ok(())
+    table.insert(name, Command::Texts(command))
 }
 
-fn add_texts(alloc: Global, table: &mut CommandTable) -> Result<(), AllocError>
-    ensures { OnOk result (table.new ≡ with_texts text_names table.old) }
+fn add_texts(table: &mut CommandTable) -> Result<(), AllocError>
+    ensures { OnOk result (table.new ≡ with_texts texts table.old) }
 {
-    add_text(alloc, table, "list")?;
-    add_text(alloc, table, "llength")?;
-    add_text(alloc, table, "lindex")?;
-    add_text(alloc, table, "lrange")?;
-    add_text(alloc, table, "linsert")?;
-    add_text(alloc, table, "lreplace")?;
-    add_text(alloc, table, "lsearch")?;
-    add_text(alloc, table, "lsort")?;
-    add_text(alloc, table, "join")?;
-    add_text(alloc, table, "split")?;
-    add_text(alloc, table, "concat")?;
-    add_text(alloc, table, "string")?;
+    add_text(table, "list", TextCommand::List)?;
+    add_text(table, "llength", TextCommand::Llength)?;
+    add_text(table, "lindex", TextCommand::Lindex)?;
+    add_text(table, "lrange", TextCommand::Lrange)?;
+    add_text(table, "linsert", TextCommand::Linsert)?;
+    add_text(table, "lreplace", TextCommand::Lreplace)?;
+    add_text(table, "lsearch", TextCommand::Lsearch)?;
+    add_text(table, "lsort", TextCommand::Lsort)?;
+    add_text(table, "join", TextCommand::Join)?;
+    add_text(table, "split", TextCommand::Split)?;
+    add_text(table, "concat", TextCommand::Concat)?;
+    add_text(table, "string", TextCommand::String)?;
     Ok(())
 }

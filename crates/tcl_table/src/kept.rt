@@ -19,25 +19,25 @@ pub(crate) fn vacant_places<T: Drop>(alloc: Global) -> Result<Vec<Option<T>>, Al
     Ok(places)
 }
 
-/// The byte at an index, or 0 where there is none.
-fn byte_at(bytes: &[u8], index: usize) -> usize
-    ensures { result < 256 }
-{
-    match bytes.get(index) {
-        Some(byte) => usize::from(*byte),
-        None => 0,
-    }
+/// How many bytes at each end of a text tell its place.
+const END_BYTES: usize = 16;
+
+/// A number mixed with bytes. It may be any number: only how often texts share a place depends on it.
+fn mixed(number: usize, bytes: &[u8]) -> usize {
+    bytes.iter().fold(number, |mixed, byte| {
+        mixed.wrapping_mul(31).wrapping_add(usize::from(*byte))
+    })
 }
 
-/// The place of what was read of a text: by its length and a few of its bytes, so that a long text costs no more than a short one.
+/// The place of what was read of a text: by its length and the bytes at its ends, so that a long text costs no more than a short one.
 pub(crate) fn place_of(text: &Text) -> usize
     ensures { result < 256 }
 {
     let bytes = text.as_str().as_bytes();
     let length = bytes.len();
-    let ends = 3 * byte_at(bytes, length / 8) + 5 * byte_at(bytes, length - length / 8);
-    let middle = 7 * byte_at(bytes, length / 2) + 11 * byte_at(bytes, length / 3);
-    (length + ends + middle) % PLACES
+    let end = length.min(END_BYTES);
+    let front = mixed(length, &bytes[..end]);
+    mixed(front, &bytes[length - end..]) % PLACES
 }
 
 /// The script that is kept at a place, if it is that of a text.

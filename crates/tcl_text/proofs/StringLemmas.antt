@@ -1,7 +1,8 @@
 -- Facts about the commands of string(n) and concat(n).
 use Rattle.std.proofs.Common.{◌≡◌, ℕ, zero, suc, ◌+◌, ◌-◌, ◌*◌, ◌/◌, ◌<◌, ◌≤◌, Bool, true, false, List, [], ◌∷◌, ◌++◌, Option, Some, None, Result, Ok, Err, length, take, drop, get_or, map, replicate, refl, sym, ap, subst, ◌∙◌, arith, add-one}
 use Rattle.std.specs.List.{concat, join_with_byte}
-use Rattle.std.specs.Prelude.{not, ◌==◌, filter}
+use Rattle.std.specs.Prelude.{not, ◌==◌, filter, nat_eq}
+use Rattle.std.specs.Cmp.Lexicographic.{same_text, pointwise}
 use Rattle.std.proofs.lemmas.Bool.{ne_eqb}
 use Rattle.std.specs.Str.{chars}
 use Rattle.std.proofs.lemmas.List.{append-nil, append_assoc, length-append, map_push, take_more}
@@ -11,7 +12,7 @@ use Rattle.memchr.specs.Find.{FindsNeedle}
 use Rattle.tcl_text.specs.Answers.{Answer, answers, limit_text}
 use Rattle.tcl_text.specs.StringCommands.{characters_before, concatenated, trimmed, first_place}
 use Rattle.tcl_text.specs.StringSteps.{with_word}
-use Rattle.tcl_text.proofs.AnswerLemmas.{answers_beyond}
+use Rattle.tcl_text.proofs.AnswerLemmas.{answers_beyond, answers_within}
 use Rattle.tcl_text.proofs.FindLemmas.{first_place-found}
 
 -- string first
@@ -89,3 +90,20 @@ concatenated-more words word =
 pub concatenated_step : (words : List (List ℕ)) (i : ℕ) (item : List ℕ) → i < length words → item ≡ get_or words i item → concatenated (take (i + 1) words) ≡ with_word (concatenated (take i words)) (trimmed item)
 concatenated_step words i item within is =
     ap concatenated (take_more words i item within ∙ ap (λ (word : List ℕ). take i words ++ word ∷ []) (sym is)) ∙ concatenated-more (take i words) item
+
+-- a word without white space around it is joined with nothing
+concatenated_one : (word : List ℕ) → trimmed word ≡ word → concatenated (word ∷ []) ≡ word
+concatenated_one [] is = refl
+concatenated_one (c ∷ cs) is = ap (λ (text : List ℕ). join_with_byte 32 (kept (text ∷ []))) is ∙ rw (long c cs) refl
+
+single_word : (word : List ℕ) → trimmed word ≡ word → length word ≤ 65536 → answers (concatenated (word ∷ [])) ≡ Ok word
+single_word word is short = ap answers (concatenated_one word is) ∙ answers_within word short
+
+pub single_answer : (words : List (List ℕ)) (word first again cut : List ℕ) (is_same : Bool) → 1 ≤ length words → length words < 2 → word ≡ get_or words 0 word → first ≡ word → again ≡ word → length word ≤ 65536
+    → cut ≡ trimmed first → is_same ≡ pointwise nat_eq cut again → is_same ≡ true → answers (concatenated words) ≡ Ok word
+single_answer [] word first again cut is_same long short is f g bound c e t = absurd (omega (arith, long))
+single_answer (y ∷ z ∷ zs) word first again cut is_same long short is f g bound c e t = absurd (omega (arith, short))
+single_answer (y ∷ []) word first again cut is_same long short is f g bound c e t =
+    let same : cut ≡ again = same_text cut again (sym t ∙ e) in
+    let whole : trimmed word ≡ word = ap trimmed (sym f) ∙ sym c ∙ same ∙ g in
+    ap (λ (w : List ℕ). answers (concatenated (w ∷ []))) (sym is) ∙ single_word word whole bound

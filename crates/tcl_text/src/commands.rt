@@ -26,7 +26,7 @@ use std::alloc::{AllocError, Global};
 use strings::{concat_words, string_words};
 
 /// A command on texts and lists.
-#[derive(Clone, Copy, Debug, PartialEq, Eq)]
+#[derive(Clone, Copy)]
 pub enum TextCommand {
     List,
     Llength,
@@ -55,36 +55,47 @@ impl Text {
         let Some((name, arguments)) = words.split_first() else {
             return Ok(None);
         };
-        let Some(command) = command_named(name.as_str()) else {
+        let Some(command) = TextCommand::named(name.as_str()) else {
             return Ok(None);
         };
-        match answer_of(alloc, command, arguments) {
-            Ok(text) => Ok(Some(Ok(text))),
-            Err(Refusal::Error(message)) => Ok(Some(Err(message))),
-            Err(Refusal::NoMemory) => Err(AllocError),
-        }
+        let answer = command.answer(alloc, arguments)?;
+        Ok(Some(answer))
     }
 }
 
-/// The command of this name.
-#[tactic(auto, unfolding(crate::specs::Commands::command_named))]
-fn command_named(name: &str) -> Option<TextCommand>
-    ensures { result ≡ spec.command_named name.now }
-{
-    match name {
-        "list" => Some(TextCommand::List),
-        "llength" => Some(TextCommand::Llength),
-        "lindex" => Some(TextCommand::Lindex),
-        "lrange" => Some(TextCommand::Lrange),
-        "linsert" => Some(TextCommand::Linsert),
-        "lreplace" => Some(TextCommand::Lreplace),
-        "lsearch" => Some(TextCommand::Lsearch),
-        "lsort" => Some(TextCommand::Lsort),
-        "join" => Some(TextCommand::Join),
-        "split" => Some(TextCommand::Split),
-        "concat" => Some(TextCommand::Concat),
-        "string" => Some(TextCommand::String),
-        _ => None,
+impl TextCommand {
+    /// The command of this name.
+    #[tactic(auto, unfolding(crate::specs::Commands::command_named))]
+    pub fn named(name: &str) -> Option<TextCommand>
+        ensures { result ≡ spec.command_named name.now }
+    {
+        match name {
+            "list" => Some(TextCommand::List),
+            "llength" => Some(TextCommand::Llength),
+            "lindex" => Some(TextCommand::Lindex),
+            "lrange" => Some(TextCommand::Lrange),
+            "linsert" => Some(TextCommand::Linsert),
+            "lreplace" => Some(TextCommand::Lreplace),
+            "lsearch" => Some(TextCommand::Lsearch),
+            "lsort" => Some(TextCommand::Lsort),
+            "join" => Some(TextCommand::Join),
+            "split" => Some(TextCommand::Split),
+            "concat" => Some(TextCommand::Concat),
+            "string" => Some(TextCommand::String),
+            _ => None,
+        }
+    }
+
+    /// What the command answers to the words behind its name: its result, or the text of its error. A result or an error's text
+    /// past 65,536 bytes is the error `limit reached: value`.
+    pub fn answer(self, alloc: Global, words: &[Text]) -> Result<Result<Text, Text>, AllocError>
+        ensures { IfOk result (λ answer. answer ≡ spec.command_answer self words.now) }
+    {
+        match answer_of(alloc, self, words) {
+            Ok(text) => Ok(Ok(text)),
+            Err(Refusal::Error(message)) => Ok(Err(message)),
+            Err(Refusal::NoMemory) => Err(AllocError),
+        }
     }
 }
 

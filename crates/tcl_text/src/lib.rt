@@ -20,7 +20,7 @@ mod white_space;
 
 pub use backslash::{Escape, Meaning, escape_behind};
 pub use boolean::NotBoolean;
-pub use commands::{answers, integers, items};
+pub use commands::{TextCommand, answers, integers, items};
 pub use edit::{Edit, EditFault};
 pub use integer::NotInteger;
 pub use list::TextList;

@@ -1,4 +1,4 @@
-ghost use Rattle.std.specs.Prelude.{◌≡◌, ◌==◌, [], ◌∷◌, ◌++◌, length, OnOk, OnErr};
+ghost use Rattle.std.specs.Prelude.{◌≡◌, ◌==◌, [], ◌∷◌, ◌++◌, length, IfOk, OnOk, OnErr};
 
 use crate::text::Text;
 use std::alloc::{AllocError, Global};
@@ -26,6 +26,15 @@ impl TextList {
         TextList {
             texts: Vec::new(alloc),
         }
+    }
+
+    /// No texts, with room for so many.
+    pub fn with_capacity(alloc: Global, count: usize) -> Result<TextList, AllocError>
+        ensures { IfOk result (λ list. list ≡ []) }
+    {
+        Ok(TextList {
+            texts: Vec::with_capacity(alloc, count)?,
+        })
     }
 
     /// These texts. It takes no memory.

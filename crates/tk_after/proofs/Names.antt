@@ -2,11 +2,7 @@
 use Rattle.std.proofs.Common.{◌≡◌, ℕ, ◌<◌, ◌≤◌, Bool, true, false, leb, ◌&&◌, List, [], ◌∷◌, ◌++◌, length, take, drop, refl, ap, ◌∙◌, sym, arith}
 use Rattle.std.proofs.lemmas.Bool.Decides.{nat_tests}
 use Rattle.std.specs.Str.{bytes_eq}
-use Rattle.std.specs.Prelude.{codes, Option, Some}
-use Rattle.std.proofs.lemmas.List.{take_all}
-use Rattle.tcl_text.specs.Commands.{command_named, text_command_of}
-use Rattle.tcl_text.specs.StringCommands.{concat_words}
-use Rattle.tcl_text.specs.Answers.{Answer, bounded, limit_text}
+use Rattle.tcl_text.specs.Answers.{bounded, limit_text}
 
 -- a message within the limit, and one past it
 pub bounded_within : (text : List ℕ) → length text ≤ 65536 → bounded text ≡ text
@@ -32,13 +28,3 @@ front_differs front rest text piece bytes p b differ =
 pub front_same : (front rest text piece bytes behind : List ℕ) → piece ≡ front → bytes ≡ text → bytes_eq (take (length piece) bytes) piece ≡ true → behind ≡ drop (length piece) bytes → bytes_eq (front ++ rest) text ≡ bytes_eq rest behind
 front_same front rest text piece bytes behind p b same is =
     bytes_eq-append front rest text ∙ ap (λ (t : Bool). t && bytes_eq rest (drop (length front) text)) (rw (p, b) at same) ∙ ap (bytes_eq rest) (sym (rw (p, b) at is))
-
--- the command `concat` joins its words
-text_command_of-concat : (words : List (List ℕ)) → text_command_of (codes "concat" ∷ words) ≡ Some (concat_words words)
-unfolding command_named
-text_command_of-concat words = refl
-
--- so the command that is put together answers them
-pub concat_answer : (words command slice : List (List ℕ)) (i : ℕ) (answer : Option Answer) → slice ≡ command → command ≡ codes "concat" ∷ take i words → length words ≤ i → answer ≡ text_command_of slice → answer ≡ Some (concat_words words)
-concat_answer words command slice i answer is made all told =
-    told ∙ ap text_command_of (is ∙ made ∙ ap (λ (ws : List (List ℕ)). codes "concat" ∷ ws) (take_all i words all)) ∙ text_command_of-concat words

@@ -10,7 +10,7 @@ use crate::answers::{Answer, bad_option, error_text, name_of, no_event, short_te
 use crate::entry::Entry;
 use crate::timers::Timers;
 use std::alloc::{AllocError, Global};
-use tcl_text::{Text, TextFault};
+use tcl_text::{Text, TextCommand, TextFault};
 
 /// The most milliseconds that a timer waits, and the latest moment of a session.
 const LATEST: u64 = 1_000_000_000_000;
@@ -214,13 +214,5 @@ fn list_text(alloc: Global, words: &[Text]) -> Result<Answer, AllocError>
 fn joined(alloc: Global, words: &[Text]) -> Result<Answer, AllocError>
     ensures { IfOk result (λ answer. answer ≡ concat_words words.now) }
 {
-    let mut command = Vec::with_capacity(alloc, words.len() + 1)?;
-    command.push(short_text(alloc, "concat")?)?;
-    for word in words {
-        command.push(word.copy()?)?;
-    }
-    match Text::text_command(alloc, command.as_slice())? {
-        Some(answer) => Ok(answer),
-        None => unreachable!(),
-    }
+    TextCommand::Concat.answer(alloc, words)
 }

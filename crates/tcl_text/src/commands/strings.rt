@@ -236,6 +236,11 @@ fn copies(alloc: Global, text: &str, count: u64) -> Result<String, AllocError>
 pub fn concat_words(alloc: Global, words: &[Text]) -> Result<Text, Refusal>
     ensures { Gives result (spec.concat_words words.now) }
 {
+    if let [word] = words
+        && trimmed(word.as_str()) == word.as_str()
+    {
+        return Ok(word.copy()?);
+    }
     let string = concatenated(alloc, words)?;
     string_answer(alloc, string)
 }

@@ -1,12 +1,12 @@
-ghost use Rattle.std.specs.Prelude.{◌≡◌, [], List, Some, IfOk, IsOk, MatchResult, MatchOption, ◌∷◌, Err};
+ghost use Rattle.std.specs.Prelude.{◌≡◌, true, [], List, Some, IfOk, IsOk, MatchResult, MatchOption, ◌∷◌, Err};
 ghost use Rattle.tcl_control.specs.Commands.{caught_ending};
 ghost use Rattle.tcl_control.specs.Levels.{here, popped};
 ghost use Rattle.tcl_control.specs.Source.{script_of};
 ghost use Rattle.tcl_interp.specs.Plans.{joined, callers, procedure_code, procedure_text};
 ghost use Rattle.tcl_interp.specs.Scripts.{out_of_global};
 ghost use Rattle.tcl_interp.specs.Moves.{begin_move, parsed_move, end_move, next_move, after_body_move, after_next_move, after_start_move, ending_move, moved, standing, global_end};
-ghost use Rattle.tcl_interp.specs.Finish.{Waiting, Ends, Evaluates};
-ghost use Rattle.tcl_interp.specs.Rests.{waiting_of, moved_of, waits_of, doing_of, standing_of};
+ghost use Rattle.tcl_interp.specs.Finish.{Waiting, Begins, Ends, Evaluates, ForCommand};
+ghost use Rattle.tcl_interp.specs.Rests.{waiting_of, moved_of, waits_of, doing_of, left_in, standing_of};
 ghost use Rattle.tcl_interp.specs.Advances.{MoveGives};
 ghost use Rattle.tcl_interp.specs.Quiet.{Leads, IsDue};
 
@@ -366,7 +366,61 @@ pub enum Move<K> {
     Due(Now<K>),
 }
 
-/// Makes one move that takes no step.
+/// A command has ended, and the next one of its script begins, or the script ends as the command did.
+fn command_ended<K: Drop>(
+    alloc: Global,
+    scopes: &Scopes,
+    context: &Context,
+    frames: &mut Vec<Frame<K>>,
+    place: Place,
+    code: Code,
+    text: Text,
+) -> Result<Move<K>, AllocError>
+    ensures { IfOk result (MoveGives (standing (moved (Ends code text) (ForCommand place.room (left_in place) ∷ waits_of frames.old.items)) scopes.now context.now) frames.new.items scopes.now context.now) }
+{
+    match code {
+        Code::Normal => {
+            let level = context.levels.here(scopes);
+            let now = go_on(alloc, scopes, level, frames, place, text)?;
+            Ok(Move::Far(now))
+        }
+        code => Ok(Move::On(Now::Ends { code, text })),
+    }
+}
+
+/// A script begins, and its first command with it.
+fn script_begins<K: Drop>(
+    alloc: Global,
+    scopes: &Scopes,
+    context: &mut Context,
+    frames: &mut Vec<Frame<K>>,
+    script: Source,
+    room: u64,
+) -> Result<Move<K>, AllocError>
+    ensures { IfOk result (MoveGives (standing (moved (Begins room script) (waits_of frames.old.items)) scopes.now context.old) frames.new.items scopes.now context.new) }
+{
+    match begun(alloc, &mut context.commands, script, room)? {
+        Now::GoesOn { place, result } => {
+            let level = context.levels.here(scopes);
+            let now = go_on(alloc, scopes, level, frames, place, result)?;
+            Ok(Move::Far(now))
+        }
+        now => Ok(Move::On(now)),
+    }
+}
+
+/// Whether a step is needed for what is to be done, or a task is to be resumed.
+fn needs_turn<K>(now: &Now<K>) -> bool
+    ensures { result ≡ true → (waits : List (Waiting K)) → IsDue (moved (doing_of now.now) waits) }
+{
+    match now {
+        Now::Calls { .. } | Now::Tests { .. } | Now::Steps { .. } | Now::Resumes { .. } => true,
+        _ => false,
+    }
+}
+
+/// Makes one move that takes no step, or several.
+#[inline(always)]
 fn advance<K: Drop>(
     alloc: Global,
     scopes: &mut Scopes,
@@ -378,8 +432,8 @@ fn advance<K: Drop>(
 {
     match now {
         Now::Begins { room, script } => {
-            let now = begun(alloc, &mut context.commands, script, room)?;
-            Ok(Move::On(now))
+            let next = script_begins(alloc, scopes, context, frames, script, room)?;
+            Ok(next)
         }
         Now::GoesOn { place, result } => {
             let level = context.levels.here(scopes);
@@ -387,6 +441,10 @@ fn advance<K: Drop>(
             Ok(Move::On(now))
         }
         Now::Ends { code, text } => match wake(frames) {
+            Some(Frame::ForCommand(place)) => {
+                let next = command_ended(alloc, scopes, context, frames, place, code, text)?;
+                Ok(next)
+            }
             Some(frame) => {
                 let now = ended(alloc, scopes, context, frames, frame, code, text)?;
                 Ok(Move::On(now))
@@ -420,6 +478,7 @@ fn advance<K: Drop>(
 }
 
 /// Moves on without a step, up to where a step is needed, a task is to be resumed, or all has ended.
+#[inline(always)]
 pub fn quiet<K: Drop>(
     alloc: Global,
     scopes: &mut Scopes,
@@ -433,7 +492,12 @@ pub fn quiet<K: Drop>(
     let mut doing = now;
     loop {
         match advance(alloc, scopes, context, frames, doing)? {
-            Move::On(next) => doing = next,
+            Move::On(next) => {
+                if needs_turn(&next) {
+                    return Ok(next);
+                }
+                doing = next;
+            }
             Move::Far(next) => doing = next,
             Move::Due(due) => return Ok(due),
         }

@@ -14,6 +14,7 @@ use tcl_text::Text;
 use tcl_vars::Scopes;
 
 /// Moves on without a step, through tasks too, up to where a step is needed or all has ended.
+#[inline]
 fn settle<T: Tasks>(
     alloc: Global,
     tasks: &mut T,
@@ -46,6 +47,7 @@ fn settle<T: Tasks>(
 }
 
 /// Takes a step.
+#[inline]
 fn take_step<T: Tasks>(
     alloc: Global,
     tasks: &mut T,
@@ -86,6 +88,7 @@ fn take_step<T: Tasks>(
 }
 
 /// Takes a step, and moves on up to where the next one is needed.
+#[inline]
 fn step_on<T: Tasks>(
     alloc: Global,
     tasks: &mut T,

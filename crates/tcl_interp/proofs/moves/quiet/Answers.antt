@@ -31,3 +31,8 @@ pub loop-next-preserved : goal.loop-next-preserved
 loop-next-preserved g c =
     let gives = rw c.in-Far.is at c.in_ok-next.ensures in
     leads_far _ (standing_of c.loop-next.doing c.loop-next.frames.items c.loop-next.scopes c.loop-next.context) (standing_of c.in-Far.next c.advance.new.frames.items c.advance.new.scopes c.advance.new.context) c.loop-next.invariant gives
+
+pub returns-then-needs_turn-clause-leads : goal.returns-then-needs_turn-clause-leads
+returns-then-needs_turn-clause-leads g c =
+    let gives = rw c.in-On.is at c.in_ok-next.ensures in
+    leads_on _ (standing_of c.loop-next.doing c.loop-next.frames.items c.loop-next.scopes c.loop-next.context) (standing_of c.in-On.next c.advance.new.frames.items c.advance.new.scopes c.advance.new.context) c.loop-next.invariant gives.1

@@ -239,11 +239,7 @@ fn add_variables(table: &mut CommandTable) -> Result<(), AllocError>
     Ok(())
 }
 
-fn add_text(
-    table: &mut CommandTable,
-    name: &str,
-    command: TextCommand,
-) -> Result<(), AllocError>
+fn add_text(table: &mut CommandTable, name: &str, command: TextCommand) -> Result<(), AllocError>
     ensures { OnOk result (table.new ≡ with_value table.old name.now (Command.Texts command)) }
 {
     table.insert(name, Command::Texts(command))

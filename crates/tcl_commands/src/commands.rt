@@ -14,7 +14,7 @@ use tcl_text::Text;
 use tcl_text::answers::Refusal;
 use tcl_vars::Scopes;
 
-/// A command on variables.
+/// A command on variables, which the manual page of its name describes, as set(n).
 #[derive(Clone, Copy, Debug, PartialEq, Eq)]
 pub enum VariableCommand {
     Set,
@@ -28,7 +28,8 @@ pub enum VariableCommand {
 
 /// What a command on variables does, called in the frame at a level with words of which the first is its name: its
 /// result, or the text of its error. None, and nothing is done, where the first word names no such command, or there
-/// is no word. `info exists` and `upvar` stand apart, since other forms of theirs know more than variables.
+/// is no word. `info exists` and `upvar` stand apart, since other forms of theirs know more than variables. Level 0 is
+/// that of the global frame. The errors are those of `call_variable_command`.
 pub fn variable_command(
     alloc: Global,
     scopes: &mut Scopes,
@@ -53,7 +54,9 @@ pub fn variable_command(
 }
 
 /// What a command on variables does, called in the frame at a level with the words after its name: its result, or the text of
-/// its error.
+/// its error: no integer (1) or a sum past 64 bits (13) of `incr`, no list (3), a text past 65,536 bytes (4), what can't be read,
+/// set or unset (15 to 18), more than 4,096 variables (19), a key without a value of `array set` (23), and those without a
+/// number. Where memory is refused, `set` and `incr` have changed nothing, and the others may have done a part.
 pub fn call_variable_command(
     alloc: Global,
     scopes: &mut Scopes,
@@ -113,7 +116,7 @@ fn command_done(
 }
 
 /// `info exists name`, with the words behind `exists`: whether there is a variable or element that a name means in the
-/// frame at a level (info(n)). The answer is the command's result, or the text of its error.
+/// frame at a level (info(n)). The answer is the command's result, 1 or 0, or the text of its error, a wrong number of words.
 pub fn info_exists(
     alloc: Global,
     scopes: &Scopes,
@@ -131,7 +134,8 @@ pub fn info_exists(
 }
 
 /// `upvar` with the words behind its level: links names of the frame at a level to names of the frame at an earlier
-/// one (upvar(n)). The answer is the command's result, or the text of its error.
+/// one (upvar(n)), up to the first that can't be. The answer is the command's result, which is empty, or the text of its error:
+/// more than 4,096 variables (19), or one without a number: a wrong number of words, a name that can't be a link's, one that is taken.
 pub fn upvar_command(
     alloc: Global,
     scopes: &mut Scopes,

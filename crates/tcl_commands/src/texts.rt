@@ -8,7 +8,7 @@ use tcl_text::answers::{Refusal, error, quoting_error};
 use tcl_text::{Text, TextFault};
 use tcl_vars::{LinkFault, ReadFault, SetFault, UnsetFault};
 
-/// Why a variable can't be read, as its script is told of it.
+/// Why a variable can't be read (15 to 18), as its script is told of it. A text past 65,536 bytes is that of the limit (4).
 pub fn cannot_read<T>(alloc: Global, name: &str, fault: ReadFault) -> Result<T, Refusal>
     ensures { Gives result (spec.cannot_read name.now fault) }
 {
@@ -26,7 +26,7 @@ fn read_reason(fault: ReadFault) -> &'static str
     }
 }
 
-/// Why a variable can't be set, as its script is told of it.
+/// Why a variable can't be set (17 to 19), as its script is told of it. A text past 65,536 bytes is that of the limit (4).
 pub fn cannot_set<T>(alloc: Global, name: &str, fault: SetFault) -> Result<T, Refusal>
     ensures { Gives result (spec.cannot_set name.now fault) }
 {
@@ -38,7 +38,7 @@ pub fn cannot_set<T>(alloc: Global, name: &str, fault: SetFault) -> Result<T, Re
     }
 }
 
-/// Why a variable can't be unset, as its script is told of it.
+/// Why a variable can't be unset (15, 16, 18), as its script is told of it. A text past 65,536 bytes is that of the limit (4).
 pub fn cannot_unset<T>(alloc: Global, name: &str, fault: UnsetFault) -> Result<T, Refusal>
     ensures { Gives result (spec.cannot_unset name.now fault) }
 {
@@ -50,7 +50,8 @@ pub fn cannot_unset<T>(alloc: Global, name: &str, fault: UnsetFault) -> Result<T
     }
 }
 
-/// Why a link can't be made, as its script is told of it.
+/// Why a link can't be made, as its script is told of it: more than 4,096 variables (19), or a name that can't be used or exists, which
+/// have no number. A text past 65,536 bytes is that of the limit (4).
 pub fn cannot_link<T>(alloc: Global, name: &str, fault: LinkFault) -> Result<T, Refusal>
     ensures { Gives result (spec.cannot_link name.now fault) }
 {

@@ -11,6 +11,6 @@ pub enum Ask {
     Element(Text, Text),
     /// The result of a script in brackets, which is shared with the expression.
     Command(Script),
-    /// The value of the expression. Nothing more is asked.
+    /// The value of the expression, in decimal where it is an integer. Nothing more is asked.
     Value(Text),
 }

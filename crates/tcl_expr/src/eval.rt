@@ -14,7 +14,7 @@ use std::alloc::{AllocError, Global};
 use std::marker::Model;
 use tcl_text::Text;
 
-/// The evaluation of an expression, which stops where something has to be asked and goes on once it is answered.
+/// The evaluation of an expression (expr(n)), which stops where something has to be asked and goes on once it is answered.
 #[derive(Drop)]
 pub struct Eval {
     alloc: Global,
@@ -118,7 +118,8 @@ impl Eval {
     }
 
     /// Goes on until something is asked, or to the end. Where the last answer asked for something, and only there, its text is
-    /// given. After a value or a fault that is answered again, and after `NoMemory` that.
+    /// given. The faults are 2 to 4 and 12 to 14, as `EvalFault` tells them. After a value or a fault that is answered again, and
+    /// after `NoMemory` that.
     pub fn resume(&mut self, given: Option<Text>) -> Result<Ask, EvalFault>
         requires { is_some given ≡ is_waiting self.old.state }
         ensures tells { Tells (told self.old given) result self.new }

@@ -58,7 +58,7 @@ impl Expr {
         self.parsed.steps.as_slice()
     }
 
-    /// The same expression, shared.
+    /// The same expression, shared. It takes no memory; it is refused only where the count of its copies is full.
     pub fn copy(&self) -> Result<Expr, AllocError>
         ensures { IfOk result (λ expr. expr ≡ self.now) }
     {

@@ -4,19 +4,19 @@ use tcl_text::{ListFault, SplitFault, Text, TextFault};
 use tcl_words::ParseFault;
 use thiserror::Error;
 
-/// Why a text is no expression.
+/// Why a text is no expression (expr(n)).
 #[derive(Clone, Copy, Debug, PartialEq, Eq, Drop, Error)]
 pub enum ExprFault {
     /// More than 65,536 bytes, bytes that are not UTF-8, or more than 200 parentheses, brackets and indices in one another (4).
     #[error("limit reached: value")]
     TooLong,
-    /// An operand in braces never ends, or a variable's name in braces (5).
+    /// An operand in braces never ends, a variable's name in braces, or in a script in brackets a word in braces (5).
     #[error("missing close-brace")]
     MissingBrace,
     /// A script in brackets never ends (6).
     #[error("missing close-bracket")]
     MissingBracket,
-    /// An operand in quotes never ends (7).
+    /// An operand in quotes never ends, or in a script in brackets a word in quotes (7).
     #[error("missing quote")]
     MissingQuote,
     /// In a script in brackets something follows the brace that ends a word (8).
@@ -36,18 +36,18 @@ pub enum ExprFault {
     NoMemory,
 }
 
-/// Why an expression has no value.
+/// Why an expression has no value (expr(n)).
 #[derive(Drop)]
 pub enum EvalFault {
-    /// This text is no boolean (2).
+    /// This text is no boolean, as an operand of `!`, `&&` or `||` or the condition of `?:` has to be (2).
     NotBoolean(Text),
     /// The right operand of `in` or `ni` is no list (3).
     BadList(ListFault),
     /// A text that is put together would pass 65,536 bytes (4).
     TooLong,
-    /// A divisor is 0 (12).
+    /// The divisor of `/` or `%` is 0 (12).
     DivideByZero,
-    /// An integer would pass 64 bits, or a shift has a negative count (13).
+    /// An integer that is written or computed passes signed 64 bits, or a shift has a negative count (13).
     Overflow,
     /// An operand of this operator is no integer (14).
     NotNumber(NumberOperator),

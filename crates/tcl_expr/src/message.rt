@@ -92,7 +92,8 @@ impl ExprFault {
     ghost use Rattle.std.specs.Prelude.{◌≡◌, IfOk};
     ghost use Rattle.tcl_expr.specs.Messages.{parse_message};
 
-    /// The fault of a text as an application is told of it. Refused memory has no such text: it is empty.
+    /// The fault of a text as an application is told of it; `source` is that text, which a syntax error (11) tells. A message past
+    /// 65,536 bytes is that of the limit (4). Refused memory has no such text: it is empty.
     pub fn text(&self, alloc: Global, source: &str) -> Result<Text, AllocError>
         ensures { IfOk result (λ text. text ≡ parse_message source.now self.now) }
     {
@@ -114,7 +115,8 @@ impl EvalFault {
     ghost use Rattle.std.specs.Prelude.{◌≡◌, IfOk};
     ghost use Rattle.tcl_expr.specs.Messages.{eval_message};
 
-    /// The fault as an application is told of it. Refused memory has no such text: it is empty.
+    /// The fault as an application is told of it. A message past 65,536 bytes is that of the limit (4). Refused memory has no such
+    /// text: it is empty.
     pub fn text(&self, alloc: Global) -> Result<Text, AllocError>
         ensures { IfOk result (λ text. text ≡ eval_message self.now) }
     {

@@ -30,7 +30,9 @@ fn read_expr(alloc: Global, source: &[u8]) -> Result<Expr, ExprFault>
     Ok(expr)
 }
 
-/// Reads an expression whole, by the rules of expr(n). The first fault from the left is told.
+/// Reads an expression whole, by the rules of expr(n). `TooLong` (4) for more than 65,536 bytes, or bytes that aren't UTF-8, comes before
+/// all else. Then the first fault from the left is told (4 to 11): 4 where more than 200 parentheses, brackets and indices stand in one
+/// another.
 pub fn parse_expr(alloc: Global, source: &[u8]) -> Result<Expr, ExprFault>
     ensures text { IfOk result (λ expr. expr ≡ source.now) }
     ensures expression { IfOk result (λ _. IsExpression source.now) }

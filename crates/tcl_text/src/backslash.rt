@@ -28,7 +28,8 @@ struct Digits {
     count: usize,
 }
 
-/// What a backslash before these bytes stands for, by the rules of Tcl(n).
+/// What a backslash before these bytes stands for, by the rules of Tcl(n). Digits stop before the number passes the greatest of
+/// their form, as 10FFFF behind `U`; half of a surrogate pair gives U+FFFD. A backslash before no byte stands for itself.
 #[tactic(auto, unfolding(crate::specs::Backslash::escape))]
 pub fn escape_behind(behind: &[u8]) -> Escape
     ensures exact { escape_seen result ≡ backslash.escape behind.now }

@@ -13,7 +13,8 @@ pub struct NotBoolean;
 
 impl Text {
     /// The boolean that the text is, as Tcl_GetBoolean(3) reads one: an integer, of which 0 is false, or in any case of its
-    /// letters the beginning of exactly one of `yes`, `no`, `true`, `false`, `on` and `off`. It takes no memory.
+    /// letters the beginning of exactly one of `yes`, `no`, `true`, `false`, `on` and `off`. `NotBoolean` (2) for any other text.
+    /// It takes no memory.
     pub fn boolean(&self) -> Result<bool, NotBoolean>
         ensures read { (b : Bool) → (result ≡ Ok b) ↔ readings.IsBoolean self.now b }
         ensures refused { IsErr result ↔ ((b : Bool) → ¬ (readings.IsBoolean self.now b)) }

@@ -25,7 +25,7 @@ use splits::split_words;
 use std::alloc::{AllocError, Global};
 use strings::{concat_words, string_words};
 
-/// A command on texts and lists.
+/// A command on texts and lists, which the manual page of its name describes, as list(n).
 #[derive(Clone, Copy)]
 pub enum TextCommand {
     List,
@@ -43,9 +43,10 @@ pub enum TextCommand {
 }
 
 impl Text {
-    /// What a command on texts and lists answers to its words, of which the first is its name: its
-    /// result, or the text of its error. None where the first word names no such command, or there
-    /// is no word. A result or an error's text past 65,536 bytes is the error `limit reached: value`.
+    /// What a command on texts and lists (list(n) to string(n)) answers to its words, of which the
+    /// first is its name: its result, or the text of its error. None where the first word names no
+    /// such command, or there is no word. A word may be no integer (1) or no list (3); a result or
+    /// an error's text past 65,536 bytes is the error `limit reached: value` (4).
     pub fn text_command(
         alloc: Global,
         words: &[Text],
@@ -86,8 +87,9 @@ impl TextCommand {
         }
     }
 
-    /// What the command answers to the words behind its name: its result, or the text of its error. A result or an error's text
-    /// past 65,536 bytes is the error `limit reached: value`.
+    /// What the command answers to the words behind its name: its result, or the text of its error. A word may be no integer (1)
+    /// or no list (3). A result or an error's text past 65,536 bytes is the error `limit reached: value` (4). A wrong number of words,
+    /// a bad option and a bad index are errors without a number.
     pub fn answer(self, alloc: Global, words: &[Text]) -> Result<Result<Text, Text>, AllocError>
         ensures { IfOk result (λ answer. answer ≡ spec.command_answer self words.now) }
     {

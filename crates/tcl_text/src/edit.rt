@@ -46,7 +46,8 @@ impl From<AllocError> for EditFault {
 
 impl Text {
     /// Changes the text. Items that are added to a text which was made as a list, and characters that are added to another, cost
-    /// no more than they are long where no copy shares the text; else the change costs what the text is long.
+    /// no more than they are long where no copy shares the text; else the change costs what the text is long. `BadList` (3) where
+    /// items are added to what is no list, `TooLong` (4) where the text would pass 65,536 bytes.
     #[tactic(auto, unfolding(crate::specs::Edit::edited))]
     pub fn edit(&mut self, alloc: Global, edit: Edit<'_>) -> Result<(), EditFault>
         ensures ok { OnOk result (edited edit.entry self.old ≡ Ok self.new) }

@@ -8,9 +8,9 @@ use crate::characters::split_first_char;
 use crate::text::Text;
 
 impl Text {
-    /// Whether the pattern matches the whole text: `*` stands for any text, `?` for one character,
-    /// `[..]` for one of its characters and ranges, `\x` for x itself. A pattern whose class isn't
-    /// closed, or that ends with a lone backslash, matches nothing. It takes no memory, and at most
+    /// Whether the pattern matches the whole text, as `string match` of string(n): `*` stands for any text, `?` for one character,
+    /// `[..]` for one of its characters and ranges, `\x` for x itself. The first `]` ends a class, in which a backslash is itself.
+    /// A pattern whose class isn't closed, or that ends with a lone backslash, matches nothing. It takes no memory, and at most
     /// as many steps as the pattern's length times the text's.
     pub fn glob_match(pattern: &Text, text: &Text) -> bool
         ensures matches { IsTrue result ↔ GlobMatches (chars pattern.now) (chars text.now) }

@@ -17,7 +17,8 @@ pub struct NotInteger;
 
 impl Text {
     /// The integer that the text spells, as Tcl's expr(n) reads one: an optional sign, then decimal digits, `0x`, `0o` or `0b`
-    /// with digits, or octal digits after a leading 0, with white space around. It takes one pass and no memory.
+    /// with digits, or octal digits after a leading 0, with white space around. `NotInteger` (1) for any other text, and where
+    /// signed 64 bits don't hold the number. It takes one pass and no memory.
     pub fn integer(&self) -> Result<i64, NotInteger>
         ensures read { (n : ℤ) → (result ≡ Ok n) ↔ readings.IsInteger self.now n }
         ensures refused { IsErr result ↔ ((n : ℤ) → ¬ (readings.IsInteger self.now n)) }
@@ -26,7 +27,7 @@ impl Text {
         integer_in(self.as_str().as_bytes()).ok_or(NotInteger)
     }
 
-    /// The decimal text of an integer.
+    /// The decimal text of an integer, which is short enough to take no memory.
     pub fn from_integer(alloc: Global, number: i64) -> Result<Text, AllocError>
         ensures { IfOk result (λ text. text ≡ signed_decimal number) }
     {

@@ -11,7 +11,7 @@ use crate::white_space::{is_white, skip_white};
 use std::alloc::{AllocError, AllocFailed, Global};
 use thiserror::Error;
 
-/// How a text fails to be a list.
+/// How a text fails to be a list (3).
 #[derive(Clone, Copy, Debug, PartialEq, Eq, Drop, Error)]
 pub enum ListFault {
     /// A brace that opens an element isn't closed.
@@ -26,7 +26,7 @@ pub enum ListFault {
 }
 
 impl ListFault {
-    /// The message of the fault.
+    /// The fault as a script is told of it.
     pub fn text(&self) -> &'static str
         ensures { result.now ≡ fault_text self.now }
     {

@@ -178,7 +178,7 @@ fn push_alone(string: &mut Rc<String>, characters: &str) -> Result<bool, AllocEr
 }
 
 impl Text {
-    /// A text of these characters.
+    /// A text of these characters. `TooLong` (4) where they are more than 65,536 bytes.
     pub fn new(alloc: Global, characters: &str) -> Result<Text, TextFault>
         ensures ok { IfOk result (λ text. text ≡ characters.now) }
         ensures too_long { IsErrOf result TextFault.TooLong ↔ (65536 < length characters.now) }
@@ -253,7 +253,7 @@ impl Text {
         self.form.as_list().is_some()
     }
 
-    /// The characters.
+    /// The characters. It takes no memory.
     pub fn as_str(&self) -> &str
         ensures bytes { result.now ≡ self.now }
         ensures short { length self.now ≤ 65536 }
@@ -295,7 +295,7 @@ impl Text {
         Ok(())
     }
 
-    /// An equal text, which shares the characters.
+    /// An equal text, which shares the characters. It takes no memory; it is refused only where the count of a shared text is full.
     pub fn copy(&self) -> Result<Text, AllocError>
         ensures ok { IfOk result (λ text. text ≡ self.now) }
     {

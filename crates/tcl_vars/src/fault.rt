@@ -28,7 +28,7 @@ pub enum SetFault {
     /// An element is meant of what is no array (18).
     #[error("variable isn't array")]
     NotArray,
-    /// There would be more than 4,096 variables (19).
+    /// There would be more than 4,096 variables: each name of a frame counts one, and each element of an array one more (19).
     #[error("limit reached: variables")]
     Full,
     /// Memory was refused.
@@ -114,7 +114,7 @@ impl From<AllocError> for UnsetFault {
     }
 }
 
-/// Why a link can't be made.
+/// Why a link can't be made. The first two faults have no number.
 #[derive(Clone, Copy, Debug, PartialEq, Eq, Drop, Error)]
 pub enum LinkFault {
     /// The name means an element, or a variable of the global frame by a leading `::`.
@@ -123,7 +123,7 @@ pub enum LinkFault {
     /// There is a variable of this name that is no link.
     #[error("already exists")]
     Exists,
-    /// There would be more than 4,096 variables (19).
+    /// There would be more than 4,096 variables, as for `SetFault::Full` (19).
     #[error("limit reached: variables")]
     Full,
     /// Memory was refused.

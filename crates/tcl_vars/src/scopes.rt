@@ -27,7 +27,8 @@ use tcl_text::{Edit, Text, TextList};
 /// How many variables there are at most: every name of every frame counts, and every element of an array.
 pub const MAX_VARIABLES: usize = 4096;
 
-/// The variables of one application: the global frame, and one for each procedure that runs.
+/// The variables of one application: the global frame, and one for each procedure that runs. A level counts the frames before its
+/// own, so that 0 is that of the global one.
 #[derive(Drop)]
 pub struct Scopes {
     frames: Vec<Frame>,
@@ -69,7 +70,7 @@ impl Scopes {
         })
     }
 
-    /// How many frames there are: the global one at least.
+    /// How many frames there are: the global one at least. The levels are those below this number.
     pub fn levels(&self) -> usize
         ensures value { result ≡ length self.now }
         ensures rooted { 0 < length self.now }
@@ -77,7 +78,7 @@ impl Scopes {
         self.frames.len()
     }
 
-    /// Adds a frame without variables, for a procedure that begins.
+    /// Adds a frame without variables, for a procedure that begins (proc(n)).
     pub fn push_frame(&mut self) -> Result<(), AllocError>
         ensures ok { OnOk result (self.new ≡ self.old ++ [] ∷ []) }
         ensures err { OnErr result (self.new ≡ self.old) }
@@ -86,7 +87,7 @@ impl Scopes {
         Ok(())
     }
 
-    /// Drops the last frame with its variables, where a procedure ends. It takes no memory.
+    /// Drops the last frame with its variables, where a procedure ends (proc(n)). It takes no memory.
     pub fn pop_frame(&mut self)
         requires { 1 < length self.old }
         ensures { self.new ≡ take (length self.old - 1) self.old }
@@ -95,7 +96,8 @@ impl Scopes {
         self.count -= variable_count(&frame);
     }
 
-    /// The text of the variable or element that a name means in the frame at a level (Tcl(n), set(n)). It takes no memory.
+    /// The text of the variable or element that a name means in the frame at a level (Tcl(n), set(n)). `NoVariable` (15), `NoElement`
+    /// (16), `IsArray` (17) where it means a whole array, `NotArray` (18) for an element of what is no array. It takes no memory.
     pub fn get(&self, level: usize, name: &Text) -> Result<&Text, ReadFault>
         requires { level < length self.now }
         ensures { MatchResult result
@@ -105,7 +107,8 @@ impl Scopes {
         self.read(place_of_text(level, name))
     }
 
-    /// The text of the element that an index gives of the array that a name means. It takes no memory.
+    /// The text of the element that an index gives of the array that a name means in the frame at a level (Tcl(n), set(n)).
+    /// `NoVariable` (15), `NoElement` (16), `NotArray` (18). It takes no memory.
     pub fn get_element(&self, level: usize, name: &Text, index: &Text) -> Result<&Text, ReadFault>
         requires { level < length self.now }
         ensures { MatchResult result
@@ -118,7 +121,8 @@ impl Scopes {
         }
     }
 
-    /// Sets the variable or element that a name means in the frame at a level (set(n)).
+    /// Sets the variable or element that a name means in the frame at a level (set(n)). `IsArray` (17) where it means a whole array,
+    /// `NotArray` (18) for an element of what is no array, `Full` (19) where there would be more than 4,096 variables.
     pub fn set(&mut self, level: usize, name: &Text, value: Text) -> Result<(), SetFault>
         requires { level < length self.old }
         ensures ok { OnOk result (with_variable self.old level name.now value ≡ Ok self.new) }
@@ -131,7 +135,8 @@ impl Scopes {
         Ok(())
     }
 
-    /// Sets the element that an index gives of the array that a name means (array(n), `array set`).
+    /// Sets the element that an index gives of the array that a name means in the frame at a level (array(n), `array set`).
+    /// `NotArray` (18) where the name means a scalar or an element, `Full` (19) where there would be more than 4,096 variables.
     pub fn set_element(
         &mut self,
         level: usize,
@@ -156,7 +161,8 @@ impl Scopes {
     }
 
     /// Changes the text of the variable or element that a name means in the frame at a level, which has to be there. Characters
-    /// that are added to a text which nobody else holds cost what they are long (append(n), lappend(n)).
+    /// that are added to a text which nobody else holds cost what they are long (append(n), lappend(n)). `Unread` where it can't be read
+    /// (15 to 18), `BadList` (3) where items are added to what is no list, `TooLong` (4) where the text would pass 65,536 bytes.
     pub fn change(&mut self, level: usize, name: &Text, edit: Edit<'_>) -> Result<(), ChangeFault>
         requires { level < length self.old }
         ensures ok { OnOk result (Changes self.old level name.now edit.entry self.new) }
@@ -170,6 +176,7 @@ impl Scopes {
     }
 
     /// Unsets the variable or element that a name means in the frame at a level; an array with its elements (unset(n)). A link stays.
+    /// `NoVariable` (15), `NoElement` (16), `NotArray` (18) for an element of what is no array.
     pub fn unset(&mut self, level: usize, name: &Text) -> Result<(), UnsetFault>
         requires { level < length self.old }
         ensures ok { OnOk result (without_variable self.old level name.now ≡ Ok self.new) }
@@ -182,7 +189,8 @@ impl Scopes {
         Ok(())
     }
 
-    /// Unsets the element that an index gives of the array that a name means (array(n), `array unset`).
+    /// Unsets the element that an index gives of the array that a name means in the frame at a level (array(n), `array unset`).
+    /// `NoVariable` (15), `NoElement` (16), `NotArray` (18).
     pub fn unset_element(
         &mut self,
         level: usize,
@@ -226,7 +234,9 @@ impl Scopes {
         }
     }
 
-    /// Makes a name of the frame at a level a link to a name in an earlier frame (upvar(n), global(n)). A link is replaced.
+    /// Makes a name of the frame at a level a link to a name in an earlier frame (upvar(n), global(n)). A link is replaced. `BadName` for
+    /// an element's name or one with a leading `::`, `Exists` where a variable that is no link has the name, both without a number; `Full`
+    /// (19) where there would be more than 4,096 variables.
     pub fn link(
         &mut self,
         level: usize,
@@ -258,7 +268,8 @@ impl Scopes {
         }
     }
 
-    /// Makes the variable that a name means in the frame at a level an array without elements, if it isn't there; an array stays.
+    /// Makes the variable that a name means in the frame at a level an array without elements, if it isn't there; an array stays (array(n),
+    /// `array set`). `NotArray` (18) for a scalar or an element, `Full` (19) where there would be more than 4,096 variables.
     pub fn make_array(&mut self, level: usize, name: &Text) -> Result<(), SetFault>
         requires { level < length self.old }
         ensures ok { OnOk result (with_array self.old level name.now ≡ Ok self.new) }

@@ -2,7 +2,7 @@ use std::alloc::{AllocError, AllocFailed};
 use tcl_text::TextFault;
 use thiserror::Error;
 
-/// Why a text is no script.
+/// Why a text is no script (Tcl(n)).
 #[derive(Clone, Copy, Debug, PartialEq, Eq, Drop, Error)]
 pub enum ParseFault {
     /// More than 65,536 bytes, bytes that are not UTF-8, or brackets and indices more than 200 deep (4).

@@ -14,7 +14,7 @@ pub fn commands_are_read()
     ensures only { (text : List ℕ) (commands : List Command) → commands_of text ≡ Ok commands → IsScriptOf text commands }
 {}
 
-/// So are its faults.
+/// The faults of the function that reads a text's commands are those of the grammar, both ways.
 pub fn faults_are_told()
     ensures fault { (text : List ℕ) (fault : ParseFault) → IsFaultOf text fault → commands_of text ≡ Err fault }
     ensures only { (text : List ℕ) (fault : ParseFault) → commands_of text ≡ Err fault → IsFaultOf text fault }

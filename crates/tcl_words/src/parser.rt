@@ -28,7 +28,8 @@ fn read_script(alloc: Global, source: &[u8]) -> Result<Script, ParseFault>
     Ok(script)
 }
 
-/// Reads a script whole. It is at most 65,536 bytes of UTF-8; the first fault from the left is told.
+/// Reads a script whole, by the rules of Tcl(n). More than 65,536 bytes, or bytes that aren't UTF-8, are `TooLong` (4) before all else.
+/// Then the first fault from the left is told (4 to 10), where an opener that never closes counts only if nothing inside is at fault.
 pub fn parse(alloc: Global, source: &[u8]) -> Result<Script, ParseFault>
     ensures text { IfOk result (λ script. script ≡ source.now) }
     ensures ok { IfOk result (λ _. IsOk (commands_of source.now)) }

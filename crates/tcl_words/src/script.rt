@@ -6,7 +6,8 @@ use std::marker::Model;
 use std::rc::Rc;
 use tcl_text::Text;
 
-/// A stretch of the source, from its first byte up to the byte after its last.
+/// A stretch of the source, from its first byte up to the byte after its last. Its places count the bytes of the script that the
+/// part belongs to; in a script in brackets they count from behind the bracket.
 #[derive(Clone, Copy, Debug, PartialEq, Eq, Drop)]
 pub struct Span {
     /// The place of the first byte.
@@ -15,7 +16,7 @@ pub struct Span {
     pub end: usize,
 }
 
-/// How a word is written.
+/// How a word is written (Tcl(n)).
 #[derive(Clone, Copy, Debug, PartialEq, Eq, Drop)]
 pub enum WordForm {
     /// In braces: its text is one literal, also where it is empty.
@@ -45,11 +46,11 @@ pub struct Word {
     pub span: Span,
 }
 
-/// A part of a word.
+/// A part of a word or of an index.
 #[derive(Drop)]
 #[cycle(script)]
 pub enum Piece {
-    /// The text itself. No two stand side by side.
+    /// The text itself, whose backslashes are substituted; in braces only one before a newline (Tcl(n)). No two stand side by side.
     Literal(Text),
     /// The value of the variable of this name.
     Variable(Text),
@@ -245,7 +246,7 @@ impl Script {
         })
     }
 
-    /// The same script, shared.
+    /// The same script, shared. It takes no memory; it is refused only where the count of its copies is full.
     pub fn copy(&self) -> Result<Script, AllocError>
         ensures ok { IfOk result (λ script. script ≡ self.now) }
     {
@@ -284,7 +285,7 @@ impl Index {
         })
     }
 
-    /// The same index, shared.
+    /// The same index, shared. It takes no memory; it is refused only where the count of its copies is full.
     pub fn copy(&self) -> Result<Index, AllocError>
         ensures ok { IfOk result (λ index. index ≡ self.now) }
     {

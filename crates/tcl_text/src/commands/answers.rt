@@ -38,7 +38,7 @@ impl<T: Drop> From<AllocFailed<T>> for Refusal {
     }
 }
 
-/// An answer of these characters.
+/// An answer of these characters, or the error of a value past 65,536 bytes (4).
 #[tactic(auto, using(crate::proofs::AnswerLemmas::bounds))]
 pub fn text_answer(alloc: Global, characters: &str) -> Result<Text, Refusal>
     ensures { Gives result (answers characters.now) }
@@ -50,7 +50,7 @@ pub fn text_answer(alloc: Global, characters: &str) -> Result<Text, Refusal>
     }
 }
 
-/// An answer of the characters of a string, which it takes over.
+/// An answer of the characters of a string, which it takes over, or the error of a value past 65,536 bytes (4).
 #[tactic(auto, using(crate::proofs::AnswerLemmas::bounds))]
 pub fn string_answer(alloc: Global, string: String) -> Result<Text, Refusal>
     ensures { Gives result (answers (string_bytes string)) }
@@ -79,7 +79,7 @@ pub fn decimal_answer(alloc: Global, number: usize) -> Result<Text, Refusal>
     text_answer(alloc, buffer.format(number))
 }
 
-/// A place in decimal, or -1 where there is none.
+/// A place, counted from 0, in decimal, or -1 where there is none, as lsearch(n) answers.
 pub fn place_answer(alloc: Global, place: Option<usize>) -> Result<Text, Refusal>
     ensures { Gives result (place_of place) }
 {
@@ -107,7 +107,7 @@ pub fn limit_reached(alloc: Global) -> Refusal
 }
 
 #[tactic(auto, using(crate::proofs::AnswerLemmas::bounds))]
-/// An error with this text, or with the limit's where the text is past it.
+/// An error with this text, or with the limit's (4) where the text is past 65,536 bytes.
 pub fn error(alloc: Global, message: &str) -> Refusal
     ensures { Refuses result (bounded message.now) }
 {
@@ -118,21 +118,21 @@ pub fn error(alloc: Global, message: &str) -> Refusal
     }
 }
 
-/// The error for a wrong number of words.
+/// The error for a wrong number of words: `wrong # args: should be` and the usage. It has no number.
 pub fn wrong_args<T>(alloc: Global, usage: &str) -> Result<T, Refusal>
     ensures { Gives result (wrong_args_of usage.now) }
 {
     Err(quoting_error(alloc, "wrong # args: should be ", usage))
 }
 
-/// The error for a word in the place of a sub-command or switch that is none.
+/// The error for a word in the place of a sub-command or switch that is none. It has no number.
 pub fn bad_option<T>(alloc: Global, word: &Text) -> Result<T, Refusal>
     ensures { Gives result (bad_option_of word.now) }
 {
     Err(quoting_error(alloc, "bad option ", word.as_str()))
 }
 
-/// The error for a word that is no index.
+/// The error for a word that is no index: no integer, `end` or `end-N` (string(n)). It has no number.
 pub fn bad_index<T>(alloc: Global, word: &Text) -> Result<T, Refusal>
     ensures { Gives result (bad_index_of word.now) }
 {
@@ -146,7 +146,7 @@ pub fn not_integer<T>(alloc: Global, word: &Text) -> Result<T, Refusal>
     Err(quoting_error(alloc, "expected integer but got ", word.as_str()))
 }
 
-/// An error that ends with a word in quotation marks.
+/// An error that ends with a word in quotation marks, or the limit's (4) where its text is past 65,536 bytes.
 pub fn quoting_error(alloc: Global, message: &str, word: &str) -> Refusal
     ensures { Refuses result (bounded (message.now ++ quoted word.now)) }
 {

@@ -32,7 +32,7 @@ fn fault_text(fault: ListFault) -> &'static str
     }
 }
 
-/// The list of these items.
+/// The list of these items as an answer (list(n)), or the error of a value past 65,536 bytes (4).
 #[tactic(auto, using(crate::proofs::AnswerLemmas::bounds))]
 pub fn list_answer(alloc: Global, items: &[Text]) -> Result<Text, Refusal>
     ensures { Gives result (answers (list_form items.now)) }

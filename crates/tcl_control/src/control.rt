@@ -483,6 +483,7 @@ fn info_plan(
 #[derive(Drop)]
 pub struct End {
     pub code: Code,
+    /// Its result, or the error's text.
     pub text: Text,
 }
 
@@ -550,7 +551,9 @@ fn builtin_call(
     }
 }
 
-/// Calls a command of this name with these words behind it.
+/// Calls a command of this name, perhaps with a leading `::`, with these words behind it (Tcl(n)). What it does with variables, levels and
+/// commands is done; the scripts and expressions that it runs are left to its plan. A script's error is a plan that ends with code 1 and
+/// its text.
 pub fn call_command(
     alloc: Global,
     scopes: &mut Scopes,
@@ -614,7 +617,8 @@ fn caught_into(
     }
 }
 
-/// How `catch` ends, by how its script did: it answers the code, and puts the result into the variable of a name (catch(n)).
+/// How `catch` ends, by how its script did: it answers the code, 0 to 4, and puts the result into the variable of a name, in the frame at a
+/// level (catch(n)). Where that can't be set, it is that error (17 to 19).
 pub fn caught(
     alloc: Global,
     scopes: &mut Scopes,

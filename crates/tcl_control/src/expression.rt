@@ -37,7 +37,7 @@ impl Model for Expression {
 impl Expression {
     ghost use Rattle.tcl_expr.specs.declared.state.State.TheVariants.{Ready};
 
-    /// The expression of a text (expr(n)).
+    /// The expression of a text, read whole (expr(n)). A fault is kept, and told by `begin`.
     #[tactic(auto, unfolding(crate::specs::Expressions::evaluation_begins))]
     pub fn of(alloc: Global, text: &Text) -> Result<Expression, AllocError>
         ensures { IfOk result (λ expression. expression ≡ text.now) }
@@ -53,7 +53,7 @@ impl Expression {
         }
     }
 
-    /// The expression of a text, which a table keeps, so that it is read once as long as it is kept (expr(n)).
+    /// The expression of a text, which a table keeps, so that it is read once as long as it is kept (expr(n)). One with a fault isn't kept.
     pub fn read_by(
         alloc: Global,
         table: &mut CommandTable,
@@ -88,7 +88,7 @@ impl Expression {
         }
     }
 
-    /// Its evaluation from the beginning, or the text of its fault.
+    /// Its evaluation from the beginning, or the text of its fault (4 to 11).
     #[tactic(auto, unfolding(crate::specs::Expressions::evaluation_begins))]
     pub fn begin(&self, alloc: Global) -> Result<Result<Eval, Text>, AllocError>
         ensures begun { IfOk result (λ begun. begun ≡ evaluation_begins self.now) }
@@ -104,7 +104,7 @@ impl Expression {
     }
 }
 
-/// The value of a condition as a boolean, or the error's text.
+/// The value of a condition of `if`, `while` or `for` as a boolean (expr(n)), or the text of the error that it is none (2).
 pub fn truth(alloc: Global, value: &Text) -> Result<Result<bool, Text>, AllocError>
     ensures { IfOk result (λ truth. truth ≡ truth_of value.now) }
 {

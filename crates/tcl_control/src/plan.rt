@@ -10,20 +10,20 @@ use tcl_text::Text;
 pub enum Plan {
     /// It has ended, with a code and a result or an error's text.
     Ends(Code, Text),
-    /// It ends as a script does.
+    /// It ends as a script does (eval(n), switch(n)).
     Runs(Source),
-    /// A script runs, and the answer is its code; its result is put into the variable of this name.
+    /// A script runs, and the answer is its code; its result is put into the variable of this name (catch(n)).
     Catches(Source, Option<Text>),
-    /// A script runs where only so many of the levels are, and it ends as the script does.
+    /// A script runs where only so many of the levels are, and it ends as the script does (uplevel(n)).
     RunsAt(usize, Source),
-    /// A procedure's body runs, in the last frame.
+    /// A procedure's body runs, in the last frame (proc(n)).
     Enters(Source),
-    /// It ends with the value of an expression.
+    /// It ends with the value of an expression (expr(n)).
     Evaluates(Expression),
-    /// The first body whose condition holds runs.
+    /// The first body whose condition holds runs (if(n)).
     Chooses(Choices),
-    /// A loop is to be tested.
+    /// A loop is to be tested (while(n), foreach(n)).
     Turns(Looping),
-    /// A script runs, and then a loop is tested.
+    /// A script runs, and then a loop is tested (for(n)).
     Starts(Source, Looping),
 }

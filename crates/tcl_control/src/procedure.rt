@@ -191,7 +191,7 @@ pub fn call_procedure(
     }
 }
 
-/// Drops the last frame; the global one stays.
+/// Drops the last frame of variables, as where a procedure ends; the global one stays. It takes no memory.
 pub fn pop_last(scopes: &mut Scopes)
     ensures { scopes.new ≡ popped scopes.old }
 {

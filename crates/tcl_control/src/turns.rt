@@ -19,7 +19,7 @@ pub enum Test {
     Items(Groups),
 }
 
-/// A loop: what it tests, its body, and what `for` runs after the body.
+/// A loop: what it tests, its body, and what `for` runs after the body (while(n), for(n), foreach(n)).
 #[derive(Drop)]
 pub struct Turning {
     pub test: Test,
@@ -78,7 +78,8 @@ pub enum Verdict {
     Fails(Text),
 }
 
-/// Gives names their items, where some are left and variables are those of a level.
+/// The test of `foreach` before a turn: where items are left, the variables in the frame at a level are given theirs, the empty text where
+/// a list has none left (foreach(n)). Where one can't be set, it is that error (17 to 19), and those before it stay set.
 pub fn items_tested(
     alloc: Global,
     scopes: &mut Scopes,

@@ -18,11 +18,11 @@ pub enum SliceEnd {
     Done(Code, Text),
     /// The slice's steps are taken, and there is more to do.
     More,
-    /// A step is needed, and none is left.
+    /// A step is needed, and none of the budget is left.
     Exhausted,
 }
 
-/// An interpreter, whose tasks are of the type `K`.
+/// An interpreter of Tcl scripts (Tcl(n)), with a budget of steps and tasks of the type `K`.
 #[derive(Drop)]
 pub struct Interp<K> {
     alloc: Global,
@@ -41,7 +41,8 @@ impl<K: Drop> Interp<K> {
     ghost use Rattle.tcl_interp.specs.Rests.{doing_of, waits_of};
     ghost use Rattle.tcl_interp.specs.Interp.{rest_of, left_of, budget_of, context_of, first_context, at_top, state_of, LeavesRest, Reaches, LeavesAfter, IsWhole};
 
-    /// An interpreter that takes at most so many steps, where outside commands have these names.
+    /// An interpreter that takes at most `budget` steps in all, where outside commands have these names and replace others of theirs. A
+    /// name that begins with a dot is an outside command's without being given.
     pub fn new(alloc: Global, budget: u64, outside_names: &[Text]) -> Result<Interp<K>, AllocError>
         ensures rest { IfOk result (λ interp. rest_of interp ≡ Idle) }
         ensures left { IfOk result (λ interp. left_of interp ≡ budget) }
@@ -61,8 +62,9 @@ impl<K: Drop> Interp<K> {
         })
     }
 
-    /// Begins a script at global level, where nothing runs: nothing has begun, all has ended, or the steps are spent. It takes no step,
-    /// and is read in the first slice.
+    /// Begins a script at global level, where nothing runs: nothing has begun, all has ended, or the steps are spent. It takes no step, and
+    /// is read in the first slice. At most 200 scripts are begun and not ended in it, itself and those in brackets among them; one more
+    /// fails. A return that leaves it becomes its `-code` (return(n)); a break or a continue that does is an error.
     #[tactic(auto, unfolding(crate::specs::Rests::waits_of))]
     pub fn begin(&mut self, script: Text) -> Result<(), AllocError>
         requires { (rest_of self.old ≡ Idle) ⊎ (rest_of self.old ≡ Spent) }
@@ -85,7 +87,8 @@ impl<K: Drop> Interp<K> {
         Ok(())
     }
 
-    /// Begins a task, which is resumed with the normal code and the empty text, where nothing runs.
+    /// Begins a task, where nothing runs. It is resumed in the first slice, with the normal code and the empty text, and takes no step for
+    /// that.
     #[tactic(auto, unfolding(crate::specs::Rests::waits_of))]
     pub fn begin_task(&mut self, task: K) -> Result<(), AllocError>
         requires { (rest_of self.old ≡ Idle) ⊎ (rest_of self.old ≡ Spent) }
@@ -110,14 +113,14 @@ impl<K: Drop> Interp<K> {
         Ok(())
     }
 
-    /// The steps that are left. It takes no memory.
+    /// How many steps of the budget are left. It takes no memory.
     pub fn steps_left(&self) -> u64
         ensures { result ≡ left_of self.now }
     {
         self.left
     }
 
-    /// The steps that were taken. It takes no memory.
+    /// How many steps of the budget were taken. It takes no memory.
     pub fn steps_used(&self) -> u64
         ensures { result + left_of self.now ≡ budget_of self.now }
     {
@@ -170,8 +173,9 @@ impl<K: Drop> Interp<K> {
         }
     }
 
-    /// Does what is to be done, for at most so many steps. A step is taken for each command that is called, each test of a
-    /// loop and each step of a task. After refused memory every further slice is refused too.
+    /// Does what is to be done, for at most so many steps. A step is taken for each command that is called, each test of a loop and each
+    /// step of a task. After `Exhausted` what was to be done is dropped, and each slice answers that again until something begins. After
+    /// refused memory every further slice is refused too.
     pub fn run_slice<T: Tasks<Task = K>>(
         &mut self,
         tasks: &mut T,
@@ -205,7 +209,7 @@ impl<K: Drop> Interp<K> {
         }
     }
 
-    /// Runs slices of these sizes in turn, as long as there is more to do: they are as one slice of all their steps.
+    /// Runs slices of these sizes, in steps, in turn, as long as there is more to do: they are as one slice of all their steps.
     pub fn run_slices<T: Tasks<Task = K>>(
         &mut self,
         tasks: &mut T,
@@ -233,7 +237,7 @@ impl<K: Drop> Interp<K> {
         Ok(SliceEnd::More)
     }
 
-    /// Runs slices of these sizes, and then of one size, to the end: whatever the sizes, it is the outcome of the evaluation.
+    /// Runs slices of these sizes, in steps, and then of one size, to the end: whatever the sizes, it is the outcome of the evaluation.
     pub fn run_to_end<T: Tasks<Task = K>>(
         &mut self,
         tasks: &mut T,

@@ -15,7 +15,7 @@ pub enum Act<K> {
     /// A script runs at global level, and then it goes on with `resume`, given the code and the text of the script. A return
     /// of the script has become its `-code`; what a break or a continue means is the task's to say.
     Run { script: Text, task: K },
-    /// No command has this name.
+    /// No command has this name: it ends with that error.
     Unknown,
 }
 
@@ -36,12 +36,13 @@ pub trait Tasks {
     /// What both calls leave alone, whatever they answer.
     ghost left_alone: { Self → Left };
 
-    /// Calls a command. The words begin with its name.
+    /// Calls a command, whose step is taken. The words begin with its first name, before any `rename` (rename(n)), without a leading `::`.
+    /// An error of the script's is a `Done` with code 1.
     fn call(&mut self, scopes: &mut Scopes, words: &[Text]) -> Result<Act<Self::Task>, AllocError>
         ensures ok { IfOk result (λ act. record { shows = self.new; store = scopes.new; act = act } ≡ outside.calls self.old scopes.old words.now) }
         ensures left { left_alone self.new ≡ left_alone self.old };
 
-    /// Goes on with a task, after its step or its script.
+    /// Goes on with a task: as it begins or after its step, with the normal code and the empty text, or after its script, with that one's.
     fn resume(
         &mut self,
         scopes: &mut Scopes,

@@ -5,10 +5,12 @@ use std::alloc::{AllocError, Global};
 use std::marker::Model;
 use tcl_text::Text;
 
-/// A body, behind its condition or pattern.
+/// A body of `if` or `switch`, behind its condition or pattern; neither is read yet.
 #[derive(Drop)]
 pub struct Branch {
+    /// The condition of `if`, an expression (expr(n)), or the pattern of `switch`.
     pub test: Text,
+    /// The script that runs; `-` in `switch` stands for the body of the next arm.
     pub body: Text,
 }
 
@@ -56,6 +58,7 @@ impl Branches {
 #[derive(Drop)]
 pub struct Choices {
     pub branches: Branches,
+    /// The body that runs where no condition holds, if there is one.
     pub otherwise: Option<Text>,
 }
 
@@ -111,7 +114,8 @@ fn next_clause(
     }
 }
 
-/// What the words of `if` behind its name offer; none where they don't fit (if(n)).
+/// What `if` chooses from, by the words behind its name (if(n)); none where a condition or a body is missing in its place, also behind
+/// `else`, or words are left behind the last body. Conditions and bodies aren't read.
 #[tactic(auto, unfolding(crate::specs::Branches::choices_of))]
 pub fn if_choices(alloc: Global, words: &[Text]) -> Result<Option<Choices>, AllocError>
     ensures { IfOk result (λ choices. choices ≡ choices_of words.now) }
@@ -154,7 +158,8 @@ fn next_arm(
     }
 }
 
-/// The pairs of `switch`; none where the last pattern has no body (switch(n)).
+/// The arms of `switch` by the items of its list, patterns and bodies in turn (switch(n)); none where the last pattern has no body. A body
+/// `-` is kept as it is.
 #[tactic(auto, unfolding(crate::specs::Branches::arms_of))]
 pub fn switch_arms(alloc: Global, items: &[Text]) -> Result<Option<Branches>, AllocError>
     ensures { IfOk result (λ arms. arms ≡ arms_of items.now) }

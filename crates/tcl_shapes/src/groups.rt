@@ -8,15 +8,18 @@ use std::alloc::{AllocError, Global};
 use std::marker::Model;
 use tcl_text::{SplitFault, Text, TextList};
 
-/// Names, and items of which so many are taken.
+/// A list of names of `foreach`, and its list of items (foreach(n)).
 #[derive(Drop)]
 pub struct Group {
+    /// The variables that take the items, one each in a turn.
     pub names: TextList,
+    /// The items of all turns.
     pub items: TextList,
+    /// How many of the items were taken in the turns before.
     pub next: usize,
 }
 
-/// Groups in order.
+/// The groups of a `foreach`, in the order of its words.
 #[derive(Drop)]
 pub struct Groups {
     list: Vec<Group>,
@@ -55,7 +58,7 @@ impl Groups {
         self.list.as_slice()
     }
 
-    /// Whether a group has items left.
+    /// Whether a group has items left: `foreach` takes another turn then (foreach(n)).
     pub fn has_more(&self) -> bool
         ensures { result ≡ list_any has_more self.now }
     {
@@ -65,7 +68,7 @@ impl Groups {
             .any(|group| group.next < group.items.len())
     }
 
-    /// Past the items of a turn.
+    /// The groups behind one more turn: each has given an item to each of its names, or all that were left.
     pub fn advanced(self, alloc: Global) -> Result<Groups, AllocError>
         ensures { IfOk result (λ groups. groups ≡ map advanced self) }
     {
@@ -153,7 +156,8 @@ fn next_group(
     }
 }
 
-/// The names and items of `foreach`, up to a last word alone, or the first error's text (foreach(n)).
+/// The names and items of `foreach`, up to a last word alone, by the words behind its name (foreach(n)). Or the text of the first error: a
+/// word is no list (3), or a list of names is empty.
 #[tactic(auto, unfolding(crate::specs::Groups::groups_of))]
 pub fn foreach_groups(alloc: Global, words: &[Text]) -> Result<Result<Groups, Text>, AllocError>
     ensures { IfOk result (λ groups. groups ≡ groups_of words.now) }
@@ -169,7 +173,7 @@ pub fn foreach_groups(alloc: Global, words: &[Text]) -> Result<Result<Groups, Te
     Ok(Ok(groups))
 }
 
-/// Whether a body stands behind names and items.
+/// Whether a body stands behind the names and items of `foreach`: the words behind its name are odd in number (foreach(n)).
 pub fn has_body(words: &[Text]) -> bool
     ensures { result ≡ has_body words.now }
 {

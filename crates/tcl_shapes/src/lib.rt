@@ -1,4 +1,5 @@
-//! The shapes of the words that `if`, `switch`, `foreach` and `proc` take.
+//! The shapes of the words that `if`, `switch`, `foreach` and `proc` take (if(n), switch(n), foreach(n), proc(n)). What a script did wrong
+//! is the inner `Err`, the text of its error.
 #![tactic(auto)]
 
 mod branches;

@@ -8,10 +8,11 @@ use std::alloc::{AllocError, Global};
 use std::marker::Model;
 use tcl_text::{SplitFault, Text};
 
-/// A parameter of a procedure, and its default.
+/// A parameter of a procedure, and its default (proc(n)). A call gives the last one the rest of its words where that is named `args`.
 #[derive(Drop)]
 pub struct Parameter {
     pub name: Text,
+    /// What it is where a call gives no word for it, if there is a default.
     pub fallback: Option<Text>,
 }
 
@@ -149,7 +150,8 @@ fn parameters_of(alloc: Global, items: &[Text]) -> Result<Result<Parameters, Tex
     Ok(Ok(parameters))
 }
 
-/// The parameters that a list gives, or the error's text.
+/// The parameters that a list gives, each as `name` or `{name default}` (proc(n)). Or the text of the first error: the list or an item is
+/// no list (3), or it is `bad parameter list`, where an item has another length or a name is empty, is an element's or holds `::`.
 #[tactic(auto, unfolding(crate::specs::Parameters::parameters_in))]
 pub fn parameters_in(alloc: Global, list: &Text) -> Result<Result<Parameters, Text>, AllocError>
     ensures { IfOk result (λ parameters. parameters ≡ parameters_in (list_of list.now)) }

@@ -1,6 +1,7 @@
 use tcl_commands::VariableCommand;
 
-/// The commands that the interpreter has itself, those on texts and lists aside.
+/// The commands that the interpreter has itself, those on texts and lists aside. Each has the name of its manual page: `Break` is that of
+/// break(n).
 #[derive(Clone, Copy, Debug, PartialEq, Eq)]
 pub enum Builtin {
     Break,
@@ -19,6 +20,7 @@ pub enum Builtin {
     Switch,
     Uplevel,
     Upvar,
+    /// One on variables: `set`, `unset`, `incr`, `append`, `lappend`, `array` or `global`.
     Variable(VariableCommand),
     While,
 }

@@ -19,7 +19,7 @@ use tcl_words::{ParseFault, Script, parse};
 /// What a name calls.
 #[derive(Drop)]
 pub enum Command {
-    /// A command of this crate.
+    /// A command that the interpreter has itself.
     Builtin(Builtin),
     /// A command on texts or lists.
     Texts(TextCommand),
@@ -29,7 +29,7 @@ pub enum Command {
     Procedure(Procedure),
 }
 
-/// A command's name without a leading `::`.
+/// A command's name without a leading `::`, of which one is dropped. Other namespaces than the global one aren't known (namespace(n)).
 pub fn plain_name(name: &str) -> &str
     ensures { result.now ≡ plain_name name.now }
 {
@@ -39,7 +39,7 @@ pub fn plain_name(name: &str) -> &str
     }
 }
 
-/// Whether a name begins with a dot.
+/// Whether a name begins with a dot, as the path of a window. Such a name always calls an outside command.
 pub fn is_dotted(name: &str) -> bool
     ensures { result ≡ is_dotted name.now }
 {
@@ -79,14 +79,14 @@ impl CommandTable {
         })
     }
 
-    /// The command of a name.
+    /// The command of a name, which is looked up as it is: `plain_name` drops a leading `::`.
     pub fn get(&self, name: &str) -> Option<&Command>
         ensures { option_copied result ≡ value_at self.now name.now }
     {
         self.entries.get(name)
     }
 
-    /// Gives a name a command.
+    /// Gives a name a command, in place of the one that it may have.
     pub fn insert(&mut self, name: &str, command: Command) -> Result<(), AllocError>
         ensures ok { OnOk result (self.new ≡ with_value self.old name.now command) }
         ensures err { OnErr result (self.new ≡ self.old) }
@@ -104,7 +104,8 @@ impl CommandTable {
         self.entries.shift_remove(name)
     }
 
-    /// The script of a text, or its fault. It is kept, and read once as long as it is.
+    /// The commands of a text as a script (Tcl(n)), or its fault (4 to 10). What is read without a fault is kept, at one of 256 places, and
+    /// isn't read again as long as it is. A `NoMemory` of the reader is the outer error.
     #[tactic(auto, unfolding(crate::specs::Source::script_of))]
     pub fn read(&mut self, text: &Text) -> Result<Result<Script, ParseFault>, AllocError>
         ensures table { self.new ≡ self.old }
@@ -134,7 +135,7 @@ impl CommandTable {
         Ok(())
     }
 
-    /// The expression of a text, if it is kept.
+    /// The expression of a text (expr(n)), if it is kept. Nothing is read.
     pub fn kept_expression(&self, text: &Text) -> Result<Option<Expr>, AllocError>
         ensures { IfOk result (λ kept. IfSome kept (λ expr. expr ≡ text.now)) }
     {
@@ -142,7 +143,7 @@ impl CommandTable {
         expression_at(self.expressions.as_slice(), place_of(text), text)
     }
 
-    /// Keeps an expression.
+    /// Keeps an expression by its text, at one of 256 places, in place of what is there.
     pub fn keep_expression(&mut self, expr: &Expr) -> Result<(), AllocError>
         ensures { self.new ≡ self.old }
     {
@@ -153,7 +154,7 @@ impl CommandTable {
         Ok(())
     }
 
-    /// How many procedures there are.
+    /// How many names call procedures; `proc` makes 1,024 at most.
     pub fn procedures(&self) -> usize
         ensures { result ≡ procedure_count self.now }
     {
@@ -179,7 +180,7 @@ fn is_procedure(command: &Command) -> bool
     matches!(command, Command::Procedure(_))
 }
 
-/// The commands at first, where outside commands have these names.
+/// The commands at first: the interpreter's own, those on texts and lists, and outside ones of these names, which replace others of theirs.
 #[tactic(auto, unfolding(crate::specs::Table::first_commands))]
 pub fn first_commands(alloc: Global, outside: &[Text]) -> Result<CommandTable, AllocError>
     ensures { IfOk result (λ table. table ≡ first_commands outside.now) }

@@ -5,8 +5,8 @@ use std::alloc::{AllocError, Global};
 use std::marker::Model;
 use tcl_vars::Scopes;
 
-/// The places, among the frames of the variables, of the frames of the callers of a script, the global one first, and of its own,
-/// the last.
+/// The places, among the frames of the variables, of the frames of the callers of a script, the global one first, and of its own, the last:
+/// the levels that uplevel(n), upvar(n) and info(n) count.
 #[derive(Drop)]
 pub struct Levels {
     places: Vec<usize>,
@@ -21,7 +21,7 @@ impl Model for Levels {
 }
 
 impl Levels {
-    /// Global level.
+    /// Global level alone, `#0` of uplevel(n).
     pub fn global(alloc: Global) -> Result<Levels, AllocError>
         ensures { IfOk result (λ levels. levels ≡ 0 ∷ []) }
     {
@@ -30,14 +30,14 @@ impl Levels {
         Ok(Levels { places })
     }
 
-    /// How many frames there are along the callers, the own one too.
+    /// How many frames there are along the callers, the own one too; `info level` answers one less (info(n)).
     pub fn count(&self) -> usize
         ensures { result ≡ length self.now }
     {
         self.places.len()
     }
 
-    /// The place of the frame whose variables are seen.
+    /// The place of the frame whose variables are seen: the own one, or the global one where that is gone.
     pub fn here(&self, scopes: &Scopes) -> usize
         ensures value { result ≡ here self.now scopes.now }
         ensures there { result < length scopes.now }
@@ -49,7 +49,7 @@ impl Levels {
         }
     }
 
-    /// The place of the frame whose variables are seen where only so many of the levels are.
+    /// The place of the frame whose variables are seen where only the first `count` of the levels are; the global one where that is gone.
     pub fn place_at(&self, scopes: &Scopes, count: usize) -> usize
         ensures { result ≡ here (take count self.now) scopes.now }
     {
@@ -77,7 +77,7 @@ impl Levels {
         let _place = self.places.pop();
     }
 
-    /// Keeps so many of the levels, and gives the others.
+    /// Keeps the first `count` of the levels, as for a script of `uplevel` (uplevel(n)), and gives the others.
     pub fn cut(&mut self, alloc: Global, count: usize) -> Result<Levels, AllocError>
         ensures ok { IfOk result (λ others. (self.new ≡ take count self.old) × (others ≡ drop count self.old)) }
         ensures err { OnErr result (self.new ≡ self.old) }
@@ -93,7 +93,7 @@ impl Levels {
         }
     }
 
-    /// Puts levels behind these.
+    /// Puts levels behind these, as they were before `cut`.
     pub fn join(&mut self, others: Levels) -> Result<(), AllocError>
         ensures ok { OnOk result (self.new ≡ self.old ++ others) }
         ensures err { OnErr result (self.new ≡ self.old) }

@@ -1,7 +1,7 @@
 use crate::source::Source;
 use tcl_shapes::Parameters;
 
-/// A procedure: its parameters, and its body, which is read when it is made.
+/// A procedure (proc(n)): its parameters, and its body, which is read when it is made.
 #[derive(Drop)]
 pub struct Procedure {
     pub parameters: Parameters,

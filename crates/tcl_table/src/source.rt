@@ -36,7 +36,7 @@ impl Model for Source {
 }
 
 impl Source {
-    /// A script by its text. It takes no memory.
+    /// A script by its text, which isn't read yet. It takes no memory.
     pub fn of_text(text: Text) -> Source
         ensures { result ≡ text }
     {
@@ -54,7 +54,7 @@ impl Source {
         }
     }
 
-    /// A script by its text, read at once, so that its copies are.
+    /// A script by its text, read at once, so that its copies are. A fault (4 to 10) is kept, and told by `read`.
     #[tactic(auto, unfolding(crate::specs::Source::script_of))]
     pub fn read_of(alloc: Global, text: &Text) -> Result<Source, AllocError>
         ensures { IfOk result (λ source. source ≡ text.now) }
@@ -96,7 +96,7 @@ impl Source {
         }
     }
 
-    /// The script's commands, or its fault; a table reads what hasn't been read.
+    /// The script's commands (Tcl(n)), or its fault (4 to 10); a table reads what hasn't been read.
     #[tactic(auto, unfolding(crate::specs::Source::script_of))]
     pub fn read(self, table: &mut CommandTable) -> Result<Result<Script, ParseFault>, AllocError>
         ensures table { table.new ≡ table.old }

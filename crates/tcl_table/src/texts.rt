@@ -1,3 +1,4 @@
+//! The texts of errors, as scripts are told of them. In place of one past 65,536 bytes stands that of the limit (4).
 ghost use Rattle.std.specs.Prelude.{◌≡◌, ◌≤◌, ◌++◌, length, IfOk, string_bytes};
 ghost use Rattle.tcl_text.specs.Splitting.{fault_text as list_text};
 ghost use Rattle.tcl_words.specs.Faults.{text_of};
@@ -8,7 +9,7 @@ use tcl_text::{ListFault, Text, TextFault};
 use tcl_vars::{ReadFault, SetFault};
 use tcl_words::ParseFault;
 
-/// A text of these characters, which are few enough.
+/// A text of these characters, which are 65,536 bytes at most.
 pub fn fixed(alloc: Global, characters: &str) -> Result<Text, AllocError>
     requires { length characters.now ≤ 65536 }
     ensures { IfOk result (λ text. text ≡ characters.now) }
@@ -19,14 +20,14 @@ pub fn fixed(alloc: Global, characters: &str) -> Result<Text, AllocError>
     }
 }
 
-/// The text that stands in place of a value past 65,536 bytes.
+/// The error that a value would pass 65,536 bytes (4).
 pub fn limit(alloc: Global) -> Result<Text, AllocError>
     ensures { IfOk result (λ text. text ≡ limit_text) }
 {
     fixed(alloc, "limit reached: value")
 }
 
-/// A message about a subject, between what stands before and after it.
+/// A message about a subject, between what stands before and after it; that of the limit (4) where it would pass 65,536 bytes.
 pub fn message(alloc: Global, before: &str, subject: &str, after: &str) -> Result<Text, AllocError>
     ensures { IfOk result (λ text. text ≡ message (before.now ++ subject.now ++ after.now)) }
 {
@@ -40,14 +41,14 @@ pub fn message(alloc: Global, before: &str, subject: &str, after: &str) -> Resul
     }
 }
 
-/// Why a variable can't be read, as its script is told of it.
+/// Why a variable can't be read, as its script is told of it: `NoVariable` (15), `NoElement` (16), `IsArray` (17) or `NotArray` (18).
 pub fn cannot_read(alloc: Global, name: &Text, fault: ReadFault) -> Result<Text, AllocError>
     ensures { IfOk result (λ text. text ≡ cannot_read name.now fault) }
 {
     message(alloc, "can't read \"", name.as_str(), read_reason(fault))
 }
 
-/// Why an element can't be read, as its script is told of it.
+/// Why an element can't be read, as its script is told of it (15 to 18). It is named `name(index)`.
 pub fn cannot_read_element(
     alloc: Global,
     name: &Text,
@@ -82,7 +83,8 @@ fn read_reason(fault: ReadFault) -> &'static str
     }
 }
 
-/// Why a variable can't be set, as its script is told of it.
+/// Why a variable can't be set, as its script is told of it: `IsArray` (17), `NotArray` (18) or `Full` (19). Refused memory has no such
+/// text: it is empty.
 pub fn cannot_set(alloc: Global, name: &Text, fault: SetFault) -> Result<Text, AllocError>
     ensures { IfOk result (λ text. text ≡ cannot_set name.now fault) }
 {
@@ -104,7 +106,7 @@ pub fn cannot_set(alloc: Global, name: &Text, fault: SetFault) -> Result<Text, A
     }
 }
 
-/// The error that a text is no boolean.
+/// The error that a text is no boolean (2).
 pub fn not_boolean(alloc: Global, text: &Text) -> Result<Text, AllocError>
     ensures { IfOk result (λ message. message ≡ not_boolean text.now) }
 {
@@ -123,7 +125,7 @@ pub fn unknown_command(alloc: Global, name: &str) -> Result<Text, AllocError>
     message(alloc, "invalid command name \"", name, "\"")
 }
 
-/// A message of these characters.
+/// A message of these characters; that of the limit (4) where they pass 65,536 bytes.
 pub fn told(alloc: Global, characters: &str) -> Result<Text, AllocError>
     ensures { IfOk result (λ text. text ≡ message characters.now) }
 {
@@ -134,21 +136,21 @@ pub fn told(alloc: Global, characters: &str) -> Result<Text, AllocError>
     }
 }
 
-/// Why a text is no script, as its script is told of it.
+/// Why a text is no script (4 to 10), as its script is told of it. Refused memory has no such text: it is empty.
 pub fn fault_text(alloc: Global, fault: ParseFault) -> Result<Text, AllocError>
     ensures { IfOk result (λ text. text ≡ message (text_of fault)) }
 {
     told(alloc, fault.text())
 }
 
-/// Why a text is no list, as its script is told of it.
+/// Why a text is no list (3), as its script is told of it.
 pub fn list_fault(alloc: Global, fault: ListFault) -> Result<Text, AllocError>
     ensures { IfOk result (λ text. text ≡ message (list_text fault)) }
 {
     told(alloc, fault.text())
 }
 
-/// The error about a word, behind what stands before it.
+/// The error about a word: what stands before it, the word, and a quote that closes it.
 pub fn about(alloc: Global, before: &str, word: &str) -> Result<Text, AllocError>
     ensures { IfOk result (λ text. text ≡ about before.now word.now) }
 {

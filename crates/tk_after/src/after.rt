@@ -23,8 +23,10 @@ const CANCEL_USAGE: &str = "after cancel id|script ?script ..?";
 
 const INFO_USAGE: &str = "after info ?id?";
 
-/// The command `after` (after(n) of Tcl's manual), which an application calls at a moment. `words` are those
-/// after the command's name. The answer is the command's result, or the text of its error.
+/// The command `after` (after(n)), which an application calls at a moment, in milliseconds: with a delay in milliseconds and a script,
+/// `idle`, `cancel` or `info`. A delay below 0 counts as 0, and one past 10^12 as that. `words` are those after the command's name. The
+/// answer is the command's result, or the text of its error: 4 where the words joined, or the result, pass 65,536 bytes; other errors have
+/// no number.
 #[tactic(auto, unfolding(crate::specs::After::after_words))]
 pub fn after_command(
     alloc: Global,

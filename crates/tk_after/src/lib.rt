@@ -1,4 +1,4 @@
-//! Timers and idle scripts of Tcl applications (`after` of Tcl's manual), each application's apart from the others'.
+//! Timers and idle scripts of Tcl applications (after(n)), each application's apart from the others'. Moments and delays are milliseconds.
 #![tactic(auto)]
 
 mod after;

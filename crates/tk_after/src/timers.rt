@@ -8,9 +8,10 @@ use std::alloc::{AllocError, Global};
 use std::marker::Model;
 use tcl_text::Text;
 
-/// The timers and idle scripts of applications, each application's apart from the others'.
+/// The timers and idle scripts of applications, each application's apart from the others' (after(n)).
 ///
-/// `owner` is an application's number everywhere. An application that hasn't been named yet has nothing waiting.
+/// `owner` is an application's number everywhere, and a moment is in milliseconds. An application that hasn't been named yet has nothing
+/// waiting.
 #[derive(Drop)]
 pub struct Timers {
     owners: Vec<OwnTimers>,
@@ -49,7 +50,7 @@ impl Timers {
         }
     }
 
-    /// How many are listed.
+    /// How many timers and idle scripts the application has listed.
     pub fn count(&self, owner: usize) -> usize
         ensures count { result ≡ length (entries_of owner self.now) }
 
@@ -62,7 +63,7 @@ impl Timers {
         }
     }
 
-    /// Lists a timer that is due at a moment, and answers its number.
+    /// Lists a timer that is due at a moment, and answers its number, from 0 on: N is `after#N` to scripts (after(n)).
     pub fn add(&mut self, owner: usize, due: u64, script: Text) -> Result<u64, AllocError>
         requires { is_full (own_of owner self.old) ≡ false }
         ensures id { IfOk result (λ id. id ≡ (own_of owner self.old).next_number) }
@@ -74,7 +75,7 @@ impl Timers {
         self.insert(owner, Some(due), script)
     }
 
-    /// Lists an idle script, and answers its number.
+    /// Lists an idle script (`after idle` of after(n)), and answers its number, which is counted with those of timers.
     pub fn idle_add(&mut self, owner: usize, script: Text) -> Result<u64, AllocError>
         requires { is_full (own_of owner self.old) ≡ false }
         ensures id { IfOk result (λ id. id ≡ (own_of owner self.old).next_number) }
@@ -86,8 +87,8 @@ impl Timers {
         self.insert(owner, None, script)
     }
 
-    /// Takes out what the application has listed under a number, and gives its script; nothing where it has
-    /// none such. A timer's number and an idle script's serve alike. It takes no memory.
+    /// Takes out what the application has listed under a number, and gives its script; nothing where it has none such. A timer's number and
+    /// an idle script's serve alike (`after cancel` of after(n)). It takes no memory.
     pub fn cancel(&mut self, owner: usize, id: u64) -> Option<Text>
         ensures script { result
             ≡ option_map (λ entry. entry.script) (entry_with id (entries_of owner self.old)) }
@@ -98,7 +99,7 @@ impl Timers {
         self.owners[place].take_out(id)
     }
 
-    /// The numbers that are listed, in order.
+    /// The numbers that are listed, timers' and idle scripts', in order (`after info` of after(n)).
     pub fn info(&self, owner: usize) -> Result<Vec<u64>, AllocError>
         ensures list { IfOk result (λ list. list.items ≡ ids (entries_of owner self.now)) }
         ensures kept { IsKept (own_of owner self.now) }
@@ -109,14 +110,14 @@ impl Timers {
         }
     }
 
-    /// What is listed under a number. It takes no memory.
+    /// The timer or idle script that is listed under a number. It takes no memory.
     pub fn entry(&self, owner: usize, id: u64) -> Option<&Entry>
         ensures { option_copied result ≡ entry_with id (entries_of owner self.now) }
     {
         self.own(owner)?.entry(id)
     }
 
-    /// The earliest due moment of all applications. It takes no memory.
+    /// The earliest moment at which a timer of any application is due; none where no timer waits. It takes no memory.
     pub fn next_due(&self) -> Option<u64>
         ensures none { IfNone result ((owner : ℕ) → due_moments (entries_of owner self.now) ≡ []) }
         ensures least { IfSome result (IsNextDue self.now) }
@@ -124,7 +125,7 @@ impl Timers {
         next_due_of(&self.owners)
     }
 
-    /// The earliest due moment of one application. It takes no memory.
+    /// The earliest moment at which a timer of one application is due; none where none of its waits. It takes no memory.
     pub fn next_due_of(&self, owner: usize) -> Option<u64>
         ensures value { result ≡ least (due_moments (entries_of owner self.now)) }
         ensures none { IfNone result (due_moments (entries_of owner self.now) ≡ []) }
@@ -133,8 +134,8 @@ impl Timers {
         self.own(owner)?.next_due()
     }
 
-    /// Takes out the timer that goes first of those that the application has due by a moment, and gives its
-    /// number and script. It takes no memory.
+    /// Takes out the timer that goes first of those that the application has due by a moment, the earliest and of those the first made, and
+    /// gives its number and script. It takes no memory.
     pub fn take_due(&mut self, owner: usize, moment: u64) -> Option<(u64, Text)>
         ensures taken { result
             ≡ option_map (λ entry. (entry.id, entry.script)) (first_due moment (entries_of owner self.old)) }
@@ -149,7 +150,7 @@ impl Timers {
         self.owners[place].take_due(moment)
     }
 
-    /// The numbers of the idle scripts that wait now, in order. None is taken out.
+    /// The numbers of the idle scripts that wait now, in order: one round of them (`after idle` of after(n)). None is taken out.
     pub fn idle_round(&self, owner: usize) -> Result<Vec<u64>, AllocError>
         ensures { IfOk result (λ list. list.items ≡ idle_ids (entries_of owner self.now)) }
     {

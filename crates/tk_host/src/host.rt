@@ -19,7 +19,7 @@ pub const MAX_APPLICATIONS: usize = 16;
 /// The last moment of a host, in milliseconds.
 pub const MAX_MOMENT: u64 = 1_000_000_000_000;
 
-/// Applications side by side, each by itself, with one clock.
+/// Applications side by side, each by itself, with one clock, in milliseconds from 0.
 #[derive(Drop)]
 pub struct Host {
     alloc: Global,
@@ -47,7 +47,8 @@ impl Host {
     ghost use Rattle.tk_host.specs.Refusals.{IsRefusal, LeftBy, NoneApplies, PhaseRefuses, RefusesApp, RefusesMoment, RefusesSection, add_faults, moment_faults, section_faults, start_faults};
     ghost use Rattle.tk_host.specs.Section.{section};
 
-    /// A host without applications, whose applications take turns of at most `slice` steps.
+    /// A host without applications. Each is run at most `slice` steps at a time; what comes of it doesn't depend on that. It takes no
+    /// memory.
     pub fn new(alloc: Global, slice: u64) -> Host
         requires { 1 ≤ slice }
         ensures { result ≡ held_after [] }
@@ -60,7 +61,9 @@ impl Host {
         }
     }
 
-    /// Adds an application in the next slot.
+    /// Adds an application in the next slot, from 0 on: its rectangle on the screen in pixels, and how many steps its scripts may take in
+    /// all. Refused are, in this order: `Broken` (42), `Ended` (41), `Started` (40), `BadValue` (36), `TooManyApps` (38), `NameTaken` (39)
+    /// and `Overlap` (34).
     pub fn add_app(
         &mut self,
         name: Text,
@@ -80,7 +83,8 @@ impl Host {
         Ok(())
     }
 
-    /// Runs each application's script at moment 0. After a want of memory the host is broken.
+    /// Runs each application's script at moment 0, and does what is due then. Refused are, in this order: `Broken` (42), `Ended` (41) and
+    /// `Started` (40). After a want of memory the host is broken.
     pub fn start(&mut self) -> Result<(), HostFault>
         ensures started { OnOk result (self.new ≡ after_start self.old) }
         ensures unless { OnOk result (NoneApplies (PhaseRefuses self.old.phase) start_faults) }
@@ -100,7 +104,9 @@ impl Host {
         Ok(())
     }
 
-    /// Goes on to a moment: what is due by then is done, each at its moment. After a want of memory the host is broken.
+    /// Goes on to a moment, in milliseconds: what is due by then is done, each at its moment: timers, and the idle scripts that come of
+    /// them (after(n)). Refused are, in this order: `Broken` (42), `Ended` (41), `BadValue` (36) past 10^12 and `TimeBack` (35). After a
+    /// want of memory the host is broken.
     pub fn advance_to(&mut self, moment: u64) -> Result<(), HostFault>
         requires { self.old.phase ≢ Phase.Adding }
         ensures advanced { OnOk result (self.new ≡ after_advance moment self.old) }
@@ -112,7 +118,8 @@ impl Host {
         self.go_to(moment, Phase::Reached(moment))
     }
 
-    /// Goes on to the last moment: what is due by then is done, each at its moment. After a want of memory the host is broken.
+    /// Goes on to the last moment, in milliseconds, as `advance_to` does, and is refused as that is (42, 41, 36, 35). After a want of
+    /// memory the host is broken.
     pub fn end(&mut self, moment: u64) -> Result<(), HostFault>
         requires { self.old.phase ≢ Phase.Adding }
         ensures ended { OnOk result (self.new ≡ after_end moment self.old) }
@@ -124,7 +131,8 @@ impl Host {
         self.go_to(moment, Phase::Finished(moment))
     }
 
-    /// What the application in the slot wrote, and what there is of it.
+    /// The section of the application in a slot, in bytes: its state and the steps left, what it wrote and its errors by their moments in
+    /// milliseconds, its window in pixels, and its timers and idle scripts. `Broken` (42), or `NoApp` (37) where the slot has none.
     pub fn section(&self, slot: usize) -> Result<Vec<u8>, HostFault>
         ensures section { IfOk result (λ bytes. slice_get (map (λ part. section part.application) self.now.parts) slot ≡ Some bytes.items) }
         ensures unless { OnOk result (NoneApplies (RefusesSection self.now slot) section_faults) }

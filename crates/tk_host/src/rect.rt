@@ -1,7 +1,8 @@
 ghost use Rattle.std.specs.Prelude.{◌↔◌, IsTrue};
 ghost use Rattle.tk_host.specs.Rect.{Meet, SharePixel};
 
-/// A rectangle of the screen, in pixels from its upper left corner.
+/// A rectangle, in pixels: its upper left corner, from that of the screen, and its size. It holds its left and its top edge, and not
+/// the others.
 #[derive(Clone, Copy, Debug, PartialEq, Eq)]
 pub struct Rect {
     pub x: u32,
@@ -11,7 +12,7 @@ pub struct Rect {
 }
 
 impl Rect {
-    /// Whether some pixel lies in both rectangles.
+    /// Whether some pixel lies in both rectangles; those that only touch share none.
     pub fn overlaps(self, other: Rect) -> bool
         ensures { IsTrue result ↔ SharePixel self other }
     {

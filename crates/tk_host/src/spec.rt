@@ -7,13 +7,13 @@ use tcl_text::Text;
 /// The last pixel column or row at which an application may begin, and its greatest width and height.
 pub const MAX_PIXELS: u32 = 32_767;
 
-/// The most steps that an application is given.
+/// How many steps an application is given at most.
 pub const MAX_BUDGET: u64 = 10_000_000;
 
 /// How many bytes a name has at most.
 const MAX_NAME: usize = 32;
 
-/// Whether a text may name an application.
+/// Whether a text may name an application: a letter, then letters, digits and underscores, all ASCII, 32 bytes at most.
 pub fn is_name(text: &[u8]) -> bool
     ensures { IsTrue result ↔ IsName text.now }
 {

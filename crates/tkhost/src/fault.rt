@@ -22,7 +22,7 @@ pub enum LineFault {
 }
 
 impl LineFault {
-    /// The number that is told.
+    /// The number that the program tells of it: 34, 36, 38 or 39.
     pub fn number(self) -> u8
         ensures { result ≡ number_of_fault self }
     {

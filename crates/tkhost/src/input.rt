@@ -43,7 +43,8 @@ impl<T: Drop> From<AllocFailed<T>> for InputFault {
     }
 }
 
-/// Reads to the end of the input, of 16,777,216 bytes at most and in 16,777,217 calls of `read` at most.
+/// Reads to the end of the input, of 16,777,216 bytes at most and in 16,777,217 calls of `read` at most. `Read`, which has no number, where
+/// the reader fails or gives more.
 pub fn read_input<R: Read>(alloc: Global, reader: &mut R) -> Result<Vec<u8>, InputFault>
     ensures bytes { IfOk result (λ input. Consumes (R.remaining reader.old) (R.remaining reader.new) input.items) }
     ensures end { OnOk result (IsAtEnd (R.remaining reader.new)) }

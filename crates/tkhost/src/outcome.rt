@@ -11,7 +11,7 @@ use std::io::Write;
 pub enum Outcome {
     /// The sections were written.
     Done,
-    /// The input is no session: the number of the fault, and the first faulty line, counted from 1.
+    /// The input is no session: the number of the fault (34, 36, 38 or 39), and the first faulty line, counted from 1.
     Refused { number: u8, line: usize },
     /// An argument was given.
     Usage,
@@ -24,7 +24,7 @@ pub enum Outcome {
 }
 
 impl Outcome {
-    /// The exit status. It takes no memory.
+    /// The exit status of the program: 0 done, 1 refused, 2 usage, 3 read or write, 4 memory. It takes no memory.
     pub fn status(self) -> u8
         ensures { result ≡ status_of self }
     {

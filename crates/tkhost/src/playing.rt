@@ -121,9 +121,11 @@ fn text_of(alloc: Global, session: &Session, slice: u64) -> Result<Vec<u8>, Play
     sections(alloc, &host, session)
 }
 
-/// Plays a session, its applications taking turns of at most `slice` steps, and writes their sections once all have come to the end.
+/// Plays a session, each application at most `slice` steps at a time, and writes their sections once all have come to the end. `Write`
+/// where the writer fails or takes nothing; neither fault has a number.
 ///
-/// What each application's section is rests on its own name, size, script and budget and on the moment of the end: on nothing that another does.
+/// What each application's section is rests on its own name, size, script and budget and on the moment of the end: on nothing that another
+/// does.
 pub fn play<W: Write>(
     alloc: Global,
     session: &Session,

@@ -16,7 +16,8 @@ use std::io::{Read, Write};
 /// How many steps an application takes at most before the next one's turn.
 const SLICE: u64 = 64;
 
-/// What the program does without arguments: reads a session, plays it and writes its sections.
+/// What the program does without arguments: reads a session, plays it, at most 64 steps of an application at a time, and writes its
+/// sections. The first fault is the outcome.
 pub fn run<R: Read, W: Write>(alloc: Global, reader: &mut R, writer: &mut W) -> Outcome
     ensures done { result ≡ Outcome.Done → (plan : Plan)
         × IfSome (R.remaining reader.old) (λ input. IsSession input plan)

@@ -58,8 +58,9 @@ fn read_lines(alloc: Global, bytes: &[u8]) -> Result<(AppBlocks, u64), SessionFa
     finish(stage, number + 1)
 }
 
-/// Reads a session of format 1. A line is refused as a bad one, and then for what it says beside the lines before
-/// it, so the first faulty line is told; where the text ends too soon, the one after the last.
+/// Reads a session of format 1. The first faulty line is told, counted from 1: a line is refused as a `BadLine` (36), and then beside the
+/// lines before it for `TooManyApps` (38), `NameTaken` (39) and `Overlap` (34). Where the text ends too soon, 36 at the line after the
+/// last.
 ///
 /// It takes time in proportion to the bytes, and memory for the names and scripts alone.
 pub fn read_session(alloc: Global, bytes: &[u8]) -> Result<Session, SessionFault>

@@ -9,9 +9,11 @@ use tk_host::Rect;
 #[derive(Drop)]
 pub struct AppBlock {
     pub name: Text,
+    /// Its place on the screen, in pixels.
     pub rect: Rect,
     /// How many steps its scripts may take.
     pub budget: u64,
+    /// What it runs at moment 0.
     pub script: Text,
 }
 

@@ -16,7 +16,7 @@ use tcl_vars::Scopes;
 pub enum SliceEnd {
     /// All is done, with a code and a result or an error's text.
     Done(Code, Text),
-    /// The slice's steps are taken, and there is more to do.
+    /// The slice's steps are taken, and there is more to do. No slice at all answers this too.
     More,
     /// A step is needed, and none of the budget is left.
     Exhausted,

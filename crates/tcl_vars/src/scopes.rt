@@ -223,7 +223,7 @@ impl Scopes {
         }
     }
 
-    /// Whether a name means an element in the frame at a level, and so no variable. It takes no memory.
+    /// Whether a name means an element in the frame at a level, or an element of an element, and so no variable. It takes no memory.
     pub fn is_element(&self, level: usize, name: &Text) -> bool
         requires { level < length self.now }
         ensures { result ≡ is_element_in self.now level name.now }

@@ -13,7 +13,7 @@ use crate::reading::read_session;
 use std::alloc::Global;
 use std::io::{Read, Write};
 
-/// How many steps an application takes at most before the next one's turn.
+/// How many steps of an application the interpreter takes at a stretch.
 const SLICE: u64 = 64;
 
 /// What the program does without arguments: reads a session, plays it, at most 64 steps of an application at a time, and writes its

@@ -10,7 +10,7 @@ pub fn sorted_items_ascend()
         (items : List (List ℕ)) → IsSortedBy less (sorted less items) }
 {}
 
-/// It has the items that it was given, those that tie in the order that they had.
+/// What putting each item in order gives has the items that were there, those that tie in the order that they had.
 pub fn sorted_items_are_stable()
     ensures { (less : List ℕ → List ℕ → Bool) → IsStrictWeakOrder less →
         (items : List (List ℕ)) → IsStableBy less items (sorted less items) }

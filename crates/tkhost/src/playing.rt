@@ -121,8 +121,8 @@ fn text_of(alloc: Global, session: &Session, slice: u64) -> Result<Vec<u8>, Play
     sections(alloc, &host, session)
 }
 
-/// Plays a session, each application at most `slice` steps at a time, and writes their sections once all have come to the end. `Write`
-/// where the writer fails or takes nothing; neither fault has a number.
+/// Plays a session, each application at most `slice` steps at a time, and writes their sections once all have come to the end. `NoMemory`
+/// comes before a byte went out, and `Write` where the writer fails or takes nothing; neither has a number.
 ///
 /// What each application's section is rests on its own name, size, script and budget and on the moment of the end: on nothing that another
 /// does.

@@ -8,6 +8,8 @@ pub const SHORT_BYTES: usize = 22;
 pub struct ShortText {
     bytes: [u8; 22],
     length: u8,
+    /// It takes no room: the bytes begin where a word does, so that a copy moves whole words.
+    words: [u64; 0],
     ghost fits: { length ≤ 22 },
     ghost utf8: { ∥ IsUtf8 (take length bytes) ∥₁ },
 }
@@ -26,6 +28,7 @@ impl ShortText {
         ShortText {
             bytes,
             length: characters.len() as u8,
+            words: [],
         }
     }
 

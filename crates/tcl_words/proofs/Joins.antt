@@ -1,17 +1,17 @@
 -- What was read joined with a rest of the text: how bytes and parts go over from the rest to what was read.
-use Rattle.std.proofs.Common.{◌≡◌, ℕ, suc, ◌+◌, ◌-◌, ◌<◌, ◌≤◌, Bool, List, [], ◌∷◌, ◌++◌, length, take, drop, refl, sym, ap, ◌∙◌, append_assoc, append-nil, arith, Ok, Err, slice_index}
+use Rattle.std.proofs.Common.{◌≡◌, ℕ, ◌+◌, ◌-◌, ◌<◌, ◌≤◌, Bool, List, [], ◌∷◌, ◌++◌, length, take, drop, refl, sym, ap, ◌∙◌, append_assoc, append-nil, arith, Ok, Err, slice_index}
 use Rattle.std.specs.List.{slice_range}
-use Rattle.std.proofs.lemmas.List.{drop-drop}
+use Rattle.std.proofs.lemmas.List.{drop-drop, length-append, length-drop, length-take-le}
 use Rattle.std.proofs.lemmas.List.Edits.{between_more, between_none}
 use Rattle.std.proofs.Math.Seq.{take-add}
-use Rattle.tcl_words.specs.Changes.{Rest, Read, put, piece_before, last_rest, literal_before, command_of, word_of, pieces_of, Change, bytes, name, text_ends, word_ends, command_ends, word_begins, command_begins, changed, changed_by}
-use Rattle.tcl_words.specs.Parts.{Parts, joined, with_text, with_word, with_command, with_piece, with_literal, with_braced, so_far}
-use Rattle.tcl_words.specs.declared.kind.Place.TheVariants.{Start, Comment, Between, Expanded, Text, PastQuotes, InBraces, PastBraces}
+use Rattle.tcl_words.specs.Changes.{Rest, Read, put, piece_before, literal_before, bytes, text_ends, word_ends, command_ends, word_begins, command_begins, changed, changed_by}
+use Rattle.tcl_words.specs.Parts.{Parts, joined, with_word, with_command, with_piece, with_literal, with_braced, so_far}
+use Rattle.tcl_words.specs.declared.kind.Place.TheVariants.{Start, Between, Text, PastQuotes, InBraces, PastBraces}
 use Rattle.tcl_words.specs.declared.kind.Mode.{Mode}
 use Rattle.tcl_words.specs.declared.kind.Mode.TheVariants.{Bare, Quotes, Parens}
 use Rattle.tcl_words.specs.declared.script.WordForm.TheVariants.{Bare as BareForm, Quoted as QuotedForm, Braced as BracedForm}
 use Rattle.tcl_words.specs.declared.script.Piece.{Piece}
-use Rattle.tcl_words.specs.declared.script.Piece.TheVariants.{Literal, Variable}
+use Rattle.tcl_words.specs.declared.script.Piece.TheVariants.{Literal}
 
 pub slice_none : (s : List ℕ) (at : ℕ) → slice_range s at at ≡ []
 slice_none s at = between_none s at
@@ -34,6 +34,20 @@ slice_behind s from n = let e : from + n - from ≡ n = omega arith in ap (λ k.
 pub literal_before-append : (own : List ℕ) (pieces : List Piece) → literal_before own pieces ≡ literal_before own [] ++ pieces
 literal_before-append [] pieces = refl
 literal_before-append (b ∷ own) pieces = refl
+
+-- a literal that has bytes is a piece
+pub literal_alone : (own : List ℕ) → 0 < length own → literal_before own [] ≡ Literal own ∷ []
+literal_alone (b ∷ own) h = refl
+literal_alone [] h = absurd (omega arith)
+
+-- the open literal has bytes where some are kept, or some of the source's are to come
+pub kept_bytes : (p : Parts) (s : List ℕ) (at : ℕ) → 0 < length p.literal → 0 < length (so_far p s at)
+kept_bytes p s at h = rw (length-append p.literal (slice_range s p.mark at)) (omega arith)
+
+pub coming_bytes : (p : Parts) (s : List ℕ) (at : ℕ) → p.mark < at → at ≤ length s → 0 < length (so_far p s at)
+coming_bytes p s at h k =
+    let e : length (slice_range s p.mark at) ≡ at - p.mark = length-take-le (at - p.mark) (drop p.mark s) (rw (length-drop p.mark s) (omega arith)) in
+    rw (length-append p.literal (slice_range s p.mark at)) (omega arith)
 
 -- bytes of the literal as the source has them
 pub over : (p : Parts) (s : List ℕ) (at end : ℕ) (own rest : List ℕ) → p.mark ≤ at → at ≤ end → slice_range s at end ≡ own → so_far p s at ++ (own ++ rest) ≡ so_far p s end ++ rest

@@ -1,1 +1,4 @@
+pub mod Cuts
+pub mod PairsCut
+pub mod ShapeExamples
 pub mod ShapeLemmas

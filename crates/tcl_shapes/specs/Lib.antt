@@ -3,4 +3,5 @@ pub mod Ahead
 pub mod Branches
 pub mod Groups
 pub mod Parameters
+pub mod Shapes
 pub mod Texts

@@ -4,6 +4,7 @@
 
 mod branches;
 mod groups;
+pub mod laws;
 mod parameters;
 mod texts;
 

@@ -1,4 +1,4 @@
-pub mod Cuts
+pub mod ChoicesCut
 pub mod PairsCut
 pub mod ShapeExamples
 pub mod ShapeLemmas

@@ -1,5 +1,5 @@
 -- The items of `switch` and the words of `foreach`, as they are read and as they are cut, and the turns of `foreach`.
-use Rattle.std.proofs.Common.{◌≡◌, ◌≢◌, ℕ, zero, suc, ◌+◌, ◌-◌, ◌*◌, ◌<◌, ◌≤◌, ◌⊎◌, Bool, true, false, cond, nat_lt, min, if◌then◌else◌, List, [], ◌∷◌, ◌++◌, length, drop, option_map, Option, Some, None, Result, Ok, Err, codes, bytes_eq, true≢false, refl, ap, sym, subst, ◌∙◌, inl, inr, arith}
+use Rattle.std.proofs.Common.{◌≡◌, ◌≢◌, ℕ, zero, suc, ◌+◌, ◌-◌, ◌*◌, ◌<◌, ◌≤◌, ◌⊎◌, nat_lt, List, [], ◌∷◌, length, drop, option_map, Option, Some, None, Result, Ok, Err, refl, ap, sym, subst, ◌∙◌, inl, inr, arith}
 use native.Mathlib.Nat.{mul-zero, mul-suc}
 use Rattle.std.proofs.lemmas.Bool.{lt-ltb, le-ltb, cases_lt}
 use Rattle.tcl_text.specs.Readings.{list_of}
@@ -7,7 +7,7 @@ use Rattle.tcl_text.specs.declared.splitting.ListFault.{ListFault}
 use Rattle.tcl_shapes.specs.declared.branches.Branch.{Branch}
 use Rattle.tcl_shapes.specs.declared.groups.Group.{Group}
 use Rattle.tcl_shapes.specs.Branches.{branch_of, arms_from, arms_of}
-use Rattle.tcl_shapes.specs.Groups.{group_named, group_of, groups_from, groups_of, behind_group, advanced, has_more, next_place}
+use Rattle.tcl_shapes.specs.Groups.{group_named, group_of, groups_from, groups_of, behind_group, has_more, next_place}
 use Rattle.tcl_shapes.specs.Shapes.{pairs_of, IsGroup, AreGroups, after_turns}
 
 pairs_read : (arms : List Branch) → arms_from None (pairs_of arms) ≡ Some arms

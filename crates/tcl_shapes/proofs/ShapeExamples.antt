@@ -1,9 +1,9 @@
 -- How words are cut, on words whose meaning a Tcl shell shows.
-use Rattle.std.proofs.Common.{◌≡◌, ℕ, List, [], ◌∷◌, Option, Some, None, codes, refl}
+use Rattle.std.proofs.Common.{◌≡◌, ℕ, List, [], ◌∷◌, Some, None, codes, refl}
 use Rattle.tcl_shapes.specs.declared.branches.Choices.{Choices}
 use Rattle.tcl_shapes.specs.Branches.{branch_of, choices_of}
 use Rattle.tcl_shapes.specs.Shapes.{IsIf}
-use Rattle.tcl_shapes.proofs.Cuts.{choices_read, choices_cut}
+use Rattle.tcl_shapes.proofs.ChoicesCut.{choices_read, choices_cut}
 
 abbrev chain_words : List (List ℕ)
 chain_words = codes "a" ∷ codes "then" ∷ codes "b" ∷ codes "elseif" ∷ codes "c" ∷ codes "d" ∷ codes "else" ∷ codes "e" ∷ []

@@ -21,6 +21,8 @@ pub mod ElementLemmas
 pub mod ListFormLemmas
 pub mod SortLemmas
 pub mod ListReading
+pub mod ListFaultsTold
+pub mod ListFaultsMeant
 pub mod RoundTrip
 pub mod WrittenIntegers
 pub mod CommandExamples

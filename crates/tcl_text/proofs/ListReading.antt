@@ -124,13 +124,13 @@ bare_more m ms item behind items black is h =
     }
 
 -- what the kind of a mark says of it
-quote_test : (m : Mark) (k : ByteKind) → m.kind ≡ k → is_quote_mark m ≡ elim k [ Quote ↦ true | _ ↦ false ]
+pub quote_test : (m : Mark) (k : ByteKind) → m.kind ≡ k → is_quote_mark m ≡ elim k [ Quote ↦ true | _ ↦ false ]
 quote_test m k is = ap (λ (k : ByteKind). let b : Bool = elim k [ Quote ↦ true | _ ↦ false ] in b) is
 
-white_test : (m : Mark) (k : ByteKind) → m.kind ≡ k → is_white_mark m ≡ elim k [ White ↦ true | _ ↦ false ]
+pub white_test : (m : Mark) (k : ByteKind) → m.kind ≡ k → is_white_mark m ≡ elim k [ White ↦ true | _ ↦ false ]
 white_test m k is = ap (λ (k : ByteKind). let b : Bool = elim k [ White ↦ true | _ ↦ false ] in b) is
 
-balanced_more : (depth : ℕ) (m : Mark) (k : ByteKind) (next : ℕ) → m.kind ≡ k → depth_after depth k ≡ Some next → (inside : List Mark) → are_balanced next inside ≡ true → are_balanced depth (m ∷ inside) ≡ true
+pub balanced_more : (depth : ℕ) (m : Mark) (k : ByteKind) (next : ℕ) → m.kind ≡ k → depth_after depth k ≡ Some next → (inside : List Mark) → are_balanced next inside ≡ true → are_balanced depth (m ∷ inside) ≡ true
 balanced_more depth m k next is to inside fits =
     ap (λ o. option_map_or (λ next. are_balanced next inside) o false) (ap (depth_after depth) is ∙ to) ∙ fits
 
@@ -313,12 +313,12 @@ reads_bare (m ∷ inside) rest all end =
     at Other w r = refl
 
 -- an element in quotes
-reads_quotes : (inside rest : List Mark) (last : Mark) → no_quote inside ≡ true → last.kind ≡ Quote → IsElementEnd rest → reading in_quotes (inside ++ last ∷ rest) ≡ onto (meant inside) (reading between rest)
-reads_quotes [] rest last all closes end =
-    ap (λ k. with_mark in_quotes k last (reading (place_after in_quotes k) rest)) closes ∙ (reads_end rest end).0 ∙ sym (onto-onto_nil (reading between rest))
-reads_quotes (m ∷ inside) rest last all closes end =
+pub reads_quotes : (inside rest : List Mark) (last : Mark) → no_quote inside ≡ true → last.kind ≡ Quote → reading in_quotes (inside ++ last ∷ rest) ≡ onto (meant inside) (reading closed rest)
+reads_quotes [] rest last all closes =
+    ap (λ k. with_mark in_quotes k last (reading (place_after in_quotes k) rest)) closes ∙ sym (onto-onto_nil (reading closed rest))
+reads_quotes (m ∷ inside) rest last all closes =
     let parts = and_parts (not (is_quote_mark m)) (no_quote inside) all in
-    at m.kind parts.0 (λ place. reading place (inside ++ last ∷ rest)) ∙ ap (onto m.meant) (reads_quotes inside rest last parts.1 closes end) ∙ onto-twice m.meant (meant inside) (reading between rest)
+    at m.kind parts.0 (λ place. reading place (inside ++ last ∷ rest)) ∙ ap (onto m.meant) (reads_quotes inside rest last parts.1 closes) ∙ onto-twice m.meant (meant inside) (reading closed rest)
   where
     at : (k : ByteKind) → not (elim k [ Quote ↦ true | _ ↦ false ]) ≡ true → (r : Place → Reading) → with_mark in_quotes k m (r (place_after in_quotes k)) ≡ onto m.meant (r in_quotes)
     at Quote w r = absurd cc
@@ -329,7 +329,7 @@ reads_quotes (m ∷ inside) rest last all closes end =
     at Other w r = refl
 
 -- a mark in braces, by the depth behind it
-braces_mark : (depth next : ℕ) (k : ByteKind) (m : Mark) (r : Place → Reading) → depth_after depth k ≡ Some next → with_mark (in_braces depth) k m (r (place_after (in_braces depth) k)) ≡ onto m.written (r (in_braces next))
+pub braces_mark : (depth next : ℕ) (k : ByteKind) (m : Mark) (r : Place → Reading) → depth_after depth k ≡ Some next → with_mark (in_braces depth) k m (r (place_after (in_braces depth) k)) ≡ onto m.written (r (in_braces next))
 braces_mark zero next OpenBrace m r to = ap (λ d. onto m.written (r (in_braces d))) (some_is 1 next to)
 braces_mark (suc depth) next OpenBrace m r to = ap (λ d. onto m.written (r (in_braces d))) (some_is (suc (suc depth)) next to)
 braces_mark zero next CloseBrace m r to = absurd cc
@@ -344,27 +344,27 @@ braces_mark zero next Other m r to = ap (λ d. onto m.written (r (in_braces d)))
 braces_mark (suc depth) next Other m r to = ap (λ d. onto m.written (r (in_braces d))) (some_is (suc depth) next to)
 
 -- an element in braces
-reads_braces : (depth : ℕ) (inside rest : List Mark) (last : Mark) → are_balanced depth inside ≡ true → last.kind ≡ CloseBrace → IsElementEnd rest → reading (in_braces depth) (inside ++ last ∷ rest) ≡ onto (written inside) (reading between rest)
-reads_braces depth [] rest last all closes end =
-    ap (λ d. reading (in_braces d) (last ∷ rest)) (eqb-true depth 0 all) ∙ ap (λ k. with_mark (in_braces 0) k last (reading (place_after (in_braces 0) k) rest)) closes ∙ (reads_end rest end).0
-    ∙ sym (onto-onto_nil (reading between rest))
-reads_braces depth (m ∷ inside) rest last all closes end = at (depth_after depth m.kind) refl all (λ next. reads_braces next inside rest last)
+pub reads_braces : (depth : ℕ) (inside rest : List Mark) (last : Mark) → are_balanced depth inside ≡ true → last.kind ≡ CloseBrace → reading (in_braces depth) (inside ++ last ∷ rest) ≡ onto (written inside) (reading closed rest)
+reads_braces depth [] rest last all closes =
+    ap (λ d. reading (in_braces d) (last ∷ rest)) (eqb-true depth 0 all) ∙ ap (λ k. with_mark (in_braces 0) k last (reading (place_after (in_braces 0) k) rest)) closes
+    ∙ sym (onto-onto_nil (reading closed rest))
+reads_braces depth (m ∷ inside) rest last all closes = at (depth_after depth m.kind) refl all (λ next. reads_braces next inside rest last)
   where
     at : (next : Option ℕ) → depth_after depth m.kind ≡ next → option_map_or (λ next. are_balanced next inside) next false ≡ true →
-        ((next : ℕ) → are_balanced next inside ≡ true → last.kind ≡ CloseBrace → IsElementEnd rest → reading (in_braces next) (inside ++ last ∷ rest) ≡ onto (written inside) (reading between rest)) →
-        reading (in_braces depth) ((m ∷ inside) ++ last ∷ rest) ≡ onto (written (m ∷ inside)) (reading between rest)
+        ((next : ℕ) → are_balanced next inside ≡ true → last.kind ≡ CloseBrace → reading (in_braces next) (inside ++ last ∷ rest) ≡ onto (written inside) (reading closed rest)) →
+        reading (in_braces depth) ((m ∷ inside) ++ last ∷ rest) ≡ onto (written (m ∷ inside)) (reading closed rest)
     at None is fits more = absurd cc
     at (Some next) is fits more =
-        braces_mark depth next m.kind m (λ place. reading place (inside ++ last ∷ rest)) is ∙ ap (onto m.written) (more next fits closes end) ∙ onto-twice m.written (written inside) (reading between rest)
+        braces_mark depth next m.kind m (λ place. reading place (inside ++ last ∷ rest)) is ∙ ap (onto m.written) (more next fits closes) ∙ onto-twice m.written (written inside) (reading closed rest)
 
 -- an element
 pub reads_element : (element rest : List Mark) (item : List ℕ) → IsElement element item → IsElementEnd rest → reading between (element ++ rest) ≡ begun (onto item (reading between rest))
 reads_element element rest item (braced first last inside opens closes fits) end =
     ap (λ k. with_mark between k first (reading (place_after between k) ((inside ++ last ∷ []) ++ rest))) opens
-    ∙ ap (λ ms. begun (reading (in_braces 0) ms)) (append_assoc inside (last ∷ []) rest) ∙ ap begun (reads_braces 0 inside rest last fits closes end)
+    ∙ ap (λ ms. begun (reading (in_braces 0) ms)) (append_assoc inside (last ∷ []) rest) ∙ ap begun (reads_braces 0 inside rest last fits closes ∙ ap (onto (written inside)) (reads_end rest end).0)
 reads_element element rest item (quoted first last inside opens closes fits) end =
     ap (λ k. with_mark between k first (reading (place_after between k) ((inside ++ last ∷ []) ++ rest))) opens
-    ∙ ap (λ ms. begun (reading in_quotes ms)) (append_assoc inside (last ∷ []) rest) ∙ ap begun (reads_quotes inside rest last fits closes end)
+    ∙ ap (λ ms. begun (reading in_quotes ms)) (append_assoc inside (last ∷ []) rest) ∙ ap begun (reads_quotes inside rest last fits closes ∙ ap (onto (meant inside)) (reads_end rest end).0)
 reads_element element rest item (bare first others opening quote fits) end =
     at first.kind opening quote (and_parts (not (is_white_mark first)) (list_all (λ m. not (is_white_mark m)) others) fits).0 (λ place. reading place (others ++ rest)) ∙ ap begun (reads_bare (first ∷ others) rest fits end)
   where

@@ -5,6 +5,7 @@ pub mod Backslash
 pub mod Escaped
 pub mod ListForm
 pub mod Readings
+pub mod ListFaults
 pub mod Answers
 pub mod Indices
 pub mod Commands

@@ -1,10 +1,12 @@
 //! Laws over the definitions of the readings. Each is the contract of a function that does nothing.
-ghost use Rattle.std.specs.Prelude.{◌≡◌, ◌↔◌, ℕ, ℤ, List, Bool, Some, Ok, Result, FitsSigned};
+ghost use Rattle.std.specs.Prelude.{◌≡◌, ◌↔◌, ℕ, ℤ, List, Bool, Some, Ok, Err, Result, FitsSigned};
 ghost use Rattle.std.specs.Fmt.{signed_decimal};
 ghost use Rattle.std.specs.Int.{w64};
 ghost use Rattle.tcl_text.specs.ListForm.{Joins};
+ghost use Rattle.tcl_text.specs.ListFaults.{IsListFault};
 ghost use Rattle.tcl_text.specs.Readings.{IsBoolean, IsInteger, IsList, boolean_of, integer_of, list_form, list_of};
 ghost use Rattle.tcl_text.specs.Splitting.{Splits};
+ghost use Rattle.tcl_text.specs.declared.splitting.ListFault.{ListFault};
 
 /// At most one integer belongs to a text.
 pub fn one_integer()
@@ -34,6 +36,11 @@ pub fn booleans_are_read()
 /// The function that reads a list is the relation.
 pub fn lists_are_read()
     ensures { (text : List ℕ) (items : List (List ℕ)) → (list_of text ≡ Ok items) ↔ IsList text items }
+{}
+
+/// The fault that the function tells of a text that is no list is the relation.
+pub fn list_faults_are_told()
+    ensures { (text : List ℕ) (fault : ListFault) → (list_of text ≡ Err fault) ↔ IsListFault text fault }
 {}
 
 /// A written integer reads as itself.

@@ -1,4 +1,4 @@
-use Rattle.tcl_shapes.proofs.Cuts.{choices_read, choices_cut}
+use Rattle.tcl_shapes.proofs.ChoicesCut.{choices_read, choices_cut}
 use Rattle.tcl_shapes.proofs.laws.if_words_are_cut.Goals as goal
 
 pub returns-clause-choices : goal.returns-clause-choices

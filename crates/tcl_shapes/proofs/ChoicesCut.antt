@@ -1,16 +1,12 @@
--- The words of `if`, the items of `switch` and the words of `foreach`, as they are read and as they are cut.
-use Rattle.std.proofs.Common.{◌≡◌, ◌≢◌, ℕ, zero, suc, ◌+◌, ◌-◌, ◌*◌, ◌<◌, ◌≤◌, Bool, true, false, cond, nat_lt, min, if◌then◌else◌, List, [], ◌∷◌, ◌++◌, length, drop, option_map, Option, Some, None, Result, Ok, Err, codes, bytes_eq, true≢false, refl, ap, sym, subst, ◌∙◌, inl, inr, arith}
+-- The words of `if`, as they are read and as they are cut.
+use Rattle.std.proofs.Common.{◌≡◌, ◌≢◌, ℕ, Bool, true, false, if◌then◌else◌, List, [], ◌∷◌, ◌++◌, option_map, Option, Some, None, codes, bytes_eq, true≢false, refl, ap, sym, subst, ◌∙◌, inl, inr}
 use Rattle.std.specs.Cmp.Lexicographic.{bytes_decides}
-use Rattle.tcl_text.specs.Readings.{list_of}
-use Rattle.tcl_text.specs.declared.splitting.ListFault.{ListFault}
 use Rattle.tcl_shapes.specs.declared.branches.Branch.{Branch}
 use Rattle.tcl_shapes.specs.declared.branches.Clause.{Clause}
 use Rattle.tcl_shapes.specs.declared.branches.Clause.TheVariants.{AtTest, AtThen, AtBody, Behind, AtLast, AtEnd}
 use Rattle.tcl_shapes.specs.declared.branches.Choices.{Choices}
-use Rattle.tcl_shapes.specs.declared.groups.Group.{Group}
-use Rattle.tcl_shapes.specs.Branches.{branch_of, with_branch, choices_from, choices_of, arms_from, arms_of}
-use Rattle.tcl_shapes.specs.Groups.{group_of, groups_from, groups_of, behind_group, advanced, has_more, next_place}
-use Rattle.tcl_shapes.specs.Shapes.{IsBranch, IsOtherwise, AreFurther, AreChoices, IsIf, pairs_of, IsGroup, AreGroups, after_turns}
+use Rattle.tcl_shapes.specs.Branches.{branch_of, with_branch, choices_from, choices_of}
+use Rattle.tcl_shapes.specs.Shapes.{IsBranch, IsOtherwise, AreFurther, AreChoices, IsIf}
 
 -- a text that isn't another
 apart : (a b : List ℕ) → a ≢ b → bytes_eq a b ≡ false

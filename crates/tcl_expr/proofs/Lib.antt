@@ -4,6 +4,7 @@ pub mod ShiftLemmas
 pub mod StepLemmas
 pub mod CompileLemmas
 pub mod BraceLemmas
+pub mod BracesOfScripts
 pub mod CloseLemmas
 pub mod StandLemmas
 pub mod ReadLemmas

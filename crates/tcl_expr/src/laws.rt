@@ -1,11 +1,17 @@
 //! Laws of the definitions, as contracts of functions that do nothing.
-ghost use Rattle.std.specs.Prelude.{◌≡◌, ◌≢◌, ◌↔◌, ℕ, ℤ, pos, List, Ok, Err};
+ghost use Rattle.std.specs.Prelude.{◌≡◌, ◌≢◌, ◌↔◌, ℕ, ℤ, pos, List, ◌∷◌, ◌++◌, length, Ok, Err};
+ghost use Rattle.tcl_words.specs.Grammar.{IsBraced, IsUnclosed};
 ghost use Rattle.tcl_expr.specs.Arithmetic.{floor_quotient, floor_remainder, IsFloorDivision};
+ghost use Rattle.tcl_expr.specs.Braces.{braced};
 ghost use Rattle.tcl_expr.specs.Grammar.{IsTreeOf, IsFaultOf, OneTreeOrFault};
 ghost use Rattle.tcl_expr.specs.Machine.{WeighsLess};
 ghost use Rattle.tcl_expr.specs.Reading.{tree_of};
 ghost use Rattle.tcl_expr.specs.Trees.{Tree};
+ghost use Rattle.tcl_expr.specs.declared.braces.BracePlace.TheVariants.{Plain};
 ghost use Rattle.tcl_expr.specs.declared.fault.ExprFault.{ExprFault as Fault};
+ghost use Rattle.tcl_expr.specs.declared.fault.ExprFault.TheVariants.{MissingBrace};
+
+use tcl_words::braces_are_closed_or_not;
 
 /// The quotient that is rounded down and the remainder with the divisor's sign are those of a division.
 #[tactic(auto, using(crate::proofs::FloorLemmas::floor_division))]
@@ -35,3 +41,13 @@ pub fn faults_are_told()
 pub fn one_tree_or_fault()
     ensures { OneTreeOrFault }
 {}
+
+/// What stands in braces is what stands there in a script, and it is at fault where the brace of a script would have no match.
+pub fn braces_are_those_of_scripts()
+    ensures braced { (own value rest : List ℕ) → IsBraced own value → braced Plain 0 (own ++ 125 ∷ rest) ≡ Ok (value, length own) }
+    ensures unclosed { (text : List ℕ) → IsUnclosed text → braced Plain 0 text ≡ Err MissingBrace }
+    ensures only_braced { (text value : List ℕ) (n : ℕ) → braced Plain 0 text ≡ Ok (value, n) → (own : List ℕ) × (rest : List ℕ) × (text ≡ own ++ 125 ∷ rest) × IsBraced own value × (n ≡ length own) }
+    ensures only_unclosed { (text : List ℕ) (fault : Fault) → braced Plain 0 text ≡ Err fault → IsUnclosed text × (fault ≡ MissingBrace) }
+{
+    braces_are_closed_or_not();
+}

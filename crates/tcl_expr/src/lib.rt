@@ -27,8 +27,8 @@ pub use eval::Eval;
 pub use expr::Expr;
 pub use fault::{EvalFault, ExprFault};
 pub use laws::{
-    faults_are_told, one_tree_or_fault, questions_use_steps_up, quotients_round_down,
-    trees_are_read,
+    braces_are_those_of_scripts, faults_are_told, one_tree_or_fault, questions_use_steps_up,
+    quotients_round_down, trees_are_read,
 };
 pub use operators::{
     ArithmeticOperator, BinaryOperator, Comparison, Infix, NumberOperator, TextOperator,

@@ -1,8 +1,8 @@
 //! Laws of the grammar, as contracts of functions that do nothing.
 
-ghost use Rattle.std.specs.Prelude.{◌≡◌, ℕ, List, Ok, Err};
+ghost use Rattle.std.specs.Prelude.{◌≡◌, ◌⊎◌, ℕ, List, ◌∷◌, ◌++◌, Ok, Err};
 ghost use Rattle.tcl_words.specs.Reading.{commands_of, index_pieces_of};
-ghost use Rattle.tcl_words.specs.Grammar.{IsScriptOf, IsFaultOf, IsIndexOf, IsIndexFaultOf, CommandsAreSlices};
+ghost use Rattle.tcl_words.specs.Grammar.{IsScriptOf, IsFaultOf, IsIndexOf, IsIndexFaultOf, CommandsAreSlices, IsBraced, IsUnclosed};
 ghost use Rattle.tcl_words.specs.Joining.{lines_of, CommandsAlike};
 ghost use Rattle.tcl_words.specs.declared.script.Piece.{Piece};
 ghost use Rattle.tcl_words.specs.declared.script.Command.{Command};
@@ -43,4 +43,9 @@ pub fn spans_are_slices()
 /// The sources of a script's commands, joined by newlines, are a script of the same commands.
 pub fn lines_are_a_script()
     ensures { (text : List ℕ) (commands : List Command) → IsScriptOf text commands → (others : List Command) × IsScriptOf (lines_of text commands) others × CommandsAlike commands others }
+{}
+
+/// The text behind an opening brace is cut at the brace that closes it, or has none.
+pub fn braces_are_closed_or_not()
+    ensures { (text : List ℕ) → ((own : List ℕ) × (value : List ℕ) × (rest : List ℕ) × (text ≡ own ++ 125 ∷ rest) × IsBraced own value) ⊎ IsUnclosed text }
 {}

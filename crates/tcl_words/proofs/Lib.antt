@@ -34,6 +34,7 @@ pub mod KindLemmas
 pub mod Nests
 pub mod Readers
 pub mod OperandLemmas
+pub mod OperandsRead
 pub mod Rooms
 pub mod Fronts
 mod ReadingExamples

@@ -191,7 +191,7 @@ script_told : (room : ℕ) → InnerReads room → (text : List ℕ) (fault : Pa
     opened BracketOpener mode (suc room) at text go ≡ Err fault
 script_told room inner text fault (commands, h) mode at go = ap (past_opened BracketOpener mode text go) (script_read true room inner commands (fails fault) 0 text h)
 
-skip_name : (name text : List ℕ) (level : Level) → rest_of (name ++ 40 ∷ text) level (suc (length name)) (Text Parens) 0 ≡ rest_of text level 0 (Text Parens) (suc (length name))
+pub skip_name : (name text : List ℕ) (level : Level) → rest_of (name ++ 40 ∷ text) level (suc (length name)) (Text Parens) 0 ≡ rest_of text level 0 (Text Parens) (suc (length name))
 skip_name name text level = let e : 0 + suc (length name) ≡ suc (length name) = omega arith in skip_past name 40 text level (Text Parens) 0 ∙ read_at text level (Text Parens) (0 + suc (length name)) (suc (length name)) e
 
 index_closed : (room : ℕ) → InnerReads room → (name own text : List ℕ) → IsInnerOf (suc room) index (own ++ 41 ∷ text) (leaves (41 ∷ text)) → (mode : Mode) (at : ℕ) (go : ℕ → Place → Read) →
@@ -213,7 +213,7 @@ index_told : (room : ℕ) → InnerReads room → (name text : List ℕ) (fault 
 index_told room inner name text fault (pieces, h) mode at go =
     ap (past_opened (IndexOpener (length name)) mode (name ++ 40 ∷ text) go) (skip_name name text (within room) ∙ pieces_read true room Parens inner h (suc (length name)))
 
-left_not_fails : (left : List ℕ) (fault : ParseFault) → leaves left ≡ fails fault → ⊥
+pub left_not_fails : (left : List ℕ) (fault : ParseFault) → leaves left ≡ fails fault → ⊥
 left_not_fails left fault e = cc
 
 pub inner_reads : (room : ℕ) → InnerReads room

@@ -5,6 +5,7 @@ pub mod Faults
 pub mod Kinds
 pub mod Moves
 pub mod Operands
+pub mod OperandGrammar
 pub mod Reading
 pub mod Falls
 pub mod Parts

@@ -1,8 +1,10 @@
 //! Laws of the grammar, as contracts of functions that do nothing.
 
-ghost use Rattle.std.specs.Prelude.{◌≡◌, ◌⊎◌, ℕ, List, ◌∷◌, ◌++◌, Ok, Err};
+ghost use Rattle.std.specs.Prelude.{◌≡◌, ◌↔◌, ◌⊎◌, ℕ, List, ◌∷◌, ◌++◌, Option, Result, Ok, Err};
 ghost use Rattle.tcl_words.specs.Reading.{commands_of, index_pieces_of};
 ghost use Rattle.tcl_words.specs.Grammar.{IsScriptOf, IsFaultOf, IsIndexOf, IsIndexFaultOf, CommandsAreSlices, IsBraced, IsUnclosed};
+ghost use Rattle.tcl_words.specs.Operands.{bracket_of, substitution_of};
+ghost use Rattle.tcl_words.specs.OperandGrammar.{IsBracketed, IsSubstituted};
 ghost use Rattle.tcl_words.specs.Joining.{lines_of, CommandsAlike};
 ghost use Rattle.tcl_words.specs.declared.script.Piece.{Piece};
 ghost use Rattle.tcl_words.specs.declared.script.Command.{Command};
@@ -48,4 +50,10 @@ pub fn lines_are_a_script()
 /// The text behind an opening brace is cut at the brace that closes it, or has none.
 pub fn braces_are_closed_or_not()
     ensures { (text : List ℕ) → ((own : List ℕ) × (value : List ℕ) × (rest : List ℕ) × (text ≡ own ++ 125 ∷ rest) × IsBraced own value) ⊎ IsUnclosed text }
+{}
+
+/// What a bracket or a `$` begins outside of a script is what the grammar of scripts says, both ways.
+pub fn operands_are_read()
+    ensures bracket { (room : ℕ) (text : List ℕ) (result : Result (Piece × ℕ) ParseFault) → IsBracketed room text result ↔ (bracket_of room text ≡ result) }
+    ensures substitution { (room : ℕ) (text : List ℕ) (result : Result (Option (Piece × ℕ)) ParseFault) → IsSubstituted room text result ↔ (substitution_of room text ≡ result) }
 {}

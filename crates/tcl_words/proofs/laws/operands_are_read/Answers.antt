@@ -1,0 +1,8 @@
+use Rattle.tcl_words.proofs.OperandsRead.{bracket_read, bracket_is, substitution_read, substitution_is}
+use Rattle.tcl_words.proofs.laws.operands_are_read.Goals as goal
+
+pub returns-clause-bracket : goal.returns-clause-bracket
+returns-clause-bracket c = λ room text result. (bracket_read room text result, bracket_is room text result)
+
+pub returns-clause-substitution : goal.returns-clause-substitution
+returns-clause-substitution c = λ room text result. (substitution_read room text result, substitution_is room text result)

@@ -1,0 +1,34 @@
+-- What a bracket, a `$` or a quote begins in a text that is no script, by the grammar of scripts: what it gives with how many
+-- of the bytes behind it, or its fault, where so many brackets and indices may be opened in one another.
+use Rattle.std.specs.Prelude.{◌≡◌, ℕ, suc, ◌+◌, false, List, [], ◌∷◌, ◌++◌, length, Option, Some, None, Result, Ok, Err}
+use Rattle.tcl_words.specs.Grammar.{leaves, fails, script, index, begins, begins_letter, begins_name, IsName, HasNoBrace, IsInnerOf}
+use Rattle.tcl_words.specs.declared.script.Piece.{Piece}
+use Rattle.tcl_words.specs.declared.script.Piece.TheVariants.{Variable, Element, Bracket}
+use Rattle.tcl_words.specs.declared.fault.ParseFault.{ParseFault}
+use Rattle.tcl_words.specs.declared.fault.ParseFault.TheVariants.{MissingBrace}
+
+-- a bracket before this text: a script up to the bracket that closes it
+abbrev pub IsBracketed : ℕ → List ℕ → Result (Piece × ℕ) ParseFault → Type 0
+IsBracketed room text (Ok found) =
+    (own : List ℕ) × (rest : List ℕ) × (text ≡ own ++ 93 ∷ rest) × IsInnerOf room script (own ++ 93 ∷ rest) (leaves (93 ∷ rest)) × (found ≡ (Bracket own, suc (length own)))
+IsBracketed room text (Err fault) = IsInnerOf room script text (fails fault)
+
+-- What a `$` before this text begins, and what it leaves of the text.
+pub data IsSubstitution (room : ℕ) : List ℕ → Piece → List ℕ → Type 0 where
+  -- `$name`: the name goes as far as it can
+  variable : (name : List ℕ) {text : List ℕ} → IsName name → begins_letter text ≡ false → begins 40 text ≡ false → IsSubstitution room (name ++ text) (Variable name) text
+  -- `${name}`: any text up to the first brace
+  braced_name : (name : List ℕ) {text : List ℕ} → HasNoBrace name → IsSubstitution room (123 ∷ (name ++ 125 ∷ text)) (Variable name) text
+  -- `$name(index)`
+  element : (name own : List ℕ) {text : List ℕ} → IsName name → IsInnerOf room index (own ++ 41 ∷ text) (leaves (41 ∷ text)) →
+      IsSubstitution room (name ++ 40 ∷ (own ++ 41 ∷ text)) (Element name own) text
+
+pub data IsFaultySubstitution (room : ℕ) : List ℕ → ParseFault → Type 0 where
+  unclosed_name : (text : List ℕ) → HasNoBrace text → IsFaultySubstitution room (123 ∷ text) MissingBrace
+  faulty_index : (name text : List ℕ) {fault : ParseFault} → IsName name → IsInnerOf room index text (fails fault) → IsFaultySubstitution room (name ++ 40 ∷ text) fault
+
+-- a `$` before this text, which may stand for itself
+abbrev pub IsSubstituted : ℕ → List ℕ → Result (Option (Piece × ℕ)) ParseFault → Type 0
+IsSubstituted room text (Ok None) = (begins_name text ≡ false) × (begins 123 text ≡ false)
+IsSubstituted room text (Ok (Some found)) = (rest : List ℕ) × IsSubstitution room text found.0 rest × (found.1 + length rest ≡ length text)
+IsSubstituted room text (Err fault) = IsFaultySubstitution room text fault

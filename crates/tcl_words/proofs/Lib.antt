@@ -35,6 +35,7 @@ pub mod Nests
 pub mod Readers
 pub mod OperandLemmas
 pub mod OperandsRead
+pub mod QuotesRead
 pub mod Rooms
 pub mod Fronts
 mod ReadingExamples

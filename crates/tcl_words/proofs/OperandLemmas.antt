@@ -199,7 +199,7 @@ quote_not Backslash at other h = refl
 quote_not Continuation at other h = refl
 quote_not Other at other h = refl
 
-quoted_skip : (room : ℕ) (text : List ℕ) (k at : ℕ) → k ≤ length text → quoted_rest room text k at ≡ quoted_rest room (drop k text) 0 (at + k)
+pub quoted_skip : (room : ℕ) (text : List ℕ) (k at : ℕ) → k ≤ length text → quoted_rest room text k at ≡ quoted_rest room (drop k text) 0 (at + k)
 quoted_skip room text zero at h = let e : at ≡ at + 0 = omega arith in ap (quoted_rest room text 0) e
 quoted_skip room [] (suc k) at h = absurd (omega (arith, h))
 quoted_skip room (b ∷ text) (suc k) at h =

@@ -1,22 +1,18 @@
 -- Operands are read as the grammar of scripts relates them.
 use Rattle.std.proofs.Common.{◌≡◌, ℕ, zero, suc, ◌+◌, ◌⊎◌, inl, inr, Bool, true, false, List, [], ◌∷◌, ◌++◌, length, take, Option, Some, None, Result, Ok, Err, refl, sym, ap, subst, ◌∙◌, eqb-true, length-append, arith}
 use Rattle.std.specs.List.{slice_range}
-use Rattle.tcl_words.specs.Kinds.{dollar_of}
 use Rattle.tcl_words.specs.Changes.{put}
 use Rattle.tcl_words.specs.Reading.{Level, rest_of, within}
 use Rattle.tcl_words.specs.Operands.{piece_found, opened_of, bracket_of, some_found, substitution, substitution_of}
 use Rattle.tcl_words.specs.Grammar.{Ending, leaves, fails, script, index, begins, begins_letter, begins_name, IsName, HasNoBrace, IsInnerOf}
 use Rattle.tcl_words.specs.OperandGrammar.{IsBracketed, IsSubstitution, variable, braced_name, element, IsFaultySubstitution, unclosed_name, faulty_index, IsSubstituted}
 use Rattle.tcl_words.specs.declared.kind.Mode.TheVariants.{Parens}
-use Rattle.tcl_words.specs.declared.kind.Place.TheVariants.{Start, Text}
+use Rattle.tcl_words.specs.declared.kind.Place.TheVariants.{Start}
 use Rattle.tcl_words.specs.declared.kind.Opener.TheVariants.{Bracket as BracketOpener, Index as IndexOpener}
-use Rattle.tcl_words.specs.declared.kind.Dollar.TheVariants.{Alone, Named, Indexed, Braced, Unclosed}
 use Rattle.tcl_words.specs.declared.script.Piece.{Piece}
 use Rattle.tcl_words.specs.declared.script.Piece.TheVariants.{Variable, Element, Bracket}
-use Rattle.tcl_words.specs.declared.script.Command.{Command}
 use Rattle.tcl_words.specs.declared.fault.ParseFault.{ParseFault}
 use Rattle.tcl_words.specs.declared.fault.ParseFault.TheVariants.{TooLong, MissingBrace}
-use Rattle.tcl_words.proofs.BracesCut.{decided}
 use Rattle.tcl_words.proofs.NameLemmas.{dollar-named, dollar-indexed, dollar-alone, dollar-braced, dollar-unclosed, take_front, slice_braced, slice_index_text}
 use Rattle.tcl_words.proofs.NamesCut.{name_cut, name_end}
 use Rattle.tcl_words.proofs.PiecesRead.{GivesText, pieces_read}

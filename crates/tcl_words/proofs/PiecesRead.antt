@@ -36,19 +36,29 @@ NoLiteral (Bracket own ∷ pieces) = Unit {0}
 abbrev pub with_text : List ℕ → List Piece → Rest → Rest
 with_text bytes after rest = record rest { bytes = bytes; pieces = after }
 
--- these pieces are read before what the text that is left gives
-pub record GivesText (level : Level) (mode : Mode) (at : ℕ) (text : List ℕ) (pieces : List Piece) (left : List ℕ) : Type 0 where
+-- these pieces are read before what the text that is left gives, where `go` reads that from its position
+pub record GivesBefore (r : Read) (go : ℕ → Read) (total : ℕ) (pieces : List Piece) (left : List ℕ) : Type 0 where
   pub bytes : List ℕ
   pub after : List Piece
   pub end : ℕ
   pub joined : literal_before bytes after ≡ pieces
   pub none : NoLiteral after
-  pub at_end : end + length left ≡ at + length text
-  pub is : rest_of text level 0 (Text mode) at ≡ put (with_text bytes after) (rest_of left level 0 (Text mode) end)
+  pub at_end : end + length left ≡ total
+  pub is : r ≡ put (with_text bytes after) (go end)
+
+-- and what a text gives with an ending, where `go` reads texts
+abbrev pub GivesAll : (List ℕ → ℕ → Read) → Read → ℕ → List Piece → Ending → Type 0
+GivesAll go r total pieces (leaves left) = GivesBefore r (go left) total pieces left
+GivesAll go r total pieces (fails fault) = r ≡ Err fault
+
+abbrev pub text_read : Level → Mode → List ℕ → ℕ → Read
+text_read level mode text at = rest_of text level 0 (Text mode) at
+
+abbrev pub GivesText : Level → Mode → ℕ → List ℕ → List Piece → List ℕ → Type 0
+GivesText level mode at text pieces left = GivesBefore (text_read level mode text at) (text_read level mode left) (at + length text) pieces left
 
 abbrev pub GivesPieces : Level → Mode → ℕ → List ℕ → List Piece → Ending → Type 0
-GivesPieces level mode at text pieces (leaves left) = GivesText level mode at text pieces left
-GivesPieces level mode at text pieces (fails fault) = rest_of text level 0 (Text mode) at ≡ Err fault
+GivesPieces level mode at text pieces ending = GivesAll (text_read level mode) (text_read level mode text at) (at + length text) pieces ending
 
 -- what an opener before this text gives, where `go` reads on
 abbrev pub opened : Opener → Mode → ℕ → ℕ → List ℕ → (ℕ → Place → Read) → Read
@@ -85,39 +95,48 @@ piece_over : (p : Piece) (bytes : List ℕ) (after : List Piece) (r : Read) → 
 piece_over p bytes after (Ok rest) = refl
 piece_over p bytes after (Err fault) = refl
 
+module _ (go : List ℕ → ℕ → Read) (r behind : Read) (total next : ℕ) (same : next ≡ total) where
+  pub bytes_before : (own : List ℕ) (pieces : List Piece) (ending : Ending) → r ≡ put (changed (put_bytes own ∷ [])) behind → GivesAll go behind next pieces ending → GivesAll go r total (with_bytes own pieces) ending
+  bytes_before own pieces (leaves left) e g = record {
+    bytes = own ++ g.bytes;
+    after = g.after;
+    end = g.end;
+    joined = joined_bytes own g.bytes g.after g.none ∙ ap (with_bytes own) g.joined;
+    none = g.none;
+    at_end = g.at_end ∙ same;
+    is = e ∙ ap (put (changed (put_bytes own ∷ []))) g.is ∙ bytes_over own g.bytes g.after (go left g.end);
+  }
+  bytes_before own pieces (fails fault) e g = e ∙ ap (put (changed (put_bytes own ∷ []))) g
+
+  pub piece_front : (p : Piece) (pieces : List Piece) (ending : Ending) → NoLiteral (p ∷ []) → r ≡ put (piece_before p) behind → GivesAll go behind next pieces ending → GivesAll go r total (p ∷ pieces) ending
+  piece_front p pieces (leaves left) n e g = record {
+    bytes = [];
+    after = p ∷ literal_before g.bytes g.after;
+    end = g.end;
+    joined = ap (λ t. p ∷ t) g.joined;
+    none = no_literal p (literal_before g.bytes g.after) n;
+    at_end = g.at_end ∙ same;
+    is = e ∙ ap (put (piece_before p)) g.is ∙ piece_over p g.bytes g.after (go left g.end);
+  }
+    where
+      no_literal : (q : Piece) (more : List Piece) → NoLiteral (q ∷ []) → NoLiteral (q ∷ more)
+      no_literal (Literal own) more h = h
+      no_literal (Variable name) more h = h
+      no_literal (Element name key) more h = h
+      no_literal (Bracket own) more h = h
+  piece_front p pieces (fails fault) n e g = e ∙ ap (put (piece_before p)) g
+
 bytes_onto : (level : Level) (mode : Mode) (own text behind : List ℕ) (at next : ℕ) (pieces : List Piece) (ending : Ending) →
     rest_of text level 0 (Text mode) at ≡ put (changed (put_bytes own ∷ [])) (rest_of behind level 0 (Text mode) next) →
     next + length behind ≡ at + length text → GivesPieces level mode next behind pieces ending → GivesPieces level mode at text (with_bytes own pieces) ending
-bytes_onto level mode own text behind at next pieces (leaves left) e m g = record {
-  bytes = own ++ g.bytes;
-  after = g.after;
-  end = g.end;
-  joined = joined_bytes own g.bytes g.after g.none ∙ ap (with_bytes own) g.joined;
-  none = g.none;
-  at_end = g.at_end ∙ m;
-  is = e ∙ ap (put (changed (put_bytes own ∷ []))) g.is ∙ bytes_over own g.bytes g.after (rest_of left level 0 (Text mode) g.end);
-}
-bytes_onto level mode own text behind at next pieces (fails fault) e m g = e ∙ ap (put (changed (put_bytes own ∷ []))) g
+bytes_onto level mode own text behind at next pieces ending e m g =
+    bytes_before (text_read level mode) (text_read level mode text at) (text_read level mode behind next) (at + length text) (next + length behind) m own pieces ending e g
 
 piece_onto : (level : Level) (mode : Mode) (p : Piece) (text behind : List ℕ) (at next : ℕ) (pieces : List Piece) (ending : Ending) → NoLiteral (p ∷ []) →
     rest_of text level 0 (Text mode) at ≡ put (piece_before p) (rest_of behind level 0 (Text mode) next) →
     next + length behind ≡ at + length text → GivesPieces level mode next behind pieces ending → GivesPieces level mode at text (p ∷ pieces) ending
-piece_onto level mode p text behind at next pieces (leaves left) n e m g = record {
-  bytes = [];
-  after = p ∷ literal_before g.bytes g.after;
-  end = g.end;
-  joined = ap (λ t. p ∷ t) g.joined;
-  none = no_literal p (literal_before g.bytes g.after) n;
-  at_end = g.at_end ∙ m;
-  is = e ∙ ap (put (piece_before p)) g.is ∙ piece_over p g.bytes g.after (rest_of left level 0 (Text mode) g.end);
-}
-  where
-    no_literal : (q : Piece) (more : List Piece) → NoLiteral (q ∷ []) → NoLiteral (q ∷ more)
-    no_literal (Literal own) more h = h
-    no_literal (Variable name) more h = h
-    no_literal (Element name key) more h = h
-    no_literal (Bracket own) more h = h
-piece_onto level mode p text behind at next pieces (fails fault) n e m g = e ∙ ap (put (piece_before p)) g
+piece_onto level mode p text behind at next pieces ending n e m g =
+    piece_front (text_read level mode) (text_read level mode text at) (text_read level mode behind next) (at + length text) (next + length behind) m p pieces ending n e g
 
 -- a `$` with what follows it
 dollar_step : (level : Level) (mode : Mode) (text : List ℕ) (at : ℕ) (form : DollarForm) → dollar_of text ≡ form →

@@ -1,7 +1,8 @@
 -- What a bracket, a `$` or a quote begins in a text that is no script, by the grammar of scripts: what it gives with how many
 -- of the bytes behind it, or its fault, where so many brackets and indices may be opened in one another.
-use Rattle.std.specs.Prelude.{◌≡◌, ℕ, suc, ◌+◌, false, List, [], ◌∷◌, ◌++◌, length, Option, Some, None, Result, Ok, Err}
-use Rattle.tcl_words.specs.Grammar.{leaves, fails, script, index, begins, begins_letter, begins_name, IsName, HasNoBrace, IsInnerOf}
+use Rattle.std.specs.Prelude.{◌≡◌, ℕ, suc, ◌+◌, true, false, List, ◌∷◌, ◌++◌, length, Option, Some, None, Result, Ok, Err}
+use Rattle.tcl_words.specs.Grammar.{leaves, fails, script, index, begins, begins_letter, begins_name, IsName, HasNoBrace, ArePieces, IsInnerOf}
+use Rattle.tcl_words.specs.declared.kind.Mode.TheVariants.{Quotes}
 use Rattle.tcl_words.specs.declared.script.Piece.{Piece}
 use Rattle.tcl_words.specs.declared.script.Piece.TheVariants.{Variable, Element, Bracket}
 use Rattle.tcl_words.specs.declared.fault.ParseFault.{ParseFault}
@@ -32,3 +33,9 @@ abbrev pub IsSubstituted : ℕ → List ℕ → Result (Option (Piece × ℕ)) P
 IsSubstituted room text (Ok None) = (begins_name text ≡ false) × (begins 123 text ≡ false)
 IsSubstituted room text (Ok (Some found)) = (rest : List ℕ) × IsSubstitution room text found.0 rest × (found.1 + length rest ≡ length text)
 IsSubstituted room text (Err fault) = IsFaultySubstitution room text fault
+
+-- a quote before this text: the pieces up to the next quote that isn't within one of them
+abbrev pub IsQuoted : ℕ → List ℕ → Result (List Piece × ℕ) ParseFault → Type 0
+IsQuoted room text (Ok found) =
+    (own : List ℕ) × (rest : List ℕ) × (text ≡ own ++ 34 ∷ rest) × ArePieces (IsInnerOf room) true Quotes (own ++ 34 ∷ rest) found.0 (leaves (34 ∷ rest)) × (found.1 ≡ suc (length own))
+IsQuoted room text (Err fault) = (pieces : List Piece) × ArePieces (IsInnerOf room) true Quotes text pieces (fails fault)

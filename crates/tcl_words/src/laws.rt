@@ -3,8 +3,8 @@
 ghost use Rattle.std.specs.Prelude.{◌≡◌, ◌↔◌, ◌⊎◌, ℕ, List, ◌∷◌, ◌++◌, Option, Result, Ok, Err};
 ghost use Rattle.tcl_words.specs.Reading.{commands_of, index_pieces_of};
 ghost use Rattle.tcl_words.specs.Grammar.{IsScriptOf, IsFaultOf, IsIndexOf, IsIndexFaultOf, CommandsAreSlices, IsBraced, IsUnclosed};
-ghost use Rattle.tcl_words.specs.Operands.{bracket_of, substitution_of};
-ghost use Rattle.tcl_words.specs.OperandGrammar.{IsBracketed, IsSubstituted};
+ghost use Rattle.tcl_words.specs.Operands.{bracket_of, substitution_of, quoted_of};
+ghost use Rattle.tcl_words.specs.OperandGrammar.{IsBracketed, IsSubstituted, IsQuoted};
 ghost use Rattle.tcl_words.specs.Joining.{lines_of, CommandsAlike};
 ghost use Rattle.tcl_words.specs.declared.script.Piece.{Piece};
 ghost use Rattle.tcl_words.specs.declared.script.Command.{Command};
@@ -52,8 +52,9 @@ pub fn braces_are_closed_or_not()
     ensures { (text : List ℕ) → ((own : List ℕ) × (value : List ℕ) × (rest : List ℕ) × (text ≡ own ++ 125 ∷ rest) × IsBraced own value) ⊎ IsUnclosed text }
 {}
 
-/// What a bracket or a `$` begins outside of a script is what the grammar of scripts says, both ways.
+/// What a bracket, a `$` or a quote begins outside of a script is what the grammar of scripts says, both ways.
 pub fn operands_are_read()
     ensures bracket { (room : ℕ) (text : List ℕ) (result : Result (Piece × ℕ) ParseFault) → IsBracketed room text result ↔ (bracket_of room text ≡ result) }
     ensures substitution { (room : ℕ) (text : List ℕ) (result : Result (Option (Piece × ℕ)) ParseFault) → IsSubstituted room text result ↔ (substitution_of room text ≡ result) }
+    ensures quotes { (room : ℕ) (text : List ℕ) (result : Result (List Piece × ℕ) ParseFault) → IsQuoted room text result ↔ (quoted_of room text ≡ result) }
 {}

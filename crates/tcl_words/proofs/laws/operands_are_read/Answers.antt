@@ -1,4 +1,5 @@
 use Rattle.tcl_words.proofs.OperandsRead.{bracket_read, bracket_is, substitution_read, substitution_is}
+use Rattle.tcl_words.proofs.QuotesRead.{quotes_given, quotes_are}
 use Rattle.tcl_words.proofs.laws.operands_are_read.Goals as goal
 
 pub returns-clause-bracket : goal.returns-clause-bracket
@@ -6,3 +7,6 @@ returns-clause-bracket c = λ room text result. (bracket_read room text result, 
 
 pub returns-clause-substitution : goal.returns-clause-substitution
 returns-clause-substitution c = λ room text result. (substitution_read room text result, substitution_is room text result)
+
+pub returns-clause-quotes : goal.returns-clause-quotes
+returns-clause-quotes c = λ room text result. (quotes_given room text result, quotes_are room text result)

@@ -5,7 +5,7 @@ use Rattle.std.specs.Option.{option_map_or}
 use Rattle.std.proofs.lemmas.Bool.{and_parts}
 use Rattle.tcl_text.specs.Backslash.{Mark, marks}
 use Rattle.tcl_text.specs.Readings.{Place, Reading, are_balanced, between, closed, depth_after, elements, in_braces, in_quotes, is_quote_mark, is_white_mark, list_of, meant, onto, begun, place_after, reading, with_mark, written}
-use Rattle.tcl_text.specs.ListFaults.{IsUnclosed, IsFaultyElement, unclosed_brace, unclosed_quote, followed_brace, followed_quote, AreBeforeFault, IsListFault}
+use Rattle.tcl_text.specs.ListFaults.{IsFaultyElement, unclosed_brace, unclosed_quote, followed_brace, followed_quote, AreBeforeFault, IsListFault}
 use Rattle.tcl_text.specs.declared.splitting.ByteKind.{ByteKind}
 use Rattle.tcl_text.specs.declared.splitting.ByteKind.TheVariants.{White, OpenBrace, CloseBrace, Quote, Backslash, Other}
 use Rattle.tcl_text.specs.declared.splitting.ListFault.{ListFault}
@@ -27,11 +27,15 @@ last_brace (suc depth) Backslash none = absurd cc
 last_brace zero Other none = absurd cc
 last_brace (suc depth) Other none = absurd cc
 
-reads_unclosed : (depth : ℕ) (ms : List Mark) → IsUnclosed depth ms → reading (in_braces depth) ms ≡ Err UnmatchedBrace
+-- the same where so many more braces are open
+abbrev pub IsUnclosedFrom : ℕ → List Mark → Type 0
+IsUnclosedFrom depth ms = (before rest : List Mark) (last : Mark) → ms ≡ before ++ last ∷ rest → last.kind ≡ CloseBrace → are_balanced depth before ≡ false
+
+reads_unclosed : (depth : ℕ) (ms : List Mark) → IsUnclosedFrom depth ms → reading (in_braces depth) ms ≡ Err UnmatchedBrace
 reads_unclosed depth [] opened = refl
 reads_unclosed depth (m ∷ ms) opened = at (depth_after depth m.kind) refl (λ next. reads_unclosed next ms)
   where
-    at : (next : Option ℕ) → depth_after depth m.kind ≡ next → ((next : ℕ) → IsUnclosed next ms → reading (in_braces next) ms ≡ Err UnmatchedBrace) → reading (in_braces depth) (m ∷ ms) ≡ Err UnmatchedBrace
+    at : (next : Option ℕ) → depth_after depth m.kind ≡ next → ((next : ℕ) → IsUnclosedFrom next ms → reading (in_braces next) ms ≡ Err UnmatchedBrace) → reading (in_braces depth) (m ∷ ms) ≡ Err UnmatchedBrace
     at None is more =
         let here = last_brace depth m.kind is in
         let fails : are_balanced depth [] ≡ false = opened [] ms m refl here.0 in

@@ -5,13 +5,13 @@ use Rattle.std.specs.Option.{option_map_or}
 use Rattle.std.proofs.lemmas.Bool.{and_from, ne_eqb}
 use Rattle.tcl_text.specs.Backslash.{Mark, marks}
 use Rattle.tcl_text.specs.Readings.{IsElement, IsElementEnd, Place, Reading, are_balanced, bare, between, braced, closed, depth_after, elements, in_bare, in_braces, in_quotes, is_quote_mark, is_white_mark, list_of, meant, onto, begun, place_after, quoted, reading, with_mark, written}
-use Rattle.tcl_text.specs.ListFaults.{IsUnclosed, IsFaultyElement, unclosed_brace, unclosed_quote, followed_brace, followed_quote, AreBeforeFault, IsListFault}
+use Rattle.tcl_text.specs.ListFaults.{IsFaultyElement, unclosed_brace, unclosed_quote, followed_brace, followed_quote, AreBeforeFault, IsListFault}
 use Rattle.tcl_text.specs.declared.splitting.ByteKind.{ByteKind}
 use Rattle.tcl_text.specs.declared.splitting.ByteKind.TheVariants.{White, OpenBrace, CloseBrace, Quote, Backslash, Other}
 use Rattle.tcl_text.specs.declared.splitting.ListFault.{ListFault}
 use Rattle.tcl_text.specs.declared.splitting.ListFault.TheVariants.{OpenBrace as UnmatchedBrace, OpenQuote as UnmatchedQuote, ExtraCharacters}
 use Rattle.tcl_text.proofs.ListReading.{braces_mark, quote_test, white_test, balanced_more}
-use Rattle.tcl_text.proofs.ListFaultsMeant.{last_brace}
+use Rattle.tcl_text.proofs.ListFaultsMeant.{IsUnclosedFrom, last_brace}
 
 abbrev no_quote : List Mark → Bool
 no_quote ms = list_all (λ m. not (is_quote_mark m)) ms
@@ -50,7 +50,7 @@ Told between ms fault = IsBeforeFault ms fault
 Told closed ms fault = IsFaultBehind ms fault
 Told in_bare ms fault = BareBefore ms fault
 Told in_quotes ms fault = ((no_quote ms ≡ true) × (fault ≡ UnmatchedQuote)) ⊎ ClosesBefore no_quote Quote ms fault
-Told (in_braces depth) ms fault = (IsUnclosed depth ms × (fault ≡ UnmatchedBrace)) ⊎ ClosesBefore (are_balanced depth) CloseBrace ms fault
+Told (in_braces depth) ms fault = (IsUnclosedFrom depth ms × (fault ≡ UnmatchedBrace)) ⊎ ClosesBefore (are_balanced depth) CloseBrace ms fault
 
 onto_fault : (bytes : List ℕ) (r : Reading) (fault : ListFault) → onto bytes r ≡ Err fault → r ≡ Err fault
 onto_fault bytes (Ok r) fault e = absurd cc
@@ -109,7 +109,7 @@ not_closed (suc depth) next to = ne_eqb (suc depth) 0 (λ e. omega (arith, e))
 same_next : (a b : ℕ) → Some a ≡ Some b → a ≡ b
 same_next a b e = cc
 
-unclosed_more : (depth next : ℕ) (m : Mark) (ms : List Mark) → depth_after depth m.kind ≡ Some next → IsUnclosed next ms → IsUnclosed depth (m ∷ ms)
+unclosed_more : (depth next : ℕ) (m : Mark) (ms : List Mark) → depth_after depth m.kind ≡ Some next → IsUnclosedFrom next ms → IsUnclosedFrom depth (m ∷ ms)
 unclosed_more depth next m ms to none [] rest last cut closes =
     let here : m ≡ last = cc in
     not_closed depth next (ap (depth_after depth) (sym closes ∙ ap (λ (n : Mark). n.kind) (sym here)) ∙ to)

@@ -4,7 +4,9 @@ use Rattle.std.proofs.Common.{◌≡◌, refl, [], ◌∷◌, Some, None, Ok, Er
 use Rattle.std.specs.Prelude.{pos, negsuc}
 use Rattle.tcl_text.specs.Backslash.{kind_of, escape, marks}
 use Rattle.tcl_text.specs.Readings.{integer_of, boolean_of, list_of, list_form}
+use Rattle.tcl_text.specs.ListFaults.{IsListFault}
 use Rattle.tcl_text.specs.declared.splitting.ListFault.TheVariants.{OpenBrace, ExtraCharacters}
+use Rattle.tcl_text.proofs.ListFaultsTold.{IsListFault-from_list_of}
 
 hexadecimal : integer_of (codes " -0X1f ") ≡ Some (negsuc 30)
 unfolding integer_of
@@ -45,6 +47,12 @@ open_brace = refl
 extra : list_of (codes "\"a\"b {") ≡ Err ExtraCharacters
 unfolding list_of marks escape kind_of encode
 extra = refl
+
+brace_fault : IsListFault (codes "{a") OpenBrace
+brace_fault = IsListFault-from_list_of (codes "{a") OpenBrace open_brace
+
+extra_fault : IsListFault (codes "\"a\"b {") ExtraCharacters
+extra_fault = IsListFault-from_list_of (codes "\"a\"b {") ExtraCharacters extra
 
 written_items : list_form ([] ∷ codes "a b" ∷ codes "#x" ∷ codes "{" ∷ []) ≡ codes "{} {a b} {#x} \\{"
 unfolding list_form marks escape kind_of

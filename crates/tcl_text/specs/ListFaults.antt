@@ -7,14 +7,14 @@ use Rattle.tcl_text.specs.declared.splitting.ByteKind.TheVariants.{OpenBrace, Cl
 use Rattle.tcl_text.specs.declared.splitting.ListFault.{ListFault}
 use Rattle.tcl_text.specs.declared.splitting.ListFault.TheVariants.{OpenBrace as UnmatchedBrace, OpenQuote as UnmatchedQuote, ExtraCharacters}
 
--- so many braces stand open in front of these marks, and one that is open before them has no match among them
-abbrev pub IsUnclosed : ℕ → List Mark → Type 0
-IsUnclosed depth ms = (before rest : List Mark) (last : Mark) → ms ≡ before ++ last ∷ rest → last.kind ≡ CloseBrace → are_balanced depth before ≡ false
+-- no closing brace among these marks has balanced marks before it, so none is the match of a brace in front of them all
+abbrev pub IsUnclosed : List Mark → Type 0
+IsUnclosed ms = (before rest : List Mark) (last : Mark) → ms ≡ before ++ last ∷ rest → last.kind ≡ CloseBrace → are_balanced 0 before ≡ false
 
 -- An element that is at fault, with all that stands behind it.
 pub data IsFaultyElement : List Mark → ListFault → Type 0 where
   -- a brace opens it that has no match
-  unclosed_brace : (first : Mark) (inside : List Mark) → first.kind ≡ OpenBrace → IsUnclosed 0 inside → IsFaultyElement (first ∷ inside) UnmatchedBrace
+  unclosed_brace : (first : Mark) (inside : List Mark) → first.kind ≡ OpenBrace → IsUnclosed inside → IsFaultyElement (first ∷ inside) UnmatchedBrace
   -- a quote opens it that is the last
   unclosed_quote : (first : Mark) (inside : List Mark) → first.kind ≡ Quote → IsTrue (list_all (λ m. not (is_quote_mark m)) inside) → IsFaultyElement (first ∷ inside) UnmatchedQuote
   -- something other than white space follows the brace that ends it

@@ -1,16 +1,19 @@
 -- What the grammar relates, on scripts whose words a Tcl shell shows.
 use lib.Utf8.{encode}
-use Rattle.std.proofs.Common.{◌≡◌, refl, ℕ, [], ◌∷◌, List, Ok, Err, codes, false, true}
+use Rattle.std.proofs.Common.{◌≡◌, refl, ℕ, [], ◌∷◌, List, Some, Ok, Err, codes, false, true}
 use Rattle.tcl_text.specs.Backslash.{escape}
 use Rattle.tcl_words.specs.Kinds.{class_of, dollar_of}
 use Rattle.tcl_words.specs.Changes.{word_of, command_of}
 use Rattle.tcl_words.specs.Grammar.{IsInnerOf, IsScript, leaves, fails}
+use Rattle.tcl_words.specs.OperandGrammar.{IsBracketed, IsSubstituted, IsQuoted}
 use Rattle.tcl_words.specs.declared.script.WordForm.TheVariants.{Bare, Quoted, Braced}
 use Rattle.tcl_words.specs.declared.script.Piece.TheVariants.{Literal, Variable, Element, Bracket}
 use Rattle.tcl_words.specs.declared.script.Command.{Command}
-use Rattle.tcl_words.specs.declared.fault.ParseFault.TheVariants.{MissingBracket, ExtraAfterBrace, MissingParen}
+use Rattle.tcl_words.specs.declared.fault.ParseFault.TheVariants.{MissingBrace, MissingBracket, ExtraAfterBrace, MissingParen}
 use Rattle.tcl_words.specs.declared.fault.ParseFault.{ParseFault}
 use Rattle.tcl_words.proofs.Grammars.{read_is_cut, told_is_cut}
+use Rattle.tcl_words.proofs.OperandsRead.{bracket_is, substitution_is}
+use Rattle.tcl_words.proofs.QuotesRead.{quotes_are}
 
 abbrev Cut : List ℕ → List Command → Type 0
 Cut text commands = IsScript (IsInnerOf 200) false 0 text commands (leaves [])
@@ -82,3 +85,16 @@ never_closed = told_is_cut (codes "a [b; # c]") MissingBracket refl
 paren : Faulty (codes "$a(b") MissingParen
 unfolding class_of dollar_of
 paren = told_is_cut (codes "$a(b") MissingParen refl
+
+-- a quote in brackets doesn't end the quotes around them
+quoted_operand : IsQuoted 200 (codes "a$b[c \"]\"]\" + 1") (Ok (Literal (codes "a") ∷ Variable (codes "b") ∷ Bracket (codes "c \"]\"") ∷ [], 11))
+unfolding class_of dollar_of
+quoted_operand = quotes_are 200 (codes "a$b[c \"]\"]\" + 1") (Ok (Literal (codes "a") ∷ Variable (codes "b") ∷ Bracket (codes "c \"]\"") ∷ [], 11)) refl
+
+element_operand : IsSubstituted 200 (codes "a(b c) + 1") (Ok (Some (Element (codes "a") (codes "b c"), 6)))
+unfolding class_of dollar_of
+element_operand = substitution_is 200 (codes "a(b c) + 1") (Ok (Some (Element (codes "a") (codes "b c"), 6))) refl
+
+unclosed_operand : IsBracketed 200 (codes "a {b]") (Err MissingBrace)
+unfolding class_of
+unclosed_operand = bracket_is 200 (codes "a {b]") (Err MissingBrace) refl

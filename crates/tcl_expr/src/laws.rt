@@ -11,7 +11,7 @@ ghost use Rattle.tcl_expr.specs.declared.braces.BracePlace.TheVariants.{Plain};
 ghost use Rattle.tcl_expr.specs.declared.fault.ExprFault.{ExprFault as Fault};
 ghost use Rattle.tcl_expr.specs.declared.fault.ExprFault.TheVariants.{MissingBrace};
 
-use tcl_words::braces_are_closed_or_not;
+use tcl_words::braces_are_cut;
 
 /// The quotient that is rounded down and the remainder with the divisor's sign are those of a division.
 #[tactic(auto, using(crate::proofs::FloorLemmas::floor_division))]
@@ -42,12 +42,12 @@ pub fn one_tree_or_fault()
     ensures { OneTreeOrFault }
 {}
 
-/// What stands in braces is what stands there in a script, and it is at fault where the brace of a script would have no match.
+/// Braces in an expression give what they give in a script, and are at fault exactly where those have no match.
 pub fn braces_are_those_of_scripts()
     ensures braced { (own value rest : List ℕ) → IsBraced own value → braced Plain 0 (own ++ 125 ∷ rest) ≡ Ok (value, length own) }
     ensures unclosed { (text : List ℕ) → IsUnclosed text → braced Plain 0 text ≡ Err MissingBrace }
     ensures only_braced { (text value : List ℕ) (n : ℕ) → braced Plain 0 text ≡ Ok (value, n) → (own : List ℕ) × (rest : List ℕ) × (text ≡ own ++ 125 ∷ rest) × IsBraced own value × (n ≡ length own) }
     ensures only_unclosed { (text : List ℕ) (fault : Fault) → braced Plain 0 text ≡ Err fault → IsUnclosed text × (fault ≡ MissingBrace) }
 {
-    braces_are_closed_or_not();
+    braces_are_cut();
 }

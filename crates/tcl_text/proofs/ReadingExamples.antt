@@ -5,7 +5,7 @@ use Rattle.std.specs.Prelude.{pos, negsuc}
 use Rattle.tcl_text.specs.Backslash.{kind_of, escape, marks}
 use Rattle.tcl_text.specs.Readings.{integer_of, boolean_of, list_of, list_form}
 use Rattle.tcl_text.specs.ListFaults.{IsListFault}
-use Rattle.tcl_text.specs.declared.splitting.ListFault.TheVariants.{OpenBrace, ExtraCharacters}
+use Rattle.tcl_text.specs.declared.splitting.ListFault.TheVariants.{OpenBrace, OpenQuote, ExtraCharacters}
 use Rattle.tcl_text.proofs.ListFaultsTold.{IsListFault-from_list_of}
 
 hexadecimal : integer_of (codes " -0X1f ") ≡ Some (negsuc 30)
@@ -50,6 +50,14 @@ extra = refl
 
 brace_fault : IsListFault (codes "{a") OpenBrace
 brace_fault = IsListFault-from_list_of (codes "{a") OpenBrace open_brace
+
+quote_fault : IsListFault (codes "\"a") OpenQuote
+unfolding list_of marks escape kind_of encode
+quote_fault = IsListFault-from_list_of (codes "\"a") OpenQuote refl
+
+behind_brace : IsListFault (codes "{a}b") ExtraCharacters
+unfolding list_of marks escape kind_of encode
+behind_brace = IsListFault-from_list_of (codes "{a}b") ExtraCharacters refl
 
 extra_fault : IsListFault (codes "\"a\"b {") ExtraCharacters
 extra_fault = IsListFault-from_list_of (codes "\"a\"b {") ExtraCharacters extra

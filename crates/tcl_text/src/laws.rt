@@ -38,7 +38,7 @@ pub fn lists_are_read()
     ensures { (text : List ℕ) (items : List (List ℕ)) → (list_of text ≡ Ok items) ↔ IsList text items }
 {}
 
-/// The fault that the function tells of a text that is no list is the relation.
+/// `list_of` gives a fault exactly where `IsListFault` relates it to the text.
 pub fn list_faults_are_told()
     ensures { (text : List ℕ) (fault : ListFault) → (list_of text ≡ Err fault) ↔ IsListFault text fault }
 {}

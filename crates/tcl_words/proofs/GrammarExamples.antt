@@ -5,7 +5,7 @@ use Rattle.tcl_text.specs.Backslash.{escape}
 use Rattle.tcl_words.specs.Kinds.{class_of, dollar_of}
 use Rattle.tcl_words.specs.Changes.{word_of, command_of}
 use Rattle.tcl_words.specs.Grammar.{IsInnerOf, IsScript, leaves, fails}
-use Rattle.tcl_words.specs.OperandGrammar.{IsBracketed, IsSubstituted, IsQuoted}
+use Rattle.tcl_words.specs.OperandGrammar.{IsBehindBracket, IsBehindDollar, IsBehindQuote}
 use Rattle.tcl_words.specs.declared.script.WordForm.TheVariants.{Bare, Quoted, Braced}
 use Rattle.tcl_words.specs.declared.script.Piece.TheVariants.{Literal, Variable, Element, Bracket}
 use Rattle.tcl_words.specs.declared.script.Command.{Command}
@@ -87,14 +87,14 @@ unfolding class_of dollar_of
 paren = told_is_cut (codes "$a(b") MissingParen refl
 
 -- a quote in brackets doesn't end the quotes around them
-quoted_operand : IsQuoted 200 (codes "a$b[c \"]\"]\" + 1") (Ok (Literal (codes "a") ∷ Variable (codes "b") ∷ Bracket (codes "c \"]\"") ∷ [], 11))
+quoted_operand : IsBehindQuote 200 (codes "a$b[c \"]\"]\" + 1") (Ok (Literal (codes "a") ∷ Variable (codes "b") ∷ Bracket (codes "c \"]\"") ∷ [], 11))
 unfolding class_of dollar_of
 quoted_operand = quotes_are 200 (codes "a$b[c \"]\"]\" + 1") (Ok (Literal (codes "a") ∷ Variable (codes "b") ∷ Bracket (codes "c \"]\"") ∷ [], 11)) refl
 
-element_operand : IsSubstituted 200 (codes "a(b c) + 1") (Ok (Some (Element (codes "a") (codes "b c"), 6)))
+element_operand : IsBehindDollar 200 (codes "a(b c) + 1") (Ok (Some (Element (codes "a") (codes "b c"), 6)))
 unfolding class_of dollar_of
 element_operand = substitution_is 200 (codes "a(b c) + 1") (Ok (Some (Element (codes "a") (codes "b c"), 6))) refl
 
-unclosed_operand : IsBracketed 200 (codes "a {b]") (Err MissingBrace)
+unclosed_operand : IsBehindBracket 200 (codes "a {b]") (Err MissingBrace)
 unfolding class_of
 unclosed_operand = bracket_is 200 (codes "a {b]") (Err MissingBrace) refl

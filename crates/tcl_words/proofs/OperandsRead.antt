@@ -4,8 +4,10 @@ use Rattle.std.specs.List.{slice_range}
 use Rattle.tcl_words.specs.Changes.{put}
 use Rattle.tcl_words.specs.Reading.{Level, rest_of, within}
 use Rattle.tcl_words.specs.Operands.{piece_found, opened_of, bracket_of, some_found, substitution, substitution_of}
-use Rattle.tcl_words.specs.Grammar.{Ending, leaves, fails, script, index, begins, begins_letter, begins_name, IsName, HasNoBrace, IsInnerOf}
-use Rattle.tcl_words.specs.OperandGrammar.{IsBracketed, IsSubstitution, variable, braced_name, element, IsFaultySubstitution, unclosed_name, faulty_index, IsSubstituted}
+use Rattle.tcl_words.specs.Grammar.{Ending, leaves, fails, script, index, begins, begins_letter, begins_name, IsName, HasNoBrace, ArePieces, IsInnerOf}
+use Rattle.tcl_words.specs.Grammar.ArePieces.{variable as body_variable, braced_name as body_braced_name, element as body_element, unclosed_name as body_unclosed_name, faulty_index as body_faulty_index}
+use Rattle.tcl_words.specs.OperandGrammar.{IsBehindBracket, IsSubstitution, variable, braced_name, element, IsFaultySubstitution, unclosed_name, faulty_index, IsBehindDollar}
+use Rattle.tcl_words.specs.declared.kind.Mode.{Mode}
 use Rattle.tcl_words.specs.declared.kind.Mode.TheVariants.{Parens}
 use Rattle.tcl_words.specs.declared.kind.Place.TheVariants.{Start}
 use Rattle.tcl_words.specs.declared.kind.Opener.TheVariants.{Bracket as BracketOpener, Index as IndexOpener}
@@ -46,20 +48,20 @@ bracket_told : (room : ℕ) (text : List ℕ) (fault : ParseFault) → IsInnerOf
 bracket_told zero text fault h = ap (λ f. let read : Opened = Err f in read) (sym (same_fault fault TooLong h))
 bracket_told (suc room) text fault (commands, h) = ap (piece_found BracketOpener text) (script_read true room (inner_reads room) commands (fails fault) 0 text h)
 
-pub bracket_read : (room : ℕ) (text : List ℕ) (result : Opened) → IsBracketed room text result → bracket_of room text ≡ result
+pub bracket_read : (room : ℕ) (text : List ℕ) (result : Opened) → IsBehindBracket room text result → bracket_of room text ≡ result
 bracket_read room text (Ok found) (own, rest, cut, h, same) = ap (bracket_of room) cut ∙ bracket_given room own rest h ∙ ap (λ f. let read : Opened = Ok f in read) (sym same)
 bracket_read room text (Err fault) h = bracket_told room text fault h
 
-bracket_cut : (room : ℕ) (text : List ℕ) → (result : Opened) × IsBracketed room text result
+bracket_cut : (room : ℕ) (text : List ℕ) → (result : Opened) × IsBehindBracket room text result
 bracket_cut room text = let found = inner_cuts room script text in at found.0 found.1 found.2
   where
-    at : (ending : Ending) → IsInnerOf room script text ending → IsInnerCut script text ending → (result : Opened) × IsBracketed room text result
+    at : (ending : Ending) → IsInnerOf room script text ending → IsInnerCut script text ending → (result : Opened) × IsBehindBracket room text result
     at (leaves left) h (own, rest, e, f) =
         (Ok (Bracket own, suc (length own)), (own, rest, e, subst (λ t. IsInnerOf room script t (leaves (93 ∷ rest))) e (subst (λ l. IsInnerOf room script text (leaves l)) f h), refl))
     at (fails fault) h cut = (Err fault, h)
 
-pub bracket_is : (room : ℕ) (text : List ℕ) (result : Opened) → bracket_of room text ≡ result → IsBracketed room text result
-bracket_is room text result e = let found = bracket_cut room text in subst (IsBracketed room text) (sym (bracket_read room text found.0 found.1) ∙ e) found.1
+pub bracket_is : (room : ℕ) (text : List ℕ) (result : Opened) → bracket_of room text ≡ result → IsBehindBracket room text result
+bracket_is room text result e = let found = bracket_cut room text in subst (IsBehindBracket room text) (sym (bracket_read room text found.0 found.1) ∙ e) found.1
 
 -- ── variables ──
 
@@ -105,13 +107,13 @@ substitution_told room (unclosed_name text h) = ap (λ form. substitution room f
 substitution_told room (faulty_index name text {fault} is h) =
     ap (λ form. substitution room form (name ++ 40 ∷ text)) (dollar-indexed name text is) ∙ ap some_found (index_told room name text fault h)
 
-pub substitution_read : (room : ℕ) (text : List ℕ) (result : Substituted) → IsSubstituted room text result → substitution_of room text ≡ result
+pub substitution_read : (room : ℕ) (text : List ℕ) (result : Substituted) → IsBehindDollar room text result → substitution_of room text ≡ result
 substitution_read room text (Ok None) (no_name, no_brace) = ap (λ form. substitution room form text) (dollar-alone text no_name no_brace)
 substitution_read room text (Ok (Some found)) (rest, is, count) = substitution_given room is found.1 count
 substitution_read room text (Err fault) is = substitution_told room is
 
 abbrev Cut : ℕ → List ℕ → Type 0
-Cut room text = (result : Substituted) × IsSubstituted room text result
+Cut room text = (result : Substituted) × IsBehindDollar room text result
 
 index_cut : (room : ℕ) (name text : List ℕ) → IsName name → Cut room (name ++ 40 ∷ text)
 index_cut room name text is = let found = inner_cuts room index text in at found.0 found.1 found.2
@@ -144,7 +146,19 @@ substitution_cut room text false true here there =
     let cut = name_cut text there in subst (Cut room) (sym cut.2) (name_found room cut.0 cut.1 cut.3 cut.4 (begins 40 cut.1) refl)
 substitution_cut room text false false here there = (Ok None, (there, here))
 
-pub substitution_is : (room : ℕ) (text : List ℕ) (result : Substituted) → substitution_of room text ≡ result → IsSubstituted room text result
+pub substitution_is : (room : ℕ) (text : List ℕ) (result : Substituted) → substitution_of room text ≡ result → IsBehindDollar room text result
 substitution_is room text result e =
     let found = substitution_cut room text (begins 123 text) (begins_name text) refl refl in
-    subst (IsSubstituted room text) (sym (substitution_read room text found.0 found.1) ∙ e) found.1
+    subst (IsBehindDollar room text) (sym (substitution_read room text found.0 found.1) ∙ e) found.1
+
+-- ── in the pieces of a body ──
+
+pub substitution_begun : (room : ℕ) (inside : Bool) (mode : Mode) {text : List ℕ} {piece : Piece} {rest : List ℕ} (pieces : List Piece) (ending : Ending) → IsSubstitution room text piece rest →
+    ArePieces (IsInnerOf room) inside mode rest pieces ending → ArePieces (IsInnerOf room) inside mode (36 ∷ text) (piece ∷ pieces) ending
+substitution_begun room inside mode pieces ending (variable name is h k) more = body_variable name is h k more
+substitution_begun room inside mode pieces ending (braced_name name h) more = body_braced_name name h more
+substitution_begun room inside mode pieces ending (element name own is h) more = body_element name own is h more
+
+pub substitution_faulty : (room : ℕ) (inside : Bool) (mode : Mode) {text : List ℕ} {fault : ParseFault} → IsFaultySubstitution room text fault → ArePieces (IsInnerOf room) inside mode (36 ∷ text) [] (fails fault)
+substitution_faulty room inside mode (unclosed_name text h) = body_unclosed_name h
+substitution_faulty room inside mode (faulty_index name text is h) = body_faulty_index name is h

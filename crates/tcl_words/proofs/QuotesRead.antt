@@ -11,7 +11,7 @@ use Rattle.tcl_words.specs.Reading.{rest_of, past, within}
 use Rattle.tcl_words.specs.Operands.{at_quote, quoted_rest, pieces_found, quoted_of}
 use Rattle.tcl_words.specs.Grammar.{Ending, leaves, fails, with_bytes, stops, is_plain, begins, ArePieces, IsInnerOf}
 use Rattle.tcl_words.specs.Grammar.ArePieces.{stop, unended, byte, backslash, dollar, variable, braced_name, unclosed_name, element, faulty_index, bracket, faulty_script}
-use Rattle.tcl_words.specs.OperandGrammar.{IsQuoted}
+use Rattle.tcl_words.specs.OperandGrammar.{IsBehindQuote}
 use Rattle.tcl_words.specs.declared.kind.Mode.TheVariants.{Quotes, Parens}
 use Rattle.tcl_words.specs.declared.kind.Kind.{Kind}
 use Rattle.tcl_words.specs.declared.kind.Kind.TheVariants.{Blank, Newline, Semicolon, Hash, Dollar, Quote, OpenBracket, CloseBracket, OpenBrace, Expansion, CloseBrace, CloseParen, Backslash, Continuation, Other}
@@ -198,14 +198,14 @@ closed_given room own rest pieces n are count =
     ∙ ap (λ k. let read : Found = Ok (literal_before g.bytes g.after, k) in read) close
     ∙ ap (λ p. let read : Found = Ok (p, n) in read) g.joined
 
-pub quotes_given : (room : ℕ) (text : List ℕ) (result : Found) → IsQuoted room text result → quoted_of room text ≡ result
+pub quotes_given : (room : ℕ) (text : List ℕ) (result : Found) → IsBehindQuote room text result → quoted_of room text ≡ result
 quotes_given room text (Ok found) (own, rest, cut, are, count) = ap (quoted_of room) cut ∙ closed_given room own rest found.0 found.1 are count
 quotes_given room text (Err fault) (pieces, are) = ap pieces_found (pieces_given room (inner_reads room) are 0)
 
-quotes_cut : (room : ℕ) (text : List ℕ) → (result : Found) × IsQuoted room text result
+quotes_cut : (room : ℕ) (text : List ℕ) → (result : Found) × IsBehindQuote room text result
 quotes_cut room text = let found = pieces_cut room true Quotes (inner_cuts room) text in at found.pieces found.ending found.are found.cut
   where
-    at : (pieces : List Piece) (ending : Ending) → ArePieces (IsInnerOf room) true Quotes text pieces ending → IsPiecesCut true Quotes text ending → (result : Found) × IsQuoted room text result
+    at : (pieces : List Piece) (ending : Ending) → ArePieces (IsInnerOf room) true Quotes text pieces ending → IsPiecesCut true Quotes text ending → (result : Found) × IsBehindQuote room text result
     at pieces (leaves left) are (own, e, h) =
         let more = quote_left left h in
         let cut : text ≡ own ++ 34 ∷ more.0 = e ∙ ap (λ t. own ++ t) more.1 in
@@ -214,5 +214,5 @@ quotes_cut room text = let found = pieces_cut room true Quotes (inner_cuts room)
         (Ok (pieces, suc (length own)), (own, more.0, cut, whole, refl))
     at pieces (fails fault) are cut = (Err fault, (pieces, are))
 
-pub quotes_are : (room : ℕ) (text : List ℕ) (result : Found) → quoted_of room text ≡ result → IsQuoted room text result
-quotes_are room text result e = let found = quotes_cut room text in subst (IsQuoted room text) (sym (quotes_given room text found.0 found.1) ∙ e) found.1
+pub quotes_are : (room : ℕ) (text : List ℕ) (result : Found) → quoted_of room text ≡ result → IsBehindQuote room text result
+quotes_are room text result e = let found = quotes_cut room text in subst (IsBehindQuote room text) (sym (quotes_given room text found.0 found.1) ∙ e) found.1

@@ -1,5 +1,5 @@
--- What a bracket, a `$` or a quote begins in a text that is no script, by the grammar of scripts: what it gives with how many
--- of the bytes behind it, or its fault, where so many brackets and indices may be opened in one another.
+-- What a bracket, a `$` or a quote begins in an expression, by the grammar of scripts: what it gives and how many bytes behind it
+-- are its own, or its fault. `room` is how many brackets and indices may still be opened in one another.
 use Rattle.std.specs.Prelude.{◌≡◌, ℕ, suc, ◌+◌, true, false, List, ◌∷◌, ◌++◌, length, Option, Some, None, Result, Ok, Err}
 use Rattle.tcl_words.specs.Grammar.{leaves, fails, script, index, begins, begins_letter, begins_name, IsName, HasNoBrace, ArePieces, IsInnerOf}
 use Rattle.tcl_words.specs.declared.kind.Mode.TheVariants.{Quotes}
@@ -8,13 +8,13 @@ use Rattle.tcl_words.specs.declared.script.Piece.TheVariants.{Variable, Element,
 use Rattle.tcl_words.specs.declared.fault.ParseFault.{ParseFault}
 use Rattle.tcl_words.specs.declared.fault.ParseFault.TheVariants.{MissingBrace}
 
--- a bracket before this text: a script up to the bracket that closes it
-abbrev pub IsBracketed : ℕ → List ℕ → Result (Piece × ℕ) ParseFault → Type 0
-IsBracketed room text (Ok found) =
+-- the text behind a bracket: a script up to the bracket that closes it
+abbrev pub IsBehindBracket : ℕ → List ℕ → Result (Piece × ℕ) ParseFault → Type 0
+IsBehindBracket room text (Ok found) =
     (own : List ℕ) × (rest : List ℕ) × (text ≡ own ++ 93 ∷ rest) × IsInnerOf room script (own ++ 93 ∷ rest) (leaves (93 ∷ rest)) × (found ≡ (Bracket own, suc (length own)))
-IsBracketed room text (Err fault) = IsInnerOf room script text (fails fault)
+IsBehindBracket room text (Err fault) = IsInnerOf room script text (fails fault)
 
--- What a `$` before this text begins, and what it leaves of the text.
+-- What a `$` before this text begins, as in the pieces of a body, and what is left of the text.
 pub data IsSubstitution (room : ℕ) : List ℕ → Piece → List ℕ → Type 0 where
   -- `$name`: the name goes as far as it can
   variable : (name : List ℕ) {text : List ℕ} → IsName name → begins_letter text ≡ false → begins 40 text ≡ false → IsSubstitution room (name ++ text) (Variable name) text
@@ -24,18 +24,19 @@ pub data IsSubstitution (room : ℕ) : List ℕ → Piece → List ℕ → Type 
   element : (name own : List ℕ) {text : List ℕ} → IsName name → IsInnerOf room index (own ++ 41 ∷ text) (leaves (41 ∷ text)) →
       IsSubstitution room (name ++ 40 ∷ (own ++ 41 ∷ text)) (Element name own) text
 
+-- The fault of what it begins.
 pub data IsFaultySubstitution (room : ℕ) : List ℕ → ParseFault → Type 0 where
   unclosed_name : (text : List ℕ) → HasNoBrace text → IsFaultySubstitution room (123 ∷ text) MissingBrace
   faulty_index : (name text : List ℕ) {fault : ParseFault} → IsName name → IsInnerOf room index text (fails fault) → IsFaultySubstitution room (name ++ 40 ∷ text) fault
 
--- a `$` before this text, which may stand for itself
-abbrev pub IsSubstituted : ℕ → List ℕ → Result (Option (Piece × ℕ)) ParseFault → Type 0
-IsSubstituted room text (Ok None) = (begins_name text ≡ false) × (begins 123 text ≡ false)
-IsSubstituted room text (Ok (Some found)) = (rest : List ℕ) × IsSubstitution room text found.0 rest × (found.1 + length rest ≡ length text)
-IsSubstituted room text (Err fault) = IsFaultySubstitution room text fault
+-- the text behind a `$`: none where it begins no variable
+abbrev pub IsBehindDollar : ℕ → List ℕ → Result (Option (Piece × ℕ)) ParseFault → Type 0
+IsBehindDollar room text (Ok None) = (begins_name text ≡ false) × (begins 123 text ≡ false)
+IsBehindDollar room text (Ok (Some found)) = (rest : List ℕ) × IsSubstitution room text found.0 rest × (found.1 + length rest ≡ length text)
+IsBehindDollar room text (Err fault) = IsFaultySubstitution room text fault
 
--- a quote before this text: the pieces up to the next quote that isn't within one of them
-abbrev pub IsQuoted : ℕ → List ℕ → Result (List Piece × ℕ) ParseFault → Type 0
-IsQuoted room text (Ok found) =
+-- the text behind a quote: pieces up to the next quote that isn't within one of them
+abbrev pub IsBehindQuote : ℕ → List ℕ → Result (List Piece × ℕ) ParseFault → Type 0
+IsBehindQuote room text (Ok found) =
     (own : List ℕ) × (rest : List ℕ) × (text ≡ own ++ 34 ∷ rest) × ArePieces (IsInnerOf room) true Quotes (own ++ 34 ∷ rest) found.0 (leaves (34 ∷ rest)) × (found.1 ≡ suc (length own))
-IsQuoted room text (Err fault) = (pieces : List Piece) × ArePieces (IsInnerOf room) true Quotes text pieces (fails fault)
+IsBehindQuote room text (Err fault) = (pieces : List Piece) × ArePieces (IsInnerOf room) true Quotes text pieces (fails fault)

@@ -1,11 +1,12 @@
 //! Laws of the grammar, as contracts of functions that do nothing.
 
-ghost use Rattle.std.specs.Prelude.{◌≡◌, ◌↔◌, ◌⊎◌, ℕ, List, ◌∷◌, ◌++◌, Option, Result, Ok, Err};
+ghost use Rattle.std.specs.Prelude.{◌≡◌, ◌↔◌, ◌⊎◌, ℕ, Bool, List, [], ◌∷◌, ◌++◌, Option, Result, Ok, Err};
 ghost use Rattle.tcl_words.specs.Reading.{commands_of, index_pieces_of};
-ghost use Rattle.tcl_words.specs.Grammar.{IsScriptOf, IsFaultOf, IsIndexOf, IsIndexFaultOf, CommandsAreSlices, IsBraced, IsUnclosed};
+ghost use Rattle.tcl_words.specs.Grammar.{IsScriptOf, IsFaultOf, IsIndexOf, IsIndexFaultOf, CommandsAreSlices, IsBraced, IsUnclosed, Ending, fails, ArePieces, IsInnerOf};
 ghost use Rattle.tcl_words.specs.Operands.{bracket_of, substitution_of, quoted_of};
-ghost use Rattle.tcl_words.specs.OperandGrammar.{IsBracketed, IsSubstituted, IsQuoted};
+ghost use Rattle.tcl_words.specs.OperandGrammar.{IsBehindBracket, IsSubstitution, IsFaultySubstitution, IsBehindDollar, IsBehindQuote};
 ghost use Rattle.tcl_words.specs.Joining.{lines_of, CommandsAlike};
+ghost use Rattle.tcl_words.specs.declared.kind.Mode.{Mode};
 ghost use Rattle.tcl_words.specs.declared.script.Piece.{Piece};
 ghost use Rattle.tcl_words.specs.declared.script.Command.{Command};
 ghost use Rattle.tcl_words.specs.declared.fault.ParseFault.{ParseFault};
@@ -48,13 +49,17 @@ pub fn lines_are_a_script()
 {}
 
 /// The text behind an opening brace is cut at the brace that closes it, or has none.
-pub fn braces_are_closed_or_not()
+pub fn braces_are_cut()
     ensures { (text : List ℕ) → ((own : List ℕ) × (value : List ℕ) × (rest : List ℕ) × (text ≡ own ++ 125 ∷ rest) × IsBraced own value) ⊎ IsUnclosed text }
 {}
 
-/// What a bracket, a `$` or a quote begins outside of a script is what the grammar of scripts says, both ways.
+/// What is read behind a bracket, a `$` or a quote in an expression is exactly what the grammar of scripts relates, and what a `$` begins there
+/// it begins in the pieces of a body too.
 pub fn operands_are_read()
-    ensures bracket { (room : ℕ) (text : List ℕ) (result : Result (Piece × ℕ) ParseFault) → IsBracketed room text result ↔ (bracket_of room text ≡ result) }
-    ensures substitution { (room : ℕ) (text : List ℕ) (result : Result (Option (Piece × ℕ)) ParseFault) → IsSubstituted room text result ↔ (substitution_of room text ≡ result) }
-    ensures quotes { (room : ℕ) (text : List ℕ) (result : Result (List Piece × ℕ) ParseFault) → IsQuoted room text result ↔ (quoted_of room text ≡ result) }
+    ensures bracket { (room : ℕ) (text : List ℕ) (result : Result (Piece × ℕ) ParseFault) → IsBehindBracket room text result ↔ (bracket_of room text ≡ result) }
+    ensures substitution { (room : ℕ) (text : List ℕ) (result : Result (Option (Piece × ℕ)) ParseFault) → IsBehindDollar room text result ↔ (substitution_of room text ≡ result) }
+    ensures quotes { (room : ℕ) (text : List ℕ) (result : Result (List Piece × ℕ) ParseFault) → IsBehindQuote room text result ↔ (quoted_of room text ≡ result) }
+    ensures begun { (room : ℕ) (inside : Bool) (mode : Mode) (text rest : List ℕ) (piece : Piece) (pieces : List Piece) (ending : Ending) → IsSubstitution room text piece rest
+        → ArePieces (IsInnerOf room) inside mode rest pieces ending → ArePieces (IsInnerOf room) inside mode (36 ∷ text) (piece ∷ pieces) ending }
+    ensures faulty { (room : ℕ) (inside : Bool) (mode : Mode) (text : List ℕ) (fault : ParseFault) → IsFaultySubstitution room text fault → ArePieces (IsInnerOf room) inside mode (36 ∷ text) [] (fails fault) }
 {}

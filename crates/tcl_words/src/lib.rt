@@ -15,8 +15,8 @@ mod script;
 
 pub use fault::ParseFault;
 pub use laws::{
-    braces_are_closed_or_not, commands_are_read, faults_are_told, indices_are_read,
-    lines_are_a_script, one_script_or_fault, operands_are_read, spans_are_slices,
+    braces_are_cut, commands_are_read, faults_are_told, indices_are_read, lines_are_a_script,
+    one_script_or_fault, operands_are_read, spans_are_slices,
 };
 pub use operands::{bracket_behind, quotes_behind, substitution_behind};
 pub use parser::parse;

@@ -8,7 +8,7 @@ pub returns-clause-unclosed : goal.returns-clause-unclosed
 returns-clause-unclosed c = unclosed_read
 
 pub returns-clause-only_braced : goal.returns-clause-only_braced
-returns-clause-only_braced c = braces_cut c.braces_are_closed_or_not.ensures
+returns-clause-only_braced c = braces_cut c.braces_are_cut.ensures
 
 pub returns-clause-only_unclosed : goal.returns-clause-only_unclosed
-returns-clause-only_unclosed c = unclosed_cut c.braces_are_closed_or_not.ensures
+returns-clause-only_unclosed c = unclosed_cut c.braces_are_cut.ensures

@@ -1,5 +1,5 @@
 use Rattle.tcl_words.proofs.BracesCut.{braces_cut}
-use Rattle.tcl_words.proofs.laws.braces_are_closed_or_not.Goals as goal
+use Rattle.tcl_words.proofs.laws.braces_are_cut.Goals as goal
 
 pub returns : goal.returns
 returns c = braces_cut

@@ -1,14 +1,15 @@
 -- The items of `switch` and the words of `foreach`, as they are read and as they are cut, and the turns of `foreach`.
-use Rattle.std.proofs.Common.{◌≡◌, ◌≢◌, ℕ, zero, suc, ◌+◌, ◌-◌, ◌*◌, ◌<◌, ◌≤◌, ◌⊎◌, nat_lt, List, [], ◌∷◌, length, drop, option_map, Option, Some, None, Result, Ok, Err, refl, ap, sym, subst, ◌∙◌, inl, inr, arith}
-use native.Mathlib.Nat.{mul-zero, mul-suc}
+use Rattle.std.proofs.Common.{◌≡◌, ◌≢◌, ◌↔◌, ℕ, zero, suc, ◌+◌, ◌-◌, ◌*◌, ◌%◌, ◌==◌, ◌<◌, ◌≤◌, ◌⊎◌, nat_lt, true, List, [], ◌∷◌, ◌++◌, length, drop, option_map, Option, Some, None, Result, Ok, Err, refl, ap, sym, subst, ◌∙◌, inl, inr, arith}
+use native.Mathlib.Nat.{mul-zero, mul-suc, mul-add-mod_self_left}
 use Rattle.std.proofs.lemmas.Bool.{lt-ltb, le-ltb, cases_lt}
-use Rattle.tcl_text.specs.Readings.{list_of}
+use Rattle.tcl_text.specs.Readings.{list_of, IsList}
+use Rattle.tcl_text.specs.ListFaults.{IsListFault}
 use Rattle.tcl_text.specs.declared.splitting.ListFault.{ListFault}
 use Rattle.tcl_shapes.specs.declared.branches.Branch.{Branch}
 use Rattle.tcl_shapes.specs.declared.groups.Group.{Group}
 use Rattle.tcl_shapes.specs.Branches.{branch_of, arms_from, arms_of}
-use Rattle.tcl_shapes.specs.Groups.{group_named, group_of, groups_from, groups_of, behind_group, has_more, next_place}
-use Rattle.tcl_shapes.specs.Shapes.{pairs_of, IsGroup, AreGroups, after_turns}
+use Rattle.tcl_shapes.specs.Groups.{group_named, group_of, groups_from, groups_of, behind_group, has_body, has_more, next_place}
+use Rattle.tcl_shapes.specs.Shapes.{pairs_of, IsGroup, IsNoGroup, AreGroups, AreBeforeFault, AreFaulty, after_turns}
 
 pairs_read : (arms : List Branch) → arms_from None (pairs_of arms) ≡ Some arms
 pairs_read [] = refl
@@ -38,62 +39,90 @@ pub arms_cut : (items : List (List ℕ)) (arms : List Branch) → arms_of items 
 unfolding arms_of
 arms_cut items arms same = arms_from_cut None items arms same
 
-group_read : (names items : List ℕ) (group : Group) → IsGroup names items group → group_of (list_of names) (list_of items) ≡ Ok group
-group_read names items group is = by group.names is.0 is.1 refl
-  where
-    by : (own : List (List ℕ)) → list_of names ≡ Ok own → own ≢ [] → own ≡ group.names → group_of (list_of names) (list_of items) ≡ Ok group
-    by [] read some same = absurd (some refl)
-    by (name ∷ more) read some same =
-        ap (λ n. group_of n (list_of items)) read
-        ∙ ap (group_named (name ∷ more)) is.2
-        ∙ ap (λ n. Ok (record { names = n; items = group.items; next = 0 })) same
-        ∙ ap (λ n. Ok (record { names = group.names; items = group.items; next = n })) (sym is.3)
+-- what is known of lists
+module _ (lists : (text : List ℕ) (items : List (List ℕ)) → (list_of text ≡ Ok items) ↔ IsList text items) (faults : (text : List ℕ) (fault : ListFault) → (list_of text ≡ Err fault) ↔ IsListFault text fault) where
+  group_read : (names items : List ℕ) (group : Group) → IsGroup names items group → group_of (list_of names) (list_of items) ≡ Ok group
+  group_read names items group is = by group.names is.0 is.1 refl
+    where
+      by : (own : List (List ℕ)) → IsList names own → own ≢ [] → own ≡ group.names → group_of (list_of names) (list_of items) ≡ Ok group
+      by [] read some same = absurd (some refl)
+      by (name ∷ more) read some same =
+          ap (λ n. group_of n (list_of items)) ((lists names (name ∷ more)).1 read)
+          ∙ ap (group_named (name ∷ more)) ((lists items group.items).1 is.2)
+          ∙ ap (λ n. Ok (record { names = n; items = group.items; next = 0 })) same
+          ∙ ap (λ n. Ok (record { names = group.names; items = group.items; next = n })) (sym is.3)
 
-group_cut : (names items : List ℕ) (group : Group) → group_of (list_of names) (list_of items) ≡ Ok group → IsGroup names items group
-group_cut names items group same = by (list_of names) (list_of items) refl refl same
-  where
-    by : (own : Result (List (List ℕ)) ListFault) (taken : Result (List (List ℕ)) ListFault) → list_of names ≡ own → list_of items ≡ taken → group_of own taken ≡ Ok group → IsGroup names items group
-    by (Err fault) taken named has found = absurd (cc)
-    by (Ok []) taken named has found = absurd (cc)
-    by (Ok (name ∷ more)) (Err fault) named has found = absurd (cc)
-    by (Ok (name ∷ more)) (Ok all) named has found =
-        let is : record { names = name ∷ more; items = all; next = 0 } ≡ group = cc in
-        subst (IsGroup names items) is (named, (λ none. absurd (cc)), has, refl)
+  fault_read : (names items text : List ℕ) → IsNoGroup names items text → group_of (list_of names) (list_of items) ≡ Err text
+  fault_read names items text (inl (fault, is, told)) = ap (λ n. group_of n (list_of items)) ((faults names fault).1 is) ∙ ap (λ t. Err t) (sym told)
+  fault_read names items text (inr (inl (none, told))) = ap (λ n. group_of n (list_of items)) ((lists names []).1 none) ∙ ap (λ t. Err t) (sym told)
+  fault_read names items text (inr (inr ([], read, some, bad))) = absurd (some refl)
+  fault_read names items text (inr (inr (name ∷ more, read, some, (fault, is, told)))) =
+      ap (λ n. group_of n (list_of items)) ((lists names (name ∷ more)).1 read) ∙ ap (group_named (name ∷ more)) ((faults items fault).1 is) ∙ ap (λ t. Err t) (sym told)
 
-groups_from_read : (words : List (List ℕ)) (groups : List Group) → AreGroups words groups → groups_from None words ≡ Ok groups
-groups_from_read words [] (inl none) = ap (groups_from None) none
-groups_from_read words [] (inr (body, one)) = ap (groups_from None) one
-groups_from_read words (group ∷ groups) (names, items, rest, cut, is, more) =
-    ap (groups_from None) cut
-    ∙ ap (λ g. behind_group g (groups_from None rest)) (group_read names items group is)
-    ∙ ap (behind_group (Ok group)) (groups_from_read rest groups more)
+  abbrev Cut : List ℕ → List ℕ → Result Group (List ℕ) → Type 0
+  Cut names items (Ok group) = IsGroup names items group
+  Cut names items (Err text) = IsNoGroup names items text
 
-pub groups_read : (words : List (List ℕ)) (groups : List Group) → AreGroups words groups → groups_of words ≡ Ok groups
-unfolding groups_of
-groups_read words groups is = groups_from_read words groups is
+  group_cut : (names items : List ℕ) → Cut names items (group_of (list_of names) (list_of items))
+  group_cut names items = by (list_of names) (list_of items) refl refl
+    where
+      by : (own : Result (List (List ℕ)) ListFault) (taken : Result (List (List ℕ)) ListFault) → list_of names ≡ own → list_of items ≡ taken → Cut names items (group_of own taken)
+      by (Err fault) taken named has = inl (fault, (faults names fault).0 named, refl)
+      by (Ok []) taken named has = inr (inl ((lists names []).0 named, refl))
+      by (Ok (name ∷ more)) (Err fault) named has = inr (inr (name ∷ more, (lists names (name ∷ more)).0 named, (λ none. absurd (cc)), (fault, (faults items fault).0 has, refl)))
+      by (Ok (name ∷ more)) (Ok all) named has = ((lists names (name ∷ more)).0 named, (λ none. absurd (cc)), (lists items all).0 has, refl)
 
--- the words behind names, or in front of them
-abbrev held_words : Option (List ℕ) → List (List ℕ) → List (List ℕ)
-held_words None words = words
-held_words (Some names) words = names ∷ words
+  groups_from_read : (words : List (List ℕ)) (body : List ℕ) (groups : List Group) → AreGroups words groups → groups_from None (words ++ body ∷ []) ≡ Ok groups
+  groups_from_read words body [] none = ap (λ w. groups_from None (w ++ body ∷ [])) none
+  groups_from_read words body (group ∷ groups) (names, items, rest, cut, is, more) =
+      ap (λ w. groups_from None (w ++ body ∷ [])) cut
+      ∙ ap (λ g. behind_group g (groups_from None (rest ++ body ∷ []))) (group_read names items group is)
+      ∙ ap (behind_group (Ok group)) (groups_from_read rest body groups more)
 
-groups_from_cut : (held : Option (List ℕ)) (words : List (List ℕ)) (groups : List Group) → groups_from held words ≡ Ok groups → AreGroups (held_words held words) groups
-groups_from_cut None [] groups same = let is : [] ≡ groups = cc in subst (AreGroups []) is (inl refl)
-groups_from_cut None (names ∷ words) groups same = groups_from_cut (Some names) words groups same
-groups_from_cut (Some names) [] groups same = let is : [] ≡ groups = cc in subst (AreGroups (names ∷ [])) is (inr (names, refl))
-groups_from_cut (Some names) (items ∷ words) groups same = by (group_of (list_of names) (list_of items)) (groups_from None words) refl refl same (groups_from_cut None words)
-  where
-    by : (own : Result Group (List ℕ)) (more : Result (List Group) (List ℕ)) → group_of (list_of names) (list_of items) ≡ own → groups_from None words ≡ more
-        → behind_group own more ≡ Ok groups → ((behind : List Group) → groups_from None words ≡ Ok behind → AreGroups words behind) → AreGroups (names ∷ items ∷ words) groups
-    by (Err text) more first rest found cut = absurd (cc)
-    by (Ok group) (Err text) first rest found cut = absurd (cc)
-    by (Ok group) (Ok behind) first rest found cut =
-        let is : group ∷ behind ≡ groups = cc in
-        subst (AreGroups (names ∷ items ∷ words)) is (names, items, words, refl, group_cut names items group first, cut behind rest)
+  fault_from_read : (words : List (List ℕ)) (body text : List ℕ) (groups : List Group) → AreBeforeFault words groups text → groups_from None (words ++ body ∷ []) ≡ Err text
+  fault_from_read words body text [] (names, items, rest, cut, is) =
+      ap (λ w. groups_from None (w ++ body ∷ [])) cut ∙ ap (λ g. behind_group g (groups_from None (rest ++ body ∷ []))) (fault_read names items text is)
+  fault_from_read words body text (group ∷ groups) (names, items, rest, cut, is, more) =
+      ap (λ w. groups_from None (w ++ body ∷ [])) cut
+      ∙ ap (λ g. behind_group g (groups_from None (rest ++ body ∷ []))) (group_read names items group is)
+      ∙ ap (behind_group (Ok group)) (fault_from_read rest body text groups more)
 
-pub groups_cut : (words : List (List ℕ)) (groups : List Group) → groups_of words ≡ Ok groups → AreGroups words groups
-unfolding groups_of
-groups_cut words groups same = groups_from_cut None words groups same
+  pub groups_read : (words : List (List ℕ)) (body : List ℕ) (groups : List Group) → AreGroups words groups → groups_of (words ++ body ∷ []) ≡ Ok groups
+  unfolding groups_of
+  groups_read words body groups is = groups_from_read words body groups is
+
+  pub faults_read : (words : List (List ℕ)) (body text : List ℕ) → AreFaulty words text → groups_of (words ++ body ∷ []) ≡ Err text
+  unfolding groups_of
+  faults_read words body text is = fault_from_read words body text is.0 is.1
+
+  abbrev AllCut : List (List ℕ) → Result (List Group) (List ℕ) → Type 0
+  AllCut words (Ok groups) = AreGroups words groups
+  AllCut words (Err text) = AreFaulty words text
+
+  -- two words less
+  body_behind : (names items : List ℕ) (words : List (List ℕ)) → has_body (names ∷ items ∷ words) ≡ true → has_body words ≡ true
+  body_behind names items words has =
+      let two : 2 * 1 + length words ≡ suc (suc (length words)) = omega arith in
+      ap (λ k. k == 1) (sym (mul-add-mod_self_left 2 1 (length words))) ∙ ap (λ k. k % 2 == 1) two ∙ has
+
+  groups_from_cut : (words : List (List ℕ)) (body : List ℕ) → has_body (words ++ body ∷ []) ≡ true → AllCut words (groups_from None (words ++ body ∷ []))
+  groups_from_cut [] body has = refl
+  groups_from_cut (names ∷ []) body has = absurd (cc)
+  groups_from_cut (names ∷ items ∷ words) body has =
+      by (group_of (list_of names) (list_of items)) (groups_from None (words ++ body ∷ [])) (group_cut names items) (groups_from_cut words body (body_behind names items (words ++ body ∷ []) has))
+    where
+      by : (own : Result Group (List ℕ)) (more : Result (List Group) (List ℕ)) → Cut names items own → AllCut words more → AllCut (names ∷ items ∷ words) (behind_group own more)
+      by (Err text) more is cut = ([], (names, items, words, refl, is))
+      by (Ok group) (Err text) is cut = (group ∷ cut.0, (names, items, words, refl, is, cut.1))
+      by (Ok group) (Ok groups) is cut = (names, items, words, refl, is, cut)
+
+  pub groups_cut : (words : List (List ℕ)) (body : List ℕ) (groups : List Group) → has_body (words ++ body ∷ []) ≡ true → groups_of (words ++ body ∷ []) ≡ Ok groups → AreGroups words groups
+  unfolding groups_of
+  groups_cut words body groups has same = subst (AllCut words) same (groups_from_cut words body has)
+
+  pub faults_cut : (words : List (List ℕ)) (body text : List ℕ) → has_body (words ++ body ∷ []) ≡ true → groups_of (words ++ body ∷ []) ≡ Err text → AreFaulty words text
+  unfolding groups_of
+  faults_cut words body text has same = subst (AllCut words) same (groups_from_cut words body has)
 
 same_names : (turns : ℕ) (group : Group) → (after_turns turns group).names ≡ group.names
 same_names zero group = refl

@@ -1,27 +1,31 @@
--- How the words of `if`, `switch` and `foreach` are cut, as relations on whole lists that say nothing of how they are read.
-use Rattle.std.specs.Prelude.{◌≡◌, ◌≢◌, ◌⊎◌, ℕ, zero, suc, List, [], ◌∷◌, ◌++◌, Option, Some, None, Ok, codes}
-use Rattle.tcl_text.specs.Readings.{list_of}
+-- How the words of `if` and `foreach` and the pairs of `switch` are cut, as relations on whole lists.
+use Rattle.std.specs.Prelude.{◌≡◌, ◌≢◌, ◌⊎◌, ℕ, zero, suc, List, [], ◌∷◌, ◌++◌, Option, Some, None, codes}
+use Rattle.tcl_text.specs.Readings.{IsList}
+use Rattle.tcl_text.specs.ListFaults.{IsListFault}
+use Rattle.tcl_text.specs.Splitting.{fault_text}
+use Rattle.tcl_text.specs.declared.splitting.ListFault.{ListFault}
 use Rattle.tcl_shapes.specs.declared.branches.Branch.{Branch}
 use Rattle.tcl_shapes.specs.declared.branches.Choices.{Choices}
 use Rattle.tcl_shapes.specs.declared.groups.Group.{Group}
 use Rattle.tcl_shapes.specs.Groups.{advanced}
+use Rattle.tcl_shapes.specs.Texts.{message}
 
--- cond ?then? body: a `then` behind the condition is never a body
+-- cond ?then? body: a `then` right behind the condition is never the body
 abbrev pub IsBranch : List (List ℕ) → Branch → Type 0
 IsBranch words branch = (words ≡ branch.test ∷ codes "then" ∷ branch.body ∷ []) ⊎ ((branch.body ≢ codes "then") × (words ≡ branch.test ∷ branch.body ∷ []))
 
--- ?else? ?body?: an `elseif` or `else` is no body unless it stands behind `else`
+-- nothing, or ?else? body: an `elseif` or `else` is the body only behind `else`
 abbrev pub IsOtherwise : List (List ℕ) → Option (List ℕ) → Type 0
 IsOtherwise words None = words ≡ []
 IsOtherwise words (Some body) = (words ≡ codes "else" ∷ body ∷ []) ⊎ ((body ≢ codes "elseif") × (body ≢ codes "else") × (words ≡ body ∷ []))
 
--- ?elseif cond ?then? body ..? ?else? ?body?
+-- ?elseif cond ?then? body ..? and then nothing, or ?else? body
 abbrev pub AreFurther : List (List ℕ) → List Branch → Option (List ℕ) → Type 0
 AreFurther words [] otherwise = IsOtherwise words otherwise
 AreFurther words (branch ∷ branches) otherwise =
     (own : List (List ℕ)) × (rest : List (List ℕ)) × (words ≡ codes "elseif" ∷ (own ++ rest)) × IsBranch own branch × AreFurther rest branches otherwise
 
--- cond ?then? body ?elseif cond ?then? body ..? ?else? ?body?
+-- cond ?then? body ?elseif cond ?then? body ..? and then nothing, or ?else? body
 abbrev pub AreChoices : List (List ℕ) → List Branch → Option (List ℕ) → Type 0
 AreChoices words [] otherwise = ⊥
 AreChoices words (branch ∷ branches) otherwise =
@@ -36,17 +40,37 @@ abbrev pub pairs_of : List Branch → List (List ℕ)
 pairs_of [] = []
 pairs_of (arm ∷ arms) = arm.test ∷ arm.body ∷ pairs_of arms
 
--- Names, which aren't none, with the items of a list, of which none was taken.
+-- A non-empty list of names, and a list of items of which none has been taken yet.
 abbrev pub IsGroup : List ℕ → List ℕ → Group → Type 0
-IsGroup names items group = (list_of names ≡ Ok group.names) × (group.names ≢ []) × (list_of items ≡ Ok group.items) × (group.next ≡ 0)
+IsGroup names items group = IsList names group.names × (group.names ≢ []) × IsList items group.items × (group.next ≡ 0)
 
--- names items ?names items ..? ?body?
+-- a word that is no list, and the text of that error
+abbrev pub IsNoList : List ℕ → List ℕ → Type 0
+IsNoList word text = (fault : ListFault) × IsListFault word fault × (text ≡ message (fault_text fault))
+
+-- Names and items that are no group, and the text of the error: of the names, if they are at fault.
+abbrev pub IsNoGroup : List ℕ → List ℕ → List ℕ → Type 0
+IsNoGroup names items text =
+    IsNoList names text
+    ⊎ ((IsList names [] × (text ≡ codes "foreach varlist is empty")) ⊎ ((own : List (List ℕ)) × IsList names own × (own ≢ []) × IsNoList items text))
+
+-- ?names items ..?: the words before the body of `foreach`, which itself needs one pair at least
 abbrev pub AreGroups : List (List ℕ) → List Group → Type 0
-AreGroups words [] = (words ≡ []) ⊎ ((body : List ℕ) × (words ≡ body ∷ []))
+AreGroups words [] = words ≡ []
 AreGroups words (group ∷ groups) =
     (names : List ℕ) × (items : List ℕ) × (rest : List (List ℕ)) × (words ≡ names ∷ items ∷ rest) × IsGroup names items group × AreGroups rest groups
 
--- a group when so many turns were taken
+-- groups, and then a pair that is none
+abbrev pub AreBeforeFault : List (List ℕ) → List Group → List ℕ → Type 0
+AreBeforeFault words [] text = (names : List ℕ) × (items : List ℕ) × (rest : List (List ℕ)) × (words ≡ names ∷ items ∷ rest) × IsNoGroup names items text
+AreBeforeFault words (group ∷ groups) text =
+    (names : List ℕ) × (items : List ℕ) × (rest : List (List ℕ)) × (words ≡ names ∷ items ∷ rest) × IsGroup names items group × AreBeforeFault rest groups text
+
+-- the words before the body are at fault, with this text
+abbrev pub AreFaulty : List (List ℕ) → List ℕ → Type 0
+AreFaulty words text = (groups : List Group) × AreBeforeFault words groups text
+
+-- a group after so many turns
 abbrev pub after_turns : ℕ → Group → Group
 after_turns zero group = group
 after_turns (suc turns) group = advanced (after_turns turns group)

@@ -4,7 +4,6 @@ pub mod Application
 pub mod Fault
 pub mod Global
 pub mod Held
-pub mod Rect
 pub mod Refusals
 pub mod Running
 pub mod Section

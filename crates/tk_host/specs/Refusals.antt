@@ -4,7 +4,7 @@ use Rattle.tk_host.specs.declared.fault.HostFault.{HostFault}
 use Rattle.tk_host.specs.declared.fault.HostFault.TheVariants.{Overlap, TimeBack, BadValue, NoApp, TooManyApps, NameTaken, Started, Ended, Broken, NoMemory}
 use Rattle.tk_host.specs.declared.phase.Phase.{Phase}
 use Rattle.tk_host.specs.declared.phase.Phase.TheVariants.{Reached, Finished, Lost}
-use Rattle.tk_host.specs.Rect.{SharePixel}
+use Rattle.tk_base.specs.Rect.{SharePixel}
 use Rattle.tk_host.specs.Spec.{Given, IsInRange, rect_of}
 use Rattle.tk_host.specs.Held.{Held, Part, reached}
 

@@ -1,6 +1,5 @@
 use crate::console::Console;
 use crate::message::short_text;
-use crate::rect::Rect;
 use crate::running::{run_script, run_settling};
 use crate::section::{push_head, push_timers, push_transcript, push_window};
 use crate::settling::Settling;
@@ -11,6 +10,7 @@ use std::marker::Model;
 use tcl_interp::Interp;
 use tcl_text::Text;
 use tcl_vars::Scopes;
+use tk_base::Rect;
 
 /// An application, with the script that it still has to run.
 #[derive(Drop)]
@@ -60,7 +60,7 @@ impl Application {
     ghost use Rattle.std.specs.Prelude.{◌≡◌, ◌<◌, ◌≤◌, ◌↔◌, IsTrue, IfOk, OnOk, OnErr};
     ghost use Rattle.tk_host.specs.Alone.{after_script, next_due, settled};
     ghost use Rattle.tk_host.specs.Held.{added, brought, started};
-    ghost use Rattle.tk_host.specs.Rect.{SharePixel};
+    ghost use Rattle.tk_base.specs.Rect.{SharePixel};
     ghost use Rattle.tk_host.specs.Section.{section};
     ghost use Rattle.tk_host.specs.Spec.{given};
 

@@ -1,17 +1,17 @@
 ghost use Rattle.std.specs.Prelude.{◌≡◌, ◌<◌, ◌≤◌, ◌↔◌, ℕ, List, map, IsTrue, Any, OnOk, MatchResult};
 ghost use Rattle.tk_host.specs.Held.{brought, started};
-ghost use Rattle.tk_host.specs.Rect.{SharePixel};
+ghost use Rattle.tk_base.specs.Rect.{SharePixel};
 ghost use Rattle.tk_host.specs.Refusals.{IsRefusal, NoneApplies, app_faults, PartsRefuse};
 ghost use Rattle.tk_host.specs.Spec.{given};
 
 use crate::application::Application;
 use crate::fault::HostFault;
 use crate::phase::Phase;
-use crate::rect::Rect;
 use crate::spec::is_in_range;
 use std::alloc::{AllocError, Global};
 use std::marker::Model;
 use tcl_text::Text;
+use tk_base::Rect;
 
 /// How many applications a host has at most.
 pub const MAX_APPLICATIONS: usize = 16;

@@ -1,8 +1,8 @@
 ghost use Rattle.std.specs.Prelude.{◌↔◌, ℕ, List, IsTrue, All};
 ghost use Rattle.tk_host.specs.Spec.{IsName, IsNameByte, IsLength, IsInRange, given};
 
-use crate::rect::Rect;
 use tcl_text::Text;
+use tk_base::Rect;
 
 /// The last pixel column or row at which an application may begin, and its greatest width and height.
 pub const MAX_PIXELS: u32 = 32_767;

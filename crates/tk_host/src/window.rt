@@ -2,7 +2,7 @@ ghost use Rattle.std.specs.Prelude.{◌≡◌};
 ghost use Rattle.tk_host.specs.Application.{unlaid};
 ghost use Rattle.tk_host.specs.Shown.{filled};
 
-use crate::rect::Rect;
+use tk_base::Rect;
 
 /// How large an application's rectangle is, in pixels.
 #[derive(Clone, Copy, Debug, PartialEq, Eq)]

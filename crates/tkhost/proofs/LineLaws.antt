@@ -11,7 +11,7 @@ use Rattle.std.proofs.lemmas.Bool.{false≢true, eq-eqb, ne_eqb, eqb-true, and_p
 use Rattle.std.proofs.lemmas.Fmt.{decimal_digit, first_decimal, digits_decimal, digits_value-decimal, decimal-digits_value}
 use Rattle.std.proofs.lemmas.Option.{cond_some, none-some, same_Some}
 use Rattle.std.proofs.lemmas.Slice.Eq.{bytes_eq-Decides}
-use Rattle.tk_host.specs.declared.rect.Rect.{Rect}
+use Rattle.tk_base.specs.declared.rect.Rect.{Rect}
 use Rattle.tk_host.specs.Spec.{IsLength, IsInRange, given}
 use Rattle.tkhost.specs.Session.{lines_of, spelled, IsAppLine, IsScriptLine, IsEndLine}
 use Rattle.tkhost.specs.Reading.{◌>>=◌, is_name, is_name_part, cut_at, is_numeral, has_plain_front, number_of, number_field, rect_field, name_of, behind, app_line_of, script_line_of, end_line_of}

@@ -9,10 +9,10 @@ use Rattle.tk_host.specs.declared.fault.HostFault.TheVariants.{TimeBack, BadValu
 use Rattle.tk_host.specs.declared.fault.HostFault.TheVariants as faults
 use Rattle.tk_host.specs.declared.phase.Phase.{Phase}
 use Rattle.tk_host.specs.declared.phase.Phase.TheVariants.{Adding, Reached, Finished}
-use Rattle.tk_host.specs.declared.rect.Rect.{Rect}
+use Rattle.tk_base.specs.declared.rect.Rect.{Rect}
 use Rattle.tk_host.specs.Alone.{alone}
 use Rattle.tk_host.specs.Held.{Call, AddApp, Start, End, Held, held_after, given_by, phase_after, part_in, application_in}
-use Rattle.tk_host.specs.Rect.{SharePixel}
+use Rattle.tk_base.specs.Rect.{SharePixel}
 use Rattle.tk_host.specs.Refusals.{IsFirst, NoneApplies, IsRefusal, RefusesApp, RefusesMoment, RefusesSection, PhaseRefuses, add_faults, start_faults, moment_faults, section_faults}
 use Rattle.tk_host.specs.Section.{section}
 use Rattle.tk_host.specs.Sections.{sections_after}

@@ -5,8 +5,8 @@ use Rattle.std.specs.Str.{IsUtf8, is_utf8}
 use Rattle.std.proofs.lemmas.Str.{is_utf8-from_IsUtf8, IsUtf8-from_is_utf8}
 use Rattle.std.proofs.lemmas.Bool.{lt-ltb, ltb-true, false_from_ne_true}
 use Rattle.std.proofs.lemmas.Bool.Decides.{Decides-and, Decides-like}
-use Rattle.tk_host.specs.declared.rect.Rect.{Rect}
-use Rattle.tk_host.specs.Rect.{Meet, SharePixel}
+use Rattle.tk_base.specs.declared.rect.Rect.{Rect}
+use Rattle.tk_base.specs.Rect.{Meet, SharePixel}
 use Rattle.tkhost.specs.Reading.{meet, overlap}
 
 -- what `from_utf8` answers, as a test

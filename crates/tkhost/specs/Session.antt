@@ -3,14 +3,14 @@ use Rattle.std.specs.Prelude.{◌≡◌, ◌≢◌, ℕ, ◌+◌, ◌<◌, ◌�
 use Rattle.std.specs.List.{AllByRecursion, join_with_byte, onto_first}
 use Rattle.std.specs.Fmt.{decimal}
 use Rattle.std.specs.Str.{IsUtf8}
-use Rattle.tk_host.specs.declared.rect.Rect.{Rect}
+use Rattle.tk_base.specs.declared.rect.Rect.{Rect}
 use Rattle.tkhost.specs.declared.session.AppBlock.{AppBlock}
 use Rattle.tkhost.specs.declared.fault.LineFault.{LineFault}
 use Rattle.tkhost.specs.declared.fault.LineFault.TheVariants.{BadLine, TooManyApps, NameTaken}
 use Rattle.tkhost.specs.declared.fault.LineFault.TheVariants as faults
 use Rattle.tkhost.specs.declared.fault.SessionFault.{SessionFault}
 use Rattle.tkhost.specs.declared.fault.SessionFault.TheVariants.{Refused, NoMemory}
-use Rattle.tk_host.specs.Rect.{SharePixel}
+use Rattle.tk_base.specs.Rect.{SharePixel}
 use Rattle.tk_host.specs.Spec.{IsInRange, given}
 
 -- the bytes of a line, without the LF at its end

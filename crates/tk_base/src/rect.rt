@@ -1,5 +1,5 @@
 ghost use Rattle.std.specs.Prelude.{◌↔◌, IsTrue};
-ghost use Rattle.tk_host.specs.Rect.{Meet, SharePixel};
+ghost use Rattle.tk_base.specs.Rect.{Meet, SharePixel};
 
 /// A rectangle, in pixels: its upper left corner, from that of the screen, and its size. It holds its left and its top edge, and not
 /// the others.

@@ -1,6 +1,6 @@
 -- Rectangles of pixels.
 use Rattle.std.specs.Prelude.{ℕ, ◌+◌, ◌<◌, ◌≤◌}
-use Rattle.tk_host.specs.declared.rect.Rect.{Rect}
+use Rattle.tk_base.specs.declared.rect.Rect.{Rect}
 
 -- a place in a span, which holds where it starts and not where it ends
 abbrev pub IsWithin : ℕ → ℕ → ℕ → Type 0

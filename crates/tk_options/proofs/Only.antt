@@ -1,14 +1,13 @@
 -- The only option whose name begins with a word, by the first place at which one stands.
-use Rattle.std.proofs.Common.{◌≡◌, ℕ, ◌+◌, ◌<◌, List, [], ◌∷◌, get_or, drop, Option, Some, None, Result, Ok, Err, Bool, true, false, refl, sym, ap, ◌∙◌}
+use Rattle.std.proofs.Common.{◌≡◌, ℕ, ◌+◌, List, [], ◌∷◌, get_or, drop, Option, Some, None, Ok, Err, Bool, true, false, refl, sym, ap, ◌∙◌}
 use Rattle.std.specs.Prelude.{filter, position}
 use Rattle.std.specs.Option.{is_some}
-use Rattle.tk_options.specs.declared.fault.OptionFault.{OptionFault}
 use Rattle.tk_options.specs.declared.fault.OptionFault.TheVariants.{UnknownOption, AmbiguousOption}
 use Rattle.tk_options.specs.declared.option.OptionEntry.{OptionEntry}
 use Rattle.tk_options.specs.declared.form.Form.TheVariants.{AnyText}
 use Rattle.tk_options.specs.declared.option.OptionName.TheVariants.{Text}
 use Rattle.tk_options.specs.Rows.{row}
-use Rattle.tk_options.specs.Options.{only, is_begun, Outcome}
+use Rattle.tk_options.specs.Options.{only}
 use Rattle.tk_options.proofs.Places.{filter_at, filter_nowhere}
 
 pub only_none : (word : List ℕ) (p : OptionEntry → Bool) (entries : List OptionEntry) → position p entries ≡ None

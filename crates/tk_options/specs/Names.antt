@@ -1,5 +1,5 @@
 -- What the options are called.
-use Rattle.std.specs.Prelude.{ℕ, List, codes, if◌then◌else◌, Bool}
+use Rattle.std.specs.Prelude.{ℕ, List, codes, if◌then◌else◌}
 use Rattle.std.specs.Str.{bytes_eq}
 use Rattle.tk_options.specs.declared.option.OptionName.{OptionName}
 use Rattle.tk_options.specs.declared.option.OptionName.TheVariants.{Anchor, Background, BorderWidth, Command, Foreground, Height, PadX, PadY, Relief, SelectMode, State, Text, TextVariable, Width}

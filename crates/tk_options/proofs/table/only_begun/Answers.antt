@@ -1,9 +1,7 @@
 use Rattle.std.proofs.Common.{◌≡◌, ℕ, List, Some, None, Err, true, false, sym, ap, ◌∙◌}
 use Rattle.std.specs.Prelude.{position}
 use Rattle.std.specs.Option.{is_some}
-use Rattle.tk_options.specs.declared.fault.OptionFault.{OptionFault}
 use Rattle.tk_options.specs.declared.fault.OptionFault.TheVariants.{UnknownOption, AmbiguousOption}
-use Rattle.tk_options.specs.declared.option.OptionEntry.{OptionEntry}
 use Rattle.tk_options.specs.Options.{is_begun}
 use Rattle.tk_options.proofs.Only.{only_none, only_one, only_many}
 use Rattle.tk_options.proofs.table.only_begun.Goals as goal

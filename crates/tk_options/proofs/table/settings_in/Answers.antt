@@ -1,4 +1,4 @@
-use Rattle.std.proofs.Common.{◌≡◌, ℕ, List, [], ◌∷◌, ◌++◌, Ok, sym, ap, ◌∙◌}
+use Rattle.std.proofs.Common.{◌≡◌, ℕ, List, ◌∷◌, Ok, sym, ap, ◌∙◌}
 use Rattle.tk_options.specs.declared.table.Setting.{Setting}
 use Rattle.tk_options.specs.Options.{settings, tested}
 use Rattle.tk_options.proofs.Settings.{settings_behind, settings_behind-more}

@@ -1,8 +1,7 @@
-use Rattle.std.proofs.Common.{◌≡◌, ℕ, List, set, get_or, Option, Some, None, sym, ap, ◌∙◌}
+use Rattle.std.proofs.Common.{◌≡◌, ℕ, List, set, Some, None, sym, ap, ◌∙◌}
 use Rattle.std.specs.Prelude.{position}
-use Rattle.tk_options.specs.declared.option.OptionEntry.{OptionEntry}
 use Rattle.tk_options.specs.Names.{name_of}
-use Rattle.tk_options.specs.Options.{is_named, first_set, with_value}
+use Rattle.tk_options.specs.Options.{is_named, first_set}
 use Rattle.tk_options.proofs.Settings.{set_at, set_nowhere}
 use Rattle.tk_options.proofs.table.OptionTable.put.Goals as goal
 

@@ -1,0 +1,104 @@
+-- An entry of entry(n): its text, its cursor, and what edits make of them. Places count characters.
+use Rattle.std.specs.Prelude.{◌≡◌, ℕ, ◌+◌, ◌-◌, ◌<◌, min, max, Bool, true, false, not, ◌&&◌, ◌==◌, nat_le, nat_lt, if◌then◌else◌, List, [], ◌∷◌, ◌++◌, length, take, drop, Option, Some, None, option_map, codes}
+use Rattle.std.specs.Str.{chars, encode_utf8_all, bytes_eq}
+use Rattle.tcl_text.specs.Indices.{from_zero}
+use Rattle.tcl_text.specs.Readings.{integer_of}
+use Rattle.tk_entry.specs.declared.entry.Entry.{Entry}
+use Rattle.tk_entry.specs.declared.keys.Move.{Move}
+use Rattle.tk_entry.specs.declared.keys.Move.TheVariants.{Left, Right, Home, End}
+
+-- how many characters a text has
+abbrev pub size : List ℕ → ℕ
+size text = length (chars text)
+
+-- its first n characters, and what stands behind them
+abbrev pub front : ℕ → List ℕ → List ℕ
+front n text = encode_utf8_all (take n (chars text))
+
+abbrev pub behind : ℕ → List ℕ → List ℕ
+behind n text = encode_utf8_all (drop n (chars text))
+
+-- ---- what an entry shows
+
+-- the variable's text, where there is one that can be read, or else the entry's own
+abbrev pub shown : Option (List ℕ) → Entry → List ℕ
+shown (Some text) entry = text
+shown None entry = entry.text
+
+-- where the cursor stands in it: at its end, where it is kept past that
+abbrev pub cursor_in : List ℕ → Entry → ℕ
+cursor_in text entry = min entry.cursor (size text)
+
+-- ---- indices
+
+-- a number, cut to what there is
+abbrev pub number_in : List ℕ → ℕ → Option ℕ
+number_in word most = option_map (λ n. min (from_zero n) most) (integer_of word)
+
+-- how many characters stand before an index, of so many, with so many before the cursor
+unfoldable pub index_in : List ℕ → ℕ → ℕ → Option ℕ
+index_in word all cursor =
+    if bytes_eq word (codes "end") then Some all
+    else (if bytes_eq word (codes "insert") then Some cursor
+    else number_in word all)
+
+-- ---- edits
+
+-- `insert index text`: the text stands behind the first so many characters, and the cursor moves on where it stands there or behind
+abbrev pub inserted : ℕ → List ℕ → List ℕ → ℕ → Entry
+inserted at new text cursor = record {
+  text = front at text ++ (new ++ behind at text);
+  cursor = if nat_le at cursor then cursor + size new else cursor;
+}
+
+-- `delete first last`: the characters from the first place on and before the last are gone, and the cursor moves back by those before it
+abbrev pub deleted : ℕ → ℕ → List ℕ → ℕ → Entry
+deleted first last text cursor = record {
+  text = front first text ++ behind (max first last) text;
+  cursor = cursor - (min cursor last - first);
+}
+
+-- an edit of what an entry shows
+abbrev pub edited : (List ℕ → ℕ → Entry) → Option (List ℕ) → Entry → Entry
+edited edit variable entry = edit (shown variable entry) (cursor_in (shown variable entry) entry)
+
+-- ---- keys
+
+-- a text that a key puts in begins with a character that is no control character
+abbrev pub is_typed : List ℕ → Bool
+is_typed [] = false
+is_typed (c ∷ cs) = nat_le 32 c && not (c == 127)
+
+-- the text at the cursor
+abbrev pub at_cursor : List ℕ → List ℕ → ℕ → Entry
+at_cursor new text cursor = inserted cursor new text cursor
+
+-- without the character before the cursor, and without the one behind it
+abbrev pub without_before : List ℕ → ℕ → Entry
+without_before text cursor = deleted (cursor - 1) cursor text cursor
+
+abbrev pub without_behind : List ℕ → ℕ → Entry
+without_behind text cursor = deleted cursor (cursor + 1) text cursor
+
+-- what a key makes of an entry, if it edits it
+abbrev pub by_text : List ℕ → Option (List ℕ) → Entry → Option Entry
+by_text new variable entry = if is_typed (chars new) then Some (edited (at_cursor new) variable entry) else None
+
+abbrev pub by_backspace : Option (List ℕ) → Entry → Option Entry
+by_backspace variable entry = if nat_lt 0 (cursor_in (shown variable entry) entry) then Some (edited without_before variable entry) else None
+
+abbrev pub by_delete : Option (List ℕ) → Entry → Option Entry
+by_delete variable entry =
+    if nat_lt (cursor_in (shown variable entry) entry) (size (shown variable entry)) then Some (edited without_behind variable entry) else None
+
+-- whether an edit took place, and what it made
+abbrev pub Edits : Option Entry → Entry → Entry → Bool → Type 0
+Edits wanted old new true = wanted ≡ Some new
+Edits wanted old new false = (wanted ≡ None) × (new ≡ old)
+
+-- where the cursor goes
+abbrev pub moved : Move → List ℕ → ℕ → ℕ
+moved Left text cursor = cursor - 1
+moved Right text cursor = min (cursor + 1) (size text)
+moved Home text cursor = 0
+moved End text cursor = size text

@@ -1,0 +1,4 @@
+-- What the contracts cite.
+pub mod Indices
+pub mod Items
+pub mod Listboxes

@@ -1,0 +1,220 @@
+ghost use Rattle.std.specs.Prelude.{◌≡◌, ◌≢◌, ◌<◌, ◌≤◌, ◌++◌, [], min, length, IfOk, IfErr, OnOk, OnErr, drop, take, ◌+◌, ◌^◌};
+ghost use Rattle.tcl_text.specs.Readings.{list_form};
+ghost use Rattle.tk_listbox.specs.Indices.{from_zero};
+ghost use Rattle.tk_listbox.specs.Items.{texts, new_items, chosen_from};
+ghost use Rattle.tk_listbox.specs.Listboxes.{part, kept, active_inserted, active_deleted, inserted, deleted, activated, chosen_by, selected, has_chosen, row_at};
+
+use crate::choice::Choice;
+use crate::items::{Item, first_items, items_behind, texts_of, with_copies, with_new};
+use std::alloc::{AllocError, Global};
+use std::marker::Model;
+use tcl_text::{Text, TextFault, TextList};
+
+/// How many pixels high a row is.
+const ROW: usize = 16;
+
+/// The items of a listbox with their selection, and which is active (listbox(n)). Places count from 0. In an empty listbox the place 0 is
+/// active.
+#[derive(Drop)]
+pub struct Listbox {
+    items: Vec<Item>,
+    active: usize,
+}
+
+impl Model for Listbox {
+    ghost use Rattle.tk_listbox.specs.Listboxes.{Held};
+
+    ghost Value = { Held };
+
+    ghost view = { λ b. record { items = b.items.items; active = b.active } };
+}
+
+impl Listbox {
+    /// No items. It takes no memory.
+    pub fn new(alloc: Global) -> Listbox
+        ensures { result ≡ record { items = []; active = 0 } }
+    {
+        Listbox {
+            items: Vec::new(alloc),
+            active: 0,
+        }
+    }
+
+    /// How many items there are (`size` of listbox(n)).
+    pub fn size(&self) -> usize
+        ensures { result ≡ length self.now.items }
+    {
+        self.items.len()
+    }
+
+    /// The place of the active item.
+    pub fn active(&self) -> usize
+        ensures { result ≡ self.now.active }
+    {
+        self.active
+    }
+
+    /// The texts of the items from a place on and before another (`get` of listbox(n)).
+    pub fn get(&self, alloc: Global, from: usize, to: usize) -> Result<TextList, AllocError>
+        ensures { IfOk result (λ list. list ≡ texts (part from to self.now.items)) }
+    {
+        texts_of(alloc, items_behind(first_items(&self.items, to), from))
+    }
+
+    /// Inserts items before the one at a place, or behind the last (`insert` of listbox(n)). `TooLong` (4), and nothing is inserted, where the
+    /// list of all items would pass 65,536 bytes.
+    pub fn insert(&mut self, alloc: Global, at: usize, new: &[Text]) -> Result<(), TextFault>
+        ensures ok { OnOk result (self.new ≡ inserted at new.now self.old) }
+        ensures short { OnOk result (length (list_form (texts (inserted at new.now self.old).items)) ≤ 65536) }
+        ensures too_long { IfErr result (λ fault. fault ≢ TextFault.NoMemory
+            → 65536 < length (list_form (texts (inserted at new.now self.old).items))) }
+        ensures err { OnErr result (self.new ≡ self.old) }
+    {
+        let items = with_inserted(alloc, &self.items, at, new)?;
+        let active = active_inserted(at, new.len(), self.items.len(), self.active);
+        *self = Listbox { items, active };
+        Ok(())
+    }
+
+    /// Deletes the items from a place on and before another (`delete` of listbox(n)). Refused, it deletes none.
+    pub fn delete(&mut self, alloc: Global, from: usize, to: usize) -> Result<(), AllocError>
+        ensures ok { OnOk result (self.new ≡ deleted from to self.old) }
+        ensures err { OnErr result (self.new ≡ self.old) }
+    {
+        let items = kept(alloc, &self.items, from, to)?;
+        let last = items.len().saturating_sub(1);
+        let active = active_deleted(from, to, self.active).min(last);
+        *self = Listbox { items, active };
+        Ok(())
+    }
+
+    /// Makes the item at a place active, or the last (`activate` of listbox(n)). It takes no memory.
+    pub fn activate(&mut self, place: usize)
+        ensures { self.new ≡ activated place self.old }
+    {
+        self.active = place.min(self.items.len().saturating_sub(1));
+    }
+
+    /// Changes the selection (`selection set`, `selection clear` of listbox(n), and what keys and the pointer do). It takes no memory.
+    pub fn select(&mut self, how: Choice)
+        ensures { self.new ≡ selected how self.old }
+    {
+        choose(&mut self.items, how);
+    }
+
+    /// The places of the items that are selected, in order (`curselection` of listbox(n)).
+    pub fn selection(&self, alloc: Global) -> Result<Vec<usize>, AllocError>
+        ensures { IfOk result (λ list. list.items ≡ chosen_from 0 self.now.items) }
+    {
+        chosen_places(alloc, &self.items)
+    }
+
+    /// Whether one of the items from a place on and before another is selected (`selection includes` of listbox(n)). It takes no memory.
+    pub fn includes(&self, from: usize, to: usize) -> bool
+        ensures { result ≡ has_chosen (part from to self.now.items) }
+    {
+        items_behind(first_items(&self.items, to), from)
+            .iter()
+            .any(|item| item.chosen)
+    }
+
+    /// The place of the item at a height, in pixels from the upper edge, inside a border of so many pixels; the nearest, where the height lies
+    /// past the items. It takes no memory.
+    pub fn row(&self, y: i64, border: u32) -> usize
+        ensures { result ≡ row_at y border (length self.now.items) }
+    {
+        let inside = usize::try_from(y)
+            .unwrap_or(0)
+            .saturating_sub(border as usize);
+        (inside / ROW).min(self.items.len().saturating_sub(1))
+    }
+}
+
+/// The items with new ones before the one at a place.
+fn with_inserted(
+    alloc: Global,
+    items: &[Item],
+    at: usize,
+    new: &[Text],
+) -> Result<Vec<Item>, TextFault>
+    ensures ok { IfOk result (λ all. all.items ≡ take at items.now ++ (new_items new.now ++ drop at items.now)) }
+    ensures short { OnOk result (length (list_form (texts (take at items.now ++ (new_items new.now ++ drop at items.now)))) ≤ 65536) }
+    ensures too_long { IfErr result (λ fault. fault ≢ TextFault.NoMemory
+        → 65536 < length (list_form (texts (take at items.now ++ (new_items new.now ++ drop at items.now))))) }
+{
+    let all = spliced(alloc, items, at, new)?;
+    test_length(alloc, &all)?;
+    Ok(all)
+}
+
+/// The items with new ones before the one at a place, however long.
+fn spliced(alloc: Global, items: &[Item], at: usize, new: &[Text]) -> Result<Vec<Item>, AllocError>
+    ensures { IfOk result (λ all. all.items ≡ take at items.now ++ (new_items new.now ++ drop at items.now)) }
+{
+    let all = with_copies(Vec::new(alloc), first_items(items, at))?;
+    let all = with_new(all, new)?;
+    with_copies(all, items_behind(items, at))
+}
+
+/// Refuses items whose list is too long.
+fn test_length(alloc: Global, items: &[Item]) -> Result<(), TextFault>
+    ensures short { OnOk result (length (list_form (texts items.now)) ≤ 65536) }
+    ensures too_long { IfErr result (λ fault. fault ≢ TextFault.NoMemory → 65536 < length (list_form (texts items.now))) }
+{
+    let texts = texts_of(alloc, items)?;
+    let _list = Text::join_list(alloc, texts.as_slice())?;
+    Ok(())
+}
+
+/// The items without those from a place on and before another.
+fn kept(alloc: Global, items: &[Item], from: usize, to: usize) -> Result<Vec<Item>, AllocError>
+    ensures { IfOk result (λ all. all.items ≡ kept from to items.now) }
+{
+    let all = with_copies(Vec::new(alloc), first_items(items, from))?;
+    with_copies(all, items_behind(items, from.max(to)))
+}
+
+/// The place of the active item of so many, once others stand before a place.
+fn active_inserted(at: usize, count: usize, size: usize, active: usize) -> usize
+    requires { size + count < 2 ^ 64 }
+    ensures { result ≡ active_inserted at count size active }
+{
+    if active < size && at <= active {
+        active + count
+    } else {
+        active
+    }
+}
+
+/// The place of the active item, once those from a place on and before another are gone.
+fn active_deleted(from: usize, to: usize, active: usize) -> usize
+    ensures { result ≡ active_deleted from to active }
+{
+    if to <= active {
+        active - to.saturating_sub(from)
+    } else {
+        active.min(from)
+    }
+}
+
+/// Changes the selection of the items.
+fn choose(items: &mut [Item], how: Choice)
+    ensures { items.new ≡ chosen_by how 0 items.old }
+{
+    for (place, item) in items.iter_mut().enumerate() {
+        item.chosen = how.after(place, item.chosen);
+    }
+}
+
+/// The places of the items that are selected.
+fn chosen_places(alloc: Global, items: &[Item]) -> Result<Vec<usize>, AllocError>
+    ensures { IfOk result (λ list. list.items ≡ chosen_from 0 items.now) }
+{
+    let mut list = Vec::new(alloc);
+    for (place, item) in items.iter().enumerate() {
+        if item.chosen {
+            list.push(place)?;
+        }
+    }
+    Ok(list)
+}

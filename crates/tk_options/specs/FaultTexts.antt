@@ -1,0 +1,15 @@
+-- The texts of refusals.
+use Rattle.std.specs.Prelude.{ℕ, List, ◌++◌, codes}
+use Rattle.tcl_text.specs.Answers.{quoted}
+use Rattle.tk_options.specs.declared.fault.OptionFault.{OptionFault}
+use Rattle.tk_options.specs.declared.fault.OptionFault.TheVariants.{UnknownOption, AmbiguousOption, BadValue, NoValue, NoMemory}
+
+abbrev pub bad_value_text : List ℕ → List ℕ → List ℕ
+bad_value_text value word = (codes "bad value " ++ (quoted value ++ codes " for option ")) ++ quoted word
+
+unfoldable pub fault_text : OptionFault → List ℕ
+fault_text (UnknownOption word) = codes "unknown option " ++ quoted word
+fault_text (AmbiguousOption word) = codes "ambiguous option " ++ quoted word
+fault_text (BadValue value word) = bad_value_text value word
+fault_text (NoValue word) = codes "value for " ++ (quoted word ++ codes " missing")
+fault_text NoMemory = codes "out of memory"

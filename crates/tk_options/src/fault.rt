@@ -1,0 +1,132 @@
+//! Why options are refused, and the texts that say so.
+ghost use Rattle.std.specs.Prelude.{◌≡◌, ◌++◌, IfOk, OnOk, string_bytes};
+ghost use Rattle.tcl_text.specs.Answers.{bounded, limit_text, quoted};
+ghost use Rattle.tk_options.specs.FaultTexts.{bad_value_text, fault_text};
+
+use std::alloc::{AllocError, AllocFailed, Global};
+use std::fmt::{self, Debug, Formatter, Write};
+use tcl_text::{Text, TextFault};
+use thiserror::Error;
+
+/// Why options are not set or told, with the words at fault as they were given.
+#[derive(Drop, Error)]
+pub enum OptionFault {
+    /// No option has this name, nor does any begin with it (20).
+    #[error("unknown option")]
+    UnknownOption(Text),
+    /// Several options begin with these characters (21).
+    #[error("ambiguous option")]
+    AmbiguousOption(Text),
+    /// The option doesn't take the value (22).
+    #[error("bad value for option")]
+    BadValue { value: Text, option: Text },
+    /// No value stands behind the option (23).
+    #[error("value missing")]
+    NoValue(Text),
+    /// Memory was refused.
+    #[error("out of memory")]
+    NoMemory,
+}
+
+impl OptionFault {
+    /// The text of the error, or the limit's (4) where it would pass 65,536 bytes.
+    pub fn message(&self, alloc: Global) -> Result<Text, AllocError>
+        ensures { IfOk result (λ text. text ≡ bounded (fault_text self.now)) }
+    {
+        let message = self.written(alloc)?;
+        error_text(alloc, message.as_str())
+    }
+
+    /// The text of the error, however long.
+    #[tactic(auto, unfolding(crate::specs::FaultTexts::fault_text))]
+    fn written(&self, alloc: Global) -> Result<String, AllocError>
+        ensures { IfOk result (λ string. string_bytes string ≡ fault_text self.now) }
+    {
+        match self {
+            OptionFault::UnknownOption(word) => quoting(alloc, "unknown option ", word, ""),
+            OptionFault::AmbiguousOption(word) => quoting(alloc, "ambiguous option ", word, ""),
+            OptionFault::BadValue { value, option } => bad_value(alloc, value, option),
+            OptionFault::NoValue(word) => quoting(alloc, "value for ", word, " missing"),
+            OptionFault::NoMemory => String::from_str(alloc, "out of memory"),
+        }
+    }
+}
+
+/// The text for a value that an option doesn't take.
+fn bad_value(alloc: Global, value: &Text, option: &Text) -> Result<String, AllocError>
+    ensures { IfOk result (λ string. string_bytes string ≡ bad_value_text value.now option.now) }
+{
+    let mut message = quoting(alloc, "bad value ", value, " for option ")?;
+    push_quoted(&mut message, option)?;
+    Ok(message)
+}
+
+/// A word in quotation marks with what stands before and behind it.
+fn quoting(alloc: Global, before: &str, word: &Text, behind: &str) -> Result<String, AllocError>
+    ensures { IfOk result (λ string. string_bytes string ≡ before.now ++ (quoted word.now ++ behind.now)) }
+{
+    let mut message = String::from_str(alloc, before)?;
+    push_quoted(&mut message, word)?;
+    message.push_str(behind)?;
+    Ok(message)
+}
+
+/// Adds a word in quotation marks.
+fn push_quoted(message: &mut String, word: &Text) -> Result<(), AllocError>
+    ensures { OnOk result (string_bytes message.new ≡ string_bytes message.old ++ quoted word.now) }
+{
+    message.push_str("\"")?;
+    message.push_str(word.as_str())?;
+    message.push_str("\"")?;
+    Ok(())
+}
+
+/// The text of an error, or the limit's where it is past 65,536 bytes (4).
+#[tactic(auto, unfolding(tcl_text::specs::Answers::bounded))]
+fn error_text(alloc: Global, message: &str) -> Result<Text, AllocError>
+    ensures { IfOk result (λ text. text ≡ bounded message.now) }
+{
+    match Text::new(alloc, message) {
+        Ok(text) => Ok(text),
+        Err(TextFault::TooLong) => limit_reached(alloc),
+        Err(TextFault::NoMemory) => Err(AllocError),
+    }
+}
+
+/// The text of a value past 65,536 bytes (4).
+fn limit_reached(alloc: Global) -> Result<Text, AllocError>
+    ensures { IfOk result (λ text. text ≡ limit_text) }
+{
+    match Text::new(alloc, "limit reached: value") {
+        Ok(text) => Ok(text),
+        Err(_) => Err(AllocError),
+    }
+}
+
+impl Debug for OptionFault {
+    fn fmt<W: Write>(&self, formatter: &mut Formatter<W>) -> Result<(), fmt::Error> {
+        formatter.write_str("OptionFault")
+    }
+}
+
+impl From<AllocError> for OptionFault {
+    ghost use Rattle.std.specs.Prelude.{◌≡◌};
+    ghost use Rattle.tk_options.specs.declared.fault.OptionFault.TheVariants.{NoMemory};
+
+    ghost from_gives = { λ _ e. e ≡ NoMemory };
+
+    fn from(_refused: AllocError) -> OptionFault {
+        OptionFault::NoMemory
+    }
+}
+
+impl<T: Drop> From<AllocFailed<T>> for OptionFault {
+    ghost use Rattle.std.specs.Prelude.{◌≡◌};
+    ghost use Rattle.tk_options.specs.declared.fault.OptionFault.TheVariants.{NoMemory};
+
+    ghost from_gives = { λ _ e. e ≡ NoMemory };
+
+    fn from(_refused: AllocFailed<T>) -> OptionFault {
+        OptionFault::NoMemory
+    }
+}

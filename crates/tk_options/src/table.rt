@@ -1,0 +1,285 @@
+ghost use Rattle.std.specs.Prelude.{◌≡◌, ◌≢◌, ◌≤◌, Any, [], ◌++◌, ◌∷◌, IfOk, IfErr, IfSome, OnOk, OnErr, Ok, Err, Some, None, find, filter, option_map, position, map};
+ghost use Rattle.std.specs.Option.{option_copied};
+ghost use Rattle.tk_options.specs.Rows.{options_of, row as row_of};
+ghost use Rattle.tk_options.specs.Names.{name_of, long_name};
+ghost use Rattle.tk_options.specs.Options.{is_named, is_begun, only, or_only, meant, tested, or_bad, settings, with_value, with_settings, configured, value_meant, value_of, amount_of, description, IsTooLong};
+
+use crate::fault::OptionFault;
+use crate::form::amount_in;
+use crate::option::{OptionEntry, OptionName};
+use crate::rows::{Row, rows_of};
+use std::alloc::{AllocError, Global};
+use std::marker::Model;
+use tcl_text::{Text, TextFault, TextList};
+use tk_base::Kind;
+
+/// The options of one widget, with their values (options(n)).
+#[derive(Drop)]
+pub struct OptionTable {
+    entries: Vec<OptionEntry>,
+}
+
+impl Model for OptionTable {
+    ghost use Rattle.std.specs.Prelude.{List};
+    ghost use Rattle.tk_options.specs.declared.option.OptionEntry.{OptionEntry};
+
+    ghost Value = { List OptionEntry };
+
+    ghost view = { λ t. t.entries.items };
+}
+
+/// An option and the value that it is to have.
+#[derive(Drop)]
+struct Setting {
+    option: OptionName,
+    value: Text,
+}
+
+impl OptionTable {
+    /// The options of a new widget.
+    pub fn new(alloc: Global, kind: Kind) -> Result<OptionTable, AllocError>
+        ensures { IfOk result (λ table. table ≡ options_of kind) }
+    {
+        Ok(OptionTable {
+            entries: entries_of(alloc, rows_of(kind))?,
+        })
+    }
+
+    /// The option that a word means: by its name, by one of the short names `-bd`, `-bg` and `-fg`, or by the beginning of its name
+    /// alone. `UnknownOption` (20) where none is meant, `AmbiguousOption` (21) where the word is the beginning of several.
+    pub fn entry(&self, word: &Text) -> Result<&OptionEntry, OptionFault>
+        ensures ok { IfOk result (λ entry. meant word.now self.now ≡ Ok entry.now) }
+        ensures refused { IfErr result (λ fault. fault ≢ OptionFault.NoMemory → meant word.now self.now ≡ Err fault) }
+    {
+        entry_meant(&self.entries, word)
+    }
+
+    /// The value of an option (`cget` of options(n)), which is not copied. `UnknownOption` (20) or `AmbiguousOption` (21) where the
+    /// word means no option.
+    pub fn cget(&self, word: &Text) -> Result<&Text, OptionFault>
+        ensures ok { IfOk result (λ value. value_meant word.now self.now ≡ Ok value.now) }
+        ensures refused { IfErr result (λ fault. fault ≢ OptionFault.NoMemory → value_meant word.now self.now ≡ Err fault) }
+    {
+        let entry = self.entry(word)?;
+        Ok(&entry.value)
+    }
+
+    /// Sets options, by words in pairs (`configure` of options(n)). All are tested from the left before one is set: `UnknownOption`
+    /// (20), `AmbiguousOption` (21), `NoValue` (23) where the last has no value, `BadValue` (22). Refused, it sets nothing.
+    #[tactic(auto, unfolding(crate::specs::Options::configured))]
+    pub fn configure(&mut self, alloc: Global, words: &[Text]) -> Result<(), OptionFault>
+        ensures ok { OnOk result (configured words.now self.old ≡ Ok self.new) }
+        ensures refused { IfErr result (λ fault. fault ≢ OptionFault.NoMemory → configured words.now self.old ≡ Err fault) }
+        ensures err { OnErr result (self.new ≡ self.old) }
+    {
+        let settings = settings_in(alloc, &self.entries, words)?;
+        self.set_all(settings);
+        Ok(())
+    }
+
+    /// The options as `configure` tells them (options(n)): for each the list of its name, its default and its value. `TooLong` (4)
+    /// where such a list would pass 65,536 bytes.
+    pub fn describe(&self, alloc: Global) -> Result<TextList, TextFault>
+        ensures ok { IfOk result (λ list. list ≡ map description self.now) }
+        ensures too_long { IfErr result (λ fault. fault ≢ TextFault.NoMemory → Any IsTooLong self.now) }
+    {
+        let mut list = TextList::with_capacity(alloc, self.entries.len())?;
+        for entry in &self.entries {
+            list.push(entry.description(alloc)?)?;
+        }
+        Ok(list)
+    }
+
+    /// The value of an option; none where the widget has no such option. It takes no memory.
+    pub fn value(&self, option: OptionName) -> Option<&Text>
+        ensures { option_copied result ≡ value_of option self.now }
+    {
+        let entry = entry_named(&self.entries, option.name())?;
+        Some(&entry.value)
+    }
+
+    /// The pixels, columns or lines of an option; 0 where the widget has no such option. It takes no memory.
+    #[tactic(auto, unfolding(crate::specs::Options::amount_of))]
+    pub fn amount(&self, option: OptionName) -> u32
+        ensures value { result ≡ amount_of option self.now }
+        ensures bound { result ≤ 32767 }
+    {
+        match self.value(option) {
+            Some(value) => amount_in(value).unwrap_or(0),
+            None => 0,
+        }
+    }
+
+    /// Sets an option to a value that it takes; nothing where the widget has no such option. It takes no memory.
+    pub fn put(&mut self, option: OptionName, value: Text)
+        ensures { self.new ≡ with_value option value self.old }
+    {
+        if let Some(place) = place_named(&self.entries, option.name()) {
+            set_value(&mut self.entries[place], value);
+        }
+    }
+
+    /// Sets options in their turn.
+    fn set_all(&mut self, settings: Vec<Setting>)
+        ensures { self.new ≡ with_settings settings.items self.old }
+    {
+        for Setting { option, value } in settings {
+            self.put(option, value);
+        }
+    }
+}
+
+/// The options of these rows, each with its default.
+fn entries_of(alloc: Global, rows: &[Row]) -> Result<Vec<OptionEntry>, AllocError>
+    ensures { IfOk result (λ entries. entries.items ≡ map (λ row. row_of row.0 row.1 row.2.now) rows.now) }
+{
+    let mut entries = Vec::with_capacity(alloc, rows.len())?;
+    for row in rows {
+        entries.push(new_entry(alloc, *row)?)?;
+    }
+    Ok(entries)
+}
+
+/// The option of a row, with its default.
+fn new_entry(alloc: Global, row: Row) -> Result<OptionEntry, AllocError>
+    ensures { IfOk result (λ entry. entry ≡ row_of row.0 row.1 row.2.now) }
+{
+    let Row(option, form, default) = row;
+    Ok(OptionEntry {
+        option,
+        form,
+        default: short_text(alloc, default)?,
+        value: short_text(alloc, default)?,
+    })
+}
+
+/// A text of characters that are known to be few enough.
+fn short_text(alloc: Global, characters: &str) -> Result<Text, AllocError>
+    ensures { IfOk result (λ text. text ≡ characters.now) }
+{
+    match Text::new(alloc, characters) {
+        Ok(text) => Ok(text),
+        Err(_) => Err(AllocError),
+    }
+}
+
+/// The option that a word means.
+#[tactic(auto, unfolding(crate::specs::Options::meant))]
+fn entry_meant<'a>(entries: &'a [OptionEntry], word: &Text) -> Result<&'a OptionEntry, OptionFault>
+    ensures ok { IfOk result (λ entry. meant word.now entries.now ≡ Ok entry.now) }
+    ensures refused { IfErr result (λ fault. fault ≢ OptionFault.NoMemory → meant word.now entries.now ≡ Err fault) }
+{
+    match entry_named(entries, long_name(word.as_str())) {
+        Some(entry) => Ok(entry),
+        None => only_begun(entries, word),
+    }
+}
+
+/// The name that a short name stands for, or the word itself.
+fn long_name(word: &str) -> &str
+    ensures { result.now ≡ long_name word.now }
+{
+    match word {
+        "-bd" => "-borderwidth",
+        "-bg" => "-background",
+        "-fg" => "-foreground",
+        _ => word,
+    }
+}
+
+/// The option of this very name.
+fn entry_named<'a>(entries: &'a [OptionEntry], name: &str) -> Option<&'a OptionEntry>
+    ensures { option_copied result ≡ find (is_named name.now) entries.now }
+{
+    entries.iter().find(|entry| entry.option.name() == name)
+}
+
+/// The only option whose name begins with these characters.
+fn only_begun<'a>(entries: &'a [OptionEntry], word: &Text) -> Result<&'a OptionEntry, OptionFault>
+    ensures ok { IfOk result (λ entry. only word.now (filter (is_begun word.now) entries.now) ≡ Ok entry.now) }
+    ensures refused { IfErr result (λ fault. fault ≢ OptionFault.NoMemory → only word.now (filter (is_begun word.now) entries.now) ≡ Err fault) }
+{
+    let Some(place) = place_begun(entries, word.as_str()) else {
+        return Err(OptionFault::UnknownOption(word.copy()?));
+    };
+    let (_, others) = entries.split_at(place + 1);
+    if place_begun(others, word.as_str()).is_some() {
+        return Err(OptionFault::AmbiguousOption(word.copy()?));
+    }
+    Ok(&entries[place])
+}
+
+/// The place of the first option whose name begins with these characters.
+fn place_begun(entries: &[OptionEntry], word: &str) -> Option<usize>
+    ensures { result ≡ position (is_begun word.now) entries.now }
+{
+    entries.iter().position(|entry| entry.option.name().as_bytes().starts_with(word.as_bytes()))
+}
+
+/// The place of the option of this very name.
+fn place_named(entries: &[OptionEntry], name: &str) -> Option<usize>
+    ensures { result ≡ position (is_named name.now) entries.now }
+{
+    entries.iter().position(|entry| entry.option.name() == name)
+}
+
+/// Sets an option to a value.
+fn set_value(entry: &mut OptionEntry, value: Text)
+    ensures { entry.new ≡ record entry.old { value = value } }
+{
+    entry.value = value;
+}
+
+/// What words in pairs set, tested from the left.
+fn settings_in(
+    alloc: Global,
+    entries: &[OptionEntry],
+    words: &[Text],
+) -> Result<Vec<Setting>, OptionFault>
+    ensures ok { IfOk result (λ all. settings words.now entries.now ≡ Ok all.items) }
+    ensures refused { IfErr result (λ fault. fault ≢ OptionFault.NoMemory → settings words.now entries.now ≡ Err fault) }
+{
+    let mut all = Vec::with_capacity(alloc, words.len() / 2)?;
+    let mut rest = words;
+    while let Some((word, others)) = rest.split_first() {
+        let Some((value, others)) = others.split_first() else {
+            return Err(without_value(entries, word)?);
+        };
+        all.push(tested(alloc, entries, word, value)?)?;
+        rest = others;
+    }
+    Ok(all)
+}
+
+/// The fault of an option without a value, unless its name is at fault.
+fn without_value(entries: &[OptionEntry], word: &Text) -> Result<OptionFault, OptionFault>
+    ensures ok { IfOk result (λ fault. settings (word.now ∷ []) entries.now ≡ Err fault) }
+    ensures refused { IfErr result (λ fault. fault ≢ OptionFault.NoMemory → settings (word.now ∷ []) entries.now ≡ Err fault) }
+{
+    let _entry = entry_meant(entries, word)?;
+    Ok(OptionFault::NoValue(word.copy()?))
+}
+
+/// A word and a value, tested.
+#[tactic(auto, unfolding(crate::specs::Options::tested))]
+fn tested(
+    alloc: Global,
+    entries: &[OptionEntry],
+    word: &Text,
+    value: &Text,
+) -> Result<Setting, OptionFault>
+    ensures ok { IfOk result (λ setting. tested word.now value.now entries.now ≡ Ok setting) }
+    ensures refused { IfErr result (λ fault. fault ≢ OptionFault.NoMemory → tested word.now value.now entries.now ≡ Err fault) }
+{
+    let entry = entry_meant(entries, word)?;
+    match entry.form.value_in(alloc, value)? {
+        Some(kept) => Ok(Setting {
+            option: entry.option,
+            value: kept,
+        }),
+        None => Err(OptionFault::BadValue {
+            value: value.copy()?,
+            option: word.copy()?,
+        }),
+    }
+}

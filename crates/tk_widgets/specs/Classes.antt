@@ -1,0 +1,44 @@
+-- What the widgets show, and what keys and the pointer ask of them.
+use Rattle.std.specs.Prelude.{ℕ, ◌-◌, ◌/◌, ℤ, Bool, false, if◌then◌else◌, List, [], ◌∷◌, Option, Some, None, codes}
+use Rattle.std.specs.Option.{option_map_or}
+use Rattle.std.specs.Str.{bytes_eq}
+use Rattle.tcl_text.specs.Indices.{from_zero}
+use Rattle.tcl_text.specs.Readings.{list_form}
+use Rattle.tk_entry.specs.Entries.{shown}
+use Rattle.tk_listbox.specs.Items.{texts}
+use Rattle.tk_listbox.specs.Listboxes.{part}
+use Rattle.tk_options.specs.declared.option.OptionEntry.{OptionEntry}
+use Rattle.tk_options.specs.declared.option.OptionName.{OptionName}
+use Rattle.tk_options.specs.declared.option.OptionName.TheVariants.{BorderWidth, Command, Relief, State}
+use Rattle.tk_options.specs.Options.{amount_of, value_of, with_value}
+use Rattle.tk_widgets.specs.Sizes.{or_empty, text_shown}
+use Rattle.tk_widgets.specs.declared.widget.Button.{Button as ButtonWidget}
+use Rattle.tk_widgets.specs.declared.widget.Widget.{Widget}
+use Rattle.tk_widgets.specs.declared.widget.Widget.TheVariants.{Frame, Label, Button, Entry, Listbox}
+
+-- whether an option has this very value
+abbrev pub has_value : OptionName → List ℕ → List OptionEntry → Bool
+has_value option word options = option_map_or (λ value. bytes_eq value word) (value_of option options) false
+
+-- what a widget tells as its value: the text shown, or the list of all items; a frame has none
+abbrev pub value_told : Widget → Option (List ℕ) → Option (List ℕ)
+value_told (Frame frame) text = None
+value_told (Label label) text = Some (text_shown text label.options)
+value_told (Button button) text = Some (text_shown text button.options)
+value_told (Entry entry) text = Some (shown text entry.entry)
+value_told (Listbox listbox) text = Some (list_form (texts listbox.listbox.items))
+
+-- `invoke` of a button: its command, unless it is disabled
+abbrev pub invoked : List OptionEntry → Option (List ℕ)
+invoked options = if has_value State (codes "disabled") options then None else value_of Command options
+
+-- a button's relief, and the button with another
+abbrev pub relief_of : List OptionEntry → List ℕ
+relief_of options = or_empty (value_of Relief options)
+
+abbrev pub with_relief : List ℕ → ButtonWidget → ButtonWidget
+with_relief relief button = record { options = with_value Relief relief button.options }
+
+-- how many columns stand to the left of so many pixels, inside the border
+abbrev pub columns_to : ℤ → ℕ → ℕ
+columns_to x border = (from_zero x - border) / 8

@@ -1,0 +1,4 @@
+-- What the contracts cite.
+pub mod Classes
+pub mod Lines
+pub mod Sizes

@@ -1,0 +1,62 @@
+-- The size that a widget requests, in pixels.
+use Rattle.std.specs.Prelude.{ℕ, ◌+◌, ◌*◌, max, Bool, nat_lt, if◌then◌else◌, List, [], length, Option, Some, None}
+use Rattle.tk_base.specs.declared.kind.Kind.{Kind}
+use Rattle.tk_base.specs.declared.kind.Kind.TheVariants as kind
+use Rattle.tk_options.specs.Rows.{options_of}
+use Rattle.tk_options.specs.declared.option.OptionEntry.{OptionEntry}
+use Rattle.tk_options.specs.declared.option.OptionName.TheVariants.{BorderWidth, Height, PadX, PadY, Text, Width}
+use Rattle.tk_options.specs.Options.{amount_of, value_of}
+use Rattle.tk_widgets.specs.Lines.{lines_in, widest}
+use Rattle.tk_widgets.specs.declared.widget.Widget.{Widget}
+use Rattle.tk_widgets.specs.declared.widget.Widget.TheVariants.{Frame, Label, Button, Entry, Listbox}
+
+-- a new widget of a kind
+abbrev pub new_widget : Kind → Widget
+new_widget kind.Frame = Frame (record { options = options_of kind.Frame })
+new_widget kind.Label = Label (record { options = options_of kind.Label })
+new_widget kind.Button = Button (record { options = options_of kind.Button })
+new_widget kind.Entry = Entry (record { options = options_of kind.Entry; entry = record { text = []; cursor = 0 } })
+new_widget kind.Listbox = Listbox (record { options = options_of kind.Listbox; listbox = record { items = []; active = 0 } })
+
+-- what a label or a button shows: the variable's text, where there is one that can be read, or else its own
+abbrev pub or_empty : Option (List ℕ) → List ℕ
+or_empty (Some text) = text
+or_empty None = []
+
+abbrev pub text_shown : Option (List ℕ) → List OptionEntry → List ℕ
+text_shown (Some text) options = text
+text_shown None options = or_empty (value_of Text options)
+
+-- a number that was asked for, or where it is 0 another
+abbrev pub or_else : ℕ → ℕ → ℕ
+or_else wanted other = if nat_lt 0 wanted then wanted else other
+
+-- a frame: what is asked for, and not less than a pixel
+abbrev pub frame_size : List OptionEntry → ℕ × ℕ
+frame_size options = (max (amount_of Width options) 1, max (amount_of Height options) 1)
+
+-- a label or a button: 8 pixels a column and 16 a line, with padding and border on both sides
+abbrev pub text_size : List OptionEntry → List ℕ → ℕ × ℕ
+text_size options text = (
+  max (or_else (amount_of Width options) (widest (lines_in text)) * 8 + 2 * (amount_of PadX options + amount_of BorderWidth options)) 1,
+  max (or_else (amount_of Height options) (length (lines_in text)) * 16 + 2 * (amount_of PadY options + amount_of BorderWidth options)) 1,
+)
+
+-- an entry: so many columns and one line, with the border on both sides
+abbrev pub entry_size : List OptionEntry → ℕ × ℕ
+entry_size options = (max (amount_of Width options * 8 + 2 * amount_of BorderWidth options) 1, max (16 + 2 * amount_of BorderWidth options) 1)
+
+-- a listbox: so many columns and lines, with the border on both sides
+abbrev pub listbox_size : List OptionEntry → ℕ × ℕ
+listbox_size options = (
+  max (amount_of Width options * 8 + 2 * amount_of BorderWidth options) 1,
+  max (amount_of Height options * 16 + 2 * amount_of BorderWidth options) 1,
+)
+
+-- the size that a widget requests, where a variable's text may stand for its own
+abbrev pub requested : Widget → Option (List ℕ) → ℕ × ℕ
+requested (Frame frame) text = frame_size frame.options
+requested (Label label) text = text_size label.options (text_shown text label.options)
+requested (Button button) text = text_size button.options (text_shown text button.options)
+requested (Entry entry) text = entry_size entry.options
+requested (Listbox listbox) text = listbox_size listbox.options

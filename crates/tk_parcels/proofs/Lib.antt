@@ -1,0 +1,3 @@
+pub mod Packing
+pub mod Rest
+pub mod Shares

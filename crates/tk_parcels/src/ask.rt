@@ -4,21 +4,21 @@ ghost use Rattle.tk_parcels.specs.Ask.{edge_of, align_of, fills_along};
 use crate::request::{Anchor, Fill, Request, Side};
 
 /// One of the two axes: the layout along each is found without the other.
-#[derive(Clone, Copy, Debug, PartialEq, Eq)]
+#[derive(Clone, Copy, PartialEq, Eq)]
 pub enum Axis {
     Horizontal,
     Vertical,
 }
 
 /// An end of an axis: near is the left or the top, far the right or the bottom.
-#[derive(Clone, Copy, Debug, PartialEq, Eq)]
+#[derive(Clone, Copy)]
 pub enum Edge {
     Near,
     Far,
 }
 
 /// Where a window goes in a parcel that is longer than it.
-#[derive(Clone, Copy, Debug, PartialEq, Eq)]
+#[derive(Clone, Copy)]
 pub enum Align {
     ToNear,
     Centered,
@@ -26,7 +26,7 @@ pub enum Align {
 }
 
 /// What a request asks for along one axis.
-#[derive(Clone, Copy, Debug, PartialEq, Eq)]
+#[derive(Clone, Copy)]
 pub struct Ask {
     /// The edge that it takes its parcel from; none where it goes to a side of the other axis.
     pub edge: Option<Edge>,

@@ -8,7 +8,7 @@ use crate::ask::{Align, Ask, Axis, Edge};
 use crate::request::Request;
 
 /// A stretch of an axis, in pixels.
-#[derive(Clone, Copy, Debug, PartialEq, Eq)]
+#[derive(Clone, Copy)]
 pub struct Span {
     pub start: u32,
     pub length: u32,

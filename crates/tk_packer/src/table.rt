@@ -49,6 +49,12 @@ impl PackTable {
     ) -> Result<(), AllocError>
         ensures own { OnOk result (own_of win.owner self.new
             ≡ packed_at place (record { master = master; number = win.number; request = request }) (own_of win.owner self.old)) }
+
+        // It stands at its place among the slaves of its master, and among those of no other.
+        ensures slaves { OnOk result (slaves_of master (own_of win.owner self.new)
+            ≡ insert (slaves_of master (without win.number (own_of win.owner self.old))) place (record { master = master; number = win.number; request = request })) }
+        ensures masters { OnOk result ((other : ℕ) → other ≢ master → slaves_of other (own_of win.owner self.new)
+            ≡ without win.number (slaves_of other (own_of win.owner self.old))) }
         ensures others { LeavesOthers win.owner self.old self.new }
         ensures err { OnErr result (self.new ≡ self.old) }
     {
@@ -57,25 +63,18 @@ impl PackTable {
             number: win.number,
             request,
         };
-        match place_of(&self.owners, win.owner) {
-            Some(index) => self.owners[index].put(place, packed),
-            None => {
-                let mut own = OwnPacks::new(*self.owners.allocator(), win.owner);
-                own.put(place, packed)?;
-                self.owners.push(own)?;
-                Ok(())
-            }
-        }
+        self.insert(win.owner, place, packed)?;
+        Ok(())
     }
 
     /// Takes a window out; nothing changes where it isn't packed. It takes no memory.
     pub fn forget(&mut self, win: Win)
         ensures own { own_of win.owner self.new ≡ without win.number (own_of win.owner self.old) }
+        ensures masters { (master : ℕ) → slaves_of master (own_of win.owner self.new)
+            ≡ without win.number (slaves_of master (own_of win.owner self.old)) }
         ensures others { LeavesOthers win.owner self.old self.new }
     {
-        if let Some(index) = place_of(&self.owners, win.owner) {
-            self.owners[index].forget(win.number);
-        }
+        self.take_out(win);
     }
 
     /// All that an application has packed: the slaves of each master in their order, not grouped by masters. It takes no memory.
@@ -101,6 +100,31 @@ impl PackTable {
         ensures { result ≡ request_in win.number (own_of win.owner self.now) }
     {
         self.own(win.owner)?.request(win.number)
+    }
+
+    fn insert(&mut self, owner: usize, place: usize, packed: Packed) -> Result<(), AllocError>
+        ensures own { OnOk result (own_of owner self.new ≡ packed_at place packed (own_of owner self.old)) }
+        ensures others { LeavesOthers owner self.old self.new }
+        ensures err { OnErr result (self.new ≡ self.old) }
+    {
+        match place_of(&self.owners, owner) {
+            Some(index) => self.owners[index].put(place, packed),
+            None => {
+                let mut own = OwnPacks::new(*self.owners.allocator(), owner);
+                own.put(place, packed)?;
+                self.owners.push(own)?;
+                Ok(())
+            }
+        }
+    }
+
+    fn take_out(&mut self, win: Win)
+        ensures own { own_of win.owner self.new ≡ without win.number (own_of win.owner self.old) }
+        ensures others { LeavesOthers win.owner self.old self.new }
+    {
+        if let Some(index) = place_of(&self.owners, win.owner) {
+            self.owners[index].forget(win.number);
+        }
     }
 
     fn own(&self, owner: usize) -> Option<&OwnPacks>

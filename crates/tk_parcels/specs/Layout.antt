@@ -1,7 +1,7 @@
 -- Where the packer places windows (pack(n)). Each window in turn takes a parcel from an edge of the cavity, which is what those before it
 -- left of the master. A window at the left or the right takes a piece of the cavity's width and leaves its height as it is, one at the top
 -- or the bottom the other way round: so each axis is laid out by itself.
-use Rattle.std.specs.Prelude.{ℕ, ◌+◌, ◌-◌, ◌/◌, min, max, ◌==◌, if◌then◌else◌, List, [], ◌∷◌, map, Option, Some, None, is_some}
+use Rattle.std.specs.Prelude.{ℕ, ◌+◌, ◌-◌, ◌/◌, ◌<◌, ◌≤◌, min, max, ◌==◌, if◌then◌else◌, List, [], ◌∷◌, map, Option, Some, None, is_some, IfSome}
 use Rattle.tk_base.specs.declared.rect.Rect.{Rect}
 use Rattle.tk_parcels.specs.declared.ask.Axis.{Axis}
 use Rattle.tk_parcels.specs.declared.ask.Axis.TheVariants.{Horizontal, Vertical}
@@ -101,6 +101,16 @@ packed columns rows (request ∷ later) =
 -- a cavity of a width and a height, all of it free
 abbrev pub arrangement : ℕ × ℕ → List Request → List (Option Rect)
 arrangement size requests = packed (record { start = 0; length = size.0 }) (record { start = 0; length = size.1 }) requests
+
+-- a window that is mapped lies inside a cavity of a size, and has a pixel
+pub record IsInside (size : ℕ × ℕ) (rect : Rect) : Type 0 where
+  pub right : rect.x + rect.width ≤ size.0
+  pub bottom : rect.y + rect.height ≤ size.1
+  pub width : 0 < rect.width
+  pub height : 0 < rect.height
+
+abbrev pub LiesIn : ℕ × ℕ → Option Rect → Type 0
+LiesIn size place = IfSome place (IsInside size)
 
 -- ---- the room that is asked for
 

@@ -1,6 +1,6 @@
 //! The layout of a list of requests.
-ghost use Rattle.std.specs.Prelude.{◌≡◌, ◌+◌, ◌^◌, ◌<◌, IfOk};
-ghost use Rattle.tk_parcels.specs.Layout.{arrangement, rect_of};
+ghost use Rattle.std.specs.Prelude.{◌≡◌, ◌+◌, ◌^◌, ◌<◌, IfOk, All, length};
+ghost use Rattle.tk_parcels.specs.Layout.{arrangement, rect_of, LiesIn};
 
 use crate::ask::Axis;
 use crate::parcel::{Span, packed_first};
@@ -16,7 +16,11 @@ pub fn arrange(
     size: (u32, u32),
     requests: &[Request],
 ) -> Result<Vec<Option<Rect>>, AllocError>
-    ensures { IfOk result (λ places. places.items ≡ arrangement size requests.now) }
+    ensures places { IfOk result (λ places. places.items ≡ arrangement size requests.now) }
+
+    // There is one for each request, and no window lies outside of the cavity.
+    ensures length { IfOk result (λ places. length places.items ≡ length requests.now) }
+    ensures inside { IfOk result (λ places. All (LiesIn size) places.items) }
 {
     let mut places = Vec::with_capacity(alloc, requests.len())?;
     let mut columns = Span {

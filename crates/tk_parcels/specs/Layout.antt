@@ -11,9 +11,7 @@ use Rattle.tk_parcels.specs.declared.ask.Align.{Align}
 use Rattle.tk_parcels.specs.declared.ask.Align.TheVariants.{ToNear, Centered, ToFar}
 use Rattle.tk_parcels.specs.declared.ask.Ask.{Ask}
 use Rattle.tk_parcels.specs.declared.parcel.Span.{Span}
-use Rattle.tk_parcels.specs.declared.parcel.Walk.{Walk}
 use Rattle.tk_parcels.specs.declared.request.Request.{Request}
-use Rattle.tk_parcels.specs.declared.wanted.Reach.{Reach}
 use Rattle.tk_parcels.specs.Ask.{ask_of, inner_length, outer_length}
 
 -- ---- along one axis; the lists are of what is packed after the window
@@ -26,10 +24,6 @@ share left count [] = left / count
 share left count (ask ∷ later) =
     if is_some ask.edge then share (left - outer_length ask) (if ask.expands then count + 1 else count) later
     else min ((left - outer_length ask) / count) (share left count later)
-
--- the share by a walk that has passed some of the list
-abbrev pub walked : Walk → List Ask → ℕ
-walked walk later = min walk.least (share walk.left walk.count later)
 
 -- how much of the cavity its parcel takes: its size and pads, and the share, but no more than there is
 abbrev pub taken : ℕ → Ask → List Ask → ℕ
@@ -122,10 +116,6 @@ wanted (ask ∷ later) = if is_some ask.edge then outer_length ask + wanted late
 -- no window asks for more
 abbrev pub most_wanted : ℕ
 most_wanted = 2147483647
-
--- the length wanted by what has been passed and by the rest, up to the bound
-abbrev pub reached : Reach → List Ask → ℕ
-reached reach later = min (max reach.most (reach.along + wanted later)) most_wanted
 
 abbrev pub size_wanted : List Request → ℕ × ℕ
 size_wanted requests =

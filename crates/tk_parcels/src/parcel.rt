@@ -26,7 +26,7 @@ struct Walk {
 }
 
 impl Walk {
-    ghost use Rattle.tk_parcels.specs.Layout.{walked};
+    ghost use Rattle.tk_parcels.specs.Loops.{walked};
 
     /// The walk past one more.
     #[tactic(auto, unfolding(crate::specs::Layout::share))]
@@ -110,31 +110,29 @@ impl Span {
     }
 }
 
-/// The window's parcel.
-fn parcel_at(edge: Option<Edge>, cavity: Span, length: u32) -> Span
+/// The window's parcel, at an edge of the cavity.
+fn parcel_at(edge: Edge, cavity: Span, length: u32) -> Span
     requires within { length ≤ cavity.length }
     requires end { cavity.start + cavity.length < 2 ^ 32 }
-    ensures parcel { result ≡ parcel_at edge cavity length }
+    ensures parcel { result ≡ parcel_at (Some edge) cavity length }
     ensures end { result.start + result.length ≤ cavity.start + cavity.length }
 {
     match edge {
-        None => cavity,
-        Some(Edge::Near) => cavity.first(length),
-        Some(Edge::Far) => cavity.last(length),
+        Edge::Near => cavity.first(length),
+        Edge::Far => cavity.last(length),
     }
 }
 
 /// The cavity without the window's parcel.
-fn cavity_after(edge: Option<Edge>, cavity: Span, length: u32) -> Span
+fn cavity_after(edge: Edge, cavity: Span, length: u32) -> Span
     requires within { length ≤ cavity.length }
     requires end { cavity.start + cavity.length < 2 ^ 32 }
-    ensures cavity { result ≡ cavity_after edge cavity length }
+    ensures cavity { result ≡ cavity_after (Some edge) cavity length }
     ensures end { result.start + result.length ≤ cavity.start + cavity.length }
 {
     match edge {
-        None => cavity,
-        Some(Edge::Near) => cavity.last(cavity.length - length),
-        Some(Edge::Far) => cavity.first(cavity.length - length),
+        Edge::Near => cavity.last(cavity.length - length),
+        Edge::Far => cavity.first(cavity.length - length),
     }
 }
 
@@ -191,10 +189,15 @@ pub fn packed_first(
     ensures end { result.1.start + result.1.length ≤ cavity.start + cavity.length }
 {
     let ask = Ask::of(axis, request);
-    let length = taken(axis, cavity.length, &ask, later);
-    let parcel = parcel_at(ask.edge, cavity, length);
-    (
-        place_in(&ask, parcel),
-        cavity_after(ask.edge, cavity, length),
-    )
+    match ask.edge {
+        None => (place_in(&ask, cavity), cavity),
+        Some(edge) => {
+            let length = taken(axis, cavity.length, &ask, later);
+            let parcel = parcel_at(edge, cavity, length);
+            (
+                place_in(&ask, parcel),
+                cavity_after(edge, cavity, length),
+            )
+        }
+    }
 }

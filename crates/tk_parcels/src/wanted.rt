@@ -41,7 +41,7 @@ struct Reach {
 }
 
 impl Reach {
-    ghost use Rattle.tk_parcels.specs.Layout.{reached};
+    ghost use Rattle.tk_parcels.specs.Loops.{reached};
 
     /// With one more window.
     #[tactic(auto, unfolding(crate::specs::Layout::wanted))]

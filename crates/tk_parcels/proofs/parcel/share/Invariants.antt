@@ -1,5 +1,6 @@
 use Rattle.std.proofs.Common.{◌≡◌, ◌+◌, ◌<◌, ◌≤◌, drop}
-use Rattle.tk_parcels.specs.Layout.{share, asks_of, walked}
+use Rattle.tk_parcels.specs.Layout.{share, asks_of}
+use Rattle.tk_parcels.specs.Loops.{walked}
 use Rattle.tk_parcels.proofs.parcel.share.Given as goal
 
 -- the walk goes on to the share that is sought

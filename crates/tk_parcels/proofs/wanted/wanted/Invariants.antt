@@ -1,5 +1,6 @@
 use Rattle.std.proofs.Common.{◌≡◌, ◌≤◌, min, drop}
-use Rattle.tk_parcels.specs.Layout.{asks_of, wanted, most_wanted, reached}
+use Rattle.tk_parcels.specs.Layout.{asks_of, wanted, most_wanted}
+use Rattle.tk_parcels.specs.Loops.{reached}
 use Rattle.tk_parcels.proofs.wanted.wanted.Given as goal
 
 -- what is wanted so far, and by the rest

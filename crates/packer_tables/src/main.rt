@@ -1,4 +1,5 @@
-//! Packs windows into cavities, and tells of each that comes to lie elsewhere than a table says.
+//! Packs windows into cavities, and tells of each that comes to lie elsewhere than a table says. They are packed one after another in a
+//! master whose arrangement is kept from cavity to cavity.
 //!
 //! Each argument names a table, the file `NAME.table`. In it a line `cavity WIDTH HEIGHT` begins a cavity. Each line
 //! `WIDTH HEIGHT OPTION VALUE .. = X Y WIDTH HEIGHT` behind it is a window that is packed in it, with the options of pack(n), and where it
@@ -9,8 +10,8 @@
 use anyhow::{Context, Result, bail};
 use std::alloc::Global;
 use std::{env, fs};
-use tk_base::Rect;
-use tk_packer::{Anchor, Fill, Pads, Request, Side, arrange, request_of};
+use tk_base::{Rect, Win};
+use tk_packer::{Anchor, Fill, Kept, PackTable, Pads, Request, Side, arrange, request_of};
 
 /// What a table has shown so far.
 #[derive(Clone, Copy)]
@@ -23,9 +24,15 @@ struct Tally {
 #[derive(Drop)]
 struct Packing {
     size: (u32, u32),
-    requests: Vec<Request>,
+    packs: PackTable,
     places: Vec<Option<Rect>>,
 }
+
+/// The window that the windows are packed in.
+const MASTER: Win = Win {
+    owner: 0,
+    number: 0,
+};
 
 fn side_of(word: &str) -> Result<Side> {
     match word {
@@ -132,7 +139,7 @@ impl Packing {
     fn new(alloc: Global, size: (u32, u32)) -> Packing {
         Packing {
             size,
-            requests: Vec::new(alloc),
+            packs: PackTable::new(alloc),
             places: Vec::new(alloc),
         }
     }
@@ -142,16 +149,44 @@ impl Packing {
         let Some((request, place)) = line.split_once(" = ") else {
             bail!("a window with no place");
         };
-        self.requests.push(request_in(request)?)?;
         self.places.push(place_in(place)?)?;
+        let win = Win {
+            owner: MASTER.owner,
+            number: self.places.len() as u64,
+        };
+        self.packs
+            .put(MASTER.number, win, usize::MAX, request_in(request)?)?;
         Ok(())
     }
 
-    /// Whether the windows lie and ask as the table says.
-    fn is_right(&self, alloc: Global, wanted: (u32, u32)) -> Result<bool> {
-        let places = arrange(alloc, self.size, self.requests.as_slice())?;
-        Ok(places.as_slice() == self.places.as_slice()
-            && request_of(self.requests.as_slice()) == wanted)
+    /// Whether the windows lie and ask as the table says, arranged anew, with a kept arrangement, and with that once more.
+    fn is_right(&self, alloc: Global, kept: &mut Kept, wanted: (u32, u32)) -> Result<bool> {
+        let mut requests = Vec::new(alloc);
+        for win in self.packs.slaves(alloc, MASTER)? {
+            let Some(request) = self.packs.request(win) else {
+                return Ok(false);
+            };
+            requests.push(request)?;
+        }
+        let places = arrange(alloc, self.size, requests.as_slice())?;
+        for _ in 0..2u32 {
+            kept.arrange(self.size, requests.as_slice())?;
+            if kept.places() != self.places.as_slice() {
+                return Ok(false);
+            }
+        }
+        Ok(places.as_slice() == self.places.as_slice() && request_of(requests.as_slice()) == wanted)
+    }
+
+    /// Whether nothing is packed any more once each window has been taken out.
+    fn is_emptied(&mut self) -> bool {
+        for number in 0..self.places.len() as u64 {
+            self.packs.forget(Win {
+                owner: MASTER.owner,
+                number: number + 1,
+            });
+        }
+        self.packs.packs(MASTER.owner).is_empty()
     }
 }
 
@@ -163,6 +198,7 @@ fn ask(rt: &(impl Print + AllocGlobal), name: &str, table: &str) -> Result<Tally
         wrong: 0,
     };
     let mut packing = Packing::new(alloc, (0, 0));
+    let mut kept = Kept::new(alloc);
     for (index, line) in table.lines().enumerate() {
         if line.is_empty() || line.starts_with('#') {
             continue;
@@ -171,7 +207,7 @@ fn ask(rt: &(impl Print + AllocGlobal), name: &str, table: &str) -> Result<Tally
             packing = Packing::new(alloc, size_in(size)?);
         } else if let Some(size) = line.strip_prefix("wants ") {
             tally.packings = tally.packings.saturating_add(1);
-            if !packing.is_right(alloc, size_in(size)?)? {
+            if !packing.is_right(alloc, &mut kept, size_in(size)?)? || !packing.is_emptied() {
                 tally.wrong = tally.wrong.saturating_add(1);
                 println!(rt; "{name}: the packing that ends behind {index} lines")?;
             }
@@ -188,7 +224,10 @@ fn main(rt: HostRuntime) -> Result<()> {
         let path = format!(in rt.alloc(); "{name}.table")?;
         let table = fs::read_to_string(&rt, path).context(format_args!("table {name}"))?;
         let tally = ask(&rt, name.as_str(), table.as_str())?;
-        println!(rt; "{name}: {} packings, {} wrong", tally.packings, tally.wrong)?;
+        println!(rt;
+            "{name}: {} packings, {} wrong",
+            tally.packings, tally.wrong
+        )?;
         wrong = wrong || tally.wrong != 0;
     }
     if wrong {

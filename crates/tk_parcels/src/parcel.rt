@@ -194,10 +194,7 @@ pub fn packed_first(
         Some(edge) => {
             let length = taken(axis, cavity.length, &ask, later);
             let parcel = parcel_at(edge, cavity, length);
-            (
-                place_in(&ask, parcel),
-                cavity_after(edge, cavity, length),
-            )
+            (place_in(&ask, parcel), cavity_after(edge, cavity, length))
         }
     }
 }

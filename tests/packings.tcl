@@ -1,6 +1,6 @@
 # Packs windows in cavities in many ways with the packer of this wish (8.6), and prints the table of where they come to lie:
 #
-#     xvfb-run -a wish tests/packings/packings.tcl > crates/packer_tables/data/packings.table
+#     xvfb-run -a wish tests/packings.tcl > crates/packer_tables/data/packings.table
 #
 # The form of the table is told by the program packer_tables, which reads it.
 

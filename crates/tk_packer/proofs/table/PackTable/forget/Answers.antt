@@ -1,0 +1,10 @@
+use Rattle.std.proofs.Common.{ap, ◌∙◌}
+use Rattle.std.specs.Prelude.{◌==◌, not}
+use Rattle.tk_packer.specs.Packs.{own_of, slaves_of}
+use Rattle.tk_packer.proofs.Slaves.{filter_swap}
+use Rattle.tk_packer.proofs.table.PackTable.forget.Goals as goal
+
+pub returns-clause-masters : goal.returns-clause-masters
+returns-clause-masters c = λ master.
+    ap (slaves_of master) c.take_out.ensures.own
+    ∙ filter_swap (λ packed. packed.master == master) (λ packed. not (packed.number == c.args.win.number)) (own_of c.args.win.owner c.args.self.now)

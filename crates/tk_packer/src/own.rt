@@ -1,0 +1,106 @@
+ghost use Rattle.std.specs.Prelude.{◌≡◌, ◌≤◌, length, OnOk, OnErr};
+ghost use Rattle.std.specs.Vec.{vec_len, vec_capacity};
+ghost use Rattle.tk_packer.specs.Packs.{without, index_of};
+
+use crate::packed::Packed;
+use std::alloc::{AllocError, Global};
+use std::marker::Model;
+use tk_parcels::Request;
+
+/// What one application has packed, beside the application's number.
+#[derive(Drop)]
+pub struct OwnPacks {
+    owner: usize,
+    packs: Vec<Packed>,
+}
+
+impl Model for OwnPacks {
+    ghost use Rattle.tk_packer.specs.Packs.{Row};
+
+    ghost Value = { Row };
+
+    ghost view = { λ o. record { owner = o.owner; packs = o.packs.items } };
+}
+
+impl OwnPacks {
+    ghost use Rattle.std.specs.Prelude.{[]};
+    ghost use Rattle.tk_packer.specs.Packs.{packed_at, without, slaves_of, request_in};
+
+    /// An application with nothing packed. It takes no memory.
+    pub fn new(alloc: Global, owner: usize) -> OwnPacks
+        ensures { result ≡ record { owner = owner; packs = [] } }
+    {
+        OwnPacks {
+            owner,
+            packs: Vec::new(alloc),
+        }
+    }
+
+    /// Whose they are.
+    pub fn owner(&self) -> usize
+        ensures { result ≡ self.now.owner }
+    {
+        self.owner
+    }
+
+    /// All that is packed.
+    pub fn packs(&self) -> &[Packed]
+        ensures { result.now ≡ self.now.packs }
+    {
+        &self.packs
+    }
+
+    /// Packs a window at a place among the slaves of its master, after it was taken out of where it was.
+    pub fn put(&mut self, place: usize, packed: Packed) -> Result<(), AllocError>
+        ensures ok { OnOk result (self.new.packs ≡ packed_at place packed self.old.packs) }
+        ensures owner { self.new.owner ≡ self.old.owner }
+        ensures err { OnErr result (self.new ≡ self.old) }
+    {
+        self.packs.reserve(1)?;
+        take_out(&mut self.packs, packed.number);
+        let index = index_of(&self.packs, packed.master, place);
+        self.packs.insert(index, packed)?;
+        Ok(())
+    }
+
+    /// Takes a window out.
+    pub fn forget(&mut self, number: u64)
+        ensures rest { self.new.packs ≡ without number self.old.packs }
+        ensures owner { self.new.owner ≡ self.old.owner }
+    {
+        take_out(&mut self.packs, number);
+    }
+
+    /// What a window was packed with.
+    pub fn request(&self, number: u64) -> Option<Request>
+        ensures { result ≡ request_in number self.now.packs }
+    {
+        let packed = self.packs.iter().find(|packed| packed.number == number)?;
+        Some(packed.request)
+    }
+}
+
+fn take_out(packs: &mut Vec<Packed>, number: u64)
+    ensures items { packs.new.items ≡ without number packs.old.items }
+    ensures length { vec_len packs.new ≤ vec_len packs.old }
+    ensures capacity { vec_capacity packs.new ≡ vec_capacity packs.old }
+{
+    packs.retain(|packed| packed.number != number);
+}
+
+/// Where the slave of a master stands that has so many of its slaves before it; the end where there is none.
+fn index_of(packs: &[Packed], master: u64, place: usize) -> usize
+    ensures index { result ≡ index_of master place packs.now }
+    ensures bound { result ≤ length packs.now }
+{
+    let mut before = place;
+    for (index, packed) in packs.iter().enumerate() {
+        if packed.master == master {
+            if before == 0 {
+                return index;
+            }
+            before -= 1;
+        }
+    }
+    packs.len()
+}

@@ -1,0 +1,155 @@
+ghost use Rattle.std.specs.Prelude.{◌≡◌, ◌≢◌, ℕ, ◌==◌, [], map, insert, min, length, IfOk, OnOk, OnErr, position};
+ghost use Rattle.std.specs.Option.{option_map_or};
+ghost use Rattle.tk_packer.specs.Packs.{own_of, packed_at, without, slaves_of, request_in, LeavesOthers, wins_of};
+
+use crate::own::OwnPacks;
+use crate::packed::Packed;
+use std::alloc::{AllocError, Global};
+use std::marker::Model;
+use tk_base::Win;
+use tk_parcels::Request;
+
+/// Which windows are packed in which master, and how, for all applications, each application's apart from the others' (pack(n)).
+///
+/// A window is packed in one master at most, and masters and slaves are windows of one application.
+#[derive(Drop)]
+pub struct PackTable {
+    owners: Vec<OwnPacks>,
+}
+
+impl Model for PackTable {
+    ghost use Rattle.std.specs.Prelude.{List};
+    ghost use Rattle.tk_packer.specs.Packs.{Row, IsOncePerOwner};
+
+    ghost Value = { List Row };
+
+    ghost view = { λ t. t.owners.items };
+
+    ghost invariant = { λ t. IsOncePerOwner t.owners.items };
+}
+
+impl PackTable {
+    /// Nothing is packed. It takes no memory.
+    pub fn new(alloc: Global) -> PackTable
+        ensures { result ≡ [] }
+    {
+        PackTable {
+            owners: Vec::new(alloc),
+        }
+    }
+
+    /// Packs a window in a master of the same application, whose number is given. It comes to stand at a place among the master's slaves,
+    /// from 0 on; a place past the end is the end. A window that is packed already is first taken out.
+    pub fn put(
+        &mut self,
+        master: u64,
+        win: Win,
+        place: usize,
+        request: Request,
+    ) -> Result<(), AllocError>
+        ensures own { OnOk result (own_of win.owner self.new
+            ≡ packed_at place (record { master = master; number = win.number; request = request }) (own_of win.owner self.old)) }
+
+        // It stands at its place among the slaves of its master, and among those of no other.
+        ensures slaves { OnOk result (slaves_of master (own_of win.owner self.new)
+            ≡ insert (slaves_of master (without win.number (own_of win.owner self.old))) place (record { master = master; number = win.number; request = request })) }
+        ensures masters { OnOk result ((other : ℕ) → other ≢ master → slaves_of other (own_of win.owner self.new)
+            ≡ without win.number (slaves_of other (own_of win.owner self.old))) }
+        ensures others { LeavesOthers win.owner self.old self.new }
+        ensures err { OnErr result (self.new ≡ self.old) }
+    {
+        let packed = Packed {
+            master,
+            number: win.number,
+            request,
+        };
+        self.insert(win.owner, place, packed)?;
+        Ok(())
+    }
+
+    /// Takes a window out; nothing changes where it isn't packed. It takes no memory.
+    pub fn forget(&mut self, win: Win)
+        ensures own { own_of win.owner self.new ≡ without win.number (own_of win.owner self.old) }
+        ensures masters { (master : ℕ) → slaves_of master (own_of win.owner self.new)
+            ≡ without win.number (slaves_of master (own_of win.owner self.old)) }
+        ensures others { LeavesOthers win.owner self.old self.new }
+    {
+        self.take_out(win);
+    }
+
+    /// All that an application has packed: the slaves of each master in their order, not grouped by masters. It takes no memory.
+    pub fn packs(&self, owner: usize) -> &[Packed]
+        ensures { result.now ≡ own_of owner self.now }
+    {
+        match self.own(owner) {
+            Some(own) => own.packs(),
+            None => &[],
+        }
+    }
+
+    /// The windows that are packed in a master, in order.
+    pub fn slaves(&self, alloc: Global, master: Win) -> Result<Vec<Win>, AllocError>
+        ensures { IfOk result (λ list. list.items
+            ≡ wins_of master.owner (slaves_of master.number (own_of master.owner self.now))) }
+    {
+        slaves_of(alloc, self.packs(master.owner), master)
+    }
+
+    /// What a window is packed with; none where it isn't packed. It takes no memory.
+    pub fn request(&self, win: Win) -> Option<Request>
+        ensures { result ≡ request_in win.number (own_of win.owner self.now) }
+    {
+        self.own(win.owner)?.request(win.number)
+    }
+
+    fn insert(&mut self, owner: usize, place: usize, packed: Packed) -> Result<(), AllocError>
+        ensures own { OnOk result (own_of owner self.new ≡ packed_at place packed (own_of owner self.old)) }
+        ensures others { LeavesOthers owner self.old self.new }
+        ensures err { OnErr result (self.new ≡ self.old) }
+    {
+        match place_of(&self.owners, owner) {
+            Some(index) => self.owners[index].put(place, packed),
+            None => {
+                let mut own = OwnPacks::new(*self.owners.allocator(), owner);
+                own.put(place, packed)?;
+                self.owners.push(own)?;
+                Ok(())
+            }
+        }
+    }
+
+    fn take_out(&mut self, win: Win)
+        ensures own { own_of win.owner self.new ≡ without win.number (own_of win.owner self.old) }
+        ensures others { LeavesOthers win.owner self.old self.new }
+    {
+        if let Some(index) = place_of(&self.owners, win.owner) {
+            self.owners[index].forget(win.number);
+        }
+    }
+
+    fn own(&self, owner: usize) -> Option<&OwnPacks>
+        ensures { option_map_or (λ row. row.now.packs) result [] ≡ own_of owner self.now }
+    {
+        let place = place_of(&self.owners, owner)?;
+        Some(&self.owners[place])
+    }
+}
+
+fn place_of(owners: &[OwnPacks], owner: usize) -> Option<usize>
+    ensures { result ≡ position (λ row. row.owner == owner) owners.now }
+{
+    owners.iter().position(|own| own.owner() == owner)
+}
+
+fn slaves_of(alloc: Global, packs: &[Packed], master: Win) -> Result<Vec<Win>, AllocError>
+    ensures { IfOk result (λ list. list.items
+        ≡ wins_of master.owner (slaves_of master.number packs.now)) }
+{
+    let slaves = packs.iter().filter(|packed| packed.master == master.number);
+    slaves
+        .map(|packed| Win {
+            owner: master.owner,
+            number: packed.number,
+        })
+        .collect(alloc)
+}

@@ -1,0 +1,4 @@
+pub mod Inside
+pub mod Packing
+pub mod Rest
+pub mod Shares

@@ -1,0 +1,6 @@
+pub mod Added
+pub mod Lists
+pub mod Looks
+pub mod PathLemmas
+pub mod Slots
+mod IndexLemmas

@@ -1,0 +1,18 @@
+use Rattle.std.proofs.Common.{nat_eq, string_bytes, Some, sym}
+use Rattle.std.proofs.lemmas.Bool.{ne_eqb}
+use Rattle.tk_tree.proofs.IndexLemmas.{text_set, text_kept}
+use Rattle.tk_tree.proofs.index.Row.add.Goals as goal
+use Rattle.tk_tree.proofs.index.Row.add.Goals.{in-Ok, in-Err}
+
+pub returns-clause-ok : goal.returns-clause-ok
+returns-clause-ok c =
+    elim c.match-insert.branch [
+      | in-Ok w ↦ rw (w.result-is, w.self-is)
+          (record {
+            key_is = c.in_ok-insert.ensures.updates.1;
+            number_is = text_set (string_bytes c.args.path) c.args.self.now.numbers c.insert-2.new.self (Some c.args.number) w.in-Ok.ensures.updates;
+            keys = λ n differ. c.in_ok-insert.ensures.updates.2 n (ne_eqb c.args.number n (λ e. differ (sym e)));
+            numbers = text_kept (string_bytes c.args.path) c.args.self.now.numbers c.insert-2.new.self (Some c.args.number) w.in-Ok.ensures.updates;
+          })
+      | in-Err w ↦ rw w.result-is tt
+    ]

@@ -1,0 +1,7 @@
+-- What the contracts cite.
+pub mod Arena
+pub mod Create
+pub mod Index
+pub mod Own
+pub mod Path
+pub mod Window

@@ -1,4 +1,5 @@
 pub mod Added
+pub mod Changed
 pub mod Lists
 pub mod Looks
 pub mod PathLemmas

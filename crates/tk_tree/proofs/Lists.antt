@@ -2,7 +2,7 @@
 use Rattle.std.proofs.Common.{◌≡◌, ◌≢◌, ℕ, suc, ◌+◌, ◌<◌, ◌≤◌, Bool, true, false, List, [], ◌∷◌, ◌++◌, length, Option, Some, None, option_map, refl, sym, ap, ◌∙◌, subst, arith}
 use Rattle.std.specs.Prelude.{◌==◌, find, if◌then◌else◌}
 use Rattle.std.proofs.lemmas.Bool.{eqb-false, eqb-true, eq-eqb, ne_eqb}
-use Rattle.tk_bag.specs.Bag.{numbered, AllBelow, AllAbove, IsRising}
+use Rattle.tk_bag.specs.Bag.{numbered, changed_at, AllBelow, AllAbove, IsRising}
 use Rattle.tk_tree.specs.declared.window.Window.{Window}
 use Rattle.tk_tree.specs.Own.{HasOlderParent, HaveOlderParents}
 use Rattle.tk_tree.specs.Window.{number_of}
@@ -86,3 +86,68 @@ module _ {X : Type 0} (number : X → ℕ) where
 pub parents_more : (windows : List Window) (window : Window) → HaveOlderParents windows → HasOlderParent window → HaveOlderParents (windows ++ window ∷ [])
 parents_more [] window older its = (its, tt)
 parents_more (w ∷ windows) window older its = (older.0, parents_more windows window older.1 its)
+
+-- ── one taken out, or put in its place ──
+module _ {X : Type 0} (number : X → ℕ) where
+  above_less : (n : ℕ) (front : List X) (x : X) (back : List X) → AllAbove number n (front ++ x ∷ back) → AllAbove number n (front ++ back)
+  above_less n [] x back above = above.1
+  above_less n (y ∷ front) x back above = (above.0, above_less n front x back above.1)
+
+  pub rising_less : (front : List X) (x : X) (back : List X) → IsRising number (front ++ x ∷ back) → IsRising number (front ++ back)
+  rising_less [] x back rising = rising.1
+  rising_less (y ∷ front) x back rising = (above_less (number y) front x back rising.0, rising_less front x back rising.1)
+
+  pub below_less : (n : ℕ) (front : List X) (x : X) (back : List X) → AllBelow number n (front ++ x ∷ back) → AllBelow number n (front ++ back)
+  below_less n [] x back below = below.1
+  below_less n (y ∷ front) x back below = (below.0, below_less n front x back below.1)
+
+  above_swap : (n : ℕ) (front : List X) (x y : X) (back : List X) → number y ≡ number x → AllAbove number n (front ++ x ∷ back) → AllAbove number n (front ++ y ∷ back)
+  above_swap n [] x y back same above = (omega (arith, same, above.0), above.1)
+  above_swap n (z ∷ front) x y back same above = (above.0, above_swap n front x y back same above.1)
+
+  pub rising_swap : (front : List X) (x y : X) (back : List X) → number y ≡ number x → IsRising number (front ++ x ∷ back) → IsRising number (front ++ y ∷ back)
+  rising_swap [] x y back same rising = (subst (λ n. AllAbove number n back) (sym same) rising.0, rising.1)
+  rising_swap (z ∷ front) x y back same rising = (above_swap (number z) front x y back same rising.0, rising_swap front x y back same rising.1)
+
+  pub below_swap : (n : ℕ) (front : List X) (x y : X) (back : List X) → number y ≡ number x → AllBelow number n (front ++ x ∷ back) → AllBelow number n (front ++ y ∷ back)
+  below_swap n [] x y back same below = (omega (arith, same, below.0), below.1)
+  below_swap n (z ∷ front) x y back same below = (below.0, below_swap n front x y back same below.1)
+
+module _ {X : Type 0} where
+  pub length_less : (front : List X) (x : X) (back : List X) → length (front ++ x ∷ back) ≡ length (front ++ back) + 1
+  length_less [] x back = omega arith
+  length_less (y ∷ front) x back = omega (arith, length_less front x back)
+
+  pub length_swap : (front : List X) (x y : X) (back : List X) → length (front ++ y ∷ back) ≡ length (front ++ x ∷ back)
+  length_swap [] x y back = refl
+  length_swap (z ∷ front) x y back = ap suc (length_swap front x y back)
+
+pub parents_less : (front : List Window) (window : Window) (back : List Window) → HaveOlderParents (front ++ window ∷ back) → HaveOlderParents (front ++ back)
+parents_less [] window back older = older.1
+parents_less (w ∷ front) window back older = (older.0, parents_less front window back older.1)
+
+pub parents_swap : (front : List Window) (window other : Window) (back : List Window) → HasOlderParent other → HaveOlderParents (front ++ window ∷ back) → HaveOlderParents (front ++ other ∷ back)
+parents_swap [] window other back its older = (its, older.1)
+parents_swap (w ∷ front) window other back its older = (older.0, parents_swap front window other back its older.1)
+
+pub parent_at : (front : List Window) (window : Window) (back : List Window) → HaveOlderParents (front ++ window ∷ back) → HasOlderParent window
+parent_at [] window back older = older.0
+parent_at (w ∷ front) window back older = parent_at front window back older.1
+
+-- ── changes that agree ──
+module _ {X : Type 0} (number : X → ℕ) where
+  untouched : (n : ℕ) (change : X → X) (xs : List X) → AllAbove number n xs → changed_at number n change xs ≡ xs
+  untouched n change [] above = refl
+  untouched n change (x ∷ xs) above = rw (ne_eqb (number x) n (λ e. omega (arith, e, above.0))) (ap (λ zs. x ∷ zs) (untouched n change xs above.1))
+
+  -- two changes that make the same of the window with a number
+  pub changed_alike : (n : ℕ) (f g : X → X) (w : X) (xs : List X) → IsRising number xs → numbered number n xs ≡ Some w → f w ≡ g w → changed_at number n f xs ≡ changed_at number n g xs
+  changed_alike n f g w [] rising is agree = refl
+  changed_alike n f g w (x ∷ xs) rising is agree = by (number x == n) refl (λ rest. changed_alike n f g w xs rising.1 rest agree)
+    where
+      by : (b : Bool) → (number x == n) ≡ b → (numbered number n xs ≡ Some w → changed_at number n f xs ≡ changed_at number n g xs) → changed_at number n f (x ∷ xs) ≡ changed_at number n g (x ∷ xs)
+      by true same later =
+          let here : x ≡ w = some_same x w (rw same at is) in
+          let above : AllAbove number n xs = subst (λ m. AllAbove number m xs) (eqb-true (number x) n same) rising.0 in
+          rw same (ap (λ v. v ∷ changed_at number n f xs) (ap f here ∙ agree ∙ sym (ap g here)) ∙ ap (λ zs. g x ∷ zs) (untouched n f xs above ∙ sym (untouched n g xs above)))
+      by false differs later = rw differs (ap (λ zs. x ∷ zs) (later (rw differs at is)))

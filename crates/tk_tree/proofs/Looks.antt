@@ -1,5 +1,5 @@
 -- What a look into the index and the arena says of an application's part.
-use Rattle.std.proofs.Common.{◌≡◌, ◌≢◌, ℕ, ◌<◌, Bool, true, false, List, Option, Some, None, option_map, Bor, IfSome, refl, sym, ap, ◌∙◌, subst, arith}
+use Rattle.std.proofs.Common.{◌≡◌, ◌≢◌, ℕ, ◌<◌, Bool, true, false, List, Option, Some, None, option_map, Bor, IfSome, IsSome, refl, sym, ap, ◌∙◌, subst, arith}
 use Rattle.std.specs.Prelude.{◌==◌, find}
 use Rattle.std.specs.Str.{bytes_eq}
 use Rattle.std.proofs.lemmas.Option.{none-some}
@@ -17,6 +17,10 @@ use Rattle.tk_tree.specs.Window.{number_of}
 use Rattle.tk_tree.proofs.IndexLemmas.{text_is, text_same}
 use Rattle.tk_tree.proofs.Lists.{some_same, find_passes, find_below, find_numbered}
 use Rattle.tk_tree.proofs.Slots.{Slots, own_list, Placed, placed, numbered_there, fails_there}
+
+nothing_there : {X : Type 0} (o : Option X) → IsSome o → o ≡ None → ⊥
+nothing_there None some none = cc
+nothing_there (Some x) some none = cc
 
 module _ (index : Index) (slots : Slots) (counters : List (ℕ × Counter)) (kept : IsKept index slots counters) where
   -- the index has the key of each window of an application's part
@@ -91,6 +95,10 @@ module _ (index : Index) (slots : Slots) (counters : List (ℕ × Counter)) (kep
       by (Some window) some =
           let same : window.number ≡ number = some_same window.number number (sym (number_is owner path ∙ ap (option_map number_of) some) ∙ is) in
           sym (ap (λ n. window_at n (own_of owner (held_by slots counters))) same) ∙ find_numbered number_of (λ w. bytes_eq path w.path) window (own_list owner slots) (kept.sound owner).rising some ∙ sym some
+
+  -- the index has a key for each window that is there
+  pub key_there : (owner number : ℕ) → IsSome (window_at number (own_of owner (held_by slots counters))) → key_at index owner number ≡ None → ⊥
+  key_there owner number some none = nothing_there (window_at number (own_of owner (held_by slots counters))) some (key_none owner number none)
 
 -- ── options ──
 pub mapped_none : {X Y : Type 0} (f : X → Y) (o : Option X) → None ≡ option_map f o → o ≡ None

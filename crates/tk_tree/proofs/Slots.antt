@@ -170,3 +170,16 @@ fails_there slots key node test there none =
     let stand = own_stands number_of node.owner node.window.number open_at.front open_at.back in
     let list : own_list node.owner slots ≡ stand.front ++ node.window ∷ stand.back = ap (listed number_of node.owner) open_at.was ∙ stand.whole_is node.window refl in
     find_fails test stand.front node.window stand.back (sym (ap (find test) list) ∙ none)
+
+-- ── a write at a place ──
+pub set_here : (slots : Slots) (key : ℕ) (node : Node) (slot : Option Node) → at slots key ≡ Some node → at (slice_set slots key slot) key ≡ slot
+set_here [] key node slot there = absurd (none-some node there)
+set_here (s ∷ slots) zero node slot there = refl
+set_here (s ∷ slots) (suc key) node slot there = set_here slots key node slot there
+
+pub set_there : (slots : Slots) (key other : ℕ) (slot : Option Node) → other ≢ key → at (slice_set slots key slot) other ≡ at slots other
+set_there [] key other slot differ = refl
+set_there (s ∷ slots) zero zero slot differ = absurd (differ refl)
+set_there (s ∷ slots) zero (suc other) slot differ = refl
+set_there (s ∷ slots) (suc key) zero slot differ = refl
+set_there (s ∷ slots) (suc key) (suc other) slot differ = set_there slots key other slot (λ same. differ (ap suc same))

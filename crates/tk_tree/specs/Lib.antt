@@ -1,5 +1,6 @@
 -- What the contracts cite.
 pub mod Arena
+pub mod Change
 pub mod Create
 pub mod Index
 pub mod Own

@@ -1,9 +1,9 @@
 -- The windows of one application, and those of all.
-use Rattle.std.specs.Prelude.{◌≡◌, ◌≢◌, ◌<◌, ◌≤◌, ℕ, ◌+◌, Bool, ◌==◌, ◌||◌, nat_le, nat_eq, List, [], ◌∷◌, ◌++◌, length, find, Option, MatchOption}
+use Rattle.std.specs.Prelude.{◌≡◌, ◌≢◌, ◌<◌, ◌≤◌, ℕ, ◌+◌, Bool, false, ◌==◌, ◌||◌, nat_le, nat_eq, List, [], ◌∷◌, ◌++◌, length, find, filter, map, Option, MatchOption}
 use Rattle.std.specs.Option.{option_map_or}
 use Rattle.std.specs.Map.{lookup}
 use Rattle.std.specs.Str.{bytes_eq}
-use Rattle.tk_bag.specs.Bag.{Item, listed, numbered, AllBelow, IsRising}
+use Rattle.tk_bag.specs.Bag.{Item, listed, numbered, without, changed_at, AllBelow, IsRising}
 use Rattle.tk_tree.specs.declared.counter.Counter.{Counter}
 use Rattle.tk_tree.specs.declared.window.Window.{Window}
 use Rattle.tk_tree.specs.Window.{number_of}
@@ -68,3 +68,21 @@ pub record Counts (owner : ℕ) (counter : Counter) (old new : List (ℕ × Coun
   pub count_is : count_of owner new ≡ counter.count
   pub nexts : (other : ℕ) → other ≢ owner → next_of other new ≡ next_of other old
   pub counts : (other : ℕ) → other ≢ owner → count_of other new ≡ count_of other old
+
+-- ── what calls do to one application's part ──
+
+-- the window with a number changed
+abbrev pub with_change : ℕ → (Window → Window) → Own → Own
+with_change number change own = record own { windows = changed_at number_of number change own.windows }
+
+-- the window with a number gone
+abbrev pub without_window : ℕ → Own → Own
+without_window number own = record own { windows = without number_of number own.windows }
+
+-- whether the window is a child of the one with this number
+abbrev pub is_child_of : ℕ → Window → Bool
+is_child_of number window = option_map_or (λ parent. parent == number) window.parent false
+
+-- the numbers of the children of the window with this number, in the order of creation
+abbrev pub child_numbers : ℕ → List Window → List ℕ
+child_numbers number windows = map number_of (filter (is_child_of number) windows)

@@ -1,4 +1,4 @@
-ghost use Rattle.std.specs.Prelude.{◌≡◌, OnOk, OnErr};
+ghost use Rattle.std.specs.Prelude.{◌≡◌, ◌-◌, ◌<◌, OnOk, OnErr};
 ghost use Rattle.tk_tree.specs.Own.{next_of, count_of, Counts};
 
 use std::alloc::AllocError;
@@ -35,4 +35,15 @@ pub fn set_counter(
 {
     counters.insert(owner, counter)?;
     Ok(())
+}
+
+/// Counts a window of an application less.
+pub fn count_less(counters: &mut HashMap<usize, Counter>, owner: usize)
+    requires { 0 < count_of owner counters.old.entries }
+    ensures { Counts owner (record { next = next_of owner counters.old.entries; count = count_of owner counters.old.entries - 1 })
+        counters.old.entries counters.new.entries }
+{
+    if let Some(counter) = counters.get_mut(&owner) {
+        counter.count -= 1;
+    }
 }

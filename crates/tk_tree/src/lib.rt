@@ -1,6 +1,7 @@
 //! The windows of all applications of a host, in one arena: each application's are a tree, by path names as Tk has them.
 #![tactic(auto)]
 
+mod change;
 mod counter;
 mod fault;
 mod index;

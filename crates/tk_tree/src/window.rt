@@ -1,4 +1,5 @@
 ghost use Rattle.std.specs.Prelude.{◌≡◌, IfOk};
+ghost use Rattle.tk_tree.specs.Change.{tags_or_default};
 ghost use Rattle.tk_tree.specs.Window.{default_tags, new_window};
 
 use std::alloc::{AllocError, Global};
@@ -68,6 +69,27 @@ pub fn default_tags(alloc: Global, path: &Text, kind: Kind) -> Result<TextList, 
     }
     tags.push(short_text(alloc, "all")?)?;
     Ok(tags)
+}
+
+/// These tags, or the default of the window where there are none.
+pub fn tags_for(alloc: Global, window: &Window, tags: &[Text]) -> Result<TextList, AllocError>
+    ensures { IfOk result (λ list. list ≡ tags_or_default tags.now window.now) }
+{
+    match tags {
+        [] => default_tags(alloc, &window.path, window.kind),
+        [_, ..] => copies(alloc, tags),
+    }
+}
+
+/// Copies of texts.
+fn copies(alloc: Global, texts: &[Text]) -> Result<TextList, AllocError>
+    ensures { IfOk result (λ list. list ≡ texts.now) }
+{
+    let mut list = TextList::with_capacity(alloc, texts.len())?;
+    for text in texts {
+        list.push(text.copy()?)?;
+    }
+    Ok(list)
 }
 
 /// A text of characters that are known to be few enough.

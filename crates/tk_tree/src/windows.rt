@@ -1,19 +1,21 @@
 ghost use Rattle.std.specs.Prelude.{◌≡◌, ◌≢◌, ◌<◌, ◌==◌, ℕ, false, [], None, Some, Ok, Err, IsSome, IfOk, IfSome, OnOk, OnErr, IsOkUnless, MatchOption, is_some, option_map};
 ghost use Rattle.std.specs.Option.{option_copied};
+ghost use Rattle.tk_tree.specs.Change.{changed, dying, with_place, with_tags};
 ghost use Rattle.tk_tree.specs.Create.{refusal, place_refusal, parent_number, with_window};
-ghost use Rattle.tk_tree.specs.Own.{own_of, window_at, at_path, is_full, LeavesOthers};
+ghost use Rattle.tk_tree.specs.Own.{own_of, window_at, at_path, is_full, child_numbers, with_change, without_window, LeavesOthers};
 
-use crate::counter::{Counter, counter_of, set_counter};
+use crate::change::{Change, change_window};
+use crate::counter::{Counter, count_less, counter_of, set_counter};
 use crate::fault::WindowFault;
 use crate::index::Index;
 use crate::path::{begins_upper, parent_and_name};
-use crate::window::{Window, new_window};
+use crate::window::{Window, new_window, tags_for};
 use slab::Slab;
 use std::alloc::{AllocError, Global};
 use std::collections::HashMap;
 use std::marker::Model;
 use tcl_text::Text;
-use tk_base::{Kind, Win};
+use tk_base::{Kind, Rect, Win};
 
 /// How many windows an application has at most.
 const MAX_WINDOWS: usize = 512;
@@ -114,6 +116,129 @@ impl Windows {
         }
         let number = self.insert(owner, path, kind, parent)?;
         Ok(Win { owner, number })
+    }
+
+    /// The path name of a window, as `.a.b`. It takes no memory.
+    pub fn path(&self, win: Win) -> &Text
+        requires { IsSome (window_at win.number (own_of win.owner self.now)) }
+        ensures { IfSome (window_at win.number (own_of win.owner self.now)) (λ window. result.now ≡ window.path) }
+    {
+        &self.there(win).path
+    }
+
+    /// The kind of a window. It takes no memory.
+    pub fn kind(&self, win: Win) -> Kind
+        requires { IsSome (window_at win.number (own_of win.owner self.now)) }
+        ensures { IfSome (window_at win.number (own_of win.owner self.now)) (λ window. result ≡ window.kind) }
+    {
+        self.there(win).kind
+    }
+
+    /// Where a window was laid out, in pixels, and whether it is mapped. It takes no memory.
+    pub fn place(&self, win: Win) -> (Rect, bool)
+        requires { IsSome (window_at win.number (own_of win.owner self.now)) }
+        ensures { IfSome (window_at win.number (own_of win.owner self.now))
+            (λ window. result ≡ (window.place, window.mapped)) }
+    {
+        let window = self.there(win);
+        (window.place, window.mapped)
+    }
+
+    /// Whether a window is mapped. It takes no memory.
+    pub fn is_mapped(&self, win: Win) -> bool
+        requires { IsSome (window_at win.number (own_of win.owner self.now)) }
+        ensures { IfSome (window_at win.number (own_of win.owner self.now)) (λ window. result ≡ window.mapped) }
+    {
+        self.there(win).mapped
+    }
+
+    /// Whether a window is being destroyed. It takes no memory.
+    pub fn is_dying(&self, win: Win) -> bool
+        requires { IsSome (window_at win.number (own_of win.owner self.now)) }
+        ensures { IfSome (window_at win.number (own_of win.owner self.now)) (λ window. result ≡ window.dying) }
+    {
+        self.there(win).dying
+    }
+
+    /// The binding tags of a window, in the order in which they are tried (bindtags(n)). It takes no memory.
+    pub fn tags(&self, win: Win) -> &[Text]
+        requires { IsSome (window_at win.number (own_of win.owner self.now)) }
+        ensures { IfSome (window_at win.number (own_of win.owner self.now)) (λ window. result.now ≡ window.tags) }
+    {
+        self.there(win).tags.as_slice()
+    }
+
+    /// A window that is there.
+    fn there(&self, win: Win) -> &Window
+        requires { IsSome (window_at win.number (own_of win.owner self.now)) }
+        ensures { window_at win.number (own_of win.owner self.now) ≡ Some result.now }
+    {
+        self.window(win).unwrap()
+    }
+
+    /// Marks a window as being destroyed; it alone, not those below it. It takes no memory.
+    pub fn mark_dying(&mut self, win: Win)
+        requires { IsSome (window_at win.number (own_of win.owner self.old)) }
+        ensures own { own_of win.owner self.new ≡ with_change win.number dying (own_of win.owner self.old) }
+        ensures others { LeavesOthers win.owner self.old self.new }
+    {
+        self.change(win, Change::Dying);
+    }
+
+    /// Sets where a window is laid out, in pixels, and whether it is mapped. It takes no memory.
+    pub fn set_place(&mut self, win: Win, place: Rect, mapped: bool)
+        requires { IsSome (window_at win.number (own_of win.owner self.old)) }
+        ensures own { own_of win.owner self.new
+            ≡ with_change win.number (with_place place mapped) (own_of win.owner self.old) }
+        ensures others { LeavesOthers win.owner self.old self.new }
+    {
+        self.change(win, Change::Place(place, mapped));
+    }
+
+    /// Sets the binding tags of a window; none of them restores the default: its path, its class, `.` and `all` (bindtags(n)).
+    pub fn set_tags(&mut self, win: Win, tags: &[Text]) -> Result<(), AllocError>
+        requires { IsSome (window_at win.number (own_of win.owner self.old)) }
+        ensures ok { OnOk result (own_of win.owner self.new
+            ≡ with_change win.number (with_tags tags.now) (own_of win.owner self.old)) }
+        ensures others { LeavesOthers win.owner self.old self.new }
+        ensures err { OnErr result (self.new ≡ self.old) }
+    {
+        let tags = tags_for(self.alloc, self.there(win), tags)?;
+        self.change(win, Change::Tags(tags));
+        Ok(())
+    }
+
+    /// Changes a window.
+    fn change(&mut self, win: Win, change: Change)
+        requires { IsSome (window_at win.number (own_of win.owner self.old)) }
+        ensures own { own_of win.owner self.new ≡ with_change win.number (changed change) (own_of win.owner self.old) }
+        ensures others { LeavesOthers win.owner self.old self.new }
+    {
+        let Some(key) = self.index.key(win.owner, win.number) else {
+            unreachable!();
+        };
+        match self.slab.get_mut(key) {
+            Some(node) => change_window(&mut node.window, change),
+            None => unreachable!(),
+        }
+    }
+
+    /// Takes a window out that has no children. It takes no memory.
+    pub fn remove(&mut self, win: Win)
+        requires there { IsSome (window_at win.number (own_of win.owner self.old)) }
+        requires leaf { child_numbers win.number (own_of win.owner self.old).windows ≡ [] }
+        ensures own { own_of win.owner self.new ≡ without_window win.number (own_of win.owner self.old) }
+        ensures others { LeavesOthers win.owner self.old self.new }
+    {
+        let Some(key) = self.index.key(win.owner, win.number) else {
+            unreachable!();
+        };
+        let Some(node) = self.slab.try_remove(key) else {
+            unreachable!();
+        };
+        self.index
+            .remove(win.owner, node.window.path.as_str(), win.number);
+        count_less(&mut self.counters, win.owner);
     }
 
     /// The parent of a window that is to be made; none for the main window.

@@ -13,9 +13,10 @@ use Rattle.tk_tree.specs.declared.window.Window.{Window}
 use Rattle.tk_tree.specs.declared.windows.Node.{Node}
 use Rattle.tk_tree.specs.Arena.{at, item_of, bag_of, held_by, IsKept, IsIndexed, HoldsNumber, HoldsPath}
 use Rattle.tk_tree.specs.Create.{with_window}
-use Rattle.tk_tree.specs.Index.{key_at, number_at, Adds, Removes, SameIndex}
-use Rattle.tk_tree.specs.Own.{Own, Counts, own_of, next_of, count_of, LeavesOthers, HasOlderParent, IsSound, at_path, is_full}
+use Rattle.tk_tree.specs.Index.{key_at, number_at, children_at, added_child, left_children, Adds, Removes, SameIndex}
+use Rattle.tk_tree.specs.Own.{Own, Counts, own_of, next_of, count_of, LeavesOthers, HasOlderParent, IsSound, at_path, is_full, child_numbers}
 use Rattle.tk_tree.specs.Window.{number_of, new_window}
+use Rattle.tk_tree.proofs.Children.{Differ, differ_below, one_child, children-append, left_new, no_children}
 use Rattle.tk_tree.proofs.IndexLemmas.{text_is, text_same}
 use Rattle.tk_tree.proofs.Lists.{some_same, rising_more, below_more, parents_more}
 use Rattle.tk_tree.proofs.Looks.{next_unused, number_is}
@@ -38,7 +39,7 @@ pub record Added (index : Index) (old new : Slots) (counters later : List (ℕ �
 
 module _ (index after : Index) (slots new : Slots) (counters later : List (ℕ × Counter)) (owner key count : ℕ) (window : Window)
     (kept : IsKept index slots counters)
-    (adds : Adds index after owner window.path window.number key)
+    (adds : Adds index after owner window.path window.number key window.parent)
     (vacant : at slots key ≡ None)
     (there : at new key ≡ Some (record { owner = owner; window = window }))
     (rest : (other : ℕ) → other ≢ key → at new other ≡ at slots other)
@@ -136,6 +137,15 @@ module _ (index after : Index) (slots new : Slots) (counters later : List (ℕ �
       let old = kept.indexed.numbers_all k n (sym (rest k differ) ∙ is) in
       adds.numbers n.owner n.window.path (λ same alike. none-some n.window.number (sym no_path ∙ sym (ap (λ q. number_at index q window.path) same) ∙ sym (ap (λ q. number_at index n.owner q) alike) ∙ old)) ∙ old
 
+  -- ── the children ──
+  children_by : (o n : ℕ) → (o ≡ owner) ⊎ (o ≢ owner) → children_at after o n ≡ child_numbers n (own_list o new)
+  children_by o n (inl same) =
+      subst (λ p. children_at after p n ≡ child_numbers n (own_list p new)) (sym same)
+      (adds.children n ∙ ap (λ l. l ++ added_child window.parent window.number n) (kept.indexed.children_are owner n)
+      ∙ ap (λ l. child_numbers n (own_list owner slots) ++ l) (sym (one_child n window))
+      ∙ sym (children-append n (own_list owner slots) (window ∷ [])) ∙ ap (child_numbers n) (sym own_more))
+  children_by o n (inr differ) = adds.other_children o n differ ∙ kept.indexed.children_are o n ∙ ap (child_numbers n) (sym (other_same o differ))
+
   pub added : Added after slots new counters later owner window
   added = record {
     kept = record {
@@ -144,6 +154,7 @@ module _ (index after : Index) (slots new : Slots) (counters later : List (ℕ �
         keys_all = λ k n is. all_by k n is (cases_eq k key);
         numbers_found = λ o p n is. path_by o p n is (cases_eq o owner) (cases_text p window.path);
         numbers_all = λ k n is. numbers_by k n is (cases_eq k key);
+        children_are = λ o n. children_by o n (cases_eq o owner);
       };
       sound = λ o. sound_of o (cases_eq o owner);
       counted = λ o. counted_of o (cases_eq o owner);
@@ -153,10 +164,11 @@ module _ (index after : Index) (slots new : Slots) (counters later : List (ℕ �
   }
 
 -- ── the index with a window more that is taken out again ──
-pub restored : (index with_one after : Index) (owner : ℕ) (path : List ℕ) (number key : ℕ) → Adds index with_one owner path number key → Removes with_one after owner path number → key_at index owner number ≡ None → number_at index owner path ≡ None → SameIndex index after
-restored index with_one after owner path number key adds removes no_key no_path = record {
+pub restored : (index with_one after : Index) (owner : ℕ) (path : List ℕ) (number key : ℕ) (parent : Option ℕ) (ws : List Window) → Adds index with_one owner path number key parent → Removes with_one after owner path number parent → ((n : ℕ) → children_at index owner n ≡ child_numbers n ws) → Differ number ws → child_numbers number ws ≡ [] → key_at index owner number ≡ None → number_at index owner path ≡ None → SameIndex index after
+restored index with_one after owner path number key parent ws adds removes were apart_all none no_key no_path = record {
   keys = λ o n. keys_by o n (cases_eq o owner) (cases_eq n number);
   numbers = λ o p. numbers_by o p (cases_eq o owner) (cases_text p path);
+  children = λ o n. children_by o n (cases_eq o owner) (cases_eq n number);
 }
   where
     keys_old : (o n : ℕ) → (o ≡ owner → n ≢ number) → key_at after o n ≡ key_at index o n
@@ -175,6 +187,14 @@ restored index with_one after owner path number key adds removes no_key no_path 
     numbers_by o p (inl same) (inr differ) = numbers_old o p (λ _. differ)
     numbers_by o p (inl same) (inl alike) = ap (λ q. number_at after q p) same ∙ ap (number_at after owner) alike ∙ removes.number_is ∙ sym no_path ∙ sym (ap (number_at index owner) alike) ∙ sym (ap (λ q. number_at index q p) same)
 
+    children_by : (o n : ℕ) → (o ≡ owner) ⊎ (o ≢ owner) → (n ≡ number) ⊎ (n ≢ number) → children_at after o n ≡ children_at index o n
+    children_by o n (inr differ) any = removes.other_children o n differ ∙ adds.other_children o n differ
+    children_by o n (inl same) (inl alike) =
+        ap (λ p. children_at after p n) same ∙ ap (children_at after owner) alike ∙ removes.none_below ∙ sym none ∙ sym (were number) ∙ sym (ap (children_at index owner) alike) ∙ sym (ap (λ p. children_at index p n) same)
+    children_by o n (inl same) (inr apart) =
+        ap (λ p. children_at after p n) same ∙ removes.children n apart ∙ ap (left_children parent number n) (adds.children n ∙ ap (λ l. l ++ added_child parent number n) (were n))
+        ∙ left_new n parent number ws apart_all ∙ sym (were n) ∙ sym (ap (λ p. children_at index p n) same)
+
 pub same_kept : (index after : Index) (slots : Slots) (counters : List (ℕ × Counter)) → SameIndex index after → IsKept index slots counters → IsKept after slots counters
 same_kept index after slots counters same kept = record {
   indexed = record {
@@ -182,6 +202,7 @@ same_kept index after slots counters same kept = record {
     keys_all = λ k n is. same.keys n.owner n.window.number ∙ kept.indexed.keys_all k n is;
     numbers_found = λ o p n is. kept.indexed.numbers_found o p n (sym (same.numbers o p) ∙ is);
     numbers_all = λ k n is. same.numbers n.owner n.window.path ∙ kept.indexed.numbers_all k n is;
+    children_are = λ o n. same.children o n ∙ kept.indexed.children_are o n;
   };
   sound = kept.sound;
   counted = kept.counted;
@@ -206,14 +227,14 @@ inserted_own slots new counters later owner number path kind parent own next =
     (ap (λ n. own_list owner slots ++ new_window n path kind parent ∷ []) next)
 
 pub inserted : (index after : Index) (slots reserved new : Slots) (counters later : List (ℕ × Counter)) (owner key vacant_key new_key number count : ℕ) (path name : List ℕ) (kind : Kind) (parent : Option ℕ) (window : Window)
-    → IsKept index slots counters → reserved ≡ slots → Adds index after owner name number key → name ≡ path → window ≡ new_window number path kind parent
+    → IsKept index slots counters → reserved ≡ slots → Adds index after owner name number key parent → name ≡ path → window ≡ new_window number path kind parent
     → key ≡ vacant_key → new_key ≡ vacant_key → at reserved key ≡ None → at new new_key ≡ Some (record { owner = owner; window = window }) → ((other : ℕ) → other ≢ new_key → at new other ≡ at reserved other)
     → Counts owner (record { next = number + 1; count = count + 1 }) counters later → number ≡ next_of owner counters → count ≡ count_of owner counters
     → is_full (own_of owner (held_by slots counters)) ≡ false → HasOlderParent (new_window (next_of owner counters) path kind parent) → at_path path (own_of owner (held_by slots counters)) ≡ None
     → Inserted after slots new counters later owner path kind parent
 inserted index after slots reserved new counters later owner key vacant_key new_key number count path name kind parent window kept room adds name_is window_is key_is new_key_is vacant there rest counts next counted room_left older no_path =
     let keys : new_key ≡ key = new_key_is ∙ sym key_is in
-    let adds_path : Adds index after owner path number key = subst (λ p. Adds index after owner p number key) name_is adds in
+    let adds_path : Adds index after owner path number key parent = subst (λ p. Adds index after owner p number key parent) name_is adds in
     let few : length (own_list owner slots) < 512 = leb-false 512 (length (own_list owner slots)) (left_false (nat_le 512 (length (own_list owner slots))) (next_of owner counters == 18446744073709551615) room_left) in
     let done =
     added index after slots new counters later owner key count (new_window number path kind parent) kept adds_path
@@ -230,11 +251,12 @@ inserted index after slots reserved new counters later owner key vacant_key new_
     in record { kept = done.kept; own = inserted_own slots new counters later owner number path kind parent done.own next; others = done.others }
 
 -- the index after a window was put in and taken out again
-pub undone : (index with_one after : Index) (slots reserved : Slots) (counters later : List (ℕ × Counter)) (owner key number : ℕ) (path name again : List ℕ)
-    → IsKept index slots counters → reserved ≡ slots → later ≡ counters → Adds index with_one owner name number key → name ≡ path → Removes with_one after owner again number → again ≡ path
+pub undone : (index with_one after : Index) (slots reserved : Slots) (counters later : List (ℕ × Counter)) (owner key number : ℕ) (path name again : List ℕ) (parent : Option ℕ)
+    → IsKept index slots counters → reserved ≡ slots → later ≡ counters → Adds index with_one owner name number key parent → name ≡ path → Removes with_one after owner again number parent → again ≡ path
     → number ≡ next_of owner counters → at_path path (own_of owner (held_by slots counters)) ≡ None → IsKept after reserved later
-undone index with_one after slots reserved counters later owner key number path name again kept room same_counters adds name_is removes again_is next no_path =
-    let adds_path : Adds index with_one owner path number key = subst (λ p. Adds index with_one owner p number key) name_is adds in
-    let removes_path : Removes with_one after owner path number = subst (λ p. Removes with_one after owner p number) again_is removes in
-    let same = restored index with_one after owner path number key adds_path removes_path (next_unused index slots counters kept owner number next) (number_is index slots counters kept owner path ∙ ap (option_map number_of) no_path) in
+undone index with_one after slots reserved counters later owner key number path name again parent kept room same_counters adds name_is removes again_is next no_path =
+    let adds_path : Adds index with_one owner path number key parent = subst (λ p. Adds index with_one owner p number key parent) name_is adds in
+    let removes_path : Removes with_one after owner path number parent = subst (λ p. Removes with_one after owner p number parent) again_is removes in
+    let below : AllBelow number_of number (own_list owner slots) = subst (λ m. AllBelow number_of m (own_list owner slots)) (sym next) (kept.sound owner).below in
+    let same = restored index with_one after owner path number key parent (own_list owner slots) adds_path removes_path (kept.indexed.children_are owner) (differ_below number (own_list owner slots) below) (no_children number (own_list owner slots) (kept.sound owner).parents below) (next_unused index slots counters kept owner number next) (number_is index slots counters kept owner path ∙ ap (option_map number_of) no_path) in
     subst (λ s. IsKept after s later) (sym room) (subst (λ e. IsKept after slots e) (sym same_counters) (same_kept index after slots counters same kept))

@@ -13,10 +13,11 @@ use Rattle.tk_tree.specs.Arena.{at, item_of, bag_of, held_by, IsKept, HoldsNumbe
 use Rattle.tk_tree.specs.Change.{changed as change_of}
 use Rattle.tk_tree.specs.declared.change.Change.{Change}
 use Rattle.tk_tree.specs.declared.change.Change.TheVariants.{Dying, Tags, Place}
-use Rattle.tk_tree.specs.Index.{key_at, number_at, Removes}
-use Rattle.tk_tree.specs.Own.{Own, Counts, own_of, next_of, count_of, LeavesOthers, HasOlderParent, HaveOlderParents, IsSound, with_change, without_window}
+use Rattle.tk_tree.specs.Index.{key_at, number_at, children_at, left_children, Removes}
+use Rattle.tk_tree.specs.Own.{Own, Counts, own_of, next_of, count_of, LeavesOthers, HasOlderParent, HaveOlderParents, IsSound, with_change, without_window, child_numbers}
 use Rattle.tk_tree.specs.Window.{number_of}
 use Rattle.tk_tree.proofs.Added.{own_same, cases_text}
+use Rattle.tk_tree.proofs.Children.{differ_front, differ_back, children-append, children_with, children_swap, children_less, still_none}
 use Rattle.tk_tree.proofs.Lists.{some_same, rising_less, below_less, rising_swap, below_swap, length_less, length_swap, parents_less, parents_swap, parent_at}
 use Rattle.tk_tree.proofs.Slots.{Slots, own_list, opens, set_here, set_there}
 
@@ -89,6 +90,16 @@ module _ (index : Index) (slots : Slots) (counters : List (ℕ × Counter)) (key
   change_counted o (inl same) = subst (λ p. count_of p counters ≡ length (own_list p written)) (sym same) (kept.counted node.owner ∙ sym change_length)
   change_counted o (inr differ) = kept.counted o ∙ ap length (sym (change_other o differ))
 
+  change_children : (o n : ℕ) → (o ≡ node.owner) ⊎ (o ≢ node.owner) → children_at index o n ≡ child_numbers n (own_list o written)
+  change_children o n (inl same) =
+      let o_at = opens slots key node there in
+      let s = own_stands number_of node.owner node.window.number o_at.front o_at.back in
+      let was : own_list node.owner slots ≡ s.front ++ node.window ∷ s.back = ap (listed number_of node.owner) o_at.was ∙ s.whole_is node.window refl in
+      let is : own_list node.owner written ≡ s.front ++ change node.window ∷ s.back = ap (listed number_of node.owner) (o_at.changed other_node) ∙ s.whole_is (change node.window) same_number in
+      subst (λ p. children_at index p n ≡ child_numbers n (own_list p written)) (sym same)
+      (kept.indexed.children_are node.owner n ∙ ap (child_numbers n) was ∙ sym (children_swap n s.front node.window (change node.window) s.back same_parent same_number) ∙ ap (child_numbers n) (sym is))
+  change_children o n (inr differ) = kept.indexed.children_are o n ∙ ap (child_numbers n) (sym (change_other o differ))
+
   -- a window at a place has an owner, a path and a number as before
   pub record Alike (k : ℕ) (n : Node) : Type 0 where
     pub old : Node
@@ -146,6 +157,7 @@ module _ (index : Index) (slots : Slots) (counters : List (ℕ × Counter)) (key
         numbers_all = λ k n is.
             let a = alike k n is (cases_eq k key) in
             sym (ap (λ o. number_at index o n.window.path) a.its_owner) ∙ sym (ap (number_at index a.old.owner) a.its_path) ∙ kept.indexed.numbers_all k a.old a.there_old ∙ ap (λ m. Some m) a.its_number;
+        children_are = λ o n. change_children o n (cases_eq o node.owner);
       };
       sound = λ o. change_sound o (cases_eq o node.owner);
       counted = λ o. change_counted o (cases_eq o node.owner);
@@ -163,7 +175,8 @@ pub record Removed (after : Index) (old new : Slots) (counters later : List (ℕ
 module _ (index after : Index) (slots : Slots) (counters later : List (ℕ × Counter)) (key : ℕ) (node : Node)
     (kept : IsKept index slots counters)
     (there : at slots key ≡ Some node)
-    (removes : Removes index after node.owner node.window.path node.window.number)
+    (removes : Removes index after node.owner node.window.path node.window.number node.window.parent)
+    (leaf : child_numbers node.window.number (own_list node.owner slots) ≡ [])
     (counts : Counts node.owner (record { next = next_of node.owner counters; count = count_of node.owner counters - 1 }) counters later) where
   abbrev emptied : Slots
   emptied = slice_set slots key None
@@ -220,6 +233,29 @@ module _ (index after : Index) (slots : Slots) (counters later : List (ℕ × Co
   gone_counted o (inl same) = subst (λ p. count_of p later ≡ length (own_list p emptied)) (sym same) gone_counted_own
   gone_counted o (inr differ) = counts.counts o differ ∙ kept.counted o ∙ ap length (sym (gone_other o differ))
 
+  -- ── the children ──
+  gone_children_own : (n : ℕ) → (n ≡ node.window.number) ⊎ (n ≢ node.window.number) → children_at after node.owner n ≡ child_numbers n (own_list node.owner emptied)
+  gone_children_own n which =
+      let o = opens slots key node there in
+      let s = own_stands number_of node.owner node.window.number o.front o.back in
+      let was : own_list node.owner slots ≡ s.front ++ node.window ∷ s.back = ap (listed number_of node.owner) o.was ∙ s.whole_is node.window refl in
+      let is : own_list node.owner emptied ≡ s.front ++ s.back = ap (listed number_of node.owner) o.gone ∙ s.rest_is in
+      let rising : IsRising number_of (s.front ++ node.window ∷ s.back) = subst (IsRising number_of) was (kept.sound node.owner).rising in
+      by which s.front s.back was is rising
+    where
+      by : (n ≡ node.window.number) ⊎ (n ≢ node.window.number) → (front back : List Window) → own_list node.owner slots ≡ front ++ node.window ∷ back → own_list node.owner emptied ≡ front ++ back → IsRising number_of (front ++ node.window ∷ back)
+          → children_at after node.owner n ≡ child_numbers n (own_list node.owner emptied)
+      by (inl alike) front back was is rising =
+          subst (λ m. children_at after node.owner m ≡ child_numbers m (own_list node.owner emptied)) (sym alike)
+          (removes.none_below ∙ sym (still_none node.window.number front node.window back (sym (ap (child_numbers node.window.number) was) ∙ leaf)) ∙ ap (child_numbers node.window.number) (sym is))
+      by (inr apart) front back was is rising =
+          removes.children n apart ∙ ap (left_children node.window.parent node.window.number n) (kept.indexed.children_are node.owner n ∙ ap (child_numbers n) was ∙ children_with n front node.window back)
+          ∙ children_less n node.window.parent node.window.number front back (differ_front front node.window back rising) (differ_back front node.window back rising) ∙ sym (children-append n front back) ∙ ap (child_numbers n) (sym is)
+
+  gone_children : (o n : ℕ) → (o ≡ node.owner) ⊎ (o ≢ node.owner) → children_at after o n ≡ child_numbers n (own_list o emptied)
+  gone_children o n (inl same) = subst (λ p. children_at after p n ≡ child_numbers n (own_list p emptied)) (sym same) (gone_children_own n (cases_eq n node.window.number))
+  gone_children o n (inr differ) = removes.other_children o n differ ∙ kept.indexed.children_are o n ∙ ap (child_numbers n) (sym (gone_other o differ))
+
   -- ── the index ──
   key_elsewhere : (k : ℕ) (n : Node) → at emptied k ≡ Some n → k ≢ key
   key_elsewhere k n is same = none-some n (sym (set_here slots key node None there) ∙ sym (ap (at emptied) same) ∙ is)
@@ -270,6 +306,7 @@ module _ (index after : Index) (slots : Slots) (counters later : List (ℕ × Co
             let h = kept.indexed.numbers_found o p n (gone_numbers o p n is (cases_eq o node.owner) (cases_text p node.window.path)) in
             record { key = h.key; node = h.node; there = set_there slots key h.key None (gone_path_apart o p n is h) ∙ h.there; its_owner = h.its_owner; its_path = h.its_path; its_number = h.its_number };
         numbers_all = λ k n is. removes.numbers n.owner n.window.path (path_apart k n is) ∙ kept.indexed.numbers_all k n (was_there k n is);
+        children_are = λ o n. gone_children o n (cases_eq o node.owner);
       };
       sound = λ o. gone_sound o (cases_eq o node.owner);
       counted = λ o. gone_counted o (cases_eq o node.owner);
@@ -312,19 +349,20 @@ made index slots counters owner number key node change window kept key_is there 
 
 pub gone : (index after : Index) (slots new : Slots) (counters later : List (ℕ × Counter)) (owner number key : ℕ) (node : Node) (name : List ℕ)
     → IsKept index slots counters → key_at index owner number ≡ Some key → at slots key ≡ Some node → new ≡ slice_set slots key None → name ≡ node.window.path
-    → Removes index after owner name number → Counts owner (record { next = next_of owner counters; count = count_of owner counters - 1 }) counters later
+    → Removes index after owner name number node.window.parent → child_numbers number (own_list owner slots) ≡ [] → Counts owner (record { next = next_of owner counters; count = count_of owner counters - 1 }) counters later
     → Removed after slots new counters later owner number
-gone index after slots new counters later owner number key node name kept key_is there new_is name_is removes counts =
+gone index after slots new counters later owner number key node name kept key_is there new_is name_is removes leaf counts =
     let h = kept.indexed.keys_found owner number key key_is in
     let same : h.node ≡ node = some_same h.node node (sym h.there ∙ there) in
     let its_owner : node.owner ≡ owner = ap (λ n. n.owner) (sym same) ∙ h.its_owner in
     let its_number : node.window.number ≡ number = ap (λ n. n.window.number) (sym same) ∙ h.its_number in
-    let removes_name : Removes index after owner node.window.path number = subst (λ p. Removes index after owner p number) name_is removes in
-    let removes_number : Removes index after owner node.window.path node.window.number = subst (λ n. Removes index after owner node.window.path n) (sym its_number) removes_name in
-    let removes_node : Removes index after node.owner node.window.path node.window.number = subst (λ o. Removes index after o node.window.path node.window.number) (sym its_owner) removes_number in
+    let removes_name : Removes index after owner node.window.path number node.window.parent = subst (λ p. Removes index after owner p number node.window.parent) name_is removes in
+    let removes_number : Removes index after owner node.window.path node.window.number node.window.parent = subst (λ n. Removes index after owner node.window.path n node.window.parent) (sym its_number) removes_name in
+    let removes_node : Removes index after node.owner node.window.path node.window.number node.window.parent = subst (λ o. Removes index after o node.window.path node.window.number node.window.parent) (sym its_owner) removes_number in
     let counts_node : Counts node.owner (record { next = next_of node.owner counters; count = count_of node.owner counters - 1 }) counters later =
     subst (λ o. Counts o (record { next = next_of o counters; count = count_of o counters - 1 }) counters later) (sym its_owner) counts in
-    let done = removed index after slots counters later key node kept there removes_node counts_node in
+    let leaf_node : child_numbers node.window.number (own_list node.owner slots) ≡ [] = subst (λ o. child_numbers node.window.number (own_list o slots) ≡ []) (sym its_owner) (subst (λ n. child_numbers n (own_list owner slots) ≡ []) (sym its_number) leaf) in
+    let done = removed index after slots counters later key node kept there removes_node leaf_node counts_node in
     subst (λ s. Removed after slots s counters later owner number) (sym new_is)
     (subst (λ o. Removed after slots (slice_set slots key None) counters later o number) its_owner
     (subst (λ n. Removed after slots (slice_set slots key None) counters later node.owner n) its_number done))

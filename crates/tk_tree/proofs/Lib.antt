@@ -1,5 +1,6 @@
 pub mod Added
 pub mod Changed
+pub mod Children
 pub mod Lists
 pub mod Looks
 pub mod PathLemmas

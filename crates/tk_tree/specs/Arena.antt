@@ -1,12 +1,13 @@
 -- The arena's places as a bag, and what the index says of them.
 use Rattle.std.specs.Prelude.{◌≡◌, ℕ, List, [], ◌∷◌, length, Option, None, Some, slice_index_or}
-use Rattle.tk_bag.specs.Bag.{Item}
+use Rattle.tk_bag.specs.Bag.{Item, listed}
 use Rattle.tk_tree.specs.declared.counter.Counter.{Counter}
 use Rattle.tk_tree.specs.declared.index.Index.{Index}
 use Rattle.tk_tree.specs.declared.windows.Node.{Node}
 use Rattle.tk_tree.specs.declared.window.Window.{Window}
-use Rattle.tk_tree.specs.Index.{key_at, number_at}
-use Rattle.tk_tree.specs.Own.{Held, own_of, windows_of, count_of, IsSound}
+use Rattle.tk_tree.specs.Index.{key_at, number_at, children_at}
+use Rattle.tk_tree.specs.Own.{Held, own_of, windows_of, count_of, child_numbers, IsSound}
+use Rattle.tk_tree.specs.Window.{number_of}
 
 abbrev pub item_of : Node → Item Window
 item_of node = record { owner = node.owner; value = node.window }
@@ -45,6 +46,7 @@ pub record IsIndexed (index : Index) (slots : List (Option Node)) : Type 0 where
   pub keys_all : (key : ℕ) (node : Node) → at slots key ≡ Some node → key_at index node.owner node.window.number ≡ Some key
   pub numbers_found : (owner : ℕ) (path : List ℕ) (number : ℕ) → number_at index owner path ≡ Some number → HoldsPath slots owner path number
   pub numbers_all : (key : ℕ) (node : Node) → at slots key ≡ Some node → number_at index node.owner node.window.path ≡ Some node.window.number
+  pub children_are : (owner number : ℕ) → children_at index owner number ≡ child_numbers number (listed number_of owner (bag_of slots))
 
 -- what holds of the arena, its index and the counters
 pub record IsKept (index : Index) (slots : List (Option Node)) (counters : List (ℕ × Counter)) : Type 0 where

@@ -168,6 +168,14 @@ impl Windows {
         self.there(win).tags.as_slice()
     }
 
+    /// The numbers of the children of a window, in the order of creation. It takes no memory.
+    pub fn children(&self, win: Win) -> &[u64]
+        requires { IsSome (window_at win.number (own_of win.owner self.now)) }
+        ensures { result.now ≡ child_numbers win.number (own_of win.owner self.now).windows }
+    {
+        self.index.children(win.owner, win.number)
+    }
+
     /// A window that is there.
     fn there(&self, win: Win) -> &Window
         requires { IsSome (window_at win.number (own_of win.owner self.now)) }
@@ -236,8 +244,12 @@ impl Windows {
         let Some(node) = self.slab.try_remove(key) else {
             unreachable!();
         };
-        self.index
-            .remove(win.owner, node.window.path.as_str(), win.number);
+        self.index.remove(
+            win.owner,
+            node.window.path.as_str(),
+            win.number,
+            node.window.parent,
+        );
         count_less(&mut self.counters, win.owner);
     }
 
@@ -303,7 +315,7 @@ impl Windows {
         let window = new_window(self.alloc, number, path, kind, parent)?;
         self.slab.reserve(1)?;
         let key = self.slab.vacant_key();
-        self.index.add(owner, path.as_str(), number, key)?;
+        self.index.add(owner, path.as_str(), number, key, parent)?;
         let counter = Counter {
             next: number + 1,
             count: count + 1,
@@ -311,7 +323,7 @@ impl Windows {
         match set_counter(&mut self.counters, owner, counter) {
             Ok(()) => {}
             Err(refused) => {
-                self.index.remove(owner, path.as_str(), number);
+                self.index.remove(owner, path.as_str(), number, parent);
                 return Err(refused);
             }
         }

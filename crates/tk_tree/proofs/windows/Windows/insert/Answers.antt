@@ -19,7 +19,7 @@ add-requires-clause-path c =
 
 pub invariant_of-self-in-Err : goal.invariant_of-self-in-Err
 invariant_of-self-in-Err c =
-    undone c.self.inside.index c.add.new.self c.remove.new.self c.self.inside.slab.slots c.reserve.new.self.slots c.self.inside.counters.entries c.set_counter.new.counters.entries c.args.owner c.vacant_key-key.result c.counter_of-number.result.next c.args.path.now c.as_str.result.now c.as_str-in-Err.result.now
+    undone c.self.inside.index c.add.new.self c.remove.new.self c.self.inside.slab.slots c.reserve.new.self.slots c.self.inside.counters.entries c.set_counter.new.counters.entries c.args.owner c.vacant_key-key.result c.counter_of-number.result.next c.args.path.now c.as_str.result.now c.as_str-in-Err.result.now c.args.parent
     c.self.invariant
     (ap (λ s. s.slots) c.in_ok-reserve.ensures.rest_kept)
     c.in-Err.ensures.err

@@ -1,0 +1,8 @@
+pub mod Added
+pub mod Changed
+pub mod Children
+pub mod Lists
+pub mod Looks
+pub mod PathLemmas
+pub mod Slots
+mod IndexLemmas

@@ -1,0 +1,17 @@
+use Rattle.std.proofs.Common.{◌≡◌, ℕ, None, Some, option_map, sym, ap, ◌∙◌}
+use Rattle.tk_base.specs.declared.win.Win.{Win}
+use Rattle.tk_tree.specs.Own.{own_of, at_path}
+use Rattle.tk_tree.specs.Window.{number_of}
+use Rattle.tk_tree.proofs.Looks.{number_is, mapped_none, mapped_some}
+use Rattle.tk_tree.proofs.windows.Windows.find.Goals as goal
+
+pub returns-in_err-number : goal.returns-in_err-number
+returns-in_err-number c =
+    let none = mapped_none number_of _ (c.in_err-number.ensures ∙ number_is c.self.inside.index c.self.inside.slab.slots c.self.inside.counters.entries c.self.invariant c.args.owner c.args.path.now) in
+    c.from_residual.ensures ∙ sym (ap (option_map (λ window. record { owner = c.args.owner; number = window.number })) none)
+    ∙ ap (λ held. option_map (λ window. record { owner = c.args.owner; number = window.number }) (at_path c.args.path.now (own_of c.args.owner held))) c.self.view_is
+
+pub returns : goal.returns
+returns c =
+    mapped_some number_of (λ (n : ℕ). record { owner = c.args.owner; number = n }) c.in_ok-number.number _ (c.in_ok-number.ensures ∙ number_is c.self.inside.index c.self.inside.slab.slots c.self.inside.counters.entries c.self.invariant c.args.owner c.args.path.now)
+    ∙ ap (λ held. option_map (λ window. record { owner = c.args.owner; number = window.number }) (at_path c.args.path.now (own_of c.args.owner held))) c.self.view_is

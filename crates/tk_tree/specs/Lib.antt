@@ -1,0 +1,8 @@
+-- What the contracts cite.
+pub mod Arena
+pub mod Change
+pub mod Create
+pub mod Index
+pub mod Own
+pub mod Path
+pub mod Window

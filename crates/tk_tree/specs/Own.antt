@@ -1,0 +1,88 @@
+-- The windows of one application, and those of all.
+use Rattle.std.specs.Prelude.{◌≡◌, ◌≢◌, ◌<◌, ◌≤◌, ℕ, ◌+◌, Bool, false, ◌==◌, ◌||◌, nat_le, nat_eq, List, [], ◌∷◌, ◌++◌, length, find, filter, map, Option, MatchOption}
+use Rattle.std.specs.Option.{option_map_or}
+use Rattle.std.specs.Map.{lookup}
+use Rattle.std.specs.Str.{bytes_eq}
+use Rattle.tk_bag.specs.Bag.{Item, listed, numbered, without, changed_at, AllBelow, IsRising}
+use Rattle.tk_tree.specs.declared.counter.Counter.{Counter}
+use Rattle.tk_tree.specs.declared.window.Window.{Window}
+use Rattle.tk_tree.specs.Window.{number_of}
+
+-- one application's part: the number that comes next, and its windows in the order of creation, which is that of their numbers
+pub record Own : Type 0 where
+  pub next_number : ℕ
+  pub windows : List Window
+
+-- all applications' parts: each one's counter, and the windows in any order
+pub record Held : Type 0 where
+  pub counters : List (ℕ × Counter)
+  pub bag : List (Item Window)
+
+abbrev pub next_of : ℕ → List (ℕ × Counter) → ℕ
+next_of owner counters = option_map_or (λ counter. counter.next) (lookup (nat_eq owner) counters) 0
+
+abbrev pub count_of : ℕ → List (ℕ × Counter) → ℕ
+count_of owner counters = option_map_or (λ counter. counter.count) (lookup (nat_eq owner) counters) 0
+
+abbrev pub windows_of : ℕ → Held → List Window
+windows_of owner held = listed number_of owner held.bag
+
+-- an application's part
+abbrev pub own_of : ℕ → Held → Own
+own_of owner held = record { next_number = next_of owner held.counters; windows = windows_of owner held }
+
+-- every other application's part is as before
+abbrev pub LeavesOthers : ℕ → Held → Held → Type 0
+LeavesOthers owner old new = (other : ℕ) → other ≢ owner → own_of other new ≡ own_of other old
+
+-- the window with a number
+abbrev pub window_at : ℕ → Own → Option Window
+window_at number own = numbered number_of number own.windows
+
+-- the window of a path
+abbrev pub at_path : List ℕ → Own → Option Window
+at_path path own = find (λ window. bytes_eq path window.path) own.windows
+
+-- no more windows: 512 are there, or the last number, 2^64 - 2, was given
+abbrev pub is_full : Own → Bool
+is_full own = nat_le 512 (length own.windows) || (own.next_number == 18446744073709551615)
+
+-- the parent was made before the window
+abbrev pub HasOlderParent : Window → Type 0
+HasOlderParent window = MatchOption window.parent (Unit {0}) (λ parent. parent < window.number)
+
+abbrev pub HaveOlderParents : List Window → Type 0
+HaveOlderParents [] = Unit {0}
+HaveOlderParents (window ∷ windows) = HasOlderParent window × HaveOlderParents windows
+
+-- what holds of each application's part: numbers rise, each was given, parents are older than their children, and there are at most 512 windows
+pub record IsSound (own : Own) : Type 0 where
+  pub rising : IsRising number_of own.windows
+  pub below : AllBelow number_of own.next_number own.windows
+  pub parents : HaveOlderParents own.windows
+  pub few : length own.windows ≤ 512
+
+-- an application's counter is this one, and the others' are as before
+pub record Counts (owner : ℕ) (counter : Counter) (old new : List (ℕ × Counter)) : Type 0 where
+  pub next_is : next_of owner new ≡ counter.next
+  pub count_is : count_of owner new ≡ counter.count
+  pub nexts : (other : ℕ) → other ≢ owner → next_of other new ≡ next_of other old
+  pub counts : (other : ℕ) → other ≢ owner → count_of other new ≡ count_of other old
+
+-- ── what calls do to one application's part ──
+
+-- the window with a number changed
+abbrev pub with_change : ℕ → (Window → Window) → Own → Own
+with_change number change own = record own { windows = changed_at number_of number change own.windows }
+
+-- the window with a number gone
+abbrev pub without_window : ℕ → Own → Own
+without_window number own = record own { windows = without number_of number own.windows }
+
+-- whether the window is a child of the one with this number
+abbrev pub is_child_of : ℕ → Window → Bool
+is_child_of number window = option_map_or (λ parent. parent == number) window.parent false
+
+-- the numbers of the children of the window with this number, in the order of creation
+abbrev pub child_numbers : ℕ → List Window → List ℕ
+child_numbers number windows = map number_of (filter (is_child_of number) windows)

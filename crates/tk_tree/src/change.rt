@@ -1,0 +1,31 @@
+ghost use Rattle.std.specs.Prelude.{◌≡◌};
+ghost use Rattle.tk_tree.specs.Change.{changed};
+
+use crate::window::Window;
+use tcl_text::TextList;
+use tk_base::Rect;
+
+/// What a window becomes.
+#[derive(Drop)]
+pub enum Change {
+    /// It is being destroyed.
+    Dying,
+    /// It has these binding tags.
+    Tags(TextList),
+    /// It stands at a rectangle, mapped or not.
+    Place(Rect, bool),
+}
+
+/// Changes a window.
+pub fn change_window(window: &mut Window, change: Change)
+    ensures { window.new ≡ changed change window.old }
+{
+    match change {
+        Change::Dying => window.dying = true,
+        Change::Tags(tags) => window.tags = tags,
+        Change::Place(place, mapped) => {
+            window.place = place;
+            window.mapped = mapped;
+        }
+    }
+}

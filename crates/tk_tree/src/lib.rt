@@ -1,0 +1,14 @@
+//! The windows of all applications of a host, in one arena: each application's are a tree, by path names as Tk has them.
+#![tactic(auto)]
+
+mod change;
+mod counter;
+mod fault;
+mod index;
+mod path;
+mod window;
+mod windows;
+
+pub use fault::WindowFault;
+pub use window::Window;
+pub use windows::Windows;

@@ -1,0 +1,103 @@
+ghost use Rattle.std.specs.Prelude.{◌≡◌, IfOk};
+ghost use Rattle.tk_tree.specs.Change.{tags_or_default};
+ghost use Rattle.tk_tree.specs.Window.{default_tags, new_window};
+
+use std::alloc::{AllocError, Global};
+use tcl_text::{Text, TextList};
+use tk_base::{Kind, Rect};
+
+/// A window of an application.
+#[derive(Drop)]
+pub struct Window {
+    /// Its number, which no other window of the application has had or will have.
+    pub number: u64,
+    /// Its path name, as `.a.b`.
+    pub path: Text,
+    pub kind: Kind,
+    /// The number of the window that it is a child of; none for the main window.
+    pub parent: Option<u64>,
+    /// Its binding tags, in the order in which they are tried (bindtags(n)).
+    pub tags: TextList,
+    /// Where it was laid out, in pixels; 1 by 1 at 0 0 at first.
+    pub place: Rect,
+    /// Whether it is mapped.
+    pub mapped: bool,
+    /// Whether it is being destroyed.
+    pub dying: bool,
+}
+
+/// A window that hasn't been laid out.
+pub fn new_window(
+    alloc: Global,
+    number: u64,
+    path: &Text,
+    kind: Kind,
+    parent: Option<u64>,
+) -> Result<Window, AllocError>
+    ensures { IfOk result (λ window. window ≡ new_window number path.now kind parent) }
+{
+    Ok(Window {
+        number,
+        path: path.copy()?,
+        kind,
+        parent,
+        tags: default_tags(alloc, path, kind)?,
+        place: Rect {
+            x: 0,
+            y: 0,
+            width: 1,
+            height: 1,
+        },
+        mapped: false,
+        dying: false,
+    })
+}
+
+/// The tags of a window for which none were set: its path, its class, `.` and `all`, and for the main window `.`, `Tk` and `all`.
+#[tactic(auto, unfolding(crate::specs::Window::default_tags))]
+pub fn default_tags(alloc: Global, path: &Text, kind: Kind) -> Result<TextList, AllocError>
+    ensures { IfOk result (λ tags. tags ≡ default_tags path.now kind) }
+{
+    let mut tags = TextList::with_capacity(alloc, 4)?;
+    if path.as_str() == "." {
+        tags.push(short_text(alloc, ".")?)?;
+        tags.push(short_text(alloc, "Tk")?)?;
+    } else {
+        tags.push(path.copy()?)?;
+        tags.push(short_text(alloc, kind.class())?)?;
+        tags.push(short_text(alloc, ".")?)?;
+    }
+    tags.push(short_text(alloc, "all")?)?;
+    Ok(tags)
+}
+
+/// These tags, or the default of the window where there are none.
+pub fn tags_for(alloc: Global, window: &Window, tags: &[Text]) -> Result<TextList, AllocError>
+    ensures { IfOk result (λ list. list ≡ tags_or_default tags.now window.now) }
+{
+    match tags {
+        [] => default_tags(alloc, &window.path, window.kind),
+        [_, ..] => copies(alloc, tags),
+    }
+}
+
+/// Copies of texts.
+fn copies(alloc: Global, texts: &[Text]) -> Result<TextList, AllocError>
+    ensures { IfOk result (λ list. list ≡ texts.now) }
+{
+    let mut list = TextList::with_capacity(alloc, texts.len())?;
+    for text in texts {
+        list.push(text.copy()?)?;
+    }
+    Ok(list)
+}
+
+/// A text of characters that are known to be few enough.
+fn short_text(alloc: Global, characters: &str) -> Result<Text, AllocError>
+    ensures { IfOk result (λ text. text ≡ characters.now) }
+{
+    match Text::new(alloc, characters) {
+        Ok(text) => Ok(text),
+        Err(_) => Err(AllocError),
+    }
+}

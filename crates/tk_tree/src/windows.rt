@@ -1,0 +1,333 @@
+ghost use Rattle.std.specs.Prelude.{◌≡◌, ◌≢◌, ◌<◌, ◌==◌, ℕ, false, [], None, Some, Ok, Err, IsSome, IfOk, IfSome, OnOk, OnErr, IsOkUnless, MatchOption, is_some, option_map};
+ghost use Rattle.std.specs.Option.{option_copied};
+ghost use Rattle.tk_tree.specs.Change.{changed, dying, with_place, with_tags};
+ghost use Rattle.tk_tree.specs.Create.{refusal, place_refusal, parent_number, with_window};
+ghost use Rattle.tk_tree.specs.Own.{own_of, window_at, at_path, is_full, child_numbers, with_change, without_window, LeavesOthers};
+
+use crate::change::{Change, change_window};
+use crate::counter::{Counter, count_less, counter_of, set_counter};
+use crate::fault::WindowFault;
+use crate::index::Index;
+use crate::path::{begins_upper, parent_and_name};
+use crate::window::{Window, new_window, tags_for};
+use slab::Slab;
+use std::alloc::{AllocError, Global};
+use std::collections::HashMap;
+use std::marker::Model;
+use tcl_text::Text;
+use tk_base::{Kind, Rect, Win};
+
+/// How many windows an application has at most.
+const MAX_WINDOWS: usize = 512;
+
+/// The number after the last one that is given.
+const NUMBERS_END: u64 = u64::MAX;
+
+/// A window in the arena, and whose it is.
+#[derive(Drop)]
+pub struct Node {
+    owner: usize,
+    window: Window,
+}
+
+/// The windows of applications, each application's apart from the others'.
+///
+/// `owner` is an application's number everywhere. All windows stand in one arena, whose places are used again; a window's number isn't, so
+/// that the `Win` of a window that is gone finds nothing, whatever stands in its old place.
+#[derive(Drop)]
+pub struct Windows {
+    slab: Slab<Node>,
+    index: Index,
+    counters: HashMap<usize, Counter>,
+    alloc: Global,
+}
+
+impl Model for Windows {
+    ghost use Rattle.tk_tree.specs.Own.{Held};
+
+    ghost Value = { Held };
+
+    ghost use Rattle.tk_tree.specs.Arena.{held_by, IsKept};
+
+    ghost view = { λ w. held_by w.slab.slots w.counters.entries };
+
+    ghost invariant = { λ w. IsKept w.index w.slab.slots w.counters.entries };
+}
+
+impl Windows {
+    ghost use Rattle.tk_tree.specs.Own.{next_of};
+
+    /// No windows. It takes no memory.
+    pub fn new(alloc: Global) -> Windows
+        ensures { result ≡ record { counters = []; bag = [] } }
+    {
+        Windows {
+            slab: Slab::new(alloc),
+            index: Index::new(alloc),
+            counters: HashMap::new(alloc),
+            alloc,
+        }
+    }
+
+    /// The window; none where it is gone. It takes no memory.
+    pub fn window(&self, win: Win) -> Option<&Window>
+        ensures { option_copied result ≡ window_at win.number (own_of win.owner self.now) }
+    {
+        let key = self.index.key(win.owner, win.number)?;
+        let node = self.slab.get(key)?;
+        Some(&node.window)
+    }
+
+    /// Whether the window is there. It takes no memory.
+    pub fn holds(&self, win: Win) -> bool
+        ensures { result ≡ is_some (window_at win.number (own_of win.owner self.now)) }
+    {
+        self.window(win).is_some()
+    }
+
+    /// The window of a path; none where the application has none of it. It takes no memory.
+    pub fn find(&self, owner: usize, path: &str) -> Option<Win>
+        ensures { result ≡ option_map (λ window. record { owner = owner; number = window.number })
+            (at_path path.now (own_of owner self.now)) }
+    {
+        let number = self.index.number(owner, path)?;
+        Some(Win { owner, number })
+    }
+
+    /// Makes a window of a path, which isn't laid out yet. The main window `.` is the first; a frame. Refused are, the first that holds:
+    /// what is no path or names no parent that is there (24), a name that begins with A to Z (26), a parent that is being destroyed (27), a
+    /// path that is taken (25), and more than 512 windows or a number past 2^64 - 2 (28).
+    pub fn create(&mut self, owner: usize, path: &Text, kind: Kind) -> Result<Win, WindowFault>
+        ensures answer { MatchOption (refusal path.now (own_of owner self.old))
+            (IsOkUnless result WindowFault.NoMemory) (λ fault. result ≡ Err fault) }
+        ensures win { IfOk result (λ win.
+            win ≡ record { owner = owner; number = (own_of owner self.old).next_number }) }
+        ensures ok { OnOk result (own_of owner self.new
+            ≡ with_window path.now kind (parent_number path.now (own_of owner self.old)) (own_of owner self.old)) }
+        ensures others { LeavesOthers owner self.old self.new }
+        ensures err { OnErr result (self.new ≡ self.old) }
+    {
+        let parent = self.parent_for(owner, path.as_str())?;
+        if self.find(owner, path.as_str()).is_some() {
+            return Err(WindowFault::Exists);
+        }
+        if self.is_full(owner) {
+            return Err(WindowFault::Full);
+        }
+        let number = self.insert(owner, path, kind, parent)?;
+        Ok(Win { owner, number })
+    }
+
+    /// The path name of a window, as `.a.b`. It takes no memory.
+    pub fn path(&self, win: Win) -> &Text
+        requires { IsSome (window_at win.number (own_of win.owner self.now)) }
+        ensures { IfSome (window_at win.number (own_of win.owner self.now)) (λ window. result.now ≡ window.path) }
+    {
+        &self.there(win).path
+    }
+
+    /// The kind of a window. It takes no memory.
+    pub fn kind(&self, win: Win) -> Kind
+        requires { IsSome (window_at win.number (own_of win.owner self.now)) }
+        ensures { IfSome (window_at win.number (own_of win.owner self.now)) (λ window. result ≡ window.kind) }
+    {
+        self.there(win).kind
+    }
+
+    /// Where a window was laid out, in pixels, and whether it is mapped. It takes no memory.
+    pub fn place(&self, win: Win) -> (Rect, bool)
+        requires { IsSome (window_at win.number (own_of win.owner self.now)) }
+        ensures { IfSome (window_at win.number (own_of win.owner self.now))
+            (λ window. result ≡ (window.place, window.mapped)) }
+    {
+        let window = self.there(win);
+        (window.place, window.mapped)
+    }
+
+    /// Whether a window is mapped. It takes no memory.
+    pub fn is_mapped(&self, win: Win) -> bool
+        requires { IsSome (window_at win.number (own_of win.owner self.now)) }
+        ensures { IfSome (window_at win.number (own_of win.owner self.now)) (λ window. result ≡ window.mapped) }
+    {
+        self.there(win).mapped
+    }
+
+    /// Whether a window is being destroyed. It takes no memory.
+    pub fn is_dying(&self, win: Win) -> bool
+        requires { IsSome (window_at win.number (own_of win.owner self.now)) }
+        ensures { IfSome (window_at win.number (own_of win.owner self.now)) (λ window. result ≡ window.dying) }
+    {
+        self.there(win).dying
+    }
+
+    /// The binding tags of a window, in the order in which they are tried (bindtags(n)). It takes no memory.
+    pub fn tags(&self, win: Win) -> &[Text]
+        requires { IsSome (window_at win.number (own_of win.owner self.now)) }
+        ensures { IfSome (window_at win.number (own_of win.owner self.now)) (λ window. result.now ≡ window.tags) }
+    {
+        self.there(win).tags.as_slice()
+    }
+
+    /// The numbers of the children of a window, in the order of creation. It takes no memory.
+    pub fn children(&self, win: Win) -> &[u64]
+        requires { IsSome (window_at win.number (own_of win.owner self.now)) }
+        ensures { result.now ≡ child_numbers win.number (own_of win.owner self.now).windows }
+    {
+        self.index.children(win.owner, win.number)
+    }
+
+    /// A window that is there.
+    fn there(&self, win: Win) -> &Window
+        requires { IsSome (window_at win.number (own_of win.owner self.now)) }
+        ensures { window_at win.number (own_of win.owner self.now) ≡ Some result.now }
+    {
+        self.window(win).unwrap()
+    }
+
+    /// Marks a window as being destroyed; it alone, not those below it. It takes no memory.
+    pub fn mark_dying(&mut self, win: Win)
+        requires { IsSome (window_at win.number (own_of win.owner self.old)) }
+        ensures own { own_of win.owner self.new ≡ with_change win.number dying (own_of win.owner self.old) }
+        ensures others { LeavesOthers win.owner self.old self.new }
+    {
+        self.change(win, Change::Dying);
+    }
+
+    /// Sets where a window is laid out, in pixels, and whether it is mapped. It takes no memory.
+    pub fn set_place(&mut self, win: Win, place: Rect, mapped: bool)
+        requires { IsSome (window_at win.number (own_of win.owner self.old)) }
+        ensures own { own_of win.owner self.new
+            ≡ with_change win.number (with_place place mapped) (own_of win.owner self.old) }
+        ensures others { LeavesOthers win.owner self.old self.new }
+    {
+        self.change(win, Change::Place(place, mapped));
+    }
+
+    /// Sets the binding tags of a window; none of them restores the default: its path, its class, `.` and `all` (bindtags(n)).
+    pub fn set_tags(&mut self, win: Win, tags: &[Text]) -> Result<(), AllocError>
+        requires { IsSome (window_at win.number (own_of win.owner self.old)) }
+        ensures ok { OnOk result (own_of win.owner self.new
+            ≡ with_change win.number (with_tags tags.now) (own_of win.owner self.old)) }
+        ensures others { LeavesOthers win.owner self.old self.new }
+        ensures err { OnErr result (self.new ≡ self.old) }
+    {
+        let tags = tags_for(self.alloc, self.there(win), tags)?;
+        self.change(win, Change::Tags(tags));
+        Ok(())
+    }
+
+    /// Changes a window.
+    fn change(&mut self, win: Win, change: Change)
+        requires { IsSome (window_at win.number (own_of win.owner self.old)) }
+        ensures own { own_of win.owner self.new ≡ with_change win.number (changed change) (own_of win.owner self.old) }
+        ensures others { LeavesOthers win.owner self.old self.new }
+    {
+        let Some(key) = self.index.key(win.owner, win.number) else {
+            unreachable!();
+        };
+        match self.slab.get_mut(key) {
+            Some(node) => change_window(&mut node.window, change),
+            None => unreachable!(),
+        }
+    }
+
+    /// Takes a window out that has no children. It takes no memory.
+    pub fn remove(&mut self, win: Win)
+        requires there { IsSome (window_at win.number (own_of win.owner self.old)) }
+        requires leaf { child_numbers win.number (own_of win.owner self.old).windows ≡ [] }
+        ensures own { own_of win.owner self.new ≡ without_window win.number (own_of win.owner self.old) }
+        ensures others { LeavesOthers win.owner self.old self.new }
+    {
+        let Some(key) = self.index.key(win.owner, win.number) else {
+            unreachable!();
+        };
+        let Some(node) = self.slab.try_remove(key) else {
+            unreachable!();
+        };
+        self.index.remove(
+            win.owner,
+            node.window.path.as_str(),
+            win.number,
+            node.window.parent,
+        );
+        count_less(&mut self.counters, win.owner);
+    }
+
+    /// The parent of a window that is to be made; none for the main window.
+    fn parent_for(&self, owner: usize, path: &str) -> Result<Option<u64>, WindowFault>
+        ensures answer { MatchOption (place_refusal path.now (own_of owner self.now))
+            (result ≡ Ok (parent_number path.now (own_of owner self.now))) (λ fault. result ≡ Err fault) }
+        ensures older { IfOk result (λ parent. MatchOption parent (Unit {0})
+            (λ number. number < (own_of owner self.now).next_number)) }
+    {
+        if path == "." {
+            return Ok(None);
+        }
+        let Some((parent, name)) = parent_and_name(path) else {
+            return Err(WindowFault::BadPath);
+        };
+        match self.window_of(owner, parent) {
+            None => Err(WindowFault::BadPath),
+            Some(_) if begins_upper(name) => Err(WindowFault::BadName),
+            Some(parent) if parent.dying => Err(WindowFault::Dying),
+            Some(parent) => Ok(Some(parent.number)),
+        }
+    }
+
+    /// The window of a path.
+    fn window_of(&self, owner: usize, path: &str) -> Option<&Window>
+        ensures window { option_copied result ≡ at_path path.now (own_of owner self.now) }
+        ensures given { IfSome result (λ window. window.now.number < (own_of owner self.now).next_number) }
+    {
+        let number = self.index.number(owner, path)?;
+        self.window(Win { owner, number })
+    }
+
+    /// Whether the application may have no more windows.
+    fn is_full(&self, owner: usize) -> bool
+        ensures { result ≡ is_full (own_of owner self.now) }
+    {
+        let counter = counter_of(&self.counters, owner);
+        counter.count >= MAX_WINDOWS || counter.next == NUMBERS_END
+    }
+
+    /// Adds a window, whose path is new, and answers its number.
+    fn insert(
+        &mut self,
+        owner: usize,
+        path: &Text,
+        kind: Kind,
+        parent: Option<u64>,
+    ) -> Result<u64, AllocError>
+        requires new { at_path path.now (own_of owner self.old) ≡ None }
+        requires room { is_full (own_of owner self.old) ≡ false }
+        requires older { MatchOption parent (Unit {0}) (λ number. number < (own_of owner self.old).next_number) }
+        ensures number { IfOk result (λ number. number ≡ (own_of owner self.old).next_number) }
+        ensures ok { OnOk result (own_of owner self.new
+            ≡ with_window path.now kind parent (own_of owner self.old)) }
+        ensures others { LeavesOthers owner self.old self.new }
+        ensures err { OnErr result (self.new ≡ self.old) }
+    {
+        let Counter {
+            next: number,
+            count,
+        } = counter_of(&self.counters, owner);
+        let window = new_window(self.alloc, number, path, kind, parent)?;
+        self.slab.reserve(1)?;
+        let key = self.slab.vacant_key();
+        self.index.add(owner, path.as_str(), number, key, parent)?;
+        let counter = Counter {
+            next: number + 1,
+            count: count + 1,
+        };
+        match set_counter(&mut self.counters, owner, counter) {
+            Ok(()) => {}
+            Err(refused) => {
+                self.index.remove(owner, path.as_str(), number, parent);
+                return Err(refused);
+            }
+        }
+        self.slab.insert_reserved(Node { owner, window });
+        Ok(number)
+    }
+}

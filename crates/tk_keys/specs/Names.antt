@@ -26,3 +26,25 @@ control_characters = 13 ∷ 9 ∷ 8 ∷ 27 ∷ 127 ∷ []
 
 abbrev pub character_of : ℕ → Option ℕ
 character_of key = if nat_le key 94 then Some (key + 32) else slice_get control_characters (key - 95)
+
+-- the keys that modify others, as the law of their names tells
+abbrev pub shift_left : ℕ
+shift_left = 121
+
+abbrev pub shift_right : ℕ
+shift_right = 122
+
+abbrev pub control_left : ℕ
+control_left = 123
+
+abbrev pub control_right : ℕ
+control_right = 124
+
+abbrev pub alt_left : ℕ
+alt_left = 125
+
+abbrev pub alt_right : ℕ
+alt_right = 126
+
+abbrev pub caps_lock : ℕ
+caps_lock = 127

@@ -1,6 +1,6 @@
 //! Laws over the definitions. Each is the contract of a function that does nothing.
 ghost use Rattle.std.specs.Prelude.{◌≡◌, ◌<◌, ℕ, List, [], ◌∷◌, Some, codes, map};
-ghost use Rattle.tk_keys.specs.Names.{key_named, name_of};
+ghost use Rattle.tk_keys.specs.Names.{alt_left, alt_right, caps_lock, control_left, control_right, key_named, name_of, shift_left, shift_right};
 
 /// The key of a key's name is that key: no two keys have one name.
 pub fn names_differ()
@@ -15,5 +15,5 @@ pub fn names_are_kept()
 /// The keys that modify others have these names.
 #[tactic(auto, unfolding(crate::specs::Names::key_names))]
 pub fn modifiers_have_their_names()
-    ensures { map name_of (121 ∷ 122 ∷ 123 ∷ 124 ∷ 125 ∷ 126 ∷ 127 ∷ []) ≡ codes "Shift_L" ∷ codes "Shift_R" ∷ codes "Control_L" ∷ codes "Control_R" ∷ codes "Alt_L" ∷ codes "Alt_R" ∷ codes "Caps_Lock" ∷ [] }
+    ensures { map name_of (shift_left ∷ shift_right ∷ control_left ∷ control_right ∷ alt_left ∷ alt_right ∷ caps_lock ∷ []) ≡ codes "Shift_L" ∷ codes "Shift_R" ∷ codes "Control_L" ∷ codes "Control_R" ∷ codes "Alt_L" ∷ codes "Alt_R" ∷ codes "Caps_Lock" ∷ [] }
 {}

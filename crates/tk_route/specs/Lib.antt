@@ -1,0 +1,7 @@
+-- What the contracts cite.
+pub mod Fault
+pub mod Lines
+pub mod Refusals
+pub mod Routes
+pub mod Screen
+pub mod Values

@@ -1,4 +1,5 @@
 -- What the contracts cite.
+pub mod Added
 pub mod Fault
 pub mod Lines
 pub mod Refusals

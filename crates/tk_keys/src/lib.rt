@@ -1,0 +1,8 @@
+//! The keys of a keyboard (keysyms(n)): their names, and the characters that they type.
+#![tactic(auto)]
+
+mod keysym;
+pub mod laws;
+mod names;
+
+pub use keysym::Keysym;

@@ -1,0 +1,3 @@
+pub mod AddedLemmas
+pub mod LineLemmas
+pub mod ScreenLemmas

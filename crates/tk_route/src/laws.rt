@@ -1,0 +1,25 @@
+//! Laws over the definitions. Each is the contract of a function that does nothing.
+ghost use Rattle.std.specs.Prelude.{◌≡◌, ◌↔◌, ℕ, IsTrue, List, [], ◌∷◌, ◌++◌, length};
+ghost use Rattle.tk_base.specs.Rect.{HoldsPixel, SharePixel};
+ghost use Rattle.tk_base.specs.declared.rect.Rect.{Rect};
+ghost use Rattle.tk_route.specs.Added.{AllPassBy};
+ghost use Rattle.tk_route.specs.Lines.{Line};
+ghost use Rattle.tk_route.specs.Routes.{routed};
+ghost use Rattle.tk_route.specs.Screen.{holds, shares_pixel};
+ghost use Rattle.tk_route.specs.declared.place.Point.{Point};
+
+/// Two rectangles share a pixel where some pixel lies in both.
+pub fn rectangles_share_pixels()
+    ensures { (rect other : Rect) → IsTrue (shares_pixel rect other) ↔ SharePixel rect other }
+{}
+
+/// A rectangle holds a point where the point is one of its pixels.
+pub fn rectangles_hold_pixels()
+    ensures { (rect : Rect) (point : Point) → IsTrue (holds rect point) ↔ HoldsPixel rect point.x point.y }
+{}
+
+/// An application that comes in the next slot, and to which no line leads, changes nothing for the others: what each gets stays.
+pub fn others_stay()
+    ensures { (first : List Rect) (rect : Rect) (lines : List Line) → AllPassBy (length first) rect lines
+        → (slot : ℕ) → routed (first ++ rect ∷ []) lines slot ≡ routed first lines slot }
+{}

@@ -1,5 +1,5 @@
 -- What holds of the arena, its index and the counters holds with a window more.
-use Rattle.std.proofs.Common.{◌≡◌, ◌≢◌, ◌⊎◌, inl, inr, ℕ, ◌+◌, ◌<◌, ◌≤◌, Bool, true, false, List, [], ◌∷◌, ◌++◌, length, Option, Some, None, option_map, refl, sym, ap, ◌∙◌, subst, arith, length-append}
+use Rattle.std.proofs.Common.{◌≡◌, ◌≢◌, ◌⊎◌, inl, inr, ℕ, ◌+◌, ◌<◌, Bool, true, false, List, [], ◌∷◌, ◌++◌, length, Option, Some, None, option_map, refl, sym, ap, ◌∙◌, subst, arith, length-append}
 use Rattle.std.specs.Prelude.{◌==◌, ◌||◌, nat_le}
 use Rattle.std.specs.Str.{bytes_eq}
 use Rattle.std.proofs.lemmas.Option.{none-some}
@@ -11,7 +11,7 @@ use Rattle.tk_tree.specs.declared.counter.Counter.{Counter}
 use Rattle.tk_tree.specs.declared.index.Index.{Index}
 use Rattle.tk_tree.specs.declared.window.Window.{Window}
 use Rattle.tk_tree.specs.declared.windows.Node.{Node}
-use Rattle.tk_tree.specs.Arena.{at, item_of, bag_of, held_by, IsKept, IsIndexed, HoldsNumber, HoldsPath}
+use Rattle.tk_tree.specs.Arena.{at, held_by, IsKept, HoldsNumber, HoldsPath}
 use Rattle.tk_tree.specs.Create.{with_window}
 use Rattle.tk_tree.specs.Index.{key_at, number_at, children_at, added_child, left_children, Adds, Removes, SameIndex}
 use Rattle.tk_tree.specs.Own.{Own, Counts, own_of, next_of, count_of, LeavesOthers, HasOlderParent, IsSound, at_path, is_full, child_numbers}

@@ -1,5 +1,5 @@
 -- What holds of the arena, its index and the counters holds with a window changed, or gone.
-use Rattle.std.proofs.Common.{◌≡◌, ◌≢◌, ◌⊎◌, inl, inr, ℕ, ◌+◌, ◌-◌, ◌<◌, ◌≤◌, List, [], ◌∷◌, ◌++◌, length, MatchOption, Option, Some, None, refl, sym, ap, ◌∙◌, subst, arith}
+use Rattle.std.proofs.Common.{◌≡◌, ◌≢◌, ◌⊎◌, inl, inr, ℕ, ◌+◌, ◌-◌, ◌<◌, List, [], ◌∷◌, ◌++◌, length, MatchOption, Some, None, refl, sym, ap, ◌∙◌, subst, arith}
 use Rattle.std.specs.Prelude.{slice_set}
 use Rattle.std.proofs.lemmas.Option.{none-some}
 use Rattle.std.proofs.lemmas.Bool.{cases_eq}
@@ -9,7 +9,7 @@ use Rattle.tk_tree.specs.declared.counter.Counter.{Counter}
 use Rattle.tk_tree.specs.declared.index.Index.{Index}
 use Rattle.tk_tree.specs.declared.window.Window.{Window}
 use Rattle.tk_tree.specs.declared.windows.Node.{Node}
-use Rattle.tk_tree.specs.Arena.{at, item_of, bag_of, held_by, IsKept, HoldsNumber, HoldsPath}
+use Rattle.tk_tree.specs.Arena.{at, item_of, held_by, IsKept, HoldsPath}
 use Rattle.tk_tree.specs.Change.{changed as change_of}
 use Rattle.tk_tree.specs.declared.change.Change.{Change}
 use Rattle.tk_tree.specs.declared.change.Change.TheVariants.{Dying, Tags, Place}

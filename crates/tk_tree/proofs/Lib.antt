@@ -3,6 +3,7 @@ pub mod Changed
 pub mod Children
 pub mod Lists
 pub mod Looks
+pub mod Orders
 pub mod PathLemmas
 pub mod Slots
 mod IndexLemmas

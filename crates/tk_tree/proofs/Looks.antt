@@ -1,10 +1,10 @@
 -- What a look into the index and the arena says of an application's part.
-use Rattle.std.proofs.Common.{◌≡◌, ◌≢◌, ℕ, ◌<◌, Bool, true, false, List, Option, Some, None, option_map, Bor, IfSome, IsSome, refl, sym, ap, ◌∙◌, subst, arith}
+use Rattle.std.proofs.Common.{◌≡◌, ℕ, ◌<◌, Bool, true, List, Option, Some, None, option_map, Bor, IfSome, IsSome, refl, sym, ap, ◌∙◌, arith}
 use Rattle.std.specs.Prelude.{◌==◌, find}
 use Rattle.std.specs.Str.{bytes_eq}
 use Rattle.std.proofs.lemmas.Option.{none-some}
-use Rattle.std.proofs.lemmas.Bool.{eqb-true, eq-eqb}
-use Rattle.tk_bag.specs.Bag.{numbered, IsRising}
+use Rattle.std.proofs.lemmas.Bool.{eqb-true}
+use Rattle.tk_bag.specs.Bag.{numbered}
 use Rattle.tk_tree.specs.declared.counter.Counter.{Counter}
 use Rattle.tk_tree.specs.declared.index.Index.{Index}
 use Rattle.tk_tree.specs.declared.window.Window.{Window}
@@ -16,7 +16,7 @@ use Rattle.tk_tree.specs.Own.{Own, own_of, next_of, window_at, at_path}
 use Rattle.tk_tree.specs.Window.{number_of}
 use Rattle.tk_tree.proofs.IndexLemmas.{text_is, text_same}
 use Rattle.tk_tree.proofs.Lists.{some_same, find_passes, find_below, find_numbered}
-use Rattle.tk_tree.proofs.Slots.{Slots, own_list, Placed, placed, numbered_there, fails_there}
+use Rattle.tk_tree.proofs.Slots.{Slots, own_list, placed, numbered_there, fails_there}
 
 nothing_there : {X : Type 0} (o : Option X) → IsSome o → o ≡ None → ⊥
 nothing_there None some none = cc

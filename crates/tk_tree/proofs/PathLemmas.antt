@@ -1,11 +1,10 @@
 -- Where a text's last dot is.
-use Rattle.std.proofs.Common.{◌≡◌, ◌≢◌, ℕ, zero, suc, ◌<◌, Bool, true, false, List, [], ◌∷◌, ◌++◌, length, get_or, drop, take, Option, Some, None, option_map, MatchOption, Bor, ◌+◌, ◌≤◌, refl, sym, ap, ◌∙◌, arith, lit<}
-use Rattle.std.specs.Prelude.{◌==◌}
+use Rattle.std.proofs.Common.{◌≡◌, ◌≢◌, ℕ, suc, ◌<◌, List, [], ◌∷◌, ◌++◌, length, get_or, drop, take, Option, Some, None, option_map, MatchOption, Bor, ◌+◌, ◌≤◌, refl, sym, ap, ◌∙◌, arith, lit<}
 use Rattle.std.specs.Str.Pattern.{RFindsChar}
 use Rattle.std.proofs.lemmas.List.{take-append-drop}
 use Rattle.std.proofs.lemmas.Str.Pattern.{NoCharPasses-char, drop_at_char}
-use Rattle.std.proofs.lemmas.Bool.{ne_eqb, eq-eqb}
-use Rattle.tk_tree.specs.Path.{split_last, with_front}
+use Rattle.std.proofs.lemmas.Bool.{ne_eqb}
+use Rattle.tk_tree.specs.Path.{split_last}
 
 -- none of these characters is a dot
 abbrev pub HasNoDot : List ℕ → Type 0

@@ -2,14 +2,14 @@
 use Rattle.std.proofs.Common.{◌≡◌, ◌≢◌, ◌⊎◌, inl, inr, ℕ, zero, suc, Bool, true, false, List, [], ◌∷◌, ◌++◌, Option, Some, None, refl, sym, ap, ◌∙◌, subst, arith}
 use Rattle.std.specs.Prelude.{slice_set, ◌==◌, find}
 use Rattle.std.proofs.lemmas.Option.{none-some}
-use Rattle.std.proofs.lemmas.Bool.{eqb-true, eqb-false, eq-eqb}
+use Rattle.std.proofs.lemmas.Bool.{eqb-true, eqb-false}
 use Rattle.tk_bag.specs.Bag.{Item, listed, numbered, NonePasses, IsRising}
 use Rattle.tk_bag.proofs.Owners.{own_stands, listed_found, listed_none}
 use Rattle.tk_tree.specs.declared.window.Window.{Window}
 use Rattle.tk_tree.specs.declared.windows.Node.{Node}
 use Rattle.tk_tree.specs.Arena.{item_of, bag_of, at}
 use Rattle.tk_tree.specs.Window.{number_of}
-use Rattle.tk_tree.proofs.Lists.{some_same, find_numbered, find_passes, find_fails}
+use Rattle.tk_tree.proofs.Lists.{some_same, find_numbered, find_fails}
 
 abbrev pub Slots : Type 0
 Slots = List (Option Node)

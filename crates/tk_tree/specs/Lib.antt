@@ -3,6 +3,7 @@ pub mod Arena
 pub mod Change
 pub mod Create
 pub mod Index
+pub mod Orders
 pub mod Own
 pub mod Path
 pub mod Window

@@ -5,6 +5,7 @@ mod change;
 mod counter;
 mod fault;
 mod index;
+mod order;
 mod path;
 mod window;
 mod windows;

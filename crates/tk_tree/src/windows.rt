@@ -2,12 +2,14 @@ ghost use Rattle.std.specs.Prelude.{◌≡◌, ◌≢◌, ◌<◌, ◌==◌, ℕ
 ghost use Rattle.std.specs.Option.{option_copied};
 ghost use Rattle.tk_tree.specs.Change.{changed, dying, with_place, with_tags};
 ghost use Rattle.tk_tree.specs.Create.{refusal, place_refusal, parent_number, with_window};
+ghost use Rattle.tk_tree.specs.Orders.{below, below_first, all_below, all_below_first, subtree, post_order};
 ghost use Rattle.tk_tree.specs.Own.{own_of, window_at, at_path, is_full, child_numbers, with_change, without_window, LeavesOthers};
 
 use crate::change::{Change, change_window};
 use crate::counter::{Counter, count_less, counter_of, set_counter};
 use crate::fault::WindowFault;
 use crate::index::Index;
+use crate::order::push_reversed;
 use crate::path::{begins_upper, parent_and_name};
 use crate::window::{Window, new_window, tags_for};
 use slab::Slab;
@@ -173,7 +175,50 @@ impl Windows {
         requires { IsSome (window_at win.number (own_of win.owner self.now)) }
         ensures { result.now ≡ child_numbers win.number (own_of win.owner self.now).windows }
     {
-        self.index.children(win.owner, win.number)
+        self.children_of(win.owner, win.number)
+    }
+
+    /// The numbers of a window and of all below it, each before its children, and children in the order of creation: pre-order.
+    pub fn subtree(&self, win: Win) -> Result<Vec<u64>, AllocError>
+        requires { IsSome (window_at win.number (own_of win.owner self.now)) }
+        ensures { IfOk result (λ list. list.items ≡ subtree win.number (own_of win.owner self.now)) }
+    {
+        let mut order = Vec::new(self.alloc);
+        let mut waiting = Vec::new(self.alloc);
+        waiting.push(win.number)?;
+        while let Some(number) = waiting.pop() {
+            order.push(number)?;
+            push_reversed(&mut waiting, self.children_of(win.owner, number))?;
+        }
+        Ok(order)
+    }
+
+    /// The numbers of a window and of all below it, each behind its children, and children in the order of creation: post-order, in which
+    /// `destroy` takes them (destroy(n)).
+    pub fn post_order(&self, win: Win) -> Result<Vec<u64>, AllocError>
+        requires { IsSome (window_at win.number (own_of win.owner self.now)) }
+        ensures { IfOk result (λ list. list.items ≡ post_order win.number (own_of win.owner self.now)) }
+    {
+        let mut order = Vec::new(self.alloc);
+        let mut waiting = Vec::new(self.alloc);
+        waiting.push(win.number)?;
+        while let Some(number) = waiting.pop() {
+            order.push(number)?;
+            waiting.extend_from_slice(self.children_of(win.owner, number))?;
+        }
+        order.reverse();
+        Ok(order)
+    }
+
+    /// The numbers of the children that a number has, in the order of creation.
+    fn children_of(&self, owner: usize, number: u64) -> &[u64]
+        ensures children { result.now ≡ child_numbers number (own_of owner self.now).windows }
+        ensures below { below number (own_of owner self.now).windows
+            ≡ all_below (child_numbers number (own_of owner self.now).windows) (own_of owner self.now).windows }
+        ensures below_first { below_first number (own_of owner self.now).windows
+            ≡ all_below_first (child_numbers number (own_of owner self.now).windows) (own_of owner self.now).windows }
+    {
+        self.index.children(owner, number)
     }
 
     /// A window that is there.

@@ -1,4 +1,4 @@
-use Rattle.std.proofs.Common.{◌≡◌, nat_eq, string_bytes, Some, refl, sym, ◌∙◌, subst}
+use Rattle.std.proofs.Common.{◌≡◌, string_bytes, Some, refl, sym, ◌∙◌, subst}
 use Rattle.std.specs.HashMap.{get_by_text}
 use Rattle.std.proofs.lemmas.Bool.{ne_eqb}
 use Rattle.tk_tree.proofs.IndexLemmas.{text_set, text_kept}

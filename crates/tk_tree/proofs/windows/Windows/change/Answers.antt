@@ -1,4 +1,4 @@
-use Rattle.std.proofs.Common.{◌≡◌, ℕ, None, Some, IsSome, sym, ap, ◌∙◌, subst}
+use Rattle.std.proofs.Common.{IsSome, sym, ap, ◌∙◌, subst}
 use Rattle.std.specs.Option.{option_copied_mut}
 use Rattle.tk_tree.specs.Change.{changed}
 use Rattle.tk_tree.specs.Own.{own_of, window_at, with_change}

@@ -1,5 +1,4 @@
-use Rattle.std.proofs.Common.{◌≡◌, ℕ, None, Some, option_map, sym, ap, ◌∙◌}
-use Rattle.tk_base.specs.declared.win.Win.{Win}
+use Rattle.std.proofs.Common.{ℕ, option_map, sym, ap, ◌∙◌}
 use Rattle.tk_tree.specs.Own.{own_of, at_path}
 use Rattle.tk_tree.specs.Window.{number_of}
 use Rattle.tk_tree.proofs.Looks.{number_is, mapped_none, mapped_some}

@@ -1,4 +1,4 @@
-use Rattle.std.proofs.Common.{◌≡◌, ℕ, ◌<◌, false, None, Some, option_map, MatchOption, sym, ap, ◌∙◌, subst}
+use Rattle.std.proofs.Common.{◌≡◌, ◌<◌, false, None, option_map, MatchOption, sym, ap, ◌∙◌, subst}
 use Rattle.tk_tree.specs.Arena.{held_by}
 use Rattle.tk_tree.specs.Create.{with_window}
 use Rattle.tk_tree.specs.Own.{own_of, at_path, is_full}

@@ -1,4 +1,4 @@
-use Rattle.std.proofs.Common.{◌≡◌, ℕ, None, Some, IsSome, sym, ap, ◌∙◌, subst, []}
+use Rattle.std.proofs.Common.{◌≡◌, IsSome, sym, ap, ◌∙◌, subst, []}
 use Rattle.tk_tree.specs.Own.{own_of, window_at, without_window, child_numbers}
 use Rattle.tk_tree.proofs.Changed.{gone}
 use Rattle.tk_tree.proofs.Looks.{key_held, key_there}

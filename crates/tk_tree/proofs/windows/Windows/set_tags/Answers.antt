@@ -1,8 +1,8 @@
-use Rattle.std.proofs.Common.{◌≡◌, ℕ, None, Some, IsSome, sym, ap, ◌∙◌, subst}
+use Rattle.std.proofs.Common.{ap, ◌∙◌, subst}
 use Rattle.tk_bag.specs.Bag.{IsRising}
 use Rattle.tk_tree.specs.Change.{changed, with_tags}
 use Rattle.tk_tree.specs.declared.change.Change.TheVariants.{Tags}
-use Rattle.tk_tree.specs.Own.{own_of, window_at, with_change}
+use Rattle.tk_tree.specs.Own.{own_of}
 use Rattle.tk_tree.specs.Window.{number_of}
 use Rattle.tk_tree.proofs.Lists.{changed_alike}
 use Rattle.tk_tree.proofs.Changed.{own_windows}

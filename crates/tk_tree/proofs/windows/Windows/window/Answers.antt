@@ -1,4 +1,4 @@
-use Rattle.std.proofs.Common.{◌≡◌, None, Some, sym, ap, ◌∙◌}
+use Rattle.std.proofs.Common.{sym, ap, ◌∙◌}
 use Rattle.std.specs.Option.{option_copied}
 use Rattle.tk_tree.specs.Own.{own_of, window_at}
 use Rattle.tk_tree.proofs.Looks.{key_none, key_some, key_held}

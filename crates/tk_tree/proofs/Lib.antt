@@ -5,5 +5,7 @@ pub mod Lists
 pub mod Looks
 pub mod Orders
 pub mod PathLemmas
+pub mod Points
 pub mod Slots
+pub mod Ways
 mod IndexLemmas

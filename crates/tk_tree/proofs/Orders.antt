@@ -15,7 +15,7 @@ NoneBelow least [] = Unit {0}
 NoneBelow least (number ∷ numbers) = (least ≤ number) × NoneBelow least numbers
 
 -- a window isn't the child of one that is no older
-not_child : (window : Window) (number : ℕ) → HasOlderParent window → window.number ≤ number → is_child_of number window ≡ false
+pub not_child : (window : Window) (number : ℕ) → HasOlderParent window → window.number ≤ number → is_child_of number window ≡ false
 not_child window number older le = by window.parent refl older
   where
     by : (parent : Option ℕ) → window.parent ≡ parent → MatchOption window.parent (Unit {0}) (λ p. p < window.number) → is_child_of number window ≡ false

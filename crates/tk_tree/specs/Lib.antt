@@ -6,4 +6,5 @@ pub mod Index
 pub mod Orders
 pub mod Own
 pub mod Path
+pub mod Ways
 pub mod Window

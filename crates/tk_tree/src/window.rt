@@ -1,5 +1,6 @@
 ghost use Rattle.std.specs.Prelude.{◌≡◌, IfOk};
 ghost use Rattle.tk_tree.specs.Change.{tags_or_default};
+ghost use Rattle.tk_tree.specs.Ways.{has_point};
 ghost use Rattle.tk_tree.specs.Window.{default_tags, new_window};
 
 use std::alloc::{AllocError, Global};
@@ -51,6 +52,18 @@ pub fn new_window(
         mapped: false,
         dying: false,
     })
+}
+
+/// Whether a mapped window has a point, which is told from its parent's corner.
+pub fn has_point(window: &Window, x: u32, y: u32) -> bool
+    ensures { result ≡ has_point x y window.now }
+{
+    let place = window.place;
+    window.mapped
+        && place.x <= x
+        && u64::from(x) < u64::from(place.x) + u64::from(place.width)
+        && place.y <= y
+        && u64::from(y) < u64::from(place.y) + u64::from(place.height)
 }
 
 /// The tags of a window for which none were set: its path, its class, `.` and `all`, and for the main window `.`, `Tk` and `all`.

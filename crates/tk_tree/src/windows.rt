@@ -1,9 +1,10 @@
-ghost use Rattle.std.specs.Prelude.{◌≡◌, ◌≢◌, ◌<◌, ◌==◌, ℕ, false, [], None, Some, Ok, Err, IsSome, IfOk, IfSome, OnOk, OnErr, IsOkUnless, MatchOption, is_some, option_map};
-ghost use Rattle.std.specs.Option.{option_copied};
+ghost use Rattle.std.specs.Prelude.{◌≡◌, ◌≢◌, ◌<◌, ◌≤◌, ◌++◌, ◌-◌, ◌==◌, ℕ, false, [], ◌∷◌, None, Some, Ok, Err, IsSome, IfOk, IfSome, OnOk, OnErr, IsOkUnless, MatchOption, is_some, option_map, reverse};
+ghost use Rattle.std.specs.Option.{option_copied, option_map_or};
 ghost use Rattle.tk_tree.specs.Change.{changed, dying, with_place, with_tags};
 ghost use Rattle.tk_tree.specs.Create.{refusal, place_refusal, parent_number, with_window};
 ghost use Rattle.tk_tree.specs.Orders.{below, below_first, all_below, all_below_first, subtree, post_order};
 ghost use Rattle.tk_tree.specs.Own.{own_of, window_at, at_path, is_full, child_numbers, with_change, without_window, LeavesOthers};
+ghost use Rattle.tk_tree.specs.Ways.{at_point, way_at, way_to, way_up};
 
 use crate::change::{Change, change_window};
 use crate::counter::{Counter, count_less, counter_of, set_counter};
@@ -11,7 +12,7 @@ use crate::fault::WindowFault;
 use crate::index::Index;
 use crate::order::push_reversed;
 use crate::path::{begins_upper, parent_and_name};
-use crate::window::{Window, new_window, tags_for};
+use crate::window::{Window, has_point, new_window, tags_for};
 use slab::Slab;
 use std::alloc::{AllocError, Global};
 use std::collections::HashMap;
@@ -208,6 +209,103 @@ impl Windows {
         }
         order.reverse();
         Ok(order)
+    }
+
+    /// The numbers of the windows from the main window down to this one: its ancestors, the outermost first, and itself. Nothing where it is
+    /// gone.
+    pub fn way_to(&self, win: Win) -> Result<Vec<u64>, AllocError>
+        ensures { IfOk result (λ way. way.items ≡ way_to win.number (own_of win.owner self.now)) }
+    {
+        let mut way = Vec::new(self.alloc);
+        let mut up = Some(win.number);
+        while let Some(number) = up {
+            up = match self.parent_of(win.owner, number) {
+                Some(parent) => {
+                    way.push(number)?;
+                    parent
+                }
+                None => None,
+            };
+        }
+        way.reverse();
+        Ok(way)
+    }
+
+    /// The number of the parent of a window that is there, if it has one.
+    fn parent_of(&self, owner: usize, number: u64) -> Option<Option<u64>>
+        ensures way { way_up (Some number) (reverse (own_of owner self.now).windows)
+            ≡ option_map_or (λ parent. number ∷ way_up parent (reverse (own_of owner self.now).windows)) result [] }
+        ensures older { IfSome result (λ parent. MatchOption parent (Unit {0}) (λ above. above < number)) }
+    {
+        let _ = &self.slab;
+        match self.window(Win { owner, number }) {
+            Some(window) => Some(window.parent),
+            None => None,
+        }
+    }
+
+    /// The way to the deepest mapped window at a point, in pixels from where the main window's corner is told from: the numbers of the windows
+    /// that have the point, each in the one before it. Of siblings the newest is above the others. Nothing where no window has the point.
+    pub fn way_at(&self, owner: usize, x: u32, y: u32) -> Result<Vec<u64>, AllocError>
+        ensures { IfOk result (λ way. way.items ≡ way_at x y (own_of owner self.now)) }
+    {
+        let mut way = Vec::new(self.alloc);
+        if let Some(main) = self.window_of(owner, ".") {
+            if has_point(main, x, y) {
+                way.push(main.number)?;
+                self.push_at(
+                    &mut way,
+                    owner,
+                    main.number,
+                    x - main.place.x,
+                    y - main.place.y,
+                )?;
+            }
+        }
+        Ok(way)
+    }
+
+    /// Goes on from a window to the one of its children that has a point, told from its corner, and on from there.
+    fn push_at(
+        &self,
+        way: &mut Vec<u64>,
+        owner: usize,
+        number: u64,
+        x: u32,
+        y: u32,
+    ) -> Result<(), AllocError>
+        ensures { OnOk result (way.new.items ≡ way.old.items ++ at_point number x y (own_of owner self.now).windows) }
+    {
+        let (mut number, mut x, mut y) = (number, x, y);
+        while let Some(child) = self.child_at(owner, number, x, y) {
+            way.push(child.number)?;
+            number = child.number;
+            x -= child.place.x;
+            y -= child.place.y;
+        }
+        Ok(())
+    }
+
+    /// The child of a window that has a point, told from the window's corner: of several the newest.
+    fn child_at(&self, owner: usize, number: u64, x: u32, y: u32) -> Option<&Window>
+        ensures on { at_point number x y (own_of owner self.now).windows
+            ≡ option_map_or (λ child. child.number ∷ at_point child.number (x - child.place.x) (y - child.place.y) (own_of owner self.now).windows) (option_copied result) [] }
+        ensures inside { IfSome result (λ child. (child.now.place.x ≤ x) × (child.now.place.y ≤ y)) }
+    {
+        let _ = &self.slab;
+        let mut rest = self.children_of(owner, number);
+        while let Some((newest, older)) = rest.split_last() {
+            if let Some(child) = self.window(Win {
+                owner,
+                number: *newest,
+            }) {
+                if has_point(child, x, y) {
+                    return Some(child);
+                }
+            }
+            rest = older;
+        }
+        None
     }
 
     /// The numbers of the children that a number has, in the order of creation.

@@ -1,0 +1,147 @@
+//! How long it takes to make, pack, lay out and destroy windows, by how many there are.
+
+use crate::trees::remove;
+use anyhow::{Result, bail};
+use std::alloc::Global;
+use std::rt::Clock;
+use std::time::Instant;
+use tcl_text::Text;
+use tk_base::{Kind, Rect, Win};
+use tk_layout::{Arrangements, Shape, lay_out};
+use tk_packer::{PackTable, Request};
+use tk_tree::Windows;
+
+/// How many applications there are.
+const APPLICATIONS: usize = 16;
+
+/// The tables of all applications.
+#[derive(Drop)]
+struct Tables {
+    windows: Windows,
+    packs: PackTable,
+}
+
+/// Makes and packs the windows of an application: the main window, frames in it, and windows in each of these.
+fn make(alloc: Global, tables: &mut Tables, owner: usize, count: usize) -> Result<()> {
+    let mut frame = create(alloc, tables, owner, None, ".")?;
+    let mut path = String::new(alloc);
+    for index in 1..count {
+        if index % 8 == 1 {
+            path = format!(in alloc; ".f{index}")?;
+            frame = create(alloc, tables, owner, Some(0), path.as_str())?;
+        } else {
+            let name = format!(in alloc; "{path}.w{index}")?;
+            let _ = create(alloc, tables, owner, Some(frame), name.as_str())?;
+        }
+    }
+    Ok(())
+}
+
+fn create(
+    alloc: Global,
+    tables: &mut Tables,
+    owner: usize,
+    master: Option<u64>,
+    path: &str,
+) -> Result<u64> {
+    let path = Text::new(alloc, path)?;
+    let win = tables.windows.create(owner, &path, Kind::Frame)?;
+    if let Some(master) = master {
+        tables
+            .packs
+            .put(master, win, usize::MAX, Request::new(10, 10))?;
+    }
+    Ok(win.number)
+}
+
+/// The shapes of an application's windows.
+fn shapes(alloc: Global, windows: &Windows, owner: usize) -> Result<Vec<Shape>> {
+    let mut shapes = Vec::new(alloc);
+    let main = Win { owner, number: 0 };
+    if !windows.holds(main) {
+        return Ok(shapes);
+    }
+    for number in &windows.subtree(main)? {
+        shapes.push(Shape {
+            number: *number,
+            width: 10,
+            height: 10,
+            border: 1,
+            propagates: true,
+            place: Rect {
+                x: 0,
+                y: 0,
+                width: 1,
+                height: 1,
+            },
+            mapped: false,
+        })?;
+    }
+    Ok(shapes)
+}
+
+/// Destroys an application's windows.
+fn destroy(tables: &mut Tables, owner: usize) -> Result<()> {
+    let main = Win { owner, number: 0 };
+    if !tables.windows.holds(main) {
+        bail!("no main window");
+    }
+    for number in &tables.windows.post_order(main)? {
+        let win = Win {
+            owner,
+            number: *number,
+        };
+        tables.packs.forget(win);
+        if !remove(&mut tables.windows, win) {
+            bail!("a window with children is destroyed");
+        }
+    }
+    Ok(())
+}
+
+/// Makes, lays out and destroys as many windows in each application.
+fn round(rt: &(impl Print + AllocGlobal + Clock), count: usize) -> Result<()> {
+    let alloc = rt.alloc();
+    let mut tables = Tables {
+        windows: Windows::new(alloc),
+        packs: PackTable::new(alloc),
+    };
+    let start = Instant::now(rt)?;
+    for owner in 0..APPLICATIONS {
+        make(alloc, &mut tables, owner, count)?;
+    }
+    let made = start.elapsed(rt)?;
+    let start = Instant::now(rt)?;
+    for owner in 0..APPLICATIONS {
+        let shapes = shapes(alloc, &tables.windows, owner)?;
+        let mut arrangements = Arrangements::new(alloc);
+        let _ = lay_out(
+            alloc,
+            (4000, 4000),
+            tables.packs.packs(owner),
+            shapes.as_slice(),
+            &mut arrangements,
+        )?;
+    }
+    let laid = start.elapsed(rt)?;
+    let start = Instant::now(rt)?;
+    for owner in 0..APPLICATIONS {
+        destroy(&mut tables, owner)?;
+    }
+    let gone = start.elapsed(rt)?;
+    println!(rt;
+        "{count} windows in each of {APPLICATIONS}: made and packed in {} us, laid out in {} us, destroyed in {} us",
+        made.as_micros(),
+        laid.as_micros(),
+        gone.as_micros()
+    )?;
+    Ok(())
+}
+
+/// Tells how long it takes as the number of windows grows.
+pub fn run(rt: &(impl Print + AllocGlobal + Clock)) -> Result<()> {
+    for count in [8, 64, 512] {
+        round(rt, count)?;
+    }
+    Ok(())
+}

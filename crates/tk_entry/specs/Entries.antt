@@ -1,5 +1,5 @@
 -- An entry of entry(n): its text, its cursor, and what edits make of them. Places count characters.
-use Rattle.std.specs.Prelude.{◌≡◌, ℕ, ◌+◌, ◌-◌, ◌<◌, min, max, Bool, true, false, not, ◌&&◌, ◌==◌, nat_le, nat_lt, if◌then◌else◌, List, [], ◌∷◌, ◌++◌, length, take, drop, Option, Some, None, option_map, codes}
+use Rattle.std.specs.Prelude.{ℕ, ◌+◌, ◌-◌, min, max, Bool, false, not, ◌&&◌, ◌==◌, nat_le, nat_lt, if◌then◌else◌, List, [], ◌∷◌, ◌++◌, length, take, drop, Option, Some, None, option_map, codes}
 use Rattle.std.specs.Str.{chars, encode_utf8_all, bytes_eq}
 use Rattle.tcl_text.specs.Indices.{from_zero}
 use Rattle.tcl_text.specs.Readings.{integer_of}
@@ -91,14 +91,21 @@ abbrev pub by_delete : Option (List ℕ) → Entry → Option Entry
 by_delete variable entry =
     if nat_lt (cursor_in (shown variable entry) entry) (size (shown variable entry)) then Some (edited without_behind variable entry) else None
 
--- whether an edit took place, and what it made
-abbrev pub Edits : Option Entry → Entry → Entry → Bool → Type 0
-Edits wanted old new true = wanted ≡ Some new
-Edits wanted old new false = (wanted ≡ None) × (new ≡ old)
+-- the way that a word names
+unfoldable pub move_named : List ℕ → Option Move
+move_named word =
+    if bytes_eq word (codes "left") then Some Left
+    else (if bytes_eq word (codes "right") then Some Right
+    else (if bytes_eq word (codes "home") then Some Home
+    else (if bytes_eq word (codes "end") then Some End
+    else None)))
 
--- where the cursor goes
-abbrev pub moved : Move → List ℕ → ℕ → ℕ
-moved Left text cursor = cursor - 1
-moved Right text cursor = min (cursor + 1) (size text)
-moved Home text cursor = 0
-moved End text cursor = size text
+-- the cursor goes by a character of the text shown, where there is one, or to an end of it; else it is kept as it was
+abbrev pub with_cursor : ℕ → Entry → Entry
+with_cursor at entry = record entry { cursor = at }
+
+abbrev pub moved : Move → List ℕ → Entry → Entry
+moved Left text entry = if nat_lt 0 (cursor_in text entry) then with_cursor (cursor_in text entry - 1) entry else entry
+moved Right text entry = if nat_lt (cursor_in text entry) (size text) then with_cursor (cursor_in text entry + 1) entry else entry
+moved Home text entry = with_cursor 0 entry
+moved End text entry = with_cursor (size text) entry

@@ -1,4 +1,4 @@
-ghost use Rattle.std.specs.Prelude.{◌≡◌, ◌≢◌, ◌<◌, ◌≤◌, ◌++◌, [], min, max, length, IfOk, IfErr, OnOk, OnErr, string_bytes};
+ghost use Rattle.std.specs.Prelude.{◌≡◌, ◌≢◌, ◌<◌, ◌≤◌, ◌++◌, [], min, max, length, IfOk, IfErr, IfSome, string_bytes};
 ghost use Rattle.std.specs.Option.{option_copied};
 ghost use Rattle.tk_entry.specs.Entries.{size, front, behind, shown, cursor_in, index_in, inserted, deleted, edited};
 
@@ -8,8 +8,8 @@ use std::alloc::{AllocError, Global};
 use tcl_text::{Text, TextFault};
 
 /// What an entry holds (entry(n)). Where its `-textvariable` names a variable that can be read, it shows that variable's text in place of its own;
-/// the calls take it as `variable`. An edit starts from what the entry shows, and what it makes becomes the entry's own text; the caller sets
-/// the variable to it.
+/// the calls take it as `variable`. An edit starts from what the entry shows and gives another entry, whose own text is what it made; the caller
+/// sets the variable to that, and then puts the entry in the place of this one.
 #[derive(Drop)]
 pub struct Entry {
     pub text: Text,
@@ -48,8 +48,9 @@ impl Entry {
 
     /// How many characters stand before an index (`index` of entry(n)); none where the word is no index. It takes no memory.
     pub fn index(&self, variable: Option<&Text>, word: &Text) -> Option<usize>
-        ensures { result ≡ index_in word.now (size (shown (option_copied variable.entry) self.now))
+        ensures value { result ≡ index_in word.now (size (shown (option_copied variable.entry) self.now))
             (cursor_in (shown (option_copied variable.entry) self.now) self.now) }
+        ensures bound { IfSome result (λ at. at ≤ 65536) }
     {
         let size = character_count(self.shown(variable).as_str());
         index_in(word, size, self.cursor.min(size))
@@ -62,42 +63,37 @@ impl Entry {
         self.cursor = at;
     }
 
-    /// Inserts a text behind so many characters (`insert` of entry(n)). `TooLong` (4), and nothing is changed, where the text would pass
-    /// 65,536 bytes.
-    pub fn insert(
-        &mut self,
+    /// The entry with a text inserted behind so many characters (`insert` of entry(n)). `TooLong` (4) where its text would pass 65,536 bytes.
+    pub fn with_inserted(
+        &self,
         alloc: Global,
         variable: Option<&Text>,
         at: usize,
         new: &Text,
-    ) -> Result<(), TextFault>
-        ensures ok { OnOk result (self.new ≡ edited (inserted at new.now) (option_copied variable.entry) self.old) }
+    ) -> Result<Entry, TextFault>
+        ensures ok { IfOk result (λ entry. entry ≡ edited (inserted at new.now) (option_copied variable.entry) self.now) }
+        ensures short { IfOk result (λ entry. length entry.text ≤ 65536) }
         ensures too_long { IfErr result (λ fault. fault ≢ TextFault.NoMemory
-            → 65536 < length (edited (inserted at new.now) (option_copied variable.entry) self.old).text) }
-        ensures err { OnErr result (self.new ≡ self.old) }
+            → 65536 < length (edited (inserted at new.now) (option_copied variable.entry) self.now).text) }
     {
-        let edited = with_inserted(alloc, self.shown(variable), self.cursor, at, new)?;
-        *self = edited;
-        Ok(())
+        with_inserted(alloc, self.shown(variable), self.cursor, at, new)
     }
 
-    /// Deletes the characters behind the first so many and before the last so many (`delete` of entry(n)); none where the last stands
-    /// before the first. It answers `NoMemory` alone.
-    pub fn delete(
-        &mut self,
+    /// The entry without the characters behind the first so many and before the last so many (`delete` of entry(n)); none are taken where the
+    /// last stands before the first. It answers `NoMemory` alone.
+    pub fn without(
+        &self,
         alloc: Global,
         variable: Option<&Text>,
         first: usize,
         last: usize,
-    ) -> Result<(), TextFault>
-        ensures ok { OnOk result (self.new ≡ edited (deleted first last) (option_copied variable.entry) self.old) }
+    ) -> Result<Entry, TextFault>
+        ensures ok { IfOk result (λ entry. entry ≡ edited (deleted first last) (option_copied variable.entry) self.now) }
+        ensures short { IfOk result (λ entry. length entry.text ≤ 65536) }
         ensures too_long { IfErr result (λ fault. fault ≢ TextFault.NoMemory
-            → 65536 < length (edited (deleted first last) (option_copied variable.entry) self.old).text) }
-        ensures err { OnErr result (self.new ≡ self.old) }
+            → 65536 < length (edited (deleted first last) (option_copied variable.entry) self.now).text) }
     {
-        let edited = without(alloc, self.shown(variable), self.cursor, first, last)?;
-        *self = edited;
-        Ok(())
+        without(alloc, self.shown(variable), self.cursor, first, last)
     }
 }
 
@@ -110,6 +106,7 @@ fn with_inserted(
     new: &Text,
 ) -> Result<Entry, TextFault>
     ensures ok { IfOk result (λ entry. entry ≡ inserted at new.now text.now (min cursor (size text.now))) }
+    ensures short { IfOk result (λ entry. length entry.text ≤ 65536) }
     ensures too_long { IfErr result (λ fault. fault ≢ TextFault.NoMemory
         → 65536 < length (inserted at new.now text.now (min cursor (size text.now))).text) }
 {
@@ -135,6 +132,7 @@ fn without(
     last: usize,
 ) -> Result<Entry, TextFault>
     ensures ok { IfOk result (λ entry. entry ≡ deleted first last text.now (min cursor (size text.now))) }
+    ensures short { IfOk result (λ entry. length entry.text ≤ 65536) }
     ensures too_long { IfErr result (λ fault. fault ≢ TextFault.NoMemory
         → 65536 < length (deleted first last text.now (min cursor (size text.now))).text) }
 {
@@ -150,10 +148,13 @@ fn without(
 /// Texts one behind the other.
 fn joined(alloc: Global, before: &str, between: &str, after: &str) -> Result<Text, TextFault>
     ensures ok { IfOk result (λ text. text ≡ before.now ++ (between.now ++ after.now)) }
+    ensures short { IfOk result (λ text. length text ≤ 65536) }
     ensures too_long { IfErr result (λ fault. fault ≢ TextFault.NoMemory → 65536 < length (before.now ++ (between.now ++ after.now))) }
 {
     let mut string = String::from_str(alloc, before)?;
     string.push_str(between)?;
     string.push_str(after)?;
-    Text::new(alloc, string.as_str())
+    let text = Text::new(alloc, string.as_str())?;
+    let _characters = text.as_str();
+    Ok(text)
 }

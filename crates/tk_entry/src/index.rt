@@ -1,5 +1,5 @@
 //! Places in the text of an entry.
-ghost use Rattle.std.specs.Prelude.{◌≡◌, Some, None, min};
+ghost use Rattle.std.specs.Prelude.{◌≡◌, ◌≤◌, Some, None, IfSome, min};
 ghost use Rattle.tcl_text.specs.Indices.{from_zero};
 ghost use Rattle.tk_entry.specs.Entries.{index_in, number_in};
 
@@ -9,7 +9,9 @@ use tcl_text::Text;
 /// number of all characters, `cursor` that of those before the insertion cursor. None where the word is no index.
 #[tactic(auto, unfolding(crate::specs::Entries::index_in))]
 pub fn index_in(word: &Text, size: usize, cursor: usize) -> Option<usize>
-    ensures { result ≡ index_in word.now size cursor }
+    requires { cursor ≤ size }
+    ensures value { result ≡ index_in word.now size cursor }
+    ensures bound { IfSome result (λ at. at ≤ size) }
 {
     match word.as_str() {
         "end" => Some(size),
@@ -20,7 +22,8 @@ pub fn index_in(word: &Text, size: usize, cursor: usize) -> Option<usize>
 
 /// The number that a word spells, cut to so many.
 fn number_in(word: &Text, most: usize) -> Option<usize>
-    ensures { result ≡ number_in word.now most }
+    ensures value { result ≡ number_in word.now most }
+    ensures bound { IfSome result (λ at. at ≤ most) }
 {
     match word.integer() {
         Ok(number) => Some(cut(number, most)),

@@ -1,9 +1,9 @@
 //! What keys and the pointer do to an entry.
-ghost use Rattle.std.specs.Prelude.{◌≡◌, ◌≢◌, ◌<◌, length, IfOk, IfErr, OnErr};
+ghost use Rattle.std.specs.Prelude.{◌≡◌, ◌≢◌, ◌<◌, ◌≤◌, length, IfOk, IfErr, IfSome, IsSomeAnd};
 ghost use Rattle.std.specs.Option.{option_copied};
 ghost use Rattle.std.specs.Str.{chars};
 ghost use Rattle.tk_entry.specs.Columns.{characters_within};
-ghost use Rattle.tk_entry.specs.Entries.{size, shown, cursor_in, edited, is_typed, at_cursor, without_before, without_behind, by_text, by_backspace, by_delete, Edits, moved};
+ghost use Rattle.tk_entry.specs.Entries.{size, shown, is_typed, by_text, by_backspace, by_delete, moved, move_named};
 
 use crate::characters::{character_count, split_first_char};
 use crate::columns::characters_within;
@@ -20,77 +20,100 @@ pub enum Move {
     End,
 }
 
+impl Move {
+    /// The way that a word names: `left`, `right`, `home` or `end`. It takes no memory.
+    #[tactic(auto, unfolding(crate::specs::Entries::move_named))]
+    pub fn named(word: &str) -> Option<Move>
+        ensures { result ≡ move_named word.now }
+    {
+        match word {
+            "left" => Some(Move::Left),
+            "right" => Some(Move::Right),
+            "home" => Some(Move::Home),
+            "end" => Some(Move::End),
+            _ => None,
+        }
+    }
+}
+
 impl Entry {
-    /// Inserts the text of a key at the cursor, unless it is empty or begins with a control character; whether it did. `TooLong` (4), and
-    /// nothing is changed, where the text would pass 65,536 bytes.
-    pub fn insert_typed(
-        &mut self,
+    /// The entry with the text of a key inserted at the cursor; none where the text is empty or begins with a control character. `TooLong` (4)
+    /// where its text would pass 65,536 bytes.
+    pub fn with_typed(
+        &self,
         alloc: Global,
         variable: Option<&Text>,
         new: &Text,
-    ) -> Result<bool, TextFault>
-        ensures ok { IfOk result (Edits (by_text new.now (option_copied variable.entry) self.old) self.old self.new) }
+    ) -> Result<Option<Entry>, TextFault>
+        ensures ok { IfOk result (λ entry. entry ≡ by_text new.now (option_copied variable.entry) self.now) }
+        ensures short { IfOk result (λ entry. IfSome entry (λ edited. length edited.text ≤ 65536)) }
         ensures too_long { IfErr result (λ fault. fault ≢ TextFault.NoMemory
-            → 65536 < length (edited (at_cursor new.now) (option_copied variable.entry) self.old).text) }
-        ensures err { OnErr result (self.new ≡ self.old) }
+            → IsSomeAnd (by_text new.now (option_copied variable.entry) self.now) (λ entry. 65536 < length entry.text)) }
     {
         if !is_typed(new) {
-            return Ok(false);
+            return Ok(None);
         }
         let at = self.cursor(variable);
-        self.insert(alloc, variable, at, new)?;
-        Ok(true)
+        Ok(Some(self.with_inserted(alloc, variable, at, new)?))
     }
 
-    /// Deletes the character before the cursor, if there is one; whether it did. It is refused only where memory is.
-    pub fn backspace(&mut self, alloc: Global, variable: Option<&Text>) -> Result<bool, TextFault>
-        ensures ok { IfOk result (Edits (by_backspace (option_copied variable.entry) self.old) self.old self.new) }
+    /// The entry without the character before the cursor; none where there is none. It is refused only where memory is.
+    pub fn without_before(
+        &self,
+        alloc: Global,
+        variable: Option<&Text>,
+    ) -> Result<Option<Entry>, TextFault>
+        ensures ok { IfOk result (λ entry. entry ≡ by_backspace (option_copied variable.entry) self.now) }
+        ensures short { IfOk result (λ entry. IfSome entry (λ edited. length edited.text ≤ 65536)) }
         ensures too_long { IfErr result (λ fault. fault ≢ TextFault.NoMemory
-            → 65536 < length (edited without_before (option_copied variable.entry) self.old).text) }
-        ensures err { OnErr result (self.new ≡ self.old) }
+            → IsSomeAnd (by_backspace (option_copied variable.entry) self.now) (λ entry. 65536 < length entry.text)) }
     {
         let cursor = self.cursor(variable);
         if cursor == 0 {
-            return Ok(false);
+            return Ok(None);
         }
-        self.delete(alloc, variable, cursor - 1, cursor)?;
-        Ok(true)
+        Ok(Some(self.without(alloc, variable, cursor - 1, cursor)?))
     }
 
-    /// Deletes the character behind the cursor, if there is one; whether it did. It is refused only where memory is.
-    pub fn delete_behind(
-        &mut self,
+    /// The entry without the character behind the cursor; none where there is none. It is refused only where memory is.
+    pub fn without_behind(
+        &self,
         alloc: Global,
         variable: Option<&Text>,
-    ) -> Result<bool, TextFault>
-        ensures ok { IfOk result (Edits (by_delete (option_copied variable.entry) self.old) self.old self.new) }
+    ) -> Result<Option<Entry>, TextFault>
+        ensures ok { IfOk result (λ entry. entry ≡ by_delete (option_copied variable.entry) self.now) }
+        ensures short { IfOk result (λ entry. IfSome entry (λ edited. length edited.text ≤ 65536)) }
         ensures too_long { IfErr result (λ fault. fault ≢ TextFault.NoMemory
-            → 65536 < length (edited without_behind (option_copied variable.entry) self.old).text) }
-        ensures err { OnErr result (self.new ≡ self.old) }
+            → IsSomeAnd (by_delete (option_copied variable.entry) self.now) (λ entry. 65536 < length entry.text)) }
     {
         let cursor = self.cursor(variable);
         if cursor >= self.size(variable) {
-            return Ok(false);
+            return Ok(None);
         }
-        self.delete(alloc, variable, cursor, cursor + 1)?;
-        Ok(true)
+        Ok(Some(self.without(alloc, variable, cursor, cursor + 1)?))
     }
 
-    /// Moves the cursor by a character, where there is one, or to an end of the text. It takes no memory.
+    /// Moves the cursor by a character, where there is one, or to an end of the text. Where there is no character, the cursor is kept as it
+    /// was, past the end of the text too. It takes no memory.
     pub fn move_cursor(&mut self, variable: Option<&Text>, way: Move)
-        ensures { self.new ≡ record self.old {
-          cursor = moved way (shown (option_copied variable.entry) self.old)
-              (cursor_in (shown (option_copied variable.entry) self.old) self.old);
-        } }
+        ensures { self.new ≡ moved way (shown (option_copied variable.entry) self.old) self.old }
     {
         let cursor = self.cursor(variable);
-        let at = match way {
-            Move::Left => cursor.saturating_sub(1),
-            Move::Right => cursor.saturating_add(1).min(self.size(variable)),
-            Move::Home => 0,
-            Move::End => self.size(variable),
-        };
-        self.put_cursor(at);
+        let size = self.size(variable);
+        match way {
+            Move::Left => {
+                if cursor > 0 {
+                    self.put_cursor(cursor - 1);
+                }
+            }
+            Move::Right => {
+                if cursor < size {
+                    self.put_cursor(cursor + 1);
+                }
+            }
+            Move::Home => self.put_cursor(0),
+            Move::End => self.put_cursor(size),
+        }
     }
 
     /// Puts the cursor behind as many characters as so many columns have room for. It takes no memory.

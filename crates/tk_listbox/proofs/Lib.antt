@@ -1,2 +1,3 @@
 -- Lemmas.
 pub mod Chosen
+pub mod Lists

@@ -2,42 +2,50 @@ ghost use Rattle.std.specs.Prelude.{◌≡◌, ◌≢◌, ◌<◌, ◌≤◌, �
 ghost use Rattle.tcl_text.specs.Readings.{list_form};
 ghost use Rattle.tk_listbox.specs.Indices.{from_zero};
 ghost use Rattle.tk_listbox.specs.Items.{texts, new_items, chosen_from};
+ghost use Rattle.tk_listbox.specs.Kept.{IsLengthened, IsFull};
 ghost use Rattle.tk_listbox.specs.Listboxes.{part, kept, active_inserted, active_deleted, inserted, deleted, activated, chosen_by, selected, has_chosen, row_at};
 
 use crate::choice::Choice;
 use crate::items::{Item, first_items, items_behind, texts_of, with_copies, with_new};
 use std::alloc::{AllocError, Global};
 use std::marker::Model;
-use tcl_text::{Text, TextFault, TextList};
+use tcl_text::{Edit, EditFault, Text, TextFault, TextList};
 
 /// How many pixels high a row is.
 const ROW: usize = 16;
 
 /// The items of a listbox with their selection, and which is active (listbox(n)). Places count from 0. In an empty listbox the place 0 is
-/// active.
+/// active. The list of all items is kept beside them, so that items added behind the last don't cost what stands before them.
 #[derive(Drop)]
 pub struct Listbox {
     items: Vec<Item>,
+    list: Text,
     active: usize,
 }
 
 impl Model for Listbox {
     ghost use Rattle.tk_listbox.specs.Listboxes.{Held};
+    ghost use Rattle.tk_listbox.specs.Kept.{IsKept};
 
     ghost Value = { Held };
 
     ghost view = { λ b. record { items = b.items.items; active = b.active } };
+
+    ghost invariant = { λ b. IsKept b.items.items b.list b.active };
 }
 
 impl Listbox {
-    /// No items. It takes no memory.
-    pub fn new(alloc: Global) -> Listbox
-        ensures { result ≡ record { items = []; active = 0 } }
+    /// No items.
+    pub fn new(alloc: Global) -> Result<Listbox, AllocError>
+        ensures { IfOk result (λ listbox. listbox ≡ record { items = []; active = 0 }) }
     {
-        Listbox {
-            items: Vec::new(alloc),
+        let items = Vec::new(alloc);
+        let list = list_text(alloc, &items)?;
+        Ok(Listbox {
+            items,
+            list,
             active: 0,
-        }
+        })
     }
 
     /// How many items there are (`size` of listbox(n)).
@@ -61,6 +69,13 @@ impl Listbox {
         texts_of(alloc, items_behind(first_items(&self.items, to), from))
     }
 
+    /// The list of all items, which is not copied. It takes no memory.
+    pub fn list(&self) -> &Text
+        ensures { result.now ≡ list_form (texts self.now.items) }
+    {
+        &self.list
+    }
+
     /// Inserts items before the one at a place, or behind the last (`insert` of listbox(n)). `TooLong` (4), and nothing is inserted, where the
     /// list of all items would pass 65,536 bytes.
     pub fn insert(&mut self, alloc: Global, at: usize, new: &[Text]) -> Result<(), TextFault>
@@ -70,9 +85,42 @@ impl Listbox {
             → 65536 < length (list_form (texts (inserted at new.now self.old).items))) }
         ensures err { OnErr result (self.new ≡ self.old) }
     {
-        let items = with_inserted(alloc, &self.items, at, new)?;
+        if at < self.size() {
+            self.insert_before(alloc, at, new)
+        } else {
+            self.push(alloc, at, new)
+        }
+    }
+
+    /// Inserts items before the one at a place; all that are there are gone over.
+    fn insert_before(&mut self, alloc: Global, at: usize, new: &[Text]) -> Result<(), TextFault>
+        ensures ok { OnOk result (self.new ≡ inserted at new.now self.old) }
+        ensures short { OnOk result (length (list_form (texts (inserted at new.now self.old).items)) ≤ 65536) }
+        ensures too_long { IfErr result (λ fault. fault ≢ TextFault.NoMemory
+            → 65536 < length (list_form (texts (inserted at new.now self.old).items))) }
+        ensures err { OnErr result (self.new ≡ self.old) }
+    {
+        let items = spliced(alloc, &self.items, at, new)?;
+        let list = listed(alloc, &items)?;
         let active = active_inserted(at, new.len(), self.items.len(), self.active);
-        *self = Listbox { items, active };
+        *self = Listbox {
+            items,
+            list,
+            active,
+        };
+        Ok(())
+    }
+
+    /// Adds items behind the last; those that are there aren't gone over.
+    fn push(&mut self, alloc: Global, at: usize, new: &[Text]) -> Result<(), TextFault>
+        requires { length self.old.items ≤ at }
+        ensures ok { OnOk result (self.new ≡ inserted at new.now self.old) }
+        ensures short { OnOk result (length (list_form (texts (inserted at new.now self.old).items)) ≤ 65536) }
+        ensures too_long { IfErr result (λ fault. fault ≢ TextFault.NoMemory
+            → 65536 < length (list_form (texts (inserted at new.now self.old).items))) }
+        ensures err { OnErr result (self.new ≡ self.old) }
+    {
+        push_items(alloc, &mut self.items, &mut self.list, new)?;
         Ok(())
     }
 
@@ -82,9 +130,14 @@ impl Listbox {
         ensures err { OnErr result (self.new ≡ self.old) }
     {
         let items = kept(alloc, &self.items, from, to)?;
+        let list = rest_listed(alloc, &self.list, &self.items, from, to, &items)?;
         let last = items.len().saturating_sub(1);
         let active = active_deleted(from, to, self.active).min(last);
-        *self = Listbox { items, active };
+        *self = Listbox {
+            items,
+            list,
+            active,
+        };
         Ok(())
     }
 
@@ -99,7 +152,7 @@ impl Listbox {
     pub fn select(&mut self, how: Choice)
         ensures { self.new ≡ selected how self.old }
     {
-        choose(&mut self.items, how);
+        choose_among(&mut self.items, how);
     }
 
     /// The places of the items that are selected, in order (`curselection` of listbox(n)).
@@ -130,23 +183,6 @@ impl Listbox {
     }
 }
 
-/// The items with new ones before the one at a place.
-fn with_inserted(
-    alloc: Global,
-    items: &[Item],
-    at: usize,
-    new: &[Text],
-) -> Result<Vec<Item>, TextFault>
-    ensures ok { IfOk result (λ all. all.items ≡ take at items.now ++ (new_items new.now ++ drop at items.now)) }
-    ensures short { OnOk result (length (list_form (texts (take at items.now ++ (new_items new.now ++ drop at items.now)))) ≤ 65536) }
-    ensures too_long { IfErr result (λ fault. fault ≢ TextFault.NoMemory
-        → 65536 < length (list_form (texts (take at items.now ++ (new_items new.now ++ drop at items.now))))) }
-{
-    let all = spliced(alloc, items, at, new)?;
-    test_length(alloc, &all)?;
-    Ok(all)
-}
-
 /// The items with new ones before the one at a place, however long.
 fn spliced(alloc: Global, items: &[Item], at: usize, new: &[Text]) -> Result<Vec<Item>, AllocError>
     ensures { IfOk result (λ all. all.items ≡ take at items.now ++ (new_items new.now ++ drop at items.now)) }
@@ -156,14 +192,94 @@ fn spliced(alloc: Global, items: &[Item], at: usize, new: &[Text]) -> Result<Vec
     with_copies(all, items_behind(items, at))
 }
 
-/// Refuses items whose list is too long.
-fn test_length(alloc: Global, items: &[Item]) -> Result<(), TextFault>
+/// The list of items.
+fn listed(alloc: Global, items: &[Item]) -> Result<Text, TextFault>
+    ensures ok { IfOk result (λ list. list ≡ list_form (texts items.now)) }
     ensures short { OnOk result (length (list_form (texts items.now)) ≤ 65536) }
     ensures too_long { IfErr result (λ fault. fault ≢ TextFault.NoMemory → 65536 < length (list_form (texts items.now))) }
 {
     let texts = texts_of(alloc, items)?;
-    let _list = Text::join_list(alloc, texts.as_slice())?;
-    Ok(())
+    let list = Text::join_list(alloc, texts.as_slice())?;
+    Ok(list)
+}
+
+/// The list of no items.
+fn list_text(alloc: Global, none: &[Item]) -> Result<Text, AllocError>
+    requires { none.now ≡ [] }
+    ensures { IfOk result (λ list. list ≡ list_form (texts none.now)) }
+{
+    match listed(alloc, none) {
+        Ok(list) => Ok(list),
+        Err(TextFault::TooLong) => unreachable!(),
+        Err(TextFault::NoMemory) => Err(AllocError),
+    }
+}
+
+/// The list of the items that are left of others.
+fn rest_listed(
+    alloc: Global,
+    list: &Text,
+    items: &[Item],
+    from: usize,
+    to: usize,
+    left: &[Item],
+) -> Result<Text, AllocError>
+    requires list { list.now ≡ list_form (texts items.now) }
+    requires left { left.now ≡ kept from to items.now }
+    ensures { IfOk result (λ rest. rest ≡ list_form (texts left.now)) }
+{
+    let _characters = list.as_str();
+    match listed(alloc, left) {
+        Ok(rest) => Ok(rest),
+        Err(TextFault::TooLong) => unreachable!(),
+        Err(TextFault::NoMemory) => Err(AllocError),
+    }
+}
+
+/// Adds items, and their elements to the list of all.
+fn push_items(
+    alloc: Global,
+    items: &mut Vec<Item>,
+    list: &mut Text,
+    new: &[Text],
+) -> Result<(), TextFault>
+    requires { list.old ≡ list_form (texts items.old.items) }
+    ensures items { OnOk result (items.new.items ≡ items.old.items ++ new_items new.now) }
+    ensures list { OnOk result (list.new ≡ list_form (texts (items.old.items ++ new_items new.now))) }
+    ensures short { OnOk result (length (list_form (texts (items.old.items ++ new_items new.now))) ≤ 65536) }
+    ensures too_long { IfErr result (λ fault. fault ≢ TextFault.NoMemory
+        → 65536 < length (list_form (texts (items.old.items ++ new_items new.now)))) }
+    ensures items_stay { OnErr result (items.new.items ≡ items.old.items) }
+    ensures list_stays { OnErr result (list.new ≡ list.old) }
+{
+    let size = items.len();
+    let mut more = with_new(Vec::new(alloc), new)?;
+    items.append(&mut more)?;
+    match push_elements(alloc, list, new) {
+        Ok(()) => Ok(()),
+        Err(fault) => {
+            items.truncate(size);
+            Err(fault)
+        }
+    }
+}
+
+/// Adds elements to a list in its one form.
+fn push_elements(alloc: Global, list: &mut Text, new: &[Text]) -> Result<(), TextFault>
+    ensures ok { OnOk result (IsLengthened new.now list.old list.new) }
+    ensures too_long { IfErr result (λ fault. fault ≢ TextFault.NoMemory → IsFull new.now list.old) }
+    ensures err { OnErr result (list.new ≡ list.old) }
+{
+    match list.edit(alloc, Edit::Items(new)) {
+        Ok(()) => {
+            let _characters = list.as_str();
+            Ok(())
+        }
+        Err(EditFault::NoMemory) => Err(TextFault::NoMemory),
+        Err(EditFault::TooLong) => Err(TextFault::TooLong),
+        // (not answered, since the text is a list)
+        Err(EditFault::BadList(_)) => Err(TextFault::TooLong),
+    }
 }
 
 /// The items without those from a place on and before another.
@@ -195,6 +311,13 @@ fn active_deleted(from: usize, to: usize, active: usize) -> usize
     } else {
         active.min(from)
     }
+}
+
+/// Changes the selection of all items.
+fn choose_among(items: &mut Vec<Item>, how: Choice)
+    ensures { items.new.items ≡ chosen_by how 0 items.old.items }
+{
+    choose(items, how);
 }
 
 /// Changes the selection of the items.

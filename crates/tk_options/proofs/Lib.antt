@@ -1,4 +1,4 @@
 -- Lemmas.
 pub mod Only
 pub mod Places
-pub mod Settings
+pub mod SettingLemmas

@@ -1,6 +1,6 @@
 -- The options of one widget: which one a word means, and how they are set and told.
 use Rattle.std.specs.Prelude.{ℕ, ◌<◌, Bool, if◌then◌else◌, List, [], ◌∷◌, length, take, filter, find, fold, Option, Some, None, option_map, Result, Ok, Err}
-use Rattle.std.specs.Option.{option_map_or}
+use Rattle.std.specs.Option.{option_map_or, option_or}
 use Rattle.std.specs.Str.{bytes_eq}
 use Rattle.tcl_text.specs.Readings.{list_form}
 use Rattle.tk_options.specs.Forms.{amount_in, value_in}
@@ -9,7 +9,7 @@ use Rattle.tk_options.specs.declared.fault.OptionFault.{OptionFault}
 use Rattle.tk_options.specs.declared.fault.OptionFault.TheVariants.{UnknownOption, AmbiguousOption, BadValue, NoValue}
 use Rattle.tk_options.specs.declared.option.OptionName.{OptionName}
 use Rattle.tk_options.specs.declared.option.OptionEntry.{OptionEntry}
-use Rattle.tk_options.specs.declared.table.Setting.{Setting}
+use Rattle.tk_options.specs.declared.settings.Setting.{Setting}
 
 -- a call's outcome, or why it was refused
 abbrev pub Outcome : Type 0 → Type 0
@@ -81,6 +81,13 @@ with_value option value table = first_set (is_named (name_of option)) value tabl
 -- with each set in its turn
 abbrev pub with_settings : List Setting → List OptionEntry → List OptionEntry
 with_settings all table = fold (λ entries setting. with_value setting.option setting.value entries) table all
+
+-- the value that an option is set to last, if it is set
+abbrev pub value_for : OptionName → Setting → Option (List ℕ)
+value_for option setting = if bytes_eq (name_of setting.option) (name_of option) then Some setting.value else None
+
+abbrev pub last_setting : OptionName → List Setting → Option (List ℕ)
+last_setting option all = fold (λ last setting. option_or (value_for option setting) last) None all
 
 -- all tested, and then all set
 unfoldable pub configured : List (List ℕ) → List OptionEntry → Outcome (List OptionEntry)

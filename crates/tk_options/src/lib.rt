@@ -5,9 +5,11 @@ mod fault;
 mod form;
 mod option;
 mod rows;
+mod settings;
 mod table;
 
 pub use fault::OptionFault;
 pub use form::Form;
 pub use option::{OptionEntry, OptionName};
+pub use settings::{Setting, Settings};
 pub use table::OptionTable;

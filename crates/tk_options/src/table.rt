@@ -8,6 +8,7 @@ use crate::fault::OptionFault;
 use crate::form::amount_in;
 use crate::option::{OptionEntry, OptionName};
 use crate::rows::{Row, rows_of};
+use crate::settings::{Setting, Settings};
 use std::alloc::{AllocError, Global};
 use std::marker::Model;
 use tcl_text::{Text, TextFault, TextList};
@@ -26,13 +27,6 @@ impl Model for OptionTable {
     ghost Value = { List OptionEntry };
 
     ghost view = { λ t. t.entries.items };
-}
-
-/// An option and the value that it is to have.
-#[derive(Drop)]
-struct Setting {
-    option: OptionName,
-    value: Text,
 }
 
 impl OptionTable {
@@ -72,9 +66,18 @@ impl OptionTable {
         ensures refused { IfErr result (λ fault. fault ≢ OptionFault.NoMemory → configured words.now self.old ≡ Err fault) }
         ensures err { OnErr result (self.new ≡ self.old) }
     {
-        let settings = settings_in(alloc, &self.entries, words)?;
+        let settings = self.settings(alloc, words)?;
         self.set_all(settings);
         Ok(())
+    }
+
+    /// What words in pairs set, tested as by `configure`; nothing is set yet.
+    pub fn settings(&self, alloc: Global, words: &[Text]) -> Result<Settings, OptionFault>
+        ensures ok { IfOk result (λ all. settings words.now self.now ≡ Ok all) }
+        ensures refused { IfErr result (λ fault. fault ≢ OptionFault.NoMemory → settings words.now self.now ≡ Err fault) }
+    {
+        let all = settings_in(alloc, &self.entries, words)?;
+        Ok(Settings::of(all))
     }
 
     /// The options as `configure` tells them (options(n)): for each the list of its name, its default and its value. `TooLong` (4)
@@ -110,7 +113,8 @@ impl OptionTable {
         }
     }
 
-    /// Sets an option to a value that it takes; nothing where the widget has no such option. It takes no memory.
+    /// Sets an option to a value, which isn't tested: what is put is to be a value that the option had, or one that it takes. Nothing is set where
+    /// the widget has no such option. It takes no memory.
     pub fn put(&mut self, option: OptionName, value: Text)
         ensures { self.new ≡ with_value option value self.old }
     {
@@ -119,11 +123,11 @@ impl OptionTable {
         }
     }
 
-    /// Sets options in their turn.
-    fn set_all(&mut self, settings: Vec<Setting>)
-        ensures { self.new ≡ with_settings settings.items self.old }
+    /// Sets options in their turn. It takes no memory.
+    pub fn set_all(&mut self, settings: Settings)
+        ensures { self.new ≡ with_settings settings self.old }
     {
-        for Setting { option, value } in settings {
+        for Setting { option, value } in settings.into_vec() {
             self.put(option, value);
         }
     }

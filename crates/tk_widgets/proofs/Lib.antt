@@ -1,2 +1,3 @@
 -- Lemmas.
+pub mod CommandLemmas
 pub mod LineLemmas

@@ -39,6 +39,16 @@ relief_of options = or_empty (value_of Relief options)
 abbrev pub with_relief : List ℕ → ButtonWidget → ButtonWidget
 with_relief relief button = record { options = with_value Relief relief button.options }
 
+-- a button that is pressed becomes sunken, and its relief is told, to be put back; nothing happens where it is disabled
+pub record Pressed : Type 0 where
+  pub saved : Option (List ℕ)
+  pub button : ButtonWidget
+
+abbrev pub pressed : ButtonWidget → Pressed
+pressed button =
+    if has_value State (codes "disabled") button.options then record { saved = None; button = button }
+    else record { saved = Some (relief_of button.options); button = with_relief (codes "sunken") button }
+
 -- how many columns stand to the left of so many pixels, inside the border
 abbrev pub columns_to : ℤ → ℕ → ℕ
 columns_to x border = (from_zero x - border) / 8

@@ -1,12 +1,12 @@
 //! What keys and the pointer ask of widgets, as the class bindings of button(n), entry(n) and listbox(n) do.
-ghost use Rattle.std.specs.Prelude.{◌≡◌, [], length, IfOk, codes};
+ghost use Rattle.std.specs.Prelude.{◌≡◌, [], length, IfOk, OnOk, OnErr, codes};
 ghost use Rattle.std.specs.Option.{option_copied};
 ghost use Rattle.std.specs.Str.{chars};
 ghost use Rattle.tk_entry.specs.Columns.{characters_within};
 ghost use Rattle.tk_entry.specs.Entries.{shown};
 ghost use Rattle.tk_listbox.specs.Listboxes.{row_at};
 ghost use Rattle.tk_options.specs.Options.{amount_of};
-ghost use Rattle.tk_widgets.specs.Classes.{has_value, invoked, relief_of, with_relief, columns_to};
+ghost use Rattle.tk_widgets.specs.Classes.{has_value, invoked, relief_of, with_relief, pressed, columns_to};
 
 use crate::widget::{Button, EntryWidget, ListboxWidget};
 use std::alloc::{AllocError, Global};
@@ -54,7 +54,34 @@ impl Button {
         }
     }
 
-    /// Gives the button another relief. It takes no memory.
+    /// Presses the button: its relief is made sunken. The relief that it had, to be put back; none, and nothing is done, where it is disabled.
+    pub fn press(&mut self, alloc: Global) -> Result<Option<Text>, AllocError>
+        ensures ok { IfOk result (λ saved. record { saved = saved; button = self.new } ≡ pressed self.old) }
+        ensures err { OnErr result (self.new ≡ self.old) }
+    {
+        if self.is_disabled() {
+            return Ok(None);
+        }
+        let saved = self.relief(alloc)?;
+        self.sink(alloc)?;
+        Ok(Some(saved))
+    }
+
+    /// Makes the relief sunken.
+    pub fn sink(&mut self, alloc: Global) -> Result<(), AllocError>
+        ensures ok { OnOk result (self.new ≡ with_relief (codes "sunken") self.old) }
+        ensures err { OnErr result (self.new ≡ self.old) }
+    {
+        match Text::new(alloc, "sunken") {
+            Ok(sunken) => {
+                self.put_relief(sunken);
+                Ok(())
+            }
+            Err(_) => Err(AllocError),
+        }
+    }
+
+    /// Gives the button another relief, one that it had. It takes no memory.
     pub fn put_relief(&mut self, relief: Text)
         ensures { self.new ≡ with_relief relief self.old }
     {
@@ -126,7 +153,7 @@ fn columns_to(x: i64, border: u32) -> usize
 }
 
 /// The empty text.
-fn empty_text(alloc: Global) -> Result<Text, AllocError>
+pub fn empty_text(alloc: Global) -> Result<Text, AllocError>
     ensures { IfOk result (λ text. text ≡ []) }
 {
     match Text::new(alloc, "") {

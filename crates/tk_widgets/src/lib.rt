@@ -1,9 +1,17 @@
-//! The five widgets: what each holds, the size that it requests, what it shows, and what keys and the pointer ask of it.
+//! The five widgets: what each holds, its command, the size that it requests, what it shows, and what keys and the pointer ask of it.
 #![tactic(auto)]
 
+mod changes;
 mod classes;
+mod commands;
+mod entry_commands;
+mod listbox_commands;
+mod listbox_keys;
 mod measure;
+mod outcome;
 mod size;
 mod widget;
 
+pub use listbox_keys::Step;
+pub use outcome::{Asked, Change, VariableWrite, WidgetAct};
 pub use widget::{Button, EntryWidget, Frame, Label, ListboxWidget, Widget};

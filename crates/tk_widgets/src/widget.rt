@@ -1,6 +1,4 @@
 ghost use Rattle.std.specs.Prelude.{◌≡◌, ◌≢◌, ◌<◌, [], length, Some, IfOk, IfErr, IfSome};
-ghost use Rattle.tcl_text.specs.Readings.{list_form};
-ghost use Rattle.tk_listbox.specs.Items.{texts};
 ghost use Rattle.tk_widgets.specs.Classes.{value_told};
 ghost use Rattle.std.specs.Option.{option_copied};
 ghost use Rattle.tk_widgets.specs.Sizes.{requested, new_widget, text_size, text_shown};
@@ -71,7 +69,7 @@ impl Widget {
             })),
             Kind::Listbox => Ok(Widget::Listbox(ListboxWidget {
                 options,
-                listbox: Listbox::new(alloc),
+                listbox: Listbox::new(alloc)?,
             })),
         }
     }
@@ -88,7 +86,7 @@ impl Widget {
             Widget::Label(label) => shown_value(alloc, variable, &label.options),
             Widget::Button(button) => shown_value(alloc, variable, &button.options),
             Widget::Entry(entry) => Ok(Some(entry.entry.shown(variable).copy()?)),
-            Widget::Listbox(listbox) => items_value(alloc, &listbox.listbox),
+            Widget::Listbox(listbox) => Ok(Some(listbox.listbox.list().copy()?)),
         }
     }
 
@@ -125,15 +123,4 @@ fn shown_value(
 {
     let text = Text::new(alloc, text_shown(variable, options))?;
     Ok(Some(text))
-}
-
-/// The list of all items.
-fn items_value(alloc: Global, listbox: &Listbox) -> Result<Option<Text>, TextFault>
-    ensures ok { IfOk result (λ value. value ≡ Some (list_form (texts listbox.now.items))) }
-    ensures too_long { IfErr result (λ fault. fault ≢ TextFault.NoMemory
-        → 65536 < length (list_form (texts listbox.now.items))) }
-{
-    let texts = listbox.get(alloc, 0, listbox.size())?;
-    let list = Text::join_list(alloc, texts.as_slice())?;
-    Ok(Some(list))
 }

@@ -1,7 +1,7 @@
 use Rattle.std.proofs.Common.{◌≡◌, ℕ, List, ◌∷◌, Ok, sym, ap, ◌∙◌}
-use Rattle.tk_options.specs.declared.table.Setting.{Setting}
+use Rattle.tk_options.specs.declared.settings.Setting.{Setting}
 use Rattle.tk_options.specs.Options.{settings, tested}
-use Rattle.tk_options.proofs.Settings.{settings_behind, settings_behind-more}
+use Rattle.tk_options.proofs.SettingLemmas.{settings_behind, settings_behind-more}
 use Rattle.tk_options.proofs.table.settings_in.Goals as goal
 
 pub loop-word-preserved : goal.loop-word-preserved

@@ -1,6 +1,6 @@
 use Rattle.std.proofs.Common.{◌≡◌, length}
 use Rattle.tk_options.specs.Options.{settings}
-use Rattle.tk_options.proofs.Settings.{settings_behind}
+use Rattle.tk_options.proofs.SettingLemmas.{settings_behind}
 use Rattle.tk_options.proofs.table.settings_in.Given as goal
 
 -- what is tested so far, with the settings of the words that are left

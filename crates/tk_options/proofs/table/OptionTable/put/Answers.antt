@@ -2,7 +2,7 @@ use Rattle.std.proofs.Common.{◌≡◌, ℕ, List, set, Some, None, sym, ap, �
 use Rattle.std.specs.Prelude.{position}
 use Rattle.tk_options.specs.Names.{name_of}
 use Rattle.tk_options.specs.Options.{is_named, first_set}
-use Rattle.tk_options.proofs.Settings.{set_at, set_nowhere}
+use Rattle.tk_options.proofs.SettingLemmas.{set_at, set_nowhere}
 use Rattle.tk_options.proofs.table.OptionTable.put.Goals as goal
 
 pub returns-in-Some : goal.returns-in-Some

@@ -4,7 +4,7 @@ use Rattle.std.specs.Prelude.{position}
 use Rattle.std.specs.List.{position_or_len}
 use Rattle.tk_options.specs.declared.fault.OptionFault.{OptionFault}
 use Rattle.tk_options.specs.declared.option.OptionEntry.{OptionEntry}
-use Rattle.tk_options.specs.declared.table.Setting.{Setting}
+use Rattle.tk_options.specs.declared.settings.Setting.{Setting}
 use Rattle.tk_options.specs.Options.{Outcome, first_set, with_value, with_settings, settings, tested}
 use Rattle.tk_options.proofs.Places.{place_is, nowhere}
 

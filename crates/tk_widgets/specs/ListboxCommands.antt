@@ -1,0 +1,147 @@
+-- The sub-commands of a listbox (listbox(n)), each from the words behind its name.
+use Rattle.std.specs.Prelude.{ℕ, Bool, if◌then◌else◌, List, [], ◌∷◌, length, map, Option, Some, None, Result, Ok, Err, codes}
+use Rattle.std.specs.Fmt.{decimal, signed_decimal}
+use Rattle.std.specs.Str.{bytes_eq}
+use Rattle.tcl_text.specs.Answers.{Answer, ◌>>=◌, answers, bad_index, bad_option, truth, wrong_args}
+use Rattle.tcl_text.specs.Readings.{list_form}
+use Rattle.tk_listbox.specs.declared.choice.Choice.{Choice}
+use Rattle.tk_listbox.specs.declared.choice.Choice.TheVariants.{Set, Clear}
+use Rattle.tk_listbox.specs.declared.index.Index.{Index}
+use Rattle.tk_listbox.specs.declared.index.Index.TheVariants.{Number, Active, End}
+use Rattle.tk_listbox.specs.Indices.{index_in, before, through, before_inserted}
+use Rattle.tk_listbox.specs.Items.{texts, chosen_from}
+use Rattle.tk_listbox.specs.Listboxes.{Held, part, has_chosen}
+use Rattle.tk_widgets.specs.declared.listbox_commands.Span.{Span}
+use Rattle.tk_widgets.specs.declared.outcome.Change.TheVariants.{InsertItems, DeleteItems, Activate, Select}
+use Rattle.tk_widgets.specs.Outcomes.{Wanted, told, change}
+use Rattle.tk_widgets.specs.Sizes.{or_empty}
+
+-- the index that a word is
+abbrev pub index_or_error : List ℕ → Option Index → Result Index (List ℕ)
+index_or_error word (Some index) = Ok index
+index_or_error word None = bad_index word
+
+unfoldable pub index_of : List ℕ → Result Index (List ℕ)
+index_of word = index_or_error word (index_in word)
+
+-- the items from one index to another, with both
+abbrev pub span : Index → Index → Held → Span
+span first last box = record {
+  from = before first (length box.items) box.active;
+  to = through last (length box.items) box.active;
+}
+
+abbrev pub span_of : List ℕ → List ℕ → Held → Result Span (List ℕ)
+span_of first last box = do
+  from ← index_of first
+  to ← index_of last
+  Ok (span from to box)
+
+-- path insert index ?text ..?
+abbrev pub list_insert : List (List ℕ) → Held → Wanted
+list_insert (index ∷ items) box = do
+  at ← index_of index
+  change (InsertItems (before_inserted at (length box.items) box.active) items)
+list_insert [] box = wrong_args (codes "path insert index ?text ..?")
+
+-- path delete first ?last?
+abbrev pub list_delete : List (List ℕ) → Held → Wanted
+list_delete (first ∷ []) box = do
+  gone ← span_of first first box
+  change (DeleteItems gone.from gone.to)
+list_delete (first ∷ last ∷ []) box = do
+  gone ← span_of first last box
+  change (DeleteItems gone.from gone.to)
+list_delete _ box = wrong_args (codes "path delete first ?last?")
+
+-- path get first ?last?: one item, or a list of items
+abbrev pub first_of : List (List ℕ) → List ℕ
+first_of [] = []
+first_of (item ∷ items) = item
+
+abbrev pub list_get : List (List ℕ) → Held → Wanted
+list_get (index ∷ []) box = do
+  one ← span_of index index box
+  told (answers (first_of (texts (part one.from one.to box.items))))
+list_get (first ∷ last ∷ []) box = do
+  some ← span_of first last box
+  told (answers (list_form (texts (part some.from some.to box.items))))
+list_get _ box = wrong_args (codes "path get first ?last?")
+
+-- path size
+abbrev pub list_size : List (List ℕ) → Held → Wanted
+list_size [] box = told (answers (decimal (length box.items)))
+list_size _ box = wrong_args (codes "path size")
+
+-- path index index: a number as it is, where there is no such item too
+abbrev pub number_of : Index → Held → List ℕ
+number_of (Number n) box = signed_decimal n
+number_of Active box = decimal box.active
+number_of End box = decimal (length box.items)
+
+abbrev pub list_index : List (List ℕ) → Held → Wanted
+list_index (index ∷ []) box = do
+  at ← index_of index
+  told (answers (number_of at box))
+list_index _ box = wrong_args (codes "path index index")
+
+-- path curselection
+abbrev pub list_curselection : List (List ℕ) → Held → Wanted
+list_curselection [] box = told (answers (list_form (map decimal (chosen_from 0 box.items))))
+list_curselection _ box = wrong_args (codes "path curselection")
+
+-- path selection set first ?last?, path selection clear first ?last?
+abbrev pub selection_set : List (List ℕ) → Held → Wanted
+selection_set (first ∷ []) box = do
+  more ← span_of first first box
+  change (Select (Set more.from more.to))
+selection_set (first ∷ last ∷ []) box = do
+  more ← span_of first last box
+  change (Select (Set more.from more.to))
+selection_set _ box = wrong_args (codes "path selection set first ?last?")
+
+abbrev pub selection_clear : List (List ℕ) → Held → Wanted
+selection_clear (first ∷ []) box = do
+  less ← span_of first first box
+  change (Select (Clear less.from less.to))
+selection_clear (first ∷ last ∷ []) box = do
+  less ← span_of first last box
+  change (Select (Clear less.from less.to))
+selection_clear _ box = wrong_args (codes "path selection clear first ?last?")
+
+-- path selection includes index
+abbrev pub selection_includes : List (List ℕ) → Held → Wanted
+selection_includes (index ∷ []) box = do
+  one ← span_of index index box
+  told (truth (has_chosen (part one.from one.to box.items)))
+selection_includes _ box = wrong_args (codes "path selection includes index")
+
+unfoldable pub selection_words : List ℕ → List (List ℕ) → Held → Wanted
+selection_words name words box =
+    if bytes_eq name (codes "set") then selection_set words box
+    else (if bytes_eq name (codes "clear") then selection_clear words box
+    else (if bytes_eq name (codes "includes") then selection_includes words box
+    else bad_option name))
+
+abbrev pub list_selection : List (List ℕ) → Held → Wanted
+list_selection [] box = wrong_args (codes "path selection set|clear first ?last?")
+list_selection (name ∷ words) box = selection_words name words box
+
+-- path activate index
+abbrev pub list_activate : List (List ℕ) → Held → Wanted
+list_activate (index ∷ []) box = do
+  at ← index_of index
+  change (Activate (before at (length box.items) box.active))
+list_activate _ box = wrong_args (codes "path activate index")
+
+unfoldable pub listbox_words : List ℕ → List (List ℕ) → Held → Wanted
+listbox_words name words box =
+    if bytes_eq name (codes "insert") then list_insert words box
+    else (if bytes_eq name (codes "delete") then list_delete words box
+    else (if bytes_eq name (codes "get") then list_get words box
+    else (if bytes_eq name (codes "size") then list_size words box
+    else (if bytes_eq name (codes "index") then list_index words box
+    else (if bytes_eq name (codes "curselection") then list_curselection words box
+    else (if bytes_eq name (codes "selection") then list_selection words box
+    else (if bytes_eq name (codes "activate") then list_activate words box
+    else bad_option name)))))))

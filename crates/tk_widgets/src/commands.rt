@@ -1,0 +1,217 @@
+//! The command of a widget, by its words.
+ghost use Rattle.std.specs.Prelude.{◌≡◌, [], ◌∷◌, IfOk, OnErr};
+ghost use Rattle.std.specs.Option.{option_copied};
+ghost use Rattle.tcl_text.specs.Answers.{Gives, Refuses, answers, bounded};
+ghost use Rattle.tk_options.specs.Options.{description};
+ghost use Rattle.tk_options.specs.FaultTexts.{fault_text};
+ghost use Rattle.tk_widgets.specs.Commands as spec;
+ghost use Rattle.tk_widgets.specs.Outcomes.{asked_by};
+
+use crate::entry_commands::{asked, entry_words, nothing};
+use crate::listbox_commands::listbox_words;
+use crate::outcome::{Asked, Change, WidgetAct};
+use crate::widget::{Button, Widget};
+use std::alloc::{AllocError, Global};
+use tcl_text::answers::{Refusal, bad_option, copy_answer, limit_reached, wrong_args};
+use tcl_text::items::list_answer;
+use tcl_text::{Text, TextFault};
+use tk_options::{OptionEntry, OptionFault, OptionTable};
+
+impl Widget {
+    /// The widget's command, called with the words behind the widget's name: `cget` and `configure` (options(n)), `invoke` of button(n), the
+    /// sub-commands of entry(n) and listbox(n). `variable` is the text of the variable that the widget shows, where it can be read. It sets no
+    /// variable: where that may be asked for, `ask` and `make` are called with `variable_write` between them. Errors are the texts of 20 to 23
+    /// (options), the limit's (4) where the result, an entry's text or the list of a listbox's items would pass 65,536 bytes, and those without
+    /// a number (a wrong number of words, a bad option or index); then nothing is changed.
+    pub fn command(
+        &mut self,
+        alloc: Global,
+        variable: Option<&Text>,
+        words: &[Text],
+    ) -> Result<WidgetAct, AllocError>
+        ensures told { IfOk result (λ act. spec.commanded words.now (option_copied variable.entry) self.old ≡ record { widget = self.new; act = act }) }
+        ensures err { OnErr result (self.new ≡ self.old) }
+    {
+        match self.ask(alloc, variable, words)? {
+            Asked::Done(act) => Ok(act),
+            Asked::Wants(change) => self.make(alloc, change),
+        }
+    }
+
+    /// What the words of the command ask for, tested: what is told at once, or a change to be made. Nothing is changed yet.
+    pub fn ask(
+        &self,
+        alloc: Global,
+        variable: Option<&Text>,
+        words: &[Text],
+    ) -> Result<Asked, AllocError>
+        ensures { IfOk result (λ asked. asked ≡ asked_by (spec.wanted words.now (option_copied variable.entry) self.now)) }
+    {
+        asked(wanted(alloc, self, variable, words))
+    }
+
+    /// The options of the widget.
+    pub fn options(&self) -> &OptionTable
+        ensures { result.now ≡ spec.options_in self.now }
+    {
+        match self {
+            Widget::Frame(widget) => &widget.options,
+            Widget::Label(widget) => &widget.options,
+            Widget::Button(widget) => &widget.options,
+            Widget::Entry(widget) => &widget.options,
+            Widget::Listbox(widget) => &widget.options,
+        }
+    }
+}
+
+/// What the words ask for.
+#[tactic(auto, unfolding(crate::specs::Commands::sub_command))]
+fn wanted(
+    alloc: Global,
+    widget: &Widget,
+    variable: Option<&Text>,
+    words: &[Text],
+) -> Result<Asked, Refusal>
+    ensures { Gives result (spec.wanted words.now (option_copied variable.entry) widget.now) }
+{
+    let Some((name, words)) = words.split_first() else {
+        return wrong_args(alloc, "path option ?arg ..?");
+    };
+    match name.as_str() {
+        "cget" => cget(alloc, widget.options(), words),
+        "configure" => configure(alloc, widget.options(), words),
+        _ => own_words(alloc, widget, variable, name, words),
+    }
+}
+
+/// The sub-commands that widgets of one kind alone have.
+fn own_words(
+    alloc: Global,
+    widget: &Widget,
+    variable: Option<&Text>,
+    name: &Text,
+    words: &[Text],
+) -> Result<Asked, Refusal>
+    ensures { Gives result (spec.own_words name.now words.now (option_copied variable.entry) widget.now) }
+{
+    match widget {
+        Widget::Frame(_) => bad_option(alloc, name),
+        Widget::Label(_) => bad_option(alloc, name),
+        Widget::Button(button) => button_words(alloc, button, name, words),
+        Widget::Entry(entry) => entry_words(alloc, entry, variable, name, words),
+        Widget::Listbox(listbox) => listbox_words(alloc, &listbox.listbox, name, words),
+    }
+}
+
+/// The sub-command of a button of a name, with the words behind it.
+#[tactic(auto, unfolding(crate::specs::Commands::button_words))]
+fn button_words(
+    alloc: Global,
+    button: &Button,
+    name: &Text,
+    words: &[Text],
+) -> Result<Asked, Refusal>
+    ensures { Gives result (spec.button_words name.now words.now button.now.options) }
+{
+    match name.as_str() {
+        "invoke" => button_invoke(alloc, button, words),
+        _ => bad_option(alloc, name),
+    }
+}
+
+fn button_invoke(alloc: Global, button: &Button, words: &[Text]) -> Result<Asked, Refusal>
+    ensures { Gives result (spec.button_invoke words.now button.now.options) }
+{
+    match words {
+        [] => match button.invoke() {
+            Some(script) => Ok(Asked::Done(WidgetAct::Script(script.copy()?))),
+            None => nothing(alloc),
+        },
+        _ => wrong_args(alloc, "path invoke"),
+    }
+}
+
+fn cget(alloc: Global, options: &OptionTable, words: &[Text]) -> Result<Asked, Refusal>
+    ensures { Gives result (spec.cget words.now options.now) }
+{
+    match words {
+        [option] => match options.cget(option) {
+            Ok(value) => Ok(Asked::Done(WidgetAct::Answer(value.copy()?))),
+            Err(OptionFault::NoMemory) => Err(Refusal::NoMemory),
+            Err(fault) => Err(option_refusal(alloc, &fault)),
+        },
+        _ => wrong_args(alloc, "path cget option"),
+    }
+}
+
+fn configure(alloc: Global, options: &OptionTable, words: &[Text]) -> Result<Asked, Refusal>
+    ensures { Gives result (spec.configure words.now options.now) }
+{
+    match words {
+        [] => describe_all(alloc, options),
+        [option] => describe(alloc, options, option),
+        [_first, _second, ..] => set_options(alloc, options, words),
+    }
+}
+
+/// Options are set.
+fn set_options(alloc: Global, options: &OptionTable, words: &[Text]) -> Result<Asked, Refusal>
+    ensures { Gives result (spec.configure_pairs words.now options.now) }
+{
+    match options.settings(alloc, words) {
+        Ok(all) => Ok(Asked::Wants(Change::Configure(all))),
+        Err(OptionFault::NoMemory) => Err(Refusal::NoMemory),
+        Err(fault) => Err(option_refusal(alloc, &fault)),
+    }
+}
+
+/// All options are told.
+#[tactic(auto, using(crate::proofs::CommandLemmas::long_lists))]
+fn describe_all(alloc: Global, options: &OptionTable) -> Result<Asked, Refusal>
+    ensures { Gives result (spec.configure [] options.now) }
+{
+    match options.describe(alloc) {
+        Ok(all) => {
+            let text = list_answer(alloc, all.as_slice())?;
+            Ok(Asked::Done(WidgetAct::Answer(text)))
+        }
+        Err(TextFault::TooLong) => Err(limit_reached(alloc)),
+        Err(TextFault::NoMemory) => Err(Refusal::NoMemory),
+    }
+}
+
+/// One option is told, which is found without a copy of the others.
+fn describe(alloc: Global, options: &OptionTable, option: &Text) -> Result<Asked, Refusal>
+    ensures { Gives result (spec.configure (option.now ∷ []) options.now) }
+{
+    match options.entry(option) {
+        Ok(entry) => {
+            let text = description_of(alloc, entry)?;
+            Ok(Asked::Done(WidgetAct::Answer(text)))
+        }
+        Err(OptionFault::NoMemory) => Err(Refusal::NoMemory),
+        Err(fault) => Err(option_refusal(alloc, &fault)),
+    }
+}
+
+/// An option as it is told, or the limit's error.
+#[tactic(auto, using(tcl_text::proofs::AnswerLemmas::bounds))]
+fn description_of(alloc: Global, entry: &OptionEntry) -> Result<Text, Refusal>
+    ensures { Gives result (answers (description entry.now)) }
+{
+    match entry.description(alloc) {
+        Ok(text) => copy_answer(&text),
+        Err(TextFault::TooLong) => Err(limit_reached(alloc)),
+        Err(TextFault::NoMemory) => Err(Refusal::NoMemory),
+    }
+}
+
+/// The error of an option, with its text.
+fn option_refusal(alloc: Global, fault: &OptionFault) -> Refusal
+    ensures { Refuses result (bounded (fault_text fault.now)) }
+{
+    match fault.message(alloc) {
+        Ok(text) => Refusal::Error(text),
+        Err(AllocError) => Refusal::NoMemory,
+    }
+}

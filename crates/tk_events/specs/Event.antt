@@ -3,8 +3,8 @@ use Rattle.std.specs.Prelude.{ℕ, Bool, true, false, List, None}
 use Rattle.tk_events.specs.declared.event.Event.{Event}
 use Rattle.tk_events.specs.declared.event.EventKind.{EventKind}
 use Rattle.tk_events.specs.declared.event.EventKind.TheVariants.{Physical, Virtual}
-use Rattle.tk_events.specs.declared.types.EventType.{EventType}
-use Rattle.tk_events.specs.declared.types.EventType.TheVariants.{Key, KeyRelease, Button, ButtonRelease}
+use Rattle.tk_sequences.specs.declared.event_type.EventType.{EventType}
+use Rattle.tk_sequences.specs.declared.event_type.EventType.TheVariants.{Key, KeyRelease, Button, ButtonRelease}
 
 -- an event of a window that has no fields yet
 abbrev pub bare_event : EventKind → ℕ → List ℕ → ℕ → Event

@@ -1,4 +1,4 @@
-use crate::types::EventType;
+use tk_sequences::{EventType, VirtualName};
 use std::alloc::AllocError;
 use tcl_text::Text;
 use tk_keys::Keysym;
@@ -8,8 +8,8 @@ use tk_keys::Keysym;
 pub enum EventKind {
     /// An event of the keyboard, of the pointer or of a window.
     Physical(EventType),
-    /// A virtual event, by its name, without `<<` and `>>` (event(n)).
-    Virtual(Text),
+    /// A virtual event (event(n)).
+    Virtual(VirtualName),
 }
 
 /// An event of a window. The fields behind `moment` are what bind(n) lets a script substitute; one that an event lacks is none.

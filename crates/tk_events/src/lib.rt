@@ -2,7 +2,6 @@
 #![tactic(auto)]
 
 mod event;
-mod types;
 
 pub use event::{Event, EventKind};
-pub use types::EventType;
+pub use tk_sequences::EventType;

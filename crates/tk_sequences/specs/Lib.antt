@@ -1,6 +1,8 @@
 -- What the contracts cite.
+pub mod FaultTexts
 pub mod Lookup
 pub mod Modifiers
 pub mod Names
 pub mod Patterns
+pub mod Reading
 pub mod Types

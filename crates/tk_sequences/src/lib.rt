@@ -3,13 +3,18 @@
 
 mod detail;
 mod event_type;
+mod fault;
+mod fields;
 mod modifier;
 mod pattern;
+mod piece;
+mod reading;
 mod sequence;
 mod virtual_name;
 
 pub use detail::Detail;
 pub use event_type::EventType;
+pub use fault::SequenceFault;
 pub use modifier::{Modifier, Modifiers};
 pub use pattern::{Pattern, Patterns, Repetition};
 pub use sequence::Sequence;

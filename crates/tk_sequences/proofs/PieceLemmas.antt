@@ -5,9 +5,9 @@ use Rattle.std.specs.List.{prefix_len}
 use Rattle.std.specs.Str.{IsCharBoundary}
 use Rattle.std.proofs.lemmas.Bool.{cases_Bool, cases_lt, le-leb}
 use Rattle.std.proofs.lemmas.Bool.Decides.{nat_tests}
-use Rattle.std.proofs.lemmas.List.{drop_more, drop_all, drop_at}
+use Rattle.std.proofs.lemmas.List.{drop_more, drop_all, drop_at, get_or_at}
 use Rattle.std.proofs.lemmas.List.Sums.{prefix_len-le-length, prefix_len-drop_no, prefix_len-drop_all, prefix_len_stops, prefix_len_passes, sum_by_push}
-use Rattle.std.proofs.lemmas.Str.{IsCharBoundary-after_ascii, IsCharBoundary-start, IsCharBoundary-at_seam}
+use Rattle.std.proofs.lemmas.Str.{IsCharBoundary-after_ascii, IsCharBoundary-start, IsCharBoundary-at_seam, IsUtf8-drop}
 use Rattle.tcl_text.specs.Backslash.{is_white}
 use Rattle.tk_sequences.specs.Patterns.{count_of, times_of}
 use Rattle.tk_sequences.specs.Reading.{Outcome, Place, Between, Within, patterns_from, counted, onto, pattern_of, plain_pattern, plain_key, behind_white, CutsOff, IsRefused}
@@ -118,6 +118,17 @@ seam (byte ∷ bytes) inner behind some at is = ap (λ b. b ∷ bytes) at ∙ ap
 seam_length : (text inner behind : List ℕ) → text ≡ (60 ∷ (inner ++ 62 ∷ [])) ++ behind → length text - length behind ≡ length (60 ∷ (inner ++ 62 ∷ []))
 seam_length text inner behind is = omega (arith, length-append (60 ∷ (inner ++ 62 ∷ [])) behind, ap length is)
 
+-- what stands behind it is a text
+pub behind_utf8 : (text inner behind : List ℕ) → IsUtf8 text → text ≡ inner ++ 62 ∷ behind → IsUtf8 behind
+behind_utf8 text inner behind utf8 is =
+    let n = length inner in
+    let whole : IsUtf8 (inner ++ 62 ∷ behind) = subst IsUtf8 is utf8 in
+    let inside : n < length (inner ++ 62 ∷ behind) = omega (arith, length-append inner (62 ∷ behind)) in
+    let at : get_or (inner ++ 62 ∷ behind) n 0 ≡ 62 = get_or_at inner 62 behind 0 n refl in
+    let low : get_or (inner ++ 62 ∷ behind) n 0 < 128 = omega arith in
+    let cut : drop (n + 1) (inner ++ 62 ∷ behind) ≡ behind = ap (drop (n + 1)) (sym (append_assoc inner (62 ∷ []) behind)) ∙ drop_at (inner ++ 62 ∷ []) behind (n + 1) (length-append inner (62 ∷ [])) in
+    subst IsUtf8 cut (IsUtf8-drop (inner ++ 62 ∷ behind) (n + 1) whole (IsCharBoundary-after_ascii (inner ++ 62 ∷ behind) n whole inside low))
+
 pub bracket_boundary : (text inner behind : List ℕ) → IsUtf8 behind → 0 < length text → get_or text 0 0 ≡ 60 → drop 1 text ≡ inner ++ 62 ∷ behind
     → (0 < length text - length behind) × IsCharBoundary text (length text - length behind)
 bracket_boundary text inner behind utf8 some at is =
@@ -165,7 +176,7 @@ read_first whole rest patterns none is utf8 = record {
       ∙ ap (patterns_from whole Between 32) is ∙ sym (white-skip whole 32 whole);
   counted = ap (λ (ps : List Pattern). count_of ps + 32) none;
   black = subst (λ (bytes : List ℕ). 0 < length bytes → is_white (get_or bytes 0 0) ≡ false) (sym is) (black_first whole);
-  utf8 = utf8
+  utf8 = utf8;
 }
 
 counted_within : (whole : List ℕ) (room : ℕ) (pattern : Pattern) (rest : ℕ → Outcome (List Pattern)) → times_of pattern.times ≤ room
@@ -188,5 +199,5 @@ read_more whole rest behind left patterns more pattern room now read cuts within
       let sum = ap count_of all ∙ sum_by_push (λ (p : Pattern). times_of p.times) patterns pattern in
       omega (arith, read.counted);
   black = subst (λ (bytes : List ℕ). 0 < length bytes → is_white (get_or bytes 0 0) ≡ false) (sym rest_is) (black_first behind);
-  utf8 = utf8
+  utf8 = utf8;
 }

@@ -222,8 +222,11 @@ physical whole = do
 abbrev pub in_brackets : List ℕ → List ℕ
 in_brackets name = codes "<<" ++ (name ++ codes ">>")
 
+abbrev pub has_no_closing : List ℕ → Bool
+has_no_closing bytes = list_all (λ byte. not (byte == 62)) bytes
+
 abbrev pub is_name : List ℕ → Bool
-is_name name = is_some_text name && list_all (λ byte. not (byte == 62)) name
+is_name name = is_some_text name && has_no_closing name
 
 -- what stands between the first two bytes and the last two
 abbrev pub middle : List ℕ → List ℕ

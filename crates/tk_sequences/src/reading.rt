@@ -83,21 +83,33 @@ fn key_in(alloc: Global, word: &str) -> Result<Detail, SequenceFault>
 
 /// The detail of a type.
 #[tactic(auto, unfolding(crate::specs::Reading::detail_of))]
-fn detail_of(alloc: Global, whole: &Text, kind: EventType, word: &str) -> Result<Detail, SequenceFault>
+fn detail_of(
+    alloc: Global,
+    whole: &Text,
+    kind: EventType,
+    word: &str,
+) -> Result<Detail, SequenceFault>
     ensures ok { IfOk result (λ detail. detail_of whole.now kind word.now ≡ Ok detail) }
     ensures refused { IfErr result (λ fault. fault ≢ SequenceFault.NoMemory → detail_of whole.now kind word.now ≡ Err fault) }
 {
     if kind.is_key() {
         return key_in(alloc, word);
     }
-    if kind.is_button() && let Some(button) = button_named(word) {
+    if kind.is_button()
+        && let Some(button) = button_named(word)
+    {
         return Ok(Detail::Button(button));
     }
     Err(SequenceFault::BadSequence(whole.copy()?))
 }
 
 /// The detail behind a type, with nothing behind it.
-fn detail_behind(alloc: Global, whole: &Text, kind: EventType, rest: &str) -> Result<Option<Detail>, SequenceFault>
+fn detail_behind(
+    alloc: Global,
+    whole: &Text,
+    kind: EventType,
+    rest: &str,
+) -> Result<Option<Detail>, SequenceFault>
     ensures ok { IfOk result (λ detail. detail_behind whole.now kind (fields rest.now) ≡ Ok detail) }
     ensures refused { IfErr result (λ fault. fault ≢ SequenceFault.NoMemory → detail_behind whole.now kind (fields rest.now) ≡ Err fault) }
 {
@@ -126,7 +138,13 @@ fn is_single(times: Repetition) -> bool
 }
 
 /// A pattern with this type.
-fn typed(alloc: Global, whole: &Text, held: Held, kind: EventType, rest: &str) -> Result<Pattern, SequenceFault>
+fn typed(
+    alloc: Global,
+    whole: &Text,
+    held: Held,
+    kind: EventType,
+    rest: &str,
+) -> Result<Pattern, SequenceFault>
     ensures ok { IfOk result (λ pattern. typed whole.now held.modifiers held.times kind (fields rest.now) ≡ Ok pattern) }
     ensures refused { IfErr result (λ fault. fault ≢ SequenceFault.NoMemory
         → typed whole.now held.modifiers held.times kind (fields rest.now) ≡ Err fault) }
@@ -155,7 +173,13 @@ fn button_or_key(alloc: Global, word: &str) -> Result<Detail, SequenceFault>
 }
 
 /// A pattern with a detail and no type.
-fn untyped(alloc: Global, whole: &Text, held: Held, word: &str, rest: &str) -> Result<Pattern, SequenceFault>
+fn untyped(
+    alloc: Global,
+    whole: &Text,
+    held: Held,
+    word: &str,
+    rest: &str,
+) -> Result<Pattern, SequenceFault>
     ensures ok { IfOk result (λ pattern. untyped whole.now held.modifiers held.times word.now (fields rest.now) ≡ Ok pattern) }
     ensures refused { IfErr result (λ fault. fault ≢ SequenceFault.NoMemory
         → untyped whole.now held.modifiers held.times word.now (fields rest.now) ≡ Err fault) }
@@ -184,7 +208,13 @@ fn type_of(detail: Detail) -> EventType
 
 /// A pattern whose type or detail is a word.
 #[tactic(auto, unfolding(crate::specs::Reading::headed))]
-fn headed(alloc: Global, whole: &Text, held: Held, word: &str, rest: &str) -> Result<Pattern, SequenceFault>
+fn headed(
+    alloc: Global,
+    whole: &Text,
+    held: Held,
+    word: &str,
+    rest: &str,
+) -> Result<Pattern, SequenceFault>
     ensures ok { IfOk result (λ pattern. headed whole.now held.modifiers held.times word.now (fields rest.now) ≡ Ok pattern) }
     ensures refused { IfErr result (λ fault. fault ≢ SequenceFault.NoMemory
         → headed whole.now held.modifiers held.times word.now (fields rest.now) ≡ Err fault) }

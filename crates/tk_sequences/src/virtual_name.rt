@@ -1,7 +1,7 @@
 ghost use Rattle.std.specs.Prelude.{◌≡◌, ◌≤◌, ◌↔◌, length, IfOk, IfSome, IsTrue};
 ghost use Rattle.std.specs.Option.{option_copied};
 ghost use Rattle.tk_sequences.specs.Names.{IsName};
-ghost use Rattle.tk_sequences.specs.Reading.{is_name, name_in};
+ghost use Rattle.tk_sequences.specs.Reading.{has_no_closing, is_name, name_in};
 
 use crate::fault::short_text;
 use crate::written::name_written;
@@ -82,11 +82,18 @@ impl VirtualName {
     }
 }
 
+/// Whether no byte is `>`.
+fn has_no_closing(bytes: &[u8]) -> bool
+    ensures { result ≡ has_no_closing bytes.now }
+{
+    bytes.iter().all(|byte| *byte != b'>')
+}
+
 /// Whether it is a virtual event's name: some characters without `>`.
 fn is_name(name: &str) -> bool
     ensures { result ≡ is_name name.now }
 {
-    !name.is_empty() && name.as_bytes().iter().all(|byte| *byte != b'>')
+    !name.is_empty() && has_no_closing(name.as_bytes())
 }
 
 /// What stands between the brackets of a virtual event's name.
@@ -98,7 +105,8 @@ fn name_in(text: &str) -> Option<&str>
     match text.strip_prefix("<<") {
         Some(behind) => match behind.strip_suffix(">>") {
             Some(name) if is_name(name) => Some(name),
-            Some(_) | None => None,
+            Some(_) => None,
+            None => None,
         },
         None => None,
     }

@@ -22,7 +22,6 @@ fn push_modifier(text: &mut String, held: Modifiers, modifier: Modifier) -> Resu
 }
 
 /// Adds the modifiers of a set, each with a `-` behind it.
-#[tactic(auto, using(std::proofs::lemmas::List::flat_map_more, std::proofs::Common::append_assoc))]
 fn push_modifiers(text: &mut String, held: Modifiers) -> Result<(), AllocError>
     ensures { OnOk result (string_bytes text.new ≡ string_bytes text.old ++ held_written held) }
 {
@@ -89,7 +88,6 @@ fn push_pattern(text: &mut String, pattern: &Pattern) -> Result<(), AllocError>
 }
 
 /// Patterns in their canonical form.
-#[tactic(auto, using(std::proofs::lemmas::List::flat_map_more))]
 pub fn patterns_written(alloc: Global, patterns: &Patterns) -> Result<String, AllocError>
     ensures { IfOk result (λ text. string_bytes text ≡ all_written patterns.now) }
 {

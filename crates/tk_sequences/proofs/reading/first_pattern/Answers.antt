@@ -4,13 +4,13 @@ use Rattle.std.proofs.lemmas.Str.Pattern.{split_parts}
 use Rattle.std.specs.Borrow.{Bor}
 use Rattle.tk_sequences.specs.Reading.{Outcome, plain_pattern, pattern_of}
 use Rattle.tk_sequences.specs.declared.fault.SequenceFault.TheVariants.{BadSequence}
-use Rattle.tk_sequences.proofs.PieceLemmas.{plain_boundary, bracket_boundary, bracket_first, bracket_refused, bracket_open}
+use Rattle.tk_sequences.proofs.PieceLemmas.{behind_utf8, plain_boundary, bracket_boundary, bracket_first, bracket_refused, bracket_open}
 use Rattle.tk_sequences.proofs.reading.first_pattern.Goals as goal
 
 pub returns-then-first-ne60-clause-cut : goal.returns-then-first-ne60-clause-cut
 returns-then-first-ne60-clause-cut c =
     let is : plain_pattern c.args.whole.now (get_or c.args.text.now 0 0) ≡ Ok c.in_ok-plain_pattern.field-0 =
-        subst (λ (bytes : List ℕ). plain_pattern c.args.whole.now (get_or bytes 0 0) ≡ Ok c.in_ok-plain_pattern.field-0) c.as_bytes.ensures.value c.in_ok-plain_pattern.ensures.ok in
+    subst (λ (bytes : List ℕ). plain_pattern c.args.whole.now (get_or bytes 0 0) ≡ Ok c.in_ok-plain_pattern.field-0) c.as_bytes.ensures.value c.in_ok-plain_pattern.ensures.ok in
     (omega arith, plain_boundary c.args.whole.now c.args.text.now c.in_ok-plain_pattern.field-0 c.utf8.text c.requires.some is)
 
 pub range_from-requires : goal.range_from-requires
@@ -46,4 +46,4 @@ returns-in-Ok-clause-cut c =
     let text = c.args.text.now in
     let at : get_or text 0 0 ≡ 60 = subst (λ (bytes : List ℕ). get_or bytes 0 0 ≡ 60) c.as_bytes.ensures.value c.if-first-ne60.false in
     let parts = split_parts 62 c.range_from.result.now (Some (c.in-Some.inner, c.in-Some.behind)) c.in-Some.ensures.cases (lit< tt) in
-    bracket_boundary text c.in-Some.inner.now c.in-Some.behind.now c.in-Some.behind-utf8 c.requires.some at (sym c.range_from.ensures.value ∙ parts.0)
+    bracket_boundary text c.in-Some.inner.now c.in-Some.behind.now (behind_utf8 c.range_from.result.now c.in-Some.inner.now c.in-Some.behind.now c.range_from.utf8 parts.0) c.requires.some at (sym c.range_from.ensures.value ∙ parts.0)

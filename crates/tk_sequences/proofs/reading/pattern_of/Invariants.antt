@@ -6,7 +6,7 @@ use Rattle.tk_sequences.proofs.reading.pattern_of.Given as goal
 abbrev pub invariant-loop-word : goal.invariant-loop-word
 invariant-loop-word l = record {
   same : pattern_of l.whole l.inner ≡ pattern_behind l.whole l.held.modifiers l.held.times (fields l.rest);
-  utf8 : IsUtf8 l.rest
+  utf8 : IsUtf8 l.rest;
 }
 
 abbrev pub decreases-loop-word : goal.decreases-loop-word

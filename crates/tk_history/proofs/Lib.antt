@@ -1,0 +1,4 @@
+-- Lemmas of the proofs.
+pub mod EventLemmas
+pub mod MatchLemmas
+pub mod StepLemmas

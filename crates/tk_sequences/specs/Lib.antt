@@ -1,0 +1,9 @@
+-- What the contracts cite.
+pub mod FaultTexts
+pub mod Lookup
+pub mod Modifiers
+pub mod Names
+pub mod Patterns
+pub mod Reading
+pub mod Types
+pub mod Writing

@@ -1,0 +1,117 @@
+//! Why a text is no event sequence, and the texts that say so.
+ghost use Rattle.std.specs.Prelude.{◌≡◌, ◌++◌, IfOk, OnOk, string_bytes};
+ghost use Rattle.tcl_text.specs.Answers.{bounded, limit_text, quoted};
+ghost use Rattle.tk_sequences.specs.FaultTexts.{fault_number, fault_text};
+
+use std::alloc::{AllocError, AllocFailed, Global};
+use std::fmt::{self, Debug, Formatter, Write};
+use tcl_text::{Text, TextFault};
+use thiserror::Error;
+
+/// Why a text is no event sequence, with what its message quotes.
+#[derive(Drop, Error)]
+pub enum SequenceFault {
+    /// The text is no sequence (29); it is quoted whole.
+    #[error("bad event sequence")]
+    BadSequence(Text),
+    /// A word where a type or a key is wanted is neither (30); it is quoted alone.
+    #[error("bad event type or keysym")]
+    BadKeysym(Text),
+    /// Memory was refused.
+    #[error("out of memory")]
+    NoMemory,
+}
+
+impl SequenceFault {
+    /// Its number; none where memory was refused.
+    pub fn number(&self) -> Option<u32>
+        ensures { result ≡ fault_number self.now }
+    {
+        match self {
+            SequenceFault::BadSequence(_) => Some(29),
+            SequenceFault::BadKeysym(_) => Some(30),
+            SequenceFault::NoMemory => None,
+        }
+    }
+
+    /// The text of the error, or the limit's (4) where it would pass 65,536 bytes.
+    pub fn message(&self, alloc: Global) -> Result<Text, AllocError>
+        ensures { IfOk result (λ text. text ≡ bounded (fault_text self.now)) }
+    {
+        let message = self.written(alloc)?;
+        error_text(alloc, message.as_str())
+    }
+
+    /// The text of the error, however long.
+    #[tactic(auto, unfolding(crate::specs::FaultTexts::fault_text))]
+    fn written(&self, alloc: Global) -> Result<String, AllocError>
+        ensures { IfOk result (λ string. string_bytes string ≡ fault_text self.now) }
+    {
+        match self {
+            SequenceFault::BadSequence(text) => quoting(alloc, "bad event sequence ", text),
+            SequenceFault::BadKeysym(word) => quoting(alloc, "bad event type or keysym ", word),
+            SequenceFault::NoMemory => String::from_str(alloc, "out of memory"),
+        }
+    }
+}
+
+/// A word in quotation marks with what stands before it.
+fn quoting(alloc: Global, before: &str, word: &Text) -> Result<String, AllocError>
+    ensures { IfOk result (λ string. string_bytes string ≡ before.now ++ quoted word.now) }
+{
+    let mut message = String::from_str(alloc, before)?;
+    message.push_str("\"")?;
+    message.push_str(word.as_str())?;
+    message.push_str("\"")?;
+    Ok(message)
+}
+
+/// The text of an error, or the limit's where it is past 65,536 bytes (4).
+#[tactic(auto, unfolding(tcl_text::specs::Answers::bounded))]
+fn error_text(alloc: Global, message: &str) -> Result<Text, AllocError>
+    ensures { IfOk result (λ text. text ≡ bounded message.now) }
+{
+    match Text::new(alloc, message) {
+        Ok(text) => Ok(text),
+        Err(TextFault::TooLong) => short_text(alloc, "limit reached: value"),
+        Err(TextFault::NoMemory) => Err(AllocError),
+    }
+}
+
+/// A text of characters that are known to be few enough.
+pub(crate) fn short_text(alloc: Global, characters: &str) -> Result<Text, AllocError>
+    ensures { IfOk result (λ text. text ≡ characters.now) }
+{
+    match Text::new(alloc, characters) {
+        Ok(text) => Ok(text),
+        Err(_) => Err(AllocError),
+    }
+}
+
+impl Debug for SequenceFault {
+    fn fmt<W: Write>(&self, formatter: &mut Formatter<W>) -> Result<(), fmt::Error> {
+        formatter.write_str("SequenceFault")
+    }
+}
+
+impl From<AllocError> for SequenceFault {
+    ghost use Rattle.std.specs.Prelude.{◌≡◌};
+    ghost use Rattle.tk_sequences.specs.declared.fault.SequenceFault.TheVariants.{NoMemory};
+
+    ghost from_gives = { λ _ e. e ≡ NoMemory };
+
+    fn from(_refused: AllocError) -> SequenceFault {
+        SequenceFault::NoMemory
+    }
+}
+
+impl<T: Drop> From<AllocFailed<T>> for SequenceFault {
+    ghost use Rattle.std.specs.Prelude.{◌≡◌};
+    ghost use Rattle.tk_sequences.specs.declared.fault.SequenceFault.TheVariants.{NoMemory};
+
+    ghost from_gives = { λ _ e. e ≡ NoMemory };
+
+    fn from(_refused: AllocFailed<T>) -> SequenceFault {
+        SequenceFault::NoMemory
+    }
+}

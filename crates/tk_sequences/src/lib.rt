@@ -1,0 +1,21 @@
+//! The event sequences that bindings are made for (bind(n)): their types of events, modifiers and details.
+#![tactic(auto)]
+
+mod detail;
+mod event_type;
+mod fault;
+mod fields;
+mod modifier;
+mod pattern;
+mod reading;
+mod sequence;
+mod virtual_name;
+mod written;
+
+pub use detail::Detail;
+pub use event_type::EventType;
+pub use fault::SequenceFault;
+pub use modifier::{Modifier, Modifiers};
+pub use pattern::{Pattern, Patterns, Repetition};
+pub use sequence::Sequence;
+pub use virtual_name::VirtualName;

@@ -1,0 +1,103 @@
+-- Pairs of a virtual event's name and a sequence that stands for it.
+use Rattle.std.specs.Prelude.{◌≡◌, ◌≢◌, ℕ, Bool, ◌==◌, ◌&&◌, not, nat_le, if◌then◌else◌, List, [], ◌∷◌, ◌++◌, length, map, filter, fold, Option, Some, None, Result, Ok, Err}
+use Rattle.std.specs.List.{list_any}
+use Rattle.std.specs.Str.{bytes_eq}
+use Rattle.tk_sequences.specs.Reading.{name_in, parsed}
+use Rattle.tk_sequences.specs.Writing.{canonical}
+use Rattle.tk_sequences.specs.declared.fault.SequenceFault.{SequenceFault}
+use Rattle.tk_sequences.specs.declared.fault.SequenceFault.TheVariants as sequence_faults
+use Rattle.tk_sequences.specs.declared.sequence.Sequence.{Sequence}
+use Rattle.tk_sequences.specs.declared.sequence.Sequence.TheVariants as sequences
+use Rattle.tk_virtual.specs.declared.fault.VirtualFault.{VirtualFault}
+use Rattle.tk_virtual.specs.declared.fault.VirtualFault.TheVariants.{BadName, BadSequence, BadKeysym, VirtualInVirtual, Full, NoMemory}
+use Rattle.tk_virtual.specs.declared.pair.Pair.{Pair}
+use Rattle.tk_virtual.specs.declared.table.Row.{Row}
+
+abbrev pub Outcome : Type 0 → Type 0
+Outcome T = Result T VirtualFault
+
+-- ---- what is added
+
+abbrev pub fault_of : SequenceFault → VirtualFault
+fault_of (sequence_faults.BadSequence text) = BadSequence text
+fault_of (sequence_faults.BadKeysym word) = BadKeysym word
+fault_of sequence_faults.NoMemory = NoMemory
+
+-- a name in its brackets
+abbrev pub name_or_fault : List ℕ → Option (List ℕ) → Outcome (List ℕ)
+name_or_fault word (Some name) = Ok name
+name_or_fault word None = Err (BadName word)
+
+-- a sequence that is no virtual event
+abbrev pub not_virtual : Result Sequence SequenceFault → Outcome Sequence
+not_virtual (Ok (sequences.Virtual name)) = Err VirtualInVirtual
+not_virtual (Ok (sequences.Physical patterns)) = Ok (sequences.Physical patterns)
+not_virtual (Err fault) = Err (fault_of fault)
+
+-- a pair, with the sequence's canonical form
+abbrev pub pair_of : List ℕ → Sequence → Pair
+pair_of name sequence = record { name = name; sequence = sequence; written = canonical sequence }
+
+abbrev pub with_sequence : List ℕ → Outcome Sequence → Outcome Pair
+with_sequence name (Ok sequence) = Ok (pair_of name sequence)
+with_sequence name (Err fault) = Err fault
+
+abbrev pub pair_with : Outcome (List ℕ) → List ℕ → Outcome Pair
+pair_with (Ok name) text = with_sequence name (not_virtual (parsed text))
+pair_with (Err fault) text = Err fault
+
+-- the pair that a name and a sequence spell: first the name is tested, then the sequence
+unfoldable pub pair_meant : List ℕ → List ℕ → Outcome Pair
+pair_meant word text = pair_with (name_or_fault word (name_in word)) text
+
+-- ---- the pairs of one application, in the order in which they were added
+
+abbrev pub has_name : List ℕ → Pair → Bool
+has_name name pair = bytes_eq pair.name name
+
+-- one name, and sequences of one canonical form
+abbrev pub is_same : Pair → Pair → Bool
+is_same wanted pair = bytes_eq pair.name wanted.name && bytes_eq pair.written wanted.written
+
+-- one more at the end, unless it is there; 4,096 are the most
+abbrev pub with_pair : Pair → List Pair → Outcome (List Pair)
+with_pair pair pairs =
+    if list_any (is_same pair) pairs then Ok pairs
+    else (if nat_le 4096 (length pairs) then Err Full
+    else Ok (pairs ++ pair ∷ []))
+
+abbrev pub with_meant : Outcome Pair → List Pair → Outcome (List Pair)
+with_meant (Ok pair) pairs = with_pair pair pairs
+with_meant (Err fault) pairs = Err fault
+
+-- a pair is added
+unfoldable pub added : List ℕ → List ℕ → List Pair → Outcome (List Pair)
+added word text pairs = with_meant (pair_meant word text) pairs
+
+-- all pairs of a name but these
+abbrev pub without_name : List ℕ → List Pair → List Pair
+without_name name pairs = filter (λ pair. not (has_name name pair)) pairs
+
+abbrev pub without_pair : Pair → List Pair → List Pair
+without_pair wanted pairs = filter (λ pair. not (is_same wanted pair)) pairs
+
+-- the sequences of a name in their canonical form
+abbrev pub written_of : List ℕ → List Pair → List (List ℕ)
+written_of name pairs = map (λ pair. pair.written) (filter (has_name name) pairs)
+
+-- the names, each where it first stands
+abbrev pub with_name : List (List ℕ) → Pair → List (List ℕ)
+with_name names pair = if list_any (λ name. bytes_eq name pair.name) names then names else names ++ pair.name ∷ []
+
+abbrev pub names_of : List Pair → List (List ℕ)
+names_of pairs = fold with_name [] pairs
+
+-- ---- all applications
+
+abbrev pub own_of : ℕ → List Row → List Pair
+own_of owner [] = []
+own_of owner (row ∷ rows) = if row.owner == owner then row.pair ∷ own_of owner rows else own_of owner rows
+
+-- every application but one has what it had
+abbrev pub LeavesOthers : ℕ → List Row → List Row → Type 0
+LeavesOthers owner old new = (other : ℕ) → other ≢ owner → own_of other new ≡ own_of other old

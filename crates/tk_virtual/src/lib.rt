@@ -1,0 +1,10 @@
+//! Virtual events: what stands for each name (event(n)), for all applications in one table.
+#![tactic(auto)]
+
+mod fault;
+mod pair;
+mod table;
+
+pub use fault::VirtualFault;
+pub use pair::{Pair, name_meant, pair_meant};
+pub use table::VirtualTable;

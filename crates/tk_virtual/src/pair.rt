@@ -1,0 +1,97 @@
+//! One pair.
+ghost use Rattle.std.specs.Prelude.{◌≡◌, ◌≢◌, IfOk, IfErr, Ok, Err};
+ghost use Rattle.tk_sequences.specs.Reading.{name_in, parsed};
+ghost use Rattle.tk_virtual.specs.Virtual.{has_name, is_same, name_or_fault, not_virtual, pair_meant, pair_of};
+
+use crate::fault::VirtualFault;
+use std::alloc::{AllocError, Global};
+use tcl_text::Text;
+use tk_sequences::{Sequence, VirtualName};
+
+/// A virtual event and a sequence that stands for it.
+#[derive(Drop)]
+pub struct Pair {
+    pub name: VirtualName,
+    /// A physical one.
+    pub sequence: Sequence,
+    /// The sequence in its canonical form.
+    pub written: Text,
+}
+
+/// The name that a word has in its brackets. `BadName` (33) where it has none.
+pub fn name_meant(alloc: Global, word: &Text) -> Result<VirtualName, VirtualFault>
+    ensures ok { IfOk result (λ name. name_or_fault word.now (name_in word.now) ≡ Ok name) }
+    ensures refused { IfErr result (λ fault. fault ≢ VirtualFault.NoMemory → name_or_fault word.now (name_in word.now) ≡ Err fault) }
+{
+    match VirtualName::parse(alloc, word)? {
+        Some(name) => Ok(name),
+        None => Err(VirtualFault::BadName(word.copy()?)),
+    }
+}
+
+/// The sequence that a text is, which is no virtual event.
+fn sequence_meant(alloc: Global, text: &Text) -> Result<Sequence, VirtualFault>
+    ensures ok { IfOk result (λ sequence. not_virtual (parsed text.now) ≡ Ok sequence) }
+    ensures refused { IfErr result (λ fault. fault ≢ VirtualFault.NoMemory → not_virtual (parsed text.now) ≡ Err fault) }
+{
+    match Sequence::parse(alloc, text) {
+        Ok(Sequence::Virtual(_)) => Err(VirtualFault::VirtualInVirtual),
+        Ok(Sequence::Physical(patterns)) => Ok(Sequence::Physical(patterns)),
+        Err(fault) => Err(VirtualFault::of(fault)),
+    }
+}
+
+/// A pair of these.
+fn pair_of(alloc: Global, name: VirtualName, sequence: Sequence) -> Result<Pair, AllocError>
+    ensures { IfOk result (λ pair. pair ≡ pair_of name sequence) }
+{
+    let written = sequence.canonical(alloc)?;
+    Ok(Pair {
+        name,
+        sequence,
+        written,
+    })
+}
+
+/// The pair that a name and a sequence spell.
+#[tactic(auto, unfolding(crate::specs::Virtual::pair_meant))]
+pub fn pair_meant(alloc: Global, word: &Text, text: &Text) -> Result<Pair, VirtualFault>
+    ensures ok { IfOk result (λ pair. pair_meant word.now text.now ≡ Ok pair) }
+    ensures refused { IfErr result (λ fault. fault ≢ VirtualFault.NoMemory → pair_meant word.now text.now ≡ Err fault) }
+{
+    let name = name_meant(alloc, word)?;
+    let sequence = sequence_meant(alloc, text)?;
+    let pair = pair_of(alloc, name, sequence)?;
+    Ok(pair)
+}
+
+impl Pair {
+    ghost use Rattle.std.specs.Prelude.{◌≡◌, IfOk};
+    ghost use Rattle.tk_virtual.specs.Virtual.{has_name, is_same};
+
+    /// Whether it is a pair of this name.
+    pub(crate) fn has_name(&self, name: &str) -> bool
+        ensures { result ≡ has_name name.now self.now }
+    {
+        self.name.as_str() == name
+    }
+
+    /// Whether it has the name of another, and a sequence of the same canonical form.
+    pub(crate) fn is_same(&self, wanted: &Pair) -> bool
+        ensures { result ≡ is_same wanted.now self.now }
+    {
+        self.name.as_str() == wanted.name.as_str()
+            && self.written.as_str() == wanted.written.as_str()
+    }
+
+    /// The same pair.
+    pub fn copy(&self, alloc: Global) -> Result<Pair, AllocError>
+        ensures { IfOk result (λ pair. pair ≡ self.now) }
+    {
+        Ok(Pair {
+            name: self.name.copy()?,
+            sequence: self.sequence.copy(alloc)?,
+            written: self.written.copy()?,
+        })
+    }
+}

@@ -1,1 +1,4 @@
 pub mod FieldLemmas
+pub mod NameLemmas
+pub mod PieceLemmas
+pub mod WritingLemmas

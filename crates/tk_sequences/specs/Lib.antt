@@ -6,3 +6,4 @@ pub mod Names
 pub mod Patterns
 pub mod Reading
 pub mod Types
+pub mod Writing

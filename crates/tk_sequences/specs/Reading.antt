@@ -1,6 +1,6 @@
 -- What a text says as an event sequence, and why one is refused.
 use Rattle.std.specs.Prelude.{◌≡◌, ℕ, ◌+◌, ◌-◌, Bool, true, false, ◌&&◌, ◌||◌, ◌==◌, not, nat_lt, nat_le, bit_or, if◌then◌else◌, List, [], ◌∷◌, ◌++◌, length, take, drop, filter, Option, Some, None, option_map, Result, Ok, Err, codes}
-use Rattle.std.specs.List.{list_all, slice_split}
+use Rattle.std.specs.List.{list_all, prefix_len, slice_split}
 use Rattle.std.specs.Option.{option_or}
 use Rattle.std.specs.Str.{bytes_eq}
 use Rattle.tcl_text.specs.Backslash.{is_white}
@@ -21,8 +21,6 @@ use Rattle.tk_sequences.specs.declared.pattern.Repetition.{Repetition}
 use Rattle.tk_sequences.specs.declared.pattern.Repetition.TheVariants.{Single, Double, Triple, Quadruple}
 use Rattle.tk_sequences.specs.declared.sequence.Sequence.{Sequence}
 use Rattle.tk_sequences.specs.declared.sequence.Sequence.TheVariants.{Virtual, Physical}
-use Rattle.tk_sequences.specs.declared.piece.Piece.{Piece}
-use Rattle.tk_sequences.specs.declared.piece.Piece.TheVariants.{Plain, Bracketed, Unclosed}
 use Rattle.tk_sequences.specs.declared.reading.Prefix.{Prefix}
 use Rattle.tk_sequences.specs.declared.reading.Prefix.TheVariants as prefixes
 
@@ -197,20 +195,16 @@ patterns_from whole (Within inner) room (byte ∷ rest) =
     if byte == 62 then counted whole room (pattern_of whole inner) (λ left. patterns_from whole Between left rest)
     else patterns_from whole (Within (inner ++ byte ∷ [])) room rest
 
--- the pattern of a piece that was cut off in front
-abbrev pub piece_pattern : List ℕ → Piece → Outcome Pattern
-piece_pattern whole (Plain byte) = plain_pattern whole byte
-piece_pattern whole (Bracketed inner) = pattern_of whole inner.now
-piece_pattern whole Unclosed = Err (BadSequence whole)
+-- a text behind its white space in front
+abbrev pub behind_white : List ℕ → List ℕ
+behind_white text = drop (prefix_len is_white text) text
 
--- the patterns of a text are that of a piece with those of what stands behind it
-abbrev pub CutsOff : Piece → List ℕ → List ℕ → Type 0
-CutsOff piece text behind = (whole : List ℕ) (room : ℕ)
-    → patterns_from whole Between room text ≡ counted whole room (piece_pattern whole piece) (λ left. patterns_from whole Between left behind)
+-- the patterns of a text are one with those of what stands behind it
+abbrev pub CutsOff : List ℕ → Pattern → List ℕ → List ℕ → Type 0
+CutsOff whole pattern text behind = (room : ℕ) → patterns_from whole Between room text ≡ counted whole room (Ok pattern) (λ left. patterns_from whole Between left behind)
 
--- a text has none
-abbrev pub HasNoPattern : List ℕ → Type 0
-HasNoPattern text = (whole : List ℕ) (room : ℕ) → patterns_from whole Between room text ≡ Ok []
+abbrev pub IsRefused : List ℕ → List ℕ → SequenceFault → Type 0
+IsRefused whole text fault = (room : ℕ) → patterns_from whole Between room text ≡ Err fault
 
 abbrev pub some_patterns : List ℕ → List Pattern → Outcome Sequence
 some_patterns whole [] = Err (BadSequence whole)
@@ -228,8 +222,11 @@ physical whole = do
 abbrev pub in_brackets : List ℕ → List ℕ
 in_brackets name = codes "<<" ++ (name ++ codes ">>")
 
+abbrev pub has_no_closing : List ℕ → Bool
+has_no_closing bytes = list_all (λ byte. not (byte == 62)) bytes
+
 abbrev pub is_name : List ℕ → Bool
-is_name name = is_some_text name && list_all (λ byte. not (byte == 62)) name
+is_name name = is_some_text name && has_no_closing name
 
 -- what stands between the first two bytes and the last two
 abbrev pub middle : List ℕ → List ℕ

@@ -1,14 +1,28 @@
-//! The fields of a pattern in brackets.
+//! White space, and the fields of a pattern in brackets.
 ghost use Rattle.std.specs.Prelude.{◌≡◌, ◌<◌, [], ◌∷◌, length, IfSome, MatchOption};
 ghost use Rattle.std.specs.List.{prefix_len, position_or_len};
 ghost use Rattle.tcl_text.specs.Backslash as backslash;
-ghost use Rattle.tk_sequences.specs.Reading.{fields, is_separator};
+ghost use Rattle.tk_sequences.specs.Reading.{behind_white, fields, is_separator};
 
 /// Whether the byte is white space: blank, tab, newline, vertical tab, form feed or carriage return.
 pub fn is_white(byte: u8) -> bool
     ensures { result ≡ backslash.is_white byte }
 {
     matches!(byte, b' ' | 9..=13)
+}
+
+/// How much white space stands in front.
+fn white_len(text: &[u8]) -> usize
+    ensures { result ≡ prefix_len backslash.is_white text.now }
+{
+    text.iter().take_while(|byte| is_white(**byte)).count()
+}
+
+/// What stands behind the white space in front.
+pub fn behind_white(text: &str) -> &str
+    ensures { result.now ≡ behind_white text.now }
+{
+    &text[white_len(text.as_bytes())..]
 }
 
 /// Whether the byte stands between fields.

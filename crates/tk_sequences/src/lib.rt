@@ -7,10 +7,10 @@ mod fault;
 mod fields;
 mod modifier;
 mod pattern;
-mod piece;
 mod reading;
 mod sequence;
 mod virtual_name;
+mod written;
 
 pub use detail::Detail;
 pub use event_type::EventType;

@@ -1,15 +1,16 @@
 //! Reads sequences.
-ghost use Rattle.std.specs.Prelude.{◌≡◌, ◌≢◌, ◌<◌, ◌≤◌, ℕ, [], ◌∷◌, length, IfOk, IfErr, IfSome, MatchOption, Ok, Err, Some, None};
-ghost use Rattle.tk_sequences.specs.Reading.{prefix_named, button_named, key_of_one, key_meant, detail_of, key_or_fault, detail_behind, may_repeat, typed, button_or_key, type_of_detail, alone, untyped, headed, pattern_behind, pattern_of, plain_pattern, piece_pattern, patterns_from, Between, fields, is_single};
+ghost use Rattle.std.specs.Prelude.{◌≡◌, ◌≢◌, ◌<◌, ◌≤◌, ℕ, [], ◌∷◌, length, drop, slice_index, false, IfOk, IfErr, IfSome, MatchOption, Ok, Err, Some, None};
+ghost use Rattle.std.specs.Str.{IsCharBoundary};
+ghost use Rattle.tcl_text.specs.Backslash.{is_white};
+ghost use Rattle.tk_sequences.specs.Reading.{prefix_named, button_named, key_of_one, key_meant, detail_of, key_or_fault, detail_behind, may_repeat, typed, button_or_key, type_of_detail, alone, untyped, headed, pattern_behind, pattern_of, plain_pattern, patterns_from, Between, CutsOff, IsRefused, fields, is_single};
 ghost use Rattle.tk_sequences.specs.Patterns.{count_of};
 
 use crate::detail::Detail;
 use crate::event_type::EventType;
 use crate::fault::{SequenceFault, short_text};
-use crate::fields::first_field;
+use crate::fields::{behind_white, first_field};
 use crate::modifier::{Modifier, Modifiers};
 use crate::pattern::{Pattern, Repetition};
-use crate::piece::{Piece, first_piece};
 use std::alloc::Global;
 use tcl_text::Text;
 use tk_keys::Keysym;
@@ -82,21 +83,33 @@ fn key_in(alloc: Global, word: &str) -> Result<Detail, SequenceFault>
 
 /// The detail of a type.
 #[tactic(auto, unfolding(crate::specs::Reading::detail_of))]
-fn detail_of(alloc: Global, whole: &Text, kind: EventType, word: &str) -> Result<Detail, SequenceFault>
+fn detail_of(
+    alloc: Global,
+    whole: &Text,
+    kind: EventType,
+    word: &str,
+) -> Result<Detail, SequenceFault>
     ensures ok { IfOk result (λ detail. detail_of whole.now kind word.now ≡ Ok detail) }
     ensures refused { IfErr result (λ fault. fault ≢ SequenceFault.NoMemory → detail_of whole.now kind word.now ≡ Err fault) }
 {
     if kind.is_key() {
         return key_in(alloc, word);
     }
-    if kind.is_button() && let Some(button) = button_named(word) {
+    if kind.is_button()
+        && let Some(button) = button_named(word)
+    {
         return Ok(Detail::Button(button));
     }
     Err(SequenceFault::BadSequence(whole.copy()?))
 }
 
 /// The detail behind a type, with nothing behind it.
-fn detail_behind(alloc: Global, whole: &Text, kind: EventType, rest: &str) -> Result<Option<Detail>, SequenceFault>
+fn detail_behind(
+    alloc: Global,
+    whole: &Text,
+    kind: EventType,
+    rest: &str,
+) -> Result<Option<Detail>, SequenceFault>
     ensures ok { IfOk result (λ detail. detail_behind whole.now kind (fields rest.now) ≡ Ok detail) }
     ensures refused { IfErr result (λ fault. fault ≢ SequenceFault.NoMemory → detail_behind whole.now kind (fields rest.now) ≡ Err fault) }
 {
@@ -125,7 +138,13 @@ fn is_single(times: Repetition) -> bool
 }
 
 /// A pattern with this type.
-fn typed(alloc: Global, whole: &Text, held: Held, kind: EventType, rest: &str) -> Result<Pattern, SequenceFault>
+fn typed(
+    alloc: Global,
+    whole: &Text,
+    held: Held,
+    kind: EventType,
+    rest: &str,
+) -> Result<Pattern, SequenceFault>
     ensures ok { IfOk result (λ pattern. typed whole.now held.modifiers held.times kind (fields rest.now) ≡ Ok pattern) }
     ensures refused { IfErr result (λ fault. fault ≢ SequenceFault.NoMemory
         → typed whole.now held.modifiers held.times kind (fields rest.now) ≡ Err fault) }
@@ -154,7 +173,13 @@ fn button_or_key(alloc: Global, word: &str) -> Result<Detail, SequenceFault>
 }
 
 /// A pattern with a detail and no type.
-fn untyped(alloc: Global, whole: &Text, held: Held, word: &str, rest: &str) -> Result<Pattern, SequenceFault>
+fn untyped(
+    alloc: Global,
+    whole: &Text,
+    held: Held,
+    word: &str,
+    rest: &str,
+) -> Result<Pattern, SequenceFault>
     ensures ok { IfOk result (λ pattern. untyped whole.now held.modifiers held.times word.now (fields rest.now) ≡ Ok pattern) }
     ensures refused { IfErr result (λ fault. fault ≢ SequenceFault.NoMemory
         → untyped whole.now held.modifiers held.times word.now (fields rest.now) ≡ Err fault) }
@@ -183,7 +208,13 @@ fn type_of(detail: Detail) -> EventType
 
 /// A pattern whose type or detail is a word.
 #[tactic(auto, unfolding(crate::specs::Reading::headed))]
-fn headed(alloc: Global, whole: &Text, held: Held, word: &str, rest: &str) -> Result<Pattern, SequenceFault>
+fn headed(
+    alloc: Global,
+    whole: &Text,
+    held: Held,
+    word: &str,
+    rest: &str,
+) -> Result<Pattern, SequenceFault>
     ensures ok { IfOk result (λ pattern. headed whole.now held.modifiers held.times word.now (fields rest.now) ≡ Ok pattern) }
     ensures refused { IfErr result (λ fault. fault ≢ SequenceFault.NoMemory
         → headed whole.now held.modifiers held.times word.now (fields rest.now) ≡ Err fault) }
@@ -209,7 +240,7 @@ pub fn pattern_of(alloc: Global, whole: &Text, inner: &str) -> Result<Pattern, S
         match prefix_named(word) {
             Some(Prefix::Modifier(modifier)) => held.modifiers = held.modifiers.with(modifier),
             Some(Prefix::Repetition(times)) if is_single(held.times) => held.times = times,
-            Some(Prefix::Repetition(_)) => break,
+            Some(Prefix::Repetition(_)) => return Err(SequenceFault::BadSequence(whole.copy()?)),
             None => return headed(alloc, whole, held, word, behind),
         }
         rest = behind;
@@ -234,15 +265,24 @@ fn plain_pattern(whole: &Text, byte: u8) -> Result<Pattern, SequenceFault>
     }
 }
 
-/// The pattern that a piece is.
-fn piece_pattern(alloc: Global, whole: &Text, piece: Piece<'_>) -> Result<Pattern, SequenceFault>
-    ensures ok { IfOk result (λ pattern. piece_pattern whole.now piece.entry ≡ Ok pattern) }
-    ensures refused { IfErr result (λ fault. fault ≢ SequenceFault.NoMemory → piece_pattern whole.now piece.entry ≡ Err fault) }
+/// The pattern that stands in front, and how many bytes it takes.
+fn first_pattern(alloc: Global, whole: &Text, text: &str) -> Result<(Pattern, usize), SequenceFault>
+    requires some { 0 < length text.now }
+    requires black { is_white (slice_index text.now 0) ≡ false }
+    ensures ok { IfOk result (λ first. CutsOff whole.now first.0 text.now (drop first.1 text.now)) }
+    ensures cut { IfOk result (λ first. (0 < first.1) × IsCharBoundary text.now first.1) }
+    ensures refused { IfErr result (λ fault. fault ≢ SequenceFault.NoMemory → IsRefused whole.now text.now fault) }
 {
-    match piece {
-        Piece::Plain(byte) => plain_pattern(whole, byte),
-        Piece::Bracketed(inner) => pattern_of(alloc, whole, inner),
-        Piece::Unclosed => Err(SequenceFault::BadSequence(whole.copy()?)),
+    let first = text.as_bytes()[0];
+    if first != b'<' {
+        return Ok((plain_pattern(whole, first)?, 1));
+    }
+    match text[1..].split_once('>') {
+        Some((inner, behind)) => match pattern_of(alloc, whole, inner) {
+            Ok(pattern) => Ok((pattern, text.len() - behind.len())),
+            Err(fault) => Err(fault),
+        },
+        None => Err(SequenceFault::BadSequence(whole.copy()?)),
     }
 }
 
@@ -257,16 +297,16 @@ pub fn patterns_of(alloc: Global, whole: &Text) -> Result<Vec<Pattern>, Sequence
 {
     let mut patterns = Vec::new(alloc);
     let mut room = MOST_EVENTS;
-    let mut rest = whole.as_str();
-    while let Some((piece, behind)) = first_piece(rest) {
-        let pattern = piece_pattern(alloc, whole, piece)?;
+    let mut rest = behind_white(whole.as_str());
+    while !rest.is_empty() {
+        let (pattern, length) = first_pattern(alloc, whole, rest)?;
         let times = pattern.times.times();
         if room < times {
             return Err(SequenceFault::BadSequence(whole.copy()?));
         }
         room -= times;
         patterns.push(pattern)?;
-        rest = behind;
+        rest = behind_white(&rest[length..]);
     }
     Ok(patterns)
 }

@@ -1,6 +1,11 @@
-ghost use Rattle.std.specs.Prelude.{◌≡◌, ◌↔◌, IfOk, IsTrue};
+ghost use Rattle.std.specs.Prelude.{◌≡◌, ◌≤◌, ◌↔◌, length, IfOk, IfSome, IsTrue};
+ghost use Rattle.std.specs.Option.{option_copied};
+ghost use Rattle.tk_sequences.specs.Names.{IsName};
+ghost use Rattle.tk_sequences.specs.Reading.{has_no_closing, is_name, name_in};
 
-use std::alloc::AllocError;
+use crate::fault::short_text;
+use crate::written::name_written;
+use std::alloc::{AllocError, Global};
 use std::marker::Model;
 use tcl_text::Text;
 
@@ -23,6 +28,7 @@ impl Model for VirtualName {
 
 impl VirtualName {
     ghost use Rattle.tk_sequences.specs.Names.{IsName};
+    ghost use Rattle.tk_sequences.specs.Reading.{in_brackets, name_in};
 
     /// This name.
     pub(crate) fn of(name: Text) -> VirtualName
@@ -30,6 +36,25 @@ impl VirtualName {
         ensures { result ≡ name }
     {
         VirtualName { name }
+    }
+
+    /// The name that a text has between `<<` at its front and `>>` at its end; none where it isn't of this form.
+    #[tactic(auto, unfolding(crate::specs::Reading::name_in))]
+    pub fn parse(alloc: Global, text: &Text) -> Result<Option<VirtualName>, AllocError>
+        ensures { IfOk result (λ name. name ≡ name_in text.now) }
+    {
+        match name_in(text.as_str()) {
+            Some(name) => Ok(Some(VirtualName::of(short_text(alloc, name)?))),
+            None => Ok(None),
+        }
+    }
+
+    /// The name in its brackets.
+    pub fn canonical(&self, alloc: Global) -> Result<Text, AllocError>
+        ensures { IfOk result (λ text. text ≡ in_brackets self.now) }
+    {
+        let text = name_written(alloc, self.as_str())?;
+        short_text(alloc, text.as_str())
     }
 
     /// The name, without `<<` and `>>`.
@@ -54,5 +79,35 @@ impl VirtualName {
         ensures { IsTrue result ↔ self.now ≡ other.now }
     {
         self.name.as_str() == other.name.as_str()
+    }
+}
+
+/// Whether no byte is `>`.
+fn has_no_closing(bytes: &[u8]) -> bool
+    ensures { result ≡ has_no_closing bytes.now }
+{
+    bytes.iter().all(|byte| *byte != b'>')
+}
+
+/// Whether it is a virtual event's name: some characters without `>`.
+fn is_name(name: &str) -> bool
+    ensures { result ≡ is_name name.now }
+{
+    !name.is_empty() && has_no_closing(name.as_bytes())
+}
+
+/// What stands between the brackets of a virtual event's name.
+fn name_in(text: &str) -> Option<&str>
+    requires { length text.now ≤ 65536 }
+    ensures value { option_copied result ≡ name_in text.now }
+    ensures kept { IfSome result (λ name. IsName name.now) }
+{
+    match text.strip_prefix("<<") {
+        Some(behind) => match behind.strip_suffix(">>") {
+            Some(name) if is_name(name) => Some(name),
+            Some(_) => None,
+            None => None,
+        },
+        None => None,
     }
 }

@@ -37,8 +37,8 @@ returns-clause-fields c =
     let at : c.field_len-length.result ≡ position_or_len is_separator rest = c.field_len-length.ensures ∙ ap (position_or_len is_separator) c.as_bytes-2.ensures.value in
     let some : 0 < position_or_len is_separator rest = omega arith in
     let first : take (position_or_len is_separator rest) rest ≡ c.range.result.now =
-        let e : c.field_len-length.result - 0 ≡ c.field_len-length.result = omega arith in
-        ap (λ n. take n rest) (sym at) ∙ sym (c.range.ensures.value ∙ ap (λ n. take n rest) e) in
+    let e : c.field_len-length.result - 0 ≡ c.field_len-length.result = omega arith in
+    ap (λ n. take n rest) (sym at) ∙ sym (c.range.ensures.value ∙ ap (λ n. take n rest) e) in
     let others : drop (position_or_len is_separator rest) rest ≡ c.range_from.result.now = ap (λ n. drop n rest) (sym at) ∙ sym c.range_from.ensures.value in
     sym (fields-skip text) ∙ ap fields (sym left) ∙ fields-some rest some
     ∙ ap (λ (word : List ℕ). word ∷ fields (drop (position_or_len is_separator rest) rest)) first

@@ -1,0 +1,4 @@
+-- Lemmas of the proofs.
+pub mod BindLemmas
+pub mod VerdictLemmas
+pub mod WinnerLemmas

@@ -1,0 +1,37 @@
+use Rattle.std.proofs.Common.{◌≡◌, ◌∷◌, [], ◌++◌, length, Some, None, Err, sym, ap, ◌∙◌, subst, MatchBool, OnOk, IsOkUnless}
+use Rattle.std.specs.Prelude.{position, nat_le}
+use Rattle.tk_patterns.specs.declared.fault.BindFault.TheVariants.{Full, NoMemory}
+use Rattle.tk_patterns.specs.Own.{is_of, refuses, with_binding, with_script_at}
+use Rattle.tk_patterns.proofs.BindLemmas.{found_not_refused, again_there, none_refuses, added_there}
+use Rattle.tk_patterns.proofs.own.OwnBindings.bind.Goals as goal
+
+pub returns-in-Some-clause-answer : goal.returns-in-Some-clause-answer
+returns-in-Some-clause-answer c =
+    let seen = c.as_slice.ensures.value ∙ c.self.view_is in
+    let there = ap (λ tag. position (is_of tag c.args.sequence) c.args.self.now) (sym c.as_str.ensures.bytes) ∙ ap (λ own. position (is_of c.as_str.result.now c.args.sequence) own) (sym seen) ∙ sym c.in-Some.ensures in
+    rw (found_not_refused c.args.tag c.args.sequence c.args.self.now c.in-Some.place there) tt
+
+pub returns-in-Some-clause-ok : goal.returns-in-Some-clause-ok
+returns-in-Some-clause-ok c =
+    let seen = c.as_slice.ensures.value ∙ c.self.view_is in
+    let there = ap (λ tag. position (is_of tag c.args.sequence) c.args.self.now) (sym c.as_str.ensures.bytes) ∙ ap (λ own. position (is_of c.as_str.result.now c.args.sequence) own) (sym seen) ∙ sym c.in-Some.ensures in
+    c.set_script.ensures
+    ∙ ap (λ own. with_script_at c.in-Some.place c.script_in-script.result own) c.self.view_is
+    ∙ ap (λ script. with_script_at c.in-Some.place script c.args.self.now) c.script_in-script.ensures
+    ∙ again_there c.args.tag c.args.sequence c.args.script c.args.self.now c.in-Some.place there
+
+pub returns-in-None-clause-answer : goal.returns-in-None-clause-answer
+returns-in-None-clause-answer c =
+    let seen = c.as_slice.ensures.value ∙ c.self.view_is in
+    let none = ap (λ tag. position (is_of tag c.args.sequence) c.args.self.now) (sym c.as_str.ensures.bytes) ∙ ap (λ own. position (is_of c.as_str.result.now c.args.sequence) own) (sym seen) ∙ sym c.in-None.ensures in
+    subst (λ b. MatchBool b (c.add.result ≡ Err Full) (IsOkUnless c.add.result NoMemory))
+    (ap (λ own. nat_le 4096 (length own)) c.self.view_is ∙ sym (none_refuses c.args.tag c.args.sequence c.args.self.now none))
+    c.add.ensures.answer
+
+pub returns-in-None-clause-ok : goal.returns-in-None-clause-ok
+returns-in-None-clause-ok c =
+    let seen = c.as_slice.ensures.value ∙ c.self.view_is in
+    let none = ap (λ tag. position (is_of tag c.args.sequence) c.args.self.now) (sym c.as_str.ensures.bytes) ∙ ap (λ own. position (is_of c.as_str.result.now c.args.sequence) own) (sym seen) ∙ sym c.in-None.ensures in
+    subst (λ own. OnOk c.add.result (c.add.new.bindings.items ≡ own))
+    (ap (λ own. own ++ record { tag = c.args.tag; sequence = c.args.sequence; script = c.args.script } ∷ []) c.self.view_is ∙ added_there c.args.tag c.args.sequence c.args.script c.args.self.now none)
+    c.add.ensures.ok

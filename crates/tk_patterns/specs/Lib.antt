@@ -1,0 +1,6 @@
+-- What the contracts cite.
+pub mod Own
+pub mod Same
+pub mod Shown
+pub mod Specific
+pub mod Winner

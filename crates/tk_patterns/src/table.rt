@@ -1,0 +1,154 @@
+ghost use Rattle.std.specs.Prelude.{◌≡◌, [], Err, IfOk, OnOk, OnErr, IsOkUnless, MatchBool, IfSome};
+ghost use Rattle.std.specs.Option.{option_copied};
+ghost use Rattle.tk_patterns.specs.Own.{own_of, script_of, sequences_of, refuses, with_binding, without_binding, without_tag, LeavesOthers, LeavesAll};
+ghost use Rattle.tk_patterns.specs.Winner.{winner};
+
+use crate::binding::Binding;
+use crate::fault::BindFault;
+use crate::own::OwnBindings;
+use crate::winning::winner;
+use std::alloc::{AllocError, Global};
+use std::collections::HashMap;
+use std::marker::Model;
+use tcl_text::Text;
+use tk_events::Event;
+use tk_history::History;
+use tk_sequences::{Sequence, VirtualName};
+
+/// The bindings of applications, each application's apart from the others' (bind(n)).
+///
+/// `owner` is an application's number everywhere, and a tag is a binding tag of windows (bindtags(n)). An application that hasn't been named
+/// yet has no bindings.
+#[derive(Drop)]
+pub struct BindTable {
+    owners: HashMap<usize, OwnBindings>,
+    alloc: Global,
+}
+
+impl Model for BindTable {
+    ghost use Rattle.tk_patterns.specs.Own.{Held};
+
+    ghost Value = { Held };
+
+    ghost view = { λ t. t.owners.entries };
+}
+
+impl BindTable {
+    /// No bindings. It takes no memory.
+    pub fn new(alloc: Global) -> BindTable
+        ensures { result ≡ [] }
+    {
+        BindTable {
+            owners: HashMap::new(alloc),
+            alloc,
+        }
+    }
+
+    /// Binds a script to a sequence for a tag. A sequence that has one for the tag keeps its place in the order of registration, and a new one is
+    /// the last. Refused is a binding more than 4,096 (31).
+    pub fn bind(
+        &mut self,
+        owner: usize,
+        tag: Text,
+        sequence: Sequence,
+        script: Text,
+    ) -> Result<(), BindFault>
+        ensures answer { MatchBool (refuses tag sequence (own_of owner self.old)) (result ≡ Err BindFault.Full)
+            (IsOkUnless result BindFault.NoMemory) }
+        ensures ok { OnOk result (own_of owner self.new ≡ with_binding tag sequence script (own_of owner self.old)) }
+        ensures others { LeavesOthers owner self.old self.new }
+        ensures err { OnErr result (LeavesAll self.old self.new) }
+    {
+        if let Some(own) = self.owners.get_mut(&owner) {
+            return own.bind(tag, sequence, script);
+        }
+        let mut own = OwnBindings::new(self.alloc);
+        own.bind(tag, sequence, script)?;
+        match self.owners.insert(owner, own) {
+            Ok(_) => Ok(()),
+            Err(_) => Err(BindFault::NoMemory),
+        }
+    }
+
+    /// Takes out the binding of a tag for a sequence, if there is one. It takes no memory.
+    pub fn unbind(&mut self, owner: usize, tag: &str, sequence: &Sequence)
+        ensures own { own_of owner self.new ≡ without_binding tag.now sequence.now (own_of owner self.old) }
+        ensures others { LeavesOthers owner self.old self.new }
+    {
+        if let Some(own) = self.owners.get_mut(&owner) {
+            own.unbind(tag, sequence);
+        }
+    }
+
+    /// Takes out all bindings of a tag. It takes no memory.
+    pub fn unbind_all(&mut self, owner: usize, tag: &str)
+        ensures own { own_of owner self.new ≡ without_tag tag.now (own_of owner self.old) }
+        ensures others { LeavesOthers owner self.old self.new }
+    {
+        if let Some(own) = self.owners.get_mut(&owner) {
+            own.unbind_all(tag);
+        }
+    }
+
+    /// The script that is bound to a sequence for a tag. It takes no memory.
+    pub fn script(&self, owner: usize, tag: &str, sequence: &Sequence) -> Option<&Text>
+        ensures { option_copied result ≡ script_of tag.now sequence.now (own_of owner self.now) }
+    {
+        self.owners.get(&owner)?.script(tag, sequence)
+    }
+
+    /// The sequences that have a script for a tag, in the order of registration.
+    pub fn sequences(&self, owner: usize, tag: &str) -> Result<Vec<Sequence>, AllocError>
+        ensures { IfOk result (λ list. list.items ≡ sequences_of tag.now (own_of owner self.now)) }
+    {
+        match self.owners.get(&owner) {
+            Some(own) => own.sequences(self.alloc, tag),
+            None => Ok(Vec::new(self.alloc)),
+        }
+    }
+
+    /// The script that an event runs for a tag, of a window that the history's events may have come to before. `virtuals` are the sequences of the
+    /// application's virtual events, in the order of addition (event(n)). Of the bindings that match, a more specific one wins, and of two that are
+    /// alike the one that was registered later (bind(n), MULTIPLE MATCHES).
+    pub fn winner(
+        &self,
+        owner: usize,
+        tag: &str,
+        event: &Event,
+        history: &History,
+        virtuals: &[(VirtualName, Sequence)],
+    ) -> Result<Option<Text>, AllocError>
+        ensures { IfOk result (λ script. script
+            ≡ winner virtuals.now tag.now event.now history.now (own_of owner self.now)) }
+    {
+        match self.chosen(owner, tag, event, history, virtuals) {
+            Some(script) => Ok(Some(script.copy()?)),
+            None => Ok(None),
+        }
+    }
+
+    /// The same, without a copy.
+    fn chosen<'a>(
+        &'a self,
+        owner: usize,
+        tag: &str,
+        event: &Event,
+        history: &History,
+        virtuals: &'a [(VirtualName, Sequence)],
+    ) -> Option<&'a Text>
+        ensures { option_copied result
+            ≡ winner virtuals.now tag.now event.now history.now (own_of owner self.now) }
+    {
+        winner(self.bindings(owner), tag, event, history, virtuals)
+    }
+
+    /// An application's bindings.
+    fn bindings(&self, owner: usize) -> &[Binding]
+        ensures { result.now ≡ own_of owner self.now }
+    {
+        match self.owners.get(&owner) {
+            Some(own) => own.as_slice(),
+            None => &[],
+        }
+    }
+}

@@ -1,0 +1,183 @@
+//! Which binding of a tag an event runs.
+ghost use Rattle.std.specs.Prelude.{◌≡◌, Some, None, option_map};
+ghost use Rattle.std.specs.Option.{option_copied};
+ghost use Rattle.tk_patterns.specs.Own.{is_of, script_of};
+ghost use Rattle.tk_patterns.specs.Same.{same_sequence};
+ghost use Rattle.tk_patterns.specs.Shown.{shown};
+ghost use Rattle.tk_patterns.specs.Winner.{of_pair, through, of_sequence, of_binding, candidates, replaced, held_at_last, winner};
+
+use crate::binding::{Binding, has_tag};
+use crate::candidate::{Contender, beats};
+use tcl_text::Text;
+use tk_events::{Event, EventKind};
+use tk_history::History;
+use tk_sequences::{Sequence, VirtualName};
+
+/// The script of the binding that wins.
+pub(crate) fn winner<'a>(
+    bindings: &'a [Binding],
+    tag: &str,
+    event: &Event,
+    history: &History,
+    virtuals: &'a [(VirtualName, Sequence)],
+) -> Option<&'a Text>
+    ensures { option_copied result ≡ winner virtuals.now tag.now event.now history.now bindings.now }
+{
+    match &event.kind {
+        EventKind::Physical(_) => {
+            Some(holder_of(bindings, tag, event, history, virtuals)?.script)
+        }
+        EventKind::Virtual(name) => script_of(bindings, tag, name),
+    }
+}
+
+/// The script of a tag for a virtual event.
+fn script_of<'a>(bindings: &'a [Binding], tag: &str, name: &VirtualName) -> Option<&'a Text>
+    ensures { option_copied result ≡ script_of tag.now (Sequence.Virtual name.now) bindings.now }
+{
+    let binding = bindings
+        .iter()
+        .find(|binding| is_of_name(binding, tag, name))?;
+    Some(&binding.script)
+}
+
+/// Whether a binding is the one of a tag for a virtual event.
+fn is_of_name(binding: &Binding, tag: &str, name: &VirtualName) -> bool
+    ensures { result ≡ is_of tag.now (Sequence.Virtual name.now) binding.now }
+{
+    has_tag(binding, tag) && is_name(&binding.sequence, name)
+}
+
+fn is_name(sequence: &Sequence, name: &VirtualName) -> bool
+    ensures { result ≡ same_sequence sequence.now (Sequence.Virtual name.now) }
+{
+    match sequence {
+        Sequence::Virtual(other) => other.as_str() == name.as_str(),
+        Sequence::Physical(_) => false,
+    }
+}
+
+/// Who holds after all candidates of a tag.
+fn holder_of<'a>(
+    bindings: &'a [Binding],
+    tag: &str,
+    event: &Event,
+    history: &History,
+    virtuals: &'a [(VirtualName, Sequence)],
+) -> Option<Contender<'a>>
+    ensures { option_map shown result
+        ≡ held_at_last None (candidates event.now history.now virtuals.now tag.now bindings.now) }
+{
+    let mut holder = None;
+    for binding in bindings {
+        holder = after_tagged(holder, binding, tag, event, history, virtuals);
+    }
+    holder
+}
+
+/// Who holds after what a binding gives, if it has the tag.
+fn after_tagged<'a>(
+    holder: Option<Contender<'a>>,
+    binding: &'a Binding,
+    tag: &str,
+    event: &Event,
+    history: &History,
+    virtuals: &'a [(VirtualName, Sequence)],
+) -> Option<Contender<'a>>
+    ensures { option_map shown result ≡ held_at_last (option_map shown holder.entry)
+        (of_binding event.now history.now virtuals.now tag.now binding.now) }
+{
+    if has_tag(binding, tag) {
+        after_binding(holder, binding, event, history, virtuals)
+    } else {
+        holder
+    }
+}
+
+/// Who holds after what a binding gives.
+fn after_binding<'a>(
+    holder: Option<Contender<'a>>,
+    binding: &'a Binding,
+    event: &Event,
+    history: &History,
+    virtuals: &'a [(VirtualName, Sequence)],
+) -> Option<Contender<'a>>
+    ensures { option_map shown result ≡ held_at_last (option_map shown holder.entry)
+        (of_sequence event.now history.now virtuals.now binding.now.script binding.now.sequence) }
+{
+    match &binding.sequence {
+        Sequence::Virtual(name) => {
+            after_pairs(holder, name, &binding.script, event, history, virtuals)
+        }
+        Sequence::Physical(patterns) => {
+            if history.matches(&binding.sequence, event) {
+                let next = Contender {
+                    patterns,
+                    name: None,
+                    script: &binding.script,
+                };
+                Some(replaced(holder, next))
+            } else {
+                holder
+            }
+        }
+    }
+}
+
+/// Who holds after the sequences of a virtual event that match.
+fn after_pairs<'a>(
+    holder: Option<Contender<'a>>,
+    name: &VirtualName,
+    script: &'a Text,
+    event: &Event,
+    history: &History,
+    virtuals: &'a [(VirtualName, Sequence)],
+) -> Option<Contender<'a>>
+    ensures { option_map shown result ≡ held_at_last (option_map shown holder.entry)
+        (through event.now history.now name.now script.now virtuals.now) }
+{
+    let mut holder = holder;
+    for pair in virtuals {
+        holder = after_pair(holder, name, script, event, history, pair);
+    }
+    holder
+}
+
+/// Who holds after a sequence of a virtual event.
+fn after_pair<'a>(
+    holder: Option<Contender<'a>>,
+    name: &VirtualName,
+    script: &'a Text,
+    event: &Event,
+    history: &History,
+    pair: &'a (VirtualName, Sequence),
+) -> Option<Contender<'a>>
+    ensures { option_map shown result ≡ held_at_last (option_map shown holder.entry)
+        (of_pair event.now history.now name.now script.now pair.now) }
+{
+    let (other, sequence) = pair;
+    if other.as_str() != name.as_str() || !history.matches(sequence, event) {
+        return holder;
+    }
+    match sequence {
+        Sequence::Physical(patterns) => {
+            let next = Contender {
+                patterns,
+                name: Some(other),
+                script,
+            };
+            Some(replaced(holder, next))
+        }
+        Sequence::Virtual(_) => holder,
+    }
+}
+
+/// The holder where it beats the next one, and the next one otherwise.
+fn replaced<'a>(holder: Option<Contender<'a>>, next: Contender<'a>) -> Contender<'a>
+    ensures { Some (shown result) ≡ replaced (option_map shown holder.entry) (shown next.entry) }
+{
+    match holder {
+        Some(holder) if beats(&holder, &next) => holder,
+        Some(_) | None => next,
+    }
+}

@@ -1,3 +1,4 @@
 pub mod AddedLemmas
 pub mod LineLemmas
 pub mod ScreenLemmas
+pub mod SlotLemmas

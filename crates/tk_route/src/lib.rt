@@ -18,6 +18,7 @@ pub use fault::{LineFault, RectsFault};
 pub use keys::ModifierKeys;
 pub use line::HostLine;
 pub use place::Point;
+pub use rects::shares_with_another;
 pub use router::Router;
 pub use tk_base::Rect;
 pub use tk_input::{LocalEvent, LocalKind};

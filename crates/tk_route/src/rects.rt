@@ -91,7 +91,7 @@ fn shares_with_any(rect: Rect, others: &[Rect]) -> bool
 }
 
 /// Whether a rectangle shares a pixel with that of another slot.
-pub(crate) fn shares_with_another(rects: &[Rect], slot: usize, rect: Rect) -> bool
+pub fn shares_with_another(rects: &[Rect], slot: usize, rect: Rect) -> bool
     ensures { result ≡ shares_with_another rects.now slot rect }
 {
     rects.iter().enumerate().any(|(other, other_rect)| other != slot

@@ -1,0 +1,10 @@
+pub mod Names
+pub mod Lines
+pub mod LineLaws
+pub mod StepLemmas
+pub mod Hindrances
+pub mod Scripts
+pub mod AliasLaws
+pub mod EventLaws
+pub mod Complete
+pub mod Sound

@@ -1,0 +1,245 @@
+//! What one line of a session says.
+
+ghost use Rattle.std.specs.Prelude.{◌≡◌, ◌≤◌, length, option_map, IfSome};
+ghost use Rattle.std.specs.List.{list_all};
+ghost use Rattle.std.specs.Char.{is_ascii_digit};
+ghost use Rattle.std.specs.Str.{IsUtf8};
+ghost use Rattle.tk_session.specs.Reading.{cut_at, behind, has_plain_front, is_name, is_name_part, is_numeral, number_of, number_field, rect_field, rect_of, name_of, utf8_of, fixed_of, refilled_of, budget_of, app_line_of, script_line_of, end_line_of};
+
+use crate::session::Budget;
+use crate::stage::Format;
+use memchr::memchr;
+use tk_base::Rect;
+
+/// The largest coordinate, width and height of a rectangle.
+const MAX_PIXELS: u64 = 32_767;
+
+const MAX_BUDGET: u64 = 10_000_000;
+
+const MAX_SCRIPT_LINES: u64 = 65_537;
+
+/// How many bytes a name has at most.
+const MAX_NAME: usize = 32;
+
+/// The last moment of a session, in milliseconds.
+pub(crate) const MAX_MOMENT: u64 = 1_000_000_000_000;
+
+/// The values of an `app` line.
+#[derive(Drop)]
+pub(crate) struct AppLine<'a> {
+    pub name: &'a str,
+    pub rect: Rect,
+    pub budget: Budget,
+}
+
+/// Bytes that are known to be UTF-8, as text.
+pub(crate) fn as_text(bytes: &[u8]) -> &str
+    requires { IsUtf8 bytes.now }
+    ensures { result.now ≡ bytes.now }
+{
+    std::str::from_utf8(bytes).unwrap()
+}
+
+/// Bytes as text, where they are UTF-8.
+pub(crate) fn utf8(bytes: &[u8]) -> Option<&str>
+    ensures { option_map (λ text. text.now) result ≡ utf8_of bytes.now }
+{
+    std::str::from_utf8(bytes).ok()
+}
+
+/// What stands before the first such byte, and what stands after it.
+pub(crate) fn cut(text: &[u8], byte: u8) -> Option<(&[u8], &[u8])>
+    ensures { option_map (λ parts. (parts.0.now, parts.1.now)) result ≡ cut_at byte text.now }
+{
+    let at = memchr(byte, text)?;
+    Some((&text[..at], &text[at + 1..]))
+}
+
+/// The fields after a first one that is this word.
+pub(crate) fn fields_behind<'a>(word: &[u8], line: &'a [u8]) -> Option<&'a [u8]>
+    ensures { option_map (λ fields. fields.now) result ≡ behind word.now line.now }
+{
+    let (first, fields) = cut(line, b' ')?;
+    if first == word { Some(fields) } else { None }
+}
+
+/// Whether a text has something, with no 0 in front of anything.
+fn is_plain(text: &[u8]) -> bool
+    ensures { result ≡ has_plain_front text.now }
+{
+    match text {
+        [] => false,
+        [_] => true,
+        [first, ..] => *first != b'0',
+    }
+}
+
+fn are_digits(text: &[u8]) -> bool
+    ensures { result ≡ list_all is_ascii_digit text.now }
+{
+    text.iter().all(|c| c.is_ascii_digit())
+}
+
+/// Whether a text is digits, with no 0 in front.
+fn is_decimal(text: &[u8]) -> bool
+    ensures { result ≡ is_numeral text.now }
+{
+    are_digits(text) && is_plain(text)
+}
+
+/// The number that a text spells, with neither a sign nor a 0 in front.
+pub(crate) fn number(text: &[u8], least: u64, most: u64) -> Option<u64>
+    ensures number { result ≡ number_of least most text.now }
+    ensures most { IfSome result (λ number. number ≤ most) }
+{
+    if !is_decimal(text) {
+        return None;
+    }
+    match as_text(text).parse::<u64>() {
+        Ok(number) if least <= number && number <= most => Some(number),
+        _ => None,
+    }
+}
+
+#[tactic(auto, unfolding(crate::specs::Reading::number_field))]
+pub(crate) fn leading_number(text: &[u8], least: u64, most: u64) -> Option<(u64, &[u8])>
+    ensures parts { option_map (λ parts. (parts.0, parts.1.now)) result ≡ number_field least most text.now }
+    ensures most { IfSome result (λ parts. parts.0 ≤ most) }
+{
+    let (field, rest) = cut(text, b' ')?;
+    Some((number(field, least, most)?, rest))
+}
+
+#[tactic(auto, unfolding(crate::specs::Reading::rect_field))]
+fn leading_rect(text: &[u8]) -> Option<(Rect, &[u8])>
+    ensures { option_map (λ parts. (parts.0, parts.1.now)) result ≡ rect_field text.now }
+{
+    let (x, rest) = leading_number(text, 0, MAX_PIXELS)?;
+    let (y, rest) = leading_number(rest, 0, MAX_PIXELS)?;
+    let (width, rest) = leading_number(rest, 1, MAX_PIXELS)?;
+    let (height, rest) = leading_number(rest, 1, MAX_PIXELS)?;
+    let rect = Rect {
+        x: x as u32,
+        y: y as u32,
+        width: width as u32,
+        height: height as u32,
+    };
+    Some((rect, rest))
+}
+
+/// Reads a rectangle that ends the text.
+#[tactic(auto, unfolding(crate::specs::Reading::rect_of))]
+pub(crate) fn last_rect(text: &[u8]) -> Option<Rect>
+    ensures { result ≡ rect_of text.now }
+{
+    let (x, rest) = leading_number(text, 0, MAX_PIXELS)?;
+    let (y, rest) = leading_number(rest, 0, MAX_PIXELS)?;
+    let (width, rest) = leading_number(rest, 1, MAX_PIXELS)?;
+    let height = number(rest, 1, MAX_PIXELS)?;
+    Some(Rect {
+        x: x as u32,
+        y: y as u32,
+        width: width as u32,
+        height: height as u32,
+    })
+}
+
+fn is_name_part(byte: u8) -> bool
+    ensures { result ≡ is_name_part byte }
+{
+    byte.is_ascii_alphanumeric() || byte == b'_'
+}
+
+fn are_name_parts(text: &[u8]) -> bool
+    ensures { result ≡ list_all is_name_part text.now }
+{
+    text.iter().all(|byte| is_name_part(*byte))
+}
+
+/// Whether a text is a letter, then letters, digits and underscores, all ASCII, 32 in all at most.
+fn is_name(text: &[u8]) -> bool
+    ensures { result ≡ is_name text.now }
+{
+    match text {
+        [first, rest @ ..] => {
+            first.is_ascii_alphabetic() && are_name_parts(rest) && rest.len() < MAX_NAME
+        }
+        [] => false,
+    }
+}
+
+pub(crate) fn name(field: &[u8]) -> Option<&str>
+    ensures short { IfSome result (λ name. length name.now ≤ 32) }
+    ensures name { option_map (λ name. name.now) result ≡ name_of field.now }
+{
+    if !is_name(field) {
+        return None;
+    }
+    Some(as_text(field))
+}
+
+fn fixed_budget(field: &[u8]) -> Option<Budget>
+    ensures { result ≡ fixed_of field.now }
+{
+    let total = number(field, 0, MAX_BUDGET)?;
+    Some(Budget { total, refill: 0 })
+}
+
+fn refilled_budget(total: &[u8], refill: &[u8]) -> Option<Budget>
+    ensures { result ≡ refilled_of (total.now, refill.now) }
+{
+    let total = number(total, 0, MAX_BUDGET)?;
+    let refill = number(refill, 0, MAX_BUDGET)?;
+    Some(Budget { total, refill })
+}
+
+/// Reads `TOTAL`, or in the second format `TOTAL/REFILL` too.
+#[tactic(auto, unfolding(crate::specs::Reading::budget_of))]
+fn budget(format: Format, field: &[u8]) -> Option<Budget>
+    ensures { result ≡ budget_of format field.now }
+{
+    match format {
+        Format::First => fixed_budget(field),
+        Format::Second => match cut(field, b'/') {
+            None => fixed_budget(field),
+            Some((total, refill)) => refilled_budget(total, refill),
+        },
+    }
+}
+
+/// Reads `app NAME X Y WIDTH HEIGHT BUDGET`.
+#[tactic(auto, unfolding(crate::specs::Reading::app_line_of))]
+pub(crate) fn app_line(format: Format, line: &[u8]) -> Option<AppLine<'_>>
+    ensures short { IfSome result (λ app. length app.name.now ≤ 32) }
+    ensures app { option_map (λ app. (app.name.now, app.rect, app.budget)) result ≡ app_line_of format line.now }
+{
+    let fields = fields_behind(b"app", line)?;
+    let (field, rest) = cut(fields, b' ')?;
+    let name = name(field)?;
+    let (rect, rest) = leading_rect(rest)?;
+    let budget = budget(format, rest)?;
+    Some(AppLine { name, rect, budget })
+}
+
+/// Reads `script COUNT`.
+#[tactic(auto, unfolding(crate::specs::Reading::script_line_of))]
+pub(crate) fn script_line(line: &[u8]) -> Option<u64>
+    ensures { result ≡ script_line_of line.now }
+{
+    let count = fields_behind(b"script", line)?;
+    number(count, 0, MAX_SCRIPT_LINES)
+}
+
+/// Reads `MOMENT end`.
+#[tactic(auto, unfolding(crate::specs::Reading::end_line_of))]
+pub(crate) fn end_line(line: &[u8]) -> Option<u64>
+    ensures { result ≡ end_line_of line.now }
+{
+    let (field, rest) = cut(line, b' ')?;
+    let moment = number(field, 0, MAX_MOMENT)?;
+    if rest == b"end".as_slice() {
+        Some(moment)
+    } else {
+        None
+    }
+}

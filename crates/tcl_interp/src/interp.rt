@@ -39,7 +39,7 @@ impl<K: Drop> Interp<K> {
     ghost use Rattle.std.specs.Prelude.{◌≡◌, ◌≢◌, ◌⊎◌, ◌<◌, ◌≤◌, ◌+◌, [], Ok, IfOk, OnOk, OnErr, IsErr, All, sum};
     ghost use Rattle.tcl_interp.specs.Finish.{finish, Idle, Running, Spent, Broken, rest_of_script, rest_of_task};
     ghost use Rattle.tcl_interp.specs.Rests.{doing_of, waits_of};
-    ghost use Rattle.tcl_interp.specs.Interp.{rest_of, left_of, budget_of, context_of, first_context, at_top, state_of, LeavesRest, Reaches, LeavesAfter, IsWhole};
+    ghost use Rattle.tcl_interp.specs.Interp.{rest_of, left_of, budget_of, context_of, first_context, at_top, granted, state_of, LeavesRest, Reaches, LeavesAfter, IsWhole};
 
     /// An interpreter that takes at most `budget` steps in all, where outside commands have these names and replace others of theirs. A
     /// name that begins with a dot is an outside command's without being given.
@@ -120,7 +120,22 @@ impl<K: Drop> Interp<K> {
         self.left
     }
 
-    /// How many steps of the budget were taken. It takes no memory.
+    /// Grants steps, where nothing runs: so many more are left, at most as many as the budget. Once a slice has answered `Exhausted`, and until
+    /// something else begins, none is granted. It takes no memory.
+    pub fn grant(&mut self, steps: u64)
+        requires { (rest_of self.old ≡ Idle) ⊎ (rest_of self.old ≡ Spent) }
+        ensures left { left_of self.new ≡ granted (rest_of self.old) steps (budget_of self.old) (left_of self.old) }
+        ensures rest { rest_of self.new ≡ rest_of self.old }
+        ensures context { context_of self.new ≡ context_of self.old }
+        ensures budget { budget_of self.new ≡ budget_of self.old }
+    {
+        match self.machine {
+            Machine::Spent => {}
+            _ => self.left += steps.min(self.budget - self.left),
+        }
+    }
+
+    /// How many steps of the budget aren't left: those that were taken and weren't granted again. It takes no memory.
     pub fn steps_used(&self) -> u64
         ensures { result + left_of self.now ≡ budget_of self.now }
     {

@@ -83,6 +83,10 @@ impl Tasks for Panel {
     ghost use Rattle.interpreter_tables.specs.Sample.{sample};
     ghost use Rattle.interpreter_tables.specs.SampleFalls.{sample_falls};
 
+    ghost Shows = { Unit {0} };
+
+    ghost shows = { λ _. tt };
+
     ghost outside = { sample };
 
     ghost Left = { Unit {0} };

@@ -1,5 +1,5 @@
 -- What an interpreter stands for, and what a slice of it reaches.
-use Rattle.std.specs.Prelude.{◌≡◌, ◌≢◌, ℕ, List, [], ◌∷◌}
+use Rattle.std.specs.Prelude.{◌≡◌, ◌≢◌, ℕ, ◌+◌, min, List, [], ◌∷◌}
 use Rattle.tcl_vars.specs.Store.{Store}
 use Rattle.tcl_control.specs.declared.context.Context.{Context}
 use Rattle.tcl_control.specs.Table.{first_commands}
@@ -30,6 +30,11 @@ module _ {K : Type 0} where
   -- how many there are in all
   abbrev pub budget_of : Interp K → ℕ
   budget_of interp = interp.budget
+
+  -- How many steps are left once so many more are granted: the budget at most, and none more where they are spent.
+  abbrev pub granted : Rest K → ℕ → ℕ → ℕ → ℕ
+  granted Spent steps budget left = left
+  granted rest steps budget left = min (left + steps) budget
 
   -- the levels and the commands
   abbrev pub context_of : Interp K → Context

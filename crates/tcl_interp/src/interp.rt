@@ -39,7 +39,7 @@ impl<K: Drop> Interp<K> {
     ghost use Rattle.std.specs.Prelude.{◌≡◌, ◌≢◌, ◌⊎◌, ◌<◌, ◌≤◌, ◌+◌, [], Ok, IfOk, OnOk, OnErr, IsErr, All, sum};
     ghost use Rattle.tcl_interp.specs.Finish.{finish, Idle, Running, Spent, Broken, rest_of_script, rest_of_task};
     ghost use Rattle.tcl_interp.specs.Rests.{doing_of, waits_of};
-    ghost use Rattle.tcl_interp.specs.Interp.{rest_of, left_of, budget_of, context_of, first_context, at_top, state_of, LeavesRest, Reaches, LeavesAfter, IsWhole};
+    ghost use Rattle.tcl_interp.specs.Interp.{rest_of, left_of, budget_of, context_of, first_context, at_top, granted, state_of, LeavesRest, Reaches, LeavesAfter, IsWhole};
 
     /// An interpreter that takes at most `budget` steps in all, where outside commands have these names and replace others of theirs. A
     /// name that begins with a dot is an outside command's without being given.
@@ -120,7 +120,22 @@ impl<K: Drop> Interp<K> {
         self.left
     }
 
-    /// How many steps of the budget were taken. It takes no memory.
+    /// Grants steps, where nothing runs: so many more are left, at most as many as the budget. Once a slice has answered `Exhausted`, and until
+    /// something else begins, none is granted. It takes no memory.
+    pub fn grant(&mut self, steps: u64)
+        requires { (rest_of self.old ≡ Idle) ⊎ (rest_of self.old ≡ Spent) }
+        ensures left { left_of self.new ≡ granted (rest_of self.old) steps (budget_of self.old) (left_of self.old) }
+        ensures rest { rest_of self.new ≡ rest_of self.old }
+        ensures context { context_of self.new ≡ context_of self.old }
+        ensures budget { budget_of self.new ≡ budget_of self.old }
+    {
+        match self.machine {
+            Machine::Spent => {}
+            _ => self.left += steps.min(self.budget - self.left),
+        }
+    }
+
+    /// How many steps of the budget aren't left: those that were taken and weren't granted again. It takes no memory.
     pub fn steps_used(&self) -> u64
         ensures { result + left_of self.now ≡ budget_of self.now }
     {
@@ -136,7 +151,7 @@ impl<K: Drop> Interp<K> {
         steps: u64,
     ) -> Result<SliceEnd, AllocError>
         requires { self.old.machine ≡ MachineBroken }
-        ensures reached { IfOk result (λ end. Reaches end (finish T.outside (Running (doing_of now) (waits_of self.old.frames.items)) (state_of self.old tasks.old scopes.old)) (state_of self.new tasks.new scopes.new) (finish T.outside (rest_of self.new) (state_of self.new tasks.new scopes.new))) }
+        ensures reached { IfOk result (λ end. Reaches end (finish T.outside (Running (doing_of now) (waits_of self.old.frames.items)) (state_of self.old (T.shows tasks.old) scopes.old)) (state_of self.new (T.shows tasks.new) scopes.new) (finish T.outside (rest_of self.new) (state_of self.new (T.shows tasks.new) scopes.new))) }
         ensures rest { IfOk result (λ end. LeavesRest end (rest_of self.new)) }
         ensures more { result ≡ Ok SliceEnd.More → left_of self.new + steps ≡ left_of self.old }
         ensures exhausted { result ≡ Ok SliceEnd.Exhausted → left_of self.new ≡ 0 }
@@ -184,7 +199,7 @@ impl<K: Drop> Interp<K> {
     ) -> Result<SliceEnd, AllocError>
         requires positive { 0 < steps }
         requires begun { rest_of self.old ≢ Idle }
-        ensures reached { IfOk result (λ end. Reaches end (finish T.outside (rest_of self.old) (state_of self.old tasks.old scopes.old)) (state_of self.new tasks.new scopes.new) (finish T.outside (rest_of self.new) (state_of self.new tasks.new scopes.new))) }
+        ensures reached { IfOk result (λ end. Reaches end (finish T.outside (rest_of self.old) (state_of self.old (T.shows tasks.old) scopes.old)) (state_of self.new (T.shows tasks.new) scopes.new) (finish T.outside (rest_of self.new) (state_of self.new (T.shows tasks.new) scopes.new))) }
         ensures rest { IfOk result (λ end. LeavesRest end (rest_of self.new)) }
         ensures more { result ≡ Ok SliceEnd.More → left_of self.new + steps ≡ left_of self.old }
         ensures exhausted { result ≡ Ok SliceEnd.Exhausted → left_of self.new ≡ 0 }
@@ -218,7 +233,7 @@ impl<K: Drop> Interp<K> {
     ) -> Result<SliceEnd, AllocError>
         requires positive { All (λ size. 0 < size) sizes.now }
         requires begun { rest_of self.old ≢ Idle }
-        ensures reached { IfOk result (λ end. Reaches end (finish T.outside (rest_of self.old) (state_of self.old tasks.old scopes.old)) (state_of self.new tasks.new scopes.new) (finish T.outside (rest_of self.new) (state_of self.new tasks.new scopes.new))) }
+        ensures reached { IfOk result (λ end. Reaches end (finish T.outside (rest_of self.old) (state_of self.old (T.shows tasks.old) scopes.old)) (state_of self.new (T.shows tasks.new) scopes.new) (finish T.outside (rest_of self.new) (state_of self.new (T.shows tasks.new) scopes.new))) }
         ensures rest { IfOk result (λ end. LeavesAfter end (rest_of self.new)) }
         ensures more { result ≡ Ok SliceEnd.More → left_of self.new + sum sizes.now ≡ left_of self.old }
         ensures exhausted { result ≡ Ok SliceEnd.Exhausted → left_of self.new ≡ 0 }
@@ -248,7 +263,7 @@ impl<K: Drop> Interp<K> {
         requires each { All (λ size. 0 < size) sizes.now }
         requires positive { 0 < then }
         requires begun { rest_of self.old ≢ Idle }
-        ensures whole { IfOk result (λ end. IsWhole end (finish T.outside (rest_of self.old) (state_of self.old tasks.old scopes.old)) (state_of self.new tasks.new scopes.new)) }
+        ensures whole { IfOk result (λ end. IsWhole end (finish T.outside (rest_of self.old) (state_of self.old (T.shows tasks.old) scopes.old)) (state_of self.new (T.shows tasks.new) scopes.new)) }
         ensures rest { IfOk result (λ end. LeavesAfter end (rest_of self.new)) }
         ensures taken { left_of self.new ≤ left_of self.old }
         ensures budget { budget_of self.new ≡ budget_of self.old }

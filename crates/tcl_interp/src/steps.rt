@@ -209,7 +209,7 @@ fn call_outside<T: Tasks>(
     first: Text,
     arguments: &[Text],
 ) -> Result<Act<T::Task>, AllocError>
-    ensures ok { IfOk result (λ act. record { shows = tasks.new; store = scopes.new; act = act } ≡ T.outside.calls tasks.old scopes.old (first ∷ arguments.now)) }
+    ensures ok { IfOk result (λ act. record { shows = (T.shows tasks.new); store = scopes.new; act = act } ≡ T.outside.calls (T.shows tasks.old) scopes.old (first ∷ arguments.now)) }
     ensures left { T.left_alone tasks.new ≡ T.left_alone tasks.old }
 {
     let words = with_copies(alloc, first, arguments)?;
@@ -227,7 +227,7 @@ fn call_named<T: Tasks>(
     arguments: &[Text],
     room: u64,
 ) -> Result<Now<T::Task>, AllocError>
-    ensures ok { IfOk result (λ now. TakesStep T.outside (standing (moved (Calls room (name.now ∷ arguments.now)) (waits_of frames.old.items)) scopes.old context.old) tasks.old (standing_of now frames.new.items scopes.new context.new) tasks.new) }
+    ensures ok { IfOk result (λ now. TakesStep T.outside (standing (moved (Calls room (name.now ∷ arguments.now)) (waits_of frames.old.items)) scopes.old context.old) (T.shows tasks.old) (standing_of now frames.new.items scopes.new context.new) (T.shows tasks.new)) }
     ensures left { T.left_alone tasks.new ≡ T.left_alone tasks.old }
 {
     match call_command(alloc, scopes, context, name, arguments)? {
@@ -257,7 +257,7 @@ pub fn call<T: Tasks>(
     words: &[Text],
     room: u64,
 ) -> Result<Now<T::Task>, AllocError>
-    ensures ok { IfOk result (λ now. TakesStep T.outside (standing (moved (Calls room words.now) (waits_of frames.old.items)) scopes.old context.old) tasks.old (standing_of now frames.new.items scopes.new context.new) tasks.new) }
+    ensures ok { IfOk result (λ now. TakesStep T.outside (standing (moved (Calls room words.now) (waits_of frames.old.items)) scopes.old context.old) (T.shows tasks.old) (standing_of now frames.new.items scopes.new context.new) (T.shows tasks.new)) }
     ensures left { T.left_alone tasks.new ≡ T.left_alone tasks.old }
 {
     match words {
@@ -284,7 +284,7 @@ pub fn resume<T: Tasks>(
     code: Code,
     text: Text,
 ) -> Result<Now<T::Task>, AllocError>
-    ensures ok { IfOk result (λ now. Resumed T.outside room task code text (waits_of frames.old.items) tasks.old scopes.old context.old (standing_of now frames.new.items scopes.new context.new) tasks.new) }
+    ensures ok { IfOk result (λ now. Resumed T.outside room task code text (waits_of frames.old.items) (T.shows tasks.old) scopes.old context.old (standing_of now frames.new.items scopes.new context.new) (T.shows tasks.new)) }
     ensures left { T.left_alone tasks.new ≡ T.left_alone tasks.old }
 {
     let act = tasks.resume(scopes, task, code, text)?;

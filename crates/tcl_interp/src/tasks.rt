@@ -27,8 +27,14 @@ pub trait Tasks {
     ghost use Rattle.std.specs.Prelude.{ℕ, ◌<◌};
     ghost use Rattle.tcl_interp.specs.Outside.{Outside, Falls};
 
+    /// The type of what scripts can learn of it.
+    ghost Shows: { Type 0 };
+
+    /// What scripts can learn of it.
+    ghost shows: { Self → Shows };
+
     /// What the two calls answer, show and leave, and the size of each task.
-    ghost outside: { Outside Self Self.Task };
+    ghost outside: { Outside Shows Self.Task };
 
     /// The type of what both calls leave alone.
     ghost Left: { Type 0 };
@@ -39,7 +45,7 @@ pub trait Tasks {
     /// Calls a command, whose step is taken. The words begin with its first name, before any `rename` (rename(n)), without a leading `::`.
     /// An error of the script's is a `Done` with code 1.
     fn call(&mut self, scopes: &mut Scopes, words: &[Text]) -> Result<Act<Self::Task>, AllocError>
-        ensures ok { IfOk result (λ act. record { shows = self.new; store = scopes.new; act = act } ≡ outside.calls self.old scopes.old words.now) }
+        ensures ok { IfOk result (λ act. record { shows = shows self.new; store = scopes.new; act = act } ≡ outside.calls (shows self.old) scopes.old words.now) }
         ensures left { left_alone self.new ≡ left_alone self.old };
 
     /// Goes on with a task: as it begins or after its step, with the normal code and the empty text, or after its script, with that one's.
@@ -50,7 +56,7 @@ pub trait Tasks {
         code: Code,
         text: Text,
     ) -> Result<Act<Self::Task>, AllocError>
-        ensures ok { IfOk result (λ act. record { shows = self.new; store = scopes.new; act = act } ≡ outside.resumes self.old scopes.old task code text) }
+        ensures ok { IfOk result (λ act. record { shows = shows self.new; store = scopes.new; act = act } ≡ outside.resumes (shows self.old) scopes.old task code text) }
         ensures left { left_alone self.new ≡ left_alone self.old };
 
     /// A task that runs one script after another comes to an end: each time what is left of it is smaller.

@@ -315,10 +315,14 @@ impl Console {
 impl Tasks for Console {
     ghost use Rattle.std.specs.Prelude.{ℕ};
     ghost use Rattle.tk_host.specs.Outside.{outside as host_commands};
-    ghost use Rattle.tk_host.specs.Shown.{Setting, setting_of};
+    ghost use Rattle.tk_host.specs.Shown.{Setting, Shown, setting_of};
     ghost use Rattle.tk_host.specs.Smaller.{settling_falls};
 
     type Task = Settling;
+
+    ghost Shows = { Shown };
+
+    ghost shows = { λ c. c };
 
     ghost outside = { host_commands };
 

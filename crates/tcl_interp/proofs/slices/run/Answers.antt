@@ -9,7 +9,7 @@ loop-taken-preserved g c =
     let some : c.loop-taken.left ≡ suc (c.loop-taken.left - 1) = omega arith in
     let after = c.in_ok-doing-in_default.ensures in
     record {
-      same = c.loop-taken.invariant.same ∙ ap (λ n. finish_from g.T.Tasks.outside before c.loop-taken.tasks n) some ∙ after.ok (c.loop-taken.left - 1);
+      same = c.loop-taken.invariant.same ∙ ap (λ n. finish_from g.T.Tasks.outside before (g.T.Tasks.shows c.loop-taken.tasks) n) some ∙ after.ok (c.loop-taken.left - 1);
       settled = after.settled;
       counted = omega arith;
       alone = after.left ∙ c.loop-taken.invariant.alone;

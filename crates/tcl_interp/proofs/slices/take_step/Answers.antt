@@ -8,5 +8,5 @@ pub returns-in_ok-next-in-Tests-clause-ok : goal.returns-in_ok-next-in-Tests-cla
 returns-in_ok-next-in-Tests-clause-ok g c =
     let outside = g.T.Tasks.outside in
     let after = standing_of c.in_ok-next-in-Tests.next c.test.new.frames.items c.test.new.scopes c.args.context.now in
-    subst (λ now. TakesStep outside (standing_of now c.args.frames.now.items c.args.scopes.now c.args.context.now) c.args.tasks.now after c.args.tasks.now) (sym c.in-Tests.is)
-    (test_given outside c.in-Tests.room c.in-Tests.turning (waits_of c.args.frames.now.items) c.args.tasks.now c.args.scopes.now c.args.context.now after c.in_ok-next-in-Tests.ensures)
+    subst (λ now. TakesStep outside (standing_of now c.args.frames.now.items c.args.scopes.now c.args.context.now) (g.T.Tasks.shows c.args.tasks.now) after (g.T.Tasks.shows c.args.tasks.now)) (sym c.in-Tests.is)
+    (test_given outside c.in-Tests.room c.in-Tests.turning (waits_of c.args.frames.now.items) (g.T.Tasks.shows c.args.tasks.now) c.args.scopes.now c.args.context.now after c.in_ok-next-in-Tests.ensures)

@@ -15,5 +15,5 @@ pub returns-in_ok-now-in-len1-up-clause-ok : goal.returns-in_ok-now-in-len1-up-c
 returns-in_ok-now-in-len1-up-clause-ok g c =
     let waits = waits_of c.args.frames.now.items in
     let after = standing_of c.in_ok-now-in-len1-up.now c.call_named.new.frames.items c.call_named.new.scopes c.call_named.new.context in
-    subst (λ words. TakesStep g.T.Tasks.outside (standing (moved (Calls c.args.room words) waits) c.args.scopes.now c.args.context.now) c.args.tasks.now after c.call_named.new.tasks)
+    subst (λ words. TakesStep g.T.Tasks.outside (standing (moved (Calls c.args.room words) waits) c.args.scopes.now c.args.context.now) (g.T.Tasks.shows c.args.tasks.now) after (g.T.Tasks.shows c.call_named.new.tasks))
     (name_and_arguments c.args.words.now c.name-item.result c.in-len1-up.len_at_least c.name-item.is) c.in_ok-now-in-len1-up.ensures.ok

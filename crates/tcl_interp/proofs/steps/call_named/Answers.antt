@@ -8,7 +8,7 @@ pub returns-in_ok-now-in-Plans-clause-ok : goal.returns-in_ok-now-in-Plans-claus
 returns-in_ok-now-in-Plans-clause-ok g c =
     let scopes = c.call_command.new.scopes in
     let after = standing_of c.in_ok-now-in-Plans.now c.follow.new.frames.items scopes c.follow.new.context in
-    call_plan g.T.Tasks.outside c.args.room c.args.name.now c.args.arguments.now (waits_of c.args.frames.now.items) c.args.tasks.now c.args.scopes.now c.args.context.now
+    call_plan g.T.Tasks.outside c.args.room c.args.name.now c.args.arguments.now (waits_of c.args.frames.now.items) (g.T.Tasks.shows c.args.tasks.now) c.args.scopes.now c.args.context.now
     scopes c.call_command.new.context c.in-Plans.plan after (rw c.in-Plans.is at c.in_ok-plan.ensures) (c.in_ok-now-in-Plans.ensures scopes)
 
 pub returns-in_ok-now-in-Outside-clause-ok : goal.returns-in_ok-now-in-Outside-clause-ok
@@ -16,6 +16,6 @@ returns-in_ok-now-in-Outside-clause-ok g c =
     let scopes = c.call_outside.new.scopes in
     let waits = waits_of c.args.frames.now.items in
     let after = standing_of c.in_ok-now-in-Outside.now c.act_on.new.frames.items scopes c.act_on.new.context in
-    call_outside g.T.Tasks.outside c.args.room c.args.name.now c.args.arguments.now waits c.args.tasks.now c.args.scopes.now c.args.context.now
-    c.call_command.new.scopes c.call_command.new.context c.in-Outside.first c.call_outside.new.tasks scopes c.in_ok-act-in-Outside.act after (rw c.in-Outside.is at c.in_ok-plan.ensures) c.in_ok-act-in-Outside.ensures.ok
+    call_outside g.T.Tasks.outside c.args.room c.args.name.now c.args.arguments.now waits (g.T.Tasks.shows c.args.tasks.now) c.args.scopes.now c.args.context.now
+    c.call_command.new.scopes c.call_command.new.context c.in-Outside.first (g.T.Tasks.shows c.call_outside.new.tasks) scopes c.in_ok-act-in-Outside.act after (rw c.in-Outside.is at c.in_ok-plan.ensures) c.in_ok-act-in-Outside.ensures.ok
     (c.in_ok-now-in-Outside.ensures scopes ∙ ap (λ n. act_move c.args.room n scopes c.call_command.new.context waits c.in_ok-act-in-Outside.act) c.as_str.ensures.bytes)

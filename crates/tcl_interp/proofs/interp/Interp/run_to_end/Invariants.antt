@@ -5,7 +5,7 @@ use Rattle.tcl_interp.proofs.interp.Interp.run_to_end.Given as goal
 
 abbrev pub invariant-slices : goal.invariant-slices
 invariant-slices g l = record {
-  same : finish g.T.Tasks.outside (rest_of l.fn.self) (state_of l.fn.self l.fn.tasks l.fn.scopes) ≡ finish g.T.Tasks.outside (rest_of l.self) (state_of l.self l.tasks l.scopes);
+  same : finish g.T.Tasks.outside (rest_of l.fn.self) (state_of l.fn.self (g.T.Tasks.shows l.fn.tasks) l.fn.scopes) ≡ finish g.T.Tasks.outside (rest_of l.self) (state_of l.self (g.T.Tasks.shows l.tasks) l.scopes);
   begun : rest_of l.self ≢ Idle;
   taken : left_of l.self ≤ left_of l.fn.self;
   budget : budget_of l.self ≡ budget_of l.fn.self;

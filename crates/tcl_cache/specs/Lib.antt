@@ -1,0 +1,3 @@
+-- What the contracts cite.
+pub mod Kept
+pub mod Laws

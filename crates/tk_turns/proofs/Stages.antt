@@ -1,7 +1,7 @@
 -- Parts from stage to stage.
 use Rattle.std.proofs.Common.{◌≡◌, ◌≤◌, ◌<◌, ◌++◌, min, ℕ, zero, suc, Bool, true, false, List, [], ◌∷◌, map, Option, Some, None, refl, sym, ap, ◌∙◌, eq-eqb, append_assoc, arith}
 use Rattle.std.specs.Prelude.{nat_le, nat_eq, if◌then◌else◌, sum_by}
-use Rattle.std.proofs.lemmas.Bool.{leb-true, leb-false, eqb-true}
+use Rattle.std.proofs.lemmas.Bool.{leb-true, leb-false, eqb-true, eqb-false}
 use Rattle.std.proofs.lemmas.List.Sums.{sum_by-cons}
 use Rattle.tk_turns.specs.declared.turn.Turn.{Turn}
 use Rattle.tk_turns.specs.Passing.{brought}
@@ -17,6 +17,21 @@ both_past : (last : ℕ) (a b : Option ℕ) → IsPast last (earlier a b) → Is
 both_past last None b past = (tt, past)
 both_past last (Some x) None past = (past, tt)
 both_past last (Some x) (Some y) past = (omega (arith, past), omega (arith, past))
+
+pub past_both : (last : ℕ) (a b : Option ℕ) → IsPast last a → IsPast last b → IsPast last (earlier a b)
+past_both last None b first rest = rest
+past_both last (Some x) None first rest = first
+past_both last (Some x) (Some y) first rest = omega (arith, first, rest)
+
+-- nothing is due before the moment
+abbrev pub IsFrom : ℕ → Option ℕ → Type 0
+IsFrom moment None = Unit {0}
+IsFrom moment (Some due) = moment ≤ due
+
+both_from : (moment : ℕ) (a b : Option ℕ) → IsFrom moment (earlier a b) → IsFrom moment a × IsFrom moment b
+both_from moment None b from = (tt, from)
+both_from moment (Some x) None from = (from, tt)
+both_from moment (Some x) (Some y) from = (omega (arith, from), omega (arith, from))
 
 module _ {P : Type 0} (next_due : P → Option ℕ) (settled : ℕ → P → P) (weight : P → ℕ)
     (lighter : (p : P) (due : ℕ) → next_due p ≡ Some due → weight (settled due p) < weight p) where
@@ -58,6 +73,26 @@ module _ {P : Type 0} (next_due : P → Option ℕ) (settled : ℕ → P → P) 
   all_at last moment [] in_time = refl
   all_at last moment (p ∷ ps) in_time =
       ap (λ q. q ∷ map (to last) (at moment ps)) (brought_at last moment p in_time) ∙ ap (λ qs. to last p ∷ qs) (all_at last moment ps in_time)
+
+  -- ── later moments ──
+
+  -- a part that has done what was due at the moment of the first, or had nothing due then, has nothing due by it
+  one_past : (moment : ℕ) (p : P) → ((q : P) → IsPast moment (next_due (settled moment q))) → IsFrom moment (next_due p) → IsPast moment (next_due (settled_at next_due settled moment p))
+  one_past moment p quiet from = by (next_due p) refl from
+    where
+      by_test : (due : ℕ) (b : Bool) → next_due p ≡ Some due → nat_eq due moment ≡ b → moment ≤ due → IsPast moment (next_due (if b then settled moment p else p))
+      by_test due true next is le = quiet p
+      by_test due false next is le = rw next (omega (arith, le, eqb-false due moment is))
+
+      by : (o : Option ℕ) → next_due p ≡ o → IsFrom moment o → IsPast moment (next_due (settled_if next_due settled o moment p))
+      by None next from = rw next tt
+      by (Some due) next from = by_test due (nat_eq due moment) next refl from
+
+  pub stage_past : (moment : ℕ) (parts : List P) → ((q : P) → IsPast moment (next_due (settled moment q))) → IsFrom moment (first parts) → IsPast moment (first (at moment parts))
+  stage_past moment [] quiet from = tt
+  stage_past moment (p ∷ ps) quiet from =
+      let both = both_from moment (next_due p) (first ps) from in
+      past_both moment (next_due (settled_at next_due settled moment p)) (first (at moment ps)) (one_past moment p quiet both.0) (stage_past moment ps quiet both.1)
 
   -- ── the measure ──
 

@@ -1,0 +1,52 @@
+-- The stages of a list of parts: one for each moment at which something is due of a part, the earliest first.
+use Rattle.std.specs.Prelude.{◌≡◌, ◌<◌, ℕ, ◌-◌, ◌==◌, ◌++◌, List, [], ◌∷◌, map, min, sum_by, Option, Some, None, if◌then◌else◌}
+use Rattle.tk_turns.specs.declared.turn.Turn.{Turn}
+use Rattle.tk_turns.specs.Rounds.{turns_of}
+use Rattle.tk_turns.specs.Passing.{pass}
+
+-- the earlier of two moments
+abbrev pub earlier : Option ℕ → Option ℕ → Option ℕ
+earlier None b = b
+earlier (Some x) None = Some x
+earlier (Some x) (Some y) = Some (min x y)
+
+-- `next_due` says when something is due of a part next, and `settled` what becomes of the part once it has done what is due at a moment.
+module _ {P : Type 0} (next_due : P → Option ℕ) (settled : ℕ → P → P) where
+  abbrev pub settled_if : Option ℕ → ℕ → P → P
+  settled_if None moment part = part
+  settled_if (Some due) moment part = if due == moment then settled moment part else part
+
+  -- a part after a stage at a moment: it has done what was due of it then, and is as it was where nothing was
+  abbrev pub settled_at : ℕ → P → P
+  settled_at moment part = settled_if (next_due part) moment part
+
+  -- all of them
+  abbrev pub stage_at : ℕ → List P → List P
+  stage_at moment parts = map (settled_at moment) parts
+
+  -- when the first of them is due
+  abbrev pub first_due : List P → Option ℕ
+  first_due [] = None
+  first_due (part ∷ parts) = earlier (next_due part) (first_due parts)
+
+  module _ (steps_left : P → ℕ) where
+    -- how many steps a part takes in a stage at a moment
+    abbrev pub used_at : ℕ → P → ℕ
+    used_at moment part = steps_left part - steps_left (settled_at moment part)
+
+    abbrev pub turns_at : ℕ → ℕ → List P → List Turn
+    turns_at slice moment parts = turns_of slice (map (used_at moment) parts)
+
+  module _ (weight : P → ℕ) where
+    -- each moment takes a step, or is the last of its part
+    abbrev pub Lightens : Type 0
+    Lightens = (part : P) (due : ℕ) → next_due part ≡ Some due → weight (settled due part) < weight part
+
+    -- all parts, passed from stage to stage up to a last moment
+    abbrev pub passed_together : ℕ → List P → List P
+    passed_together last parts = pass first_due stage_at (λ due there later. later) (λ there. there) last (sum_by weight parts) parts
+
+    -- the turns of all stages up to a last moment, one stage after another
+    abbrev pub turns_to : (P → ℕ) → ℕ → ℕ → List P → List Turn
+    turns_to steps_left slice last parts =
+        pass first_due stage_at (λ due there later. turns_at steps_left slice due there ++ later) (λ there. []) last (sum_by weight parts) parts

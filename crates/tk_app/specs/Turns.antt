@@ -11,9 +11,10 @@ use Rattle.tk_app.specs.declared.settling.Settling.{Settling}
 use Rattle.tk_app.specs.declared.state.AppState.{AppState}
 use Rattle.tk_app.specs.declared.state.AppState.TheVariants.{Running, Exhausted, Closed}
 use Rattle.tk_app.specs.declared.tables.Tables.{Tables}
-use Rattle.tk_app.specs.declared.turn.Turn.{Turn}
-use Rattle.tk_app.specs.declared.turn.AppEnd.{AppEnd}
-use Rattle.tk_app.specs.declared.turn.AppEnd.TheVariants.{Settled, More, Stopped}
+use Rattle.tk_app.specs.declared.state.AppEnd.{AppEnd}
+use Rattle.tk_app.specs.declared.state.AppEnd.TheVariants.{Settled, More, Stopped}
+use Rattle.tk_turns.specs.declared.turn.Turn.{Turn}
+use Rattle.tk_turns.specs.Rounds.{entry}
 use Rattle.tk_app.specs.Application.{Application}
 use Rattle.tk_app.specs.Part.{Part, Work, Rests, needs, settling_begun, stage_done}
 use Rattle.tk_app.specs.Shown.{Shown}
@@ -70,11 +71,6 @@ parts_from slot tables [] = []
 parts_from slot tables (program ∷ programs) = part_of (panel_of slot tables) program ∷ parts_from (slot + 1) tables programs
 
 -- ── turns ──
-
--- a turn, where it takes steps at all
-abbrev pub entry : ℕ → ℕ → List Turn
-entry slot zero = []
-entry slot (suc n) = record { slot = slot; steps = suc n } ∷ []
 
 -- whether something is left to do, or the application has stopped
 abbrev pub EndsAs : AppEnd → Part → Type 0

@@ -16,7 +16,6 @@ mod state;
 mod tables;
 mod tasks;
 mod transcript;
-mod turn;
 mod view;
 mod window;
 
@@ -24,8 +23,8 @@ pub use budget::Budget;
 pub use clock::MAX_MOMENT;
 pub use laws::{begins_with_script, settles_from_rest};
 pub use shared::{MAX_APPLICATIONS, Shared};
-pub use state::AppState;
+pub use state::{AppEnd, AppState};
 pub use transcript::{Line, Stream};
-pub use turn::{AppEnd, Turn};
+pub use tk_turns::Turn;
 pub use view::AppView;
 pub use window::{Size, Window};

@@ -6,21 +6,22 @@ ghost use Rattle.tk_app.specs.Outside.{outside};
 ghost use Rattle.tk_app.specs.Part.{settling_begun};
 ghost use Rattle.tk_app.specs.Shown.{setting_of};
 ghost use Rattle.tk_app.specs.Tables.{others_of, panel_of};
-ghost use Rattle.tk_app.specs.Turns.{TakesTurn, entry, part_of};
+ghost use Rattle.tk_app.specs.Turns.{TakesTurn, part_of};
+ghost use Rattle.tk_turns.specs.Rounds.{entry};
 
 use crate::budget::Budget;
 use crate::message::short_text;
 use crate::round::Round;
 use crate::settling::Settling;
-use crate::state::AppState;
+use crate::state::{AppEnd, AppState};
 use crate::tables::Tables;
 use crate::tasks::TablesView;
-use crate::turn::{AppEnd, Turn};
 use std::alloc::{AllocError, Global};
 use std::marker::Model;
 use tcl_interp::{Interp, SliceEnd};
 use tcl_text::Text;
 use tcl_vars::Scopes;
+use tk_turns::Turn;
 
 /// Whether something is under way.
 #[derive(Clone, Copy, Debug, PartialEq, Eq)]

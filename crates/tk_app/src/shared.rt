@@ -6,12 +6,12 @@ use crate::runner::Runner;
 use crate::section::section;
 use crate::state::AppState;
 use crate::tables::Tables;
-use crate::turn::Turn;
 use crate::view::AppView;
 use crate::window::Size;
 use std::alloc::{AllocError, Global};
 use std::marker::Model;
 use tcl_text::Text;
+use tk_turns::Turn;
 
 /// How many applications there are at most.
 pub const MAX_APPLICATIONS: usize = 16;

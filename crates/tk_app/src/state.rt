@@ -24,3 +24,14 @@ impl AppState {
         }
     }
 }
+
+/// How a turn ended.
+#[derive(Clone, Copy, Debug, PartialEq, Eq)]
+pub enum AppEnd {
+    /// All that was to be done at the moment is done.
+    Settled,
+    /// The turn's steps are taken, and there is more to do.
+    More,
+    /// The application no longer runs.
+    Stopped,
+}

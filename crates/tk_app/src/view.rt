@@ -2,8 +2,7 @@ ghost use Rattle.std.specs.Prelude.{◌≡◌};
 
 use crate::runner::take_turn;
 use crate::shared::Shared;
-use crate::state::AppState;
-use crate::turn::AppEnd;
+use crate::state::{AppEnd, AppState};
 use std::alloc::{AllocError, Global};
 
 /// All applications, as one of them is called.

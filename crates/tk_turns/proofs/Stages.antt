@@ -5,13 +5,8 @@ use Rattle.std.proofs.lemmas.Bool.{leb-true, leb-false, eqb-true, eqb-false}
 use Rattle.std.proofs.lemmas.List.Sums.{sum_by-cons}
 use Rattle.tk_turns.specs.declared.turn.Turn.{Turn}
 use Rattle.tk_turns.specs.Passing.{brought}
-use Rattle.tk_turns.specs.Stages.{earlier, settled_if, settled_at, stage_at, first_due, turns_at, passed_together, turns_to}
+use Rattle.tk_turns.specs.Stages.{IsPast, earlier, settled_if, settled_at, stage_at, first_due, turns_at, passed_together, turns_to}
 use Rattle.tk_turns.proofs.Passing.{pass_none, pass_late, pass_step, brought_none, brought_late, brought_step}
-
--- nothing is due by the last moment
-abbrev pub IsPast : ℕ → Option ℕ → Type 0
-IsPast last None = Unit {0}
-IsPast last (Some due) = last < due
 
 both_past : (last : ℕ) (a b : Option ℕ) → IsPast last (earlier a b) → IsPast last a × IsPast last b
 both_past last None b past = (tt, past)
@@ -44,7 +39,7 @@ module _ {P : Type 0} (next_due : P → Option ℕ) (settled : ℕ → P → P) 
   abbrev first : List P → Option ℕ
   first parts = first_due next_due settled parts
 
-  brought_past : (last : ℕ) (p : P) → IsPast last (next_due p) → to last p ≡ p
+  pub brought_past : (last : ℕ) (p : P) → IsPast last (next_due p) → to last p ≡ p
   brought_past last p past = by (next_due p) refl past
     where
       by : (o : Option ℕ) → next_due p ≡ o → IsPast last o → to last p ≡ p

@@ -10,6 +10,11 @@ earlier None b = b
 earlier (Some x) None = Some x
 earlier (Some x) (Some y) = Some (min x y)
 
+-- nothing is due by the last moment
+abbrev pub IsPast : ℕ → Option ℕ → Type 0
+IsPast last None = Unit {0}
+IsPast last (Some due) = last < due
+
 -- `next_due` says when something is due of a part next, and `settled` what becomes of the part once it has done what is due at a moment.
 module _ {P : Type 0} (next_due : P → Option ℕ) (settled : ℕ → P → P) where
   abbrev pub settled_if : Option ℕ → ℕ → P → P

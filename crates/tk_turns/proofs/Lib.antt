@@ -5,3 +5,4 @@ pub mod Waits
 pub mod Passing
 pub mod Stages
 pub mod Reached
+mod Alone

@@ -8,7 +8,7 @@ use Rattle.tk_turns.specs.Passing.{brought}
 use Rattle.tk_turns.specs.Stages.{IsPast, earlier, settled_if, settled_at, stage_at, first_due, turns_at, passed_together, turns_to}
 use Rattle.tk_turns.proofs.Passing.{pass_none, pass_late, pass_step, brought_none, brought_late, brought_step}
 
-both_past : (last : ℕ) (a b : Option ℕ) → IsPast last (earlier a b) → IsPast last a × IsPast last b
+pub both_past : (last : ℕ) (a b : Option ℕ) → IsPast last (earlier a b) → IsPast last a × IsPast last b
 both_past last None b past = (tt, past)
 both_past last (Some x) None past = (past, tt)
 both_past last (Some x) (Some y) past = (omega (arith, past), omega (arith, past))
@@ -23,7 +23,7 @@ abbrev pub IsFrom : ℕ → Option ℕ → Type 0
 IsFrom moment None = Unit {0}
 IsFrom moment (Some due) = moment ≤ due
 
-both_from : (moment : ℕ) (a b : Option ℕ) → IsFrom moment (earlier a b) → IsFrom moment a × IsFrom moment b
+pub both_from : (moment : ℕ) (a b : Option ℕ) → IsFrom moment (earlier a b) → IsFrom moment a × IsFrom moment b
 both_from moment None b from = (tt, from)
 both_from moment (Some x) None from = (from, tt)
 both_from moment (Some x) (Some y) from = (omega (arith, from), omega (arith, from))
@@ -53,7 +53,7 @@ module _ {P : Type 0} (next_due : P → Option ℕ) (settled : ℕ → P → P) 
       ap (λ q. q ∷ map (to last) ps) (brought_past last p both.0) ∙ ap (λ qs. p ∷ qs) (all_past last ps both.1)
 
   -- A stage at a moment is one of its own to a part that is due then, and nothing to another: others' moments leave it where it is on its way.
-  brought_at : (last moment : ℕ) (p : P) → moment ≤ last → to last (settled_at next_due settled moment p) ≡ to last p
+  pub brought_at : (last moment : ℕ) (p : P) → moment ≤ last → to last (settled_at next_due settled moment p) ≡ to last p
   brought_at last moment p in_time = by (next_due p) refl
     where
       by_test : (due : ℕ) (b : Bool) → next_due p ≡ Some due → nat_eq due moment ≡ b → to last (if b then settled moment p else p) ≡ to last p

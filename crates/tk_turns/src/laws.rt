@@ -1,9 +1,9 @@
-ghost use Rattle.std.specs.Prelude.{◌≡◌, ◌≤◌, ◌<◌, ◌-◌, ◌*◌, ◌++◌, ℕ, List, map, length, sum, sum_by, Option, slice_index, EachIndex};
+ghost use Rattle.std.specs.Prelude.{◌≡◌, ◌↔◌, flat_map, ◌≤◌, ◌<◌, ◌-◌, ◌*◌, ◌++◌, ℕ, List, map, length, sum, sum_by, Option, slice_index, EachIndex};
 ghost use Rattle.tk_turns.specs.declared.turn.Turn.{Turn};
 ghost use Rattle.tk_turns.specs.Passing.{brought};
 ghost use Rattle.tk_turns.specs.Rounds.{round, turns_of};
 ghost use Rattle.tk_turns.specs.Shares.{WaitsAtMost, steps_in, taken_by};
-ghost use Rattle.tk_turns.specs.Stages.{Lightens, passed_together, stage_at, turns_at, turns_to};
+ghost use Rattle.tk_turns.specs.Stages.{IsAmong, IsOwnOfOne, Lightens, Quiets, Rises, passed_together, stage_moments, taken_at, turns_at, turns_to};
 
 /// The turns of a stage are a first round and then those of a stage in which each needs a slice less.
 pub fn first_round_and_the_rest()
@@ -49,4 +49,18 @@ pub fn turns_in_two_calls<P>()
         → turns_to next_due settled weight steps_left slice last parts
         ≡ turns_to next_due settled weight steps_left slice first parts
         ++ turns_to next_due settled weight steps_left slice last (map (brought next_due settled weight first) parts) }
+{}
+
+/// The turns up to a moment are those of its stages, one after another: a stage for each moment that is due of some part by itself, in
+/// rising order, in which each part needs the steps that it takes at that moment by itself.
+pub fn stages_by_each_alone<P>()
+    ensures turns { (next_due : P → Option ℕ) (settled : ℕ → P → P) (weight steps_left : P → ℕ) → Lightens next_due settled weight → Quiets next_due settled weight
+        → (slice last : ℕ) (parts : List P)
+        → turns_to next_due settled weight steps_left slice last parts
+        ≡ flat_map (λ moment. turns_of slice (map (taken_at next_due settled weight steps_left moment) parts)) (stage_moments next_due settled weight last parts) }
+    ensures moments { (next_due : P → Option ℕ) (settled : ℕ → P → P) (weight : P → ℕ) → Lightens next_due settled weight
+        → (last moment : ℕ) (parts : List P)
+        → IsAmong moment (stage_moments next_due settled weight last parts) ↔ IsOwnOfOne next_due settled weight last moment parts }
+    ensures rising { (next_due : P → Option ℕ) (settled : ℕ → P → P) (weight : P → ℕ) → Lightens next_due settled weight → Quiets next_due settled weight
+        → (last : ℕ) (parts : List P) → Rises (stage_moments next_due settled weight last parts) }
 {}

@@ -11,6 +11,6 @@ mod turn;
 
 pub use laws::{
     alone_and_together, first_round_and_the_rest, moment_in_two_calls, stage_is_bounded,
-    turns_add_up, turns_in_two_calls, waits_a_round,
+    stages_by_each_alone, turns_add_up, turns_in_two_calls, waits_a_round,
 };
 pub use turn::{Turn, earlier};

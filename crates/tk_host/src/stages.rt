@@ -109,8 +109,9 @@ fn run_round(shared: &mut Shared, slice: u64) -> Result<bool, AllocError>
     ensures last { result ≡ Ok false → shared.new.parts ≡ map (stage_done shared.old.moment) shared.old.parts }
     ensures falls { result ≡ Ok true → sum_by (needs shared.old.moment) shared.new.parts < sum_by (needs shared.old.moment) shared.old.parts }
 {
+    let slots = shared.len();
     let mut more = false;
-    for slot in 0..shared.len() {
+    for slot in 0..slots {
         more |= take_turn(shared, slot, slice)?;
     }
     Ok(more)

@@ -257,11 +257,12 @@ fn goes_forth_alone(rt: HostRuntime) -> Result<(), Fail> {
 /// Whether these turns were taken: whose each was, and how many steps it took.
 fn are_turns(host: &Host, wanted: &[(usize, u64)]) -> bool {
     let turns = host.turns();
+    for (turn, want) in turns.iter().zip(wanted.iter()) {
+        if turn.slot != want.0 || turn.steps != want.1 {
+            return false;
+        }
+    }
     turns.len() == wanted.len()
-        && turns
-            .iter()
-            .zip(wanted.iter())
-            .all(|(turn, want)| turn.slot == want.0 && turn.steps == want.1)
 }
 
 /// One application that never ends and one that says bye take turns, by slices of 2 and of 64 steps.

@@ -181,13 +181,7 @@ impl Runner {
         ensures others { others_of slot tables.new ≡ others_of slot tables.old }
     {
         self.progress = Progress::Lost;
-        match run(
-            tables,
-            slot,
-            &mut self.interp,
-            &mut self.scopes,
-            steps,
-        )? {
+        match run(tables, slot, &mut self.interp, &mut self.scopes, steps)? {
             SliceEnd::Done(_, _) => {
                 self.progress = Progress::Resting;
                 Ok(AppEnd::Settled)

@@ -2,9 +2,11 @@
 use Rattle.std.proofs.Common.{◌≡◌, ◌≢◌, ℕ, zero, suc, ◌+◌, ◌-◌, ◌≤◌, ◌<◌, min, List, [], ◌∷◌, refl, sym, ap, ◌∙◌, subst, arith}
 use Rattle.tcl_control.specs.declared.code.Code.{Code}
 use Rattle.tcl_control.specs.declared.context.Context.{Context}
+use Rattle.tcl_vars.specs.Store.{Store}
 use Rattle.tcl_interp.specs.Evaluation.{State, Outcome, Ended, OutOfSteps}
 use Rattle.tcl_interp.specs.Finish.{Doing, Waiting, Rest, Running as RestRunning, Idle, Spent, Broken, finish}
-use Rattle.tcl_interp.specs.Interp.{IsRunning}
+use Rattle.tcl_interp.specs.declared.interp.Interp.{Interp}
+use Rattle.tcl_interp.specs.Interp.{IsRunning, context_of, left_of, rest_of, state_of}
 use Rattle.tcl_interp.proofs.Bounds.{Within}
 use Rattle.tcl_interp.proofs.Finishing.{within_finish}
 use Rattle.tk_app.specs.declared.settling.Settling.{Settling}
@@ -15,8 +17,9 @@ use Rattle.tk_app.specs.declared.state.AppState.TheVariants.{Running, Exhausted,
 use Rattle.tk_app.specs.Application.{Application}
 use Rattle.tk_app.specs.Outside.{outside}
 use Rattle.tk_app.specs.Part.{Part, Work, Rests, Goes, after_outcome, done_as, needs, settling_as, settling_begun, stage_done, state_in, with_left, work_of}
-use Rattle.tk_app.specs.Shown.{Shown}
-use Rattle.tk_app.specs.Turns.{EndsAs, TakesTurn, work_by}
+use Rattle.tk_app.specs.declared.window.Size.{Size}
+use Rattle.tk_app.specs.Shown.{Setting, Shown, setting_of}
+use Rattle.tk_app.specs.Turns.{EndsAs, Program, TakesTurn, application_of, part_of, work_by}
 
 -- ── what is under way ──
 
@@ -99,6 +102,20 @@ after_again : (outcome : Outcome Shown) (left : State Shown) (application : Appl
 after_again (Ended state code text) left application = refl
 after_again (OutOfSteps state) left application = refl
 
+-- what goes on doesn't rest
+goes_work : (rest : Rest Settling) (levels : List ℕ) → IsRunning rest → work_of rest levels ≢ Rests
+goes_work rest levels (doing, waits, is) rests =
+    let P : Rest Settling → Type 0 = λ r. work_of r levels ≡ Rests in
+    let gone : Goes levels doing waits ≡ Rests = subst P is rests in
+    cc
+
+-- and what doesn't rest goes on
+pub rest_goes : (rest : Rest Settling) (levels : List ℕ) → work_of rest levels ≢ Rests → IsRunning rest
+rest_goes Idle levels goes = absurd (goes refl)
+rest_goes (RestRunning doing waits) levels goes = (doing, waits, refl)
+rest_goes Spent levels goes = absurd (goes refl)
+rest_goes Broken levels goes = absurd (goes refl)
+
 -- an application that runs, and what its interpreter has under way
 abbrev pub going : Application → Rest Settling → List ℕ → Part
 going application rest levels = record { application = application; work = work_by application.state (work_of rest levels) }
@@ -142,3 +159,66 @@ module _ (moment : ℕ) (application : Application) (rest : Rest Settling) (leve
       ∙ ap (λ a. record { application = a; work = Rests }) (after_again (finish outside rest' left) left application)
       ∙ ap (λ o. record { application = after_outcome o application; work = Rests }) (sym same)
       ∙ sym (done_going moment application rest levels runs running)
+
+-- ── a runner ──
+
+-- a runner, with another interpreter and other variables
+abbrev pub ran : Program → Interp Settling → Store → AppState → Program
+ran program interp store state =
+    record program {
+      store = store;
+      commands = (context_of interp).commands;
+      steps = left_of interp;
+      state = state;
+      work = work_by state (work_of (rest_of interp) (context_of interp).levels);
+    }
+
+-- a slice of an interpreter, between what its application had in the tables and what it has then
+module _ (program : Program) (panel panel' : Shown) (interp interp' : Interp Settling) (store store' : Store) (state : AppState) (runs : state ≡ Running)
+  (setting : setting_of panel' ≡ setting_of panel) (running : IsRunning (rest_of interp)) where
+  abbrev before : Part
+  before = part_of panel (ran program interp store state)
+
+  abbrev after_as : AppState → Part
+  after_as state' = part_of panel' (ran program interp' store' state')
+
+  abbrev left : State Shown
+  left = state_of interp' panel' store'
+
+  abbrev outcome_of : Outcome Shown
+  outcome_of = finish outside (rest_of interp) (state_of interp panel store)
+
+  -- the size stays
+  left_as : (state' : AppState) → (after_as state').application ≡ record (with_left left before.application) { state = state' }
+  left_as state' = ap (λ (s : Size). application_of (record panel' { size = s }) (ran program interp' store' state')) (ap (λ s. s.1) setting)
+
+  going_as : (state' : AppState) → after_as state' ≡ going (record (with_left left before.application) { state = state' }) (rest_of interp') (context_of interp').levels
+  going_as state' = ap (λ a. record { application = a; work = work_by state' (work_of (rest_of interp') (context_of interp').levels) }) (left_as state')
+
+  stands : left ≡ state_in left.context.levels panel.moment (with_left left before.application)
+  stands = ap (λ (s : Setting). record left { shows = record panel' { moment = s.0; size = s.1 } }) setting
+
+  -- what is under way then
+  work_then : (after_as state).work ≡ work_of (rest_of interp') (context_of interp').levels
+  work_then = ap (λ s. work_by s (work_of (rest_of interp') (context_of interp').levels)) runs
+
+  pub turn_settles : (steps : ℕ) (code : Code) (text : List ℕ) → outcome_of ≡ Ended left code text → rest_of interp' ≡ Idle → left_of interp ≤ left_of interp' + steps
+      → TakesTurn panel.moment steps Settled before (after_as state)
+  turn_settles steps code text ended idle most =
+      turn_last panel.moment steps Settled before (after_as state)
+      (going_as state ∙ all_done panel.moment before.application (rest_of interp) (context_of interp).levels runs running left code text (rest_of interp') (context_of interp').levels ended idle)
+      most (λ e. cc) (runs, work_then ∙ ap (λ r. work_of r (context_of interp').levels) idle)
+
+  pub turn_stops : (steps : ℕ) → outcome_of ≡ OutOfSteps left → left_of interp' ≡ 0 → left_of interp ≤ left_of interp' + steps → TakesTurn panel.moment steps Stopped before (after_as Exhausted)
+  turn_stops steps out none most =
+      turn_last panel.moment steps Stopped before (after_as Exhausted)
+      (going_as Exhausted ∙ all_spent panel.moment before.application (rest_of interp) (context_of interp).levels runs running left (rest_of interp') (context_of interp').levels out none)
+      most (λ e. cc) ((λ e. cc), refl)
+
+  pub turn_goes_on : (steps : ℕ) → outcome_of ≡ finish outside (rest_of interp') left → IsRunning (rest_of interp') → left_of interp' + steps ≡ left_of interp
+      → TakesTurn panel.moment steps More before (after_as state)
+  turn_goes_on steps same running' took =
+      turn_more panel.moment steps before (after_as state)
+      (ap (stage_done panel.moment) (going_as state)
+      ∙ goes_on panel.moment before.application (rest_of interp) (context_of interp).levels runs running left (rest_of interp') same running' stands)
+      took (runs, λ rests. goes_work (rest_of interp') (context_of interp').levels running' (sym work_then ∙ rests))

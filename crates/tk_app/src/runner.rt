@@ -181,8 +181,15 @@ impl Runner {
         ensures others { others_of slot tables.new ≡ others_of slot tables.old }
     {
         self.progress = Progress::Lost;
-        match run(tables, slot, &mut self.interp, &mut self.scopes, steps)? {
-            SliceEnd::Done(_, _) => {
+        let end = run(
+            tables,
+            slot,
+            &mut self.interp,
+            &mut self.scopes,
+            steps,
+        )?;
+        match end {
+            SliceEnd::Done(_code, _text) => {
                 self.progress = Progress::Resting;
                 Ok(AppEnd::Settled)
             }

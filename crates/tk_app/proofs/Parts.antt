@@ -37,7 +37,7 @@ from_rest Exhausted moment application is = refl
 from_rest Closed moment application is = refl
 
 pub settles_from_rest : SettlesFromRest
-unfolding (stage_done, settled)
+unfolding stage_done settled
 settles_from_rest moment application = from_rest application.state moment application refl
 
 -- a report and what comes behind it
@@ -57,7 +57,7 @@ starts script state =
     ∙ reported_then (script_at_global script state) (settle_meaning moment)
 
 pub begins_with_script : BeginsWithScript
-unfolding (stage_done, started)
+unfolding stage_done started
 begins_with_script moment spec =
     let application = fresh spec in
     let state = state_at moment application in

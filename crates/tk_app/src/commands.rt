@@ -15,12 +15,7 @@ use tcl_text::Text;
 use tk_after::after_command;
 
 /// Adds a line to what an application wrote, at the moment.
-pub fn write(
-    tables: &mut Tables,
-    slot: usize,
-    stream: Stream,
-    text: Text,
-) -> Result<(), AllocError>
+pub fn write(tables: &mut Tables, slot: usize, stream: Stream, text: Text) -> Result<(), AllocError>
     ensures own { OnOk result (panel_of slot tables.new ≡ with_line stream text (panel_of slot tables.old)) }
     ensures setting { setting_of (panel_of slot tables.new) ≡ setting_of (panel_of slot tables.old) }
     ensures others { LeavesOthers slot tables.old tables.new }
@@ -67,11 +62,7 @@ fn put_to(
 }
 
 /// The command `puts` (puts(n)), with the words behind its name.
-fn puts(
-    tables: &mut Tables,
-    slot: usize,
-    arguments: &[Text],
-) -> Result<Act<Settling>, AllocError>
+fn puts(tables: &mut Tables, slot: usize, arguments: &[Text]) -> Result<Act<Settling>, AllocError>
     ensures own { IfOk result (λ act. (store : Store) → record { shows = panel_of slot tables.new; store = store; act = act } ≡ puts_told arguments.now (panel_of slot tables.old) store) }
     ensures setting { setting_of (panel_of slot tables.new) ≡ setting_of (panel_of slot tables.old) }
     ensures others { LeavesOthers slot tables.old tables.new }
@@ -90,11 +81,7 @@ fn puts(
 }
 
 /// The command `after` (after(n)), with the words behind its name.
-fn after(
-    tables: &mut Tables,
-    slot: usize,
-    arguments: &[Text],
-) -> Result<Act<Settling>, AllocError>
+fn after(tables: &mut Tables, slot: usize, arguments: &[Text]) -> Result<Act<Settling>, AllocError>
     ensures own { IfOk result (λ act. (store : Store) → record { shows = panel_of slot tables.new; store = store; act = act } ≡ after_told arguments.now (panel_of slot tables.old) store) }
     ensures setting { setting_of (panel_of slot tables.new) ≡ setting_of (panel_of slot tables.old) }
     ensures others { LeavesOthers slot tables.old tables.new }
@@ -108,11 +95,7 @@ fn after(
 }
 
 /// `clock milliseconds`, with the words behind both.
-fn milliseconds(
-    tables: &Tables,
-    slot: usize,
-    words: &[Text],
-) -> Result<Act<Settling>, AllocError>
+fn milliseconds(tables: &Tables, slot: usize, words: &[Text]) -> Result<Act<Settling>, AllocError>
     ensures { IfOk result (λ act. (store : Store) → record { shows = panel_of slot tables.now; store = store; act = act } ≡ milliseconds_told words.now (panel_of slot tables.now) store) }
 {
     if words.is_empty() {

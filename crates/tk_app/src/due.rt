@@ -81,7 +81,12 @@ fn begin_round(tables: &mut Tables, slot: usize, moment: u64) -> Result<Act<Sett
 }
 
 /// Goes on with what is left of a round, and then with what comes next.
-fn go_on(tables: &mut Tables, slot: usize, moment: u64, round: Round) -> Result<Act<Settling>, AllocError>
+fn go_on(
+    tables: &mut Tables,
+    slot: usize,
+    moment: u64,
+    round: Round,
+) -> Result<Act<Settling>, AllocError>
     ensures own { IfOk result (λ act. (store : Store) → record { shows = panel_of slot tables.new; store = store; act = act } ≡ rest_told moment round (panel_of slot tables.old) store) }
     ensures setting { setting_of (panel_of slot tables.new) ≡ setting_of (panel_of slot tables.old) }
     ensures others { LeavesOthers slot tables.old tables.new }

@@ -24,7 +24,7 @@ pub use clock::MAX_MOMENT;
 pub use laws::{begins_with_script, settles_from_rest};
 pub use shared::{MAX_APPLICATIONS, Shared};
 pub use state::{AppEnd, AppState};
-pub use transcript::{Line, Stream};
 pub use tk_turns::Turn;
+pub use transcript::{Line, Stream};
 pub use view::AppView;
 pub use window::{Size, Window};

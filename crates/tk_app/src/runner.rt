@@ -181,14 +181,15 @@ impl Runner {
         ensures others { others_of slot tables.new ≡ others_of slot tables.old }
     {
         self.progress = Progress::Lost;
-        match run(
+        let end = run(
             tables,
             slot,
             &mut self.interp,
             &mut self.scopes,
             steps,
-        )? {
-            SliceEnd::Done(_, _) => {
+        )?;
+        match end {
+            SliceEnd::Done(_code, _text) => {
                 self.progress = Progress::Resting;
                 Ok(AppEnd::Settled)
             }

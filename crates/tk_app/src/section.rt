@@ -94,12 +94,7 @@ fn push_window(out: &mut Vec<u8>, window: Window) -> Result<(), AllocError>
 }
 
 /// Adds the line that an application's section begins with.
-fn push_head(
-    out: &mut Vec<u8>,
-    name: &str,
-    state: AppState,
-    steps: u64,
-) -> Result<(), AllocError>
+fn push_head(out: &mut Vec<u8>, name: &str, state: AppState, steps: u64) -> Result<(), AllocError>
     ensures { OnOk result (out.new.items ≡ out.old.items ++ head_line name.now state steps) }
 {
     out.extend_from_slice(b"app ")?;

@@ -75,7 +75,8 @@ impl Shared {
         requires { length self.old.parts < 16 }
         ensures slot { IfOk result (λ slot. slot ≡ length self.old.parts) }
         ensures added { OnOk result (self.new ≡ record self.old {
-            parts = self.old.parts ++ added (record { name = name; width = size.width; height = size.height; script = script; budget = budget }) ∷ [] }) }
+          parts = self.old.parts ++ added (record { name = name; width = size.width; height = size.height; script = script; budget = budget }) ∷ [];
+        }) }
         ensures unchanged { OnErr result (self.new ≡ self.old) }
     {
         let slot = self.runners.len();

@@ -8,7 +8,7 @@ use Rattle.tk_app.proofs.section.push_timers.Goals as goal
 
 pub loop-id-preserved : goal.loop-id-preserved
 loop-id-preserved c =
-    let own = own_of 0 c.args.timers.now in
+    let own = own_of c.args.owner c.args.timers.now in
     let i = c.loop-id.id-index in
     let numbers = c.as_slice-id-items.result.now in
     let all : numbers ≡ ids own.entries = c.as_slice-id-items.ensures.value ∙ c.in_ok-ids.ensures.list in

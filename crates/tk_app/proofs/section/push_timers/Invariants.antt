@@ -6,4 +6,4 @@ use Rattle.tk_app.proofs.section.push_timers.Given as goal
 
 -- what was read is written
 abbrev pub invariant-loop-id : goal.invariant-loop-id
-invariant-loop-id l = l.out.items ≡ l.fn.out.items ++ flat_map entry_line (take l.id-index (entries_of 0 l.timers))
+invariant-loop-id l = l.out.items ≡ l.fn.out.items ++ flat_map entry_line (take l.id-index (entries_of l.owner l.timers))

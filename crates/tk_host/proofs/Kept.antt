@@ -35,13 +35,12 @@ ready_started clock now parts done ready same is =
     let start : now ≡ 0 = same ∙ held.0 in
     record {
       adding = λ e. cc;
-      reached = λ last e.
-        (
-          omega (arith, start),
-          subst AllRest (sym at) (start_rest parts held.1),
-          subst (λ n. IsPast n (first_due next_due settled (applications done))) (sym start)
-          (subst (λ ps. IsPast 0 (first_due next_due settled (applications ps))) (sym at) (start_past parts held.1)),
-        );
+      reached = λ last e. (
+        omega (arith, start),
+        subst AllRest (sym at) (start_rest parts held.1),
+        subst (λ n. IsPast n (first_due next_due settled (applications done))) (sym start)
+            (subst (λ ps. IsPast 0 (first_due next_due settled (applications ps))) (sym at) (start_past parts held.1)),
+      );
     }
 
 pub ready_gone : (phase : Phase) (moment clock : ℕ) (parts : List Part) → IsAt moment phase → AllRest parts → IsPast clock (first_due next_due settled (applications parts)) → clock ≤ moment
@@ -71,9 +70,9 @@ pub started_is : (phase : Phase) (rects : List Rect) (slice : ℕ) (shared clear
     → seen (Reached 0) rects slice after ≡ after_start old
 started_is phase rects slice shared cleared after old is start clear done told =
     let parts : after.parts ≡ map (stage_done 0) shared.parts =
-        done ∙ ap (λ (h : Applications). map (stage_done h.moment) h.parts) clear ∙ ap (λ n. map (stage_done n) shared.parts) start in
+    done ∙ ap (λ (h : Applications). map (stage_done h.moment) h.parts) clear ∙ ap (λ n. map (stage_done n) shared.parts) start in
     let turns : after.turns ≡ turns_of slice (map (needs 0) shared.parts) =
-        told ∙ ap (λ (h : Applications). h.turns ++ turns_of slice (map (needs h.moment) h.parts)) clear ∙ ap (λ n. turns_of slice (map (needs n) shared.parts)) start in
+    told ∙ ap (λ (h : Applications). h.turns ++ turns_of slice (map (needs h.moment) h.parts)) clear ∙ ap (λ n. turns_of slice (map (needs n) shared.parts)) start in
     ap (λ ps. record { held = record { phase = Reached 0; rects = rects; parts = ps }; slice = slice; turns = after.turns }) parts
     ∙ ap (λ ts. record { held = record { phase = Reached 0; rects = rects; parts = map (stage_done 0) shared.parts }; slice = slice; turns = ts }) turns
     ∙ ap after_start is
@@ -85,7 +84,7 @@ pub gone_is : (phase to : Phase) (moment : ℕ) (rects : List Rect) (slice : ℕ
     → seen to rects slice after ≡ gone_to to moment old
 gone_is phase to moment rects slice shared cleared after old is rest clear done rests told =
     let parts : after.parts ≡ map (brought moment) shared.parts =
-        all_rest after.parts rests ∙ ap (map at_rest) (done ∙ ap (λ (h : Applications). map (passed moment) (applications h.parts)) clear) ∙ brought_all moment shared.parts rest in
+    all_rest after.parts rests ∙ ap (map at_rest) (done ∙ ap (λ (h : Applications). map (passed moment) (applications h.parts)) clear) ∙ brought_all moment shared.parts rest in
     let turns : after.turns ≡ turns_on_the_way slice moment (applications shared.parts) = told ∙ ap (λ (h : Applications). h.turns ++ turns_on_the_way slice moment (applications h.parts)) clear in
     ap (λ ps. record { held = record { phase = to; rects = rects; parts = ps }; slice = slice; turns = after.turns }) parts
     ∙ ap (λ ts. record { held = record { phase = to; rects = rects; parts = map (brought moment) shared.parts }; slice = slice; turns = ts }) turns

@@ -147,8 +147,8 @@ reaches_more slice slot old now new more again positive lt here turn =
       more = λ e. omega (arith, turn.more e, ap (λ n. needs n turn.before) is);
     } in
     let next : Reached (stage_done m) (needs m) slice (slot + 1) old.parts (set now.parts slot turn.after) old.turns new.turns (more || again) =
-        reached_more (stage_done m) (needs m) slice slot old.parts now.parts old.turns now.turns new.turns more again turn.before turn.after positive (omega (arith, lt, here.size)) here.size here.reached
-            (subst (λ p. TookTurn (stage_done m) (needs m) slice slot p turn.after now.turns new.turns again) (sym at) took) in
+    reached_more (stage_done m) (needs m) slice slot old.parts now.parts old.turns now.turns new.turns more again turn.before turn.after positive (omega (arith, lt, here.size)) here.size here.reached
+    (subst (λ p. TookTurn (stage_done m) (needs m) slice slot p turn.after now.turns new.turns again) (sym at) took) in
     record {
       moment = turn.moment ∙ is;
       size = ap length turn.changed ∙ length-set now.parts slot turn.after ∙ here.size;

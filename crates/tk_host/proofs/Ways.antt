@@ -52,9 +52,9 @@ begins_due moment slot due old new told same now begins =
     let same_part : there.0 ≡ begins.before = (let is : Some there.0 ≡ Some begins.before = sym there.1 ∙ begins.was in cc) in
     let due_of : next_due begins.before.application ≡ Some due = ap (λ (p : Part). next_due p.application) (sym same_part) ∙ there.2 in
     let begun : begun_at moment begins.before ≡ settling_begun old.moment begins.before =
-        ap (λ (o : Option ℕ). begun_by o moment begins.before) due_of
-        ∙ ap (λ (b : Bool). if b then settling_begun moment begins.before else begins.before) (eq-eqb due moment same)
-        ∙ ap (λ m. settling_begun m begins.before) (sym now) in
+    ap (λ (o : Option ℕ). begun_by o moment begins.before) due_of
+    ∙ ap (λ (b : Bool). if b then settling_begun moment begins.before else begins.before) (eq-eqb due moment same)
+    ∙ ap (λ m. settling_begun m begins.before) (sym now) in
     record {
       before = begins.before;
       was = begins.was;
@@ -71,7 +71,7 @@ begun_more moment slot old now new lt here begins =
     let at : begins.before ≡ get_or now.parts slot begins.before = sym (get_or_some now.parts slot begins.before begins.was) in
     let parts : now.parts ≡ map (begun_at moment) (take slot old.parts) ++ drop slot old.parts = ap (λ (h : Applications). h.parts) here.same in
     let one : set now.parts slot (begun_at moment begins.before) ≡ map (begun_at moment) (take (slot + 1) old.parts) ++ drop (slot + 1) old.parts =
-        map_over_more (begun_at moment) old.parts now.parts slot begins.before lt parts at in
+    map_over_more (begun_at moment) old.parts now.parts slot begins.before lt parts at in
     record {
       same =
           begins.changed
@@ -116,8 +116,8 @@ way_on slice target due start before at begun after next le way on begins moment
     let from : IsFrom due (first_due next_due settled apps) = rw next (omega arith) in
     let past : IsPast due (first_due next_due settled there) = stage_past next_due settled weight settled_lighter due apps (settled_past due) from in
     let here : after.turns ≡ before.turns ++ turns_at next_due settled steps_left slice due apps =
-        told ∙ ap (λ (h : Applications). h.turns ++ turns_of slice (map (needs h.moment) h.parts)) both
-        ∙ ap (λ ns. before.turns ++ turns_of slice ns) (needs_all due before.parts way.rest) in
+    told ∙ ap (λ (h : Applications). h.turns ++ turns_of slice (map (needs h.moment) h.parts)) both
+    ∙ ap (λ ns. before.turns ++ turns_of slice ns) (needs_all due before.parts way.rest) in
     record {
       rest = subst AllRest (sym (stage_parts due before at begun after way.rest on begins done)) (rest_at there);
       past = subst (λ m. IsPast m (first_due next_due settled (applications after.parts))) (sym now) (subst (λ apps. IsPast due (first_due next_due settled apps)) (sym is) past);

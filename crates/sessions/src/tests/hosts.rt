@@ -291,8 +291,28 @@ fn takes_turns(rt: HostRuntime) -> Result<(), Fail> {
 fn takes_turns_at_each_moment(rt: HostRuntime) -> Result<(), Fail> {
     let alloc = rt.alloc();
     let mut host = Host::new(alloc, 2);
-    assert_eq!(rt; add(&mut host, alloc, "a", LEFT, "after 8 {puts a}; after 5 {puts b; puts c}", 100)?, None);
-    assert_eq!(rt; add(&mut host, alloc, "b", RIGHT, "after 5 {puts d; puts e}", 100)?, None);
+    assert_eq!(rt;
+        add(
+            &mut host,
+            alloc,
+            "a",
+            LEFT,
+            "after 8 {puts a}; after 5 {puts b; puts c}",
+            100
+        )?,
+        None
+    );
+    assert_eq!(rt;
+        add(
+            &mut host,
+            alloc,
+            "b",
+            RIGHT,
+            "after 5 {puts d; puts e}",
+            100
+        )?,
+        None
+    );
     host.start()?;
     assert!(rt; are_turns(&host, &[(0, 2), (1, 1)]));
     assert_eq!(rt; advance(&mut host, 6), None);

@@ -10,7 +10,7 @@ invariant-rounds l = record {
   moment : l.shared.moment ≡ l.fn.shared.moment;
   done : map (stage_done l.fn.shared.moment) l.shared.parts ≡ map (stage_done l.fn.shared.moment) l.fn.shared.parts;
   turns : l.shared.turns ++ turns_of l.slice (map (needs l.fn.shared.moment) l.shared.parts)
-  ≡ l.fn.shared.turns ++ turns_of l.slice (map (needs l.fn.shared.moment) l.fn.shared.parts);
+      ≡ l.fn.shared.turns ++ turns_of l.slice (map (needs l.fn.shared.moment) l.fn.shared.parts);
   last : l.more ≡ false → l.shared.parts ≡ map (stage_done l.fn.shared.moment) l.fn.shared.parts;
 }
 

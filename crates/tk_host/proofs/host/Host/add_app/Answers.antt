@@ -33,12 +33,11 @@ invariant_of-self-2 c =
     let app = given c.args.name c.args.rect c.args.script c.args.budget in
     let shared : Applications = c.self.inside.shared in
     let adding : c.self.inside.phase ≡ Adding =
-        ap (λ (h : Hosted). h.held.phase) c.self.view_is ∙ adding_if_not_refused c.args.self.now.held.phase none.0 none.1.0 none.1.1.0 in
-    let now : c.add.new.self ≡ record shared { parts = shared.parts ++ added app.spec ∷ [] } = c.in_ok-add.ensures.added in
-    (
+    ap (λ (h : Hosted). h.held.phase) c.self.view_is ∙ adding_if_not_refused c.args.self.now.held.phase none.0 none.1.0 none.1.1.0 in
+    let now : c.add.new.self ≡ record shared { parts = shared.parts ++ added app.spec ∷ [] } = c.in_ok-add.ensures.added in (
       c.self.invariant.0,
       subst (λ (h : Applications). IsReady c.self.inside.phase h.moment h.parts) (sym now)
-      (ready_more c.self.inside.phase shared.moment shared.parts app.spec adding c.self.invariant.1),
+          (ready_more c.self.inside.phase shared.moment shared.parts app.spec adding c.self.invariant.1),
     )
 
 pub returns-clause-history : goal.returns-clause-history
@@ -47,6 +46,6 @@ returns-clause-history c = λ calls held.
     let app = given c.args.name c.args.rect c.args.script c.args.budget in
     let inside = c.self.inside in
     let now : seen inside.phase c.push.new.self.items inside.slice c.add.new.self ≡ with_app app c.args.self.now =
-        added_is inside.phase inside.rects.items c.push.new.self.items inside.slice inside.shared c.add.new.self c.args.self.now app c.self.view_is
-        (c.in-Ok.ensures.items ∙ ap (λ rects. rects ++ rect_of app ∷ []) c.in_ok-reserve.ensures.items) c.in_ok-add.ensures.added in
+    added_is inside.phase inside.rects.items c.push.new.self.items inside.slice inside.shared c.add.new.self c.args.self.now app c.self.view_is
+    (c.in-Ok.ensures.items ∙ ap (λ rects. rects ++ rect_of app ∷ []) c.in_ok-reserve.ensures.items) c.in_ok-add.ensures.added in
     history_of_add calls app c.args.self.now _ held (adding_if_not_refused c.args.self.now.held.phase none.0 none.1.0 none.1.1.0) (ap (λ (h : Hosted). h.held) now)

@@ -11,10 +11,12 @@ use Rattle.tk_host.proofs.host.Host.start.Goals as goal
 pub invariant_of-self-2 : goal.invariant_of-self-2
 invariant_of-self-2 c =
     let shared = c.self.inside.shared in
-    let ready : IsReady Adding shared.moment shared.parts = subst (λ phase. IsReady phase shared.moment shared.parts) c.in-Adding.is c.self.invariant.1 in
-    (c.self.invariant.0, ready_started shared.moment c.stage.new.shared.moment shared.parts c.stage.new.shared.parts ready
-      (c.in_ok-stage.ensures.moment ∙ ap (λ (h : Applications). h.moment) c.clear_turns.ensures)
-      (c.in_ok-stage.ensures.done ∙ ap (λ (h : Applications). map (stage_done h.moment) h.parts) c.clear_turns.ensures))
+    let ready : IsReady Adding shared.moment shared.parts = subst (λ phase. IsReady phase shared.moment shared.parts) c.in-Adding.is c.self.invariant.1 in (
+      c.self.invariant.0,
+      ready_started shared.moment c.stage.new.shared.moment shared.parts c.stage.new.shared.parts ready
+          (c.in_ok-stage.ensures.moment ∙ ap (λ (h : Applications). h.moment) c.clear_turns.ensures)
+          (c.in_ok-stage.ensures.done ∙ ap (λ (h : Applications). map (stage_done h.moment) h.parts) c.clear_turns.ensures),
+    )
 
 pub returns-clause-started : goal.returns-clause-started
 returns-clause-started c =

@@ -1,7 +1,7 @@
-use tk_sequences::{EventType, VirtualName};
 use std::alloc::AllocError;
 use tcl_text::Text;
 use tk_keys::Keysym;
+use tk_sequences::{EventType, VirtualName};
 
 /// What happens.
 #[derive(Drop)]

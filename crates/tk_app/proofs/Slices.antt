@@ -222,3 +222,19 @@ module _ (program : Program) (panel panel' : Shown) (interp interp' : Interp Set
       (ap (stage_done panel.moment) (going_as state)
       ∙ goes_on panel.moment before.application (rest_of interp) (context_of interp).levels runs running left (rest_of interp') same running' stands)
       took (runs, λ rests. goes_work (rest_of interp') (context_of interp').levels running' (sym work_then ∙ rests))
+
+-- what runs and doesn't rest has an interpreter that goes on
+pub going_rest : (program : Program) (state : AppState) (rest : Rest Settling) (levels : List ℕ) → state ≡ program.state → work_by state (work_of rest levels) ≡ program.work
+    → program.state ≡ Running → program.work ≢ Rests → IsRunning rest
+going_rest program state rest levels same work runs goes =
+    rest_goes rest levels (λ rests. goes (sym work ∙ ap (λ s. work_by s (work_of rest levels)) (same ∙ runs) ∙ rests))
+
+pub not_idle : (rest : Rest Settling) → IsRunning rest → rest ≢ Idle
+not_idle rest (doing, waits, is) idle = let gone : RestRunning doing waits ≡ Idle = sym is ∙ idle in cc
+
+-- settling that has begun doesn't rest
+pub settling_goes : (state : AppState) (moment : ℕ) (work : Work) → state ≡ Running → settling_as state moment work ≢ Rests
+settling_goes Running moment Rests runs rests = cc
+settling_goes Running moment (Goes levels doing waits) runs rests = cc
+settling_goes Exhausted moment work runs rests = cc
+settling_goes Closed moment work runs rests = cc

@@ -1,5 +1,5 @@
 -- The parts, after a change to what is of one of them.
-use Rattle.std.proofs.Common.{◌≡◌, ◌≢◌, ℕ, zero, suc, ◌+◌, ◌<◌, ◌≤◌, List, [], ◌∷◌, ◌++◌, length, get_or, set, inl, inr, refl, sym, ap, ◌∙◌, arith}
+use Rattle.std.proofs.Common.{◌≡◌, ◌≢◌, ℕ, zero, suc, ◌+◌, ◌<◌, ◌≤◌, List, [], ◌∷◌, ◌++◌, length, get_or, set, refl, sym, ap, ◌∙◌, arith}
 use Rattle.std.specs.Prelude.{Any, Option, Some, option_map, slice_get}
 use Rattle.std.proofs.lemmas.Option.{slice_get_read}
 use Rattle.tk_app.specs.declared.tables.Tables.{Tables}
@@ -77,14 +77,19 @@ of_slot f tables ps parts i p x is lt at told = ap (option_map f) (get_parts tab
 
 -- ── names ──
 
-pub name_in_parts : (name : List ℕ) (n : ℕ) (tables : Tables) (ps : List Program) → Any (λ (p : Program). p.name ≡ name) ps → Any (λ (part : Part). part.application.name ≡ name) (parts_from n tables ps)
-unfolding parts_from
-name_in_parts name n tables [] none = none
-name_in_parts name n tables (p ∷ ps) (inl here) = inl here
-name_in_parts name n tables (p ∷ ps) (inr later) = inr (name_in_parts name (n + 1) tables ps later)
+somewhere : (ps : List Program) (k : ℕ) → k < length ps → (p : Program) × (get_or ps k p ≡ p)
+somewhere [] k lt = absurd (omega (arith, lt))
+somewhere (p ∷ ps) zero lt = (p, refl)
+somewhere (p ∷ ps) (suc k) lt = somewhere ps k (omega (arith, lt))
 
-pub name_of_part : (name : List ℕ) (n : ℕ) (tables : Tables) (ps : List Program) → Any (λ (part : Part). part.application.name ≡ name) (parts_from n tables ps) → Any (λ (p : Program). p.name ≡ name) ps
-unfolding parts_from
-name_of_part name n tables [] none = none
-name_of_part name n tables (p ∷ ps) (inl here) = inl here
-name_of_part name n tables (p ∷ ps) (inr later) = inr (name_of_part name (n + 1) tables ps later)
+pub name_in_parts : (name : List ℕ) (tables : Tables) (ps : List Program) → Any (λ (p : Program). p.name ≡ name) ps → Any (λ (part : Part). part.application.name ≡ name) (parts_from 0 tables ps)
+name_in_parts name tables ps (k, p, lt, at, is) =
+    let part = part_of (panel_of k tables) p in
+    (k, part, omega (arith, lt, length-parts_from 0 tables ps), get_from 0 tables ps k k part p lt (omega arith) ∙ ap (part_of (panel_of k tables)) at, is)
+
+pub name_of_part : (name : List ℕ) (tables : Tables) (ps : List Program) → Any (λ (part : Part). part.application.name ≡ name) (parts_from 0 tables ps) → Any (λ (p : Program). p.name ≡ name) ps
+name_of_part name tables ps (k, part, lt, at, is) =
+    let lt' : k < length ps = omega (arith, lt, length-parts_from 0 tables ps) in
+    let here = somewhere ps k lt' in
+    let same : part ≡ part_of (panel_of k tables) here.0 = sym at ∙ get_from 0 tables ps k k part here.0 lt' (omega arith) ∙ ap (part_of (panel_of k tables)) here.1 in
+    (k, here.0, lt', here.1, sym (ap (λ (q : Part). q.application.name) same) ∙ is)

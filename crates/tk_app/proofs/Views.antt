@@ -1,6 +1,6 @@
 -- All applications, after a call on one of them.
 use Rattle.std.proofs.Common.{◌≡◌, ◌≢◌, ℕ, zero, suc, ◌-◌, ◌<◌, ◌≤◌, ◌++◌, min, List, [], ◌∷◌, length, get_or, set, refl, sym, ap, ◌∙◌, arith}
-use Rattle.std.specs.Prelude.{Option, Some, Result, Ok, Err, IfOk, option_map, slice_get, slice_set}
+use Rattle.std.specs.Prelude.{Option, Some, Result, Ok, Err, IfOk, OnErr, option_map, slice_get, slice_set}
 use Rattle.std.proofs.lemmas.List.{append-nil, length-set}
 use Rattle.tk_turns.specs.declared.turn.Turn.{Turn}
 use Rattle.tk_turns.specs.Rounds.{entry}
@@ -60,3 +60,7 @@ held_kept slot old new programs after few seats vacant lt count others =
 pub slot_held : (slot : ℕ) (old new : Tables) (programs : List Program) (after : Program) (parts : List Part) → parts_from 0 old programs ≡ parts → slot < length parts → slot < length (parts_from 0 new (set programs slot after))
 slot_held slot old new programs after parts is lt =
     omega (arith, lt, ap (λ ps. length ps) is, length-parts_from 0 old programs, length-parts_from 0 new (set programs slot after), length-set programs slot after)
+
+pub on_err : {T E : Type 0} (result : Result T E) (F : Type 0) → F → OnErr result F
+on_err (Ok x) F fact = tt
+on_err (Err e) F fact = fact

@@ -5,16 +5,11 @@ use Rattle.tk_app.specs.declared.state.AppState.TheVariants.{Exhausted}
 use Rattle.tk_app.specs.Part.{work_of}
 use Rattle.tk_app.specs.Tables.{panel_of}
 use Rattle.tk_app.specs.Turns.{Program, TakesTurn, part_of, work_by}
-use Rattle.tk_app.proofs.Slices.{going_rest, not_idle, ran, turn_goes_on, turn_settles, turn_stops}
+use Rattle.tk_app.proofs.Slices.{going_rest, more_of, not_idle, ran, settled_of, stopped_of, turn_goes_on, turn_settles, turn_stops}
 use Rattle.tk_app.proofs.runner.Runner.go_on.Goals as goal
 
-pub run-requires-clause-begun : goal.run-requires-clause-begun
-run-requires-clause-begun c =
-    let i = c.self.inside in
-    not_idle (rest_of i.interp) (going_rest c.args.self.now i.state (rest_of i.interp) (context_of i.interp).levels (ap (λ (p : Program). p.state) c.self.view_is) (ap (λ (p : Program). p.work) c.self.view_is) c.requires.running c.requires.going)
-
-pub returns-in-Done-clause-turn : goal.returns-in-Done-clause-turn
-returns-in-Done-clause-turn c =
+pub returns-in-Settled-clause-turn : goal.returns-in-Settled-clause-turn
+returns-in-Settled-clause-turn c =
     let i = c.self.inside in
     let program : Program = record {
       name = i.name; title = i.title; budget = i.budget; store = i.scopes; commands = (context_of i.interp).commands; steps = left_of i.interp; state = i.state;
@@ -25,8 +20,9 @@ returns-in-Done-clause-turn c =
     let runs = ap (λ (p : Program). p.state) c.self.view_is ∙ c.requires.running in
     let running = going_rest c.args.self.now i.state (rest_of i.interp) (context_of i.interp).levels (ap (λ (p : Program). p.state) c.self.view_is) (ap (λ (p : Program). p.work) c.self.view_is) c.requires.running c.requires.going in
     let end = c.in_ok-end.ensures in
+    let is = settled_of c.in_ok-end.end (sym c.end_of-ended.ensures ∙ c.in-Settled.is) in
     subst (λ (p : Program). TakesTurn panel.moment c.args.steps Settled (part_of panel p) (part_of panel' (ran program c.run.new.interp c.run.new.scopes i.state))) c.self.view_is
-    (turn_settles program panel panel' i.interp c.run.new.interp i.scopes c.run.new.scopes i.state runs end.setting running c.args.steps _ _ (rw c.in-Done.is at end.reached) (rw c.in-Done.is at end.rest) end.most)
+    (turn_settles program panel panel' i.interp c.run.new.interp i.scopes c.run.new.scopes i.state runs end.setting running c.args.steps is.0 is.1 (rw is.2 at end.reached) (rw is.2 at end.rest) end.most)
 
 pub returns-in-More-clause-turn : goal.returns-in-More-clause-turn
 returns-in-More-clause-turn c =
@@ -40,11 +36,12 @@ returns-in-More-clause-turn c =
     let runs = ap (λ (p : Program). p.state) c.self.view_is ∙ c.requires.running in
     let running = going_rest c.args.self.now i.state (rest_of i.interp) (context_of i.interp).levels (ap (λ (p : Program). p.state) c.self.view_is) (ap (λ (p : Program). p.work) c.self.view_is) c.requires.running c.requires.going in
     let end = c.in_ok-end.ensures in
+    let is = more_of c.in_ok-end.end (sym c.end_of-ended.ensures ∙ c.in-More.is) in
     subst (λ (p : Program). TakesTurn panel.moment c.args.steps More (part_of panel p) (part_of panel' (ran program c.run.new.interp c.run.new.scopes i.state))) c.self.view_is
-    (turn_goes_on program panel panel' i.interp c.run.new.interp i.scopes c.run.new.scopes i.state runs end.setting running c.args.steps (rw c.in-More.is at end.reached) (rw c.in-More.is at end.rest) (end.more (ap Ok c.in-More.is)))
+    (turn_goes_on program panel panel' i.interp c.run.new.interp i.scopes c.run.new.scopes i.state runs end.setting running c.args.steps (rw is at end.reached) (rw is at end.rest) (end.more (ap Ok is)))
 
-pub returns-in-Exhausted-clause-turn : goal.returns-in-Exhausted-clause-turn
-returns-in-Exhausted-clause-turn c =
+pub returns-in-Stopped-clause-turn : goal.returns-in-Stopped-clause-turn
+returns-in-Stopped-clause-turn c =
     let i = c.self.inside in
     let program : Program = record {
       name = i.name; title = i.title; budget = i.budget; store = i.scopes; commands = (context_of i.interp).commands; steps = left_of i.interp; state = i.state;
@@ -55,5 +52,6 @@ returns-in-Exhausted-clause-turn c =
     let runs = ap (λ (p : Program). p.state) c.self.view_is ∙ c.requires.running in
     let running = going_rest c.args.self.now i.state (rest_of i.interp) (context_of i.interp).levels (ap (λ (p : Program). p.state) c.self.view_is) (ap (λ (p : Program). p.work) c.self.view_is) c.requires.running c.requires.going in
     let end = c.in_ok-end.ensures in
+    let is = stopped_of c.in_ok-end.end (sym c.end_of-ended.ensures ∙ c.in-Stopped.is) in
     subst (λ (p : Program). TakesTurn panel.moment c.args.steps Stopped (part_of panel p) (part_of panel' (ran program c.run.new.interp c.run.new.scopes Exhausted))) c.self.view_is
-    (turn_stops program panel panel' i.interp c.run.new.interp i.scopes c.run.new.scopes i.state runs end.setting running c.args.steps (rw c.in-Exhausted.is at end.reached) (end.exhausted (ap Ok c.in-Exhausted.is)) end.most)
+    (turn_stops program panel panel' i.interp c.run.new.interp i.scopes c.run.new.scopes i.state runs end.setting running c.args.steps (rw is at end.reached) (end.exhausted (ap Ok is)) end.most)

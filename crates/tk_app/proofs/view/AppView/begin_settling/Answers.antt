@@ -15,7 +15,7 @@ index_mut-runner-requires c =
 pub invariant_of-self : goal.invariant_of-self
 invariant_of-self c =
     let old = c.shared.inside in
-    slot_held c.args.self.now.slot old.tables old.tables old.runners.items c.begin.new.self c.args.self.now.shared.now.parts (ap (λ (h : Applications). h.parts) c.shared.view_is) c.args.self.now.held
+    record { held = slot_held c.args.self.now.slot old.tables old.tables old.runners.items c.begin.new.self c.args.self.now.shared.now.parts (ap (λ (h : Applications). h.parts) c.shared.view_is) c.args.self.now.held }
 
 pub returns-clause-begun : goal.returns-clause-begun
 returns-clause-begun c =
@@ -25,7 +25,7 @@ returns-clause-begun c =
     let after : Program = c.begin.new.self in
     let lt : i < length old.runners.items = in_range c.shared.inside.tables c.shared.inside.runners.items c.args.self.now.shared.now.parts c.args.self.now.slot (ap (λ (h : Applications). h.parts) c.shared.view_is) c.args.self.now.held in
     let begun : after ≡ record r { work = settling_as r.state old.tables.clock r.work } =
-    c.in_ok-begin.ensures.ok ∙ ap (λ (m : ℕ). record r { work = settling_as r.state m r.work }) c.moment.ensures.moment in
+    c.in_ok-begin.ensures.ok ∙ ap (λ (m : ℕ). record r { work = settling_as r.state m r.work }) c.moment-moment.ensures.moment in
     let held : List Part → Applications = λ parts. record { moment = old.tables.clock; parts = parts; turns = old.turns.items; refused = old.refused } in
     let parts = parts_from 0 old.tables old.runners.items in
     subst (λ (h : Applications). BeginsIn i h (held (parts_from 0 old.tables (set old.runners.items i after)))) c.shared.view_is (record {

@@ -24,7 +24,7 @@ invariant_of-shared c =
 pub invariant_of-self-in-Break-1 : goal.invariant_of-self-in-Break-1
 invariant_of-self-in-Break-1 c =
     let old = c.shared.inside in
-    slot_held c.args.self.now.slot old.tables c.take_turn.new.tables old.runners.items c.take_turn.new.runner c.args.self.now.shared.now.parts (ap (λ (h : Applications). h.parts) c.shared.view_is) c.args.self.now.held
+    record { held = slot_held c.args.self.now.slot old.tables c.take_turn.new.tables old.runners.items c.take_turn.new.runner c.args.self.now.shared.now.parts (ap (λ (h : Applications). h.parts) c.shared.view_is) c.args.self.now.held }
 
 pub returns-in_err-end-clause-only : goal.returns-in_err-end-clause-only
 returns-in_err-end-clause-only c =
@@ -52,7 +52,7 @@ invariant_of-shared-2 c =
 pub invariant_of-self-2 : goal.invariant_of-self-2
 invariant_of-self-2 c =
     let old = c.shared.inside in
-    slot_held c.args.self.now.slot old.tables c.take_turn.new.tables old.runners.items c.take_turn.new.runner c.args.self.now.shared.now.parts (ap (λ (h : Applications). h.parts) c.shared.view_is) c.args.self.now.held
+    record { held = slot_held c.args.self.now.slot old.tables c.take_turn.new.tables old.runners.items c.take_turn.new.runner c.args.self.now.shared.now.parts (ap (λ (h : Applications). h.parts) c.shared.view_is) c.args.self.now.held }
 
 pub returns-clause-only : goal.returns-clause-only
 returns-clause-only c =

@@ -79,7 +79,7 @@ module _ {S K : Type 0} (outside : Outside S K) where
   within_doing n (Resumes room task code text) state w = within_task outside (run_in room) (falls_in room) n task state code text w
   within_doing n (Ends code text) state w = w
 
-  within_part : (n : ℕ) (w : Wording) (state : State S) (piece : List ℕ) → state.steps ≤ n → Within n (waiting_meaning outside (ForPart {K} w) state Normal piece)
+  within_part : (n : ℕ) (w : Wording) (state : State S) (piece : List ℕ) → state.steps ≤ n → Within n (waiting_meaning outside (ForPart w) state Normal piece)
   within_part n x state piece w =
       within_and_then n _ _
       (within_cond n (nat_le (length (x.so_far ++ piece)) 65536) _ _ (within_word_rest n x.room x.pieces (x.so_far ++ piece) x.expand x.words x.whole state w) w)

@@ -6,6 +6,8 @@ use Rattle.tcl_vars.specs.Store.{Store}
 use Rattle.tcl_interp.specs.Evaluation.{State, Outcome, Ended, OutOfSteps}
 use Rattle.tcl_interp.specs.Finish.{Doing, Waiting, Rest, Running as RestRunning, Idle, Spent, Broken, finish}
 use Rattle.tcl_interp.specs.declared.interp.Interp.{Interp}
+use Rattle.tcl_interp.specs.declared.interp.SliceEnd.{SliceEnd}
+use Rattle.tcl_interp.specs.declared.interp.SliceEnd.TheVariants as slice
 use Rattle.tcl_interp.specs.Interp.{IsRunning, context_of, left_of, rest_of, state_of}
 use Rattle.tcl_interp.proofs.Bounds.{Within}
 use Rattle.tcl_interp.proofs.Finishing.{within_finish}
@@ -19,7 +21,7 @@ use Rattle.tk_app.specs.Outside.{outside}
 use Rattle.tk_app.specs.Part.{Part, Work, Rests, Goes, after_outcome, done_as, needs, settling_as, settling_begun, stage_done, state_in, with_left, work_of}
 use Rattle.tk_app.specs.declared.window.Size.{Size}
 use Rattle.tk_app.specs.Shown.{Setting, Shown, setting_of}
-use Rattle.tk_app.specs.Turns.{EndsAs, Program, TakesTurn, application_of, part_of, work_by}
+use Rattle.tk_app.specs.Turns.{EndsAs, Program, TakesTurn, application_of, end_of, part_of, work_by}
 
 -- ── what is under way ──
 
@@ -222,3 +224,55 @@ module _ (program : Program) (panel panel' : Shown) (interp interp' : Interp Set
       (ap (stage_done panel.moment) (going_as state)
       ∙ goes_on panel.moment before.application (rest_of interp) (context_of interp).levels runs running left (rest_of interp') same running' stands)
       took (runs, λ rests. goes_work (rest_of interp') (context_of interp').levels running' (sym work_then ∙ rests))
+
+-- what runs and doesn't rest has an interpreter that goes on
+pub going_rest : (program : Program) (state : AppState) (rest : Rest Settling) (levels : List ℕ) → state ≡ program.state → work_by state (work_of rest levels) ≡ program.work
+    → program.state ≡ Running → program.work ≢ Rests → IsRunning rest
+going_rest program state rest levels same work runs goes =
+    rest_goes rest levels (λ rests. goes (sym work ∙ ap (λ s. work_by s (work_of rest levels)) (same ∙ runs) ∙ rests))
+
+pub not_idle : (rest : Rest Settling) → IsRunning rest → rest ≢ Idle
+not_idle rest (doing, waits, is) idle = let gone : RestRunning doing waits ≡ Idle = sym is ∙ idle in cc
+
+-- settling that has begun doesn't rest
+pub settling_goes : (state : AppState) (moment : ℕ) (work : Work) → state ≡ Running → settling_as state moment work ≢ Rests
+settling_goes Running moment Rests runs rests = cc
+settling_goes Running moment (Goes levels doing waits) runs rests = cc
+settling_goes Exhausted moment work runs rests = cc
+settling_goes Closed moment work runs rests = cc
+
+-- ── how a slice ended ──
+
+pub settled_of : (end : SliceEnd) → end_of end ≡ Settled → (code : Code) × (text : List ℕ) × (end ≡ slice.Done code text)
+settled_of (slice.Done code text) is = (code, text, refl)
+settled_of slice.More is = absurd (let wrong : More ≡ Settled = is in cc)
+settled_of slice.Exhausted is = absurd (let wrong : Stopped ≡ Settled = is in cc)
+
+pub more_of : (end : SliceEnd) → end_of end ≡ More → end ≡ slice.More
+more_of (slice.Done code text) is = absurd (let wrong : Settled ≡ More = is in cc)
+more_of slice.More is = refl
+more_of slice.Exhausted is = absurd (let wrong : Stopped ≡ More = is in cc)
+
+pub stopped_of : (end : SliceEnd) → end_of end ≡ Stopped → end ≡ slice.Exhausted
+stopped_of (slice.Done code text) is = absurd (let wrong : Settled ≡ Stopped = is in cc)
+stopped_of slice.More is = absurd (let wrong : More ≡ Stopped = is in cc)
+stopped_of slice.Exhausted is = refl
+
+-- ── an application that doesn't run ──
+
+pub work_stops : (state : AppState) (work : Work) → state ≢ Running → work_by state work ≡ Rests
+work_stops Running work stopped = absurd (stopped refl)
+work_stops Exhausted work stopped = refl
+work_stops Closed work stopped = refl
+
+settling_stops : (state : AppState) (moment : ℕ) (work : Work) → state ≢ Running → settling_as state moment work ≡ work
+settling_stops Running moment work stopped = absurd (stopped refl)
+settling_stops Exhausted moment work stopped = refl
+settling_stops Closed moment work stopped = refl
+
+-- its turn is none
+pub stopped_turn : (moment steps : ℕ) (part : Part) → part.application.state ≢ Running → part.work ≡ Rests → TakesTurn moment steps Stopped (settling_begun moment part) part
+stopped_turn moment steps part stopped rests =
+    let stays : part ≡ settling_begun moment part = ap (λ w. record part { work = w }) (sym (settling_stops part.application.state moment part.work stopped)) in
+    subst (λ (begun : Part). TakesTurn moment steps Stopped begun part) stays
+    (turn_last moment steps Stopped part part (sym (rests_stays moment part rests)) (omega arith) (λ e. cc) (stopped, rests))

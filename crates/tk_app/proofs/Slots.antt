@@ -1,6 +1,6 @@
 -- The parts, after a change to what is of one of them.
 use Rattle.std.proofs.Common.{◌≡◌, ◌≢◌, ℕ, zero, suc, ◌+◌, ◌<◌, ◌≤◌, List, [], ◌∷◌, ◌++◌, length, get_or, set, refl, sym, ap, ◌∙◌, arith}
-use Rattle.std.specs.Prelude.{Option, Some, option_map, slice_get}
+use Rattle.std.specs.Prelude.{Any, Option, Some, option_map, slice_get}
 use Rattle.std.proofs.lemmas.Option.{slice_get_read}
 use Rattle.tk_app.specs.declared.tables.Tables.{Tables}
 use Rattle.tk_app.specs.Part.{Part}
@@ -65,3 +65,31 @@ push_from n tables (x ∷ ps) p j e = ap (λ parts. part_of (panel_of n tables) 
 
 pub push_parts : (tables : Tables) (ps : List Program) (p : Program) → parts_from 0 tables (ps ++ p ∷ []) ≡ parts_from 0 tables ps ++ part_of (panel_of (length ps) tables) p ∷ []
 push_parts tables ps p = push_from 0 tables ps p (length ps) (omega arith)
+
+-- ── what is told of a slot ──
+
+pub in_range : (tables : Tables) (ps : List Program) (parts : List Part) (i : ℕ) → parts_from 0 tables ps ≡ parts → i < length parts → i < length ps
+in_range tables ps parts i is lt = omega (arith, lt, length-parts_from 0 tables ps, ap (λ qs. length qs) is)
+
+pub of_slot : {T : Type 0} (f : Part → T) (tables : Tables) (ps : List Program) (parts : List Part) (i : ℕ) (p : Program) (x : T) → parts_from 0 tables ps ≡ parts → i < length parts → p ≡ get_or ps i p
+    → x ≡ f (part_of (panel_of i tables) p) → option_map f (slice_get parts i) ≡ Some x
+of_slot f tables ps parts i p x is lt at told = ap (option_map f) (get_parts tables ps parts i p is (in_range tables ps parts i is lt) at) ∙ ap Some (sym told)
+
+-- ── names ──
+
+somewhere : (ps : List Program) (k : ℕ) → k < length ps → (p : Program) × (get_or ps k p ≡ p)
+somewhere [] k lt = absurd (omega (arith, lt))
+somewhere (p ∷ ps) zero lt = (p, refl)
+somewhere (p ∷ ps) (suc k) lt = somewhere ps k (omega (arith, lt))
+
+pub name_in_parts : (name : List ℕ) (tables : Tables) (ps : List Program) → Any (λ (p : Program). p.name ≡ name) ps → Any (λ (part : Part). part.application.name ≡ name) (parts_from 0 tables ps)
+name_in_parts name tables ps (k, p, lt, at, is) =
+    let part = part_of (panel_of k tables) p in
+    (k, part, omega (arith, lt, length-parts_from 0 tables ps), get_from 0 tables ps k k part p lt (omega arith) ∙ ap (part_of (panel_of k tables)) at, is)
+
+pub name_of_part : (name : List ℕ) (tables : Tables) (ps : List Program) → Any (λ (part : Part). part.application.name ≡ name) (parts_from 0 tables ps) → Any (λ (p : Program). p.name ≡ name) ps
+name_of_part name tables ps (k, part, lt, at, is) =
+    let lt' : k < length ps = omega (arith, lt, length-parts_from 0 tables ps) in
+    let here = somewhere ps k lt' in
+    let same : part ≡ part_of (panel_of k tables) here.0 = sym at ∙ get_from 0 tables ps k k part here.0 lt' (omega arith) ∙ ap (part_of (panel_of k tables)) here.1 in
+    (k, here.0, lt', here.1, sym (ap (λ (q : Part). q.application.name) same) ∙ is)

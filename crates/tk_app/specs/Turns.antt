@@ -1,6 +1,8 @@
 -- All applications side by side, and what a turn of one of them makes of all.
 use Rattle.std.specs.Prelude.{◌≡◌, ◌≢◌, ◌⊎◌, ℕ, zero, suc, ◌+◌, ◌-◌, ◌≤◌, Bool, List, [], ◌∷◌, ◌++◌, Some, min, slice_get, slice_set}
 use Rattle.tcl_vars.specs.Store.{Store}
+use Rattle.tcl_interp.specs.declared.interp.SliceEnd.{SliceEnd}
+use Rattle.tcl_interp.specs.declared.interp.SliceEnd.TheVariants as slice
 use Rattle.tcl_interp.specs.Finish.{Rest, Idle, Spent, Broken}
 use Rattle.tcl_interp.specs.Interp.{IsRunning}
 use Rattle.tcl_control.specs.Table.{Table}
@@ -112,6 +114,14 @@ pub record BeginsIn (slot : ℕ) (old new : Applications) : Type 0 where
   pub before : Part
   pub was : slice_get old.parts slot ≡ Some before
   pub changed : new ≡ record old { parts = slice_set old.parts slot (settling_begun old.moment before) }
+
+-- ── slices ──
+
+-- how a turn ends, by how the interpreter's slice does
+abbrev pub end_of : SliceEnd → AppEnd
+end_of (slice.Done code text) = Settled
+end_of slice.More = More
+end_of slice.Exhausted = Stopped
 
 -- ── how far a runner has come ──
 

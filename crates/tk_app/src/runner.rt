@@ -6,7 +6,7 @@ ghost use Rattle.tk_app.specs.Outside.{outside};
 ghost use Rattle.tk_app.specs.Part.{settling_begun};
 ghost use Rattle.tk_app.specs.Shown.{setting_of};
 ghost use Rattle.tk_app.specs.Tables.{others_of, panel_of};
-ghost use Rattle.tk_app.specs.Turns.{TakesTurn, part_of};
+ghost use Rattle.tk_app.specs.Turns.{TakesTurn, end_of, part_of};
 ghost use Rattle.tk_turns.specs.Rounds.{entry};
 
 use crate::budget::Budget;
@@ -182,21 +182,33 @@ impl Runner {
     {
         self.progress = Progress::Lost;
         let end = run(tables, slot, &mut self.interp, &mut self.scopes, steps)?;
-        match end {
-            SliceEnd::Done(_code, _text) => {
+        let ended = end_of(end);
+        match ended {
+            AppEnd::Settled => {
                 self.progress = Progress::Resting;
                 Ok(AppEnd::Settled)
             }
-            SliceEnd::More => {
+            AppEnd::More => {
                 self.progress = Progress::Going;
                 Ok(AppEnd::More)
             }
-            SliceEnd::Exhausted => {
+            AppEnd::Stopped => {
                 self.progress = Progress::Resting;
                 self.state = AppState::Exhausted;
                 Ok(AppEnd::Stopped)
             }
         }
+    }
+}
+
+/// How a turn ends, by how the interpreter's slice does.
+fn end_of(end: SliceEnd) -> AppEnd
+    ensures { result ≡ end_of end }
+{
+    match end {
+        SliceEnd::Done(_code, _text) => AppEnd::Settled,
+        SliceEnd::More => AppEnd::More,
+        SliceEnd::Exhausted => AppEnd::Stopped,
     }
 }
 

@@ -44,7 +44,8 @@ impl Shared {
     ghost use Rattle.tk_app.specs.Part.{added, is_under_way};
     ghost use Rattle.tk_app.specs.Section.{section};
 
-    /// No application, at moment 0.
+    /// No application, at moment 0. It takes no memory.
+    #[tactic(auto, unfolding(crate::specs::Turns::parts_from))]
     pub fn new(alloc: Global) -> Shared
         ensures { result ≡ record { moment = 0; parts = []; turns = []; refused = false } }
     {
@@ -120,7 +121,8 @@ impl Shared {
         requires { slot < length self.now.parts }
         ensures { option_map (λ part. is_under_way part.work) (slice_get self.now.parts slot) ≡ Some result }
     {
-        self.runners[slot].is_under_way()
+        let runner = &self.runners[slot];
+        runner.is_under_way()
     }
 
     /// What has become of an application. It takes no memory.
@@ -128,7 +130,8 @@ impl Shared {
         requires { slot < length self.now.parts }
         ensures { option_map (λ part. part.application.state) (slice_get self.now.parts slot) ≡ Some result }
     {
-        self.runners[slot].state()
+        let runner = &self.runners[slot];
+        runner.state()
     }
 
     /// The moment at which the earliest timer of an application is due, while it runs. It takes no memory.
@@ -136,7 +139,8 @@ impl Shared {
         requires { slot < length self.now.parts }
         ensures { option_map (λ part. next_due part.application) (slice_get self.now.parts slot) ≡ Some result }
     {
-        next_due(&self.tables, slot, self.runners[slot].state())
+        let runner = &self.runners[slot];
+        next_due(&self.tables, slot, runner.state())
     }
 
     /// How many steps an application has left. It takes no memory.
@@ -144,7 +148,8 @@ impl Shared {
         requires { slot < length self.now.parts }
         ensures { option_map (λ part. part.application.steps) (slice_get self.now.parts slot) ≡ Some result }
     {
-        self.runners[slot].steps_left()
+        let runner = &self.runners[slot];
+        runner.steps_left()
     }
 
     /// The section of an application, in bytes: what it wrote, its windows, and what it has waiting.
@@ -152,7 +157,8 @@ impl Shared {
         requires { slot < length self.now.parts }
         ensures { IfOk result (λ bytes. option_map (λ part. section part.application) (slice_get self.now.parts slot) ≡ Some bytes.items) }
     {
-        let bytes = section(alloc, &self.tables, slot, &self.runners[slot])?;
+        let runner = &self.runners[slot];
+        let bytes = section(alloc, &self.tables, slot, runner)?;
         Ok(bytes)
     }
 

@@ -58,7 +58,8 @@ impl AppView<'_> {
         let alloc = shared.tables.alloc;
         let moment = shared.tables.clock.moment();
         let runner = &mut shared.runners[slot];
-        runner.begin(alloc, moment)
+        runner.begin(alloc, moment)?;
+        Ok(())
     }
 
     /// Whether it has something to do that has begun. It takes no memory.

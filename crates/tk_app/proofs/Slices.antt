@@ -177,7 +177,7 @@ ran program interp store state =
 
 -- a slice of an interpreter, between what its application had in the tables and what it has then
 module _ (program : Program) (panel panel' : Shown) (interp interp' : Interp Settling) (store store' : Store) (state : AppState) (runs : state ≡ Running)
-  (setting : setting_of panel' ≡ setting_of panel) (running : IsRunning (rest_of interp)) where
+    (setting : setting_of panel' ≡ setting_of panel) (running : IsRunning (rest_of interp)) where
   abbrev before : Part
   before = part_of panel (ran program interp store state)
 

@@ -46,8 +46,7 @@ pub held_kept : (slot : ℕ) (old new : Tables) (programs : List Program) (after
     → length new.windows ≡ length old.windows → others_of slot new ≡ others_of slot old
     → (length (set programs slot after) ≤ 16) × (length new.windows ≡ length (set programs slot after)) × IsVacantFrom (length (set programs slot after)) new
 held_kept slot old new programs after few seats vacant lt count others =
-    let same = length-set programs slot after in
-    (
+    let same = length-set programs slot after in (
       omega (arith, same, few),
       count ∙ seats ∙ sym same,
       λ k from below.

@@ -181,13 +181,7 @@ impl Runner {
         ensures others { others_of slot tables.new ≡ others_of slot tables.old }
     {
         self.progress = Progress::Lost;
-        let end = run(
-            tables,
-            slot,
-            &mut self.interp,
-            &mut self.scopes,
-            steps,
-        )?;
+        let end = run(tables, slot, &mut self.interp, &mut self.scopes, steps)?;
         let ended = end_of(end);
         match ended {
             AppEnd::Settled => {

@@ -12,7 +12,13 @@ pub returns-in-Settled-clause-turn : goal.returns-in-Settled-clause-turn
 returns-in-Settled-clause-turn c =
     let i = c.self.inside in
     let program : Program = record {
-      name = i.name; title = i.title; budget = i.budget; store = i.scopes; commands = (context_of i.interp).commands; steps = left_of i.interp; state = i.state;
+      name = i.name;
+      title = i.title;
+      budget = i.budget;
+      store = i.scopes;
+      commands = (context_of i.interp).commands;
+      steps = left_of i.interp;
+      state = i.state;
       work = work_by i.state (work_of (rest_of i.interp) (context_of i.interp).levels);
     } in
     let panel = panel_of c.args.slot c.args.tables.now in
@@ -28,7 +34,13 @@ pub returns-in-More-clause-turn : goal.returns-in-More-clause-turn
 returns-in-More-clause-turn c =
     let i = c.self.inside in
     let program : Program = record {
-      name = i.name; title = i.title; budget = i.budget; store = i.scopes; commands = (context_of i.interp).commands; steps = left_of i.interp; state = i.state;
+      name = i.name;
+      title = i.title;
+      budget = i.budget;
+      store = i.scopes;
+      commands = (context_of i.interp).commands;
+      steps = left_of i.interp;
+      state = i.state;
       work = work_by i.state (work_of (rest_of i.interp) (context_of i.interp).levels);
     } in
     let panel = panel_of c.args.slot c.args.tables.now in
@@ -44,7 +56,13 @@ pub returns-in-Stopped-clause-turn : goal.returns-in-Stopped-clause-turn
 returns-in-Stopped-clause-turn c =
     let i = c.self.inside in
     let program : Program = record {
-      name = i.name; title = i.title; budget = i.budget; store = i.scopes; commands = (context_of i.interp).commands; steps = left_of i.interp; state = i.state;
+      name = i.name;
+      title = i.title;
+      budget = i.budget;
+      store = i.scopes;
+      commands = (context_of i.interp).commands;
+      steps = left_of i.interp;
+      state = i.state;
       work = work_by i.state (work_of (rest_of i.interp) (context_of i.interp).levels);
     } in
     let panel = panel_of c.args.slot c.args.tables.now in

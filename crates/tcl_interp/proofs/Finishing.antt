@@ -7,7 +7,7 @@ use Rattle.tcl_vars.specs.Store.{element_in}
 use Rattle.tcl_control.specs.declared.code.Code.{Code}
 use Rattle.tcl_control.specs.declared.code.Code.TheVariants.{Normal, Error, Return, Break, Continue}
 use Rattle.tcl_control.specs.declared.turns.Turning.{Turning}
-use Rattle.tcl_control.specs.Texts.{element_name}
+use Rattle.tcl_control.specs.Texts.{element_name, limit_text}
 use Rattle.tcl_shapes.specs.declared.branches.Branch.{Branch}
 use Rattle.tcl_expr.specs.Evaluation.{told}
 use Rattle.tcl_interp.specs.Outside.{Outside}
@@ -89,7 +89,10 @@ module _ {S K : Type 0} (outside : Outside S K) where
   within_waiting n (ForCommand room after) state code text w = within_on_normal n _ (λ state' result w'. within_script_rest n room after result state' w') state code text w
   within_waiting n (ForPart x) state code text w = within_on_normal n _ (λ state' piece w'. within_part n x state' piece w') state code text w
   within_waiting n (ForIndex x) state code text w =
-      within_on_normal n _ (λ state' piece w'. within_cond n (nat_le (length (x.so_far ++ piece)) 65536) _ _ (within_index_rest n x (x.so_far ++ piece) state' w') w') state code text w
+      within_on_normal n (λ state' piece. with_joined x.so_far piece state' (λ state'' joined. index_rest outside x joined state''))
+      (λ state' piece w'. within_cond n (nat_le (length (x.so_far ++ piece)) 65536) (index_rest outside x (x.so_far ++ piece) state') (Ended state' Error limit_text)
+      (within_index_rest n x (x.so_far ++ piece) state' w') w')
+      state code text w
   within_waiting n (ForValue room evaluation) state code text w =
       within_on_normal n _ (λ state' value w'. within_run (run_in room) (falls_in room) n (told evaluation (Some value)) state' w') state code text w
   within_waiting n (ForTest room turning) state code text w =

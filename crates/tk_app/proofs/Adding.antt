@@ -1,12 +1,12 @@
 -- An application more in the tables.
-use Rattle.std.proofs.Common.{◌≡◌, ℕ, ◌+◌, ◌-◌, ◌≤◌, ◌<◌, List, [], ◌∷◌, ◌++◌, length, get_or, refl, sym, ap, ◌∙◌, arith}
+use Rattle.std.proofs.Common.{◌≡◌, ℕ, ◌+◌, ◌-◌, ◌≤◌, ◌<◌, List, [], ◌∷◌, ◌++◌, length, get_or, refl, ap, ◌∙◌, arith}
 use Rattle.std.proofs.lemmas.List.{get_or_append_left, get_or-append_right}
 use Rattle.tk_after.specs.Timers.{fresh as nothing_waits, own_of}
 use Rattle.tk_app.specs.declared.tables.Tables.{Tables}
 use Rattle.tk_app.specs.declared.window.MainWindow.{MainWindow}
 use Rattle.tk_app.specs.declared.window.Size.{Size}
 use Rattle.tk_app.specs.Part.{Part}
-use Rattle.tk_app.specs.Shown.{Shown, unlaid}
+use Rattle.tk_app.specs.Shown.{unlaid}
 use Rattle.tk_app.specs.Tables.{IsVacantFrom, lines_of, no_window, panel_of, window_of}
 use Rattle.tk_app.specs.Turns.{Program, part_of, parts_from}
 use Rattle.tk_app.proofs.Slots.{push_parts, same_from}

@@ -1,12 +1,12 @@
 -- What is of the other slots, slot by slot.
-use Rattle.std.proofs.Common.{◌≡◌, ◌≢◌, ◌+◌, ◌≤◌, ◌<◌, ℕ, zero, suc, Bool, true, false, cond, List, [], ◌∷◌, length, map, refl, sym, ap, ◌∙◌, arith}
+use Rattle.std.proofs.Common.{◌≡◌, ◌≢◌, ◌+◌, ◌≤◌, ◌<◌, ℕ, zero, suc, Bool, true, false, cond, List, [], ◌∷◌, map, refl, sym, ap, ◌∙◌, arith}
 use Rattle.std.specs.Prelude.{filter, not, ◌==◌, nat_eq}
 use Rattle.std.specs.Borrow.{GName}
 use Rattle.std.specs.List.{range_with_len}
 use Rattle.std.proofs.lemmas.Bool.{eqb-true, eqb-false}
 use Rattle.tk_app.specs.declared.tables.Tables.{Tables}
-use Rattle.tk_app.specs.Shown.{Shown, setting_of}
-use Rattle.tk_app.specs.Tables.{LeavesOthers, LeftAlone, left_of, others_of, panel_of}
+use Rattle.tk_app.specs.Shown.{setting_of}
+use Rattle.tk_app.specs.Tables.{LeavesOthers, left_of, others_of, panel_of}
 
 module _ {P : Type 0} (new old : ℕ → P) (slot : ℕ) where
   abbrev rest : ℕ → ℕ → List ℕ

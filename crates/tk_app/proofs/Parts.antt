@@ -1,10 +1,10 @@
 -- What a part comes to, by what is done at a moment.
-use Rattle.std.proofs.Common.{◌≡◌, ℕ, suc, ◌≤◌, ◌<◌, List, [], ◌∷◌, refl, sym, ap, ◌∙◌, arith}
+use Rattle.std.proofs.Common.{◌≡◌, ℕ, suc, List, [], refl, ap, ◌∙◌, arith}
 use Rattle.tcl_control.specs.declared.code.Code.{Code}
 use Rattle.tcl_control.specs.declared.code.Code.TheVariants.{Normal}
 use Rattle.tcl_interp.specs.Evaluation.{State, Outcome, Ended, OutOfSteps, and_then}
-use Rattle.tcl_interp.specs.Scripts.{out_of_global, resumed, script_meaning, task_meaning}
-use Rattle.tcl_interp.specs.Finish.{at_global, waits_meaning}
+use Rattle.tcl_interp.specs.Scripts.{resumed, script_meaning, task_meaning}
+use Rattle.tcl_interp.specs.Finish.{waits_meaning}
 use Rattle.tcl_interp.specs.Plans.{run_at}
 use Rattle.tcl_interp.proofs.Bounds.{within_run_at, within_script}
 use Rattle.tk_app.specs.declared.settling.Settling.TheVariants as settling
@@ -13,7 +13,7 @@ use Rattle.tk_app.specs.declared.state.AppState.TheVariants.{Running, Exhausted,
 use Rattle.tk_app.specs.Application.{Application, fresh}
 use Rattle.tk_app.specs.Global.{script_at_global, with_report}
 use Rattle.tk_app.specs.Outside.{outside}
-use Rattle.tk_app.specs.Part.{Part, Rests, BeginsWithScript, SettlesFromRest, added, after_outcome, done_as, settled, settled_as, settling_as, settling_begun, stage_done, started, state_at}
+use Rattle.tk_app.specs.Part.{Rests, BeginsWithScript, SettlesFromRest, after_outcome, done_as, settled, settled_as, settling_as, stage_done, started, state_at}
 use Rattle.tk_app.specs.Settle.{done, settle_meaning, start_meaning}
 use Rattle.tk_app.specs.Shown.{Shown}
 use Rattle.tk_app.proofs.Acts.{comes, on_step, run, script_told, told_end}

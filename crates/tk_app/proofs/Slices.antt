@@ -1,10 +1,9 @@
 -- What a slice of an application's interpreter makes of its part.
-use Rattle.std.proofs.Common.{◌≡◌, ◌≢◌, ℕ, zero, suc, ◌+◌, ◌-◌, ◌≤◌, ◌<◌, min, List, [], ◌∷◌, refl, sym, ap, ◌∙◌, subst, arith}
+use Rattle.std.proofs.Common.{◌≡◌, ◌≢◌, ℕ, ◌+◌, ◌-◌, ◌≤◌, List, refl, sym, ap, ◌∙◌, subst, arith}
 use Rattle.tcl_control.specs.declared.code.Code.{Code}
-use Rattle.tcl_control.specs.declared.context.Context.{Context}
 use Rattle.tcl_vars.specs.Store.{Store}
 use Rattle.tcl_interp.specs.Evaluation.{State, Outcome, Ended, OutOfSteps}
-use Rattle.tcl_interp.specs.Finish.{Doing, Waiting, Rest, Running as RestRunning, Idle, Spent, Broken, finish}
+use Rattle.tcl_interp.specs.Finish.{Rest, Running as RestRunning, Idle, Spent, Broken, finish}
 use Rattle.tcl_interp.specs.declared.interp.Interp.{Interp}
 use Rattle.tcl_interp.specs.declared.interp.SliceEnd.{SliceEnd}
 use Rattle.tcl_interp.specs.declared.interp.SliceEnd.TheVariants as slice
@@ -18,7 +17,7 @@ use Rattle.tk_app.specs.declared.state.AppState.{AppState}
 use Rattle.tk_app.specs.declared.state.AppState.TheVariants.{Running, Exhausted, Closed}
 use Rattle.tk_app.specs.Application.{Application}
 use Rattle.tk_app.specs.Outside.{outside}
-use Rattle.tk_app.specs.Part.{Part, Work, Rests, Goes, after_outcome, done_as, needs, settling_as, settling_begun, stage_done, state_in, with_left, work_of}
+use Rattle.tk_app.specs.Part.{Part, Work, Rests, Goes, after_outcome, done_as, settling_as, settling_begun, stage_done, state_in, with_left, work_of}
 use Rattle.tk_app.specs.declared.window.Size.{Size}
 use Rattle.tk_app.specs.Shown.{Setting, Shown, setting_of}
 use Rattle.tk_app.specs.Turns.{EndsAs, Program, TakesTurn, application_of, end_of, part_of, work_by}

@@ -6,7 +6,7 @@ use Rattle.tk_app.specs.declared.tables.Tables.{Tables}
 use Rattle.tk_app.specs.Part.{Part}
 use Rattle.tk_app.specs.Shown.{Shown}
 use Rattle.tk_app.specs.Tables.{panel_of}
-use Rattle.tk_app.specs.Turns.{Program, application_of, part_of, parts_from}
+use Rattle.tk_app.specs.Turns.{Program, part_of, parts_from}
 
 -- the moment isn't seen in a part
 pub same_part : (program : Program) (one other : Shown) → one.size ≡ other.size → one.transcript ≡ other.transcript → one.window ≡ other.window → one.own ≡ other.own → part_of one program ≡ part_of other program

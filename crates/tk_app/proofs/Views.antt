@@ -1,17 +1,16 @@
 -- All applications, after a call on one of them.
-use Rattle.std.proofs.Common.{◌≡◌, ◌≢◌, ℕ, zero, suc, ◌-◌, ◌<◌, ◌≤◌, ◌++◌, min, List, [], ◌∷◌, length, get_or, set, refl, sym, ap, ◌∙◌, arith}
-use Rattle.std.specs.Prelude.{Option, Some, Result, Ok, Err, IfOk, OnErr, option_map, slice_get, slice_set}
+use Rattle.std.proofs.Common.{◌≡◌, ℕ, zero, suc, ◌-◌, ◌<◌, ◌≤◌, ◌++◌, List, [], ◌∷◌, length, get_or, set, refl, sym, ap, ◌∙◌, arith}
+use Rattle.std.specs.Prelude.{Some, Result, Ok, Err, OnErr, slice_get, slice_set}
 use Rattle.std.proofs.lemmas.List.{append-nil, length-set}
 use Rattle.tk_turns.specs.declared.turn.Turn.{Turn}
 use Rattle.tk_turns.specs.Rounds.{entry}
-use Rattle.tk_app.specs.declared.state.AppEnd.{AppEnd}
 use Rattle.tk_app.specs.declared.tables.Tables.{Tables}
-use Rattle.tk_app.specs.Part.{Part, needs, settling_begun}
+use Rattle.tk_app.specs.Part.{Part}
 use Rattle.tk_app.specs.Shown.{Shown}
 use Rattle.tk_app.specs.Tables.{IsVacantFrom, others_of, panel_of}
-use Rattle.tk_app.specs.Turns.{Applications, ChangesOnly, Program, SettlesSlot, TakesTurn, part_of, parts_from}
+use Rattle.tk_app.specs.Turns.{Applications, ChangesOnly, Program, part_of, parts_from}
 use Rattle.tk_app.proofs.Others.{other_same}
-use Rattle.tk_app.proofs.Slots.{get_parts, in_range, length-parts_from, set_parts}
+use Rattle.tk_app.proofs.Slots.{get_parts, length-parts_from, set_parts}
 
 -- without a step nothing is told
 pub none_told : (turns : List Turn) (slot steps : ℕ) → turns ≡ turns ++ entry slot (steps - steps)

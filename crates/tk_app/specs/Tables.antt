@@ -1,5 +1,5 @@
 -- The tables of all applications, and what each has in them.
-use Rattle.std.specs.Prelude.{◌≡◌, ◌≢◌, ◌<◌, ◌≤◌, ℕ, true, List, [], ◌∷◌, ◌==◌, filter, get_or, length, map, not}
+use Rattle.std.specs.Prelude.{◌≡◌, ◌≢◌, ◌<◌, ◌≤◌, ℕ, List, [], ◌==◌, filter, get_or, length, map, not}
 use Rattle.std.specs.Borrow.{GName}
 use Rattle.std.specs.List.{range_with_len}
 use Rattle.tk_after.specs.Timers.{fresh as nothing_waits, own_of, LeavesOthers as LeavesTimers}

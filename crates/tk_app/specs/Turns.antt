@@ -1,5 +1,5 @@
 -- All applications side by side, and what a turn of one of them makes of all.
-use Rattle.std.specs.Prelude.{◌≡◌, ◌≢◌, ◌⊎◌, ℕ, zero, suc, ◌+◌, ◌-◌, ◌≤◌, Bool, List, [], ◌∷◌, ◌++◌, Some, min, slice_get, slice_set}
+use Rattle.std.specs.Prelude.{◌≡◌, ◌≢◌, ◌⊎◌, ℕ, ◌+◌, ◌-◌, ◌≤◌, Bool, List, [], ◌∷◌, ◌++◌, Some, min, slice_get, slice_set}
 use Rattle.tcl_vars.specs.Store.{Store}
 use Rattle.tcl_interp.specs.declared.interp.SliceEnd.{SliceEnd}
 use Rattle.tcl_interp.specs.declared.interp.SliceEnd.TheVariants as slice

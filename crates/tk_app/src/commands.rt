@@ -1,5 +1,5 @@
 //! The commands that an application's scripts call outside the interpreter: `puts`, `after` and `clock`.
-ghost use Rattle.std.specs.Prelude.{◌≡◌, IfOk, OnOk, OnErr};
+ghost use Rattle.std.specs.Prelude.{◌≡◌, IfOk, OnOk};
 ghost use Rattle.tcl_vars.specs.Store.{Store};
 ghost use Rattle.tk_app.specs.Outside.{after_told, clock_told, milliseconds_told, puts_told, put_told, told_by, written};
 ghost use Rattle.tk_app.specs.Shown.{setting_of, with_line};

@@ -1,5 +1,5 @@
 //! What goes next at a moment in one application: a timer that is due, layout, or a round of idle scripts.
-ghost use Rattle.std.specs.Prelude.{◌≡◌, [], Bool, IfOk, OnOk};
+ghost use Rattle.std.specs.Prelude.{◌≡◌, Bool, IfOk, OnOk};
 ghost use Rattle.tcl_vars.specs.Store.{Store};
 ghost use Rattle.tk_after.specs.Timers.{entry_with, first_due};
 ghost use Rattle.tk_app.specs.Application.{next_due_as};

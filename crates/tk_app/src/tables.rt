@@ -1,5 +1,4 @@
-ghost use Rattle.std.specs.Prelude.{◌≡◌, [], ℕ};
-ghost use Rattle.tk_app.specs.Tables.{panel_of};
+ghost use Rattle.std.specs.Prelude.{◌≡◌, []};
 
 use crate::clock::Clock;
 use crate::transcript::Transcripts;

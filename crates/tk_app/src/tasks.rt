@@ -29,7 +29,6 @@ impl Tables {
 }
 
 impl Tasks for TablesView<'_> {
-    ghost use Rattle.std.specs.Prelude.{ℕ};
     ghost use Rattle.tk_app.specs.Outside.{outside as own_commands};
     ghost use Rattle.tk_app.specs.Shown.{Shown};
     ghost use Rattle.tk_app.specs.Smaller.{settling_falls};

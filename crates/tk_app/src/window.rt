@@ -1,6 +1,6 @@
 ghost use Rattle.std.specs.Prelude.{◌≡◌, [], ◌∷◌, ◌++◌, OnErr, OnOk, length};
 ghost use Rattle.tk_app.specs.Shown.{filled, unlaid};
-ghost use Rattle.tk_app.specs.Tables.{LeavesWindows, no_window, window_of};
+ghost use Rattle.tk_app.specs.Tables.{LeavesWindows, window_of};
 
 use std::alloc::{AllocError, Global};
 use std::marker::Model;

@@ -1,11 +1,11 @@
-use Rattle.std.proofs.Common.{◌≡◌, sym, ap, ◌∙◌, subst, Ok}
-use Rattle.tcl_interp.specs.Interp.{IsRunning, context_of, left_of, rest_of}
+use Rattle.std.proofs.Common.{sym, ap, ◌∙◌, subst, Ok}
+use Rattle.tcl_interp.specs.Interp.{context_of, left_of, rest_of}
 use Rattle.tk_app.specs.declared.state.AppEnd.TheVariants.{Settled, More, Stopped}
 use Rattle.tk_app.specs.declared.state.AppState.TheVariants.{Exhausted}
 use Rattle.tk_app.specs.Part.{work_of}
 use Rattle.tk_app.specs.Tables.{panel_of}
 use Rattle.tk_app.specs.Turns.{Program, TakesTurn, part_of, work_by}
-use Rattle.tk_app.proofs.Slices.{going_rest, more_of, not_idle, ran, settled_of, stopped_of, turn_goes_on, turn_settles, turn_stops}
+use Rattle.tk_app.proofs.Slices.{going_rest, more_of, ran, settled_of, stopped_of, turn_goes_on, turn_settles, turn_stops}
 use Rattle.tk_app.proofs.runner.Runner.go_on.Goals as goal
 
 pub returns-in-Settled-clause-turn : goal.returns-in-Settled-clause-turn

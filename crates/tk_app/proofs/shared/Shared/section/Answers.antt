@@ -1,6 +1,5 @@
-use Rattle.std.proofs.Common.{◌≡◌, ap, sym, ◌∙◌, arith}
-use Rattle.tk_app.specs.Application.{next_due}
-use Rattle.tk_app.specs.Part.{Part, is_under_way}
+use Rattle.std.proofs.Common.{ap, arith}
+use Rattle.tk_app.specs.Part.{Part}
 use Rattle.tk_app.specs.Section.{section}
 use Rattle.tk_app.specs.Turns.{Applications}
 use Rattle.tk_app.proofs.Slots.{in_range, of_slot}

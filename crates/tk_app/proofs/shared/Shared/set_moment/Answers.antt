@@ -1,4 +1,4 @@
-use Rattle.std.proofs.Common.{◌≡◌, ℕ, List, refl, ap, ◌∙◌}
+use Rattle.std.proofs.Common.{ℕ, List, refl, ap, ◌∙◌}
 use Rattle.tk_app.specs.declared.tables.Tables.{Tables}
 use Rattle.tk_app.specs.Part.{Part}
 use Rattle.tk_app.specs.Turns.{Applications, parts_from}

@@ -1,10 +1,9 @@
-use Rattle.std.proofs.Common.{◌≡◌, ℕ, List, ◌++◌, ◌<◌, set, sym, ap, ◌∙◌, subst, length, arith, refl}
-use Rattle.tk_turns.specs.Rounds.{entry}
+use Rattle.std.proofs.Common.{◌≡◌, ℕ, List, ◌<◌, set, ap, ◌∙◌, subst, length, arith, refl}
 use Rattle.tk_app.specs.Part.{Part, settling_as}
 use Rattle.tk_app.specs.Tables.{panel_of}
-use Rattle.tk_app.specs.Turns.{Applications, BeginsIn, ChangesOnly, Program, SettlesSlot, part_of, parts_from}
-use Rattle.tk_app.proofs.Slots.{get_parts, in_range}
-use Rattle.tk_app.proofs.Views.{held_kept, one_changed, one_was, only_same, slot_held}
+use Rattle.tk_app.specs.Turns.{Applications, BeginsIn, Program, part_of, parts_from}
+use Rattle.tk_app.proofs.Slots.{in_range}
+use Rattle.tk_app.proofs.Views.{one_changed, one_was, slot_held}
 use Rattle.tk_app.proofs.view.AppView.begin_settling.Goals as goal
 
 pub index_mut-runner-requires : goal.index_mut-runner-requires

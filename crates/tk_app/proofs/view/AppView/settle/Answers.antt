@@ -1,9 +1,8 @@
-use Rattle.std.proofs.Common.{◌≡◌, ℕ, List, ◌++◌, ◌<◌, set, sym, ap, ◌∙◌, subst, length, arith, true, false}
+use Rattle.std.proofs.Common.{◌++◌, ◌<◌, set, ap, ◌∙◌, subst, length, arith, true, false}
 use Rattle.tk_turns.specs.Rounds.{entry}
-use Rattle.tk_app.specs.Part.{Part}
 use Rattle.tk_app.specs.Tables.{panel_of}
-use Rattle.tk_app.specs.Turns.{Applications, BeginsIn, ChangesOnly, Program, SettlesSlot, part_of, parts_from}
-use Rattle.tk_app.proofs.Slots.{get_parts, in_range}
+use Rattle.tk_app.specs.Turns.{Applications, ChangesOnly, Program, SettlesSlot, part_of, parts_from}
+use Rattle.tk_app.proofs.Slots.{in_range}
 use Rattle.tk_app.proofs.Views.{held_kept, one_changed, one_was, only_same, slot_held}
 use Rattle.tk_app.proofs.view.AppView.settle.Goals as goal
 

@@ -1,7 +1,6 @@
 -- What the contracts cite.
 pub mod Application
 pub mod Global
-pub mod Left
 pub mod Outside
 pub mod Part
 pub mod Section

@@ -1,10 +1,2 @@
-pub mod Names
-pub mod Lines
-pub mod LineLaws
-pub mod StepLemmas
-pub mod Hindrances
-pub mod Scripts
-pub mod Complete
-pub mod Sound
 pub mod Streams
 pub mod PlayLemmas

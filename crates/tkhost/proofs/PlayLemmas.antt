@@ -17,8 +17,8 @@ use Rattle.tk_host.specs.Refusals.{IsFirst, NoneApplies, IsRefusal, RefusesApp, 
 use Rattle.tk_host.specs.Section.{section}
 use Rattle.tk_host.specs.Sections.{sections_after}
 use Rattle.tk_host.specs.Spec.{IsInRange}
-use Rattle.tkhost.specs.declared.session.AppBlock.{AppBlock}
-use Rattle.tkhost.specs.Session.{Plan, IsTaken, IsCovered, MayFollow, AreAllowed}
+use Rattle.tk_session.specs.declared.session.AppBlock.{AppBlock}
+use Rattle.tk_session.specs.Session.{Plan, IsInRange as IsHeadInRange, IsTaken, IsCovered, MayFollow, AreAllowed}
 use Rattle.tkhost.specs.Play.{spec_of, given_of, adding, calls_of}
 
 no_first : (Applies : HostFault → Type 0) (list : List HostFault) (found : HostFault) → NoneApplies Applies list → IsFirst Applies list found → ⊥
@@ -81,6 +81,19 @@ covered_from_parts rect (app ∷ apps) any =
       | inr later ↦ inr (covered_from_parts rect apps later)
     ]
 
+-- what a session may say of an application is in the ranges of a host
+in_range : (app : AppBlock) → IsHeadInRange app.name app.rect app.budget → IsInRange (given_of app)
+in_range app fits =
+    let placed = fits.placed in
+    record {
+      named = fits.named;
+      x_fits = placed.0;
+      y_fits = placed.1;
+      width_fits = (placed.2, placed.3);
+      height_fits = (placed.4, placed.5);
+      budget_fits = fits.total_fits;
+    }
+
 -- a host takes an application that may follow those that were added
 pub none_refuses_app : (apps : List AppBlock) (app : AppBlock) → IsInRange (given_of app) → MayFollow apps app.name app.rect → NoneApplies (RefusesApp (held_in Adding apps) (given_of app)) add_faults
 none_refuses_app apps app fits may =
@@ -122,7 +135,7 @@ allowed_next apps i app within allowed is =
     let next : drop i apps ≡ app ∷ drop (suc i) apps = drop-cons apps i app within ∙ ap (λ a. a ∷ drop (suc i) apps) (sym is) in
     let may = subst P next allowed in
     let longer = take_next apps i app within is in
-    (subst Q (sym (held_after-adding (take i apps))) (none_refuses_app (take i apps) app may.0 may.1), rw (longer, add-one) may.2)
+    (subst Q (sym (held_after-adding (take i apps))) (none_refuses_app (take i apps) app (in_range app may.0) may.2), rw (longer, add-one) may.3)
 
 -- starting and ending what was added
 pub none_refuses_start : (apps : List AppBlock) → NoneApplies (PhaseRefuses (held_after (adding apps)).phase) start_faults

@@ -1,4 +1,3 @@
-pub mod Session
-pub mod Reading
 pub mod Output
+pub mod Plain
 pub mod Play

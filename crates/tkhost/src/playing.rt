@@ -5,14 +5,16 @@ ghost use Rattle.tk_host.specs.Refusals.{NoneApplies, RefusesApp, RefusesSection
 ghost use Rattle.tk_host.specs.Sections.{sections_after};
 ghost use Rattle.tkhost.specs.Output.{AppendsFront};
 ghost use Rattle.tkhost.specs.Play.{adding, calls_of, given_of, sections_of};
-ghost use Rattle.tkhost.specs.Session.{AreAllowed};
+ghost use Rattle.tk_session.specs.Session.{AreAllowed};
+ghost use Rattle.tkhost.specs.Plain.{IsPlain};
 
 use crate::output::write_whole;
-use crate::session::{AppBlock, Session};
+use crate::plain::is_plain;
 use std::alloc::{AllocError, AllocFailed, Global};
 use std::io::Write;
 use thiserror::Error;
 use tk_host::{Host, HostFault};
+use tk_session::{AppBlock, Session};
 
 /// Why a session was not played to its end, or its sections not written.
 #[derive(Clone, Copy, Debug, PartialEq, Eq, Drop, Error)]
@@ -20,6 +22,9 @@ pub enum PlayFault {
     /// The writer failed or took nothing.
     #[error("write fault")]
     Write,
+    /// The session has aliases, events of the screen or the keyboard, or a budget that is refilled, which the host doesn't know yet.
+    #[error("not yet")]
+    NotYet,
     /// Memory was refused.
     #[error("out of memory")]
     NoMemory,
@@ -69,7 +74,7 @@ fn add(host: &mut Host, app: &AppBlock) -> Result<(), PlayFault>
 {
     let name = app.name.copy()?;
     let script = app.script.copy()?;
-    unless_memory(host.add_app(name, app.rect, script, app.budget))
+    unless_memory(host.add_app(name, app.rect, script, app.budget.total))
 }
 
 /// Adds applications that may stand side by side.
@@ -122,7 +127,7 @@ fn text_of(alloc: Global, session: &Session, slice: u64) -> Result<Vec<u8>, Play
 }
 
 /// Plays a session, each application at most `slice` steps at a time, and writes their sections once all have come to the end. `NoMemory`
-/// comes before a byte went out, and `Write` where the writer fails or takes nothing; neither has a number.
+/// comes before a byte went out, `NotYet` before it runs, and `Write` where the writer fails or takes nothing; none has a number.
 ///
 /// What each application's section is rests on its own name, size, script and budget and on the moment of the end: on nothing that another
 /// does.
@@ -133,10 +138,14 @@ pub fn play<W: Write>(
     writer: &mut W,
 ) -> Result<(), PlayFault>
     requires { 1 ≤ slice }
-    ensures sections { OnOk result (Appends (W.contents writer.old) (W.contents writer.new) (sections_of session.now)) }
-    ensures write { result ≡ Err PlayFault.Write → AppendsFront (W.contents writer.old) (W.contents writer.new) (sections_of session.now) }
+    ensures sections { OnOk result (IsPlain session.now × Appends (W.contents writer.old) (W.contents writer.new) (sections_of session.now)) }
+    ensures not_yet { result ≡ Err PlayFault.NotYet → ¬ IsPlain session.now × (writer.new ≡ writer.old) }
+    ensures write { result ≡ Err PlayFault.Write → IsPlain session.now × AppendsFront (W.contents writer.old) (W.contents writer.new) (sections_of session.now) }
     ensures no_memory { result ≡ Err PlayFault.NoMemory → writer.new ≡ writer.old }
 {
+    if !is_plain(session) {
+        return Err(PlayFault::NotYet);
+    }
     let text = text_of(alloc, session, slice)?;
     match write_whole(writer, text.as_slice()) {
         Ok(()) => Ok(()),

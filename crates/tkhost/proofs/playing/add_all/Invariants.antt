@@ -1,7 +1,7 @@
 use Rattle.std.proofs.Common.{◌≡◌, take, drop}
 use Rattle.tk_host.specs.Held.{held_after}
 use Rattle.tkhost.specs.Play.{adding}
-use Rattle.tkhost.specs.Session.{AreAllowed}
+use Rattle.tk_session.specs.Session.{AreAllowed}
 use Rattle.tkhost.proofs.playing.add_all.Given as goal
 
 abbrev pub invariant-loop-app : goal.invariant-loop-app

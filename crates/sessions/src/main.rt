@@ -14,7 +14,7 @@ use std::{env, fs};
 use tkhost::{Outcome, play, read_session, run};
 
 /// Slices that no section may depend on, in steps.
-const SLICES: [u64; 4] = [1, 7, 64, 1_000_000];
+const SLICES: [u64; 6] = [1, 2, 3, 7, 64, 1_000_000];
 
 /// The bytes of a file of the session's, or none where it has none.
 fn stored<R: Files + AllocGlobal>(rt: &R, name: &str, ending: &str) -> Result<Option<Vec<u8>>> {

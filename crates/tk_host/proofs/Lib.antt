@@ -1,11 +1,8 @@
-mod Acts
-mod Dues
-mod Escapes
-mod Falls
 mod History
-mod Listed
+mod Kept
 mod Order
+mod Parts
 mod Passing
-mod Runs
-mod Started
-mod Words
+mod Settling
+mod Slots
+mod Ways

@@ -14,18 +14,18 @@ not_past phase fault adding refused = let P : Phase → Type 0 = λ p. PhaseRefu
 
 -- while applications are added those that are there decide
 pub first_of_parts : (held : Held) (app : Given) (fault : HostFault) → held.phase ≡ Adding
-    → IsFirst (PartsRefuse held.parts app) app_faults fault → IsFirst (RefusesApp held app) add_faults fault
+    → IsFirst (PartsRefuse held.rects held.parts app) app_faults fault → IsFirst (RefusesApp held app) add_faults fault
 first_of_parts held app fault adding first =
     inr (not_past held.phase Broken adding, inr (not_past held.phase Ended adding, inr (not_past held.phase Started adding, first)))
 
 pub none_of_parts : (held : Held) (app : Given) → held.phase ≡ Adding
-    → NoneApplies (PartsRefuse held.parts app) app_faults → NoneApplies (RefusesApp held app) add_faults
+    → NoneApplies (PartsRefuse held.rects held.parts app) app_faults → NoneApplies (RefusesApp held app) add_faults
 none_of_parts held app adding none =
     (not_past held.phase Broken adding, (not_past held.phase Ended adding, (not_past held.phase Started adding, none)))
 
 -- what the applications that are there decide is decided
 pub decided_by_parts : {T : Type 0} (held : Held) (app : Given) (answer : Result T HostFault) → held.phase ≡ Adding
-    → MatchResult answer (λ _. NoneApplies (PartsRefuse held.parts app) app_faults) (IsRefusal (PartsRefuse held.parts app) app_faults)
+    → MatchResult answer (λ _. NoneApplies (PartsRefuse held.rects held.parts app) app_faults) (IsRefusal (PartsRefuse held.rects held.parts app) app_faults)
     → MatchResult answer (λ _. NoneApplies (RefusesApp held app) add_faults) (IsRefusal (RefusesApp held app) add_faults)
 decided_by_parts held app (Ok x) adding none = none_of_parts held app adding none
 decided_by_parts held app (Err NoMemory) adding none = none_of_parts held app adding none

@@ -1,58 +1,62 @@
 -- What a host holds, and what it holds after a list of calls.
-use Rattle.std.specs.Prelude.{ℕ, List, [], ◌∷◌, ◌++◌, map, Option, Some, None}
+use Rattle.std.specs.Prelude.{ℕ, List, [], ◌∷◌, ◌++◌, map}
+use Rattle.tk_base.specs.declared.rect.Rect.{Rect}
+use Rattle.tk_turns.specs.declared.turn.Turn.{Turn}
+use Rattle.tk_turns.specs.Rounds.{turns_of}
+use Rattle.tk_app.specs.Application.{Application, fresh}
+use Rattle.tk_app.specs.Part.{Part, Work, Rests, added, stage_done}
+use Rattle.tk_app.specs.Spec.{Spec}
 use Rattle.tk_host.specs.declared.phase.Phase.{Phase}
 use Rattle.tk_host.specs.declared.phase.Phase.TheVariants.{Adding, Reached, Finished, Lost}
-use Rattle.tk_base.specs.declared.rect.Rect.{Rect}
-use Rattle.tk_host.specs.Spec.{Spec, Given, rect_of}
-use Rattle.tk_host.specs.Application.{Application, fresh}
-use Rattle.tk_host.specs.Alone.{settled, after_script, passed, alone}
+use Rattle.tk_host.specs.Spec.{Given, rect_of}
+use Rattle.tk_host.specs.Alone.{passed, alone}
+use Rattle.tk_host.specs.Turns.{applications, steps_at_start, turns_at_start, turns_on_the_way}
 
--- what a host holds for an application: its rectangle on the screen, itself, and the script that it still has to run
-pub record Part : Type 0 where
-  pub rect : Rect
-  pub application : Application
-  pub waiting : Option (List ℕ)
-
--- a host: how far it has come, and its applications by their slots
+-- a host: how far it has come, and by their slots the rectangles on the screen and the applications, each with what is under way in it
 pub record Held : Type 0 where
   pub phase : Phase
+  pub rects : List Rect
   pub parts : List Part
+
+-- and beside that how many steps a turn has at most, and the turns of the last call that ran applications
+pub record Hosted : Type 0 where
+  pub held : Held
+  pub slice : ℕ
+  pub turns : List Turn
 
 -- a host that nothing was done to
 abbrev pub empty : Held
-empty = record { phase = Adding; parts = [] }
+empty = record { phase = Adding; rects = []; parts = [] }
 
--- an application as it is added
-abbrev pub added : Given → Part
-added app = record { rect = rect_of app; application = fresh app.spec; waiting = Some app.spec.script }
+-- a host with one application more, whose script is still to be run
+abbrev pub with_app : Given → Hosted → Hosted
+with_app app host =
+    record host { held = record { phase = host.held.phase; rects = host.held.rects ++ rect_of app ∷ []; parts = host.held.parts ++ added app.spec ∷ [] } }
 
--- an application that has run the script that waited, and done what comes of it
-abbrev pub begun : Option (List ℕ) → Application → Application
-begun None application = application
-begun (Some script) application = settled 0 (after_script 0 script application)
-
-abbrev pub started : Part → Part
-started part = record part { application = begun part.waiting part.application; waiting = None }
-
--- a host with one application more
-abbrev pub with_app : Given → Held → Held
-with_app app held = record held { parts = held.parts ++ added app ∷ [] }
-
--- a host whose applications have run their scripts, at moment 0
-abbrev pub after_start : Held → Held
-after_start held = record { phase = Reached 0; parts = map started held.parts }
+-- A host at moment 0, whose applications have done what was under way in them: their scripts, and what comes of them. They took turns.
+abbrev pub after_start : Hosted → Hosted
+after_start host = record host {
+  held = record { phase = Reached 0; rects = host.held.rects; parts = map (stage_done 0) host.held.parts };
+  turns = turns_at_start host.slice host.held.parts;
+}
 
 -- an application that has done what is due of its own up to a moment
 abbrev pub brought : ℕ → Part → Part
 brought moment part = record part { application = passed moment part.application }
 
--- a host whose applications have come to a moment, each by itself
-abbrev pub after_advance : ℕ → Held → Held
-after_advance moment held = record { phase = Reached moment; parts = map (brought moment) held.parts }
+-- A host whose applications have come to a moment, each by itself. They took turns on the way.
+abbrev pub gone_to : Phase → ℕ → Hosted → Hosted
+gone_to phase moment host = record host {
+  held = record { phase = phase; rects = host.held.rects; parts = map (brought moment) host.held.parts };
+  turns = turns_on_the_way host.slice moment (applications host.held.parts);
+}
+
+abbrev pub after_advance : ℕ → Hosted → Hosted
+after_advance moment host = gone_to (Reached moment) moment host
 
 -- and one that has come to its end there
-abbrev pub after_end : ℕ → Held → Held
-after_end moment held = record { phase = Finished moment; parts = map (brought moment) held.parts }
+abbrev pub after_end : ℕ → Hosted → Hosted
+after_end moment host = gone_to (Finished moment) moment host
 
 -- a call that was not refused
 pub data Call : Type 0 where
@@ -91,14 +95,23 @@ application_in (Reached moment) spec = alone spec moment
 application_in (Finished moment) spec = alone spec moment
 application_in Lost spec = fresh spec
 
--- the script that it still has to run
-abbrev pub waiting_in : Phase → Spec → Option (List ℕ)
-waiting_in Adding spec = Some spec.script
-waiting_in phase spec = None
+-- what it still has to do: before the start its script
+abbrev pub work_in : Phase → Spec → Work
+work_in Adding spec = (added spec).work
+work_in phase spec = Rests
 
 abbrev pub part_in : Phase → Given → Part
-part_in phase app = record { rect = rect_of app; application = application_in phase app.spec; waiting = waiting_in phase app.spec }
+part_in phase app = record { application = application_in phase app.spec; work = work_in phase app.spec }
 
 -- What a host holds after these calls: each application as it is by itself.
 abbrev pub held_after : List Call → Held
-held_after calls = let phase = phase_after Adding calls in record { phase = phase; parts = map (part_in phase) (given_by calls) }
+held_after calls =
+    let phase = phase_after Adding calls in
+    record { phase = phase; rects = map rect_of (given_by calls); parts = map (part_in phase) (given_by calls) }
+
+-- The turns of a call that runs applications, after these calls: by the steps that each application takes by itself, and when.
+abbrev pub turns_after : ℕ → List Call → Call → List Turn
+turns_after slice calls Start = turns_of slice (map (λ app. steps_at_start app.spec) (given_by calls))
+turns_after slice calls (AdvanceTo moment) = turns_on_the_way slice moment (map (λ app. application_in (phase_after Adding calls) app.spec) (given_by calls))
+turns_after slice calls (End moment) = turns_on_the_way slice moment (map (λ app. application_in (phase_after Adding calls) app.spec) (given_by calls))
+turns_after slice calls (AddApp app) = []

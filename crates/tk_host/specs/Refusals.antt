@@ -4,9 +4,11 @@ use Rattle.tk_host.specs.declared.fault.HostFault.{HostFault}
 use Rattle.tk_host.specs.declared.fault.HostFault.TheVariants.{Overlap, TimeBack, BadValue, NoApp, TooManyApps, NameTaken, Started, Ended, Broken, NoMemory}
 use Rattle.tk_host.specs.declared.phase.Phase.{Phase}
 use Rattle.tk_host.specs.declared.phase.Phase.TheVariants.{Reached, Finished, Lost}
+use Rattle.tk_base.specs.declared.rect.Rect.{Rect}
 use Rattle.tk_base.specs.Rect.{SharePixel}
+use Rattle.tk_app.specs.Part.{Part}
 use Rattle.tk_host.specs.Spec.{Given, IsInRange, rect_of}
-use Rattle.tk_host.specs.Held.{Held, Part, reached}
+use Rattle.tk_host.specs.Held.{Held, Hosted, reached}
 
 -- the first of these faults that applies is this one
 abbrev pub IsFirst : (HostFault → Type 0) → List HostFault → HostFault → Type 0
@@ -30,20 +32,20 @@ PhaseRefuses (Reached moment) Started = Unit {0}
 PhaseRefuses phase found = ⊥
 
 -- A refused call leaves a host as it was, but for want of memory while applications run.
-abbrev pub LeftBy : HostFault → Held → Held → Type 0
-LeftBy NoMemory old new = new.phase ≡ Lost
+abbrev pub LeftBy : HostFault → Hosted → Hosted → Type 0
+LeftBy NoMemory old new = new.held.phase ≡ Lost
 LeftBy found old new = new ≡ old
 
 -- what the applications that are there refuse in one more, in the order of the tests
 abbrev pub app_faults : List HostFault
 app_faults = BadValue ∷ TooManyApps ∷ NameTaken ∷ Overlap ∷ []
 
-abbrev pub PartsRefuse : List Part → Given → HostFault → Type 0
-PartsRefuse parts app BadValue = ¬ IsInRange app
-PartsRefuse parts app TooManyApps = 16 ≤ length parts
-PartsRefuse parts app NameTaken = Any (λ part. part.application.name ≡ app.spec.name) parts
-PartsRefuse parts app Overlap = Any (λ part. SharePixel part.rect (rect_of app)) parts
-PartsRefuse parts app found = ⊥
+abbrev pub PartsRefuse : List Rect → List Part → Given → HostFault → Type 0
+PartsRefuse rects parts app BadValue = ¬ IsInRange app
+PartsRefuse rects parts app TooManyApps = 16 ≤ length parts
+PartsRefuse rects parts app NameTaken = Any (λ part. part.application.name ≡ app.spec.name) parts
+PartsRefuse rects parts app Overlap = Any (λ rect. SharePixel rect (rect_of app)) rects
+PartsRefuse rects parts app found = ⊥
 
 -- adding an application
 abbrev pub add_faults : List HostFault
@@ -53,7 +55,7 @@ abbrev pub RefusesApp : Held → Given → HostFault → Type 0
 RefusesApp held app Broken = PhaseRefuses held.phase Broken
 RefusesApp held app Ended = PhaseRefuses held.phase Ended
 RefusesApp held app Started = PhaseRefuses held.phase Started
-RefusesApp held app found = PartsRefuse held.parts app found
+RefusesApp held app found = PartsRefuse held.rects held.parts app found
 
 -- starting the applications
 abbrev pub start_faults : List HostFault

@@ -3,7 +3,7 @@ use Rattle.std.specs.Prelude.{◌≡◌, ℕ, List, map, slice_get, Some}
 use Rattle.tk_host.specs.declared.phase.Phase.TheVariants.{Adding}
 use Rattle.tk_host.specs.Spec.{Given}
 use Rattle.tk_host.specs.Held.{Call, given_by, phase_after, application_in}
-use Rattle.tk_host.specs.Section.{section}
+use Rattle.tk_app.specs.Section.{section}
 
 -- After these calls the section of each application is that of the application by itself, up to the moment that the calls reach.
 abbrev pub sections_after : List Call → List (List ℕ)

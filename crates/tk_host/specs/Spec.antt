@@ -1,14 +1,9 @@
--- What an application is begun with.
+-- What a host is given of an application.
 use Rattle.std.specs.Prelude.{◌≡◌, ℕ, ◌<◌, ◌≤◌, ◌⊎◌, List, [], ◌∷◌, length, All}
 use Rattle.std.specs.Char.{IsAsciiAlphabetic, IsAsciiAlphanumeric}
 use Rattle.tk_base.specs.declared.rect.Rect.{Rect}
-
-pub record Spec : Type 0 where
-  pub name : List ℕ
-  pub width : ℕ
-  pub height : ℕ
-  pub script : List ℕ
-  pub budget : ℕ
+use Rattle.tk_app.specs.declared.budget.Budget.{Budget}
+use Rattle.tk_app.specs.Spec.{Spec}
 
 abbrev pub IsNameByte : ℕ → Type 0
 IsNameByte byte = IsAsciiAlphanumeric byte ⊎ (byte ≡ 95)
@@ -27,7 +22,7 @@ pub record Given : Type 0 where
   pub y : ℕ
   pub spec : Spec
 
-abbrev pub given : List ℕ → Rect → List ℕ → ℕ → Given
+abbrev pub given : List ℕ → Rect → List ℕ → Budget → Given
 given name rect script budget =
     record { x = rect.x; y = rect.y; spec = record { name = name; width = rect.width; height = rect.height; script = script; budget = budget } }
 
@@ -41,4 +36,5 @@ pub record IsInRange (app : Given) : Type 0 where
   pub y_fits : app.y ≤ 32767
   pub width_fits : IsLength app.spec.width
   pub height_fits : IsLength app.spec.height
-  pub budget_fits : app.spec.budget ≤ 10000000
+  pub total_fits : app.spec.budget.total ≤ 10000000
+  pub refill_fits : app.spec.budget.refill ≤ 10000000

@@ -1,96 +1,111 @@
-ghost use Rattle.std.specs.Prelude.{◌≡◌, ◌<◌, ◌≤◌, ◌↔◌, ℕ, List, map, IsTrue, Any, OnOk, MatchResult};
-ghost use Rattle.tk_host.specs.Held.{brought, started};
+ghost use Rattle.std.specs.Prelude.{◌≡◌, ◌↔◌, ℕ, List, IsTrue, Any, MatchResult};
 ghost use Rattle.tk_base.specs.Rect.{SharePixel};
 ghost use Rattle.tk_host.specs.Refusals.{IsRefusal, NoneApplies, app_faults, PartsRefuse};
 ghost use Rattle.tk_host.specs.Spec.{given};
 
-use crate::application::Application;
 use crate::fault::HostFault;
 use crate::phase::Phase;
 use crate::spec::is_in_range;
-use std::alloc::{AllocError, Global};
+use crate::stages::{advance, stage};
+use std::alloc::Global;
 use std::marker::Model;
 use tcl_text::Text;
+use tk_app::{Budget, MAX_APPLICATIONS, Shared, Size};
 use tk_base::Rect;
-
-/// How many applications a host has at most.
-pub const MAX_APPLICATIONS: usize = 16;
+use tk_turns::Turn;
 
 /// The last moment of a host, in milliseconds.
 pub const MAX_MOMENT: u64 = 1_000_000_000_000;
 
-/// Applications side by side, each by itself, with one clock, in milliseconds from 0.
+/// Applications side by side with one clock, in milliseconds from 0. What becomes of each rests on itself alone; those that have something to
+/// do at a moment take turns, in the order of their slots, each at most a slice of steps.
 #[derive(Drop)]
 pub struct Host {
     alloc: Global,
     slice: u64,
     phase: Phase,
-    applications: Vec<Application>,
+    rects: Vec<Rect>,
+    shared: Shared,
 }
 
 impl Model for Host {
     ghost use Rattle.std.specs.Prelude.{◌≤◌};
-    ghost use Rattle.tk_host.specs.Held.{Held};
+    ghost use Rattle.tk_host.specs.Held.{Hosted};
+    ghost use Rattle.tk_host.specs.Ready.{IsReady};
 
-    ghost Value = { Held };
+    ghost Value = { Hosted };
 
-    ghost view = { λ h. record { phase = h.phase; parts = h.applications.items } };
+    ghost view = { λ h. record {
+      held = record { phase = h.phase; rects = h.rects.items; parts = h.shared.parts };
+      slice = h.slice;
+      turns = h.shared.turns;
+    } };
 
-    ghost invariant = { λ h. 1 ≤ h.slice };
+    ghost invariant = { λ h. (1 ≤ h.slice) × IsReady h.phase h.shared.moment h.shared.parts };
 }
 
 impl Host {
-    ghost use Rattle.std.specs.Prelude.{◌≡◌, ◌≢◌, ◌≤◌, ℕ, List, [], ◌∷◌, ◌++◌, map, slice_get, IfOk, IfErr, OnOk, OnErr, MatchResult};
-    ghost use Rattle.tk_host.specs.Held.{AddApp, AdvanceTo, Call, End, Start, after_advance, after_end, brought, after_start, held_after, with_app};
+    ghost use Rattle.std.specs.Prelude.{◌≡◌, ◌≢◌, ◌≤◌, ℕ, List, [], ◌∷◌, ◌++◌, map, slice_get, Some, IfOk, IfErr, OnOk, OnErr, MatchResult};
+    ghost use Rattle.tk_app.specs.Section.{section};
+    ghost use Rattle.tk_host.specs.Held.{AddApp, AdvanceTo, Call, End, Start, after_advance, after_end, after_start, gone_to, held_after, turns_after, with_app};
+    ghost use Rattle.tk_host.specs.Ready.{IsAt};
     ghost use Rattle.tk_host.specs.Sections.{sections_after};
     ghost use Rattle.tk_host.specs.Spec.{given};
     ghost use Rattle.tk_host.specs.Refusals.{IsRefusal, LeftBy, NoneApplies, PhaseRefuses, RefusesApp, RefusesMoment, RefusesSection, add_faults, moment_faults, section_faults, start_faults};
-    ghost use Rattle.tk_host.specs.Section.{section};
 
-    /// A host without applications. Each is run at most `slice` steps at a time; what comes of it doesn't depend on that. It takes no
-    /// memory.
+    /// A host without applications. Each takes at most `slice` steps in a turn; what comes of it doesn't depend on that. It takes no memory.
     pub fn new(alloc: Global, slice: u64) -> Host
         requires { 1 ≤ slice }
-        ensures { result ≡ held_after [] }
+        ensures { result ≡ record { held = held_after []; slice = slice; turns = [] } }
     {
         Host {
             alloc,
             slice,
             phase: Phase::Adding,
-            applications: Vec::new(alloc),
+            rects: Vec::new(alloc),
+            shared: Shared::new(alloc),
         }
     }
 
-    /// Adds an application in the next slot, from 0 on: its rectangle on the screen in pixels, and how many steps its scripts may take in
-    /// all. Refused are, in this order: `Broken` (42), `Ended` (41), `Started` (40), `BadValue` (36), `TooManyApps` (38), `NameTaken` (39)
-    /// and `Overlap` (34).
+    /// Adds an application in the next slot, from 0 on: its rectangle on the screen in pixels, and the steps that its scripts may take: how
+    /// many at first, and how many each event grants that is routed to it, up to that number again. Refused are, in this order: `Broken`
+    /// (42), `Ended` (41), `Started` (40), `BadValue` (36), `TooManyApps` (38), `NameTaken` (39) and `Overlap` (34).
     pub fn add_app(
         &mut self,
         name: Text,
         rect: Rect,
         script: Text,
-        budget: u64,
+        budget: Budget,
     ) -> Result<(), HostFault>
         ensures added { OnOk result (self.new ≡ with_app (given name rect script budget) self.old) }
-        ensures unless { OnOk result (NoneApplies (RefusesApp self.old (given name rect script budget)) add_faults) }
-        ensures refused { IfErr result (IsRefusal (RefusesApp self.old (given name rect script budget)) add_faults) }
+        ensures unless { OnOk result (NoneApplies (RefusesApp self.old.held (given name rect script budget)) add_faults) }
+        ensures refused { IfErr result (IsRefusal (RefusesApp self.old.held (given name rect script budget)) add_faults) }
         ensures unchanged { OnErr result (self.new ≡ self.old) }
-        ensures history { (calls : List Call) → self.old ≡ held_after calls → OnOk result (self.new ≡ held_after (calls ++ AddApp (given name rect script budget) ∷ [])) }
+        ensures history { (calls : List Call) → self.old.held ≡ held_after calls
+            → OnOk result (self.new.held ≡ held_after (calls ++ AddApp (given name rect script budget) ∷ [])) }
     {
         self.may_add(&name, rect, budget)?;
-        let application = Application::new(self.alloc, name, rect, script, budget)?;
-        self.applications.push(application)?;
-        Ok(())
+        self.rects.reserve(1)?;
+        let size = Size {
+            width: rect.width,
+            height: rect.height,
+        };
+        self.shared.add(name, size, budget, script)?;
+        match self.rects.push(rect) {
+            Ok(()) => Ok(()),
+            Err(_) => unreachable!(),
+        }
     }
 
-    /// Runs each application's script at moment 0, and does what is due then. Refused are, in this order: `Broken` (42), `Ended` (41) and
-    /// `Started` (40). After a want of memory the host is broken.
+    /// Runs each application's script at moment 0, and does what is due then, in turns. Refused are, in this order: `Broken` (42), `Ended`
+    /// (41) and `Started` (40). After a want of memory the host is broken.
     pub fn start(&mut self) -> Result<(), HostFault>
         ensures started { OnOk result (self.new ≡ after_start self.old) }
-        ensures unless { OnOk result (NoneApplies (PhaseRefuses self.old.phase) start_faults) }
-        ensures refused { IfErr result (IsRefusal (PhaseRefuses self.old.phase) start_faults) }
+        ensures unless { OnOk result (NoneApplies (PhaseRefuses self.old.held.phase) start_faults) }
+        ensures refused { IfErr result (IsRefusal (PhaseRefuses self.old.held.phase) start_faults) }
         ensures left { IfErr result (λ fault. LeftBy fault self.old self.new) }
-        ensures history { (calls : List Call) → self.old ≡ held_after calls → OnOk result (self.new ≡ held_after (calls ++ Start ∷ [])) }
+        ensures history { (calls : List Call) → self.old.held ≡ held_after calls → OnOk result (self.new.held ≡ held_after (calls ++ Start ∷ [])) }
+        ensures turns { (calls : List Call) → self.old.held ≡ held_after calls → OnOk result (self.new.turns ≡ turns_after self.old.slice calls Start) }
     {
         match self.phase {
             Phase::Adding => {}
@@ -99,7 +114,8 @@ impl Host {
             Phase::Lost => return Err(HostFault::Broken),
         }
         self.phase = Phase::Lost;
-        start_all(self.applications.as_mut_slice(), self.slice)?;
+        self.shared.clear_turns();
+        stage(&mut self.shared, self.slice)?;
         self.phase = Phase::Reached(0);
         Ok(())
     }
@@ -108,12 +124,13 @@ impl Host {
     /// them (after(n)). Refused are, in this order: `Broken` (42), `Ended` (41), `BadValue` (36) past 10^12 and `TimeBack` (35). After a
     /// want of memory the host is broken.
     pub fn advance_to(&mut self, moment: u64) -> Result<(), HostFault>
-        requires { self.old.phase ≢ Phase.Adding }
+        requires { self.old.held.phase ≢ Phase.Adding }
         ensures advanced { OnOk result (self.new ≡ after_advance moment self.old) }
-        ensures unless { OnOk result (NoneApplies (RefusesMoment self.old moment) moment_faults) }
-        ensures refused { IfErr result (IsRefusal (RefusesMoment self.old moment) moment_faults) }
+        ensures unless { OnOk result (NoneApplies (RefusesMoment self.old.held moment) moment_faults) }
+        ensures refused { IfErr result (IsRefusal (RefusesMoment self.old.held moment) moment_faults) }
         ensures left { IfErr result (λ fault. LeftBy fault self.old self.new) }
-        ensures history { (calls : List Call) → self.old ≡ held_after calls → OnOk result (self.new ≡ held_after (calls ++ AdvanceTo moment ∷ [])) }
+        ensures history { (calls : List Call) → self.old.held ≡ held_after calls → OnOk result (self.new.held ≡ held_after (calls ++ AdvanceTo moment ∷ [])) }
+        ensures turns { (calls : List Call) → self.old.held ≡ held_after calls → OnOk result (self.new.turns ≡ turns_after self.old.slice calls (AdvanceTo moment)) }
     {
         self.go_to(moment, Phase::Reached(moment))
     }
@@ -121,12 +138,13 @@ impl Host {
     /// Goes on to the last moment, in milliseconds, as `advance_to` does, and is refused as that is (42, 41, 36, 35). After a want of
     /// memory the host is broken.
     pub fn end(&mut self, moment: u64) -> Result<(), HostFault>
-        requires { self.old.phase ≢ Phase.Adding }
+        requires { self.old.held.phase ≢ Phase.Adding }
         ensures ended { OnOk result (self.new ≡ after_end moment self.old) }
-        ensures unless { OnOk result (NoneApplies (RefusesMoment self.old moment) moment_faults) }
-        ensures refused { IfErr result (IsRefusal (RefusesMoment self.old moment) moment_faults) }
+        ensures unless { OnOk result (NoneApplies (RefusesMoment self.old.held moment) moment_faults) }
+        ensures refused { IfErr result (IsRefusal (RefusesMoment self.old.held moment) moment_faults) }
         ensures left { IfErr result (λ fault. LeftBy fault self.old self.new) }
-        ensures history { (calls : List Call) → self.old ≡ held_after calls → OnOk result (self.new ≡ held_after (calls ++ End moment ∷ [])) }
+        ensures history { (calls : List Call) → self.old.held ≡ held_after calls → OnOk result (self.new.held ≡ held_after (calls ++ End moment ∷ [])) }
+        ensures turns { (calls : List Call) → self.old.held ≡ held_after calls → OnOk result (self.new.turns ≡ turns_after self.old.slice calls (End moment)) }
     {
         self.go_to(moment, Phase::Finished(moment))
     }
@@ -134,39 +152,51 @@ impl Host {
     /// The section of the application in a slot, in bytes: its state and the steps left, what it wrote and its errors by their moments in
     /// milliseconds, its window in pixels, and its timers and idle scripts. `Broken` (42), or `NoApp` (37) where the slot has none.
     pub fn section(&self, slot: usize) -> Result<Vec<u8>, HostFault>
-        ensures section { IfOk result (λ bytes. slice_get (map (λ part. section part.application) self.now.parts) slot ≡ Some bytes.items) }
-        ensures unless { OnOk result (NoneApplies (RefusesSection self.now slot) section_faults) }
-        ensures refused { IfErr result (IsRefusal (RefusesSection self.now slot) section_faults) }
-        ensures history { (calls : List Call) → self.now ≡ held_after calls → IfOk result (λ bytes. slice_get (sections_after calls) slot ≡ Some bytes.items) }
+        ensures section { IfOk result (λ bytes. slice_get (map (λ part. section part.application) self.now.held.parts) slot ≡ Some bytes.items) }
+        ensures unless { OnOk result (NoneApplies (RefusesSection self.now.held slot) section_faults) }
+        ensures refused { IfErr result (IsRefusal (RefusesSection self.now.held slot) section_faults) }
+        ensures history { (calls : List Call) → self.now.held ≡ held_after calls → IfOk result (λ bytes. slice_get (sections_after calls) slot ≡ Some bytes.items) }
     {
         if let Phase::Lost = self.phase {
             return Err(HostFault::Broken);
         }
-        match self.applications.get(slot) {
-            Some(application) => Ok(application.section(self.alloc)?),
-            None => Err(HostFault::NoApp),
+        if slot >= self.shared.len() {
+            return Err(HostFault::NoApp);
         }
+        Ok(self.shared.section(self.alloc, slot)?)
+    }
+
+    /// The turns that took steps in the last `start`, `advance_to` or `end` that wasn't refused with a number, one after another: whose each
+    /// was, and how many steps it took. Before the first of these calls there are none, and after a want of memory it is those of the call
+    /// that met it. It takes no memory.
+    pub fn turns(&self) -> &[Turn]
+        ensures { result.now ≡ self.now.turns }
+    {
+        self.shared.turns()
     }
 
     /// Goes on to a moment, and to a phase there.
     fn go_to(&mut self, moment: u64, phase: Phase) -> Result<(), HostFault>
-        requires { self.old.phase ≢ Phase.Adding }
-        ensures gone { OnOk result (self.new ≡ record { phase = phase; parts = map (brought moment) self.old.parts }) }
-        ensures unless { OnOk result (NoneApplies (RefusesMoment self.old moment) moment_faults) }
-        ensures refused { IfErr result (IsRefusal (RefusesMoment self.old moment) moment_faults) }
+        requires begun { self.old.held.phase ≢ Phase.Adding }
+        requires there { IsAt moment phase }
+        ensures gone { OnOk result (self.new ≡ gone_to phase moment self.old) }
+        ensures unless { OnOk result (NoneApplies (RefusesMoment self.old.held moment) moment_faults) }
+        ensures refused { IfErr result (IsRefusal (RefusesMoment self.old.held moment) moment_faults) }
         ensures left { IfErr result (λ fault. LeftBy fault self.old self.new) }
     {
         self.may_go_to(moment)?;
         self.phase = Phase::Lost;
-        bring_all(self.applications.as_mut_slice(), moment, self.slice)?;
+        let shared = &mut self.shared;
+        shared.clear_turns();
+        advance(shared, moment, self.slice)?;
         self.phase = phase;
         Ok(())
     }
 
     /// Why the host can't go on to a moment, if it can't.
     fn may_go_to(&self, moment: u64) -> Result<(), HostFault>
-        requires { self.now.phase ≢ Phase.Adding }
-        ensures answer { MatchResult result (λ _. NoneApplies (RefusesMoment self.now moment) moment_faults) (IsRefusal (RefusesMoment self.now moment) moment_faults) }
+        requires { self.now.held.phase ≢ Phase.Adding }
+        ensures answer { MatchResult result (λ _. NoneApplies (RefusesMoment self.now.held moment) moment_faults) (IsRefusal (RefusesMoment self.now.held moment) moment_faults) }
         ensures left { IfErr result (λ fault. LeftBy fault self.now self.now) }
     {
         let reached = match self.phase {
@@ -185,13 +215,13 @@ impl Host {
     }
 
     /// Why an application can't be added, if it can't.
-    fn may_add(&self, name: &Text, rect: Rect, budget: u64) -> Result<(), HostFault>
+    fn may_add(&self, name: &Text, rect: Rect, budget: Budget) -> Result<(), HostFault>
         ensures { (script : List ℕ) → MatchResult result
-            (λ _. NoneApplies (RefusesApp self.now (given name.now rect script budget)) add_faults)
-            (IsRefusal (RefusesApp self.now (given name.now rect script budget)) add_faults) }
+            (λ _. NoneApplies (RefusesApp self.now.held (given name.now rect script budget)) add_faults)
+            (IsRefusal (RefusesApp self.now.held (given name.now rect script budget)) add_faults) }
     {
         match self.phase {
-            Phase::Adding => test_app(self.applications.as_slice(), name, rect, budget),
+            Phase::Adding => test_app(&self.shared, self.rects.as_slice(), name, rect, budget),
             Phase::Reached(_) => Err(HostFault::Started),
             Phase::Finished(_) => Err(HostFault::Ended),
             Phase::Lost => Err(HostFault::Broken),
@@ -201,67 +231,34 @@ impl Host {
 
 /// Why an application can't join these, if it can't.
 fn test_app(
-    applications: &[Application],
+    shared: &Shared,
+    rects: &[Rect],
     name: &Text,
     rect: Rect,
-    budget: u64,
+    budget: Budget,
 ) -> Result<(), HostFault>
     ensures { (script : List ℕ) → MatchResult result
-        (λ _. NoneApplies (PartsRefuse applications.now (given name.now rect script budget)) app_faults)
-        (IsRefusal (PartsRefuse applications.now (given name.now rect script budget)) app_faults) }
+        (λ _. NoneApplies (PartsRefuse rects.now shared.now.parts (given name.now rect script budget)) app_faults)
+        (IsRefusal (PartsRefuse rects.now shared.now.parts (given name.now rect script budget)) app_faults) }
 {
     if !is_in_range(name, rect, budget) {
         return Err(HostFault::BadValue);
     }
-    if applications.len() >= MAX_APPLICATIONS {
+    if shared.len() >= MAX_APPLICATIONS {
         return Err(HostFault::TooManyApps);
     }
-    if is_name_taken(applications, name) {
+    if shared.has_name(name) {
         return Err(HostFault::NameTaken);
     }
-    if is_place_taken(applications, rect) {
+    if is_place_taken(rects, rect) {
         return Err(HostFault::Overlap);
     }
     Ok(())
 }
 
-/// Whether an application has the name.
-fn is_name_taken(applications: &[Application], name: &Text) -> bool
-    ensures { IsTrue result ↔ Any (λ part. part.application.name ≡ name.now) applications.now }
+/// Whether a rectangle shares a pixel with this one.
+fn is_place_taken(rects: &[Rect], rect: Rect) -> bool
+    ensures { IsTrue result ↔ Any (λ other. SharePixel other rect) rects.now }
 {
-    applications
-        .iter()
-        .any(|application| application.has_name(name))
-}
-
-/// Whether an application's rectangle shares a pixel with this one.
-fn is_place_taken(applications: &[Application], rect: Rect) -> bool
-    ensures { IsTrue result ↔ Any (λ part. SharePixel part.rect rect) applications.now }
-{
-    applications
-        .iter()
-        .any(|application| application.overlaps(rect))
-}
-
-/// Runs the script of each application.
-fn start_all(applications: &mut [Application], slice: u64) -> Result<(), AllocError>
-    requires { 0 < slice }
-    ensures { OnOk result (applications.new ≡ map started applications.old) }
-{
-    for application in applications.iter_mut() {
-        application.start(slice)?;
-    }
-    Ok(())
-}
-
-/// Brings each application to a moment.
-fn bring_all(applications: &mut [Application], moment: u64, slice: u64) -> Result<(), AllocError>
-    requires positive { 0 < slice }
-    requires in_time { moment ≤ 1000000000000 }
-    ensures { OnOk result (applications.new ≡ map (brought moment) applications.old) }
-{
-    for application in applications.iter_mut() {
-        application.bring_to(moment, slice)?;
-    }
-    Ok(())
+    rects.iter().any(|other| other.overlaps(rect))
 }

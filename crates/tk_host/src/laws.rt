@@ -1,3 +1,7 @@
+ghost use Rattle.std.specs.Prelude.{◌≤◌, ℕ, List, map, sum_by};
+ghost use Rattle.tk_turns.specs.Rounds.{turns_of};
+ghost use Rattle.tk_turns.specs.Shares.{steps_in};
+ghost use Rattle.tk_app.specs.Part.{Part, needs};
 ghost use Rattle.tk_host.specs.Refusals.{OneRefusal};
 ghost use Rattle.tk_host.specs.Sections.{EachByItself};
 
@@ -10,4 +14,10 @@ pub fn each_by_itself()
 /// A call is refused with one fault alone, the first that applies, and a call that may be made has none.
 pub fn one_refusal()
     ensures { OneRefusal }
+{}
+
+/// In a stage at most the steps are taken that the applications had left at its start.
+pub fn bounded_stages()
+    ensures { (slice moment : ℕ) (parts : List Part) → 1 ≤ slice
+        → steps_in (turns_of slice (map (needs moment) parts)) ≤ sum_by (λ part. part.application.steps) parts }
 {}

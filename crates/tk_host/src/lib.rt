@@ -1,25 +1,18 @@
-//! Applications side by side in one host, and the section that each of them ends with.
+//! Applications side by side in one host, which take turns, and the section that each of them ends with.
 #![tactic(auto)]
 
-mod application;
-mod console;
 mod fault;
 mod host;
 mod laws;
-mod message;
 mod phase;
-mod round;
-mod running;
-mod section;
-mod settling;
 mod spec;
-mod state;
-mod transcript;
-mod window;
+mod stages;
 
 pub use fault::HostFault;
-pub use host::{Host, MAX_APPLICATIONS, MAX_MOMENT};
-pub use laws::{each_by_itself, one_refusal};
+pub use host::{Host, MAX_MOMENT};
+pub use laws::{bounded_stages, each_by_itself, one_refusal};
 pub use phase::Phase;
 pub use spec::{MAX_BUDGET, MAX_PIXELS, is_name};
+pub use tk_app::{Budget, MAX_APPLICATIONS};
 pub use tk_base::Rect;
+pub use tk_turns::Turn;

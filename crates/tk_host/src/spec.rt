@@ -2,12 +2,13 @@ ghost use Rattle.std.specs.Prelude.{◌↔◌, ℕ, List, IsTrue, All};
 ghost use Rattle.tk_host.specs.Spec.{IsName, IsNameByte, IsLength, IsInRange, given};
 
 use tcl_text::Text;
+use tk_app::Budget;
 use tk_base::Rect;
 
 /// The last pixel column or row at which an application may begin, and its greatest width and height.
 pub const MAX_PIXELS: u32 = 32_767;
 
-/// How many steps an application is given at most.
+/// How many steps an application is given at most, be it at first or with an event.
 pub const MAX_BUDGET: u64 = 10_000_000;
 
 /// How many bytes a name has at most.
@@ -39,7 +40,7 @@ fn is_name_byte(byte: u8) -> bool
 }
 
 /// Whether the values of an application are in the ranges that a session allows. The script can be any.
-pub fn is_in_range(name: &Text, rect: Rect, budget: u64) -> bool
+pub fn is_in_range(name: &Text, rect: Rect, budget: Budget) -> bool
     ensures { (script : List ℕ) → IsTrue result ↔ IsInRange (given name.now rect script budget) }
 {
     is_name(name.as_str().as_bytes())
@@ -47,7 +48,8 @@ pub fn is_in_range(name: &Text, rect: Rect, budget: u64) -> bool
         && rect.y <= MAX_PIXELS
         && is_length(rect.width)
         && is_length(rect.height)
-        && budget <= MAX_BUDGET
+        && budget.total <= MAX_BUDGET
+        && budget.refill <= MAX_BUDGET
 }
 
 fn is_length(length: u32) -> bool

@@ -13,7 +13,7 @@ use Rattle.std.proofs.lemmas.Option.{cond_some, none-some, same_Some}
 use Rattle.std.proofs.lemmas.Slice.Eq.{bytes_eq-Decides}
 use Rattle.tk_base.specs.declared.rect.Rect.{Rect}
 use Rattle.tk_host.specs.Spec.{IsLength, IsInRange, given}
-use Rattle.tkhost.specs.Session.{lines_of, spelled, IsAppLine, IsScriptLine, IsEndLine}
+use Rattle.tkhost.specs.Session.{lines_of, spelled, without_refill, IsAppLine, IsScriptLine, IsEndLine}
 use Rattle.tkhost.specs.Reading.{◌>>=◌, is_name, is_name_part, cut_at, is_numeral, has_plain_front, number_of, number_field, rect_field, name_of, behind, app_line_of, script_line_of, end_line_of}
 use Rattle.tkhost.proofs.Names.{is_name-Decides}
 use Rattle.tkhost.proofs.Lines.{digits_model, list_all-digits, digits_from_numeral, numeral_nonempty}
@@ -198,14 +198,15 @@ behind-some word line fields h =
 pub behind-append : (word fields : List ℕ) → Lacks 32 word → behind word (word ++ 32 ∷ fields) ≡ Some fields
 behind-append word fields lacks = rw (cut_at-append 32 word fields lacks, bytes_eq-same word) refl
 
-in_range : (name : List ℕ) (rect : Rect) (budget : ℕ) → is_name name ≡ true → IsScreenRect rect → budget ≤ 10000000 → IsInRange (given name rect [] budget)
+in_range : (name : List ℕ) (rect : Rect) (budget : ℕ) → is_name name ≡ true → IsScreenRect rect → budget ≤ 10000000 → IsInRange (given name rect [] (without_refill budget))
 in_range name rect budget named placed few = record {
   named = (is_name-Decides name).0 named;
   x_fits = placed.x;
   y_fits = placed.y;
   width_fits = placed.width;
   height_fits = placed.height;
-  budget_fits = few;
+  total_fits = few;
+  refill_fits = omega arith;
 }
 
 pub app_line_of-some : (line : List ℕ) (app : List ℕ × Rect × ℕ) → app_line_of line ≡ Some app → IsAppLine line app.0 app.1 app.2
@@ -242,7 +243,7 @@ app_line_of-spelled line name rect budget is =
       cut_at-append 32 name (decimal rect.x ++ 32 ∷ (decimal rect.y ++ 32 ∷ (decimal rect.width ++ 32 ∷ (decimal rect.height ++ 32 ∷ decimal budget)))) (Lacks-name name named),
       named,
       rect_field-spelled rect (decimal budget) placed,
-      number_of-decimal 0 10000000 budget (lit< tt) (omega arith) values.budget_fits,
+      number_of-decimal 0 10000000 budget (lit< tt) (omega arith) values.total_fits,
     ) refl
 
 pub script_line_of-some : (line : List ℕ) (count : ℕ) → script_line_of line ≡ Some count → IsScriptLine line count

@@ -14,9 +14,9 @@ use Rattle.tk_host.specs.Alone.{alone}
 use Rattle.tk_host.specs.Held.{Call, AddApp, Start, End, Held, held_after, given_by, phase_after, part_in, application_in}
 use Rattle.tk_base.specs.Rect.{SharePixel}
 use Rattle.tk_host.specs.Refusals.{IsFirst, NoneApplies, IsRefusal, RefusesApp, RefusesMoment, RefusesSection, PhaseRefuses, add_faults, start_faults, moment_faults, section_faults}
-use Rattle.tk_host.specs.Section.{section}
+use Rattle.tk_app.specs.Section.{section}
 use Rattle.tk_host.specs.Sections.{sections_after}
-use Rattle.tk_host.specs.Spec.{IsInRange}
+use Rattle.tk_host.specs.Spec.{IsInRange, rect_of}
 use Rattle.tkhost.specs.declared.session.AppBlock.{AppBlock}
 use Rattle.tkhost.specs.Session.{Plan, IsTaken, IsCovered, MayFollow, AreAllowed}
 use Rattle.tkhost.specs.Play.{spec_of, given_of, adding, calls_of}
@@ -54,7 +54,7 @@ adding-push (first ∷ apps) app = ap (λ rest. AddApp (given_of first) ∷ rest
 
 -- what is held in a phase for these applications
 abbrev pub held_in : Phase → List AppBlock → Held
-held_in phase apps = record { phase = phase; parts = map (part_in phase) (map given_of apps) }
+held_in phase apps = record { phase = phase; rects = map rect_of (map given_of apps); parts = map (part_in phase) (map given_of apps) }
 
 -- calls that add applications and then others that add none
 pub held-adding : (apps : List AppBlock) (calls : List Call) → given_by calls ≡ [] → held_after (adding apps ++ calls) ≡ held_in (phase_after Adding calls) apps
@@ -73,12 +73,12 @@ taken_from_parts name (app ∷ apps) any =
       | inr later ↦ inr (taken_from_parts name apps later)
     ]
 
-covered_from_parts : (rect : Rect) (apps : List AppBlock) → Any (λ part. SharePixel part.rect rect) (map (part_in Adding) (map given_of apps)) → IsCovered rect apps
-covered_from_parts rect [] any = absurd (omega (arith, any.2))
-covered_from_parts rect (app ∷ apps) any =
-    elim (any_head (λ part. SharePixel part.rect rect) (part_in Adding (given_of app)) (map (part_in Adding) (map given_of apps)) any) [
+covered_from_rects : (rect : Rect) (apps : List AppBlock) → Any (λ other. SharePixel other rect) (map rect_of (map given_of apps)) → IsCovered rect apps
+covered_from_rects rect [] any = absurd (omega (arith, any.2))
+covered_from_rects rect (app ∷ apps) any =
+    elim (any_head (λ other. SharePixel other rect) (rect_of (given_of app)) (map rect_of (map given_of apps)) any) [
       | inl here ↦ inl here
-      | inr later ↦ inr (covered_from_parts rect apps later)
+      | inr later ↦ inr (covered_from_rects rect apps later)
     ]
 
 -- a host takes an application that may follow those that were added
@@ -98,7 +98,7 @@ none_refuses_app apps app fits may =
               (
                 λ refuses. may.new (taken_from_parts app.name apps refuses),
                 (
-                  λ refuses. may.apart (covered_from_parts app.rect apps refuses),
+                  λ refuses. may.apart (covered_from_rects app.rect apps refuses),
                   tt,
                 ),
               ),

@@ -269,7 +269,8 @@ AreAllowed-from_blocks before lines (app ∷ apps) are =
         y_fits = values.y_fits;
         width_fits = values.width_fits;
         height_fits = values.height_fits;
-        budget_fits = values.budget_fits;
+        total_fits = values.total_fits;
+        refill_fits = values.refill_fits;
       },
       are.4,
       AreAllowed-from_blocks (before ++ app ∷ []) are.1 apps are.5,

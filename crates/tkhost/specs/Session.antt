@@ -11,6 +11,7 @@ use Rattle.tkhost.specs.declared.fault.LineFault.TheVariants as faults
 use Rattle.tkhost.specs.declared.fault.SessionFault.{SessionFault}
 use Rattle.tkhost.specs.declared.fault.SessionFault.TheVariants.{Refused, NoMemory}
 use Rattle.tk_base.specs.Rect.{SharePixel}
+use Rattle.tk_app.specs.declared.budget.Budget.{Budget}
 use Rattle.tk_host.specs.Spec.{IsInRange, given}
 
 -- the bytes of a line, without the LF at its end
@@ -32,10 +33,14 @@ heading = codes "tkhost 1"
 abbrev pub events : List ℕ
 events = codes "events"
 
+-- the budget of an application that events grant nothing
+abbrev pub without_refill : ℕ → Budget
+without_refill total = record { total = total; refill = 0 }
+
 -- `app NAME X Y WIDTH HEIGHT BUDGET`, with values that a host takes
 pub record IsAppLine (line name : List ℕ) (rect : Rect) (budget : ℕ) : Type 0 where
   pub spelling : line ≡ spelled (codes "app" ∷ name ∷ decimal rect.x ∷ decimal rect.y ∷ decimal rect.width ∷ decimal rect.height ∷ decimal budget ∷ [])
-  pub values : IsInRange (given name rect [] budget)
+  pub values : IsInRange (given name rect [] (without_refill budget))
 
 -- `script COUNT`
 pub record IsScriptLine (line : List ℕ) (count : ℕ) : Type 0 where
@@ -155,7 +160,7 @@ IsRefused place (line ∷ lines) fault = IsFaulty place line fault
 -- the applications may come one after another behind those before
 abbrev pub AreAllowed : List AppBlock → List AppBlock → Type 0
 AreAllowed before [] = Unit {0}
-AreAllowed before (app ∷ apps) = IsInRange (given app.name app.rect app.script app.budget) × MayFollow before app.name app.rect × AreAllowed (before ++ app ∷ []) apps
+AreAllowed before (app ∷ apps) = IsInRange (given app.name app.rect app.script (without_refill app.budget)) × MayFollow before app.name app.rect × AreAllowed (before ++ app ∷ []) apps
 
 -- what a session may say
 pub record IsAllowed (plan : Plan) : Type 0 where

@@ -12,7 +12,7 @@ use crate::session::{AppBlock, Session};
 use std::alloc::{AllocError, AllocFailed, Global};
 use std::io::Write;
 use thiserror::Error;
-use tk_host::{Host, HostFault};
+use tk_host::{Budget, Host, HostFault};
 
 /// Why a session was not played to its end, or its sections not written.
 #[derive(Clone, Copy, Debug, PartialEq, Eq, Drop, Error)]
@@ -63,20 +63,24 @@ fn unless_memory<T: Drop>(answer: Result<T, HostFault>) -> Result<T, PlayFault>
 
 /// Adds an application that the host takes.
 fn add(host: &mut Host, app: &AppBlock) -> Result<(), PlayFault>
-    requires { NoneApplies (RefusesApp host.old (given_of app.now)) add_faults }
-    ensures history { (calls : List Call) → host.old ≡ held_after calls → OnOk result (host.new ≡ held_after (calls ++ AddApp (given_of app.now) ∷ [])) }
+    requires { NoneApplies (RefusesApp host.old.held (given_of app.now)) add_faults }
+    ensures history { (calls : List Call) → host.old.held ≡ held_after calls → OnOk result (host.new.held ≡ held_after (calls ++ AddApp (given_of app.now) ∷ [])) }
     ensures memory { IfErr result (λ fault. fault ≡ PlayFault.NoMemory) }
 {
     let name = app.name.copy()?;
     let script = app.script.copy()?;
-    unless_memory(host.add_app(name, app.rect, script, app.budget))
+    let budget = Budget {
+        total: app.budget,
+        refill: 0,
+    };
+    unless_memory(host.add_app(name, app.rect, script, budget))
 }
 
 /// Adds applications that may stand side by side.
 fn add_all(host: &mut Host, apps: &[AppBlock]) -> Result<(), PlayFault>
-    requires empty { host.old ≡ held_after [] }
+    requires empty { host.old.held ≡ held_after [] }
     requires allowed { AreAllowed [] apps.now }
-    ensures added { OnOk result (host.new ≡ held_after (adding apps.now)) }
+    ensures added { OnOk result (host.new.held ≡ held_after (adding apps.now)) }
     ensures memory { IfErr result (λ fault. fault ≡ PlayFault.NoMemory) }
 {
     for app in apps {
@@ -88,7 +92,7 @@ fn add_all(host: &mut Host, apps: &[AppBlock]) -> Result<(), PlayFault>
 /// A host that has played the session.
 fn played(alloc: Global, session: &Session, slice: u64) -> Result<Host, PlayFault>
     requires { 1 ≤ slice }
-    ensures host { IfOk result (λ host. host ≡ held_after (calls_of session.now)) }
+    ensures host { IfOk result (λ host. host.held ≡ held_after (calls_of session.now)) }
     ensures memory { IfErr result (λ fault. fault ≡ PlayFault.NoMemory) }
 {
     let mut host = Host::new(alloc, slice);
@@ -100,7 +104,7 @@ fn played(alloc: Global, session: &Session, slice: u64) -> Result<Host, PlayFaul
 
 /// The sections of a host that has played the session.
 fn sections(alloc: Global, host: &Host, session: &Session) -> Result<Vec<u8>, PlayFault>
-    requires { host.now ≡ held_after (calls_of session.now) }
+    requires { host.now.held ≡ held_after (calls_of session.now) }
     ensures text { IfOk result (λ text. text.items ≡ sections_of session.now) }
     ensures memory { IfErr result (λ fault. fault ≡ PlayFault.NoMemory) }
 {

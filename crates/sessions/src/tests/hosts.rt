@@ -5,7 +5,7 @@ ghost use Rattle.std.specs.Prelude.{◌≢◌};
 use std::alloc::Global;
 use std::test::Fail;
 use tcl_text::Text;
-use tk_host::{Host, HostFault, Phase, Rect};
+use tk_host::{Budget, Host, HostFault, Phase, Rect};
 
 const LEFT: Rect = Rect {
     x: 0,
@@ -32,6 +32,10 @@ fn add(
 ) -> Result<Option<u32>, Fail> {
     let name = Text::new(alloc, name)?;
     let script = Text::new(alloc, script)?;
+    let budget = Budget {
+        total: budget,
+        refill: 0,
+    };
     Ok(number_of(host.add_app(name, rect, script, budget)))
 }
 
@@ -44,16 +48,16 @@ fn number_of(answer: Result<(), HostFault>) -> Option<u32> {
 
 /// Goes on to the end, and answers the number of the refusal.
 fn end(host: &mut Host, moment: u64) -> Option<u32>
-    requires { host.old.phase ≢ Phase.Adding }
-    ensures { host.new.phase ≢ Phase.Adding }
+    requires { host.old.held.phase ≢ Phase.Adding }
+    ensures { host.new.held.phase ≢ Phase.Adding }
 {
     number_of(host.end(moment))
 }
 
 /// Goes on to a moment, and answers the number of the refusal.
 fn advance(host: &mut Host, moment: u64) -> Option<u32>
-    requires { host.old.phase ≢ Phase.Adding }
-    ensures { host.new.phase ≢ Phase.Adding }
+    requires { host.old.held.phase ≢ Phase.Adding }
+    ensures { host.new.held.phase ≢ Phase.Adding }
 {
     number_of(host.advance_to(moment))
 }
@@ -247,5 +251,75 @@ fn goes_forth_alone(rt: HostRuntime) -> Result<(), Fail> {
     assert_eq!(rt; advance(&mut host, 5), None);
     assert_eq!(rt; end(&mut host, 8), None);
     assert_eq!(rt; advance(&mut host, 9), Some(41));
+    Ok(())
+}
+
+/// Whether these turns were taken: whose each was, and how many steps it took.
+fn are_turns(host: &Host, wanted: &[(usize, u64)]) -> bool {
+    let turns = host.turns();
+    for (turn, want) in turns.iter().zip(wanted.iter()) {
+        if turn.slot != want.0 || turn.steps != want.1 {
+            return false;
+        }
+    }
+    turns.len() == wanted.len()
+}
+
+/// One application that never ends and one that says bye take turns, by slices of 2 and of 64 steps.
+#[test]
+fn takes_turns(rt: HostRuntime) -> Result<(), Fail> {
+    let alloc = rt.alloc();
+    let by_two = [(0, 2), (1, 1), (0, 2), (0, 1)];
+    let by_64 = [(0, 5), (1, 1)];
+    for (slice, wanted) in [(2, by_two.as_slice()), (64, by_64.as_slice())] {
+        let mut host = Host::new(alloc, slice);
+        assert_eq!(rt; add(&mut host, alloc, "a", LEFT, "while 1 {}", 5)?, None);
+        assert_eq!(rt; add(&mut host, alloc, "b", RIGHT, "puts bye", 100)?, None);
+        assert!(rt; are_turns(&host, &[]));
+        host.start()?;
+        assert!(rt; are_turns(&host, wanted), "by {slice}");
+        assert_eq!(rt; number_of(host.start()), Some(40));
+        assert!(rt; are_turns(&host, wanted), "by {slice}, after a refusal");
+        assert_eq!(rt; end(&mut host, 0), None);
+        assert!(rt; are_turns(&host, &[]), "by {slice}, at the end");
+    }
+    Ok(())
+}
+
+/// Timers of two applications: a stage for each moment at which one is due, the earliest first, and turns in each.
+#[test]
+fn takes_turns_at_each_moment(rt: HostRuntime) -> Result<(), Fail> {
+    let alloc = rt.alloc();
+    let mut host = Host::new(alloc, 2);
+    assert_eq!(rt;
+        add(
+            &mut host,
+            alloc,
+            "a",
+            LEFT,
+            "after 8 {puts a}; after 5 {puts b; puts c}",
+            100
+        )?,
+        None
+    );
+    assert_eq!(rt;
+        add(
+            &mut host,
+            alloc,
+            "b",
+            RIGHT,
+            "after 5 {puts d; puts e}",
+            100
+        )?,
+        None
+    );
+    host.start()?;
+    assert!(rt; are_turns(&host, &[(0, 2), (1, 1)]));
+    assert_eq!(rt; advance(&mut host, 6), None);
+    assert!(rt; are_turns(&host, &[(0, 2), (1, 2), (0, 1), (1, 1)]));
+    assert_eq!(rt; advance(&mut host, 4), Some(35));
+    assert!(rt; are_turns(&host, &[(0, 2), (1, 2), (0, 1), (1, 1)]));
+    assert_eq!(rt; end(&mut host, 8), None);
+    assert!(rt; are_turns(&host, &[(0, 2)]));
     Ok(())
 }

@@ -5,15 +5,15 @@ use Rattle.tk_host.proofs.host.test_app.Goals as goal
 pub returns-then-not-is_in_range : goal.returns-then-not-is_in_range
 returns-then-not-is_in_range c = λ script. inl (iff_false (c.is_in_range.ensures script) c.if-not-is_in_range.true, refl)
 
-pub returns-then-applications-ge-MAX_APPLICATIONS : goal.returns-then-applications-ge-MAX_APPLICATIONS
-returns-then-applications-ge-MAX_APPLICATIONS c = λ script.
+pub returns-then-len-ge-MAX_APPLICATIONS : goal.returns-then-len-ge-MAX_APPLICATIONS
+returns-then-len-ge-MAX_APPLICATIONS c = λ script.
     inr (λ out. out ((c.is_in_range.ensures script).0 c.if-not-is_in_range.false), inl (omega arith, refl))
 
-pub returns-then-is_name_taken : goal.returns-then-is_name_taken
-returns-then-is_name_taken c = λ script.
+pub returns-then-has_name : goal.returns-then-has_name
+returns-then-has_name c = λ script.
     inr (
       λ out. out ((c.is_in_range.ensures script).0 c.if-not-is_in_range.false),
-      inr (λ full. absurd (omega arith), inl (c.is_name_taken.ensures.0 c.if-is_name_taken.true, refl)),
+      inr (λ full. absurd (omega arith), inl (c.has_name.ensures.0 c.if-has_name.true, refl)),
     )
 
 pub returns-then-is_place_taken : goal.returns-then-is_place_taken
@@ -22,7 +22,7 @@ returns-then-is_place_taken c = λ script.
       λ out. out ((c.is_in_range.ensures script).0 c.if-not-is_in_range.false),
       inr (
         λ full. absurd (omega arith),
-        inr (iff_false c.is_name_taken.ensures c.if-is_name_taken.false, inl (c.is_place_taken.ensures.0 c.if-is_place_taken.true, refl)),
+        inr (iff_false c.has_name.ensures c.if-has_name.false, inl (c.is_place_taken.ensures.0 c.if-is_place_taken.true, refl)),
       ),
     )
 
@@ -32,7 +32,7 @@ returns c = λ script. (
   (
     λ full. absurd (omega arith),
     (
-      iff_false c.is_name_taken.ensures c.if-is_name_taken.false,
+      iff_false c.has_name.ensures c.if-has_name.false,
       (iff_false c.is_place_taken.ensures c.if-is_place_taken.false, tt),
     ),
   ),

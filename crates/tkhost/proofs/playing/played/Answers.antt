@@ -10,5 +10,5 @@ unless_memory-requires c =
     let P : Held → Type 0 = λ held. NoneApplies (PhaseRefuses held.phase) start_faults in
     let host = c.add_all.new.host in
     IfErr-weaker c.start.result _ _
-    (λ fault is. only_memory (PhaseRefuses host.phase) start_faults fault (subst P (sym c.in_ok-add_all.ensures.added) (none_refuses_start c.apps.result.now)) is)
+    (λ fault is. only_memory (PhaseRefuses host.held.phase) start_faults fault (subst P (sym c.in_ok-add_all.ensures.added) (none_refuses_start c.apps.result.now)) is)
     c.start.ensures.refused

@@ -14,7 +14,7 @@ unless_memory-requires c =
     let within : slot < length plan.apps = omega (arith, ap length c.apps-slot-end.ensures.apps) in
     let P : Held → Type 0 = λ held. NoneApplies (RefusesSection held slot) section_faults in
     IfErr-weaker c.section.result _ _
-    (λ fault is. only_memory (RefusesSection c.args.host.now slot) section_faults fault (subst P (sym c.requires) (none_refuses_section plan slot within)) is)
+    (λ fault is. only_memory (RefusesSection c.args.host.now.held slot) section_faults fault (subst P (sym c.requires) (none_refuses_section plan slot within)) is)
     c.section.ensures.refused
 
 pub loop-slot-preserved : goal.loop-slot-preserved

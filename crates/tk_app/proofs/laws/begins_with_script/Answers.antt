@@ -1,0 +1,5 @@
+use Rattle.tk_app.proofs.Parts.{begins_with_script}
+use Rattle.tk_app.proofs.laws.begins_with_script.Goals as goal
+
+pub returns : goal.returns
+returns c = begins_with_script

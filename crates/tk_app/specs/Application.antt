@@ -1,0 +1,53 @@
+-- An application as lists and values.
+use Rattle.std.specs.Prelude.{ℕ, List, [], ◌∷◌, Option, None}
+use Rattle.tcl_control.specs.Table.{Table, first_commands}
+use Rattle.tcl_vars.specs.Store.{Store}
+use Rattle.tk_after.specs.Timers.{Own, due_moments, fresh as nothing_waits, least}
+use Rattle.tk_app.specs.declared.budget.Budget.{Budget}
+use Rattle.tk_app.specs.declared.state.AppState.{AppState}
+use Rattle.tk_app.specs.declared.state.AppState.TheVariants.{Running, Exhausted, Closed}
+use Rattle.tk_app.specs.declared.transcript.Line.{Line}
+use Rattle.tk_app.specs.declared.window.Window.{Window}
+use Rattle.tk_app.specs.Outside.{served_names}
+use Rattle.tk_app.specs.Shown.{unlaid}
+use Rattle.tk_app.specs.Spec.{Spec}
+
+pub record Application : Type 0 where
+  pub name : List ℕ
+  pub width : ℕ
+  pub height : ℕ
+  pub store : Store
+  pub commands : Table
+  pub transcript : List Line
+  pub window : Window
+  pub title : List ℕ
+  pub own : Own
+  pub budget : Budget
+  pub steps : ℕ
+  pub state : AppState
+
+-- an application before its script, with no variables, the commands at first, and nothing that waits
+abbrev pub fresh : Spec → Application
+fresh spec = record {
+  name = spec.name;
+  width = spec.width;
+  height = spec.height;
+  store = [] ∷ [];
+  commands = first_commands served_names;
+  transcript = [];
+  window = unlaid;
+  title = spec.name;
+  own = nothing_waits;
+  budget = spec.budget;
+  steps = spec.budget.total;
+  state = Running;
+}
+
+-- when something of its own is due next, while it runs
+abbrev pub next_due_as : AppState → Own → Option ℕ
+next_due_as Running own = least (due_moments own.entries)
+next_due_as Exhausted own = None
+next_due_as Closed own = None
+
+abbrev pub next_due : Application → Option ℕ
+next_due application = next_due_as application.state application.own

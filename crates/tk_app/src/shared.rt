@@ -1,0 +1,185 @@
+ghost use Rattle.std.specs.Prelude.{◌≡◌, ◌↔◌, Any, IsTrue};
+
+use crate::budget::Budget;
+use crate::due::next_due;
+use crate::runner::Runner;
+use crate::section::section;
+use crate::state::AppState;
+use crate::tables::Tables;
+use crate::view::AppView;
+use crate::window::Size;
+use std::alloc::{AllocError, Global};
+use std::marker::Model;
+use tcl_text::Text;
+use tk_turns::Turn;
+
+/// How many applications there are at most.
+pub const MAX_APPLICATIONS: usize = 16;
+
+/// All applications, at one moment, in milliseconds: the tables that they have in common, and what each has by itself. An application is known by its
+/// slot, from 0 on, and each call on one goes through its view.
+#[derive(Drop)]
+pub struct Shared {
+    pub(crate) tables: Tables,
+    pub(crate) runners: Vec<Runner>,
+    pub(crate) turns: Vec<Turn>,
+    pub(crate) refused: bool,
+}
+
+impl Model for Shared {
+    ghost use Rattle.std.specs.Prelude.{◌≡◌, ◌≤◌, length};
+    ghost use Rattle.tk_app.specs.Tables.{IsVacantFrom};
+    ghost use Rattle.tk_app.specs.Turns.{Applications, parts_from};
+
+    ghost Value = { Applications };
+
+    ghost view = { λ s. record { moment = s.tables.clock; parts = parts_from 0 s.tables s.runners.items; turns = s.turns.items; refused = s.refused } };
+
+    ghost invariant = { λ s. (length s.runners.items ≤ 16) × (length s.tables.windows ≡ length s.runners.items) × IsVacantFrom (length s.runners.items) s.tables };
+}
+
+impl Shared {
+    ghost use Rattle.std.specs.Prelude.{◌≡◌, ◌<◌, ◌≤◌, ◌↔◌, [], ◌∷◌, ◌++◌, Any, IfOk, IsTrue, OnErr, OnOk, Some, false, length, option_map, slice_get};
+    ghost use Rattle.tk_app.specs.Application.{next_due};
+    ghost use Rattle.tk_app.specs.Part.{added, is_under_way};
+    ghost use Rattle.tk_app.specs.Section.{section};
+
+    /// No application, at moment 0. It takes no memory.
+    #[tactic(auto, unfolding(crate::specs::Turns::parts_from))]
+    pub fn new(alloc: Global) -> Shared
+        ensures { result ≡ record { moment = 0; parts = []; turns = []; refused = false } }
+    {
+        Shared {
+            tables: Tables::new(alloc),
+            runners: Vec::new(alloc),
+            turns: Vec::new(alloc),
+            refused: false,
+        }
+    }
+
+    /// How many applications there are. It takes no memory.
+    pub fn len(&self) -> usize
+        ensures { result ≡ length self.now.parts }
+    {
+        self.runners.len()
+    }
+
+    /// Adds an application, in the next slot, which it answers: its name, the size of its rectangle in pixels, its steps, and its script, which is the
+    /// first that it does when it settles.
+    pub fn add(
+        &mut self,
+        name: Text,
+        size: Size,
+        budget: Budget,
+        script: Text,
+    ) -> Result<usize, AllocError>
+        requires { length self.old.parts < 16 }
+        ensures slot { IfOk result (λ slot. slot ≡ length self.old.parts) }
+        ensures added { OnOk result (self.new ≡ record self.old {
+          parts = self.old.parts ++ added (record { name = name; width = size.width; height = size.height; script = script; budget = budget }) ∷ [];
+        }) }
+        ensures unchanged { OnErr result (self.new ≡ self.old) }
+    {
+        let slot = self.runners.len();
+        let runner = Runner::new(self.tables.alloc, name, script, budget)?;
+        self.runners.reserve(1)?;
+        self.tables.windows.add(size)?;
+        match self.runners.push(runner) {
+            Ok(()) => Ok(slot),
+            Err(_) => unreachable!(),
+        }
+    }
+
+    /// All go on to a moment, in milliseconds, at which nothing has been done yet. It takes no memory.
+    pub fn set_moment(&mut self, moment: u64)
+        requires later { self.old.moment ≤ moment }
+        requires in_time { moment ≤ 1000000000000 }
+        ensures { self.new ≡ record self.old { moment = moment } }
+    {
+        self.tables.clock.set(moment);
+    }
+
+    /// The view of an application.
+    pub fn view(&mut self, slot: usize) -> AppView<'_>
+        requires { slot < length self.old.parts }
+        ensures slot { result.slot ≡ slot }
+        ensures same_reference { result.shared.ghost_name ≡ self.entry.ghost_name }
+        ensures now { result.shared.now ≡ self.old }
+    {
+        AppView { slot, shared: self }
+    }
+
+    /// Whether an application has this name.
+    pub fn has_name(&self, name: &Text) -> bool
+        ensures { IsTrue result ↔ Any (λ part. part.application.name ≡ name.now) self.now.parts }
+    {
+        have_name(self.runners.as_slice(), name)
+    }
+
+    /// Whether an application has something to do that has begun. It takes no memory.
+    pub fn is_under_way(&self, slot: usize) -> bool
+        requires { slot < length self.now.parts }
+        ensures { option_map (λ part. is_under_way part.work) (slice_get self.now.parts slot) ≡ Some result }
+    {
+        let runner = &self.runners[slot];
+        runner.is_under_way()
+    }
+
+    /// What has become of an application. It takes no memory.
+    pub fn state(&self, slot: usize) -> AppState
+        requires { slot < length self.now.parts }
+        ensures { option_map (λ part. part.application.state) (slice_get self.now.parts slot) ≡ Some result }
+    {
+        let runner = &self.runners[slot];
+        runner.state()
+    }
+
+    /// The moment at which the earliest timer of an application is due, while it runs. It takes no memory.
+    pub fn next_due(&self, slot: usize) -> Option<u64>
+        requires { slot < length self.now.parts }
+        ensures { option_map (λ part. next_due part.application) (slice_get self.now.parts slot) ≡ Some result }
+    {
+        let runner = &self.runners[slot];
+        next_due(&self.tables, slot, runner.state())
+    }
+
+    /// How many steps an application has left. It takes no memory.
+    pub fn steps_left(&self, slot: usize) -> u64
+        requires { slot < length self.now.parts }
+        ensures { option_map (λ part. part.application.steps) (slice_get self.now.parts slot) ≡ Some result }
+    {
+        let runner = &self.runners[slot];
+        runner.steps_left()
+    }
+
+    /// The section of an application, in bytes: what it wrote, its windows, and what it has waiting.
+    pub fn section(&self, alloc: Global, slot: usize) -> Result<Vec<u8>, AllocError>
+        requires { slot < length self.now.parts }
+        ensures { IfOk result (λ bytes. option_map (λ part. section part.application) (slice_get self.now.parts slot) ≡ Some bytes.items) }
+    {
+        let runner = &self.runners[slot];
+        let bytes = section(alloc, &self.tables, slot, runner)?;
+        Ok(bytes)
+    }
+
+    /// The turns that took steps, since they were cleared. It takes no memory.
+    pub fn turns(&self) -> &[Turn]
+        ensures { result.now ≡ self.now.turns }
+    {
+        self.turns.as_slice()
+    }
+
+    /// No turn is told any more. It takes no memory.
+    pub fn clear_turns(&mut self)
+        ensures { self.new ≡ record self.old { turns = [] } }
+    {
+        self.turns.clear();
+    }
+}
+
+/// Whether one of them has this name.
+fn have_name(runners: &[Runner], name: &Text) -> bool
+    ensures { IsTrue result ↔ Any (λ program. program.name ≡ name.now) runners.now }
+{
+    runners.iter().any(|runner| runner.has_name(name))
+}

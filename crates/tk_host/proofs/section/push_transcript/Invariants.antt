@@ -1,8 +1,0 @@
-use Rattle.std.proofs.Common.{◌≡◌, ◌++◌, take}
-use Rattle.std.specs.Prelude.{flat_map}
-use Rattle.tk_host.specs.Section.{transcript_line}
-use Rattle.tk_host.proofs.section.push_transcript.Given as goal
-
--- what was read is written
-abbrev pub invariant-loop-line : goal.invariant-loop-line
-invariant-loop-line l = l.out.items ≡ l.fn.out.items ++ flat_map transcript_line (take l.line-index l.lines)

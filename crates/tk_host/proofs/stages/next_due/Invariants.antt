@@ -1,0 +1,11 @@
+use Rattle.std.proofs.Common.{◌≡◌, drop}
+use Rattle.tk_turns.specs.Stages.{earlier, first_due}
+use Rattle.tk_app.specs.Application.{next_due}
+use Rattle.tk_app.specs.Part.{settled}
+use Rattle.tk_host.specs.Turns.{applications}
+use Rattle.tk_host.proofs.stages.next_due.Given as goal
+
+-- the first so far and of the rest is that of them all
+abbrev pub invariant-loop-slot : goal.invariant-loop-slot
+invariant-loop-slot l =
+    earlier l.first (first_due next_due settled (drop l.slot (applications l.shared.parts))) ≡ first_due next_due settled (applications l.shared.parts)

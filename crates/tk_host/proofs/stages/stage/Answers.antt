@@ -1,0 +1,36 @@
+use Rattle.std.proofs.Common.{◌≡◌, ◌++◌, ◌-◌, ℕ, List, [], map, sum, sym, ap, ◌∙◌, append-nil, subst, arith, Ok}
+use Rattle.tk_turns.specs.Rounds.{round, turns_of}
+use Rattle.tk_turns.proofs.Rounds.{turns_more, turns_none}
+use Rattle.tk_app.specs.Part.{Part, needs, stage_done}
+use Rattle.tk_host.proofs.Slots.{none_needed}
+use Rattle.tk_host.proofs.stages.stage.Goals as goal
+
+pub rounds-preserved : goal.rounds-preserved
+rounds-preserved c =
+    let loop = c.rounds in
+    let m : ℕ = c.args.shared.now.moment in
+    let is : loop.shared.moment ≡ m = loop.invariant.moment in
+    let done_by : ℕ → List Part → List Part = λ n ps. map (stage_done n) ps in
+    let needed_by : ℕ → List Part → List ℕ = λ n ps. map (needs n) ps in
+    let here = loop.shared.parts in
+    let there = c.run_round.new.shared.parts in
+    let told = c.in_ok-more.ensures in
+    record {
+      moment = told.moment ∙ is;
+      done = ap (λ n. done_by n there) (sym is) ∙ told.done ∙ ap (λ n. done_by n here) is ∙ loop.invariant.done;
+      turns =
+          turns_more c.args.slice (needed_by m here) (needed_by m there) loop.shared.turns c.run_round.new.shared.turns
+          (c.args.shared.now.turns ++ turns_of c.args.slice (needed_by m c.args.shared.now.parts)) (omega arith)
+          (ap (λ n. needed_by n there) (sym is) ∙ told.left ∙ ap (λ n. map (λ need. need - c.args.slice) (needed_by n here)) is)
+          (told.turns ∙ ap (λ n. loop.shared.turns ++ round c.args.slice (needed_by n here) 0) is)
+          loop.invariant.turns;
+      last = λ e. told.last (ap Ok e) ∙ ap (λ n. done_by n here) is ∙ loop.invariant.done;
+    }
+
+pub returns-clause-turns : goal.returns-clause-turns
+returns-clause-turns c =
+    let loop = c.rounds in
+    let m : ℕ = c.args.shared.now.moment in
+    let rest : turns_of c.args.slice (map (needs m) loop.shared.parts) ≡ [] =
+    turns_none c.args.slice (map (needs m) loop.shared.parts) (ap (λ ps. sum (map (needs m) ps)) (loop.invariant.last c.rounds-test.false) ∙ none_needed m c.args.shared.now.parts) in
+    sym (append-nil loop.shared.turns) ∙ ap (λ ts. loop.shared.turns ++ ts) (sym rest) ∙ loop.invariant.turns

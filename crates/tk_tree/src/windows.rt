@@ -1,18 +1,20 @@
-ghost use Rattle.std.specs.Prelude.{◌≡◌, ◌≢◌, ◌<◌, ◌≤◌, ◌++◌, ◌-◌, ◌==◌, ℕ, false, [], ◌∷◌, None, Some, Ok, Err, IsSome, IfOk, IfSome, OnOk, OnErr, IsOkUnless, MatchOption, is_some, length, option_map, reverse};
+ghost use Rattle.std.specs.Prelude.{◌≡◌, ◌≢◌, ◌<◌, ◌≤◌, ◌++◌, ◌-◌, ◌^◌, ◌==◌, ℕ, false, [], ◌∷◌, None, Some, Ok, Err, IsSome, IfOk, IfSome, OnOk, OnErr, IsOkUnless, MatchOption, is_some, length, option_map, reverse};
 ghost use Rattle.std.specs.Option.{option_copied, option_map_or};
 ghost use Rattle.tk_tree.specs.Change.{changed, dying, with_place, with_tags};
+ghost use Rattle.tk_tree.specs.Corners.{corner};
 ghost use Rattle.tk_tree.specs.Create.{refusal, place_refusal, parent_number, with_window};
 ghost use Rattle.tk_tree.specs.Orders.{below, below_first, all_below, all_below_first, subtree, post_order};
 ghost use Rattle.tk_tree.specs.Own.{own_of, window_at, at_path, is_full, child_numbers, with_change, without_window, LeavesOthers, IsSound};
 ghost use Rattle.tk_tree.specs.Ways.{at_point, way_at, way_to, way_up};
 
 use crate::change::{Change, change_window};
+use crate::corner::Corner;
 use crate::counter::{Counter, count_less, counter_of, set_counter};
 use crate::fault::WindowFault;
 use crate::index::Index;
 use crate::order::push_reversed;
 use crate::path::{begins_upper, parent_and_name};
-use crate::window::{Window, has_point, new_window, tags_for};
+use crate::window::{Window, has_point, new_window, offset, tags_for};
 use slab::Slab;
 use std::alloc::{AllocError, Global};
 use std::collections::HashMap;
@@ -257,6 +259,34 @@ impl Windows {
         }
         way.reverse();
         Ok(way)
+    }
+
+    /// Where the upper left corner of a window lies, in pixels from that of the application's rectangle (winfo(n)); 0 0 where the window is
+    /// gone. It takes no memory.
+    #[tactic(auto, unfolding(crate::specs::Corners::corner))]
+    pub fn corner(&self, win: Win) -> Corner
+        ensures corner { result ≡ corner win.number (own_of win.owner self.now) }
+        ensures near { (result.x < 2 ^ 41) × (result.y < 2 ^ 41) }
+    {
+        let _ = &self.slab;
+        let mut x = 0;
+        let mut y = 0;
+        let mut up = Some(win.number);
+        while let Some(number) = up {
+            up = match self.window(Win {
+                owner: win.owner,
+                number,
+            }) {
+                Some(window) => {
+                    let (across, down) = offset(window);
+                    x += across;
+                    y += down;
+                    window.parent
+                }
+                None => None,
+            };
+        }
+        Corner { x, y }
     }
 
     /// The number of the parent of a window that is there, if it has one.

@@ -11,5 +11,6 @@ mod window;
 mod windows;
 
 pub use fault::WindowFault;
+pub use path::parent_and_name;
 pub use window::Window;
 pub use windows::Windows;

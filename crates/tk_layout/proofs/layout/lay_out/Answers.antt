@@ -12,5 +12,5 @@ returns c =
     (λ changes is. is ∙ ap (changes_of c.args.shapes.now)
     (c.as_slice.ensures.value
     ∙ layout_is c.args.size (slaves_in c.in_ok-groups.groups) (own_of c.args.owner c.args.packs.now).packs c.args.shapes.now c.in_ok-sizes.sizes.entries c.in_ok-places.places.items
-    (λ master. c.in_ok-groups.ensures master ∙ ap (slaves_of master) c.packs-call.ensures) c.in_ok-sizes.ensures c.in_ok-places.ensures))
+    (λ master. c.in_ok-groups.ensures master ∙ ap (slaves_of master) c.packs.ensures) c.in_ok-sizes.ensures c.in_ok-places.ensures))
     c.changes_of.ensures

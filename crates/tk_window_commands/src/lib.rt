@@ -7,8 +7,6 @@ mod commands;
 mod create;
 mod path;
 mod refusals;
-#[cfg(test)]
-mod tests;
 mod winfo;
 mod winfo_told;
 mod wm;

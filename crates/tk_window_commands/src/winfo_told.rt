@@ -77,8 +77,10 @@ fn paths_of(
     ensures { IfOk result (λ paths. paths ≡ map (spec.path_at (tree_of slot windows.now)) numbers.now) }
 {
     let mut paths = TextList::with_capacity(alloc, numbers.len())?;
-    for number in numbers {
+    let mut rest = numbers;
+    while let [number, others @ ..] = rest {
         paths.push(path_at(alloc, windows, slot, *number)?)?;
+        rest = others;
     }
     Ok(paths)
 }

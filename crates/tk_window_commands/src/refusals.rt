@@ -1,5 +1,5 @@
 //! The errors of commands on windows.
-ghost use Rattle.std.specs.Prelude.{◌≡◌, ◌++◌, IfOk, codes, string_bytes};
+ghost use Rattle.std.specs.Prelude.{◌≡◌, ◌++◌, IfOk, OnOk, codes, string_bytes};
 ghost use Rattle.tcl_text.specs.Answers.{Gives, Refuses, bounded, quoted};
 ghost use Rattle.tk_window_commands.specs.Answers as spec;
 ghost use Rattle.tk_window_commands.specs.Create.{name_in, refusal_text};
@@ -49,17 +49,28 @@ pub fn name_in(path: &str) -> &str
 fn name_taken(alloc: Global, name: &str) -> Refusal
     ensures { Refuses result (bounded (codes "window name " ++ (quoted name.now ++ codes " already exists in parent"))) }
 {
-    match taken_text(alloc, name) {
+    match quoting(alloc, "window name ", name, " already exists in parent") {
         Ok(text) => error(alloc, text.as_str()),
         Err(AllocError) => Refusal::NoMemory,
     }
 }
 
-fn taken_text(alloc: Global, name: &str) -> Result<String, AllocError>
-    ensures { IfOk result (λ text. string_bytes text ≡ codes "window name " ++ (quoted name.now ++ codes " already exists in parent")) }
+/// A word in quotation marks with what stands before and behind it.
+fn quoting(alloc: Global, before: &str, word: &str, behind: &str) -> Result<String, AllocError>
+    ensures { IfOk result (λ string. string_bytes string ≡ before.now ++ (quoted word.now ++ behind.now)) }
 {
-    let mut text = String::from_str(alloc, "window name \"")?;
-    text.push_str(name)?;
-    text.push_str("\" already exists in parent")?;
-    Ok(text)
+    let mut message = String::from_str(alloc, before)?;
+    push_quoted(&mut message, word)?;
+    message.push_str(behind)?;
+    Ok(message)
+}
+
+/// Adds a word in quotation marks.
+fn push_quoted(message: &mut String, word: &str) -> Result<(), AllocError>
+    ensures { OnOk result (string_bytes message.new ≡ string_bytes message.old ++ quoted word.now) }
+{
+    message.push_str("\"")?;
+    message.push_str(word)?;
+    message.push_str("\"")?;
+    Ok(())
 }

@@ -1,0 +1,3 @@
+-- Lemmas.
+pub mod Answered
+pub mod Made

@@ -5,7 +5,7 @@ use Rattle.tk_events.specs.declared.event.Event.{Event}
 use Rattle.tk_input.specs.declared.event.LocalEvent.{LocalEvent}
 use Rattle.tk_input.specs.declared.event.LocalKind.{LocalKind}
 use Rattle.tk_input.specs.declared.event.LocalKind.TheVariants as kinds
-use Rattle.tk_inputs.specs.declared.deliver.KeyLine.{KeyLine}
+use Rattle.tk_inputs.specs.declared.delivery.KeyLine.{KeyLine}
 use Rattle.tk_inputs.specs.declared.events.PointerLine.{PointerLine}
 use Rattle.tk_inputs.specs.declared.inputs.Input.{Input}
 use Rattle.tk_inputs.specs.Events.{key_event, plain_event, pointer_event}

@@ -7,7 +7,7 @@ ghost use Rattle.tk_inputs.specs.Inputs as inputs_of;
 ghost use Rattle.tk_queue.specs.Queue as queue_of;
 ghost use Rattle.tk_tree.specs.Own as tree_of;
 
-use crate::deliver::queue_plain;
+use crate::delivery::queue_plain;
 use crate::inputs::Inputs;
 use std::alloc::{AllocError, Global};
 use tcl_text::Text;

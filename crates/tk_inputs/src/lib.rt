@@ -2,11 +2,11 @@
 //! and the host's focus give them, and the command of focus(n).
 #![tactic(auto)]
 
-mod deliver;
+mod delivery;
 mod events;
 mod focus;
 mod inputs;
 
-pub use deliver::deliver;
+pub use delivery::deliver;
 pub use focus::{focus_command, set_focus};
 pub use inputs::{Input, Inputs};

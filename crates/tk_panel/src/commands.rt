@@ -1,0 +1,94 @@
+//! The commands `puts`, `clock` and `after`, by the words behind their names.
+ghost use Rattle.std.specs.Prelude.{◌≡◌, IfOk};
+ghost use Rattle.tk_panel.specs.Commands.{after_told, clock_words, milliseconds, put_to, puts_words, written};
+ghost use Rattle.tk_panel.specs.Panel.{LeavesOthers, panel_of};
+
+use crate::message::{Answer, bad_option, short_text, wrong_args};
+use crate::report::write;
+use crate::tables::Tables;
+use crate::transcript::Stream;
+use itoa::Buffer;
+use std::alloc::{AllocError, Global};
+use tcl_text::Text;
+
+/// Writes a line, and answers the empty text.
+fn write_out(tables: &mut Tables, slot: usize, text: &Text) -> Result<Answer, AllocError>
+    ensures own { IfOk result (λ answer. (panel_of slot tables.new, answer) ≡ written text.now (panel_of slot tables.old)) }
+    ensures others { LeavesOthers slot tables.old tables.new }
+{
+    let line = text.copy()?;
+    let empty = short_text(tables.alloc, "")?;
+    write(tables, slot, Stream::Out, line)?;
+    Ok(Ok(empty))
+}
+
+/// Writes a line to a channel: to `stdout` alone.
+fn put_to(
+    tables: &mut Tables,
+    slot: usize,
+    channel: &Text,
+    text: &Text,
+) -> Result<Answer, AllocError>
+    ensures own { IfOk result (λ answer. (panel_of slot tables.new, answer) ≡ put_to channel.now text.now (panel_of slot tables.old)) }
+    ensures others { LeavesOthers slot tables.old tables.new }
+{
+    match channel.as_str() {
+        "stdout" => write_out(tables, slot, text),
+        other => bad_option(tables.alloc, other),
+    }
+}
+
+/// The command `puts` (puts(n)): one line of the transcript, at the moment.
+#[tactic(auto, unfolding(crate::specs::Commands::puts_words))]
+pub fn puts_command(
+    tables: &mut Tables,
+    slot: usize,
+    words: &[Text],
+) -> Result<Answer, AllocError>
+    ensures own { IfOk result (λ answer. (panel_of slot tables.new, answer) ≡ puts_words words.now (panel_of slot tables.old)) }
+    ensures others { LeavesOthers slot tables.old tables.new }
+{
+    match words {
+        [text] => write_out(tables, slot, text),
+        [channel, text] => put_to(tables, slot, channel, text),
+        _ => wrong_args(tables.alloc, "puts ?stdout? text"),
+    }
+}
+
+/// `clock milliseconds`, with the words behind both.
+fn milliseconds(alloc: Global, moment: u64, words: &[Text]) -> Result<Answer, AllocError>
+    ensures { IfOk result (λ answer. answer ≡ milliseconds words.now moment) }
+{
+    if words.is_empty() {
+        let mut buffer = Buffer::new();
+        return Ok(Ok(short_text(alloc, buffer.format(moment))?));
+    }
+    wrong_args(alloc, "clock milliseconds")
+}
+
+/// The command `clock` at a moment, in milliseconds (clock(n)): `clock milliseconds` answers it.
+#[tactic(auto, unfolding(crate::specs::Commands::clock_words))]
+pub fn clock_command(alloc: Global, moment: u64, words: &[Text]) -> Result<Answer, AllocError>
+    ensures { IfOk result (λ answer. answer ≡ clock_words words.now moment) }
+{
+    let Some((option, words)) = words.split_first() else {
+        return wrong_args(alloc, "clock option ?arg ..?");
+    };
+    match option.as_str() {
+        "milliseconds" => milliseconds(alloc, moment, words),
+        other => bad_option(alloc, other),
+    }
+}
+
+/// The command `after` (after(n)) at the moment.
+pub fn after_command(
+    tables: &mut Tables,
+    slot: usize,
+    words: &[Text],
+) -> Result<Answer, AllocError>
+    ensures own { IfOk result (λ answer. (panel_of slot tables.new, answer) ≡ after_told words.now (panel_of slot tables.old)) }
+    ensures others { LeavesOthers slot tables.old tables.new }
+{
+    let moment = tables.clock.moment();
+    tk_after::after_command(tables.alloc, &mut tables.timers, slot, moment, words)
+}

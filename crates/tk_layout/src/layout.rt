@@ -3,7 +3,7 @@ ghost use Rattle.std.specs.Map.{lookup};
 ghost use Rattle.tk_layout.specs.Asked.{sizes_asked};
 ghost use Rattle.tk_layout.specs.Changes.{changes_of};
 ghost use Rattle.tk_layout.specs.Layout.{layout};
-ghost use Rattle.tk_packer.specs.Packs.{slaves_of};
+ghost use Rattle.tk_packer.specs.Packs.{own_of, slaves_of};
 
 use crate::arrangements::Arrangements;
 use crate::asked::sizes_asked;
@@ -12,21 +12,23 @@ use crate::groups::grouped;
 use crate::places::places_of;
 use crate::shape::Shape;
 use std::alloc::{AllocError, Global};
-use tk_packer::Packed;
+use tk_packer::PackTable;
 
 /// Lays out the windows of an application of a size, in pixels, and answers what that changes, in the order of the windows: for each that is
 /// changed Unmap, Configure and Map, of these what applies. The windows stand in pre-order, the main window first, and what they are is as they
-/// were laid out last. `packs` is all that the application has packed. What was arranged before is used again.
+/// were laid out last. What was arranged before is used again.
 pub fn lay_out(
     alloc: Global,
     size: (u32, u32),
-    packs: &[Packed],
+    packs: &PackTable,
+    owner: usize,
     shapes: &[Shape],
     arrangements: &mut Arrangements,
 ) -> Result<Vec<Change>, AllocError>
-    ensures { IfOk result (λ changes. changes.items ≡ changes_of shapes.now (layout size packs.now shapes.now)) }
+    ensures { IfOk result (λ changes. changes.items
+        ≡ changes_of shapes.now (layout size (own_of owner packs.now).packs shapes.now)) }
 {
-    let groups = grouped(alloc, packs)?;
+    let groups = grouped(alloc, packs.packs(owner))?;
     let sizes = sizes_asked(alloc, &groups, shapes)?;
     let places = places_of(alloc, size, &groups, &sizes, arrangements, shapes)?;
     changes_of(alloc, shapes, places.as_slice())
@@ -36,14 +38,15 @@ pub fn lay_out(
 /// among the windows, which stand as in `lay_out`.
 pub fn requested_size(
     alloc: Global,
-    packs: &[Packed],
+    packs: &PackTable,
+    owner: usize,
     shapes: &[Shape],
     number: u64,
 ) -> Result<Option<(u32, u32)>, AllocError>
     ensures { IfOk result (λ size. size
-        ≡ lookup (nat_eq number) (sizes_asked (λ master. slaves_of master packs.now) shapes.now)) }
+        ≡ lookup (nat_eq number) (sizes_asked (λ master. slaves_of master (own_of owner packs.now).packs) shapes.now)) }
 {
-    let groups = grouped(alloc, packs)?;
+    let groups = grouped(alloc, packs.packs(owner))?;
     let sizes = sizes_asked(alloc, &groups, shapes)?;
     Ok(sizes.get(&number).copied())
 }

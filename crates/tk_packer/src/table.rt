@@ -1,6 +1,6 @@
 ghost use Rattle.std.specs.Prelude.{◌≡◌, ◌≢◌, ℕ, ◌==◌, [], map, insert, min, length, IfOk, OnOk, OnErr, position};
 ghost use Rattle.std.specs.Option.{option_map_or};
-ghost use Rattle.tk_packer.specs.Packs.{own_of, packed_at, without, slaves_of, request_in, LeavesOthers, wins_of};
+ghost use Rattle.tk_packer.specs.Packs.{own_of, no_packs, with_packed, without_packed, without_window, with_propagation, propagates_in, without, slaves_of, request_in, LeavesOthers, wins_of};
 
 use crate::own::OwnPacks;
 use crate::packed::Packed;
@@ -48,13 +48,13 @@ impl PackTable {
         request: Request,
     ) -> Result<(), AllocError>
         ensures own { OnOk result (own_of win.owner self.new
-            ≡ packed_at place (record { master = master; number = win.number; request = request }) (own_of win.owner self.old)) }
+            ≡ with_packed place (record { master = master; number = win.number; request = request }) (own_of win.owner self.old)) }
 
         // It stands at its place among the slaves of its master, and among those of no other.
-        ensures slaves { OnOk result (slaves_of master (own_of win.owner self.new)
-            ≡ insert (slaves_of master (without win.number (own_of win.owner self.old))) place (record { master = master; number = win.number; request = request })) }
-        ensures masters { OnOk result ((other : ℕ) → other ≢ master → slaves_of other (own_of win.owner self.new)
-            ≡ without win.number (slaves_of other (own_of win.owner self.old))) }
+        ensures slaves { OnOk result (slaves_of master (own_of win.owner self.new).packs
+            ≡ insert (slaves_of master (without win.number (own_of win.owner self.old).packs)) place (record { master = master; number = win.number; request = request })) }
+        ensures masters { OnOk result ((other : ℕ) → other ≢ master → slaves_of other (own_of win.owner self.new).packs
+            ≡ without win.number (slaves_of other (own_of win.owner self.old).packs)) }
         ensures others { LeavesOthers win.owner self.old self.new }
         ensures err { OnErr result (self.new ≡ self.old) }
     {
@@ -69,17 +69,55 @@ impl PackTable {
 
     /// Takes a window out; nothing changes where it isn't packed. It takes no memory.
     pub fn forget(&mut self, win: Win)
-        ensures own { own_of win.owner self.new ≡ without win.number (own_of win.owner self.old) }
-        ensures masters { (master : ℕ) → slaves_of master (own_of win.owner self.new)
-            ≡ without win.number (slaves_of master (own_of win.owner self.old)) }
+        ensures own { own_of win.owner self.new ≡ without_packed win.number (own_of win.owner self.old) }
+        ensures masters { (master : ℕ) → slaves_of master (own_of win.owner self.new).packs
+            ≡ without win.number (slaves_of master (own_of win.owner self.old).packs) }
         ensures others { LeavesOthers win.owner self.old self.new }
     {
         self.take_out(win);
     }
 
+    /// Takes out a window that is gone: it is packed no longer, and that it doesn't propagate is forgotten. It takes no memory.
+    pub fn remove(&mut self, win: Win)
+        ensures own { own_of win.owner self.new ≡ without_window win.number (own_of win.owner self.old) }
+        ensures others { LeavesOthers win.owner self.old self.new }
+    {
+        if let Some(index) = place_of(&self.owners, win.owner) {
+            self.owners[index].remove(win.number);
+        }
+    }
+
+    /// Whether what is packed in a window decides what it asks for (`pack propagate` of pack(n)). It takes no memory.
+    pub fn propagates(&self, win: Win) -> bool
+        ensures { result ≡ propagates_in win.number (own_of win.owner self.now) }
+    {
+        match self.own(win.owner) {
+            Some(own) => own.propagates(win.number),
+            None => true,
+        }
+    }
+
+    /// Makes what is packed in a window decide what it asks for, or not.
+    pub fn set_propagates(&mut self, win: Win, propagates: bool) -> Result<(), AllocError>
+        ensures own { OnOk result (own_of win.owner self.new
+            ≡ with_propagation win.number propagates (own_of win.owner self.old)) }
+        ensures others { LeavesOthers win.owner self.old self.new }
+        ensures err { OnErr result (self.new ≡ self.old) }
+    {
+        match place_of(&self.owners, win.owner) {
+            Some(index) => self.owners[index].set_propagates(win.number, propagates),
+            None => {
+                let mut own = OwnPacks::new(*self.owners.allocator(), win.owner);
+                own.set_propagates(win.number, propagates)?;
+                self.owners.push(own)?;
+                Ok(())
+            }
+        }
+    }
+
     /// All that an application has packed: the slaves of each master in their order, not grouped by masters. It takes no memory.
     pub fn packs(&self, owner: usize) -> &[Packed]
-        ensures { result.now ≡ own_of owner self.now }
+        ensures { result.now ≡ (own_of owner self.now).packs }
     {
         match self.own(owner) {
             Some(own) => own.packs(),
@@ -90,20 +128,20 @@ impl PackTable {
     /// The windows that are packed in a master, in order.
     pub fn slaves(&self, alloc: Global, master: Win) -> Result<Vec<Win>, AllocError>
         ensures { IfOk result (λ list. list.items
-            ≡ wins_of master.owner (slaves_of master.number (own_of master.owner self.now))) }
+            ≡ wins_of master.owner (slaves_of master.number (own_of master.owner self.now).packs)) }
     {
         slaves_of(alloc, self.packs(master.owner), master)
     }
 
     /// What a window is packed with; none where it isn't packed. It takes no memory.
     pub fn request(&self, win: Win) -> Option<Request>
-        ensures { result ≡ request_in win.number (own_of win.owner self.now) }
+        ensures { result ≡ request_in win.number (own_of win.owner self.now).packs }
     {
         self.own(win.owner)?.request(win.number)
     }
 
     fn insert(&mut self, owner: usize, place: usize, packed: Packed) -> Result<(), AllocError>
-        ensures own { OnOk result (own_of owner self.new ≡ packed_at place packed (own_of owner self.old)) }
+        ensures own { OnOk result (own_of owner self.new ≡ with_packed place packed (own_of owner self.old)) }
         ensures others { LeavesOthers owner self.old self.new }
         ensures err { OnErr result (self.new ≡ self.old) }
     {
@@ -119,7 +157,7 @@ impl PackTable {
     }
 
     fn take_out(&mut self, win: Win)
-        ensures own { own_of win.owner self.new ≡ without win.number (own_of win.owner self.old) }
+        ensures own { own_of win.owner self.new ≡ without_packed win.number (own_of win.owner self.old) }
         ensures others { LeavesOthers win.owner self.old self.new }
     {
         if let Some(index) = place_of(&self.owners, win.owner) {
@@ -128,7 +166,7 @@ impl PackTable {
     }
 
     fn own(&self, owner: usize) -> Option<&OwnPacks>
-        ensures { option_map_or (λ row. row.now.packs) result [] ≡ own_of owner self.now }
+        ensures { option_map_or (λ row. row.now.own) result no_packs ≡ own_of owner self.now }
     {
         let place = place_of(&self.owners, owner)?;
         Some(&self.owners[place])

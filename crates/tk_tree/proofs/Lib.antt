@@ -1,6 +1,7 @@
 pub mod Added
 pub mod Changed
 pub mod Children
+pub mod Corners
 pub mod Lists
 pub mod Looks
 pub mod Orders

@@ -1,6 +1,6 @@
 -- What a look into the index and the arena says of an application's part.
 use Rattle.std.proofs.Common.{◌≡◌, ℕ, ◌<◌, Bool, true, List, Option, Some, None, option_map, Bor, IfSome, IsSome, refl, sym, ap, ◌∙◌, arith}
-use Rattle.std.specs.Prelude.{◌==◌, find}
+use Rattle.std.specs.Prelude.{◌==◌, find, is_some}
 use Rattle.std.specs.Str.{bytes_eq}
 use Rattle.std.proofs.lemmas.Option.{none-some}
 use Rattle.std.proofs.lemmas.Bool.{eqb-true}
@@ -21,6 +21,14 @@ use Rattle.tk_tree.proofs.Slots.{Slots, own_list, placed, numbered_there, fails_
 nothing_there : {X : Type 0} (o : Option X) → IsSome o → o ≡ None → ⊥
 nothing_there None some none = cc
 nothing_there (Some x) some none = cc
+
+-- an option that gives something is something
+some_mapped : {X : Type 0} (f : X → ℕ) (n : ℕ) (o : Option X) → Some n ≡ option_map f o → IsSome o
+some_mapped f n None is = absurd (cc)
+some_mapped f n (Some x) is = refl
+
+some_by : {X : Type 0} (o other : Option X) → o ≡ other → IsSome other → IsSome o
+some_by o other same some = ap is_some same ∙ some
 
 module _ (index : Index) (slots : Slots) (counters : List (ℕ × Counter)) (kept : IsKept index slots counters) where
   -- the index has the key of each window of an application's part
@@ -95,6 +103,11 @@ module _ (index : Index) (slots : Slots) (counters : List (ℕ × Counter)) (kep
       by (Some window) some =
           let same : window.number ≡ number = some_same window.number number (sym (number_is owner path ∙ ap (option_map number_of) some) ∙ is) in
           sym (ap (λ n. window_at n (own_of owner (held_by slots counters))) same) ∙ find_numbered number_of (λ w. bytes_eq path w.path) window (own_list owner slots) (kept.sound owner).rising some ∙ sym some
+
+  -- the number that a path has is that of a window that is there
+  pub path_there : (owner : ℕ) (path : List ℕ) (number : ℕ) → number_at index owner path ≡ Some number → IsSome (window_at number (own_of owner (held_by slots counters)))
+  path_there owner path number is =
+      some_by (window_at number (own_of owner (held_by slots counters))) (at_path path (own_of owner (held_by slots counters))) (path_window owner path number is) (some_mapped number_of number (at_path path (own_of owner (held_by slots counters))) (sym is ∙ number_is owner path))
 
   -- the index has a key for each window that is there
   pub key_there : (owner number : ℕ) → IsSome (window_at number (own_of owner (held_by slots counters))) → key_at index owner number ≡ None → ⊥

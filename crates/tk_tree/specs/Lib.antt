@@ -1,6 +1,7 @@
 -- What the contracts cite.
 pub mod Arena
 pub mod Change
+pub mod Corners
 pub mod Create
 pub mod Index
 pub mod Orders

@@ -2,6 +2,7 @@
 #![tactic(auto)]
 
 mod change;
+mod corner;
 mod counter;
 mod fault;
 mod index;
@@ -10,6 +11,8 @@ mod path;
 mod window;
 mod windows;
 
+pub use corner::Corner;
 pub use fault::WindowFault;
+pub use path::parent_and_name;
 pub use window::Window;
 pub use windows::Windows;

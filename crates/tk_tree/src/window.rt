@@ -1,4 +1,4 @@
-ghost use Rattle.std.specs.Prelude.{◌≡◌, IfOk};
+ghost use Rattle.std.specs.Prelude.{◌≡◌, ◌<◌, ◌^◌, IfOk};
 ghost use Rattle.tk_tree.specs.Change.{tags_or_default};
 ghost use Rattle.tk_tree.specs.Ways.{has_point};
 ghost use Rattle.tk_tree.specs.Window.{default_tags, new_window};
@@ -64,6 +64,17 @@ pub fn has_point(window: &Window, x: u32, y: u32) -> bool
         && u64::from(x) < u64::from(place.x) + u64::from(place.width)
         && place.y <= y
         && u64::from(y) < u64::from(place.y) + u64::from(place.height)
+}
+
+/// How far across and down a window lies in its parent, in pixels.
+pub fn offset(window: &Window) -> (u64, u64)
+    ensures across { result.0 ≡ window.now.place.x }
+    ensures down { result.1 ≡ window.now.place.y }
+    ensures small { (result.0 < 2 ^ 32) × (result.1 < 2 ^ 32) }
+{
+    let x = window.place.x;
+    let y = window.place.y;
+    (u64::from(x), u64::from(y))
 }
 
 /// The tags of a window for which none were set: its path, its class, `.` and `all`, and for the main window `.`, `Tk` and `all`.

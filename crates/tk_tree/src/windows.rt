@@ -1,18 +1,20 @@
-ghost use Rattle.std.specs.Prelude.{◌≡◌, ◌≢◌, ◌<◌, ◌≤◌, ◌++◌, ◌-◌, ◌==◌, ℕ, false, [], ◌∷◌, None, Some, Ok, Err, IsSome, IfOk, IfSome, OnOk, OnErr, IsOkUnless, MatchOption, is_some, option_map, reverse};
+ghost use Rattle.std.specs.Prelude.{◌≡◌, ◌≢◌, ◌<◌, ◌≤◌, ◌++◌, ◌-◌, ◌^◌, ◌==◌, ℕ, false, [], ◌∷◌, None, Some, Ok, Err, IsSome, IfOk, IfSome, OnOk, OnErr, IsOkUnless, MatchOption, is_some, length, option_map, reverse};
 ghost use Rattle.std.specs.Option.{option_copied, option_map_or};
 ghost use Rattle.tk_tree.specs.Change.{changed, dying, with_place, with_tags};
+ghost use Rattle.tk_tree.specs.Corners.{corner};
 ghost use Rattle.tk_tree.specs.Create.{refusal, place_refusal, parent_number, with_window};
 ghost use Rattle.tk_tree.specs.Orders.{below, below_first, all_below, all_below_first, subtree, post_order};
-ghost use Rattle.tk_tree.specs.Own.{own_of, window_at, at_path, is_full, child_numbers, with_change, without_window, LeavesOthers};
+ghost use Rattle.tk_tree.specs.Own.{own_of, window_at, at_path, is_full, child_numbers, with_change, without_window, LeavesOthers, IsSound};
 ghost use Rattle.tk_tree.specs.Ways.{at_point, way_at, way_to, way_up};
 
 use crate::change::{Change, change_window};
+use crate::corner::Corner;
 use crate::counter::{Counter, count_less, counter_of, set_counter};
 use crate::fault::WindowFault;
 use crate::index::Index;
 use crate::order::push_reversed;
 use crate::path::{begins_upper, parent_and_name};
-use crate::window::{Window, has_point, new_window, tags_for};
+use crate::window::{Window, has_point, new_window, offset, tags_for};
 use slab::Slab;
 use std::alloc::{AllocError, Global};
 use std::collections::HashMap;
@@ -88,10 +90,26 @@ impl Windows {
         self.window(win).is_some()
     }
 
+    /// How many windows an application has; at most 512. It takes no memory.
+    pub fn count(&self, owner: usize) -> usize
+        ensures count { result ≡ length (own_of owner self.now).windows }
+
+        // Numbers rise, parents are older than their children, and there are at most 512 windows.
+        ensures sound { IsSound (own_of owner self.now) }
+    {
+        let _ = &self.slab;
+        counter_of(&self.counters, owner).count
+    }
+
     /// The window of a path; none where the application has none of it. It takes no memory.
     pub fn find(&self, owner: usize, path: &str) -> Option<Win>
-        ensures { result ≡ option_map (λ window. record { owner = owner; number = window.number })
+        ensures win { result ≡ option_map (λ window. record { owner = owner; number = window.number })
             (at_path path.now (own_of owner self.now)) }
+
+        // It is there, and it is the window of its number.
+        ensures there { IfSome result (λ win. IsSome (window_at win.number (own_of owner self.now))) }
+        ensures window { IfSome result (λ win.
+            window_at win.number (own_of owner self.now) ≡ at_path path.now (own_of owner self.now)) }
     {
         let number = self.index.number(owner, path)?;
         Some(Win { owner, number })
@@ -119,6 +137,18 @@ impl Windows {
         }
         let number = self.insert(owner, path, kind, parent)?;
         Ok(Win { owner, number })
+    }
+
+    /// Why `create` would make no window of a path; none where it makes one. It takes no memory.
+    pub fn refusal(&self, owner: usize, path: &str) -> Option<WindowFault>
+        ensures { result ≡ refusal path.now (own_of owner self.now) }
+    {
+        match self.parent_for(owner, path) {
+            Err(fault) => Some(fault),
+            Ok(_) if self.find(owner, path).is_some() => Some(WindowFault::Exists),
+            Ok(_) if self.is_full(owner) => Some(WindowFault::Full),
+            Ok(_) => None,
+        }
     }
 
     /// The path name of a window, as `.a.b`. It takes no memory.
@@ -229,6 +259,34 @@ impl Windows {
         }
         way.reverse();
         Ok(way)
+    }
+
+    /// Where the upper left corner of a window lies, in pixels from that of the application's rectangle (winfo(n)); 0 0 where the window is
+    /// gone. It takes no memory.
+    #[tactic(auto, unfolding(crate::specs::Corners::corner))]
+    pub fn corner(&self, win: Win) -> Corner
+        ensures corner { result ≡ corner win.number (own_of win.owner self.now) }
+        ensures near { (result.x < 2 ^ 41) × (result.y < 2 ^ 41) }
+    {
+        let _ = &self.slab;
+        let mut x = 0;
+        let mut y = 0;
+        let mut up = Some(win.number);
+        while let Some(number) = up {
+            up = match self.window(Win {
+                owner: win.owner,
+                number,
+            }) {
+                Some(window) => {
+                    let (across, down) = offset(window);
+                    x += across;
+                    y += down;
+                    window.parent
+                }
+                None => None,
+            };
+        }
+        Corner { x, y }
     }
 
     /// The number of the parent of a window that is there, if it has one.

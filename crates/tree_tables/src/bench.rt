@@ -91,7 +91,7 @@ fn destroy(tables: &mut Tables, owner: usize) -> Result<()> {
             owner,
             number: *number,
         };
-        tables.packs.forget(win);
+        tables.packs.remove(win);
         if !remove(&mut tables.windows, win) {
             bail!("a window with children is destroyed");
         }
@@ -118,7 +118,8 @@ fn round(rt: &(impl Print + AllocGlobal + Clock), count: usize) -> Result<()> {
         let _ = lay_out(
             alloc,
             (4000, 4000),
-            tables.packs.packs(owner),
+            &tables.packs,
+            owner,
             shapes.as_slice(),
             &mut arrangements,
         )?;

@@ -178,24 +178,24 @@ impl Layouts {
     }
 
     fn take_out(&mut self, number: u64) {
-        self.packs.forget(win(number));
+        self.packs.remove(win(number));
         self.arrangements.forget(number);
         self.shapes.retain(|shape| shape.number != number);
     }
 
     fn asks(&self, alloc: Global, number: u64) -> Result<String> {
-        match requested_size(alloc, self.packs.packs(OWNER), &self.shapes, number)? {
+        match requested_size(alloc, &self.packs, OWNER, &self.shapes, number)? {
             Some((width, height)) => Ok(format!(in alloc; "{width} {height}")?),
             None => Ok(String::from_str(alloc, "none")?),
         }
     }
 
     fn changes(&mut self, alloc: Global) -> Result<Vec<Change>> {
-        let packs = self.packs.packs(OWNER);
         Ok(lay_out(
             alloc,
             self.size,
-            packs,
+            &self.packs,
+            OWNER,
             &self.shapes,
             &mut self.arrangements,
         )?)

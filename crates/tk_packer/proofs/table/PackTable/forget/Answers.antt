@@ -6,5 +6,5 @@ use Rattle.tk_packer.proofs.table.PackTable.forget.Goals as goal
 
 pub returns-clause-masters : goal.returns-clause-masters
 returns-clause-masters c = λ master.
-    ap (slaves_of master) c.take_out.ensures.own
-    ∙ filter_swap (λ packed. packed.master == master) (λ packed. not (packed.number == c.args.win.number)) (own_of c.args.win.owner c.args.self.now)
+    ap (λ own. slaves_of master own.packs) c.take_out.ensures.own
+    ∙ filter_swap (λ packed. packed.master == master) (λ packed. not (packed.number == c.args.win.number)) (own_of c.args.win.owner c.args.self.now).packs

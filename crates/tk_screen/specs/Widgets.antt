@@ -1,0 +1,58 @@
+-- The widgets of one application's windows, by their numbers, in the order in which they were made.
+use Rattle.std.specs.Prelude.{◌≡◌, ◌≢◌, ◌<◌, ℕ, nat_eq, List, [], Option, None, Some}
+use Rattle.std.specs.HashMap.{get, spare}
+use Rattle.std.specs.Map.{lookup, remove_entry, set_value}
+use Rattle.std.specs.Option.{option_map_or, IsSomeAnd}
+use Rattle.indexmap.specs.IndexMap.{insert_entry}
+use Rattle.tk_screen.specs.declared.widgets.Widgets.{Widgets}
+use Rattle.tk_widgets.specs.declared.outcome.Change.{Change}
+use Rattle.tk_widgets.specs.declared.outcome.WidgetAct.{WidgetAct}
+use Rattle.tk_widgets.specs.declared.widget.Widget.{Widget}
+use Rattle.tk_widgets.specs.Commands.{Told, made}
+
+abbrev pub OwnWidgets : Type 0
+OwnWidgets = List (ℕ × Widget)
+
+-- ---- one application
+
+-- the widget of the window with a number
+abbrev pub widget_at : ℕ → OwnWidgets → Option Widget
+widget_at number widgets = lookup (nat_eq number) widgets
+
+-- one widget more, the last, or in the place of the one that the window has
+abbrev pub with_widget : ℕ → Widget → OwnWidgets → OwnWidgets
+with_widget number widget widgets = insert_entry nat_eq widgets number widget
+
+-- the widget of the window with a number gone
+abbrev pub without_widget : ℕ → OwnWidgets → OwnWidgets
+without_widget number widgets = remove_entry (nat_eq number) widgets
+
+-- the widgets, and what was told of one
+pub record ToldOf : Type 0 where
+  pub widgets : OwnWidgets
+  pub act : Option WidgetAct
+
+abbrev pub told_of : ℕ → OwnWidgets → Told → ToldOf
+told_of number widgets told = record { widgets = set_value (nat_eq number) widgets told.widget; act = Some told.act }
+
+-- a change made of the widget of the window with a number; nothing is told where there is none
+abbrev pub made_of : ℕ → Change → OwnWidgets → Option Widget → ToldOf
+made_of number change widgets None = record { widgets = widgets; act = None }
+made_of number change widgets (Some widget) = told_of number widgets (made change widget)
+
+abbrev pub made_at : ℕ → Change → OwnWidgets → ToldOf
+made_at number change widgets = made_of number change widgets (widget_at number widgets)
+
+-- ---- all applications
+
+-- the widgets of an application in a table
+abbrev pub widgets_of : ℕ → Widgets → OwnWidgets
+widgets_of owner table = option_map_or (λ row. row.entries) (get nat_eq table.rows owner) []
+
+-- every application but one has the widgets that it had
+abbrev pub LeavesOtherWidgets : ℕ → Widgets → Widgets → Type 0
+LeavesOtherWidgets owner old new = (other : ℕ) → other ≢ owner → widgets_of other new ≡ widgets_of other old
+
+-- one more widget of an application can be put without memory
+abbrev pub HasRoom : ℕ → Widgets → Type 0
+HasRoom owner table = IsSomeAnd (get nat_eq table.rows owner) (λ row. 0 < spare row)

@@ -1,0 +1,108 @@
+//! Laying out the windows of an application.
+ghost use Rattle.std.specs.Prelude.{◌≡◌, ℕ, IfOk, IsSome, OnOk, OnErr, nat_eq};
+ghost use Rattle.std.specs.HashMap.{get};
+ghost use Rattle.tk_screen.specs.Layout.{changes_due, laid_out, size_asked, size_of};
+ghost use Rattle.tk_screen.specs.Own.{own_of, LeavesOthers};
+
+use crate::screen::Screen;
+use crate::shapes::shapes;
+use std::alloc::{AllocError, Global};
+use std::collections::HashMap;
+use tcl_vars::Scopes;
+use tk_base::Win;
+use tk_layout::{Arrangements, Change};
+use tk_placing::write_changes;
+
+/// The size that a window asks for, in pixels, with what is packed in it and with the texts that variables have now, as `winfo reqwidth` and
+/// `reqheight` tell it (winfo(n)); none where the window isn't there or has no widget.
+#[tactic(auto, unfolding(crate::specs::Layout::size_asked))]
+pub fn requested_size(
+    alloc: Global,
+    screen: &Screen,
+    scopes: &Scopes,
+    win: Win,
+) -> Result<Option<(u32, u32)>, AllocError>
+    ensures { IfOk result (λ size. size ≡ size_asked (own_of win.owner screen.now) scopes.now win.number) }
+{
+    let shapes = shapes(alloc, screen, win.owner, scopes)?;
+    tk_layout::requested_size(
+        alloc,
+        &screen.packs,
+        win.owner,
+        shapes.as_slice(),
+        win.number,
+    )
+}
+
+/// Lays out the windows of an application with the texts that variables have now, and answers what that changes, in the order of the windows,
+/// each before its children: for each that is changed Unmap, Configure and Map, of these what applies. Where memory is refused no window is
+/// changed.
+#[tactic(auto, unfolding(crate::specs::Layout::changes_due, crate::specs::Layout::laid_out))]
+pub fn lay_out(
+    alloc: Global,
+    screen: &mut Screen,
+    slot: usize,
+    scopes: &Scopes,
+) -> Result<Vec<Change>, AllocError>
+    ensures changes { IfOk result (λ changes. changes.items ≡ changes_due (own_of slot screen.old) scopes.now) }
+    ensures own { OnOk result (own_of slot screen.new ≡ laid_out (own_of slot screen.old) scopes.now) }
+    ensures others { LeavesOthers slot screen.old screen.new }
+    ensures err { OnErr result (own_of slot screen.new ≡ own_of slot screen.old) }
+{
+    let changes = changes_due(alloc, screen, slot, scopes)?;
+    write_changes(&mut screen.windows, slot, changes.as_slice());
+    Ok(changes)
+}
+
+/// What a layout changes. What was arranged is used again, and kept for the next.
+#[tactic(auto, unfolding(crate::specs::Layout::changes_due))]
+fn changes_due(
+    alloc: Global,
+    screen: &mut Screen,
+    slot: usize,
+    scopes: &Scopes,
+) -> Result<Vec<Change>, AllocError>
+    ensures changes { IfOk result (λ changes. changes.items ≡ changes_due (own_of slot screen.old) scopes.now) }
+    ensures same { (other : ℕ) → own_of other screen.new ≡ own_of other screen.old }
+    ensures windows { screen.new.windows ≡ screen.old.windows }
+{
+    let shapes = shapes(alloc, screen, slot, scopes)?;
+    let size = size_of(screen, slot);
+    open_arrangements(alloc, &mut screen.arrangements, slot)?;
+    match screen.arrangements.get_mut(&slot) {
+        Some(arrangements) => tk_layout::lay_out(
+            alloc,
+            size,
+            &screen.packs,
+            slot,
+            shapes.as_slice(),
+            arrangements,
+        ),
+        None => unreachable!(),
+    }
+}
+
+/// The width and height of an application's rectangle.
+fn size_of(screen: &Screen, slot: usize) -> (u32, u32)
+    ensures { result ≡ size_of (own_of slot screen.now) }
+{
+    match screen.toplevel(slot) {
+        Some(toplevel) => toplevel.size,
+        None => (0, 0),
+    }
+}
+
+/// Makes a place for the arrangements of an application that has none.
+fn open_arrangements(
+    alloc: Global,
+    arrangements: &mut HashMap<usize, Arrangements>,
+    slot: usize,
+) -> Result<(), AllocError>
+    ensures { OnOk result (IsSome (get nat_eq arrangements.new slot)) }
+{
+    if arrangements.contains_key(&slot) {
+        return Ok(());
+    }
+    arrangements.insert(slot, Arrangements::new(alloc))?;
+    Ok(())
+}

@@ -1,0 +1,134 @@
+//! What the layout has to know of windows.
+ghost use Rattle.std.specs.Prelude.{◌≡◌, ◌≤◌, ◌<◌, IfOk};
+ghost use Rattle.std.specs.Option.{option_copied};
+ghost use Rattle.tk_packer.specs.Packs.{own_of as packs_of};
+ghost use Rattle.tk_screen.specs.Own.{own_of};
+ghost use Rattle.tk_screen.specs.Shapes.{is_frame, shape_at, shape_of, shapes, pre_order, value_of, variable_text};
+ghost use Rattle.tk_tree.specs.Own.{own_of as tree_of};
+
+use crate::screen::Screen;
+use std::alloc::{AllocError, Global};
+use tcl_text::Text;
+use tcl_vars::Scopes;
+use tk_base::{Kind, Win};
+use tk_layout::Shape;
+use tk_options::OptionName;
+use tk_packer::PackTable;
+use tk_tree::{Window, Windows};
+use tk_widgets::Widget;
+
+/// The text of the global variable that `-textvariable` of a widget names, where there is one that can be read. It takes no memory.
+pub fn variable_text<'a>(widget: &Widget, scopes: &'a Scopes) -> Option<&'a Text>
+    ensures { option_copied result ≡ variable_text widget.now scopes.now }
+{
+    let _frames = scopes.levels();
+    let name = widget.variable()?;
+    match scopes.get(0, name) {
+        Ok(text) => Some(text),
+        Err(_) => None,
+    }
+}
+
+/// All windows of an application as the layout sees them, each before its children, and children in the order of creation.
+#[tactic(auto, unfolding(crate::specs::Shapes::shapes))]
+pub fn shapes(
+    alloc: Global,
+    screen: &Screen,
+    slot: usize,
+    scopes: &Scopes,
+) -> Result<Vec<Shape>, AllocError>
+    ensures { IfOk result (λ list. list.items ≡ shapes (own_of slot screen.now) scopes.now) }
+{
+    let order = pre_order(alloc, &screen.windows, slot)?;
+    let mut list = Vec::with_capacity(alloc, order.len())?;
+    for number in &order {
+        if let Some(shape) = shape_at(screen, slot, scopes, *number) {
+            list.push(shape)?;
+        }
+    }
+    Ok(list)
+}
+
+/// The numbers of all windows of an application.
+#[tactic(auto, unfolding(crate::specs::Shapes::pre_order))]
+fn pre_order(alloc: Global, windows: &Windows, slot: usize) -> Result<Vec<u64>, AllocError>
+    ensures { IfOk result (λ order. order.items ≡ pre_order (tree_of slot windows.now)) }
+{
+    match windows.find(slot, ".") {
+        Some(main) => windows.subtree(Win {
+            owner: slot,
+            number: main.number,
+        }),
+        None => Ok(Vec::new(alloc)),
+    }
+}
+
+/// A window of an application, if it is there and has a widget.
+fn shape_at(screen: &Screen, slot: usize, scopes: &Scopes, number: u64) -> Option<Shape>
+    ensures { result ≡ shape_at (own_of slot screen.now) scopes.now number }
+{
+    let win = Win {
+        owner: slot,
+        number,
+    };
+    let window = screen.windows.window(win)?;
+    let widget = screen.widgets.get(win)?;
+    Some(shape_of(&screen.packs, slot, scopes, window, widget))
+}
+
+/// A window with its widget.
+#[tactic(auto, unfolding(crate::specs::Shapes::shape_of))]
+fn shape_of(
+    packs: &PackTable,
+    slot: usize,
+    scopes: &Scopes,
+    window: &Window,
+    widget: &Widget,
+) -> Shape
+    ensures { result ≡ shape_of (packs_of slot packs.now) scopes.now window.now widget.now }
+{
+    let number = window.number;
+    let (width, height) = widget.requested_size(variable_text(widget, scopes));
+    Shape {
+        number,
+        width,
+        height,
+        border: widget.options().amount(OptionName::BorderWidth),
+        propagates: is_frame(window.kind)
+            && packs.propagates(Win {
+                owner: slot,
+                number,
+            }),
+        place: window.place,
+        mapped: window.mapped,
+    }
+}
+
+/// Whether what is packed in a widget of a kind may decide what it asks for.
+fn is_frame(kind: Kind) -> bool
+    ensures { result ≡ is_frame kind }
+{
+    match kind {
+        Kind::Frame => true,
+        Kind::Label | Kind::Button | Kind::Entry | Kind::Listbox => false,
+    }
+}
+
+/// What a window shows, as the section of its application tells it: the text of a label, a button or an entry, or the list of a listbox's items,
+/// with the texts that variables have now; none for a frame, and where the window isn't there.
+pub fn value(
+    alloc: Global,
+    screen: &Screen,
+    scopes: &Scopes,
+    win: Win,
+) -> Result<Option<Text>, AllocError>
+    ensures { IfOk result (λ value. value ≡ value_of (own_of win.owner screen.now) scopes.now win.number) }
+{
+    let Some(widget) = screen.widgets.get(win) else {
+        return Ok(None);
+    };
+    match widget.value(alloc, variable_text(widget, scopes)) {
+        Ok(value) => Ok(value),
+        Err(_) => Err(AllocError),
+    }
+}

@@ -1,3 +1,7 @@
 -- What the proofs share.
 pub mod Bounds
+pub mod Choices
+pub mod Drains
+pub mod Others
+pub mod Turns
 pub mod Upcoming

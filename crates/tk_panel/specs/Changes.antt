@@ -10,7 +10,8 @@ use Rattle.tk_layout.specs.declared.changes.Change.TheVariants.{Unmap, Configure
 use Rattle.tk_sequences.specs.declared.event_type.EventType.{EventType}
 use Rattle.tk_sequences.specs.declared.event_type.EventType.TheVariants as types
 use Rattle.tk_tree.specs.declared.window.Window.{Window}
-use Rattle.tk_tree.specs.Own.{Own, window_at}
+use Rattle.tk_tree.specs.Own.{window_at}
+use Rattle.tk_screen.specs.Layout.{changes_due, laid_out as laid_out_screen}
 use Rattle.tk_panel.specs.Panel.{Panel}
 
 -- ── the events of changes ──
@@ -44,7 +45,7 @@ queued_at change panel None = panel
 queued_at change panel (Some window) = record panel { queue = panel.queue ++ event_of change window panel.moment ∷ [] }
 
 abbrev pub with_change : Change → Panel → Panel
-with_change change panel = queued_at change panel (window_at (number_of change) panel.windows)
+with_change change panel = queued_at change panel (window_at (number_of change) panel.screen.tree)
 
 -- those of changes, in their order
 unfoldable pub with_changes : List Change → Panel → Panel
@@ -53,10 +54,6 @@ with_changes (change ∷ changes) panel = with_changes changes (with_change chan
 
 -- ── layout ──
 
--- the windows as they are laid out, with these variables, and what that changes
-abbrev pub layout : Store → Own → Own × List Change
-layout store windows = (windows, [])
-
--- the windows are laid out, and what that changes is queued
+-- the windows lie where the layout says, with the texts that variables have, and what that changes is queued
 unfoldable pub laid_out : Store → Panel → Panel
-laid_out store panel = (let there : Own × List Change = layout store panel.windows in with_changes there.1 (record panel { windows = there.0 }))
+laid_out store panel = with_changes (changes_due panel.screen store) (record panel { screen = laid_out_screen panel.screen store })

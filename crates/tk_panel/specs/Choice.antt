@@ -26,7 +26,7 @@ pairs_of virtuals = map (λ pair. (pair.name, pair.sequence)) virtuals
 -- the script of a tag
 abbrev pub script_for : Panel → Event → List ℕ → Option (List ℕ)
 script_for panel event tag =
-    if is_stale tag panel.windows then None else winner (pairs_of panel.virtuals) tag event panel.history panel.bindings
+    if is_stale tag panel.screen.tree then None else winner (pairs_of panel.virtuals) tag event panel.history panel.bindings
 
 -- with the event's fields put in; that is refused where the script gets too long
 abbrev pub filled : Event → List ℕ → Answer
@@ -67,4 +67,4 @@ chosen_at event panel (Some window) = on_scripts event panel (scripts_for panel 
 
 -- what is left of the application, and the scripts that are to run
 unfoldable pub chosen : Event → Panel → Panel × List (List ℕ)
-chosen event panel = chosen_at event panel (window_at event.number panel.windows)
+chosen event panel = chosen_at event panel (window_at event.number panel.screen.tree)

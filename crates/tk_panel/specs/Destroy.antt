@@ -6,10 +6,11 @@ use Rattle.tk_events.specs.declared.event.EventKind.TheVariants.{Physical}
 use Rattle.tk_events.specs.Event.{bare_event}
 use Rattle.tk_patterns.specs.Own.{without_tag}
 use Rattle.tk_sequences.specs.declared.event_type.EventType.TheVariants.{Destroy}
+use Rattle.tk_screen.specs.Own.{without}
 use Rattle.tk_tree.specs.declared.window.Window.{Window}
 use Rattle.tk_tree.specs.Change.{dying}
 use Rattle.tk_tree.specs.Orders.{post_order}
-use Rattle.tk_tree.specs.Own.{Own, at_path, child_numbers, window_at, with_change, without_window}
+use Rattle.tk_tree.specs.Own.{Own, at_path, child_numbers, window_at, with_change}
 use Rattle.tk_panel.specs.declared.job.Rest.TheVariants.{Destroys}
 use Rattle.tk_panel.specs.Choice.{chosen}
 use Rattle.tk_panel.specs.Panel.{Panel}
@@ -28,7 +29,7 @@ doomed_from own (Some window) = doomed_at window.number own (window_at window.nu
 
 -- those that a path means
 abbrev pub doomed_by : List ℕ → Panel → List ℕ
-doomed_by path panel = doomed_from panel.windows (at_path path panel.windows)
+doomed_by path panel = doomed_from panel.screen.tree (at_path path panel.screen.tree)
 
 -- these windows are being destroyed from now on
 unfoldable pub all_dying : List ℕ → Own → Own
@@ -36,22 +37,22 @@ all_dying [] own = own
 all_dying (number ∷ numbers) own = all_dying numbers (with_change number dying own)
 
 abbrev pub marked : List ℕ → Panel → Panel
-marked numbers panel = record panel { windows = all_dying numbers panel.windows }
+marked numbers panel = record panel { screen = record panel.screen { tree = all_dying numbers panel.screen.tree } }
 
 -- ── removal ──
 
--- a window goes, and the bindings for its path with it
-abbrev pub without : ℕ → List ℕ → Panel → Panel
-without number path panel = record panel { windows = without_window number panel.windows; bindings = without_tag path panel.bindings }
+-- a window goes, with its widget and its packing, and the bindings for its path with it
+abbrev pub without_path : ℕ → List ℕ → Panel → Panel
+without_path number path panel = record panel { screen = without number panel.screen; bindings = without_tag path panel.bindings }
 
 -- Children go before their parents, so none is left.
 abbrev pub removed_at : ℕ → Panel → Option Window → Panel
 removed_at number panel None = panel
-removed_at number panel (Some window) = if length (child_numbers number panel.windows.windows) == 0 then without number window.path panel else panel
+removed_at number panel (Some window) = if length (child_numbers number panel.screen.tree.windows) == 0 then without_path number window.path panel else panel
 
 -- the window with a number goes, if it is still there
 unfoldable pub removed : ℕ → Panel → Panel
-removed number panel = removed_at number panel (window_at number panel.windows)
+removed number panel = removed_at number panel (window_at number panel.screen.tree)
 
 -- ── Destroy is dispatched ──
 
@@ -64,7 +65,7 @@ destroy_at panel (Some window) = chosen (destroy_event window panel.moment) pane
 
 -- the scripts of the Destroy event of the window with a number, if it is still there
 abbrev pub destroy_chosen : ℕ → Panel → Panel × List (List ℕ)
-destroy_chosen number panel = destroy_at panel (window_at number panel.windows)
+destroy_chosen number panel = destroy_at panel (window_at number panel.screen.tree)
 
 -- ── one after another ──
 

@@ -7,7 +7,7 @@ use Rattle.tk_events.specs.declared.event.Event.{Event}
 use Rattle.tk_patterns.specs.declared.binding.Binding.{Binding}
 use Rattle.tk_patterns.specs.Own as bindings
 use Rattle.tk_queue.specs.Queue as queues
-use Rattle.tk_tree.specs.Own as trees
+use Rattle.tk_screen.specs.Own as screens
 use Rattle.tk_virtual.specs.declared.pair.Pair.{Pair}
 use Rattle.tk_virtual.specs.Virtual as virtuals
 use Rattle.tk_panel.specs.declared.tables.Tables.{Tables}
@@ -18,7 +18,8 @@ use Rattle.tk_panel.specs.Transcript.{lines_of, LeavesLines}
 pub record Panel : Type 0 where
   -- the moment, in milliseconds, which is the same for all applications
   pub moment : ℕ
-  pub windows : trees.Own
+  -- its windows, their widgets, what is packed, and its rectangle
+  pub screen : screens.Own
   -- in the order of registration
   pub bindings : List Binding
   pub virtuals : List Pair
@@ -32,7 +33,7 @@ pub record Panel : Type 0 where
 abbrev pub panel_of : ℕ → Tables → Panel
 panel_of slot tables = record {
   moment = tables.clock;
-  windows = trees.own_of slot tables.windows;
+  screen = screens.own_of slot tables.screen;
   bindings = bindings.own_of slot tables.bindings;
   virtuals = virtuals.own_of slot tables.virtuals;
   history = histories.own_of slot tables.histories;
@@ -44,7 +45,7 @@ panel_of slot tables = record {
 -- what the others have, and the moment, are left alone
 pub record LeavesOthers (slot : ℕ) (old new : Tables) : Type 0 where
   pub clock : new.clock ≡ old.clock
-  pub windows : trees.LeavesOthers slot old.windows new.windows
+  pub screen : screens.LeavesOthers slot old.screen new.screen
   pub bindings : bindings.LeavesOthers slot old.bindings new.bindings
   pub virtuals : virtuals.LeavesOthers slot old.virtuals new.virtuals
   pub histories : histories.LeavesOthers slot old.histories new.histories

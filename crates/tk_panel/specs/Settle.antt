@@ -81,7 +81,7 @@ turn home store panel = on_queue home (on_timer home (after_layout home store)) 
 
 -- the main window is gone
 abbrev pub is_closed : Panel → Bool
-is_closed panel = is_none (at_path (codes ".") panel.windows)
+is_closed panel = is_none (at_path (codes ".") panel.screen.tree)
 
 -- the round of `update idletasks`, and then a layout more
 abbrev pub tasks_round : Store → List ℕ → Panel → Next

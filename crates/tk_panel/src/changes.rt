@@ -1,16 +1,15 @@
 //! Layout, and the events that it queues (pack(n), bind(n)).
-ghost use Rattle.std.specs.Prelude.{◌≡◌, [], OnOk, IfOk};
-ghost use Rattle.tk_panel.specs.Changes.{configure_event, event_of, laid_out, layout, number_of, place_of, window_event, with_change, with_changes};
+ghost use Rattle.std.specs.Prelude.{◌≡◌, OnOk, IfOk};
+ghost use Rattle.tk_panel.specs.Changes.{configure_event, event_of, laid_out, number_of, place_of, window_event, with_change, with_changes};
 ghost use Rattle.tk_panel.specs.Panel.{LeavesOthers, panel_of};
-ghost use Rattle.tk_tree.specs.Own.{own_of};
 
 use crate::tables::Tables;
-use std::alloc::{AllocError, Global};
+use std::alloc::AllocError;
 use tcl_vars::Scopes;
 use tk_base::{Rect, Win};
 use tk_events::{Event, EventKind, EventType};
 use tk_layout::Change;
-use tk_tree::{Window, Windows};
+use tk_tree::Window;
 
 /// An event of a window, without fields.
 fn window_event(kind: EventType, window: &Window, moment: u64) -> Result<Event, AllocError>
@@ -76,7 +75,7 @@ fn queue_change(tables: &mut Tables, slot: usize, change: Change) -> Result<(), 
         owner: slot,
         number: number_of(change),
     };
-    match tables.windows.window(win) {
+    match tables.screen.windows.window(win) {
         None => Ok(()),
         Some(window) => {
             let event = event_of(change, window, tables.clock.moment())?;
@@ -99,25 +98,12 @@ fn queue_changes(tables: &mut Tables, slot: usize, changes: &[Change]) -> Result
     Ok(())
 }
 
-/// Lays out the windows of an application, with these variables, and answers what that changes.
-fn layout(
-    alloc: Global,
-    _windows: &mut Windows,
-    _slot: usize,
-    _scopes: &Scopes,
-) -> Vec<Change>
-    ensures own { (own_of _slot _windows.new, result.items) ≡ layout _scopes.now (own_of _slot _windows.old) }
-    ensures same { _windows.new ≡ _windows.old }
-{
-    Vec::new(alloc)
-}
-
 /// Lays out the windows of an application, and queues what that changes.
 #[tactic(auto, unfolding(crate::specs::Changes::laid_out))]
 pub fn lay_out(tables: &mut Tables, slot: usize, scopes: &Scopes) -> Result<(), AllocError>
     ensures own { OnOk result (panel_of slot tables.new ≡ laid_out scopes.now (panel_of slot tables.old)) }
     ensures others { LeavesOthers slot tables.old tables.new }
 {
-    let changes = layout(tables.alloc, &mut tables.windows, slot, scopes);
+    let changes = tk_screen::lay_out(tables.alloc, &mut tables.screen, slot, scopes)?;
     queue_changes(tables, slot, changes.as_slice())
 }

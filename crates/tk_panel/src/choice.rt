@@ -47,13 +47,13 @@ fn scripts_of(
     event: &Event,
 ) -> Result<Option<Result<Scripts, Text>>, AllocError>
     ensures { IfOk result (λ scripts. scripts
-        ≡ option_map (λ window. scripts_for (panel_of slot tables.now) event.now window.tags) (window_at event.now.number (panel_of slot tables.now).windows)) }
+        ≡ option_map (λ window. scripts_for (panel_of slot tables.now) event.now window.tags) (window_at event.now.number (panel_of slot tables.now).screen.tree)) }
 {
     let win = Win {
         owner: slot,
         number: event.number,
     };
-    let Some(window) = tables.windows.window(win) else {
+    let Some(window) = tables.screen.windows.window(win) else {
         return Ok(None);
     };
     let virtuals = virtuals_of(tables, slot)?;
@@ -92,9 +92,9 @@ fn virtuals_of(
 
 /// Whether a tag is for a window that is gone.
 fn is_stale(tables: &Tables, slot: usize, tag: &Text) -> bool
-    ensures { result ≡ is_stale tag.now (panel_of slot tables.now).windows }
+    ensures { result ≡ is_stale tag.now (panel_of slot tables.now).screen.tree }
 {
-    tag.as_str().starts_with(".") && tables.windows.find(slot, tag.as_str()).is_none()
+    tag.as_str().starts_with(".") && tables.screen.windows.find(slot, tag.as_str()).is_none()
 }
 
 /// The script of a tag.

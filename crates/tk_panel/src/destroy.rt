@@ -51,13 +51,13 @@ fn doom(tables: &mut Tables, slot: usize, path: &Text) -> Result<Numbers, AllocE
     ensures own { IfOk result (λ numbers. panel_of slot tables.new ≡ marked numbers (panel_of slot tables.old)) }
     ensures others { LeavesOthers slot tables.old tables.new }
 {
-    let Some(win) = tables.windows.find(slot, path.as_str()) else {
+    let Some(win) = tables.screen.windows.find(slot, path.as_str()) else {
         return Ok(Numbers::none(tables.alloc));
     };
-    match tables.windows.window(win) {
+    match tables.screen.windows.window(win) {
         Some(window) if !window.dying => {
-            let numbers = tables.windows.post_order(win)?;
-            mark_all(&mut tables.windows, slot, numbers.as_slice());
+            let numbers = tables.screen.windows.post_order(win)?;
+            mark_all(&mut tables.screen.windows, slot, numbers.as_slice());
             Ok(Numbers::of(numbers))
         }
         Some(_) | None => Ok(Numbers::none(tables.alloc)),
@@ -74,12 +74,12 @@ fn remove(tables: &mut Tables, slot: usize, number: u64) -> Result<(), AllocErro
         owner: slot,
         number,
     };
-    let Some(window) = tables.windows.window(win) else {
+    let Some(window) = tables.screen.windows.window(win) else {
         return Ok(());
     };
     let path = window.path.copy()?;
-    if tables.windows.children(win).is_empty() {
-        tables.windows.remove(win);
+    if tables.screen.windows.children(win).is_empty() {
+        tables.screen.remove(win);
         tables.bindings.unbind_all(slot, path.as_str());
     }
     Ok(())
@@ -104,7 +104,7 @@ fn choose_destroy(tables: &mut Tables, slot: usize, number: u64) -> Result<Scrip
     ensures others { LeavesOthers slot tables.old tables.new }
 {
     let moment = tables.clock.moment();
-    match tables.windows.window(Win {
+    match tables.screen.windows.window(Win {
         owner: slot,
         number,
     }) {

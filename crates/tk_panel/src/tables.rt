@@ -1,4 +1,5 @@
-ghost use Rattle.std.specs.Prelude.{◌≡◌, []};
+ghost use Rattle.std.specs.Prelude.{◌≡◌, ℕ, []};
+ghost use Rattle.tk_screen.specs.Own.{nothing, own_of};
 
 use crate::clock::Clock;
 use crate::histories::Histories;
@@ -7,7 +8,7 @@ use std::alloc::Global;
 use tk_after::Timers;
 use tk_patterns::BindTable;
 use tk_queue::EventQueue;
-use tk_tree::Windows;
+use tk_screen::Screen;
 use tk_virtual::VirtualTable;
 
 /// The tables of all applications. What one application has in each is told apart by its slot.
@@ -15,7 +16,7 @@ use tk_virtual::VirtualTable;
 pub struct Tables {
     pub alloc: Global,
     pub clock: Clock,
-    pub windows: Windows,
+    pub screen: Screen,
     pub bindings: BindTable,
     pub virtuals: VirtualTable,
     pub histories: Histories,
@@ -28,7 +29,7 @@ impl Tables {
     /// No application has anything, at moment 0. It takes no memory.
     pub fn new(alloc: Global) -> Tables
         ensures clock { result.clock ≡ 0 }
-        ensures windows { result.windows ≡ record { counters = []; bag = [] } }
+        ensures screen { (slot : ℕ) → own_of slot result.screen ≡ nothing }
         ensures bindings { result.bindings ≡ [] }
         ensures virtuals { result.virtuals ≡ [] }
         ensures histories { result.histories ≡ [] }
@@ -39,7 +40,7 @@ impl Tables {
         Tables {
             alloc,
             clock: Clock::new(),
-            windows: Windows::new(alloc),
+            screen: Screen::new(alloc),
             bindings: BindTable::new(alloc),
             virtuals: VirtualTable::new(alloc),
             histories: Histories::new(alloc),

@@ -1,12 +1,13 @@
 -- The pairs of one application among the rows of all.
-use Rattle.std.proofs.Common.{◌≡◌, ◌≢◌, ℕ, suc, ◌+◌, ◌<◌, Bool, true, false, cond, ◌&&◌, ◌||◌, not, nat_eq, nat_le, Ok, Err, List, [], ◌∷◌, ◌++◌, append-nil, length, take, get_or, map, refl, sym, ap, ◌∙◌, subst, arith, inl, inr}
-use Rattle.std.specs.Prelude.{◌==◌, filter}
+use Rattle.std.proofs.Common.{◌≡◌, ◌≢◌, ℕ, suc, ◌+◌, ◌<◌, ◌≤◌, Bool, true, false, cond, ◌&&◌, ◌||◌, not, nat_eq, nat_le, Ok, Err, List, [], ◌∷◌, ◌++◌, append-nil, length, take, drop, get_or, map, refl, sym, ap, ◌∙◌, subst, arith, inl, inr}
+use Rattle.std.specs.Prelude.{◌==◌, filter, fold}
 use Rattle.std.specs.List.{list_any, count_by}
 use Rattle.std.proofs.lemmas.Bool.{cases_Bool, eqb-true}
 use Rattle.std.proofs.lemmas.Bool.Decides.{nat_tests}
-use Rattle.std.proofs.lemmas.List.{take_more}
-use Rattle.std.proofs.lemmas.List.Sums.{length-filter}
-use Rattle.tk_virtual.specs.Virtual.{Outcome, own_of, has_name, is_same, with_pair, written_of}
+use Rattle.std.proofs.lemmas.List.{take_more, at_drop_more, take-append-le, take-append-drop, length-take}
+use Rattle.std.proofs.lemmas.List.Sums.{length-filter, fold-append}
+use Rattle.tk_sequences.specs.declared.sequence.Sequence.{Sequence}
+use Rattle.tk_virtual.specs.Virtual.{Outcome, ◌>>=◌, added, all_added, own_of, has_name, is_same, meanings_of, names_of, pairs_meant, with_name, with_pair, without_pair, without_pairs, written_of}
 use Rattle.tk_virtual.specs.declared.fault.VirtualFault.TheVariants.{Full}
 use Rattle.tk_virtual.specs.declared.pair.Pair.{Pair}
 use Rattle.tk_virtual.specs.declared.table.Row.{Row}
@@ -105,6 +106,37 @@ written_taken name owner rows i d within =
     ap (written_of name) (own_taken owner rows i d within)
     ∙ ap (λ (pairs : List Pair). map (λ pair. pair.written) pairs) (filter-append (has_name name) (own_of owner (take i rows)) (own_of owner (get_or rows i d ∷ [])))
     ∙ written-append (filter (has_name name) (own_of owner (take i rows))) (filter (has_name name) (own_of owner (get_or rows i d ∷ [])))
+
+meanings-append : (front back : List Pair) → meanings_of (front ++ back) ≡ meanings_of front ++ meanings_of back
+meanings-append [] back = refl
+meanings-append (pair ∷ front) back = ap (λ (meanings : List (List ℕ × Sequence)). (pair.name, pair.sequence) ∷ meanings) (meanings-append front back)
+
+pub meanings_taken : (owner : ℕ) (rows : List Row) (i : ℕ) (d : Row) → i < length rows
+    → meanings_of (own_of owner (take (i + 1) rows)) ≡ meanings_of (own_of owner (take i rows)) ++ meanings_of (own_of owner (get_or rows i d ∷ []))
+meanings_taken owner rows i d within =
+    ap meanings_of (own_taken owner rows i d within) ∙ meanings-append (own_of owner (take i rows)) (own_of owner (get_or rows i d ∷ []))
+
+pub names_taken : (owner : ℕ) (rows : List Row) (i : ℕ) (d : Row) → i < length rows
+    → names_of (own_of owner (take (i + 1) rows)) ≡ fold with_name (names_of (own_of owner (take i rows))) (own_of owner (get_or rows i d ∷ []))
+names_taken owner rows i d within =
+    ap names_of (own_taken owner rows i d within) ∙ fold-append with_name [] (own_of owner (take i rows)) (own_of owner (get_or rows i d ∷ []))
+
+-- ---- several sequences
+
+pub all_added_more : (word : List ℕ) (texts : List (List ℕ)) (pairs : List Pair) (i : ℕ) (text : List ℕ) → i < length texts → text ≡ get_or texts i text
+    → all_added word (drop i texts) pairs ≡ (added word text pairs >>= all_added word (drop (i + 1) texts))
+all_added_more word texts pairs i text within is =
+    at_drop_more (λ texts. all_added word texts pairs) texts i text within
+    ∙ ap (λ t. all_added word (t ∷ drop (i + 1) texts) pairs) (sym is)
+
+-- what is kept of the first rows where one row more stands behind
+pub kept_on : (rows middle new : List Row) → take (length rows) middle ≡ rows → take (length middle) new ≡ middle → take (length rows) new ≡ rows
+kept_on rows middle new first second =
+    let within : length rows ≤ length middle = omega (arith, ap length first, length-take (length rows) middle) in
+    ap (take (length rows)) (sym (take-append-drop (length middle) new))
+    ∙ ap (λ (front : List Row). take (length rows) (front ++ drop (length middle) new)) second
+    ∙ take-append-le (length rows) middle (drop (length middle) new) within
+    ∙ first
 
 -- ---- one more pair
 

@@ -2,7 +2,7 @@
 use Rattle.std.specs.Prelude.{◌≡◌, ◌≢◌, ℕ, Bool, ◌==◌, ◌&&◌, not, nat_le, if◌then◌else◌, List, [], ◌∷◌, ◌++◌, length, map, filter, fold, Option, Some, None, Result, Ok, Err}
 use Rattle.std.specs.List.{list_any}
 use Rattle.std.specs.Str.{bytes_eq}
-use Rattle.tk_sequences.specs.Reading.{name_in, parsed}
+use Rattle.tk_sequences.specs.Reading.{in_brackets, name_in, parsed}
 use Rattle.tk_sequences.specs.Writing.{canonical}
 use Rattle.tk_sequences.specs.declared.fault.SequenceFault.{SequenceFault}
 use Rattle.tk_sequences.specs.declared.fault.SequenceFault.TheVariants as sequence_faults
@@ -15,6 +15,12 @@ use Rattle.tk_virtual.specs.declared.table.Row.{Row}
 
 abbrev pub Outcome : Type 0 → Type 0
 Outcome T = Result T VirtualFault
+
+-- the rest, unless what comes before it was refused
+infixl 10 ◌>>=◌
+abbrev pub ◌>>=◌ : {T U : Type 0} → Outcome T → (T → Outcome U) → Outcome U
+Ok value >>= rest = rest value
+Err fault >>= rest = Err fault
 
 -- ---- what is added
 
@@ -74,12 +80,42 @@ with_meant (Err fault) pairs = Err fault
 unfoldable pub added : List ℕ → List ℕ → List Pair → Outcome (List Pair)
 added word text pairs = with_meant (pair_meant word text) pairs
 
+-- pairs of one name are added, one after another; none where one is refused
+abbrev pub all_added : List ℕ → List (List ℕ) → List Pair → Outcome (List Pair)
+all_added word [] pairs = Ok pairs
+all_added word (text ∷ texts) pairs = added word text pairs >>= all_added word texts
+
 -- all pairs of a name but these
 abbrev pub without_name : List ℕ → List Pair → List Pair
 without_name name pairs = filter (λ pair. not (has_name name pair)) pairs
 
 abbrev pub without_pair : Pair → List Pair → List Pair
 without_pair wanted pairs = filter (λ pair. not (is_same wanted pair)) pairs
+
+-- the pairs that a name and several sequences spell, each tested in turn
+abbrev pub pairs_meant : List ℕ → List (List ℕ) → Outcome (List Pair)
+pairs_meant word [] = Ok []
+pairs_meant word (text ∷ texts) = do
+  pair ← pair_meant word text
+  pairs ← pairs_meant word texts
+  Ok (pair ∷ pairs)
+
+abbrev pub without_pairs : List Pair → List Pair → List Pair
+without_pairs [] pairs = pairs
+without_pairs (wanted ∷ others) pairs = without_pairs others (without_pair wanted pairs)
+
+-- pairs of a name are taken out, all of them or those with these sequences; none where a word is refused
+unfoldable pub deleted : List ℕ → List (List ℕ) → List Pair → Outcome (List Pair)
+deleted word [] pairs = do
+  name ← name_or_fault word (name_in word)
+  Ok (without_name name pairs)
+deleted word (text ∷ texts) pairs = do
+  wanted ← pairs_meant word (text ∷ texts)
+  Ok (without_pairs wanted pairs)
+
+-- names and what stands for them
+abbrev pub meanings_of : List Pair → List (List ℕ × Sequence)
+meanings_of pairs = map (λ pair. (pair.name, pair.sequence)) pairs
 
 -- the sequences of a name in their canonical form
 abbrev pub written_of : List ℕ → List Pair → List (List ℕ)
@@ -91,6 +127,10 @@ with_name names pair = if list_any (λ name. bytes_eq name pair.name) names then
 
 abbrev pub names_of : List Pair → List (List ℕ)
 names_of pairs = fold with_name [] pairs
+
+-- the same in their brackets
+abbrev pub written_names : List Pair → List (List ℕ)
+written_names pairs = map in_brackets (names_of pairs)
 
 -- ---- all applications
 

@@ -1,14 +1,16 @@
 //! The table of all applications.
-ghost use Rattle.std.specs.Prelude.{◌≡◌, ◌≢◌, ◌==◌, ◌&&◌, not, ℕ, [], ◌∷◌, ◌++◌, length, filter, IfOk, IfErr, OnOk, OnErr, Ok, Err};
+ghost use Rattle.std.specs.Prelude.{◌≡◌, ◌≢◌, ◌==◌, ◌&&◌, not, ℕ, [], ◌∷◌, ◌++◌, length, take, map, filter, fold, IfOk, IfErr, OnOk, OnErr, Ok, Err};
 ghost use Rattle.std.specs.List.{count_by, list_any};
-ghost use Rattle.tk_virtual.specs.Virtual.{LeavesOthers, added, has_name, is_same, own_of, with_pair, without_name, without_pair, written_of};
+ghost use Rattle.std.specs.Str.{bytes_eq};
+ghost use Rattle.tk_sequences.specs.Reading.{in_brackets, name_in};
+ghost use Rattle.tk_virtual.specs.Virtual.{LeavesOthers, added, all_added, deleted, has_name, is_same, meanings_of, name_or_fault, names_of, own_of, pairs_meant, with_name, with_pair, without_name, without_pair, without_pairs, written_names, written_of};
 
 use crate::fault::VirtualFault;
-use crate::pair::{Pair, pair_meant};
+use crate::pair::{Pair, name_meant, pair_meant};
 use std::alloc::{AllocError, Global};
 use std::marker::Model;
 use tcl_text::{Text, TextList};
-use tk_sequences::VirtualName;
+use tk_sequences::{Sequence, VirtualName};
 
 /// How many pairs an application has at most.
 pub const MOST_PAIRS: usize = 4_096;
@@ -95,14 +97,51 @@ fn drop_pair(rows: &mut Vec<Row>, owner: usize, wanted: &Pair)
     rows.retain(|row| is_beside_pair(row, owner, wanted));
 }
 
-/// Adds the pair of a row, where it is an application's.
-fn push_own(alloc: Global, pairs: &mut Vec<Pair>, row: &Row, owner: usize) -> Result<(), AllocError>
-    ensures { OnOk result (pairs.new.items ≡ pairs.old.items ++ own_of owner (row.now ∷ [])) }
+/// Adds the name and the sequence of a row, where it is an application's.
+fn push_meaning(
+    alloc: Global,
+    meanings: &mut Vec<(VirtualName, Sequence)>,
+    row: &Row,
+    owner: usize,
+) -> Result<(), AllocError>
+    ensures { OnOk result (meanings.new.items ≡ meanings.old.items ++ meanings_of (own_of owner (row.now ∷ []))) }
 {
     if row.owner == owner {
-        pairs.push(row.pair.copy(alloc)?)?;
+        let name = row.pair.name.copy()?;
+        let sequence = row.pair.sequence.copy(alloc)?;
+        meanings.push((name, sequence))?;
     }
     Ok(())
+}
+
+/// Whether a name is among some.
+fn has_among(names: &[VirtualName], name: &VirtualName) -> bool
+    ensures { result ≡ list_any (λ other. bytes_eq other name.now) names.now }
+{
+    names.iter().any(|other| other.as_str() == name.as_str())
+}
+
+/// Adds the name of a row, where it is an application's and isn't there yet.
+fn push_name(names: &mut Vec<VirtualName>, row: &Row, owner: usize) -> Result<(), AllocError>
+    ensures { OnOk result (names.new.items ≡ fold with_name names.old.items (own_of owner (row.now ∷ []))) }
+{
+    if row.owner == owner && !has_among(names, &row.pair.name) {
+        names.push(row.pair.name.copy()?)?;
+    }
+    Ok(())
+}
+
+/// The pairs that a name and several sequences spell.
+fn pairs_meant(alloc: Global, name: &Text, sequences: &[Text]) -> Result<Vec<Pair>, VirtualFault>
+    ensures ok { IfOk result (λ pairs. pairs_meant name.now sequences.now ≡ Ok pairs.items) }
+    ensures refused { IfErr result (λ fault. fault ≢ VirtualFault.NoMemory → pairs_meant name.now sequences.now ≡ Err fault) }
+{
+    let mut pairs = Vec::new(alloc);
+    for sequence in sequences {
+        let pair = pair_meant(alloc, name, sequence)?;
+        pairs.push(pair)?;
+    }
+    Ok(pairs)
 }
 
 /// Adds the sequence of a row, where it is an application's and has this name.
@@ -143,10 +182,54 @@ impl VirtualTable {
         ensures ok { OnOk result (added name.now sequence.now (own_of owner self.old) ≡ Ok (own_of owner self.new)) }
         ensures refused { IfErr result (λ fault. fault ≢ VirtualFault.NoMemory → added name.now sequence.now (own_of owner self.old) ≡ Err fault) }
         ensures others { LeavesOthers owner self.old self.new }
+        ensures kept { take (length self.old) self.new ≡ self.old }
         ensures err { OnErr result (self.new ≡ self.old) }
     {
         let pair = pair_meant(alloc, name, sequence)?;
         self.insert(owner, pair)?;
+        Ok(())
+    }
+
+    /// Adds the pairs of a name and several sequences, one after another (`event add` of event(n)). Each is tested whole, as by `add`, before
+    /// the next; where one is refused, none is added.
+    pub fn add_all(
+        &mut self,
+        alloc: Global,
+        owner: usize,
+        name: &Text,
+        sequences: &[Text],
+    ) -> Result<(), VirtualFault>
+        ensures ok { OnOk result (all_added name.now sequences.now (own_of owner self.old) ≡ Ok (own_of owner self.new)) }
+        ensures refused { IfErr result (λ fault. fault ≢ VirtualFault.NoMemory → all_added name.now sequences.now (own_of owner self.old) ≡ Err fault) }
+        ensures others { LeavesOthers owner self.old self.new }
+        ensures err { OnErr result (self.new ≡ self.old) }
+    {
+        let before = self.rows.len();
+        match self.add_each(alloc, owner, name, sequences) {
+            Ok(()) => Ok(()),
+            Err(fault) => {
+                self.rows.truncate(before);
+                Err(fault)
+            }
+        }
+    }
+
+    /// The same, but that those before the one that is refused are added.
+    fn add_each(
+        &mut self,
+        alloc: Global,
+        owner: usize,
+        name: &Text,
+        sequences: &[Text],
+    ) -> Result<(), VirtualFault>
+        ensures ok { OnOk result (all_added name.now sequences.now (own_of owner self.old) ≡ Ok (own_of owner self.new)) }
+        ensures refused { IfErr result (λ fault. fault ≢ VirtualFault.NoMemory → all_added name.now sequences.now (own_of owner self.old) ≡ Err fault) }
+        ensures others { LeavesOthers owner self.old self.new }
+        ensures kept { take (length self.old) self.new ≡ self.old }
+    {
+        for sequence in sequences {
+            self.add(alloc, owner, name, sequence)?;
+        }
         Ok(())
     }
 
@@ -155,6 +238,7 @@ impl VirtualTable {
         ensures ok { OnOk result (with_pair pair (own_of owner self.old) ≡ Ok (own_of owner self.new)) }
         ensures refused { IfErr result (λ fault. fault ≢ VirtualFault.NoMemory → with_pair pair (own_of owner self.old) ≡ Err fault) }
         ensures others { LeavesOthers owner self.old self.new }
+        ensures kept { take (length self.old) self.new ≡ self.old }
         ensures err { OnErr result (self.new ≡ self.old) }
     {
         if has(&self.rows, owner, &pair) {
@@ -183,16 +267,83 @@ impl VirtualTable {
         drop_pair(&mut self.rows, owner, wanted);
     }
 
-    /// The pairs of an application, in the order in which they were added.
-    #[tactic(auto, using(crate::proofs::OwnLemmas::own_taken))]
-    pub fn pairs(&self, alloc: Global, owner: usize) -> Result<Vec<Pair>, AllocError>
-        ensures { IfOk result (λ pairs. pairs.items ≡ own_of owner self.now) }
+    /// Takes out all pairs of a name, or those with some sequences (`event delete` of event(n)). `BadName` (33), and for a sequence
+    /// `BadSequence` (29), `BadKeysym` (30) or `VirtualInVirtual` (32); then none is taken out.
+    #[tactic(auto, unfolding(crate::specs::Virtual::deleted))]
+    pub fn delete(
+        &mut self,
+        alloc: Global,
+        owner: usize,
+        name: &Text,
+        sequences: &[Text],
+    ) -> Result<(), VirtualFault>
+        ensures ok { OnOk result (deleted name.now sequences.now (own_of owner self.old) ≡ Ok (own_of owner self.new)) }
+        ensures refused { IfErr result (λ fault. fault ≢ VirtualFault.NoMemory → deleted name.now sequences.now (own_of owner self.old) ≡ Err fault) }
+        ensures others { LeavesOthers owner self.old self.new }
+        ensures err { OnErr result (self.new ≡ self.old) }
+    {
+        match sequences {
+            [] => {
+                let name = name_meant(alloc, name)?;
+                self.delete_name(owner, &name);
+                Ok(())
+            }
+            [_, ..] => {
+                let pairs = pairs_meant(alloc, name, sequences)?;
+                self.delete_pairs(owner, pairs.as_slice());
+                Ok(())
+            }
+        }
+    }
+
+    /// Takes out several pairs, those of them that are there. It takes no memory.
+    fn delete_pairs(&mut self, owner: usize, pairs: &[Pair])
+        ensures own { own_of owner self.new ≡ without_pairs pairs.now (own_of owner self.old) }
+        ensures others { LeavesOthers owner self.old self.new }
+    {
+        for pair in pairs {
+            self.delete_pair(owner, pair);
+        }
+    }
+
+    /// The names and sequences of an application's pairs, in the order in which they were added.
+    #[tactic(auto, using(crate::proofs::OwnLemmas::meanings_taken))]
+    pub fn pairs(
+        &self,
+        alloc: Global,
+        owner: usize,
+    ) -> Result<Vec<(VirtualName, Sequence)>, AllocError>
+        ensures { IfOk result (λ pairs. pairs.items ≡ meanings_of (own_of owner self.now)) }
     {
         let mut pairs = Vec::new(alloc);
         for row in &self.rows {
-            push_own(alloc, &mut pairs, row, owner)?;
+            push_meaning(alloc, &mut pairs, row, owner)?;
         }
         Ok(pairs)
+    }
+
+    /// The names that an application has pairs of, in their brackets, each where it first stands (`event info` of event(n)).
+    pub fn names(&self, alloc: Global, owner: usize) -> Result<TextList, AllocError>
+        ensures { IfOk result (λ list. list ≡ written_names (own_of owner self.now)) }
+    {
+        let names = self.own_names(alloc, owner)?;
+        let mut list = TextList::new(alloc);
+        for name in &names {
+            list.push(name.canonical(alloc)?)?;
+        }
+        Ok(list)
+    }
+
+    /// The names that an application has pairs of, each where it first stands.
+    #[tactic(auto, using(crate::proofs::OwnLemmas::names_taken))]
+    fn own_names(&self, alloc: Global, owner: usize) -> Result<Vec<VirtualName>, AllocError>
+        ensures { IfOk result (λ names. names.items ≡ names_of (own_of owner self.now)) }
+    {
+        let mut names = Vec::new(alloc);
+        for row in &self.rows {
+            push_name(&mut names, row, owner)?;
+        }
+        Ok(names)
     }
 
     /// The sequences of a name in their canonical form, in the order in which they were added (`event info <<name>>` of event(n)).

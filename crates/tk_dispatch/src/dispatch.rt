@@ -1,0 +1,135 @@
+//! The choice of scripts.
+ghost use Rattle.std.specs.Prelude.{◌≡◌, IfOk};
+ghost use Rattle.tcl_text.specs.Answers.{limit_text as limit_text_of};
+ghost use Rattle.tk_dispatch.specs.Dispatch.{script_of, scripts_for, scripts_of, with_fields};
+ghost use Rattle.tk_patterns.specs.Own as bindings_of;
+ghost use Rattle.tk_tree.specs.Own as windows_of;
+ghost use Rattle.tk_virtual.specs.Virtual as virtuals_of;
+
+use crate::tag::is_live;
+use std::alloc::{AllocError, Global};
+use tcl_text::{Text, TextFault, TextList};
+use tk_base::Win;
+use tk_events::Event;
+use tk_history::History;
+use tk_patterns::{BindTable, Sequence, VirtualName};
+use tk_percent::substitute;
+use tk_tree::Windows;
+use tk_virtual::VirtualTable;
+
+/// What the choice for an event looks at.
+#[derive(Clone, Copy)]
+struct Choice<'a> {
+    windows: &'a Windows,
+    bindings: &'a BindTable,
+    owner: usize,
+    virtuals: &'a [(VirtualName, Sequence)],
+    event: &'a Event,
+    history: &'a History,
+}
+
+/// The scripts that an event runs at a window, in the order of the window's binding tags (bindtags(n)): for each tag that of the binding that
+/// wins after the events that came before (bind(n), MULTIPLE MATCHES), with the event's fields put in. A tag that is the path of a window that
+/// is gone is passed over, and a window that is gone has no tags. Where one of them would pass 65,536 bytes, that is told (4), and no
+/// script.
+#[tactic(auto, unfolding(crate::specs::Dispatch::scripts_for))]
+pub fn scripts_for(
+    alloc: Global,
+    windows: &Windows,
+    bindings: &BindTable,
+    virtuals: &VirtualTable,
+    win: Win,
+    event: &Event,
+    history: &History,
+) -> Result<Result<TextList, Text>, AllocError>
+    ensures { IfOk result (λ chosen. chosen ≡ scripts_for (windows_of.own_of win.owner windows.now)
+        (bindings_of.own_of win.owner bindings.now) (virtuals_of.own_of win.owner virtuals.now) win.number event.now history.now) }
+{
+    let Some(window) = windows.window(win) else {
+        return Ok(Ok(TextList::new(alloc)));
+    };
+    let virtuals = virtuals.pairs(alloc, win.owner)?;
+    let choice = Choice {
+        windows,
+        bindings,
+        owner: win.owner,
+        virtuals: virtuals.as_slice(),
+        event,
+        history,
+    };
+    scripts_of(alloc, choice, window.tags.as_slice())
+}
+
+/// The scripts of some tags.
+fn scripts_of(
+    alloc: Global,
+    choice: Choice<'_>,
+    tags: &[Text],
+) -> Result<Result<TextList, Text>, AllocError>
+    ensures { IfOk result (λ chosen. chosen ≡ scripts_of (windows_of.own_of choice.owner choice.windows.now) choice.virtuals.now
+        (bindings_of.own_of choice.owner choice.bindings.now) choice.history.now choice.event.now tags.now) }
+{
+    let mut scripts = TextList::new(alloc);
+    for tag in tags {
+        match script_of(alloc, choice, tag.as_str())? {
+            Some(Ok(script)) => scripts.push(script)?,
+            Some(Err(text)) => return Ok(Err(text)),
+            None => {}
+        }
+    }
+    Ok(Ok(scripts))
+}
+
+/// The script of a tag, if one is to run.
+fn script_of(
+    alloc: Global,
+    choice: Choice<'_>,
+    tag: &str,
+) -> Result<Option<Result<Text, Text>>, AllocError>
+    ensures { IfOk result (λ script. script ≡ script_of (windows_of.own_of choice.owner choice.windows.now) choice.virtuals.now
+        (bindings_of.own_of choice.owner choice.bindings.now) choice.history.now choice.event.now tag.now) }
+{
+    if !is_live(choice.windows, choice.owner, tag) {
+        return Ok(None);
+    }
+    let winner = choice.bindings.winner(
+        choice.owner,
+        tag,
+        choice.event,
+        choice.history,
+        choice.virtuals,
+    )?;
+    match winner {
+        Some(script) => Ok(Some(with_fields(alloc, &script, choice.event)?)),
+        None => Ok(None),
+    }
+}
+
+/// A script with the event's fields, or the error of a text past 65,536 bytes (4).
+#[tactic(auto, using(tcl_text::proofs::AnswerLemmas::bounds))]
+fn with_fields(
+    alloc: Global,
+    script: &Text,
+    event: &Event,
+) -> Result<Result<Text, Text>, AllocError>
+    ensures { IfOk result (λ answer. answer ≡ with_fields event.now script.now) }
+{
+    match substitute(alloc, script, event) {
+        Ok(text) => {
+            let _characters = text.as_str();
+            Ok(Ok(text))
+        }
+        Err(TextFault::TooLong) => Ok(Err(limit_text(alloc)?)),
+        Err(TextFault::NoMemory) => Err(AllocError),
+    }
+}
+
+/// The text of a value past 65,536 bytes (4).
+fn limit_text(alloc: Global) -> Result<Text, AllocError>
+    ensures { IfOk result (λ text. text ≡ limit_text_of) }
+{
+    match Text::new(alloc, "limit reached: value") {
+        Ok(text) => Ok(text),
+        Err(_) => Err(AllocError),
+    }
+}

@@ -1,0 +1,9 @@
+use Rattle.std.proofs.Common.{◌≡◌, ◌×◌, take, drop, length}
+use Rattle.tk_virtual.specs.Virtual.{LeavesOthers, all_added, own_of}
+use Rattle.tk_virtual.proofs.table.VirtualTable.add_each.Given as goal
+
+abbrev pub invariant-loop-sequence : goal.invariant-loop-sequence
+invariant-loop-sequence l =
+    (all_added l.name (drop l.sequence-index l.sequences) (own_of l.owner l.self) ≡ all_added l.name l.sequences (own_of l.owner l.initial.self))
+    × LeavesOthers l.owner l.initial.self l.self
+    × (take (length l.initial.self) l.self ≡ l.initial.self)

@@ -1,0 +1,73 @@
+-- The commands of frame(n), label(n), button(n), entry(n) and listbox(n) that make a window.
+use Rattle.std.specs.Prelude.{ℕ, if◌then◌else◌, List, [], ◌∷◌, ◌++◌, Option, None, Some, Result, Ok, Err, codes}
+use Rattle.std.specs.Option.{option_map_or}
+use Rattle.std.specs.Str.{bytes_eq}
+use Rattle.tcl_text.specs.Answers.{bounded, fails, quoted, wrong_args}
+use Rattle.tcl_vars.specs.Store.{Store}
+use Rattle.tk_base.specs.declared.kind.Kind.{Kind}
+use Rattle.tk_base.specs.declared.kind.Kind.TheVariants.{Frame, Label, Button, Entry, Listbox}
+use Rattle.tk_options.specs.declared.fault.OptionFault.{OptionFault}
+use Rattle.tk_options.specs.declared.settings.Setting.{Setting}
+use Rattle.tk_options.specs.FaultTexts.{fault_text as option_text}
+use Rattle.tk_options.specs.Options.{settings, with_settings}
+use Rattle.tk_options.specs.Rows.{options_of}
+use Rattle.tk_screen.specs.Changes.{wrote}
+use Rattle.tk_screen.specs.Own.{Own, with_made}
+use Rattle.tk_tree.specs.Create.{refusal}
+use Rattle.tk_tree.specs.declared.fault.WindowFault.{WindowFault}
+use Rattle.tk_tree.specs.declared.fault.WindowFault.TheVariants.{BadPath, BadName, Dying, Exists, Full, NoMemory}
+use Rattle.tk_tree.specs.Own.{Own as Tree}
+use Rattle.tk_tree.specs.Path.{parent_and_name}
+use Rattle.tk_widgets.specs.Commands.{variable_write, with_options}
+use Rattle.tk_widgets.specs.declared.outcome.Change.TheVariants.{Configure}
+use Rattle.tk_widgets.specs.Sizes.{new_widget}
+use Rattle.tk_window_commands.specs.Answers.{Done, keeps}
+
+-- the usage of the command that makes widgets of a kind
+abbrev pub usage_of : Kind → List ℕ
+usage_of Frame = codes "frame path ?option value ..?"
+usage_of Label = codes "label path ?option value ..?"
+usage_of Button = codes "button path ?option value ..?"
+usage_of Entry = codes "entry path ?option value ..?"
+usage_of Listbox = codes "listbox path ?option value ..?"
+
+-- ---- the path
+
+-- the name of a window below its parent, from its path
+abbrev pub name_in : List ℕ → List ℕ
+name_in path = option_map_or (λ parts. parts.1) (parent_and_name path) []
+
+-- why a path is refused: 24 to 28
+unfoldable pub refusal_text : List ℕ → WindowFault → List ℕ
+refusal_text path BadPath = codes "bad window path name " ++ quoted path
+refusal_text path BadName = codes "window name starts with an upper-case letter: " ++ quoted (name_in path)
+refusal_text path Dying = codes "can't create window: parent has been destroyed"
+refusal_text path Exists = codes "window name " ++ (quoted (name_in path) ++ codes " already exists in parent")
+refusal_text path Full = codes "limit reached: windows"
+refusal_text path NoMemory = codes "out of memory"
+
+-- the main window isn't made by a command
+abbrev pub path_refusal : List ℕ → Tree → Option WindowFault
+path_refusal path tree = if bytes_eq path (codes ".") then Some BadPath else refusal path tree
+
+-- ---- the window
+
+-- the window is made with its options set, once the variable that they ask for is
+abbrev pub made_after : Kind → List ℕ → List Setting → Own → Store → Result Store (List ℕ) → Done
+made_after kind path all own store (Ok new) =
+    record { own = with_made path kind (with_options (with_settings all) (new_widget kind)) own; store = new; answer = Ok path }
+made_after kind path all own store (Err text) = keeps own store (Err text)
+
+abbrev pub made_with : Kind → List ℕ → Own → Store → Result (List Setting) OptionFault → Done
+made_with kind path own store (Ok all) = made_after kind path all own store (wrote (variable_write (Configure all) (new_widget kind)) store)
+made_with kind path own store (Err fault) = keeps own store (fails (option_text fault))
+
+-- the path is tested before the options
+abbrev pub made_unless : Kind → List ℕ → List (List ℕ) → Own → Store → Option WindowFault → Done
+made_unless kind path options own store (Some fault) = keeps own store (fails (refusal_text path fault))
+made_unless kind path options own store None = made_with kind path own store (settings options (options_of kind))
+
+-- KIND path ?option value ..?: the answer is the path; a refused command changes nothing
+unfoldable pub create_words : Kind → List (List ℕ) → Own → Store → Done
+create_words kind [] own store = keeps own store (wrong_args (usage_of kind))
+create_words kind (path ∷ options) own store = made_unless kind path options own store (path_refusal path own.tree)

@@ -1,0 +1,91 @@
+-- winfo(n): what can be asked of a window.
+use Rattle.std.specs.Prelude.{ℕ, if◌then◌else◌, List, [], ◌∷◌, ◌++◌, map, Option, None, Some, is_some, unwrap_or, Ok, codes}
+use Rattle.std.specs.Fmt.{decimal}
+use Rattle.std.specs.Option.{option_map_or}
+use Rattle.std.specs.Str.{bytes_eq}
+use Rattle.tcl_text.specs.Answers.{Answer, ◌>>=◌, answers, bad_option, truth, wrong_args}
+use Rattle.tcl_text.specs.Readings.{list_form}
+use Rattle.tcl_vars.specs.Store.{Store}
+use Rattle.tk_base.specs.Kind.{class_of}
+use Rattle.tk_screen.specs.Layout.{size_asked}
+use Rattle.tk_screen.specs.Own.{Own}
+use Rattle.tk_tree.specs.Corners.{corner}
+use Rattle.tk_tree.specs.declared.window.Window.{Window}
+use Rattle.tk_tree.specs.Own.{Own as Tree, at_path, child_numbers, window_at}
+use Rattle.tk_window_commands.specs.Answers.{window_named}
+use Rattle.tk_window_commands.specs.Create.{name_in}
+use Rattle.tk_window_commands.specs.declared.winfo.Question.{Question}
+use Rattle.tk_window_commands.specs.declared.winfo.Question.TheVariants.{Children, Class, Exists, Height, IsMapped, Name, Parent, RequestedHeight, RequestedWidth, RootX, RootY, Toplevel, Width, X, Y}
+
+-- the sub-command of a name
+unfoldable pub question_named : List ℕ → Option Question
+question_named name =
+    if bytes_eq name (codes "children") then Some Children
+    else (if bytes_eq name (codes "class") then Some Class
+    else (if bytes_eq name (codes "exists") then Some Exists
+    else (if bytes_eq name (codes "height") then Some Height
+    else (if bytes_eq name (codes "ismapped") then Some IsMapped
+    else (if bytes_eq name (codes "name") then Some Name
+    else (if bytes_eq name (codes "parent") then Some Parent
+    else (if bytes_eq name (codes "reqheight") then Some RequestedHeight
+    else (if bytes_eq name (codes "reqwidth") then Some RequestedWidth
+    else (if bytes_eq name (codes "rootx") then Some RootX
+    else (if bytes_eq name (codes "rooty") then Some RootY
+    else (if bytes_eq name (codes "toplevel") then Some Toplevel
+    else (if bytes_eq name (codes "width") then Some Width
+    else (if bytes_eq name (codes "x") then Some X
+    else (if bytes_eq name (codes "y") then Some Y
+    else None))))))))))))))
+
+-- the path of the window with a number
+abbrev pub path_at : Tree → ℕ → List ℕ
+path_at tree number = option_map_or (λ window. window.path) (window_at number tree) []
+
+-- the main window has a class of its own, and the application's name
+abbrev pub class_told : Window → List ℕ
+class_told window = if bytes_eq window.path (codes ".") then codes "Tk" else class_of window.kind
+
+abbrev pub application_name : Own → List ℕ
+application_name own = option_map_or (λ toplevel. toplevel.name) own.toplevel []
+
+abbrev pub name_told : Own → Window → List ℕ
+name_told own window = if bytes_eq window.path (codes ".") then application_name own else name_in window.path
+
+-- the size that a window asks for; the least is a pixel
+abbrev pub asked_for : Own → Store → Window → ℕ × ℕ
+asked_for own store window = unwrap_or (size_asked own store window.number) (1, 1)
+
+-- what is told of a window that is there: lengths in pixels, x and y from the parent's corner, rootx and rooty from that of the application's
+-- rectangle
+unfoldable pub told : Question → Own → Store → Window → Answer
+told Children own store window = answers (list_form (map (path_at own.tree) (child_numbers window.number own.tree.windows)))
+told Class own store window = Ok (class_told window)
+told Exists own store window = truth true
+told Height own store window = answers (decimal window.place.height)
+told IsMapped own store window = truth window.mapped
+told Name own store window = answers (name_told own window)
+told Parent own store window = answers (option_map_or (path_at own.tree) window.parent [])
+told RequestedHeight own store window = answers (decimal (asked_for own store window).1)
+told RequestedWidth own store window = answers (decimal (asked_for own store window).0)
+told RootX own store window = answers (decimal (corner window.number own.tree).x)
+told RootY own store window = answers (decimal (corner window.number own.tree).y)
+told Toplevel own store window = answers (codes ".")
+told Width own store window = answers (decimal window.place.width)
+told X own store window = answers (decimal window.place.x)
+told Y own store window = answers (decimal window.place.y)
+
+-- winfo exists path: any text may be asked for; winfo SUB-COMMAND path: the window has to be there
+abbrev pub told_at : Question → List ℕ → Own → Store → Answer
+told_at Exists path own store = truth (is_some (at_path path own.tree))
+told_at question path own store = do
+  window ← window_named path own.tree
+  told question own store window
+
+abbrev pub question_words : List ℕ → List (List ℕ) → Own → Store → Option Question → Answer
+question_words name words own store None = bad_option name
+question_words name (path ∷ []) own store (Some question) = told_at question path own store
+question_words name _ own store (Some question) = wrong_args (codes "winfo " ++ (name ++ codes " path"))
+
+unfoldable pub winfo_words : List (List ℕ) → Own → Store → Answer
+winfo_words [] own store = wrong_args (codes "winfo option ?arg ..?")
+winfo_words (name ∷ words) own store = question_words name words own store (question_named name)

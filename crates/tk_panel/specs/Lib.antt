@@ -3,7 +3,7 @@ pub mod Changes
 pub mod Choice
 pub mod Commands
 pub mod Destroy
-pub mod Histories
+pub mod Fresh
 pub mod Next
 pub mod Panel
 pub mod Reports

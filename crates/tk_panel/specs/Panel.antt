@@ -3,6 +3,7 @@ use Rattle.std.specs.Prelude.{◌≡◌, ℕ, List, ◌==◌, filter, map, not}
 use Rattle.std.specs.Borrow.{GName}
 use Rattle.std.specs.List.{range_with_len}
 use Rattle.tk_after.specs.Timers as timers
+use Rattle.tk_dispatch.specs.Histories as histories
 use Rattle.tk_events.specs.declared.event.Event.{Event}
 use Rattle.tk_patterns.specs.declared.binding.Binding.{Binding}
 use Rattle.tk_patterns.specs.Own as bindings
@@ -12,7 +13,6 @@ use Rattle.tk_virtual.specs.declared.pair.Pair.{Pair}
 use Rattle.tk_virtual.specs.Virtual as virtuals
 use Rattle.tk_panel.specs.declared.tables.Tables.{Tables}
 use Rattle.tk_panel.specs.declared.transcript.Line.{Line}
-use Rattle.tk_panel.specs.Histories as histories
 use Rattle.tk_panel.specs.Transcript.{lines_of, LeavesLines}
 
 pub record Panel : Type 0 where

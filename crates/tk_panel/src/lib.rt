@@ -7,7 +7,6 @@ mod choice;
 mod clock;
 mod commands;
 mod destroy;
-mod histories;
 mod job;
 mod looking;
 mod message;
@@ -21,7 +20,6 @@ mod transcript;
 
 pub use clock::{Clock, MAX_MOMENT};
 pub use commands::{after_command, clock_command, puts_command};
-pub use histories::Histories;
 pub use job::{Home, Job, Rest};
 pub use looking::next;
 pub use message::{Answer, bad_option, short_text, wrong_args};

@@ -1,11 +1,12 @@
-ghost use Rattle.std.specs.Prelude.{◌≡◌, ℕ, []};
-ghost use Rattle.tk_screen.specs.Own.{nothing, own_of};
+ghost use Rattle.std.specs.Prelude.{◌≡◌, ℕ, IfOk};
+ghost use Rattle.tk_panel.specs.Fresh.{nothing};
+ghost use Rattle.tk_panel.specs.Panel.{panel_of};
 
 use crate::clock::Clock;
-use crate::histories::Histories;
 use crate::transcript::Transcripts;
-use std::alloc::Global;
+use std::alloc::{AllocError, Global};
 use tk_after::Timers;
+use tk_dispatch::Histories;
 use tk_patterns::BindTable;
 use tk_queue::EventQueue;
 use tk_screen::Screen;
@@ -26,27 +27,21 @@ pub struct Tables {
 }
 
 impl Tables {
-    /// No application has anything, at moment 0. It takes no memory.
-    pub fn new(alloc: Global) -> Tables
-        ensures clock { result.clock ≡ 0 }
-        ensures screen { (slot : ℕ) → own_of slot result.screen ≡ nothing }
-        ensures bindings { result.bindings ≡ [] }
-        ensures virtuals { result.virtuals ≡ [] }
-        ensures histories { result.histories ≡ [] }
-        ensures queue { result.queue ≡ [] }
-        ensures timers { result.timers ≡ [] }
-        ensures transcripts { result.transcripts ≡ [] }
+    /// No application has anything, at moment 0.
+    pub fn new(alloc: Global) -> Result<Tables, AllocError>
+        ensures moment { IfOk result (λ tables. tables.clock ≡ 0) }
+        ensures nothing { IfOk result (λ tables. (slot : ℕ) → panel_of slot tables ≡ nothing 0) }
     {
-        Tables {
+        Ok(Tables {
             alloc,
             clock: Clock::new(),
             screen: Screen::new(alloc),
             bindings: BindTable::new(alloc),
             virtuals: VirtualTable::new(alloc),
-            histories: Histories::new(alloc),
+            histories: Histories::new(alloc)?,
             queue: EventQueue::new(alloc),
             timers: Timers::new(alloc),
             transcripts: Transcripts::new(alloc),
-        }
+        })
     }
 }

@@ -2,6 +2,6 @@
 pub mod Bounds
 pub mod Choices
 pub mod Drains
+pub mod Heads
 pub mod Others
 pub mod Turns
-pub mod Upcoming

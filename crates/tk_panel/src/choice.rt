@@ -4,7 +4,6 @@ ghost use Rattle.tk_panel.specs.Choice.{chosen, scripts_of};
 ghost use Rattle.tk_panel.specs.Panel.{LeavesOthers, panel_of};
 
 use crate::report::write;
-use crate::scripts::Scripts;
 use crate::tables::Tables;
 use crate::transcript::Stream;
 use std::alloc::AllocError;
@@ -12,6 +11,7 @@ use tcl_text::{Text, TextList};
 use tk_base::Win;
 use tk_dispatch::scripts_for;
 use tk_events::Event;
+use tk_upcoming::Scripts;
 
 /// The scripts of an event of a window that is there, or the text of a refused substitution.
 fn scripts_of(
@@ -49,8 +49,9 @@ pub fn choose(tables: &mut Tables, slot: usize, event: Event) -> Result<Scripts,
     }
     match scripts_of(tables, win, &event)? {
         Ok(scripts) => {
+            let scripts = Scripts::of(tables.alloc, scripts.into_vec())?;
             tables.histories.push(slot, event)?;
-            Ok(Scripts::of(scripts.into_vec()))
+            Ok(scripts)
         }
         Err(text) => {
             write(tables, slot, Stream::Err, text)?;

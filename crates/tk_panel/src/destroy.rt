@@ -7,14 +7,13 @@ ghost use Rattle.tk_tree.specs.Own.{own_of, window_at, with_change, LeavesOthers
 
 use crate::choice::choose;
 use crate::job::{Job, Rest};
-use crate::numbers::Numbers;
-use crate::scripts::Scripts;
 use crate::tables::Tables;
 use std::alloc::AllocError;
 use tcl_text::Text;
 use tk_base::Win;
 use tk_events::{Event, EventKind, EventType};
 use tk_tree::{Window, Windows};
+use tk_upcoming::{Numbers, Scripts};
 
 /// A window is being destroyed from now on, if it is there.
 fn mark_dying(windows: &mut Windows, win: Win)
@@ -128,7 +127,7 @@ fn next_doomed(
 {
     while let Some(number) = doomed.take_next() {
         let scripts = choose_destroy(tables, slot, number)?;
-        if scripts.has_next() {
+        if scripts.next().is_some() {
             return Ok(Some((number, scripts)));
         }
         remove(tables, slot, number)?;

@@ -1,5 +1,4 @@
-use crate::numbers::Numbers;
-use crate::scripts::Scripts;
+use tk_upcoming::{Numbers, Scripts};
 
 /// What is left to do of what runs one script after another.
 #[derive(Drop)]

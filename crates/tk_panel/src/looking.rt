@@ -44,7 +44,7 @@ pub fn next(
 {
     let Job { event, rest } = job;
     if let Some(scripts) = event {
-        if scripts.has_next() {
+        if scripts.next().is_some() {
             return Ok(Some(Job {
                 event: Some(scripts),
                 rest,

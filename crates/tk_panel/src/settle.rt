@@ -6,11 +6,10 @@ ghost use Rattle.tk_panel.specs.Settle.{after_layout, after_round, at_home, drai
 use crate::changes::lay_out;
 use crate::choice::choose;
 use crate::job::{Home, Job, Rest};
-use crate::numbers::Numbers;
-use crate::scripts::Scripts;
 use crate::tables::Tables;
 use std::alloc::AllocError;
 use tcl_vars::Scopes;
+use tk_upcoming::{Numbers, Scripts};
 
 /// Takes queued events, one after another, up to one that has scripts, and answers these; none where no event has any.
 #[tactic(auto, unfolding(crate::specs::Settle::drained))]
@@ -20,7 +19,7 @@ fn drain(tables: &mut Tables, slot: usize) -> Result<Scripts, AllocError>
 {
     while let Some(event) = tables.queue.pop(slot) {
         let scripts = choose(tables, slot, event)?;
-        if scripts.has_next() {
+        if scripts.next().is_some() {
             return Ok(scripts);
         }
     }
@@ -95,7 +94,7 @@ fn after_layout(
 {
     lay_out(tables, slot, scopes)?;
     let scripts = drain(tables, slot)?;
-    if scripts.has_next() {
+    if scripts.next().is_some() {
         return Ok(on_event(scripts, Numbers::none(tables.alloc), home));
     }
     idle_round(tables, slot, home)
@@ -113,7 +112,7 @@ fn turn(
     ensures others { LeavesOthers slot tables.old tables.new }
 {
     let scripts = drain(tables, slot)?;
-    if scripts.has_next() {
+    if scripts.next().is_some() {
         return Ok(on_event(scripts, Numbers::none(tables.alloc), home));
     }
     if is_due(tables, slot) {

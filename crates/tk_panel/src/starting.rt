@@ -6,10 +6,10 @@ ghost use Rattle.tk_after.specs.Timers.{entry_with, first_due};
 
 use crate::job::{Home, Job, Rest};
 use crate::message::short_text;
-use crate::numbers::Numbers;
 use crate::tables::Tables;
 use std::alloc::AllocError;
 use tcl_text::Text;
+use tk_upcoming::Numbers;
 
 /// A script that is no event's, and the job behind it.
 fn alone(script: Text, rest: Rest) -> (Text, Job)

@@ -1,14 +1,25 @@
 //! Packed windows by their masters.
 ghost use Rattle.std.specs.Prelude.{◌≡◌, ℕ, ◌++◌, IfOk, OnOk};
 ghost use Rattle.tk_layout.specs.Groups.{slaves_in, slave_of};
-ghost use Rattle.tk_packer.specs.Packs.{slaves_of};
+ghost use Rattle.tk_packer.specs.Packs.{own_of, slaves_of};
 
 use std::alloc::{AllocError, Global};
 use std::collections::HashMap;
-use tk_packer::Packed;
+use tk_packer::{PackTable, Packed};
+
+/// The slaves of each master of an application, in order.
+pub fn grouped(
+    alloc: Global,
+    packs: &PackTable,
+    owner: usize,
+) -> Result<HashMap<u64, Vec<Packed>>, AllocError>
+    ensures { IfOk result (λ groups. (master : ℕ) → slaves_in groups master ≡ slaves_of master (own_of owner packs.now).packs) }
+{
+    by_masters(alloc, packs.packs(owner))
+}
 
 /// The slaves of each master, in order, found in one pass.
-pub fn grouped(alloc: Global, packs: &[Packed]) -> Result<HashMap<u64, Vec<Packed>>, AllocError>
+fn by_masters(alloc: Global, packs: &[Packed]) -> Result<HashMap<u64, Vec<Packed>>, AllocError>
     ensures { IfOk result (λ groups. (master : ℕ) → slaves_in groups master ≡ slaves_of master packs.now) }
 {
     let mut groups = HashMap::new(alloc);

@@ -28,7 +28,7 @@ pub fn lay_out(
     ensures { IfOk result (λ changes. changes.items
         ≡ changes_of shapes.now (layout size (own_of owner packs.now).packs shapes.now)) }
 {
-    let groups = grouped(alloc, packs.packs(owner))?;
+    let groups = grouped(alloc, packs, owner)?;
     let sizes = sizes_asked(alloc, &groups, shapes)?;
     let places = places_of(alloc, size, &groups, &sizes, arrangements, shapes)?;
     changes_of(alloc, shapes, places.as_slice())
@@ -46,7 +46,7 @@ pub fn requested_size(
     ensures { IfOk result (λ size. size
         ≡ lookup (nat_eq number) (sizes_asked (λ master. slaves_of master (own_of owner packs.now).packs) shapes.now)) }
 {
-    let groups = grouped(alloc, packs.packs(owner))?;
+    let groups = grouped(alloc, packs, owner)?;
     let sizes = sizes_asked(alloc, &groups, shapes)?;
     Ok(sizes.get(&number).copied())
 }

@@ -1,1 +1,3 @@
 -- Lemmas.
+pub mod Rows
+pub mod There

@@ -6,8 +6,6 @@ mod changes;
 mod layout;
 mod screen;
 mod shapes;
-#[cfg(test)]
-mod tests;
 mod toplevel;
 mod widgets;
 

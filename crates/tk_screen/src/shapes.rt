@@ -1,5 +1,6 @@
 //! What the layout has to know of windows.
-ghost use Rattle.std.specs.Prelude.{◌≡◌, ◌≤◌, ◌<◌, IfOk};
+ghost use Rattle.std.specs.Prelude.{◌≡◌, IfOk};
+ghost use Rattle.std.specs.List.{filter_map};
 ghost use Rattle.std.specs.Option.{option_copied};
 ghost use Rattle.tk_packer.specs.Packs.{own_of as packs_of};
 ghost use Rattle.tk_screen.specs.Own.{own_of};
@@ -40,11 +41,26 @@ pub fn shapes(
     ensures { IfOk result (λ list. list.items ≡ shapes (own_of slot screen.now) scopes.now) }
 {
     let order = pre_order(alloc, &screen.windows, slot)?;
-    let mut list = Vec::with_capacity(alloc, order.len())?;
-    for number in &order {
+    shapes_of(alloc, screen, slot, scopes, order.as_slice())
+}
+
+/// The windows with these numbers that are there.
+fn shapes_of(
+    alloc: Global,
+    screen: &Screen,
+    slot: usize,
+    scopes: &Scopes,
+    numbers: &[u64],
+) -> Result<Vec<Shape>, AllocError>
+    ensures { IfOk result (λ list. list.items ≡ filter_map (shape_at (own_of slot screen.now) scopes.now) numbers.now) }
+{
+    let mut list = Vec::with_capacity(alloc, numbers.len())?;
+    let mut rest = numbers;
+    while let [number, others @ ..] = rest {
         if let Some(shape) = shape_at(screen, slot, scopes, *number) {
             list.push(shape)?;
         }
+        rest = others;
     }
     Ok(list)
 }

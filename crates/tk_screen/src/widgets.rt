@@ -1,6 +1,7 @@
 //! The widgets of windows, by application and number.
-ghost use Rattle.std.specs.Prelude.{◌≡◌, ◌≢◌, ◌∷◌, [], ℕ, None, IfOk, OnOk, OnErr, IsOk, IsSome, OnSome, nat_eq};
-ghost use Rattle.std.specs.Option.{option_copied, option_map_or};
+ghost use Rattle.std.specs.Prelude.{◌≡◌, [], ℕ, IfOk, OnOk, OnErr, IsSome, nat_eq};
+ghost use Rattle.std.specs.HashMap.{get};
+ghost use Rattle.std.specs.Option.{option_copied};
 ghost use Rattle.tk_screen.specs.Widgets.{widgets_of, widget_at, with_widget, without_widget, made_at, HasRoom, LeavesOtherWidgets};
 
 use indexmap::IndexMap;

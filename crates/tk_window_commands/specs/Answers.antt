@@ -1,12 +1,10 @@
 -- What commands on windows leave and answer.
-use Rattle.std.specs.Prelude.{◌≡◌, ℕ, List, [], ◌++◌, Option, None, Some, Result, Ok, Err, ⊤, codes}
-use Rattle.tcl_text.specs.Answers.{Answer, fails, quoted}
+use Rattle.std.specs.Prelude.{◌≡◌, ℕ, List, ◌++◌, Result, Ok, Err, ⊤, codes}
+use Rattle.tcl_text.specs.Answers.{Answer, Gives, fails, quoted}
 use Rattle.tcl_text.specs.declared.commands.answers.Refusal.{Refusal}
 use Rattle.tcl_text.specs.declared.commands.answers.Refusal.TheVariants.{Error, NoMemory}
 use Rattle.tcl_vars.specs.Store.{Store}
 use Rattle.tk_screen.specs.Own.{Own}
-use Rattle.tk_tree.specs.declared.window.Window.{Window}
-use Rattle.tk_tree.specs.Own.{Own as Tree, at_path}
 
 -- the application's part of the screen and its variables after a command, and the command's answer
 pub record Done : Type 0 where
@@ -32,15 +30,15 @@ Does (Ok text) own store wanted = wanted ≡ record { own = own; store = store; 
 Does (Err (Error message)) own store wanted = wanted ≡ record { own = own; store = store; answer = Err message }
 Does (Err NoMemory) own store wanted = ⊤
 
--- ---- the window of a path
+abbrev pub DoesThere : Result (List ℕ) Refusal → Own → Told → Type 0
+DoesThere (Ok text) own wanted = wanted ≡ record { own = own; answer = Ok text }
+DoesThere (Err (Error message)) own wanted = wanted ≡ record { own = own; answer = Err message }
+DoesThere (Err NoMemory) own wanted = ⊤
 
--- what is no path of a window that is there (24)
+-- what is told of steps that gave or refused what the definition says
+abbrev pub IsAnsweredBy : Result (List ℕ) Refusal → Answer → Type 0
+IsAnsweredBy given answer = (wanted : Answer) → Gives given wanted → answer ≡ wanted
+
+-- the error for what is no path of a window that is there (24)
 abbrev pub bad_path : {T : Type 0} → List ℕ → Result T (List ℕ)
 bad_path path = fails (codes "bad window path name " ++ quoted path)
-
-abbrev pub or_bad_path : List ℕ → Option Window → Result Window (List ℕ)
-or_bad_path path (Some window) = Ok window
-or_bad_path path None = bad_path path
-
-abbrev pub window_named : List ℕ → Tree → Result Window (List ℕ)
-window_named path tree = or_bad_path path (at_path path tree)

@@ -1,9 +1,9 @@
 -- winfo(n): what can be asked of a window.
-use Rattle.std.specs.Prelude.{ℕ, if◌then◌else◌, List, [], ◌∷◌, ◌++◌, map, Option, None, Some, is_some, unwrap_or, Ok, codes}
+use Rattle.std.specs.Prelude.{ℕ, if◌then◌else◌, List, [], ◌∷◌, ◌++◌, map, Option, None, Some, true, false, unwrap_or, Ok, codes}
 use Rattle.std.specs.Fmt.{decimal}
 use Rattle.std.specs.Option.{option_map_or}
 use Rattle.std.specs.Str.{bytes_eq}
-use Rattle.tcl_text.specs.Answers.{Answer, ◌>>=◌, answers, bad_option, truth, wrong_args}
+use Rattle.tcl_text.specs.Answers.{Answer, answers, bad_option, truth, wrong_args}
 use Rattle.tcl_text.specs.Readings.{list_form}
 use Rattle.tcl_vars.specs.Store.{Store}
 use Rattle.tk_base.specs.Kind.{class_of}
@@ -12,7 +12,7 @@ use Rattle.tk_screen.specs.Own.{Own}
 use Rattle.tk_tree.specs.Corners.{corner}
 use Rattle.tk_tree.specs.declared.window.Window.{Window}
 use Rattle.tk_tree.specs.Own.{Own as Tree, at_path, child_numbers, window_at}
-use Rattle.tk_window_commands.specs.Answers.{window_named}
+use Rattle.tk_window_commands.specs.Answers.{bad_path}
 use Rattle.tk_window_commands.specs.Create.{name_in}
 use Rattle.tk_window_commands.specs.declared.winfo.Question.{Question}
 use Rattle.tk_window_commands.specs.declared.winfo.Question.TheVariants.{Children, Class, Exists, Height, IsMapped, Name, Parent, RequestedHeight, RequestedWidth, RootX, RootY, Toplevel, Width, X, Y}
@@ -52,21 +52,25 @@ abbrev pub name_told : Own → Window → List ℕ
 name_told own window = if bytes_eq window.path (codes ".") then application_name own else name_in window.path
 
 -- the size that a window asks for; the least is a pixel
-abbrev pub asked_for : Own → Store → Window → ℕ × ℕ
-asked_for own store window = unwrap_or (size_asked own store window.number) (1, 1)
+abbrev pub asked_for : Own → Store → ℕ → ℕ × ℕ
+asked_for own store number = unwrap_or (size_asked own store number) (1, 1)
+
+-- the paths of the children of a window, in the order of creation
+abbrev pub children_told : ℕ → Tree → Answer
+children_told number tree = answers (list_form (map (path_at tree) (child_numbers number tree.windows)))
 
 -- what is told of a window that is there: lengths in pixels, x and y from the parent's corner, rootx and rooty from that of the application's
 -- rectangle
 unfoldable pub told : Question → Own → Store → Window → Answer
-told Children own store window = answers (list_form (map (path_at own.tree) (child_numbers window.number own.tree.windows)))
+told Children own store window = children_told window.number own.tree
 told Class own store window = Ok (class_told window)
 told Exists own store window = truth true
 told Height own store window = answers (decimal window.place.height)
 told IsMapped own store window = truth window.mapped
 told Name own store window = answers (name_told own window)
 told Parent own store window = answers (option_map_or (path_at own.tree) window.parent [])
-told RequestedHeight own store window = answers (decimal (asked_for own store window).1)
-told RequestedWidth own store window = answers (decimal (asked_for own store window).0)
+told RequestedHeight own store window = answers (decimal (asked_for own store window.number).1)
+told RequestedWidth own store window = answers (decimal (asked_for own store window.number).0)
 told RootX own store window = answers (decimal (corner window.number own.tree).x)
 told RootY own store window = answers (decimal (corner window.number own.tree).y)
 told Toplevel own store window = answers (codes ".")
@@ -75,16 +79,24 @@ told X own store window = answers (decimal window.place.x)
 told Y own store window = answers (decimal window.place.y)
 
 -- winfo exists path: any text may be asked for; winfo SUB-COMMAND path: the window has to be there
+abbrev pub told_of_none : Question → List ℕ → Answer
+told_of_none Exists path = truth false
+told_of_none _ path = bad_path path
+
+abbrev pub told_of : Question → List ℕ → Own → Store → Option Window → Answer
+told_of question path own store (Some window) = told question own store window
+told_of question path own store None = told_of_none question path
+
 abbrev pub told_at : Question → List ℕ → Own → Store → Answer
-told_at Exists path own store = truth (is_some (at_path path own.tree))
-told_at question path own store = do
-  window ← window_named path own.tree
-  told question own store window
+told_at question path own store = told_of question path own store (at_path path own.tree)
+
+abbrev pub wrong_question : List ℕ → Answer
+wrong_question name = wrong_args (codes "winfo " ++ (name ++ codes " path"))
 
 abbrev pub question_words : List ℕ → List (List ℕ) → Own → Store → Option Question → Answer
 question_words name words own store None = bad_option name
 question_words name (path ∷ []) own store (Some question) = told_at question path own store
-question_words name _ own store (Some question) = wrong_args (codes "winfo " ++ (name ++ codes " path"))
+question_words name _ own store (Some question) = wrong_question name
 
 unfoldable pub winfo_words : List (List ℕ) → Own → Store → Answer
 winfo_words [] own store = wrong_args (codes "winfo option ?arg ..?")

@@ -2,7 +2,7 @@
 use Rattle.std.specs.Prelude.{ℕ, Bool, ◌&&◌, is_some, if◌then◌else◌, List, [], ◌∷◌, Ok, codes}
 use Rattle.std.specs.Option.{option_map_or}
 use Rattle.std.specs.Str.{bytes_eq}
-use Rattle.tcl_text.specs.Answers.{bad_option, wrong_args}
+use Rattle.tcl_text.specs.Answers.{Answer, bad_option, wrong_args}
 use Rattle.tk_screen.specs.Own.{Own, with_title}
 use Rattle.tk_tree.specs.Own.{at_path}
 use Rattle.tk_window_commands.specs.Answers.{Told, stays, bad_path}
@@ -14,10 +14,16 @@ is_main path own = bytes_eq path (codes ".") && is_some (at_path (codes ".") own
 abbrev pub title_of : Own → List ℕ
 title_of own = option_map_or (λ toplevel. toplevel.title) own.toplevel []
 
--- wm title . ?text?
+-- wm title . ?text?: the title, or the title that it is set to
+abbrev pub title_asked : List ℕ → Own → Answer
+title_asked path own = if is_main path own then Ok (title_of own) else bad_path path
+
+abbrev pub title_set : List ℕ → List ℕ → Own → Told
+title_set path title own = if is_main path own then record { own = with_title title own; answer = Ok [] } else stays own (bad_path path)
+
 abbrev pub title_words : List (List ℕ) → Own → Told
-title_words (path ∷ []) own = stays own (if is_main path own then Ok (title_of own) else bad_path path)
-title_words (path ∷ title ∷ []) own = if is_main path own then record { own = with_title title own; answer = Ok [] } else stays own (bad_path path)
+title_words (path ∷ []) own = stays own (title_asked path own)
+title_words (path ∷ title ∷ []) own = title_set path title own
 title_words _ own = stays own (wrong_args (codes "wm title . ?text?"))
 
 unfoldable pub wm_words : List (List ℕ) → Own → Told

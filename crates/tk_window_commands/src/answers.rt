@@ -1,19 +1,54 @@
 //! What the commands on windows answer.
-ghost use Rattle.std.specs.Prelude.{◌≡◌, IfOk, IsSome, Ok};
-ghost use Rattle.tcl_text.specs.Answers.{Answer, Gives};
-ghost use Rattle.tk_tree.specs.Own.{own_of as tree_of, window_at};
-ghost use Rattle.tk_window_commands.specs.Answers as spec;
+ghost use Rattle.std.specs.Prelude.{◌≡◌, [], Some, IfOk, IfSome};
+ghost use Rattle.std.specs.Option.{option_copied};
+ghost use Rattle.tk_tree.specs.Own.{own_of as tree_of, at_path, window_at};
+ghost use Rattle.tk_window_commands.specs.Answers.{IsAnsweredBy};
 
 use std::alloc::{AllocError, Global};
 use tcl_text::Text;
-use tcl_text::answers::{Refusal, quoting_error};
+use tcl_text::answers::Refusal;
+use tk_base::Win;
 use tk_tree::{Window, Windows};
 
-/// The window of a path, or the error of a path that names none (24).
-pub fn window_named<'a>(
-    alloc: Global,
-    windows: &'a Windows,
-    slot: usize,
-    path: &Text,
-) -> Result<&'a Window, Refusal>
-    ensures named { NamesWindow result (spec.window_named path.now (tree_of slot windows.now)) }
+/// A command's result, or the text of its error.
+pub type Answer = Result<Text, Text>;
+
+/// A command's answer from what its steps gave.
+pub fn answered(given: Result<Text, Refusal>) -> Result<Answer, AllocError>
+    ensures { IfOk result (λ answer. IsAnsweredBy given answer) }
+{
+    match given {
+        Ok(text) => Ok(Ok(text)),
+        Err(Refusal::Error(text)) => Ok(Err(text)),
+        Err(Refusal::NoMemory) => Err(AllocError),
+    }
+}
+
+/// The window of a path; none where the application has none of it. It takes no memory.
+pub fn window_at_path<'a>(windows: &'a Windows, slot: usize, path: &Text) -> Option<&'a Window>
+    ensures window { option_copied result ≡ at_path path.now (tree_of slot windows.now) }
+    ensures there { IfSome result (λ window. window_at window.now.number (tree_of slot windows.now) ≡ Some window.now) }
+{
+    let win = windows.find(slot, path.as_str())?;
+    windows.window(Win {
+        owner: slot,
+        number: win.number,
+    })
+}
+
+/// The empty text.
+pub fn empty_text(alloc: Global) -> Result<Text, AllocError>
+    ensures { IfOk result (λ text. text ≡ []) }
+{
+    short_text(alloc, "")
+}
+
+/// A text of characters that are known to be few enough.
+pub fn short_text(alloc: Global, characters: &str) -> Result<Text, AllocError>
+    ensures { IfOk result (λ text. text ≡ characters.now) }
+{
+    match Text::new(alloc, characters) {
+        Ok(text) => Ok(text),
+        Err(_) => Err(AllocError),
+    }
+}

@@ -6,13 +6,14 @@ mod answers;
 mod commands;
 mod create;
 mod path;
+mod refusals;
 mod winfo;
 mod winfo_told;
 mod wm;
 
-pub use answers::window_named;
 pub use commands::{WindowCommand, window_command_done, window_command_named};
 pub use create::create_command;
 pub use path::path_command;
+pub use refusals::bad_path;
 pub use winfo::winfo_command;
 pub use wm::wm_command;

@@ -2,7 +2,7 @@ use Rattle.std.proofs.Common.{ap, ◌∙◌}
 use Rattle.std.proofs.lemmas.Result.{IfOk-weaker}
 use Rattle.tk_layout.specs.Changes.{changes_of}
 use Rattle.tk_layout.specs.Groups.{slaves_in}
-use Rattle.tk_packer.specs.Packs.{own_of, slaves_of}
+use Rattle.tk_packer.specs.Packs.{own_of}
 use Rattle.tk_layout.proofs.Whole.{layout_is}
 use Rattle.tk_layout.proofs.layout.lay_out.Goals as goal
 
@@ -12,5 +12,5 @@ returns c =
     (λ changes is. is ∙ ap (changes_of c.args.shapes.now)
     (c.as_slice.ensures.value
     ∙ layout_is c.args.size (slaves_in c.in_ok-groups.groups) (own_of c.args.owner c.args.packs.now).packs c.args.shapes.now c.in_ok-sizes.sizes.entries c.in_ok-places.places.items
-    (λ master. c.in_ok-groups.ensures master ∙ ap (slaves_of master) c.packs.ensures) c.in_ok-sizes.ensures c.in_ok-places.ensures))
+    c.in_ok-groups.ensures c.in_ok-sizes.ensures c.in_ok-places.ensures))
     c.changes_of.ensures

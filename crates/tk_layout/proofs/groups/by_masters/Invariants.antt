@@ -1,7 +1,7 @@
 use Rattle.std.proofs.Common.{◌≡◌, ℕ, take}
 use Rattle.tk_layout.specs.Groups.{slaves_in}
 use Rattle.tk_packer.specs.Packs.{slaves_of}
-use Rattle.tk_layout.proofs.groups.grouped.Given as goal
+use Rattle.tk_layout.proofs.groups.by_masters.Given as goal
 
 -- the slaves among those passed
 abbrev pub invariant-loop-packed : goal.invariant-loop-packed

@@ -1,0 +1,65 @@
+//! The errors of commands on windows.
+ghost use Rattle.std.specs.Prelude.{◌≡◌, ◌++◌, IfOk, codes, string_bytes};
+ghost use Rattle.tcl_text.specs.Answers.{Gives, Refuses, bounded, quoted};
+ghost use Rattle.tk_window_commands.specs.Answers as spec;
+ghost use Rattle.tk_window_commands.specs.Create.{name_in, refusal_text};
+
+use std::alloc::{AllocError, Global};
+use tcl_text::Text;
+use tcl_text::answers::{Refusal, error, quoting_error};
+use tk_tree::{WindowFault, parent_and_name};
+
+/// The error for what is no path of a window that is there (24).
+pub fn bad_path<T>(alloc: Global, path: &Text) -> Result<T, Refusal>
+    ensures { Gives result (spec.bad_path path.now) }
+{
+    Err(quoting_error(alloc, "bad window path name ", path.as_str()))
+}
+
+/// The error for a path under which no window can be made (24 to 28).
+#[tactic(auto, unfolding(crate::specs::Create::refusal_text))]
+pub fn path_refused(alloc: Global, path: &Text, fault: WindowFault) -> Refusal
+    ensures { Refuses result (bounded (refusal_text path.now fault)) }
+{
+    match fault {
+        WindowFault::BadPath => quoting_error(alloc, "bad window path name ", path.as_str()),
+        WindowFault::BadName => quoting_error(
+            alloc,
+            "window name starts with an upper-case letter: ",
+            name_in(path.as_str()),
+        ),
+        WindowFault::Dying => error(alloc, "can't create window: parent has been destroyed"),
+        WindowFault::Exists => name_taken(alloc, name_in(path.as_str())),
+        WindowFault::Full => error(alloc, "limit reached: windows"),
+        WindowFault::NoMemory => Refusal::NoMemory,
+    }
+}
+
+/// The name of a window below its parent, from its path.
+pub fn name_in(path: &str) -> &str
+    ensures { result.now ≡ name_in path.now }
+{
+    match parent_and_name(path) {
+        Some((_, name)) => name,
+        None => "",
+    }
+}
+
+/// The error for a name that a sibling has (25).
+fn name_taken(alloc: Global, name: &str) -> Refusal
+    ensures { Refuses result (bounded (codes "window name " ++ (quoted name.now ++ codes " already exists in parent"))) }
+{
+    match taken_text(alloc, name) {
+        Ok(text) => error(alloc, text.as_str()),
+        Err(AllocError) => Refusal::NoMemory,
+    }
+}
+
+fn taken_text(alloc: Global, name: &str) -> Result<String, AllocError>
+    ensures { IfOk result (λ text. string_bytes text ≡ codes "window name " ++ (quoted name.now ++ codes " already exists in parent")) }
+{
+    let mut text = String::from_str(alloc, "window name \"")?;
+    text.push_str(name)?;
+    text.push_str("\" already exists in parent")?;
+    Ok(text)
+}

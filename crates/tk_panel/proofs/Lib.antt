@@ -1,7 +1,9 @@
 -- What the proofs share.
 pub mod Bounds
 pub mod Choices
+pub mod Dooms
 pub mod Drains
 pub mod Heads
+pub mod Nexts
 pub mod Others
 pub mod Turns

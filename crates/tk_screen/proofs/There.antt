@@ -88,4 +88,6 @@ there_by changes items own store tree same is tree_is =
 pub laid_by : (own mid : Own) (tree : Tree) (changes : List Change) (store : Store) → mid ≡ own → changes ≡ changes_due own store → tree ≡ with_changes changes mid.tree → record mid { tree = tree } ≡ laid_out own store
 unfolding laid_out
 laid_by own mid tree changes store same is tree_is =
-    ap (λ t. record mid { tree = t }) (tree_is ∙ ap (λ cs. with_changes cs mid.tree) is) ∙ ap (λ o. record o { tree = with_changes (changes_due own store) o.tree }) same
+    let put : Own → Tree → Own = λ o t. record o { tree = t } in
+    let change : Own → Own = λ o. put o (with_changes (changes_due own store) o.tree) in
+    ap (put mid) (tree_is ∙ ap (λ cs. with_changes cs mid.tree) is) ∙ ap change same

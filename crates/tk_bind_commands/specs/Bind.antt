@@ -1,7 +1,8 @@
 -- The command `bind` (bind(n)): what it answers, and what the application has bound then.
-use Rattle.std.specs.Prelude.{ℕ, Bool, true, false, ◌==◌, List, [], ◌∷◌, ◌++◌, map, Option, None, Some, Result, Ok, Err, if◌then◌else◌, codes}
+use Rattle.std.specs.Prelude.{◌≡◌, ℕ, Bool, true, false, ◌==◌, List, [], ◌∷◌, ◌++◌, map, Option, None, Some, Result, Ok, Err, if◌then◌else◌, codes}
 use Rattle.std.specs.Option.{option_map_or}
-use Rattle.tcl_text.specs.Answers.{Answer, ◌>>=◌, answers, fails, wrong_args}
+use Rattle.tcl_text.specs.Answers.{Answer, Gives, ◌>>=◌, answers, wrong_args}
+use Rattle.tcl_text.specs.declared.commands.answers.Refusal.{Refusal}
 use Rattle.tcl_text.specs.Readings.{list_form}
 use Rattle.tk_bind_commands.specs.Words.{or_sequence_fault, tag_or_error}
 use Rattle.tk_patterns.specs.declared.binding.Binding.{Binding}
@@ -61,12 +62,19 @@ abbrev pub with_script : List ℕ → Sequence → Answer → List Binding → T
 with_script tag sequence (Err text) own = (own, Err text)
 with_script tag sequence (Ok script) own =
     if is_empty script then (without_binding tag sequence own, Ok [])
-    else (if refuses tag sequence own then (own, fails (codes "limit reached: bindings"))
+    else (if refuses tag sequence own then (own, Err (codes "limit reached: bindings"))
     else (with_binding tag sequence script own, Ok []))
 
 abbrev pub with_word : List ℕ → Result Sequence (List ℕ) → List ℕ → List Binding → Told
 with_word tag (Err text) word own = (own, Err text)
 with_word tag (Ok sequence) word own = with_script tag sequence (answers (script_meant (script_of tag sequence own) word)) own
+
+-- the same of a step that gave or refused a script, or a sequence
+abbrev pub IsWithScript : List ℕ → Sequence → Result (List ℕ) Refusal → List Binding → Told → Type 0
+IsWithScript tag sequence given own told = (script : Answer) → Gives given script → told ≡ with_script tag sequence script own
+
+abbrev pub IsWithWord : List ℕ → Result Sequence Refusal → List ℕ → List Binding → Told → Type 0
+IsWithWord tag given word own told = (sequence : Result Sequence (List ℕ)) → Gives given sequence → told ≡ with_word tag sequence word own
 
 -- ---- the command
 

@@ -1,6 +1,7 @@
 -- The command `bindtags` (bindtags(n)): what it answers, and what windows the application has then.
-use Rattle.std.specs.Prelude.{ℕ, List, [], ◌∷◌, Option, None, Some, Result, Ok, Err, codes}
-use Rattle.tcl_text.specs.Answers.{Answer, answers, items_in, wrong_args}
+use Rattle.std.specs.Prelude.{◌≡◌, ℕ, List, [], ◌∷◌, Option, None, Some, Result, Ok, Err, codes}
+use Rattle.tcl_text.specs.Answers.{Answer, Gives, answers, items_in, wrong_args}
+use Rattle.tcl_text.specs.declared.commands.answers.Refusal.{Refusal}
 use Rattle.tcl_text.specs.Readings.{list_form}
 use Rattle.tk_bind_commands.specs.Words.{bad_path}
 use Rattle.tk_tree.specs.declared.window.Window.{Window}
@@ -23,6 +24,10 @@ with_items number (Err text) own = (own, Err text)
 abbrev pub with_list : List ℕ → List ℕ → Option Window → Own → Told
 with_list path list (Some window) own = with_items window.number (items_in list) own
 with_list path list None own = (own, bad_path path)
+
+-- the same of a step that gave or refused a list
+abbrev pub IsWithItems : ℕ → Result (List (List ℕ)) Refusal → Own → Told → Type 0
+IsWithItems number given own told = (items : Result (List (List ℕ)) (List ℕ)) → Gives given items → told ≡ with_items number items own
 
 -- the words behind the command's name
 unfoldable pub bindtags_words : List (List ℕ) → Own → Told

@@ -47,7 +47,7 @@ listbox_rows =
     ∷ []
 
 -- what `bind` makes of a row: a class is no path, so that no window is asked for
-abbrev pub with_row : List Binding → Row → List Binding
+unfoldable pub with_row : List Binding → Row → List Binding
 with_row own row = (with_word row.class (or_sequence_fault (parsed row.sequence)) row.script own).0
 
 unfoldable pub with_rows : List Row → List Binding → List Binding

@@ -57,17 +57,17 @@ pub fn scripts_for(
         event,
         history,
     };
-    scripts_of(alloc, choice, window.tags.as_slice())
+    scripts_of(alloc, &choice, window.tags.as_slice())
 }
 
 /// The scripts of some tags.
 fn scripts_of(
     alloc: Global,
-    choice: Choice<'_>,
+    choice: &Choice<'_>,
     tags: &[Text],
 ) -> Result<Result<TextList, Text>, AllocError>
-    ensures { IfOk result (λ chosen. chosen ≡ scripts_of (windows_of.own_of choice.owner choice.windows.now) choice.virtuals.now
-        (bindings_of.own_of choice.owner choice.bindings.now) choice.history.now choice.event.now tags.now) }
+    ensures { IfOk result (λ chosen. chosen ≡ scripts_of (windows_of.own_of choice.now.owner choice.now.windows.now) choice.now.virtuals.now
+        (bindings_of.own_of choice.now.owner choice.now.bindings.now) choice.now.history.now choice.now.event.now tags.now) }
 {
     let mut scripts = TextList::new(alloc);
     for tag in tags {
@@ -83,11 +83,11 @@ fn scripts_of(
 /// The script of a tag, if one is to run.
 fn script_of(
     alloc: Global,
-    choice: Choice<'_>,
+    choice: &Choice<'_>,
     tag: &str,
 ) -> Result<Option<Result<Text, Text>>, AllocError>
-    ensures { IfOk result (λ script. script ≡ script_of (windows_of.own_of choice.owner choice.windows.now) choice.virtuals.now
-        (bindings_of.own_of choice.owner choice.bindings.now) choice.history.now choice.event.now tag.now) }
+    ensures { IfOk result (λ script. script ≡ script_of (windows_of.own_of choice.now.owner choice.now.windows.now) choice.now.virtuals.now
+        (bindings_of.own_of choice.now.owner choice.now.bindings.now) choice.now.history.now choice.now.event.now tag.now) }
 {
     if !is_live(choice.windows, choice.owner, tag) {
         return Ok(None);

@@ -1,4 +1,5 @@
 -- What the contracts cite.
+pub mod FaultTexts
 pub mod Own
 pub mod Same
 pub mod Shown

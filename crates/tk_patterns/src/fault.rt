@@ -1,4 +1,8 @@
-use std::alloc::AllocError;
+ghost use Rattle.std.specs.Prelude.{◌≡◌, IfOk};
+ghost use Rattle.tk_patterns.specs.FaultTexts.{fault_number, fault_text};
+
+use std::alloc::{AllocError, Global};
+use tcl_text::Text;
 use thiserror::Error;
 
 /// Why a sequence was not bound.
@@ -10,6 +14,37 @@ pub enum BindFault {
     /// Memory was refused.
     #[error("out of memory")]
     NoMemory,
+}
+
+impl BindFault {
+    /// Its number; none where memory was refused.
+    pub fn number(self) -> Option<u32>
+        ensures { result ≡ fault_number self }
+    {
+        match self {
+            BindFault::Full => Some(31),
+            BindFault::NoMemory => None,
+        }
+    }
+
+    /// The text of the error.
+    pub fn message(self, alloc: Global) -> Result<Text, AllocError>
+        ensures { IfOk result (λ text. text ≡ fault_text self) }
+    {
+        match Text::new(alloc, self.text()) {
+            Ok(text) => Ok(text),
+            Err(_) => Err(AllocError),
+        }
+    }
+
+    fn text(self) -> &'static str
+        ensures { result.now ≡ fault_text self }
+    {
+        match self {
+            BindFault::Full => "limit reached: bindings",
+            BindFault::NoMemory => "out of memory",
+        }
+    }
 }
 
 impl From<AllocError> for BindFault {

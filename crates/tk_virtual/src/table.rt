@@ -307,7 +307,6 @@ impl VirtualTable {
     }
 
     /// The names and sequences of an application's pairs, in the order in which they were added.
-    #[tactic(auto, using(crate::proofs::OwnLemmas::meanings_taken))]
     pub fn pairs(
         &self,
         alloc: Global,

@@ -62,11 +62,11 @@ pub within_on_read : {S : Type 0} (n : ℕ) (name : List ℕ) (state : State S) 
 within_on_read n name state f (Ok value) w h = h value
 within_on_read n name state f (Err fault) w h = w
 
-within_cond : {S : Type 0} (n : ℕ) (b : Bool) (o p : Outcome S) → Within n o → Within n p → Within n (cond b o p)
+pub within_cond : {S : Type 0} (n : ℕ) (b : Bool) (o p : Outcome S) → Within n o → Within n p → Within n (cond b o p)
 within_cond n true o p w v = w
 within_cond n false o p w v = v
 
-within_on_words : {S : Type 0} (n : ℕ) (state : State S) (f : State S → List (List ℕ) → Outcome S) (words : Result (List (List ℕ)) (List ℕ)) → state.steps ≤ n → ((more : List (List ℕ)) → Within n (f state more)) → Within n (on_words state f words)
+pub within_on_words : {S : Type 0} (n : ℕ) (state : State S) (f : State S → List (List ℕ) → Outcome S) (words : Result (List (List ℕ)) (List ℕ)) → state.steps ≤ n → ((more : List (List ℕ)) → Within n (f state more)) → Within n (on_words state f words)
 within_on_words n state f (Ok more) w h = h more
 within_on_words n state f (Err text) w h = w
 
@@ -91,7 +91,7 @@ module _ {S : Type 0} (run : List ℕ → State S → Outcome S) (element : List
       within_piece n piece state _ w (λ state' text w'.
       within_cond n (nat_le (length (so_far ++ text)) 65536) _ _ (within_pieces n pieces (so_far ++ text) state' f w' h) w')
 
-within_element : {S : Type 0} (run : List ℕ → State S → Outcome S) → Bounded run → (depth : ℕ) → BoundedElement (element_meaning run depth)
+pub within_element : {S : Type 0} (run : List ℕ → State S → Outcome S) → Bounded run → (depth : ℕ) → BoundedElement (element_meaning run depth)
 within_element run run_falls zero n name index state w = w
 within_element run run_falls (suc depth) n name index state w =
     within_on_index n state (λ ps. pieces_meaning run (element_meaning run depth) ps [] state (element_read name)) (index_pieces index) w (λ ps.
@@ -120,14 +120,14 @@ within_on_tested n state f (More store after) w h = h after (record state { stor
 within_on_tested n state f (NoMore store) w h = w
 within_on_tested n state f (Fails store text) w h = w
 
-within_after_body : {S : Type 0} (n : ℕ) (again : State S → Outcome S) → ((state : State S) → state.steps ≤ n → Within n (again state)) → (state : State S) (code : Code) (text : List ℕ) → state.steps ≤ n → Within n (after_body again state code text)
+pub within_after_body : {S : Type 0} (n : ℕ) (again : State S → Outcome S) → ((state : State S) → state.steps ≤ n → Within n (again state)) → (state : State S) (code : Code) (text : List ℕ) → state.steps ≤ n → Within n (after_body again state code text)
 within_after_body n again h state Normal text w = h state w
 within_after_body n again h state Continue text w = h state w
 within_after_body n again h state Break text w = w
 within_after_body n again h state Error text w = w
 within_after_body n again h state (Return code) text w = w
 
-within_after_next : {S : Type 0} (n : ℕ) (again : State S → Outcome S) → ((state : State S) → state.steps ≤ n → Within n (again state)) → (state : State S) (code : Code) (text : List ℕ) → state.steps ≤ n → Within n (after_next again state code text)
+pub within_after_next : {S : Type 0} (n : ℕ) (again : State S → Outcome S) → ((state : State S) → state.steps ≤ n → Within n (again state)) → (state : State S) (code : Code) (text : List ℕ) → state.steps ≤ n → Within n (after_next again state code text)
 within_after_next n again h state Normal text w = h state w
 within_after_next n again h state Continue text w = w
 within_after_next n again h state Break text w = w
@@ -141,7 +141,7 @@ within_on_truth n state f (Err text) w h = w
 pub within_on_value : {S : Type 0} (n : ℕ) (f : Bool → State S → Outcome S) → ((holds : Bool) (state' : State S) → state'.steps ≤ n → Within n (f holds state')) → (state : State S) (code : Code) (text : List ℕ) → state.steps ≤ n → Within n (on_value f state code text)
 within_on_value n f h = within_on_normal n _ (λ state value w. within_on_truth n state f (truth_of value) w h)
 
-within_if : {S : Type 0} (n : ℕ) (first second : State S → Outcome S) → ((state : State S) → state.steps ≤ n → Within n (first state)) → ((state : State S) → state.steps ≤ n → Within n (second state)) → (holds : Bool) (state : State S) → state.steps ≤ n → Within n (if_holds first second holds state)
+pub within_if : {S : Type 0} (n : ℕ) (first second : State S → Outcome S) → ((state : State S) → state.steps ≤ n → Within n (first state)) → ((state : State S) → state.steps ≤ n → Within n (second state)) → (holds : Bool) (state : State S) → state.steps ≤ n → Within n (if_holds first second holds state)
 within_if n first second y z true state w = y state w
 within_if n first second y z false state w = z state w
 
@@ -150,7 +150,7 @@ within_value_ended n state (Ok value) w = w
 within_value_ended n state (Err fault) w = w
 
 module _ {S : Type 0} (run : List ℕ → State S → Outcome S) (run_falls : Bounded run) where
-  within_run : (n : ℕ) (r : Evaluating) (state : State S) → state.steps ≤ n → Within n (run_meaning run r state)
+  pub within_run : (n : ℕ) (r : Evaluating) (state : State S) → state.steps ≤ n → Within n (run_meaning run r state)
   within_run n (AsksVariable name go) state w = within_on_read n name state (λ state' value. run_meaning run (go value) state') (variable_in state.store (level_of state) name) w (λ value. within_run n (go value) state w)
   within_run n (AsksElement array index go) state w =
       within_on_read n (element_name array index) state (λ state' value. run_meaning run (go value) state') (element_in state.store (level_of state) array index) w (λ value. within_run n (go value) state w)
@@ -169,11 +169,11 @@ module _ {S : Type 0} (run : List ℕ → State S → Outcome S) (run_falls : Bo
   pub within_condition : (n : ℕ) (text : List ℕ) (f : Bool → State S → Outcome S) (state : State S) → state.steps ≤ n → ((holds : Bool) (state' : State S) → state'.steps ≤ n → Within n (f holds state')) → Within n (condition_meaning run text f state)
   within_condition n text f state w h = within_and_then n (expression_meaning run text state) (on_value f) (within_expression n text state w) (within_on_value n f h)
 
-  within_otherwise : (n : ℕ) (otherwise : Option (List ℕ)) (state : State S) → state.steps ≤ n → Within n (otherwise_meaning run otherwise state)
+  pub within_otherwise : (n : ℕ) (otherwise : Option (List ℕ)) (state : State S) → state.steps ≤ n → Within n (otherwise_meaning run otherwise state)
   within_otherwise n (Some body) state w = run_falls n body state w
   within_otherwise n None state w = w
 
-  within_choices : (n : ℕ) (branches : List Branch) (otherwise : Option (List ℕ)) (state : State S) → state.steps ≤ n → Within n (choices_meaning run branches otherwise state)
+  pub within_choices : (n : ℕ) (branches : List Branch) (otherwise : Option (List ℕ)) (state : State S) → state.steps ≤ n → Within n (choices_meaning run branches otherwise state)
   within_choices n [] otherwise state w = within_otherwise n otherwise state w
   within_choices n (branch ∷ branches) otherwise state w =
       within_condition n branch.test _ state w
@@ -183,7 +183,7 @@ module _ {S : Type 0} (run : List ℕ → State S → Outcome S) (run_falls : Bo
   within_run_at n count script state w =
       within_and_then n (run script (record state { context = cut count state.context })) (levels_back (others count state.context)) (run_falls n script (record state { context = cut count state.context }) w) (λ state' code text w'. w')
 
-  within_next : (n : ℕ) (next : Option (List ℕ)) (again : State S → Outcome S) → ((state : State S) → state.steps ≤ n → Within n (again state)) → (state : State S) → state.steps ≤ n → Within n (next_turn run next again state)
+  pub within_next : (n : ℕ) (next : Option (List ℕ)) (again : State S → Outcome S) → ((state : State S) → state.steps ≤ n → Within n (again state)) → (state : State S) → state.steps ≤ n → Within n (next_turn run next again state)
   within_next n None again h state w = h state w
   within_next n (Some script) again h state w = within_and_then n (run script state) (after_next again) (run_falls n script state w) (within_after_next n again h)
 
@@ -191,7 +191,7 @@ module _ {S : Type 0} (run : List ℕ → State S → Outcome S) (run_falls : Bo
   within_test n (Holds condition) body state w h = within_condition n condition _ state w (within_if n (body (Holds condition)) loop_ended (h (Holds condition)) (λ state' w'. w'))
   within_test n (Items groups) body state w h = within_on_tested n state _ (items_tested (level_of state) groups state.store) w (λ left state' w'. h (Items left) state' w')
 
-  within_turn : (n : ℕ) (turning : Turning) (again : State S → Outcome S) → ((state : State S) → state.steps ≤ n → Within n (again state)) → (state : State S) → state.steps ≤ n → Within n (turn_meaning run turning again state)
+  pub within_turn : (n : ℕ) (turning : Turning) (again : State S → Outcome S) → ((state : State S) → state.steps ≤ n → Within n (again state)) → (state : State S) → state.steps ≤ n → Within n (turn_meaning run turning again state)
   within_turn n turning again h state w =
       within_and_then n (run turning.body state) (after_body (next_turn run turning.next again)) (run_falls n turning.body state w) (within_after_body n _ (within_next n turning.next again h))
 
@@ -307,7 +307,7 @@ module _ {S K : Type 0} (outside : Outside S K) (run : List ℕ → State S → 
   within_resumed n f h (suc size) task state code text w =
       within_on_act n f (resumed outside run f size) h (λ task' state' code' text' w'. within_resumed n f h size task' state' code' text' w') [] _ (outside.resumes state.shows state.store task code text).act w
 
-  within_after_step : (n turns : ℕ) (task : K) (state : State S) → state.steps ≤ n → Within n (after_step outside run turns task state)
+  pub within_after_step : (n turns : ℕ) (task : K) (state : State S) → state.steps ≤ n → Within n (after_step outside run turns task state)
   within_after_step n zero task state w = tt
   within_after_step n (suc turns) task state w = within_resumed n (after_step outside run turns) (within_after_step n turns) (outside.size task) task state Normal [] w
 

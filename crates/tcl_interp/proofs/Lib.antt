@@ -2,6 +2,7 @@
 pub mod Answering
 pub mod Bounds
 pub mod ChoiceLemmas
+pub mod Finishing
 pub mod Same
 pub mod Settled
 pub mod Stepping

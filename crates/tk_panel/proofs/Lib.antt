@@ -4,6 +4,9 @@ pub mod Choices
 pub mod Dooms
 pub mod Drains
 pub mod Heads
+pub mod Marks
 pub mod Nexts
 pub mod Others
+pub mod Rounds
+pub mod Starts
 pub mod Turns

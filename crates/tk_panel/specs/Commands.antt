@@ -2,7 +2,7 @@
 use Rattle.std.specs.Prelude.{ℕ, List, [], ◌∷◌, Ok, codes, if◌then◌else◌}
 use Rattle.std.specs.Fmt.{decimal}
 use Rattle.std.specs.Str.{bytes_eq}
-use Rattle.tcl_text.specs.Answers.{Answer, answers, bad_option, wrong_args}
+use Rattle.tcl_text.specs.Answers.{Answer, bad_option, wrong_args}
 use Rattle.tk_after.specs.After.{after_words}
 use Rattle.tk_panel.specs.declared.transcript.Stream.TheVariants.{Out}
 use Rattle.tk_panel.specs.Panel.{Panel}
@@ -27,7 +27,7 @@ puts_words words panel = (panel, wrong_args (codes "puts ?stdout? text"))
 
 -- clock milliseconds: the moment
 abbrev pub milliseconds : List (List ℕ) → ℕ → Answer
-milliseconds [] moment = answers (decimal moment)
+milliseconds [] moment = Ok (decimal moment)
 milliseconds (word ∷ words) moment = wrong_args (codes "clock milliseconds")
 
 unfoldable pub clock_words : List (List ℕ) → ℕ → Answer

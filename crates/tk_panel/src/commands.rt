@@ -32,10 +32,10 @@ fn put_to(
     ensures own { IfOk result (λ answer. (panel_of slot tables.new, answer) ≡ put_to channel.now text.now (panel_of slot tables.old)) }
     ensures others { LeavesOthers slot tables.old tables.new }
 {
-    match channel.as_str() {
-        "stdout" => write_out(tables, slot, text),
-        other => bad_option(tables.alloc, other),
+    if channel.as_str() == "stdout" {
+        return write_out(tables, slot, text);
     }
+    bad_option(tables.alloc, channel.as_str())
 }
 
 /// The command `puts` (puts(n)): one line of the transcript, at the moment.
@@ -59,11 +59,13 @@ pub fn puts_command(
 fn milliseconds(alloc: Global, moment: u64, words: &[Text]) -> Result<Answer, AllocError>
     ensures { IfOk result (λ answer. answer ≡ milliseconds words.now moment) }
 {
-    if words.is_empty() {
-        let mut buffer = Buffer::new();
-        return Ok(Ok(short_text(alloc, buffer.format(moment))?));
+    match words {
+        [] => {
+            let mut buffer = Buffer::new();
+            Ok(Ok(short_text(alloc, buffer.format(moment))?))
+        }
+        [_, ..] => wrong_args(alloc, "clock milliseconds"),
     }
-    wrong_args(alloc, "clock milliseconds")
 }
 
 /// The command `clock` at a moment, in milliseconds (clock(n)): `clock milliseconds` answers it.

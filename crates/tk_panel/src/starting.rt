@@ -1,7 +1,7 @@
 //! What starts once its step is taken.
 ghost use Rattle.std.specs.Prelude.{◌≡◌, IfOk};
 ghost use Rattle.tk_panel.specs.Panel.{LeavesOthers, panel_of};
-ghost use Rattle.tk_panel.specs.Start.{alone, start, start_rest, taken};
+ghost use Rattle.tk_panel.specs.Start.{alone, idle_taken, start, start_rest, timer_taken};
 ghost use Rattle.tk_after.specs.Timers.{entry_with, first_due};
 
 use crate::job::{Home, Job, Rest};
@@ -26,7 +26,7 @@ fn start_timer(
     home: Home,
 ) -> Result<(Text, Job), AllocError>
     ensures own { IfOk result (λ started. (panel_of slot tables.new, started)
-        ≡ taken (Rest.Rounds round home) (panel_of slot tables.old) (first_due (panel_of slot tables.old).moment (panel_of slot tables.old).timers.entries)) }
+        ≡ timer_taken (Rest.Rounds round home) (panel_of slot tables.old) (first_due (panel_of slot tables.old).moment (panel_of slot tables.old).timers.entries)) }
     ensures others { LeavesOthers slot tables.old tables.new }
 {
     let moment = tables.clock.moment();
@@ -46,7 +46,7 @@ fn start_idle(
     home: Home,
 ) -> Result<(Text, Job), AllocError>
     ensures own { IfOk result (λ started. (panel_of slot tables.new, started)
-        ≡ taken (Rest.Rounds round home) (panel_of slot tables.old) (entry_with id (panel_of slot tables.old).timers.entries)) }
+        ≡ idle_taken id (Rest.Rounds round home) (panel_of slot tables.old) (entry_with id (panel_of slot tables.old).timers.entries)) }
     ensures others { LeavesOthers slot tables.old tables.new }
 {
     let rest = Rest::Rounds { round, home };

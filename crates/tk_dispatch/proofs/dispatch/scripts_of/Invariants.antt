@@ -8,6 +8,6 @@ use Rattle.tk_dispatch.proofs.dispatch.scripts_of.Given as goal
 abbrev pub invariant-loop-tag : goal.invariant-loop-tag
 invariant-loop-tag l =
     before l.scripts (all_of (filter_map
-      (script_of (windows_of.own_of l.choice.owner l.choice.windows.now) l.choice.virtuals.now (bindings_of.own_of l.choice.owner l.choice.bindings.now) l.choice.history.now l.choice.event.now)
-      (drop l.tag-index l.tags)))
+    (script_of (windows_of.own_of l.choice.owner l.choice.windows.now) l.choice.virtuals.now (bindings_of.own_of l.choice.owner l.choice.bindings.now) l.choice.history.now l.choice.event.now)
+    (drop l.tag-index l.tags)))
     ≡ scripts_of (windows_of.own_of l.choice.owner l.choice.windows.now) l.choice.virtuals.now (bindings_of.own_of l.choice.owner l.choice.bindings.now) l.choice.history.now l.choice.event.now l.tags

@@ -4,6 +4,7 @@ use Rattle.std.specs.Prelude.{filter, not, ◌==◌, nat_eq}
 use Rattle.std.specs.Borrow.{GName}
 use Rattle.std.specs.List.{range_with_len}
 use Rattle.std.proofs.lemmas.Bool.{eqb-true, eqb-false}
+use Rattle.tk_queue.specs.Queue.{Held, LeavesOthers as LeavesQueue}
 use Rattle.tk_panel.specs.declared.tables.Tables.{Tables}
 use Rattle.tk_panel.specs.Panel.{LeavesOthers, left_of, others_of, panel_of}
 
@@ -53,3 +54,29 @@ pub left_same : (slot : ℕ) (name : GName) (old new : Tables) → LeavesOthers 
 left_same slot name old new leaves =
     ap (λ moment. record { slot = slot; name = name; moment = moment; others = others_of slot new }) leaves.clock
     ∙ ap (λ others. record { slot = slot; name = name; moment = old.clock; others = others }) (others_same slot old new leaves)
+
+-- one call after another
+pub others_then : (slot : ℕ) (first next last : Tables) → LeavesOthers slot first next → LeavesOthers slot next last → LeavesOthers slot first last
+others_then slot first next last one other = record {
+  clock = other.clock ∙ one.clock;
+  screen = λ k differ. other.screen k differ ∙ one.screen k differ;
+  bindings = λ k differ. other.bindings k differ ∙ one.bindings k differ;
+  virtuals = λ k differ. other.virtuals k differ ∙ one.virtuals k differ;
+  histories = λ k differ. other.histories k differ ∙ one.histories k differ;
+  queue = λ k differ. other.queue k differ ∙ one.queue k differ;
+  timers = λ k differ. other.timers k differ ∙ one.timers k differ;
+  lines = λ k differ. other.lines k differ ∙ one.lines k differ;
+}
+
+-- a call on the queue alone
+pub others_queue : (slot : ℕ) (tables : Tables) (queue : Held) → LeavesQueue slot tables.queue queue → LeavesOthers slot tables (record tables { queue = queue })
+others_queue slot tables queue leaves = record {
+  clock = refl;
+  screen = λ k differ. refl;
+  bindings = λ k differ. refl;
+  virtuals = λ k differ. refl;
+  histories = λ k differ. refl;
+  queue = leaves;
+  timers = λ k differ. refl;
+  lines = λ k differ. refl;
+}

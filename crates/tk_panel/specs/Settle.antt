@@ -70,9 +70,13 @@ on_timer home otherwise panel =
 abbrev pub idle_round : Home → Panel → Next
 idle_round home panel = on_round home (idle_ids panel.timers.entries) panel
 
+-- queued events, or else a round
+unfoldable pub queue_or_round : Home → Panel → Next
+queue_or_round home panel = on_queue home (idle_round home) panel
+
 -- Layout takes no step, and what is laid out stays so until a script runs: so only what it has queued comes before the round.
 abbrev pub after_layout : Home → Store → Panel → Next
-after_layout home store panel = on_queue home (idle_round home) (laid_out store panel)
+after_layout home store panel = queue_or_round home (laid_out store panel)
 
 unfoldable pub turn : Home → Store → Panel → Next
 turn home store panel = on_queue home (on_timer home (after_layout home store)) panel

@@ -1,5 +1,6 @@
 //! The commands `puts`, `clock` and `after`, by the words behind their names.
-ghost use Rattle.std.specs.Prelude.{◌≡◌, IfOk};
+ghost use Rattle.std.specs.Prelude.{◌≡◌, IfOk, codes};
+ghost use Rattle.tcl_text.specs.Answers.{wrong_args as wrong_args_of};
 ghost use Rattle.tk_panel.specs.Commands.{after_told, clock_words, milliseconds, put_to, puts_words, written};
 ghost use Rattle.tk_panel.specs.Panel.{LeavesOthers, panel_of};
 
@@ -35,7 +36,14 @@ fn put_to(
     if channel.as_str() == "stdout" {
         return write_out(tables, slot, text);
     }
-    bad_option(tables.alloc, channel.as_str())
+    let answer = bad_option(tables.alloc, channel.as_str())?;
+    Ok(answer)
+}
+
+fn puts_usage(alloc: Global) -> Result<Answer, AllocError>
+    ensures { IfOk result (λ answer. answer ≡ wrong_args_of (codes "puts ?stdout? text")) }
+{
+    wrong_args(alloc, "puts ?stdout? text")
 }
 
 /// The command `puts` (puts(n)): one line of the transcript, at the moment.
@@ -51,7 +59,14 @@ pub fn puts_command(
     match words {
         [text] => write_out(tables, slot, text),
         [channel, text] => put_to(tables, slot, channel, text),
-        _ => wrong_args(tables.alloc, "puts ?stdout? text"),
+        [] => {
+            let answer = puts_usage(tables.alloc)?;
+            Ok(answer)
+        }
+        [_, _, _, ..] => {
+            let answer = puts_usage(tables.alloc)?;
+            Ok(answer)
+        }
     }
 }
 

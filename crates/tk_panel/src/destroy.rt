@@ -44,23 +44,29 @@ fn mark_all(windows: &mut Windows, slot: usize, numbers: &[u64])
     }
 }
 
+/// The windows that a path means to destroy: a window that isn't being destroyed already, and all below it, each behind its children.
+fn doomed_by(tables: &Tables, slot: usize, path: &Text) -> Result<Vec<u64>, AllocError>
+    ensures { IfOk result (λ numbers. numbers.items ≡ doomed_by path.now (panel_of slot tables.now)) }
+{
+    let windows = &tables.screen.windows;
+    let Some(win) = windows.find(slot, path.as_str()) else {
+        return Ok(Vec::new(tables.alloc));
+    };
+    match windows.window(win) {
+        Some(window) if !window.dying => windows.post_order(win),
+        Some(_) | None => Ok(Vec::new(tables.alloc)),
+    }
+}
+
 /// The windows that a path means to destroy, which are marked now: a window that isn't being destroyed already, and all below it.
 fn doom(tables: &mut Tables, slot: usize, path: &Text) -> Result<Numbers, AllocError>
     ensures numbers { IfOk result (λ numbers. numbers ≡ doomed_by path.now (panel_of slot tables.old)) }
     ensures own { IfOk result (λ numbers. panel_of slot tables.new ≡ marked numbers (panel_of slot tables.old)) }
     ensures others { LeavesOthers slot tables.old tables.new }
 {
-    let Some(win) = tables.screen.windows.find(slot, path.as_str()) else {
-        return Ok(Numbers::none(tables.alloc));
-    };
-    match tables.screen.windows.window(win) {
-        Some(window) if !window.dying => {
-            let numbers = tables.screen.windows.post_order(win)?;
-            mark_all(&mut tables.screen.windows, slot, numbers.as_slice());
-            Ok(Numbers::of(numbers))
-        }
-        Some(_) | None => Ok(Numbers::none(tables.alloc)),
-    }
+    let numbers = doomed_by(tables, slot, path)?;
+    mark_all(&mut tables.screen.windows, slot, numbers.as_slice());
+    Ok(Numbers::of(numbers))
 }
 
 /// A window goes, if it is still there, and the bindings for its path with it.

@@ -1,7 +1,7 @@
 //! What comes next at a moment: a queued event, a timer that is due, layout, or an idle script (after(n), update(n)).
 ghost use Rattle.std.specs.Prelude.{◌≡◌, IfOk};
 ghost use Rattle.tk_panel.specs.Panel.{LeavesOthers, panel_of};
-ghost use Rattle.tk_panel.specs.Settle.{after_layout, after_round, at_home, drained, idle_round, is_closed, is_due, rounds_next, still_waiting, tasks, turn};
+ghost use Rattle.tk_panel.specs.Settle.{after_layout, after_round, at_home, drained, idle_round, is_closed, is_due, queue_or_round, rounds_next, still_waiting, tasks, turn};
 
 use crate::changes::lay_out;
 use crate::choice::choose;
@@ -82,6 +82,23 @@ fn idle_round(tables: &Tables, slot: usize, home: Home) -> Result<Option<Job>, A
     Ok(on_round(round, home))
 }
 
+/// The scripts of a queued event, or else a round of idle scripts.
+#[tactic(auto, unfolding(crate::specs::Settle::queue_or_round))]
+fn queue_or_round(
+    tables: &mut Tables,
+    slot: usize,
+    home: Home,
+) -> Result<Option<Job>, AllocError>
+    ensures own { IfOk result (λ job. (panel_of slot tables.new, job) ≡ queue_or_round home (panel_of slot tables.old)) }
+    ensures others { LeavesOthers slot tables.old tables.new }
+{
+    let scripts = drain(tables, slot)?;
+    if scripts.next().is_some() {
+        return Ok(on_event(scripts, Numbers::none(tables.alloc), home));
+    }
+    idle_round(tables, slot, home)
+}
+
 /// Layout, and then the events that it has queued, or a round of idle scripts.
 fn after_layout(
     tables: &mut Tables,
@@ -93,11 +110,7 @@ fn after_layout(
     ensures others { LeavesOthers slot tables.old tables.new }
 {
     lay_out(tables, slot, scopes)?;
-    let scripts = drain(tables, slot)?;
-    if scripts.next().is_some() {
-        return Ok(on_event(scripts, Numbers::none(tables.alloc), home));
-    }
-    idle_round(tables, slot, home)
+    queue_or_round(tables, slot, home)
 }
 
 /// What comes next where no round is under way.

@@ -38,16 +38,16 @@ pub given_ok : (kind : Kind) (widget : Widget) (options : List (List ℕ)) (all 
 given_ok kind widget options all new is =
     ap (settings options) (sym (options_new kind) ∙ ap options_in (sym new)) ∙ ok_settings (settings options (options_in widget)) all is
 
-not_written : {U : Type 0} (refusal : Refusal) (own : Own) (kind : Kind) (path : List ℕ) (all : List Setting) (store new : Store) (wanted : Result Store (List ℕ)) → Steps {U = U} (Err refusal) store new wanted
+not_written : (refusal : Refusal) (own : Own) (kind : Kind) (path : List ℕ) (all : List Setting) (store new : Store) (wanted : Result Store (List ℕ)) → Steps {U = Unit {0}} (Err refusal) store new wanted
     → Does (Err refusal) own new (made_after kind path all own store wanted)
 not_written (Error message) own kind path all store new wanted steps =
     let kept : Store → Done = λ s. record { own = own; store = s; answer = Err message } in
     ap (made_after kind path all own store) steps.0 ∙ ap kept (sym steps.1)
 not_written NoMemory own kind path all store new wanted steps = tt
 
-pub write_refused : {U : Type 0} (refusal : Refusal) (own : Own) (kind : Kind) (path : List ℕ) (store new : Store) (all : List Setting) (write : Option VariableWrite) (given : Result (List Setting) OptionFault)
-    → given ≡ Ok all → write ≡ variable_write (Configure all) (new_widget kind) → Steps {U = U} (Err refusal) store new (wrote write store)
+pub write_refused : (refusal : Refusal) (own : Own) (kind : Kind) (path : List ℕ) (store new : Store) (all : List Setting) (write : Option VariableWrite) (given : Result (List Setting) OptionFault)
+    → given ≡ Ok all → write ≡ variable_write (Configure all) (new_widget kind) → Steps {U = Unit {0}} (Err refusal) store new (wrote write store)
     → Does (Err refusal) own new (made_with kind path own store given)
-write_refused {U} refusal own kind path store new all write given given_is write_is steps =
-    let after = not_written {U = U} refusal own kind path all store new (wrote (variable_write (Configure all) (new_widget kind)) store) (subst (λ w. Steps {U = U} (Err refusal) store new (wrote w store)) write_is steps) in
+write_refused refusal own kind path store new all write given given_is write_is steps =
+    let after = not_written refusal own kind path all store new (wrote (variable_write (Configure all) (new_widget kind)) store) (subst (λ w. Steps {U = Unit {0}} (Err refusal) store new (wrote w store)) write_is steps) in
     subst (λ g. Does (Err refusal) own new (made_with kind path own store g)) (sym given_is) after

@@ -44,14 +44,22 @@ script_words windows tag word own = do
 
 -- ---- bind tag sequence script
 
--- behind a `+` stands what comes after the script that is there and a newline, or alone where none is there
+-- what comes behind the script that is there and a newline, or alone where none is there
 abbrev pub behind : Option (List ℕ) → List ℕ → List ℕ
 behind None more = more
 behind (Some script) more = script ++ (codes "\n" ++ more)
 
+-- what stands behind a `+` in front
+abbrev pub behind_plus : List ℕ → Option (List ℕ)
+behind_plus [] = None
+behind_plus (first ∷ rest) = if first == 43 then Some rest else None
+
+abbrev pub behind_or_itself : Option (List ℕ) → List ℕ → Option (List ℕ) → List ℕ
+behind_or_itself there word (Some more) = behind there more
+behind_or_itself there word None = word
+
 abbrev pub script_meant : Option (List ℕ) → List ℕ → List ℕ
-script_meant there [] = []
-script_meant there (first ∷ rest) = if first == 43 then behind there rest else first ∷ rest
+script_meant there word = behind_or_itself there word (behind_plus word)
 
 abbrev pub is_empty : List ℕ → Bool
 is_empty [] = true

@@ -1,6 +1,6 @@
 //! Answers, and words that are tested.
 ghost use Rattle.std.specs.Prelude.{◌≡◌, ◌++◌, [], IfOk, codes, map};
-ghost use Rattle.tcl_text.specs.Answers.{Gives, Refuses, bounded, quoted};
+ghost use Rattle.tcl_text.specs.Answers.{Gives, Refuses, bounded, fails, quoted};
 ghost use Rattle.tk_bind_commands.specs.Words as words_of;
 ghost use Rattle.tk_sequences.specs.FaultTexts as sequence_faults;
 ghost use Rattle.tk_sequences.specs.Reading.{parsed};
@@ -93,4 +93,11 @@ pub fn virtual_refusal(alloc: Global, fault: &VirtualFault) -> Refusal
         Ok(text) => Refusal::Error(text),
         Err(AllocError) => Refusal::NoMemory,
     }
+}
+
+/// The same, as a step that gives nothing.
+pub fn virtual_refused<T>(alloc: Global, fault: &VirtualFault) -> Result<T, Refusal>
+    ensures { Gives result (fails (virtual_faults.fault_text fault.now)) }
+{
+    Err(virtual_refusal(alloc, fault))
 }

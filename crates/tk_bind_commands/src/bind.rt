@@ -169,9 +169,19 @@ fn script_for(
 fn script_meant(alloc: Global, there: Option<&Text>, word: &Text) -> Result<Text, Refusal>
     ensures { Gives result (answers (spec.script_meant (option_copied there.entry) word.now)) }
 {
-    match word.as_str().strip_prefix('+') {
+    match behind_plus(word.as_str()) {
         Some(more) => behind(alloc, there, more),
         None => copy_answer(word),
+    }
+}
+
+/// What stands behind a `+` in front.
+fn behind_plus(word: &str) -> Option<&str>
+    ensures { option_copied result ≡ spec.behind_plus word.now }
+{
+    match word.strip_prefix("+") {
+        Some(more) => Some(more),
+        None => None,
     }
 }
 

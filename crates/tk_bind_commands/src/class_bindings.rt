@@ -64,7 +64,8 @@ fn bind_button(alloc: Global, bindings: &mut BindTable, slot: usize) -> Result<(
         class,
         "<Key-space>",
         "tk::ButtonInvoke %W",
-    )
+    )?;
+    Ok(())
 }
 
 #[tactic(auto, unfolding(crate::specs::ClassBindings::with_rows))]
@@ -138,7 +139,8 @@ fn bind_entry(alloc: Global, bindings: &mut BindTable, slot: usize) -> Result<()
         class,
         "<Button-1>",
         "tk::EntryDown %W %x",
-    )
+    )?;
+    Ok(())
 }
 
 #[tactic(auto, unfolding(crate::specs::ClassBindings::with_rows))]
@@ -186,7 +188,8 @@ fn bind_listbox(alloc: Global, bindings: &mut BindTable, slot: usize) -> Result<
         class,
         "<Key-space>",
         "tk::ListboxSpace %W",
-    )
+    )?;
+    Ok(())
 }
 
 /// As `bind CLASS SEQUENCE SCRIPT` (bind(n)).

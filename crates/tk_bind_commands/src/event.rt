@@ -6,7 +6,7 @@ ghost use Rattle.tk_bind_commands.specs.Words.{or_virtual_fault};
 ghost use Rattle.tk_sequences.specs.Reading.{name_in};
 ghost use Rattle.tk_virtual.specs.Virtual.{LeavesOthers, name_or_fault, own_of};
 
-use crate::answers::{Answer, answered, nothing, virtual_refusal};
+use crate::answers::{Answer, answered, nothing, virtual_refusal, virtual_refused};
 use std::alloc::{AllocError, Global};
 use tcl_text::Text;
 use tcl_text::answers::{Refusal, bad_option, wrong_args};
@@ -56,8 +56,7 @@ pub fn event_add(
         [name, sequences @ ..] if !sequences.is_empty() => {
             match virtuals.add_all(alloc, slot, name, sequences) {
                 Ok(()) => Ok(Ok(done)),
-                Err(VirtualFault::NoMemory) => Err(AllocError),
-                Err(fault) => answered(Err(virtual_refusal(alloc, &fault))),
+                Err(fault) => refused(alloc, &fault),
             }
         }
         _ => { answered(wrong_args(alloc, "event add <<name>> sequence ?sequence ..?")) }
@@ -82,11 +81,21 @@ pub fn event_delete(
         [name, sequences @ ..] => {
             match virtuals.delete(alloc, slot, name, sequences) {
                 Ok(()) => Ok(Ok(done)),
-                Err(VirtualFault::NoMemory) => Err(AllocError),
-                Err(fault) => answered(Err(virtual_refusal(alloc, &fault))),
+                Err(fault) => refused(alloc, &fault),
             }
         }
         [] => answered(wrong_args(alloc, "event delete <<name>> ?sequence ..?")),
+    }
+}
+
+/// The text of a refusal, unless memory was refused.
+#[tactic(auto, using(crate::proofs::EventLemmas::refusal_told))]
+fn refused(alloc: Global, fault: &VirtualFault) -> Result<Answer, AllocError>
+    ensures { IfOk result (λ answer. spec.IsRefusal fault.now answer) }
+{
+    match fault.number() {
+        Some(_number) => answered(virtual_refused(alloc, fault)),
+        None => Err(AllocError),
     }
 }
 

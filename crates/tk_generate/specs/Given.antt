@@ -1,6 +1,5 @@
 -- What the options of `event generate` say.
-use Rattle.std.specs.Prelude.{ℕ, List, [], ◌∷◌, Option, Some, None, Result, Ok, Err, codes, if◌then◌else◌}
-use Rattle.std.specs.Str.{bytes_eq}
+use Rattle.std.specs.Prelude.{ℕ, List, [], ◌∷◌, Option, Some, None, Result, Ok, codes}
 use Rattle.tcl_text.specs.Answers.{◌>>=◌}
 use Rattle.tk_options.specs.declared.fault.OptionFault.TheVariants.{UnknownOption, NoValue}
 use Rattle.tk_sequences.specs.Lookup.{looked_up}

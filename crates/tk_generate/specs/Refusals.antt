@@ -1,5 +1,5 @@
 -- The errors of words.
-use Rattle.std.specs.Prelude.{ℕ, List, ◌++◌, Option, Some, None, Result, Ok, Err, codes}
+use Rattle.std.specs.Prelude.{ℕ, List, ◌++◌, Option, Some, None, Result, Ok, codes}
 use Rattle.tcl_text.specs.Answers.{fails, quoted}
 use Rattle.tk_options.specs.declared.fault.OptionFault.{OptionFault}
 use Rattle.tk_options.specs.declared.fault.OptionFault.TheVariants.{BadValue}

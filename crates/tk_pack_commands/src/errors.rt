@@ -1,0 +1,89 @@
+//! The errors of `pack`.
+ghost use Rattle.std.specs.Prelude.{◌≡◌, ◌++◌, IfOk, string_bytes};
+ghost use Rattle.tcl_text.specs.Answers.{Gives, Refuses, bounded, quoted};
+ghost use Rattle.tk_pack_commands.specs.Faults as spec;
+
+use std::alloc::{AllocError, Global};
+use tcl_text::Text;
+use tcl_text::answers::{Refusal, error, quoting_error};
+
+/// The error for a path that names no window (24).
+pub fn bad_path<T>(alloc: Global, path: &Text) -> Result<T, Refusal>
+    ensures { Gives result (spec.bad_path path.now) }
+{
+    Err(quoting_error(alloc, "bad window path name ", path.as_str()))
+}
+
+/// The error for the main window, which is packed nowhere.
+pub fn is_top_level<T>(alloc: Global) -> Result<T, Refusal>
+    ensures { Gives result spec.is_top_level }
+{
+    Err(error(alloc, "can't pack \".\": it's a top-level window"))
+}
+
+/// The error for a window that isn't packed.
+pub fn not_packed<T>(alloc: Global, path: &Text) -> Result<T, Refusal>
+    ensures { Gives result (spec.not_packed path.now) }
+{
+    Err(error_about(alloc, "window ", path, " isn't packed"))
+}
+
+/// The error for a window that has another parent than those that are to be packed.
+pub fn not_sibling<T>(alloc: Global, path: &Text) -> Result<T, Refusal>
+    ensures { Gives result (spec.not_sibling path.now) }
+{
+    Err(error_about(alloc, "window ", path, " isn't a sibling"))
+}
+
+/// The error for a word that names no option (20).
+pub fn unknown_option<T>(alloc: Global, name: &Text) -> Result<T, Refusal>
+    ensures { Gives result (spec.unknown_option name.now) }
+{
+    Err(quoting_error(alloc, "unknown option ", name.as_str()))
+}
+
+/// The error for a value that an option doesn't take (22).
+pub fn bad_value<T>(alloc: Global, value: &Text, name: &Text) -> Result<T, Refusal>
+    ensures { Gives result (spec.bad_value value.now name.now) }
+{
+    match about(alloc, "bad value ", value, " for option ") {
+        Ok(message) => Err(quoting_error(alloc, message.as_str(), name.as_str())),
+        Err(AllocError) => Err(Refusal::NoMemory),
+    }
+}
+
+/// The error for a last option without a value (23).
+pub fn no_value<T>(alloc: Global, name: &Text) -> Result<T, Refusal>
+    ensures { Gives result (spec.no_value name.now) }
+{
+    Err(error_about(alloc, "value for ", name, " missing"))
+}
+
+/// The error for a word that is no boolean (2).
+pub fn not_boolean<T>(alloc: Global, word: &Text) -> Result<T, Refusal>
+    ensures { Gives result (spec.not_boolean word.now) }
+{
+    Err(quoting_error(alloc, "expected boolean value but got ", word.as_str()))
+}
+
+/// An error with a word in quotation marks in its text.
+fn error_about(alloc: Global, before: &str, word: &Text, behind: &str) -> Refusal
+    ensures { Refuses result (bounded (before.now ++ quoted word.now ++ behind.now)) }
+{
+    match about(alloc, before, word, behind) {
+        Ok(message) => error(alloc, message.as_str()),
+        Err(AllocError) => Refusal::NoMemory,
+    }
+}
+
+/// A word in quotation marks with what stands before and behind it.
+fn about(alloc: Global, before: &str, word: &Text, behind: &str) -> Result<String, AllocError>
+    ensures { IfOk result (λ string. string_bytes string ≡ before.now ++ quoted word.now ++ behind.now) }
+{
+    let mut string = String::from_str(alloc, before)?;
+    string.push_str("\"")?;
+    string.push_str(word.as_str())?;
+    string.push_str("\"")?;
+    string.push_str(behind)?;
+    Ok(string)
+}

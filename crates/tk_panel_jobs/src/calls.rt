@@ -73,7 +73,7 @@ fn destroying(alloc: Global, paths: &[Text]) -> Result<Job, AllocError>
         rest: Rest::Destroys {
             window: None,
             doomed: Numbers::none(alloc),
-            paths: Scripts::of(copies),
+            paths: Scripts::of(alloc, copies)?,
         },
     })
 }

@@ -18,8 +18,8 @@ copied (Some x) = refl
 -- where there is one
 pub first_seen : {X : Type 0} (found : Option (Bor X)) (xs : List X) (b : Bool) → option_copied found ≡ slice_get xs 0 → b ≡ is_some found → b ≡ true
     → (first : X) × (rest : List X) × (xs ≡ first ∷ rest)
-first_seen found xs b at is yes = first_of xs (ap is_some (sym at) ∙ copied found ∙ sym is ∙ yes)
+first_seen found xs b at is holds = first_of xs (ap is_some (sym at) ∙ copied found ∙ sym is ∙ holds)
 
 -- where there is none
 pub none_seen : {X : Type 0} (found : Option (Bor X)) (xs : List X) (b : Bool) → option_copied found ≡ slice_get xs 0 → b ≡ is_some found → b ≡ false → xs ≡ []
-none_seen found xs b at is no = none_of xs (ap is_some (sym at) ∙ copied found ∙ sym is ∙ no)
+none_seen found xs b at is fails = none_of xs (ap is_some (sym at) ∙ copied found ∙ sym is ∙ fails)

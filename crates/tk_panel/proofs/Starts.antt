@@ -1,11 +1,11 @@
--- Timers and idle scripts that leave their table.
+-- Idle scripts that leave their table.
 use Rattle.std.proofs.Common.{◌≡◌, ℕ, List, [], refl, ap, ◌∙◌, sym}
 use Rattle.std.specs.Prelude.{Option, Some, None, option_map}
 use Rattle.tk_after.specs.declared.entry.Entry.{Entry}
 use Rattle.tk_after.specs.Timers.{Own, without}
 use Rattle.tk_panel.specs.declared.job.Rest.{Rest}
 use Rattle.tk_panel.specs.Panel.{Panel}
-use Rattle.tk_panel.specs.Start.{Started, alone, idle_taken, script_in, timer_taken}
+use Rattle.tk_panel.specs.Start.{Started, alone, idle_taken, script_in}
 
 script_found : (entry : Option Entry) (script : List ℕ) → Some script ≡ option_map (λ (e : Entry). e.script) entry → script ≡ script_in entry
 script_found None script is = cc
@@ -27,17 +27,3 @@ module _ (id : ℕ) (rest : Rest) (panel : Panel) (entry : Option Entry) (left :
 
   pub idle_gone : None ≡ option_map (λ (e : Entry). e.script) entry → with_left [] ≡ idle_taken id rest panel entry
   idle_gone is = ap with_left (nothing_found entry is) ∙ ap on out
-
-pub timer_found : (rest : Rest) (panel : Panel) (entry : Option Entry) (id : ℕ) (script : List ℕ) (left : Own) → left ≡ without id panel.timers → Some (id, script) ≡ option_map (λ (e : Entry). (e.id, e.script)) entry
-    → (record panel { timers = left }, (script, alone rest)) ≡ timer_taken rest panel entry
-timer_found rest panel None id script left out is = cc
-timer_found rest panel (Some entry) id script left out is =
-    let number : id ≡ entry.id = cc in
-    let text : script ≡ entry.script = cc in
-    ap (λ (timers : Own). (record panel { timers = timers }, (script, alone rest))) (out ∙ ap (λ n. without n panel.timers) number)
-    ∙ ap (λ (s : List ℕ). (record panel { timers = without entry.id panel.timers }, (s, alone rest))) text
-
-pub timer_gone : (rest : Rest) (panel : Panel) (entry : Option Entry) (left : Own) → left ≡ panel.timers → None ≡ option_map (λ (e : Entry). (e.id, e.script)) entry
-    → (record panel { timers = left }, ([], alone rest)) ≡ timer_taken rest panel entry
-timer_gone rest panel None left out is = ap (λ (timers : Own). (record panel { timers = timers }, ([], alone rest))) out
-timer_gone rest panel (Some entry) left out is = cc

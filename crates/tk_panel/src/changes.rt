@@ -16,12 +16,7 @@ fn window_event(kind: EventType, window: &Window, moment: u64) -> Result<Event, 
     ensures { IfOk result (λ event. event ≡ window_event kind window.now moment) }
 {
     let path = window.path.copy()?;
-    Ok(Event::new(
-        EventKind::Physical(kind),
-        window.number,
-        path,
-        moment,
-    ))
+    Ok(Event::new(EventKind::Physical(kind), window.number, path, moment))
 }
 
 fn place_of(x: u32) -> Option<i32>

@@ -48,11 +48,7 @@ fn puts_usage(alloc: Global) -> Result<Answer, AllocError>
 
 /// The command `puts` (puts(n)): one line of the transcript, at the moment.
 #[tactic(auto, unfolding(crate::specs::Commands::puts_words))]
-pub fn puts_command(
-    tables: &mut Tables,
-    slot: usize,
-    words: &[Text],
-) -> Result<Answer, AllocError>
+pub fn puts_command(tables: &mut Tables, slot: usize, words: &[Text]) -> Result<Answer, AllocError>
     ensures own { IfOk result (λ answer. (panel_of slot tables.new, answer) ≡ puts_words words.now (panel_of slot tables.old)) }
     ensures others { LeavesOthers slot tables.old tables.new }
 {
@@ -98,11 +94,7 @@ pub fn clock_command(alloc: Global, moment: u64, words: &[Text]) -> Result<Answe
 }
 
 /// The command `after` (after(n)) at the moment.
-pub fn after_command(
-    tables: &mut Tables,
-    slot: usize,
-    words: &[Text],
-) -> Result<Answer, AllocError>
+pub fn after_command(tables: &mut Tables, slot: usize, words: &[Text]) -> Result<Answer, AllocError>
     ensures own { IfOk result (λ answer. (panel_of slot tables.new, answer) ≡ after_told words.now (panel_of slot tables.old)) }
     ensures others { LeavesOthers slot tables.old tables.new }
 {

@@ -23,7 +23,10 @@ pub enum Rest {
         paths: Scripts,
     },
     /// Idle scripts run, by their numbers, and what comes at a moment.
-    Rounds { round: Numbers, home: Home },
+    Rounds {
+        round: Numbers,
+        home: Home,
+    },
 }
 
 /// What comes behind a round of idle scripts.

@@ -84,11 +84,7 @@ fn idle_round(tables: &Tables, slot: usize, home: Home) -> Result<Option<Job>, A
 
 /// The scripts of a queued event, or else a round of idle scripts.
 #[tactic(auto, unfolding(crate::specs::Settle::queue_or_round))]
-fn queue_or_round(
-    tables: &mut Tables,
-    slot: usize,
-    home: Home,
-) -> Result<Option<Job>, AllocError>
+fn queue_or_round(tables: &mut Tables, slot: usize, home: Home) -> Result<Option<Job>, AllocError>
     ensures own { IfOk result (λ job. (panel_of slot tables.new, job) ≡ queue_or_round home (panel_of slot tables.old)) }
     ensures others { LeavesOthers slot tables.old tables.new }
 {

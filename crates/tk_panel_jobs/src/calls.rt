@@ -10,7 +10,10 @@ use tcl_interp::{Act, Code};
 use tcl_jobs::Task;
 use tcl_text::Text;
 use tcl_vars::Scopes;
-use tk_panel::{Home, Job, Numbers, Rest, Scripts, Tables, after_command, bad_option, clock_command, puts_command, wrong_args};
+use tk_panel::{
+    Home, Job, Numbers, Rest, Scripts, Tables, after_command, bad_option, clock_command,
+    puts_command, wrong_args,
+};
 
 /// A command that the tables serve.
 #[derive(Clone, Copy, Debug, PartialEq, Eq)]
@@ -73,7 +76,7 @@ fn destroying(alloc: Global, paths: &[Text]) -> Result<Job, AllocError>
         rest: Rest::Destroys {
             window: None,
             doomed: Numbers::none(alloc),
-            paths: Scripts::of(copies),
+            paths: Scripts::of(alloc, copies)?,
         },
     })
 }
@@ -89,7 +92,12 @@ fn update_idle(
     ensures others { LeavesOthers slot tables.old tables.new }
 {
     if words.is_empty() {
-        return begin(tables, slot, scopes, settling(tables.alloc, Home::IdleTasks));
+        return begin(
+            tables,
+            slot,
+            scopes,
+            settling(tables.alloc, Home::IdleTasks),
+        );
     }
     Ok(answer_act(wrong_args(tables.alloc, "update ?idletasks?")?))
 }

@@ -77,11 +77,7 @@ impl Tasks for TablesView<'_> {
 
     ghost left_alone = { λ v. left_of v.slot v.tables.ghost_name v.tables.now };
 
-    fn call(
-        &mut self,
-        scopes: &mut Scopes,
-        words: &[Text],
-    ) -> Result<Act<Task<Job>>, AllocError> {
+    fn call(&mut self, scopes: &mut Scopes, words: &[Text]) -> Result<Act<Task<Job>>, AllocError> {
         let act = call(self.tables, self.slot, scopes, words)?;
         Ok(act)
     }

@@ -13,7 +13,7 @@ returns-then-is_some-clause-own c =
     let after = panel_of c.args.slot c.choose_destroy.new.tables in
     let numbers = c.take_next.new.self in
     let number = c.in-Some.number in
-    let scripts = c.in_ok-scripts.field-0 in
+    let scripts = c.in_ok-scripts.scripts in
     let first = first_seen c.next.result scripts c.is_some.result c.next.ensures c.is_some.ensures c.if-is_some.true in
     let left = rw c.in-Some.is at c.take_next.ensures in
     let doomed : List (List ℕ) → Doomed = λ s. record { panel = after; found = Some (number, s); rest = numbers } in
@@ -28,7 +28,7 @@ loop-number-preserved c =
     let after = panel_of c.args.slot c.choose_destroy.new.tables in
     let numbers = c.take_next.new.self in
     let number = c.in-Some.number in
-    let scripts = c.in_ok-scripts.field-0 in
+    let scripts = c.in_ok-scripts.scripts in
     let none = none_seen c.next.result scripts c.is_some.result c.next.ensures c.is_some.ensures c.if-is_some.false in
     let left = rw c.in-Some.is at c.take_next.ensures in
     record {

@@ -13,7 +13,7 @@ pub returns-then-is_some-clause-own : goal.returns-then-is_some-clause-own
 returns-then-is_some-clause-own c =
     let before = panel_of c.args.slot c.loop-event.tables in
     let after = panel_of c.args.slot c.choose.new.tables in
-    let scripts = c.in_ok-scripts.field-0 in
+    let scripts = c.in_ok-scripts.scripts in
     let first = first_seen c.next.result scripts c.is_some.result c.next.ensures c.is_some.ensures c.if-is_some.true in
     let waits = rw c.in-Some.is at c.pop.ensures.event in
     ap (λ (s : List (List ℕ)). (after, s)) first.2
@@ -32,7 +32,7 @@ pub loop-event-preserved : goal.loop-event-preserved
 loop-event-preserved c =
     let before = panel_of c.args.slot c.loop-event.tables in
     let after = panel_of c.args.slot c.choose.new.tables in
-    let scripts = c.in_ok-scripts.field-0 in
+    let scripts = c.in_ok-scripts.scripts in
     let none = none_seen c.next.result scripts c.is_some.result c.next.ensures c.is_some.ensures c.if-is_some.false in
     let waits = rw c.in-Some.is at c.pop.ensures.event in
     record {

@@ -1,5 +1,5 @@
 -- Windows lie where the changes of a layout put them.
-use Rattle.std.proofs.Common.{◌≡◌, ◌≢◌, ℕ, Bool, true, false, List, [], ◌∷◌, ◌++◌, Option, Some, None, refl, sym, ap, ◌∙◌, subst, eq-eqb}
+use Rattle.std.proofs.Common.{◌≡◌, ◌≢◌, ℕ, Bool, true, false, List, [], ◌∷◌, ◌++◌, Option, Some, None, refl, sym, ap, ◌∙◌, subst}
 use Rattle.std.specs.Prelude.{◌==◌, ◌&&◌, if◌then◌else◌, option_map}
 use Rattle.std.proofs.lemmas.Bool.{eqb-true}
 use Rattle.tk_bag.specs.Bag.{numbered, changed_at}
@@ -11,7 +11,7 @@ use Rattle.tk_layout.specs.declared.shape.Shape.{Shape}
 use Rattle.tk_placing.specs.Placing.{mapped_as, placed_at, with_mapped, with_rect, with_changed, with_changes}
 use Rattle.tk_placing.specs.Reading.{IsRead, AllRead, IsOfNone, AreApart}
 use Rattle.tk_tree.specs.Change.{with_place}
-use Rattle.tk_tree.specs.Own.{Own, window_at, with_change}
+use Rattle.tk_tree.specs.Own.{Own, window_at}
 use Rattle.tk_tree.specs.Window.{number_of}
 use Rattle.tk_tree.specs.declared.window.Window.{Window}
 

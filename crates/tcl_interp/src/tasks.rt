@@ -42,7 +42,8 @@ pub trait Tasks {
     /// What both calls leave alone, whatever they answer.
     ghost left_alone: { Self → Left };
 
-    /// Calls a command, whose step is taken. The words begin with its first name, before any `rename` (rename(n)), without a leading `::`.
+    /// Calls a command, whose step is taken. The words begin with its first name, before any `rename` (rename(n)), without a leading `::`: one of the
+    /// names that the interpreter was given, or what begins with a dot, as a window's path. Where no window has the path, the answer is `Unknown`.
     /// An error of the script's is a `Done` with code 1.
     fn call(&mut self, scopes: &mut Scopes, words: &[Text]) -> Result<Act<Self::Task>, AllocError>
         ensures ok { IfOk result (λ act. record { shows = shows self.new; store = scopes.new; act = act } ≡ outside.calls (shows self.old) scopes.old words.now) }

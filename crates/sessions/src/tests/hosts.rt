@@ -5,7 +5,8 @@ ghost use Rattle.std.specs.Prelude.{◌≢◌};
 use std::alloc::Global;
 use std::test::Fail;
 use tcl_text::Text;
-use tk_host::{Budget, Host, HostFault, Phase, Rect};
+use tk_host::{Aliases, Budget, Host, HostFault, Phase, Rect};
+use tk_services::Service;
 
 const LEFT: Rect = Rect {
     x: 0,
@@ -23,7 +24,7 @@ const RIGHT: Rect = Rect {
 
 /// Adds an application, and answers the number of its refusal.
 fn add(
-    host: &mut Host,
+    host: &mut Host<Service>,
     alloc: Global,
     name: &str,
     rect: Rect,
@@ -36,7 +37,7 @@ fn add(
         total: budget,
         refill: 0,
     };
-    Ok(number_of(host.add_app(name, rect, script, budget)))
+    Ok(number_of(host.add_app(name, rect, script, budget, Aliases::new(alloc))))
 }
 
 fn number_of(answer: Result<(), HostFault>) -> Option<u32> {
@@ -47,7 +48,7 @@ fn number_of(answer: Result<(), HostFault>) -> Option<u32> {
 }
 
 /// Goes on to the end, and answers the number of the refusal.
-fn end(host: &mut Host, moment: u64) -> Option<u32>
+fn end(host: &mut Host<Service>, moment: u64) -> Option<u32>
     requires { host.old.held.phase ≢ Phase.Adding }
     ensures { host.new.held.phase ≢ Phase.Adding }
 {
@@ -55,7 +56,7 @@ fn end(host: &mut Host, moment: u64) -> Option<u32>
 }
 
 /// Goes on to a moment, and answers the number of the refusal.
-fn advance(host: &mut Host, moment: u64) -> Option<u32>
+fn advance(host: &mut Host<Service>, moment: u64) -> Option<u32>
     requires { host.old.held.phase ≢ Phase.Adding }
     ensures { host.new.held.phase ≢ Phase.Adding }
 {
@@ -255,7 +256,7 @@ fn goes_forth_alone(rt: HostRuntime) -> Result<(), Fail> {
 }
 
 /// Whether these turns were taken: whose each was, and how many steps it took.
-fn are_turns(host: &Host, wanted: &[(usize, u64)]) -> bool {
+fn are_turns(host: &Host<Service>, wanted: &[(usize, u64)]) -> bool {
     let turns = host.turns();
     for (turn, want) in turns.iter().zip(wanted.iter()) {
         if turn.slot != want.0 || turn.steps != want.1 {

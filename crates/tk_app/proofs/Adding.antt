@@ -10,6 +10,7 @@ use Rattle.tk_app.specs.Shown.{unlaid}
 use Rattle.tk_app.specs.Tables.{IsVacantFrom, lines_of, no_window, panel_of, window_of}
 use Rattle.tk_app.specs.Turns.{Program, part_of, parts_from}
 use Rattle.tk_app.proofs.Slots.{push_parts, same_from}
+
 abbrev pub row : Size → MainWindow
 row size = record { size = size; window = unlaid }
 

@@ -7,6 +7,7 @@ use Rattle.tk_app.specs.Part.{Part}
 use Rattle.tk_app.specs.Shown.{Shown}
 use Rattle.tk_app.specs.Tables.{panel_of}
 use Rattle.tk_app.specs.Turns.{Program, part_of, parts_from}
+
 -- the moment isn't seen in a part
 pub same_part : {M : Type 0} (program : Program M) (one other : Shown) → one.size ≡ other.size → one.transcript ≡ other.transcript → one.window ≡ other.window → one.own ≡ other.own → part_of one program ≡ part_of other program
 same_part program one other size transcript window own =

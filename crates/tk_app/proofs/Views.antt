@@ -8,9 +8,10 @@ use Rattle.tk_app.specs.declared.tables.Tables.{Tables}
 use Rattle.tk_app.specs.Part.{Part}
 use Rattle.tk_app.specs.Shown.{Shown}
 use Rattle.tk_app.specs.Tables.{IsVacantFrom, others_of, panel_of}
-use Rattle.tk_app.specs.Turns.{Applications, ChangesOnly, Program, part_of, parts_from}
+use Rattle.tk_app.specs.Turns.{Applications, ChangesOnly, ChangesPart, Program, part_of, parts_from}
 use Rattle.tk_app.proofs.Others.{other_same}
 use Rattle.tk_app.proofs.Slots.{get_parts, length-parts_from, set_parts}
+
 -- without a step nothing is told
 pub none_told : (turns : List Turn) (slot steps : ℕ) → turns ≡ turns ++ entry slot (steps - steps)
 none_told turns slot steps = let none : steps - steps ≡ 0 = omega arith in sym (ap (λ n. turns ++ entry slot n) none ∙ append-nil turns)
@@ -25,6 +26,11 @@ pub only_same : {M : Type 0} (slot : ℕ) (held : Applications M) → slot < len
 only_same slot held lt =
     let here = there held.parts slot lt in
     record { before = here.0; after = here.0; was = here.1; changed = sym here.2; told = none_told held.turns slot here.0.application.steps; moment = refl }
+
+pub part_same : {M : Type 0} (slot : ℕ) (held : Applications M) → slot < length held.parts → ChangesPart slot held held
+part_same slot held lt =
+    let here = there held.parts slot lt in
+    record { before = here.0; after = here.0; was = here.1; changed = sym here.2; turns = refl; moment = refl }
 
 module _ {M : Type 0} (slot : ℕ) (old new : Tables) (programs : List (Program M)) (before after : Program M) (few : length programs ≤ 16) (lt : slot < length programs) (at : before ≡ get_or programs slot before)
     (others : others_of slot new ≡ others_of slot old) where

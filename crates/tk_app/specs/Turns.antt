@@ -130,6 +130,15 @@ MayGet part = (part.work ≡ Rests) ⊎ ((script : List ℕ) × (part.work ≡ t
 abbrev pub MayGetIn : {M : Type 0} → ℕ → List (Part M) → Type 0
 MayGetIn {M} slot parts = (part : Part M) → slice_get parts slot ≡ Some part → MayGet part
 
+-- whatever comes of it, only the part in one slot has changed, and no turn is told
+pub record ChangesPart {M : Type 0} (slot : ℕ) (old new : Applications M) : Type 0 where
+  pub before : Part M
+  pub after : Part M
+  pub was : slice_get old.parts slot ≡ Some before
+  pub changed : new.parts ≡ slice_set old.parts slot after
+  pub turns : new.turns ≡ old.turns
+  pub moment : new.moment ≡ old.moment
+
 -- an event was given to the part in a slot
 pub record DeliversIn {M : Type 0} (slot : ℕ) (event : LocalEvent) (old new : Applications M) : Type 0 where
   pub before : Part M
@@ -146,12 +155,10 @@ end_of slice.Exhausted = Stopped
 
 -- ── how far a runner has come ──
 
-abbrev pub ProgressIs : Progress → Rest Settling → Type 0
-ProgressIs Resting rest = (rest ≡ Idle) ⊎ (rest ≡ Spent)
-ProgressIs Going rest = IsRunning rest
-ProgressIs Lost rest = rest ≡ Broken
-
--- and where it rests and runs, its steps aren't spent
-pub record IsAsFar (state : AppState) (progress : Progress) (rest : Rest Settling) : Type 0 where
-  pub progress_is : ProgressIs progress rest
-  pub idle : state ≡ Running → progress ≡ Resting → rest ≡ Idle
+-- While it runs and rests, its steps aren't spent.
+abbrev pub IsAsFar : Progress → AppState → Rest Settling → Type 0
+IsAsFar Resting Running rest = rest ≡ Idle
+IsAsFar Resting Exhausted rest = (rest ≡ Idle) ⊎ (rest ≡ Spent)
+IsAsFar Resting Closed rest = (rest ≡ Idle) ⊎ (rest ≡ Spent)
+IsAsFar Going state rest = IsRunning rest
+IsAsFar Lost state rest = rest ≡ Broken

@@ -72,7 +72,7 @@ impl<M: AliasMeaning> Model for Runner<M> {
       work = work_by r.state (work_of (rest_of r.interp) (context_of r.interp).levels);
     } };
 
-    ghost invariant = { λ r. IsAsFar r.state r.progress (rest_of r.interp) × (budget_of r.interp ≡ r.budget.total) };
+    ghost invariant = { λ r. IsAsFar r.progress r.state (rest_of r.interp) × (budget_of r.interp ≡ r.budget.total) };
 }
 
 impl<M: AliasMeaning> Runner<M> {
@@ -330,7 +330,26 @@ pub fn take_turn<M: AliasMeaning>(
     end
 }
 
-/// Gives an application an event: it is granted steps, and the event is added to what it has to do. One that doesn't run gets nothing.
+/// Gives an application that runs an event: it is granted steps, and the event is added to what it has to do.
+fn deliver_running<M: AliasMeaning>(
+    tables: &mut Tables,
+    slot: usize,
+    runner: &mut Runner<M>,
+    event: LocalEvent,
+)
+    requires there { slot < length tables.old.windows }
+    requires may { MayGet (part_of (panel_of slot tables.old) runner.old) }
+    requires runs { runner.old.state ≡ AppState.Running }
+    ensures own { part_of (panel_of slot tables.new) runner.new ≡ record (part_of (panel_of slot tables.old) runner.old) { application = delivered event (part_of (panel_of slot tables.old) runner.old).application } }
+    ensures clock { tables.new.clock ≡ tables.old.clock }
+    ensures count { length tables.new.windows ≡ length tables.old.windows }
+    ensures others { others_of slot tables.new ≡ others_of slot tables.old }
+{
+    runner.grant();
+    take_event(tables, slot, event.kind);
+}
+
+/// Gives an application an event. One that doesn't run gets nothing.
 pub fn deliver<M: AliasMeaning>(
     tables: &mut Tables,
     slot: usize,
@@ -345,10 +364,7 @@ pub fn deliver<M: AliasMeaning>(
     ensures others { others_of slot tables.new ≡ others_of slot tables.old }
 {
     match runner.state() {
-        AppState::Running => {
-            runner.grant();
-            take_event(tables, slot, event.kind);
-        }
+        AppState::Running => deliver_running(tables, slot, runner, event),
         AppState::Exhausted | AppState::Closed => {}
     }
 }

@@ -1,5 +1,10 @@
 //! The tables as the interpreter of one application sees them.
-ghost use Rattle.std.specs.Prelude.{◌≡◌};
+ghost use Rattle.std.specs.Prelude.{◌≡◌, IfOk};
+ghost use Rattle.tcl_vars.specs.Store.{Store};
+ghost use Rattle.tk_app.specs.Outside.{called};
+ghost use Rattle.tk_app.specs.Seen.{meanings};
+ghost use Rattle.tk_app.specs.Shown.{setting_of};
+ghost use Rattle.tk_app.specs.Tables.{LeavesOthers, panel_of};
 
 use crate::aliases::served;
 use crate::commands::command;
@@ -40,6 +45,24 @@ impl Tables {
     }
 }
 
+/// A command of an application with these aliases, by its name and the words behind it: an alias goes before the others.
+fn call<M: AliasMeaning>(
+    tables: &mut Tables,
+    slot: usize,
+    aliases: &Aliases<M>,
+    words: &[Text],
+) -> Result<Act<Settling>, AllocError>
+    ensures own { IfOk result (λ act. (store : Store) → record { shows = record { serves = meanings M.answer aliases.now; panel = panel_of slot tables.new }; store = store; act = act }
+        ≡ called words.now (record { serves = meanings M.answer aliases.now; panel = panel_of slot tables.old }) store) }
+    ensures setting { setting_of (panel_of slot tables.new) ≡ setting_of (panel_of slot tables.old) }
+    ensures others { LeavesOthers slot tables.old tables.new }
+{
+    match served(tables.alloc, aliases, words)? {
+        Some(act) => Ok(act),
+        None => command(tables, slot, words),
+    }
+}
+
 impl<M: AliasMeaning> Tasks for TablesView<'_, M> {
     ghost use Rattle.std.specs.Prelude.{ℕ, List};
     ghost use Rattle.tk_app.specs.Outside.{outside as own_commands};
@@ -60,10 +83,7 @@ impl<M: AliasMeaning> Tasks for TablesView<'_, M> {
     ghost left_alone = { λ v. (left_of v.slot v.tables.ghost_name v.tables.now, v.aliases.now) };
 
     fn call(&mut self, _scopes: &mut Scopes, words: &[Text]) -> Result<Act<Settling>, AllocError> {
-        if let Some(act) = served(self.tables.alloc, self.aliases, words)? {
-            return Ok(act);
-        }
-        let act = command(self.tables, self.slot, words)?;
+        let act = call(self.tables, self.slot, self.aliases, words)?;
         Ok(act)
     }
 

@@ -20,7 +20,7 @@ impl<M: AliasMeaning> AppView<'_, M> {
     ghost use Rattle.tk_app.specs.Application.{next_due};
     ghost use Rattle.tk_app.specs.Part.{is_under_way};
     ghost use Rattle.tk_app.specs.Section.{section};
-    ghost use Rattle.tk_app.specs.Turns.{BeginsIn, ChangesOnly, DeliversIn, MayGetIn, SettlesSlot};
+    ghost use Rattle.tk_app.specs.Turns.{BeginsIn, ChangesOnly, ChangesPart, DeliversIn, MayGetIn, SettlesSlot};
 
     /// Does what is to be done at the moment, for at most so many steps: what is under way, or else the timers that are due, layout and the idle scripts.
     /// An application's own script is under way from the first. The steps that it takes are told as a turn.
@@ -58,7 +58,7 @@ impl<M: AliasMeaning> AppView<'_, M> {
         ensures slot { self.new.slot ≡ self.old.slot }
         ensures same_reference { self.new.shared.ghost_name ≡ self.old.shared.ghost_name }
         ensures delivered { OnOk result (DeliversIn self.old.slot event self.old.shared.now self.new.shared.now) }
-        ensures only { ChangesOnly self.old.slot self.old.shared.now self.new.shared.now }
+        ensures only { ChangesPart self.old.slot self.old.shared.now self.new.shared.now }
         ensures kept { OnOk result (self.new.shared.now.refused ≡ false) }
         ensures refused { OnErr result (self.new.shared.now.refused ≡ true) }
         ensures again { self.old.shared.now.refused ≡ true → IsErr result }

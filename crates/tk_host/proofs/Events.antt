@@ -121,12 +121,12 @@ module _ {M : Type 0} (answer : M → Meaning) where
   after_two slot first second (application ∷ apps) =
       ap (λ a. a ∷ after_given answer (slot + 1) (second ∷ []) (after_given answer (slot + 1) (first ∷ []) apps))
       (after_both (nat_eq first.slot slot) (nat_eq second.slot slot) first second application)
-      ∙ ap (λ as. after_each answer (events_by (nat_eq first.slot slot) (nat_eq second.slot slot) first second) application ∷ as) (after_two (slot + 1) first second apps)
+      ∙ ap (λ apps. after_each answer (events_by (nat_eq first.slot slot) (nat_eq second.slot slot) first second) application ∷ apps) (after_two (slot + 1) first second apps)
 
   -- without an event all stay
   pub after_none : (slot : ℕ) (apps : List (Application M)) → after_given answer slot [] apps ≡ apps
   after_none slot [] = refl
-  after_none slot (application ∷ apps) = ap (λ as. application ∷ as) (after_none (slot + 1) apps)
+  after_none slot (application ∷ apps) = ap (λ apps. application ∷ apps) (after_none (slot + 1) apps)
 
   -- the turns of these stages
   pub turns_one : (slice : ℕ) (delivery : Delivery) (apps : List (Application M))
@@ -228,3 +228,15 @@ module _ {M : Type 0} where
         ∙ ap (λ (p : Part M). record old { parts = set (set old.parts i got) i (settling_begun old.moment p) }) same
         ∙ ap (λ m. record old { parts = set (set old.parts i got) i (settling_begun m got) }) (sym now)
         ∙ ap (λ (ps : List (Part M)). record old { parts = ps }) (set_set old.parts i got (given_event delivery.event delivers.before) ∙ sym (given_at 0 i old.parts delivers.before refl delivers.was))
+
+  -- two events, one after the other
+  pub given_twice : (first second : Delivery) (old mid new : Applications M) → mid ≡ record old { parts = given_from 0 first old.parts } → new ≡ record mid { parts = given_from 0 second mid.parts }
+      → new ≡ record old { parts = given_from 0 second (given_from 0 first old.parts) }
+  given_twice first second old mid new one other = other ∙ ap (λ (h : Applications M). record h { parts = given_from 0 second h.parts }) one
+
+  -- who isn't given the first has nothing under way
+  pub rests_other : (first : Delivery) (slot : ℕ) (old mid : Applications M) (part : Part M) → first.slot ≢ slot → mid ≡ record old { parts = given_from 0 first old.parts } → AllRest old.parts
+      → slice_get mid.parts slot ≡ Some part → part.work ≡ Rests
+  rests_other first slot old mid part differ one rest is =
+      rests_in old.parts slot part rest
+      (given_other first 0 slot old.parts part (λ e. differ (sym e)) (sym (ap (λ (h : Applications M). slice_get h.parts slot) one) ∙ is))

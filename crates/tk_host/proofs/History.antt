@@ -169,7 +169,7 @@ module _ {M : Type 0} (answer : M → Meaning) where
   -- the same by another phase, other applications and other lines
   held_same : (phase other : Phase) (apps more : List (Given M)) (lines lines' : List Line) → phase ≡ other → apps ≡ more → lines ≡ lines' → held_in answer phase apps lines ≡ held_in answer other more lines'
   held_same phase other apps more lines lines' phases given told =
-      ap (λ p. held_in answer p apps lines) phases ∙ ap (λ as. held_in answer other as lines) given ∙ ap (held_in answer other more) told
+      ap (λ p. held_in answer p apps lines) phases ∙ ap (λ more. held_in answer other more lines) given ∙ ap (held_in answer other more) told
 
   -- one that adds none
   leads_on : (calls : List (Call M)) (call : Call M) (phase : Phase) (lines : List Line) → given_by (call ∷ []) ≡ [] → phase_after (phase_after Adding calls) (call ∷ []) ≡ phase
@@ -247,10 +247,10 @@ module _ {M : Type 0} (answer : M → Meaning) where
       let lines : List Line = lines_of calls in
       ap (λ (h : Hosted M). h.held) (lined first lines (known_lines calls before old.held held from))
       ∙ ap (λ (h : Held M). record {
-          phase = Reached moment;
-          known = values first (at moment line ∷ lines);
-          parts = map at_rest (after_given answer 0 (routes first lines (at moment line)) (map (passed answer moment) (applications h.parts)));
-        }) (was_in calls old.held (Reached before) held from)
+        phase = Reached moment;
+        known = values first (at moment line ∷ lines);
+        parts = map at_rest (after_given answer 0 (routes first lines (at moment line)) (map (passed answer moment) (applications h.parts)));
+      }) (was_in calls old.held (Reached before) held from)
       ∙ ap (λ ps. record { phase = Reached moment; known = values first (at moment line ∷ lines); parts = ps }) (lined_parts before moment line le first lines 0 apps)
       ∙ leads_on calls (LineAt moment line) (Reached moment) (at moment line ∷ lines) refl refl refl
 
@@ -282,7 +282,7 @@ module _ {M : Type 0} (answer : M → Meaning) where
       let given : List Delivery = routes first lines (at moment line) in
       ap (λ (h : Hosted M). h.turns) (lined first lines (known_lines calls before old.held held from))
       ∙ ap (λ (h : Held M). turns_on_the_way answer old.slice moment (applications h.parts)
-          ++ turns_given answer old.slice (stages_of given) (map (passed answer moment) (applications h.parts))) held
+      ++ turns_given answer old.slice (stages_of given) (map (passed answer moment) (applications h.parts))) held
 
   -- ── sections ──
 

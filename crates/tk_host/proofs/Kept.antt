@@ -40,7 +40,7 @@ pub known_reached : (phase : Phase) (last : ℕ) (rects : List Rect) (known : Va
 known_reached phase last rects known is = ap (λ p. known_by p rects known) is
 
 module _ {M : Type 0} where
-  pub routed_new : (known : Values) → IsRouted Adding [] known ([] : List (Part M))
+  pub routed_new : (known : Values) → IsRouted {M = M} Adding [] known []
   routed_new known = record { adding = λ e. (refl, omega arith, refl); reached = λ last e. cc }
 
   pub routed_lost : (rects : List Rect) (known : Values) (parts : List (Part M)) → IsRouted Lost rects known parts
@@ -151,7 +151,7 @@ module _ {M : Type 0} (answer : M → Meaning) where
           subst AllRest (sym is) (rest_at answer after),
           subst (λ m. IsPast m (first_due next_due (settled answer) (applications parts))) (sym now)
               (subst (λ ps. IsPast moment (first_due next_due (settled answer) (applications ps))) (sym is)
-              (subst (λ as. IsPast moment (first_due next_due (settled answer) as)) (sym (apps_at answer after)) (given_past moment 0 given apps at past))),
+              (subst (λ apps. IsPast moment (first_due next_due (settled answer) apps)) (sym (apps_at answer after)) (given_past moment 0 given apps at past))),
         );
       }
 
@@ -216,13 +216,16 @@ module _ {M : Type 0} (answer : M → Meaning) where
       let way : moved.turns ≡ turns_on_the_way answer slice line.moment (applications shared.parts) =
       ap (λ (h : Applications M). h.turns) on ∙ told ∙ ap (λ (h : Applications M). h.turns ++ turns_on_the_way answer slice line.moment (applications h.parts)) clear in
       let all : after.parts ≡ map at_rest (after_given answer 0 (routes first earlier line) apps) =
-      parts ∙ ap (λ ds. map at_rest (after_given answer 0 ds (applications moved.parts))) gives ∙ ap (λ as. map at_rest (after_given answer 0 (routes first earlier line) as)) there in
+      parts ∙ ap (λ ds. map at_rest (after_given answer 0 ds (applications moved.parts))) gives ∙ ap (λ apps. map at_rest (after_given answer 0 (routes first earlier line) apps)) there in
       let taken : after.turns ≡ turns_on_the_way answer slice line.moment (applications shared.parts) ++ turns_given answer slice (stages_of (routes first earlier line)) apps =
       turns ∙ ap (λ ts. ts ++ turns_given answer slice (stages_of given) (applications moved.parts)) way
       ∙ ap (λ ds. turns_on_the_way answer slice line.moment (applications shared.parts) ++ turns_given answer slice (stages_of ds) (applications moved.parts)) gives
-      ∙ ap (λ as. turns_on_the_way answer slice line.moment (applications shared.parts) ++ turns_given answer slice (stages_of (routes first earlier line)) as) there in
+      ∙ ap (λ apps. turns_on_the_way answer slice line.moment (applications shared.parts) ++ turns_given answer slice (stages_of (routes first earlier line)) apps) there in
       ap (λ ps. record { held = record { phase = Reached line.moment; known = known'; parts = ps }; slice = slice; turns = after.turns }) all
       ∙ ap (λ ts. record { held = record { phase = Reached line.moment; known = known'; parts = map at_rest (after_given answer 0 (routes first earlier line) apps) }; slice = slice; turns = ts }) taken
-      ∙ ap (λ k. record { held = record { phase = Reached line.moment; known = k; parts = map at_rest (after_given answer 0 (routes first earlier line) apps) }; slice = slice;
-          turns = turns_on_the_way answer slice line.moment (applications shared.parts) ++ turns_given answer slice (stages_of (routes first earlier line)) apps }) knows
+      ∙ ap (λ k. record {
+        held = record { phase = Reached line.moment; known = k; parts = map at_rest (after_given answer 0 (routes first earlier line) apps) };
+        slice = slice;
+        turns = turns_on_the_way answer slice line.moment (applications shared.parts) ++ turns_given answer slice (stages_of (routes first earlier line)) apps;
+      }) knows
       ∙ ap (after_line answer first earlier line) is

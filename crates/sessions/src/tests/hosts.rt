@@ -5,7 +5,7 @@ ghost use Rattle.std.specs.Prelude.{◌≢◌};
 use std::alloc::Global;
 use std::test::Fail;
 use tcl_text::Text;
-use tk_host::{Aliases, Budget, Host, HostFault, Phase, Rect};
+use tk_host::{Aliases, Budget, Host, HostFault, HostLine, Phase, Rect};
 use tk_services::Service;
 
 const LEFT: Rect = Rect {
@@ -61,6 +61,14 @@ fn advance(host: &mut Host<Service>, moment: u64) -> Option<u32>
     ensures { host.new.held.phase ≢ Phase.Adding }
 {
     number_of(host.advance_to(moment))
+}
+
+/// Takes a line, and answers the number of the refusal.
+fn take(host: &mut Host<Service>, moment: u64, line: HostLine) -> Option<u32>
+    requires { host.old.held.phase ≢ Phase.Adding }
+    ensures { host.new.held.phase ≢ Phase.Adding }
+{
+    number_of(host.line(moment, line))
 }
 
 /// Scripts of a first application with its budget and its section, whatever the slice; a second one beside it says bye.
@@ -322,5 +330,46 @@ fn takes_turns_at_each_moment(rt: HostRuntime) -> Result<(), Fail> {
     assert!(rt; are_turns(&host, &[(0, 2), (1, 2), (0, 1), (1, 1)]));
     assert_eq!(rt; end(&mut host, 8), None);
     assert!(rt; are_turns(&host, &[(0, 2)]));
+    Ok(())
+}
+
+/// Lines: their refusals in their order, the size that a rectangle gives, and the steps that events grant.
+#[test]
+fn takes_lines(rt: HostRuntime) -> Result<(), Fail> {
+    let alloc = rt.alloc();
+    let mut host = Host::new(alloc, 64);
+    let name = Text::new(alloc, "a")?;
+    let script = Text::new(alloc, "after 7 {set x 1}; after 9 {set x 2}")?;
+    let budget = Budget {
+        total: 4,
+        refill: 1,
+    };
+    host.add_app(name, LEFT, script, budget, Aliases::new(alloc))?;
+    assert_eq!(rt; add(&mut host, alloc, "b", RIGHT, "", 9)?, None);
+    host.start()?;
+    assert_eq!(rt; advance(&mut host, 5), None);
+    let far = HostLine::Move { x: 65_536, y: 0 };
+    assert_eq!(rt; take(&mut host, 4, far), Some(36));
+    assert_eq!(rt; take(&mut host, 4, HostLine::Focus(Some(16))), Some(35));
+    assert_eq!(rt; take(&mut host, 5, HostLine::Focus(Some(16))), Some(37));
+    let covering = HostLine::Rect {
+        slot: 1,
+        rect: LEFT,
+    };
+    assert_eq!(rt; take(&mut host, 5, covering), Some(43));
+    let higher = Rect { height: 60, ..LEFT };
+    let placed = HostLine::Rect {
+        slot: 0,
+        rect: higher,
+    };
+    assert_eq!(rt; take(&mut host, 5, placed), None);
+    assert_eq!(rt; take(&mut host, 8, HostLine::Focus(Some(0))), None);
+    assert!(rt; are_turns(&host, &[(0, 2)]));
+    assert_eq!(rt; end(&mut host, 9), None);
+    assert_eq!(rt;
+        host.section(0)?.as_slice(),
+        b"app a running 0\ntree\nwin . Tk 0 0 100 60 1\ntimers\ndone\n".as_slice()
+    );
+    assert_eq!(rt; take(&mut host, 9, HostLine::Focus(None)), Some(41));
     Ok(())
 }

@@ -1,0 +1,106 @@
+//! Calls of aliases.
+//!
+//! A line `KIND LIST` sets an alias up, with the configuration that is the first item of the list, and a line `call LIST` calls it with these
+//! arguments; that answers `=` and a result, or `!` and the text of an error. Beside the program's services there are aliases of the kind
+//! `count`, which answer how many arguments they are given.
+use crate::asking::Asked;
+use crate::counting::Counting;
+use anyhow::{Context, Result, bail};
+use std::alloc::Global;
+use tcl_text::{Text, TextList};
+use tk_alias::{Alias, AliasMeaning, AliasReply};
+use tk_services::{Service, ServiceKind};
+
+/// What is called.
+#[derive(Drop)]
+enum Called {
+    Service(Alias<Service>),
+    Counting(Alias<Counting>),
+}
+
+fn text_of(alloc: Global, characters: &str) -> Result<Text> {
+    Ok(Text::new(alloc, characters)?)
+}
+
+fn items_of(alloc: Global, list: &str) -> Result<TextList> {
+    match text_of(alloc, list)?.split_list(alloc) {
+        Ok(items) => Ok(items),
+        Err(_) => bail!("no list"),
+    }
+}
+
+fn kind_of(word: &str) -> Option<ServiceKind> {
+    match word {
+        "const" => Some(ServiceKind::Const),
+        "upper" => Some(ServiceKind::Upper),
+        "table" => Some(ServiceKind::Table),
+        "sum" => Some(ServiceKind::Sum),
+        "fail" => Some(ServiceKind::Fail),
+        _ => None,
+    }
+}
+
+/// The alias that a line of a table sets up.
+fn made(alloc: Global, kind: &str, list: &str) -> Result<Called> {
+    let name = text_of(alloc, "called")?;
+    let items = items_of(alloc, list)?;
+    let config = items
+        .as_slice()
+        .first()
+        .context("no configuration")?
+        .copy()?;
+    match kind_of(kind) {
+        Some(kind) => Ok(Called::Service(Alias::new(name, Service { kind, config }))),
+        None if kind == "count" => Ok(Called::Counting(Alias::new(
+            name,
+            Counting { unit: config },
+        ))),
+        None => bail!("no such kind"),
+    }
+}
+
+/// A reply as a table has it.
+fn told<M: AliasMeaning>(alloc: Global, alias: &Alias<M>, args: &[Text]) -> Result<String> {
+    match alias.call(alloc, args) {
+        AliasReply::Ok(text) => Ok(format!(in alloc; "={}", text.as_str())?),
+        AliasReply::Err(text) => Ok(format!(in alloc; "!{}", text.as_str())?),
+        AliasReply::NoMemory => bail!("memory was refused"),
+    }
+}
+
+fn call(alloc: Global, called: &Option<Called>, list: &str) -> Result<String> {
+    let args = items_of(alloc, list)?;
+    match called {
+        Some(Called::Service(alias)) => told(alloc, alias, args.as_slice()),
+        Some(Called::Counting(alias)) => told(alloc, alias, args.as_slice()),
+        None => bail!("a call of nothing"),
+    }
+}
+
+/// The alias that was set up last.
+#[derive(Drop)]
+pub struct ServiceTable {
+    called: Option<Called>,
+    pub aliases: u32,
+}
+
+impl ServiceTable {
+    pub fn new() -> ServiceTable {
+        ServiceTable {
+            called: None,
+            aliases: 0,
+        }
+    }
+}
+
+impl Asked for ServiceTable {
+    fn answer(&mut self, alloc: Global, line: &str) -> Result<String> {
+        if let Some(list) = line.strip_prefix("call") {
+            return call(alloc, &self.called, list);
+        }
+        let (kind, list) = line.split_once(' ').context("a line of one word")?;
+        self.called = Some(made(alloc, kind, list)?);
+        self.aliases = self.aliases.saturating_add(1);
+        Ok(String::new(alloc))
+    }
+}

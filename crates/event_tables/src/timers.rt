@@ -1,0 +1,173 @@
+//! What keeps the timers.
+//!
+//! A line `MOMENT OWNER CALL` is a call for an application, by its number, at a moment: `after|WORD|..` is the command, and `count`, `full`,
+//! `next`, `round`, `take`, `due|ID`, `cancel|ID` are the calls of those names; `first` is when the first timer of all is due, and `fill`
+//! lists as many timers as there may be. It answers `=` and a text, or `!` and an error. An empty line begins anew without timers.
+use crate::asking::Asked;
+use anyhow::{Context, Result, bail};
+use std::alloc::Global;
+use tcl_text::{Text, TextList};
+use tk_after::{Timers, after_command};
+
+/// The words of a command, each behind a bar.
+fn words_of(alloc: Global, bars: Option<&str>) -> Result<TextList> {
+    let mut words = TextList::new(alloc);
+    if let Some(bars) = bars {
+        for word in bars.split('|') {
+            words.push(Text::new(alloc, word)?)?;
+        }
+    }
+    Ok(words)
+}
+
+/// The answer of the command `after` with these words.
+fn after(
+    alloc: Global,
+    timers: &mut Timers,
+    owner: usize,
+    moment: u64,
+    bars: Option<&str>,
+) -> Result<String> {
+    if moment > 1_000_000_000_000 {
+        bail!("a moment past the last");
+    }
+    let words = words_of(alloc, bars)?;
+    match after_command(alloc, timers, owner, moment, words.as_slice())? {
+        Ok(text) => Ok(format!(in alloc; "={}", text.as_str())?),
+        Err(text) => Ok(format!(in alloc; "!{}", text.as_str())?),
+    }
+}
+
+fn optional(alloc: Global, moment: Option<u64>) -> Result<String> {
+    match moment {
+        Some(moment) => Ok(format!(in alloc; "={moment}")?),
+        None => Ok(String::from_str(alloc, "=none")?),
+    }
+}
+
+/// The numbers of a round.
+fn round(alloc: Global, timers: &Timers, owner: usize) -> Result<String> {
+    let mut told = String::from_str(alloc, "=")?;
+    for id in timers.idle_round(owner)? {
+        let number = format!(in alloc; "{id} ")?;
+        told.push_str(number.as_str())?;
+    }
+    Ok(told)
+}
+
+/// The timer that is taken out as due.
+fn take(alloc: Global, timers: &mut Timers, owner: usize, moment: u64) -> Result<String> {
+    match timers.take_due(owner, moment) {
+        Some((id, script)) => Ok(format!(in alloc; "={id} {}", script.as_str())?),
+        None => Ok(String::from_str(alloc, "=none")?),
+    }
+}
+
+/// When the entry of a number is due.
+fn due(alloc: Global, timers: &Timers, owner: usize, id: u64) -> Result<String> {
+    match timers.entry(owner, id) {
+        Some(entry) => match entry.due {
+            Some(due) => Ok(format!(in alloc; "={due}")?),
+            None => Ok(String::from_str(alloc, "=idle")?),
+        },
+        None => Ok(String::from_str(alloc, "=none")?),
+    }
+}
+
+/// The script that leaves the table.
+fn cancel(alloc: Global, timers: &mut Timers, owner: usize, id: u64) -> Result<String> {
+    match timers.cancel(owner, id) {
+        Some(script) => Ok(format!(in alloc; "={}", script.as_str())?),
+        None => Ok(String::from_str(alloc, "=none")?),
+    }
+}
+
+/// Lists timers until no more may be listed; answers how many.
+fn fill(alloc: Global, timers: &mut Timers, owner: usize, moment: u64) -> Result<String> {
+    let mut count = 0u64;
+    for _ in 0..1000u64 {
+        if timers.is_full(owner) {
+            break;
+        }
+        let _id = timers.add(owner, moment, Text::new(alloc, "x")?)?;
+        count = count.saturating_add(1);
+    }
+    Ok(format!(in alloc; "={count}")?)
+}
+
+/// What a call answers that needs no number.
+fn plain_answer(
+    alloc: Global,
+    timers: &mut Timers,
+    owner: usize,
+    moment: u64,
+    call: &str,
+) -> Result<String> {
+    match call {
+        "after" => after(alloc, timers, owner, moment, None),
+        "count" => Ok(format!(in alloc; "={}", timers.count(owner))?),
+        "full" => Ok(format!(in alloc; "={}", timers.is_full(owner))?),
+        "next" => optional(alloc, timers.next_due_of(owner)),
+        "first" => optional(alloc, timers.next_due()),
+        "round" => round(alloc, timers, owner),
+        "take" => take(alloc, timers, owner, moment),
+        "fill" => fill(alloc, timers, owner, moment),
+        _ => bail!("no such call"),
+    }
+}
+
+/// What a line's call answers.
+fn answer_of(alloc: Global, timers: &mut Timers, line: &str) -> Result<String> {
+    let Some((moment, rest)) = line.split_once(' ') else {
+        bail!("a line with no call");
+    };
+    let Some((owner, call)) = rest.split_once(' ') else {
+        bail!("a line with no call");
+    };
+    let moment: u64 = moment.parse().context("a line with no moment")?;
+    let owner: usize = owner.parse().context("a line with no application")?;
+    match call.split_once('|') {
+        None => plain_answer(alloc, timers, owner, moment, call),
+        Some(("after", words)) => after(alloc, timers, owner, moment, Some(words)),
+        Some(("due", id)) => due(
+            alloc,
+            timers,
+            owner,
+            id.parse().context("a call with no number")?,
+        ),
+        Some(("cancel", id)) => {
+            cancel(
+                alloc,
+                timers,
+                owner,
+                id.parse().context("a call with no number")?,
+            )
+        }
+        Some(_) => bail!("no such call"),
+    }
+}
+
+/// The timers of all applications.
+#[derive(Drop)]
+pub struct TimerTable {
+    timers: Timers,
+}
+
+impl TimerTable {
+    pub fn new(alloc: Global) -> TimerTable {
+        TimerTable {
+            timers: Timers::new(alloc),
+        }
+    }
+}
+
+impl Asked for TimerTable {
+    fn begin(&mut self, alloc: Global) -> Result<()> {
+        self.timers = Timers::new(alloc);
+        Ok(())
+    }
+
+    fn answer(&mut self, alloc: Global, line: &str) -> Result<String> {
+        answer_of(alloc, &mut self.timers, line)
+    }
+}

@@ -1,0 +1,41 @@
+//! The commands of widgets, and what keys and the pointer ask of them.
+//!
+//! A line `new KIND` begins with a new widget and no variables. The other lines ask, and the line behind each is what is answered: `=` and a
+//! result, `!` and an error, `>` and a script that is to be run.
+//!
+//! - `path WORD|WORD|..` calls the widget's command, and sets the variables that it asks for.
+//! - `set NAME|VALUE`, `unset NAME`, `array set NAME|VALUE` call these commands on variables.
+//! - `value` and `size` tell what the widget shows, and the size that it requests.
+//! - `key WORD`, `backspace`, `delete`, `move WORD` and `point X` are what keys and the pointer ask of an entry, `press Y`, `drag Y`, `step WORD`
+//!   and `space` of a listbox (they answer 1 where a selection was made or toggled), `down`, `sink` and `up` of a button.
+//!
+//! In a word `~` stands for a newline, and a word `*N*TEXT` for the text N times. A line that begins with `#` says something.
+use crate::asking::{Session, answer_of};
+use crate::words::plain;
+use anyhow::Result;
+
+/// Asks a table's lines, and prints each answer that isn't the one in the table; how many there are of those.
+pub fn ask(rt: &(impl Print + AllocGlobal), name: &str, table: &str) -> Result<u32> {
+    let alloc = rt.alloc();
+    let (mut answers, mut wrong) = (0u32, 0u32);
+    let mut session = Session::new(alloc, "frame")?;
+    let mut answer = String::new(alloc);
+    let mut asked = "";
+    for line in table.lines() {
+        if line.starts_with('=') || line.starts_with('!') || line.starts_with('>') {
+            answers = answers.saturating_add(1);
+            let wanted = plain(alloc, line)?;
+            if answer.as_str() != wanted.as_str() {
+                wrong = wrong.saturating_add(1);
+                println!(rt; "{name}: {asked}: {answer} and not {line}")?;
+            }
+        } else if let Some(kind) = line.strip_prefix("new ") {
+            session = Session::new(alloc, kind)?;
+        } else if !line.starts_with('#') && !line.is_empty() {
+            asked = line;
+            answer = answer_of(alloc, &mut session, line)?;
+        }
+    }
+    println!(rt; "{name}: {answers} answers, {wrong} wrong")?;
+    Ok(wrong)
+}

@@ -1,0 +1,25 @@
+-- What an application has before it is added, and when it was.
+use Rattle.std.specs.Prelude.{ℕ, List, []}
+use Rattle.tk_after.specs.Timers as timers
+use Rattle.tk_bind_class.specs.ClassBindings.{with_class_bindings}
+use Rattle.tk_inputs.specs.Inputs as inputs
+use Rattle.tk_screen.specs.Own as screens
+use Rattle.tk_panel.specs.Panel.{Panel}
+
+-- nothing, at a moment
+abbrev pub nothing : ℕ → Panel
+nothing moment = record {
+  moment = moment;
+  screen = screens.nothing;
+  bindings = [];
+  virtuals = [];
+  history = [];
+  queue = [];
+  input = inputs.fresh;
+  timers = timers.fresh;
+  transcript = [];
+}
+
+-- a new application of a name, with a rectangle of a size: its main window `.`, and what the classes of widgets bind
+unfoldable pub fresh : List ℕ → ℕ × ℕ → ℕ → Panel
+fresh name size moment = record (nothing moment) { screen = screens.added name size; bindings = with_class_bindings [] }

@@ -1,0 +1,66 @@
+//! The commands of an application, as its interpreter calls them.
+ghost use Rattle.std.specs.Prelude.{◌≡◌, IfOk};
+ghost use Rattle.tk_panel.specs.Panel.{LeavesOthers, panel_of};
+ghost use Rattle.tk_panel_jobs.specs.Calls.{answer_act, calls, outcome_told};
+
+use crate::jobs::begin;
+use std::alloc::AllocError;
+use tcl_interp::{Act, Code};
+use tcl_jobs::Task;
+use tcl_text::Text;
+use tcl_vars::Scopes;
+use tk_panel::{Answer, Job, Tables};
+use tk_panel_commands::{Outcome, panel_command};
+
+/// The act of a command that answers.
+fn answer_act(answer: Answer) -> Act<Task<Job>>
+    ensures { result ≡ answer_act answer }
+{
+    match answer {
+        Ok(text) => Act::Done(Code::Normal, text),
+        Err(text) => Act::Done(Code::Error, text),
+    }
+}
+
+/// The act of a command that runs a script.
+fn invoke_act(script: Text) -> Act<Task<Job>>
+    ensures { result ≡ Act.Run script Task.Invoked }
+{
+    Act::Run {
+        script,
+        task: Task::Invoked,
+    }
+}
+
+/// What the interpreter does then.
+fn act_for(
+    tables: &mut Tables,
+    slot: usize,
+    scopes: &Scopes,
+    outcome: Outcome,
+) -> Result<Act<Task<Job>>, AllocError>
+    ensures own { IfOk result (λ act. record { shows = panel_of slot tables.new; store = scopes.now; act = act } ≡ outcome_told outcome (panel_of slot tables.old) scopes.now) }
+    ensures others { LeavesOthers slot tables.old tables.new }
+{
+    match outcome {
+        Outcome::Answers(answer) => Ok(answer_act(answer)),
+        Outcome::Runs(script) => Ok(invoke_act(script)),
+        Outcome::Begins(job) => begin(tables, slot, scopes, job),
+        Outcome::Unknown => Ok(Act::Unknown),
+    }
+}
+
+#[tactic(auto, unfolding(crate::specs::Calls::calls))]
+/// A command of an application, by its words, its name first: it answers, runs a script whose end is its own, or begins a job, whose end is its own.
+pub fn call(
+    tables: &mut Tables,
+    slot: usize,
+    scopes: &mut Scopes,
+    words: &[Text],
+) -> Result<Act<Task<Job>>, AllocError>
+    ensures own { IfOk result (λ act. record { shows = panel_of slot tables.new; store = scopes.new; act = act } ≡ calls (panel_of slot tables.old) scopes.old words.now) }
+    ensures others { LeavesOthers slot tables.old tables.new }
+{
+    let outcome = panel_command(tables, slot, scopes, words)?;
+    act_for(tables, slot, scopes, outcome)
+}

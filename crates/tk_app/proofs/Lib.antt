@@ -1,15 +1,11 @@
--- What the proofs share. `Dues` and `Falls` also serve who lets applications pass from moment to moment.
-pub mod Acts
-pub mod Dues
+-- What the proofs share. `Parts`, `Settled` and `Slices` also serve who lets applications pass from moment to moment.
 mod Adding
-mod Escapes
-pub mod Falls
+mod Events
+mod Homes
 mod Lines
-mod Listed
-pub mod Others
 pub mod Parts
-pub mod Slots
+pub mod Settled
+mod Shows
 pub mod Slices
-mod Started
+pub mod Slots
 pub mod Views
-mod Words

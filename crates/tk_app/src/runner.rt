@@ -1,27 +1,21 @@
-ghost use Rattle.std.specs.Prelude.{◌≡◌, ◌≢◌, ◌<◌, ◌≤◌, ◌+◌, ◌-◌, ◌++◌, IfOk, OnErr, Ok, length};
-ghost use Rattle.std.specs.Vec.{vec_capacity, vec_len};
-ghost use Rattle.tcl_interp.specs.Finish.{Broken, Idle, finish};
-ghost use Rattle.tcl_interp.specs.Interp.{LeavesRest, Reaches, left_of, rest_of, state_of};
-ghost use Rattle.tk_app.specs.Outside.{outside};
-ghost use Rattle.tk_app.specs.Part.{settling_begun};
-ghost use Rattle.tk_app.specs.Shown.{setting_of};
-ghost use Rattle.tk_app.specs.Tables.{others_of, panel_of};
-ghost use Rattle.tk_app.specs.Turns.{TakesTurn, end_of, part_of};
-ghost use Rattle.tk_turns.specs.Rounds.{entry};
+ghost use Rattle.std.specs.Prelude.{◌≡◌};
+ghost use Rattle.tk_panel.specs.Panel.{panel_of};
+ghost use Rattle.tk_app.specs.Part.{state_after};
+ghost use Rattle.tk_app.specs.Settle.{settling};
+ghost use Rattle.tk_app.specs.Turns.{end_as};
 
+use crate::aliases::command_names;
 use crate::budget::Budget;
-use crate::message::short_text;
-use crate::round::Round;
-use crate::settling::Settling;
 use crate::state::{AppEnd, AppState};
-use crate::tables::Tables;
-use crate::tasks::TablesView;
+use crate::turn::run;
 use std::alloc::{AllocError, Global};
 use std::marker::Model;
 use tcl_interp::{Interp, SliceEnd};
+use tcl_jobs::Task;
 use tcl_text::Text;
 use tcl_vars::Scopes;
-use tk_turns::Turn;
+use tk_alias::{AliasMeaning, Aliases};
+use tk_panel::{Home, Job, Numbers, Rest, Tables, is_closed};
 
 /// Whether something is under way.
 #[derive(Clone, Copy, Debug, PartialEq, Eq)]
@@ -34,28 +28,29 @@ pub enum Progress {
     Lost,
 }
 
-/// What of an application isn't in the tables: its names, its variables, and its interpreter with what it still has to do.
+/// What of an application isn't in the tables: its name, its aliases, its variables, and its interpreter with what it still has to do.
 #[derive(Drop)]
-pub struct Runner {
+pub struct Runner<M: AliasMeaning> {
     name: Text,
-    title: Text,
+    aliases: Aliases<M>,
     budget: Budget,
     scopes: Scopes,
-    interp: Interp<Settling>,
+    interp: Interp<Task<Job>>,
     state: AppState,
     progress: Progress,
 }
 
-impl Model for Runner {
-    ghost use Rattle.tcl_interp.specs.Interp.{context_of, left_of, rest_of};
+impl<M: AliasMeaning> Model for Runner<M> {
+    ghost use Rattle.std.specs.Prelude.{◌≡◌};
+    ghost use Rattle.tcl_interp.specs.Interp.{budget_of, context_of, left_of, rest_of};
     ghost use Rattle.tk_app.specs.Part.{work_of};
-    ghost use Rattle.tk_app.specs.Turns.{Program, ProgressIs, work_by};
+    ghost use Rattle.tk_app.specs.Turns.{IsAsFar, Program, work_by};
 
-    ghost Value = { Program };
+    ghost Value = { Program M };
 
     ghost view = { λ r. record {
       name = r.name;
-      title = r.title;
+      aliases = r.aliases;
       budget = r.budget;
       store = r.scopes;
       commands = (context_of r.interp).commands;
@@ -64,18 +59,49 @@ impl Model for Runner {
       work = work_by r.state (work_of (rest_of r.interp) (context_of r.interp).levels);
     } };
 
-    ghost invariant = { λ r. ProgressIs r.progress (rest_of r.interp) };
+    ghost invariant = { λ r. IsAsFar r.progress r.state (rest_of r.interp) × (budget_of r.interp ≡ r.budget.total) };
 }
 
-impl Runner {
-    ghost use Rattle.std.specs.Prelude.{◌≡◌, ◌≢◌, ◌<◌, ◌≤◌, ◌↔◌, ℕ, [], IfOk, IsTrue, OnErr, OnOk, length};
-    ghost use Rattle.tk_after.specs.Timers.{fresh as nothing_waits};
+/// What is to be done at a moment, where nothing is under way.
+fn settling(alloc: Global) -> Job
+    ensures { result ≡ settling }
+{
+    Job {
+        event: None,
+        rest: Rest::Rounds {
+            round: Numbers::none(alloc),
+            home: Home::Settle,
+        },
+    }
+}
+
+/// What has become of an application that ran, once nothing is under way: it is closed where its main window is gone.
+fn state_after(tables: &Tables, slot: usize) -> AppState
+    ensures { result ≡ state_after (panel_of slot tables.now) }
+{
+    if is_closed(tables, slot) {
+        AppState::Closed
+    } else {
+        AppState::Running
+    }
+}
+
+/// How a turn ends once nothing is under way.
+fn end_as(state: AppState) -> AppEnd
+    ensures { result ≡ end_as state }
+{
+    match state {
+        AppState::Running => AppEnd::Settled,
+        AppState::Exhausted | AppState::Closed => AppEnd::Stopped,
+    }
+}
+
+impl<M: AliasMeaning> Runner<M> {
+    ghost use Rattle.std.specs.Prelude.{◌≡◌, ◌≢◌, ◌<◌, ◌≤◌, ◌↔◌, ◌⊎◌, IfOk, IsTrue, OnErr, OnOk};
+    ghost use Rattle.tk_panel.specs.Panel.{others_of, panel_of};
     ghost use Rattle.tk_app.specs.declared.state.AppState.TheVariants.{Running};
-    ghost use Rattle.tk_app.specs.declared.window.Size.{Size as SizeOf};
-    ghost use Rattle.tk_app.specs.Part.{Rests, added, is_under_way, settling_as};
-    ghost use Rattle.tk_app.specs.Shown.{unlaid};
-    ghost use Rattle.tk_app.specs.Tables.{others_of, panel_of};
-    ghost use Rattle.tk_app.specs.Turns.{TakesTurn, part_of};
+    ghost use Rattle.tk_app.specs.Part.{Rests, granted, is_under_way, settling_as};
+    ghost use Rattle.tk_app.specs.Turns.{TakesTurn, beginning, part_of};
 
     /// An application before its script, with the script as what it has to do.
     pub fn new(
@@ -83,22 +109,19 @@ impl Runner {
         name: Text,
         script: Text,
         budget: Budget,
-    ) -> Result<Runner, AllocError>
-        ensures { IfOk result (λ runner. (moment : ℕ) (size : SizeOf)
-            → part_of (record { moment = moment; size = size; transcript = []; window = unlaid; own = nothing_waits }) runner
-            ≡ added (record { name = name; width = size.width; height = size.height; script = script; budget = budget })) }
+        aliases: Aliases<M>,
+    ) -> Result<Runner<M>, AllocError>
+        ensures { IfOk result (λ runner. runner ≡ beginning name script budget aliases) }
     {
-        let title = name.copy()?;
-        let commands = [
-            short_text(alloc, "puts")?,
-            short_text(alloc, "after")?,
-            short_text(alloc, "clock")?,
-        ];
-        let mut interp = Interp::new(alloc, budget.total, &commands)?;
-        interp.begin_task(Settling::Script(script))?;
+        let commands = command_names(alloc, &aliases)?;
+        let mut interp = Interp::new(alloc, budget.total, commands.as_slice())?;
+        interp.begin_task(Task::Begins {
+            script,
+            job: settling(alloc),
+        })?;
         Ok(Runner {
             name,
-            title,
+            aliases,
             budget,
             scopes: Scopes::new(alloc)?,
             interp,
@@ -121,9 +144,17 @@ impl Runner {
         self.name.as_str() == name.as_str()
     }
 
-    /// What has become of it.
+    /// Its variables.
+    pub fn scopes(&self) -> &Scopes
+        ensures { result.now ≡ self.now.store }
+    {
+        &self.scopes
+    }
+
+    /// What has become of it. Nothing is under way in one that doesn't run.
     pub fn state(&self) -> AppState
-        ensures { result ≡ self.now.state }
+        ensures state { result ≡ self.now.state }
+        ensures stops { result ≢ Running → self.now.work ≡ Rests }
     {
         self.state
     }
@@ -135,7 +166,7 @@ impl Runner {
         self.interp.steps_left()
     }
 
-    /// Whether it has something to do.
+    /// Whether it has something to do that has begun.
     pub fn is_under_way(&self) -> bool
         ensures { result ≡ is_under_way self.now.work }
     {
@@ -145,22 +176,35 @@ impl Runner {
         }
     }
 
-    /// Begins to settle at a moment, where nothing is under way and it runs.
-    pub fn begin(&mut self, alloc: Global, moment: u64) -> Result<(), AllocError>
-        ensures ok { OnOk result (self.new ≡ record self.old { work = settling_as self.old.state moment self.old.work }) }
+    /// Begins to settle, where nothing is under way and it runs.
+    pub fn begin(&mut self, alloc: Global) -> Result<(), AllocError>
+        ensures ok { OnOk result (self.new ≡ record self.old { work = settling_as self.old.state self.old.work }) }
         ensures err { OnErr result (self.new ≡ self.old) }
     {
         match (self.state, self.progress) {
             (AppState::Running, Progress::Resting) => {
-                self.interp.begin_task(Settling::Rest {
-                    moment,
-                    round: Round::none(alloc),
-                })?;
+                self.interp.begin_task(Task::Runs(settling(alloc)))?;
                 self.progress = Progress::Going;
                 Ok(())
             }
             (AppState::Running, Progress::Lost) => Err(AllocError),
             _ => Ok(()),
+        }
+    }
+
+    /// Grants the steps of an event, where it runs: what it has of them, it has at most as many as at first. Nothing is under way, or it has all.
+    pub fn grant(&mut self) -> Result<(), AllocError>
+        requires rests { (self.old.work ≡ Rests) ⊎ (self.old.steps ≡ self.old.budget.total) }
+        requires running { self.old.state ≡ Running }
+        ensures ok { OnOk result (self.new ≡ record self.old { steps = granted self.old.budget self.old.steps }) }
+    {
+        match self.progress {
+            Progress::Resting => {
+                self.interp.grant(self.budget.refill);
+                Ok(())
+            }
+            Progress::Going => Ok(()),
+            Progress::Lost => Err(AllocError),
         }
     }
 
@@ -174,131 +218,35 @@ impl Runner {
         requires positive { 0 < steps }
         requires running { self.old.state ≡ Running }
         requires going { self.old.work ≢ Rests }
-        ensures turn { IfOk result (λ end. TakesTurn tables.old.clock steps end (part_of (panel_of slot tables.old) self.old) (part_of (panel_of slot tables.new) self.new)) }
+        ensures turn { IfOk result (λ end. TakesTurn M.answer tables.old.clock steps end (part_of (panel_of slot tables.old) self.old) (part_of (panel_of slot tables.new) self.new)) }
         ensures fewer { self.new.steps ≤ self.old.steps }
         ensures clock { tables.new.clock ≡ tables.old.clock }
-        ensures count { length tables.new.windows ≡ length tables.old.windows }
         ensures others { others_of slot tables.new ≡ others_of slot tables.old }
     {
         self.progress = Progress::Lost;
-        let end = run(tables, slot, &mut self.interp, &mut self.scopes, steps)?;
-        let ended = end_of(end);
-        match ended {
-            AppEnd::Settled => {
+        let end = run(
+            tables,
+            slot,
+            &self.aliases,
+            &mut self.interp,
+            &mut self.scopes,
+            steps,
+        )?;
+        match end {
+            SliceEnd::Done(_code, _text) => {
                 self.progress = Progress::Resting;
-                Ok(AppEnd::Settled)
+                self.state = state_after(tables, slot);
+                Ok(end_as(self.state))
             }
-            AppEnd::More => {
+            SliceEnd::More => {
                 self.progress = Progress::Going;
                 Ok(AppEnd::More)
             }
-            AppEnd::Stopped => {
+            SliceEnd::Exhausted => {
                 self.progress = Progress::Resting;
                 self.state = AppState::Exhausted;
                 Ok(AppEnd::Stopped)
             }
         }
     }
-}
-
-/// How a turn ends, by how the interpreter's slice does.
-fn end_of(end: SliceEnd) -> AppEnd
-    ensures { result ≡ end_of end }
-{
-    match end {
-        SliceEnd::Done(_code, _text) => AppEnd::Settled,
-        SliceEnd::More => AppEnd::More,
-        SliceEnd::Exhausted => AppEnd::Stopped,
-    }
-}
-
-/// Does what an interpreter still has to do, through the view of its application.
-fn run_view(
-    view: &mut TablesView<'_>,
-    interp: &mut Interp<Settling>,
-    scopes: &mut Scopes,
-    steps: u64,
-) -> Result<SliceEnd, AllocError>
-    requires positive { 0 < steps }
-    requires begun { rest_of interp.old ≢ Idle }
-    ensures reached { IfOk result (λ end. Reaches end (finish outside (rest_of interp.old) (state_of interp.old (panel_of view.old.slot view.old.tables.now) scopes.old)) (state_of interp.new (panel_of view.old.slot view.new.tables.now) scopes.new) (finish outside (rest_of interp.new) (state_of interp.new (panel_of view.old.slot view.new.tables.now) scopes.new))) }
-    ensures rest { IfOk result (λ end. LeavesRest end (rest_of interp.new)) }
-    ensures more { result ≡ Ok SliceEnd.More → left_of interp.new + steps ≡ left_of interp.old }
-    ensures exhausted { result ≡ Ok SliceEnd.Exhausted → left_of interp.new ≡ 0 }
-    ensures most { left_of interp.old ≤ left_of interp.new + steps }
-    ensures taken { left_of interp.new ≤ left_of interp.old }
-    ensures refused { OnErr result (rest_of interp.new ≡ Broken) }
-    ensures slot { view.new.slot ≡ view.old.slot }
-    ensures same_reference { view.new.tables.ghost_name ≡ view.old.tables.ghost_name }
-    ensures setting { setting_of (panel_of view.old.slot view.new.tables.now) ≡ setting_of (panel_of view.old.slot view.old.tables.now) }
-    ensures count { length view.new.tables.now.windows ≡ length view.old.tables.now.windows }
-    ensures others { others_of view.old.slot view.new.tables.now ≡ others_of view.old.slot view.old.tables.now }
-{
-    let end = interp.run_slice(view, scopes, steps)?;
-    Ok(end)
-}
-
-/// Does what the interpreter of an application still has to do, over the tables.
-fn run(
-    tables: &mut Tables,
-    slot: usize,
-    interp: &mut Interp<Settling>,
-    scopes: &mut Scopes,
-    steps: u64,
-) -> Result<SliceEnd, AllocError>
-    requires positive { 0 < steps }
-    requires begun { rest_of interp.old ≢ Idle }
-    ensures reached { IfOk result (λ end. Reaches end (finish outside (rest_of interp.old) (state_of interp.old (panel_of slot tables.old) scopes.old)) (state_of interp.new (panel_of slot tables.new) scopes.new) (finish outside (rest_of interp.new) (state_of interp.new (panel_of slot tables.new) scopes.new))) }
-    ensures rest { IfOk result (λ end. LeavesRest end (rest_of interp.new)) }
-    ensures more { result ≡ Ok SliceEnd.More → left_of interp.new + steps ≡ left_of interp.old }
-    ensures exhausted { result ≡ Ok SliceEnd.Exhausted → left_of interp.new ≡ 0 }
-    ensures most { left_of interp.old ≤ left_of interp.new + steps }
-    ensures taken { left_of interp.new ≤ left_of interp.old }
-    ensures refused { OnErr result (rest_of interp.new ≡ Broken) }
-    ensures setting { setting_of (panel_of slot tables.new) ≡ setting_of (panel_of slot tables.old) }
-    ensures count { length tables.new.windows ≡ length tables.old.windows }
-    ensures others { others_of slot tables.new ≡ others_of slot tables.old }
-{
-    let mut view = tables.view(slot);
-    run_view(&mut view, interp, scopes, steps)
-}
-
-/// Adds a turn, for which there is room, if it took steps.
-fn push_turn(turns: &mut Vec<Turn>, slot: usize, steps: u64)
-    requires { vec_len turns.old + 1 ≤ vec_capacity turns.old }
-    ensures { turns.new.items ≡ turns.old.items ++ entry slot steps }
-{
-    if steps > 0 {
-        match turns.push(Turn { slot, steps }) {
-            Ok(()) => {}
-            Err(_) => unreachable!(),
-        }
-    }
-}
-
-/// An application's turn: it settles, by at most so many steps, which are told.
-pub fn take_turn(
-    tables: &mut Tables,
-    slot: usize,
-    runner: &mut Runner,
-    steps: u64,
-    turns: &mut Vec<Turn>,
-) -> Result<AppEnd, AllocError>
-    requires { 0 < steps }
-    ensures turn { IfOk result (λ end. TakesTurn tables.old.clock steps end (settling_begun tables.old.clock (part_of (panel_of slot tables.old) runner.old)) (part_of (panel_of slot tables.new) runner.new)) }
-    ensures told { turns.new.items ≡ turns.old.items ++ entry slot (runner.old.steps - runner.new.steps) }
-    ensures clock { tables.new.clock ≡ tables.old.clock }
-    ensures count { length tables.new.windows ≡ length tables.old.windows }
-    ensures others { others_of slot tables.new ≡ others_of slot tables.old }
-{
-    match runner.state {
-        AppState::Running => {}
-        _ => return Ok(AppEnd::Stopped),
-    }
-    turns.reserve(1)?;
-    runner.begin(tables.alloc, tables.clock.moment())?;
-    let before = runner.steps_left();
-    let end = runner.go_on(tables, slot, steps);
-    push_turn(turns, slot, before - runner.steps_left());
-    end
 }

@@ -1,8 +1,12 @@
+mod Apart
+mod Bounded
+mod Deliveries
 mod History
 mod Kept
 mod Order
 mod Parts
 mod Passing
+mod Routing
 mod Settling
 mod Slots
 mod Ways

@@ -1,11 +1,17 @@
 -- What the value is after a change of the tables.
-use Rattle.std.proofs.Common.{◌≡◌, ◌≢◌, ℕ, Bool, true, false, cond, List, Option, Some, None, not, refl, sym, ap, subst, ◌∙◌, eq-eqb, eqb-true, eqb-false}
-use Rattle.std.specs.Prelude.{◌==◌, nat_eq, insert}
+use Rattle.std.proofs.Common.{◌≡◌, ◌≢◌, ℕ, Bool, true, false, cond, List, Option, Some, None, Result, Ok, Err, not, refl, sym, ap, subst, ◌∙◌, eq-eqb, eqb-true}
+use Rattle.std.specs.Prelude.{◌==◌, nat_eq, insert, OnErr}
+use Rattle.std.proofs.lemmas.Bool.{eqb-false}
 use Rattle.tk_packer.specs.declared.packed.Packed.{Packed}
 use Rattle.tk_packer.specs.Packs.{slaves_of, without, packed_at, master_of, replaced}
 use Rattle.tk_packer.specs.Tables.{Lists, slaves_at, gathered, taken_out, put_in, AreTied}
 use Rattle.tk_packer.proofs.Orders.{filter_swap, insert_kept, IsOrdered, same_from_having, ordered_filter, ordered_replaced, having_replaced, having_replaced_other}
 use Rattle.tk_packer.proofs.Ties.{slaves_twice, slaves_apart, slaves_of_gathered, ordered_gathered, slaves_are, taken_is, tied_without, tied_put}
+
+-- what holds whatever came out holds after an error
+pub after_error : {T E : Type 0} (result : Result T E) (P : Type 0) → P → OnErr result P
+after_error (Ok value) P p = tt
+after_error (Err error) P p = p
 
 -- ---- the slaves of each master once a window is packed
 

@@ -166,7 +166,7 @@ module _ {X : Type 0} (number : X → ℕ) where
 
   -- ---- who has a number, after such a change
 
-  parts_having : (m n : ℕ) (new xs : List X) → having m (replaced number n new xs) ≡ having m (lesser number n xs) ++ having m new ++ having m (greater number n xs)
+  parts_having : (m n : ℕ) (new xs : List X) → having m (replaced number n new xs) ≡ having m (lesser number n xs) ++ (having m new ++ having m (greater number n xs))
   parts_having m n new xs =
       filter-append (λ x. number x == m) (lesser number n xs) (new ++ greater number n xs)
       ∙ ap (λ ys. having m (lesser number n xs) ++ ys) (filter-append (λ x. number x == m) new (greater number n xs))
@@ -179,7 +179,7 @@ module _ {X : Type 0} (number : X → ℕ) where
       let back : having n (greater number n xs) ≡ [] = none_kept (λ x. number x == n) (λ x. nat_lt n (number x)) xs
           (λ x is. let lt = ltb-true n (number x) is in ne_eqb (number x) n (λ same. omega (arith, lt, same))) in
       parts_having n n new xs
-      ∙ ap (λ ys. ys ++ having n new ++ having n (greater number n xs)) front
+      ∙ ap (λ ys. ys ++ (having n new ++ having n (greater number n xs))) front
       ∙ ap (λ ys. having n new ++ ys) back
       ∙ append-nil (having n new)
 
@@ -187,7 +187,7 @@ module _ {X : Type 0} (number : X → ℕ) where
   pub having_replaced_other : (m n : ℕ) (new xs : List X) → m ≢ n → having m new ≡ [] → having m (replaced number n new xs) ≡ having m xs
   having_replaced_other m n new xs differ none =
       parts_having m n new xs
-      ∙ ap (λ ys. having m (lesser number n xs) ++ ys ++ having m (greater number n xs)) none
+      ∙ ap (λ ys. having m (lesser number n xs) ++ (ys ++ having m (greater number n xs))) none
       ∙ ⊎_elim (λ same. absurd (differ same)) (λ apart. ⊎_elim below above apart) (cases_order m n)
     where
       below : m < n → having m (lesser number n xs) ++ having m (greater number n xs) ≡ having m xs
@@ -210,21 +210,21 @@ module _ {X : Type 0} (number : X → ℕ) where
   none_below : (m n : ℕ) (xs : List X) → m < n → AllFrom n xs → having m xs ≡ []
   none_below m n [] lt from = refl
   none_below m n (x ∷ xs) lt from =
-      let no : (number x == m) ≡ false = ne_eqb (number x) m (λ same. omega (arith, lt, from.0, same)) in
-      rw no (none_below m n xs lt from.1)
+      let fails : (number x == m) ≡ false = ne_eqb (number x) m (λ same. omega (arith, lt, from.0, same)) in
+      rw fails (none_below m n xs lt from.1)
 
   having_first : (x : X) (xs : List X) → having (number x) (x ∷ xs) ≡ x ∷ having (number x) xs
   having_first x xs = rw (eq-eqb (number x) (number x) refl) refl
 
-  first_or : X → List X → X
+  abbrev first_or : X → List X → X
   first_or d [] = d
   first_or d (x ∷ xs) = x
 
-  rest_of : List X → List X
+  abbrev rest_of : List X → List X
   rest_of [] = []
   rest_of (x ∷ xs) = xs
 
-  IsNil : List X → Type 0
+  abbrev IsNil : List X → Type 0
   IsNil [] = Unit {0}
   IsNil (x ∷ xs) = ⊥
 
@@ -240,16 +240,16 @@ module _ {X : Type 0} (number : X → ℕ) where
   same_from_having [] (y ∷ ys) one other alike = absurd (nil_or_more y (having (number y) ys) (alike (number y) ∙ having_first y ys))
   same_from_having (x ∷ xs) [] one other alike = absurd (nil_or_more x (having (number x) xs) (sym (alike (number x)) ∙ having_first x xs))
   same_from_having (x ∷ xs) (y ∷ ys) one other alike =
-      ⊎_elim equal (λ apart. ⊎_elim less more apart) (cases_order (number x) (number y))
+      ⊎_elim (equal (same_from_having xs ys one.1 other.1)) (λ apart. ⊎_elim less more apart) (cases_order (number x) (number y))
     where
-      equal : number x ≡ number y → x ∷ xs ≡ y ∷ ys
-      equal same =
+      equal : (((n : ℕ) → having n xs ≡ having n ys) → xs ≡ ys) → number x ≡ number y → x ∷ xs ≡ y ∷ ys
+      equal tails same =
           let first : x ∷ having (number x) xs ≡ y ∷ having (number y) ys =
               sym (having_first x xs) ∙ alike (number x) ∙ ap (λ n. having n (y ∷ ys)) same ∙ having_first y ys in
           let head : x ≡ y = ap (first_or x) first in
           let rest : (n : ℕ) → having n xs ≡ having n ys =
               λ n. same_rest (number x == n) x (having n xs) (having n ys) (subst (λ z. having n (x ∷ xs) ≡ having n (z ∷ ys)) (sym head) (alike n)) in
-          ap (λ z. z ∷ xs) head ∙ ap (λ zs. y ∷ zs) (same_from_having xs ys one.1 other.1 rest)
+          ap (λ z. z ∷ xs) head ∙ ap (λ zs. y ∷ zs) (tails rest)
       less : number x < number y → x ∷ xs ≡ y ∷ ys
       less lt =
           let from : AllFrom (number y) (y ∷ ys) = (omega arith, other.0) in
@@ -283,7 +283,7 @@ having_rising n (m ∷ ns) = at (n == m) refl (having_rising n ns)
         let none : having itself n (m ∷ []) ≡ [] = rw (ne_eqb m n (λ same. differ (sym same))) refl in
         rw is (having_replaced_other itself n m (m ∷ []) (rising ns) differ none ∙ rest)
 
-has_any : List ℕ → Bool
+abbrev has_any : List ℕ → Bool
 has_any [] = false
 has_any (n ∷ ns) = true
 

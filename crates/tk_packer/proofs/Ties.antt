@@ -28,8 +28,6 @@ module _ {Z : Type 0} where
   slaves_of_gathered master [] = refl
   slaves_of_gathered master (entry ∷ lists) = at (nat_eq master entry.0) refl (slaves_of_gathered master lists)
     where
-      new : List Packed
-      new = slaves_of entry.0 entry.1.items
       at : (b : Bool) → nat_eq master entry.0 ≡ b → slaves_of master (gathered lists) ≡ slaves_of master (slaves_at master lists) →
           slaves_of master (replaced master_of entry.0 (slaves_of entry.0 entry.1.items) (gathered lists)) ≡ slaves_of master (slaves_at master (entry ∷ lists))
       at true is rest =
@@ -54,23 +52,24 @@ find_within test [] found is = absurd (none-some found is)
 find_within test (packed ∷ packs) found is = at (test packed) refl is (find_within test packs found)
   where
     past : (b : Bool) → test packed ≡ false → find test (slaves_of found.master packs) ≡ Some found → find test (cond b (packed ∷ slaves_of found.master packs) (slaves_of found.master packs)) ≡ Some found
-    past true no rest = rw no rest
-    past false no rest = rest
+    past true fails rest = rw fails rest
+    past false fails rest = rest
     at : (b : Bool) → test packed ≡ b → cond (test packed) (Some packed) (find test packs) ≡ Some found → (find test packs ≡ Some found → find test (slaves_of found.master packs) ≡ Some found) →
         find test (cond (packed.master == found.master) (packed ∷ slaves_of found.master packs) (slaves_of found.master packs)) ≡ Some found
-    at true yes is rest =
-        let here : packed ≡ found = (cond_some true packed found (rw yes at is)).1 in
-        rw (eq-eqb packed.master found.master (ap (λ (p : Packed). p.master) here), yes) (ap (λ (p : Packed). Some p) here)
-    at false no is rest = past (packed.master == found.master) no (rest (rw no at is))
+    at true passes is rest =
+        let here : packed ≡ found = (cond_some true packed found (rw passes at is)).1 in
+        rw (eq-eqb packed.master found.master (ap (λ (p : Packed). p.master) here), passes) (ap (λ (p : Packed). Some p) here)
+    at false fails is rest = past (packed.master == found.master) fails (rest (rw fails at is))
 
 find_nowhere : (test p : Packed → Bool) (packs : List Packed) → find test packs ≡ None → find test (filter p packs) ≡ None
 find_nowhere test p [] none = refl
-find_nowhere test p (packed ∷ packs) none = at (test packed) (p packed) refl refl none
+find_nowhere test p (packed ∷ packs) none = at (test packed) (p packed) refl refl none (find_nowhere test p packs)
   where
-    at : (b d : Bool) → test packed ≡ b → p packed ≡ d → cond (test packed) (Some packed) (find test packs) ≡ None → find test (cond (p packed) (packed ∷ filter p packs) (filter p packs)) ≡ None
-    at true d yes kept none = absurd (none-some packed (sym (rw yes at none)))
-    at false true no kept none = rw (kept, no) (find_nowhere test p packs (rw no at none))
-    at false false no kept none = rw kept (find_nowhere test p packs (rw no at none))
+    at : (b d : Bool) → test packed ≡ b → p packed ≡ d → cond (test packed) (Some packed) (find test packs) ≡ None → (find test packs ≡ None → find test (filter p packs) ≡ None) →
+        find test (cond (p packed) (packed ∷ filter p packs) (filter p packs)) ≡ None
+    at true d passes kept none rest = absurd (none-some packed (sym (rw passes at none)))
+    at false true fails kept none rest = rw (kept, fails) (rest (rw fails at none))
+    at false false fails kept none rest = rw kept (rest (rw fails at none))
 
 if_in_some : (master : ℕ) (window : Option Packed) (packed : Packed) → if_in master window ≡ Some packed → window ≡ Some packed
 if_in_some master None packed is = absurd (none-some packed is)
@@ -84,8 +83,6 @@ pub found_is : (windows : ℕ → Option Packed) (slaves : ℕ → List Packed) 
     (number : ℕ) → find (is_number number) packs ≡ windows number
 found_is windows slaves packs tied are number = by (find (is_number number) packs) refl
   where
-    test : Packed → Bool
-    test = is_number number
     none : find (is_number number) packs ≡ None → (window : Option Packed) → windows number ≡ window → None ≡ windows number
     none nowhere None is = sym is
     none nowhere (Some packed) is =
@@ -103,17 +100,17 @@ found_is windows slaves packs tied are number = by (find (is_number number) pack
 
 without_absent : (number : ℕ) (packs : List Packed) → find (is_number number) packs ≡ None → without number packs ≡ packs
 without_absent number [] none = refl
-without_absent number (packed ∷ packs) none = at (packed.number == number) refl none
+without_absent number (packed ∷ packs) none = at (packed.number == number) refl none (without_absent number packs)
   where
-    at : (b : Bool) → (packed.number == number) ≡ b → cond (packed.number == number) (Some packed) (find (is_number number) packs) ≡ None →
+    at : (b : Bool) → (packed.number == number) ≡ b → cond (packed.number == number) (Some packed) (find (is_number number) packs) ≡ None → (find (is_number number) packs ≡ None → without number packs ≡ packs) →
         cond (not (packed.number == number)) (packed ∷ without number packs) (without number packs) ≡ packed ∷ packs
-    at true is none = absurd (none-some packed (sym (rw is at none)))
-    at false is none = rw is (ap (λ (ps : List Packed). packed ∷ ps) (without_absent number packs (rw is at none)))
+    at true is none rest = absurd (none-some packed (sym (rw is at none)))
+    at false is none rest = rw is (ap (λ (ps : List Packed). packed ∷ ps) (rest (rw is at none)))
 
 pub find_without : (number other : ℕ) (packs : List Packed) → find (is_number other) (without number packs) ≡ cond (nat_eq number other) None (find (is_number other) packs)
 find_without number other [] = none (nat_eq number other)
   where
-    none : (b : Bool) → None ≡ cond b None None
+    none : (b : Bool) → ◌≡◌ {A = Option Packed} None (cond b None None)
     none true = refl
     none false = refl
 find_without number other (packed ∷ packs) = at (packed.number == number) (packed.number == other) (nat_eq number other) refl refl refl (find_without number other packs)
@@ -166,16 +163,17 @@ tied_without windows after slaves rest number tied known lists = record {
 find_inserted : (test : Packed → Bool) (packs : List Packed) (i : ℕ) (new : Packed) → test new ≡ true → find test packs ≡ None → find test (insert packs i new) ≡ Some new
 find_inserted test packs zero new is none = rw is refl
 find_inserted test [] (suc i) new is none = rw is refl
-find_inserted test (packed ∷ packs) (suc i) new is none = at (test packed) refl none
+find_inserted test (packed ∷ packs) (suc i) new is none = at (test packed) refl none (find_inserted test packs i new is)
   where
-    at : (b : Bool) → test packed ≡ b → cond (test packed) (Some packed) (find test packs) ≡ None → cond (test packed) (Some packed) (find test (insert packs i new)) ≡ Some new
-    at true yes none = absurd (none-some packed (sym (rw yes at none)))
-    at false no none = rw no (find_inserted test packs i new is (rw no at none))
+    at : (b : Bool) → test packed ≡ b → cond (test packed) (Some packed) (find test packs) ≡ None → (find test packs ≡ None → find test (insert packs i new) ≡ Some new) →
+        cond (test packed) (Some packed) (find test (insert packs i new)) ≡ Some new
+    at true passes none rest = absurd (none-some packed (sym (rw passes at none)))
+    at false fails none rest = rw fails (rest (rw fails at none))
 
 find_past_inserted : (test : Packed → Bool) (packs : List Packed) (i : ℕ) (new : Packed) → test new ≡ false → find test (insert packs i new) ≡ find test packs
-find_past_inserted test packs zero new no = rw no refl
-find_past_inserted test [] (suc i) new no = rw no refl
-find_past_inserted test (packed ∷ packs) (suc i) new no = ap (cond (test packed) (Some packed)) (find_past_inserted test packs i new no)
+find_past_inserted test packs zero new fails = rw fails refl
+find_past_inserted test [] (suc i) new fails = rw fails refl
+find_past_inserted test (packed ∷ packs) (suc i) new fails = ap (cond (test packed) (Some packed)) (find_past_inserted test packs i new fails)
 
 pub tied_put : (windows after : ℕ → Option Packed) (slaves more : ℕ → List Packed) (place : ℕ) (new : Packed) → AreTied windows slaves → windows new.number ≡ None →
     ((other : ℕ) → after other ≡ cond (nat_eq new.number other) (Some new) (windows other)) → ((master : ℕ) → more master ≡ put_in place new master (slaves master)) → AreTied after more

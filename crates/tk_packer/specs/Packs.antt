@@ -19,7 +19,7 @@ greater number_of n xs = filter (λ x. nat_lt n (number_of x)) xs
 
 -- others in the place of those that have a number
 abbrev pub replaced : {X : Type 0} → (X → ℕ) → ℕ → List X → List X → List X
-replaced number_of n new xs = lesser number_of n xs ++ new ++ greater number_of n xs
+replaced number_of n new xs = lesser number_of n xs ++ (new ++ greater number_of n xs)
 
 -- ---- one application
 

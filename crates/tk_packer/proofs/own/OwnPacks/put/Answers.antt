@@ -4,13 +4,13 @@ use Rattle.std.specs.Map.{lookup}
 use Rattle.tk_packer.specs.declared.packed.Packed.{Packed}
 use Rattle.tk_packer.specs.Packs.{Own, packed_at, with_packed}
 use Rattle.tk_packer.specs.Tables.{slaves_at, taken_out, put_in, gathered, rising}
-use Rattle.tk_packer.proofs.Changes.{gathered_same, Steps, put_steps}
+use Rattle.tk_packer.proofs.Changes.{after_error, gathered_same, Steps, put_steps}
 use Rattle.tk_packer.proofs.own.OwnPacks.put.Goals as goal
 
 pub returns-in_err-open-clause-err : goal.returns-in_err-open-clause-err
 returns-in_err-open-clause-err c =
     let own : List Packed → Own = λ packs. record { packs = packs; rigid = rising c.self.inside.rigid.keys } in
-    ap own (gathered_same c.self.inside.masters.entries c.open.new.masters.entries c.open.ensures.same) ∙ c.self.view_is
+    after_error c.from_residual.result _ (ap own (gathered_same c.self.inside.masters.entries c.open.new.masters.entries c.open.ensures.same) ∙ c.self.view_is)
 
 pub returns-in-Err-clause-err : goal.returns-in-Err-clause-err
 returns-in-Err-clause-err c =

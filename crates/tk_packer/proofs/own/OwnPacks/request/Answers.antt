@@ -15,7 +15,7 @@ returns-in_err-packed c =
     let found : find (λ packed. packed.number == c.args.number) (gathered lists) ≡ lookup (nat_eq c.args.number) entries =
         found_is (λ number. lookup (nat_eq number) entries) (λ master. slaves_at master lists) (gathered lists) c.self.invariant
         (slaves_are (λ number. lookup (nat_eq number) entries) lists c.self.invariant) c.args.number in
-    let none : lookup (nat_eq c.args.number) entries ≡ None = sym c.get-packed.ensures.value ∙ ap option_copied c.in_err-packed.was in
+    let none : lookup (nat_eq c.args.number) entries ≡ None = sym c.get.ensures.value ∙ ap option_copied c.in_err-packed.was in
     rw c.from_residual.ensures (sym (ap (option_map (λ (p : Packed). p.request)) (found ∙ none)) ∙ ap (λ (own : Own). request_in c.args.number own.packs) c.self.view_is)
 
 pub returns : goal.returns
@@ -25,5 +25,5 @@ returns c =
     let found : find (λ packed. packed.number == c.args.number) (gathered lists) ≡ lookup (nat_eq c.args.number) entries =
         found_is (λ number. lookup (nat_eq number) entries) (λ master. slaves_at master lists) (gathered lists) c.self.invariant
         (slaves_are (λ number. lookup (nat_eq number) entries) lists c.self.invariant) c.args.number in
-    let same : lookup (nat_eq c.args.number) entries ≡ Some c.in_ok-packed.packed.now = sym c.get-packed.ensures.value ∙ ap option_copied c.in_ok-packed.was in
+    let same : lookup (nat_eq c.args.number) entries ≡ Some c.in_ok-packed.packed.now = sym c.get.ensures.value ∙ ap option_copied c.in_ok-packed.was in
     sym (ap (option_map (λ (p : Packed). p.request)) (found ∙ same)) ∙ ap (λ (own : Own). request_in c.args.number own.packs) c.self.view_is

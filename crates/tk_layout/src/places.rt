@@ -32,7 +32,16 @@ pub fn places_of(
     for shape in shapes {
         let place = given.get(&shape.number).copied();
         places.push(place)?;
-        give_slaves(alloc, packs, owner, sizes, arrangements, shape, place, &mut given)?;
+        give_slaves(
+            alloc,
+            packs,
+            owner,
+            sizes,
+            arrangements,
+            shape,
+            place,
+            &mut given,
+        )?;
     }
     Ok(places)
 }

@@ -1,5 +1,5 @@
 -- What a place more or less makes of stamps that rise.
-use Rattle.std.proofs.Common.{◌≡◌, ◌≢◌, ℕ, zero, suc, ◌+◌, ◌<◌, ◌≤◌, ◌==◌, Bool, true, false, not, filter, cond, List, [], ◌∷◌, ◌++◌, length, get_or, refl, sym, ap, ◌∙◌, arith}
+use Rattle.std.proofs.Common.{◌≡◌, ◌≢◌, ℕ, zero, suc, ◌+◌, ◌<◌, ◌≤◌, ◌==◌, Bool, true, false, not, filter, cond, List, [], ◌∷◌, ◌++◌, length, get_or, refl, sym, ap, ◌∙◌, subst, arith}
 use Rattle.std.specs.List.{remove}
 use Rattle.std.proofs.lemmas.Bool.Decides.{nat_tests}
 use Rattle.tk_buckets.specs.declared.filed.Filed.{Filed}
@@ -65,17 +65,19 @@ none_out stamp sought [] above = refl
 none_out stamp sought (filed ∷ list) above = kept_if (sought filed.number) stamp filed.stamp _ _ (apart_by stamp filed.stamp above.0) (none_out stamp sought list above.1)
 
 first_out_by : (t : Bool) (stamp : ℕ) (xs : List ℕ) → t ≡ true → without stamp xs ≡ xs → without stamp (cond t (stamp ∷ xs) xs) ≡ xs
-first_out_by true stamp xs is h = rw (grind (arith, nat_tests)) h
+first_out_by true stamp xs is h = let same : (stamp == stamp) ≡ true = grind (arith, nat_tests) in rw same h
 first_out_by false stamp xs is h = absurd (cc)
 
 -- those of the number that goes lose its stamp
 pub under_less : (list : List Filed) (place : ℕ) (filed : Filed) (sought : ℕ → Bool) → IsRising list → place < length list → filed ≡ get_or list place filed → sought filed.number ≡ true
     → without filed.stamp (stamps_of sought list) ≡ stamps_of sought (remove list place)
-under_less [] place filed sought rising below is t = absurd (omega arith)
-under_less (first ∷ list) zero filed sought rising below is t =
-    rw is at t (rw is (first_out_by (sought first.number) first.stamp (stamps_of sought list) t (none_out first.stamp sought list rising.0)))
-under_less (first ∷ list) (suc place) filed sought rising below is t =
-    kept_if (sought first.number) filed.stamp first.stamp _ _ (apart_before first.stamp filed.stamp (above_at first.stamp list place filed rising.0 (omega arith) is)) (under_less list place filed sought rising.1 (omega arith) is t)
+under_less [] place filed sought rising below is wanted = absurd (omega arith)
+under_less (first ∷ list) zero filed sought rising below is wanted =
+    let first_wanted : sought first.number ≡ true = ap (λ (f : Filed). sought f.number) (sym is) ∙ wanted in
+    ap (λ (f : Filed). without f.stamp (stamps_of sought (first ∷ list))) is
+    ∙ first_out_by (sought first.number) first.stamp (stamps_of sought list) first_wanted (none_out first.stamp sought list rising.0)
+under_less (first ∷ list) (suc place) filed sought rising below is wanted =
+    kept_if (sought first.number) filed.stamp first.stamp _ _ (apart_before first.stamp filed.stamp (above_at first.stamp list place filed rising.0 (omega arith) is)) (under_less list place filed sought rising.1 (omega arith) is wanted)
 
 same_if : (t : Bool) (stamp : ℕ) (xs ys : List ℕ) → xs ≡ ys → cond t (stamp ∷ xs) xs ≡ cond t (stamp ∷ ys) ys
 same_if true stamp xs ys h = ap (λ ys. stamp ∷ ys) h
@@ -88,6 +90,22 @@ skipped_by false stamp xs is = refl
 -- those of other numbers stay
 pub others_less : (list : List Filed) (place : ℕ) (filed : Filed) (sought : ℕ → Bool) → place < length list → filed ≡ get_or list place filed → sought filed.number ≡ false
     → stamps_of sought (remove list place) ≡ stamps_of sought list
-others_less [] place filed sought below is t = absurd (omega arith)
-others_less (first ∷ list) zero filed sought below is t = skipped_by (sought first.number) first.stamp (stamps_of sought list) (ap (λ (f : Filed). sought f.number) (sym is) ∙ t)
-others_less (first ∷ list) (suc place) filed sought below is t = same_if (sought first.number) first.stamp _ _ (others_less list place filed sought (omega arith) is t)
+others_less [] place filed sought below is apart = absurd (omega arith)
+others_less (first ∷ list) zero filed sought below is apart = skipped_by (sought first.number) first.stamp (stamps_of sought list) (ap (λ (f : Filed). sought f.number) (sym is) ∙ apart)
+others_less (first ∷ list) (suc place) filed sought below is apart = same_if (sought first.number) first.stamp _ _ (others_less list place filed sought (omega arith) is apart)
+
+-- what is left at every number
+module _ (list : List Filed) (place : ℕ) (filed : Filed) (old new : ℕ → List ℕ) (rising : IsRising list) (below : place < length list) (is : filed ≡ get_or list place filed)
+    (were : (n : ℕ) → old n ≡ stamps_under n list) (own : new filed.number ≡ without filed.stamp (old filed.number)) (others : (n : ℕ) → n ≢ filed.number → new n ≡ old n) where
+  itself : (filed.number == filed.number) ≡ true
+  itself = grind (arith, nat_tests)
+
+  at_own : new filed.number ≡ stamps_under filed.number (remove list place)
+  at_own = own ∙ ap (without filed.stamp) (were filed.number) ∙ under_less list place filed (λ k. k == filed.number) rising below is itself
+
+  less_by : (n : ℕ) (t : Bool) → (filed.number == n) ≡ t → new n ≡ stamps_under n (remove list place)
+  less_by n true h = let same : filed.number ≡ n = grind (arith, nat_tests, h) in subst (λ n. new n ≡ stamps_under n (remove list place)) same at_own
+  less_by n false h = others n (λ same. grind (arith, nat_tests, h, same)) ∙ were n ∙ sym (others_less list place filed (λ k. k == n) below is h)
+
+  pub buckets_less : (n : ℕ) → new n ≡ stamps_under n (remove list place)
+  buckets_less n = less_by n (filed.number == n) refl

@@ -2,7 +2,7 @@
 use Rattle.std.proofs.Common.{◌≡◌, ℕ, zero, suc, ◌+◌, ◌<◌, ◌≤◌, List, [], ◌∷◌, length, get_or, Option, Some, None, Result, Ok, Err, refl, sym, ap, ◌∙◌, arith}
 use Rattle.std.specs.List.Sorted.{IsSearchInRange, IsBinarySearchResult, IsNonDecreasingBy}
 use Rattle.std.specs.Ordering.{nat_cmp, ordering_index}
-use Rattle.std.specs.Result.{ok}
+use Rattle.std.specs.Result.{result_ok}
 use Rattle.std.proofs.lemmas.Cmp.{ranked}
 use Rattle.std.proofs.lemmas.List.Sorted.{IsNonDecreasingBy-from_default}
 use Rattle.std.proofs.lemmas.Bool.Decides.{nat_tests}
@@ -41,7 +41,7 @@ module _ (list : List Filed) (rising : IsRising list) (stamp : ℕ) where
   one_place : (i j : ℕ) → i < length list → j < length list → (get_or list i nothing).stamp ≡ stamp → (get_or list j nothing).stamp ≡ stamp → i ≡ j
   one_place i j i_below j_below i_is j_is = omega (arith, rises list rising i j, rises list rising j i, i_is, j_is)
 
-  pub found : (r : Result ℕ ℕ) → IsSearchInRange r (length list) → IsBinarySearchResult (λ filed. nat_cmp filed.stamp stamp) list r → (place : ℕ) → HasStampAt place stamp list → ok r ≡ Some place
+  pub found : (r : Result ℕ ℕ) → IsSearchInRange r (length list) → IsBinarySearchResult (λ filed. nat_cmp filed.stamp stamp) list r → (place : ℕ) → HasStampAt place stamp list → result_ok r ≡ Some place
   found (Ok at) in_range equal place there =
       let facts = stamp_there list place stamp there in
       ap Some (one_place at place in_range facts.0 (ranked _ stamp _ (sym (equal nothing))) facts.1)

@@ -39,19 +39,19 @@ impl Buckets {
         }
     }
 
-    /// Files a number at a place behind all others.
+    /// Files a number at a place behind all others. It is refused too once 2^64 - 1 numbers were filed.
     pub fn push(&mut self, number: u64) -> Result<(), AllocError>
         ensures ok { OnOk result (numbers_of self.new ≡ numbers_of self.old ++ number ∷ []) }
         ensures err { OnErr result (self.new ≡ self.old) }
     {
         let stamp = self.next;
-        let Some(next) = stamp.checked_add(1) else {
+        if stamp == u64::MAX {
             return Err(AllocError);
-        };
+        }
         self.list.push(Filed { stamp, number })?;
         match file(&mut self.stamps, number, stamp) {
             Ok(()) => {
-                self.next = next;
+                self.next = stamp + 1;
                 Ok(())
             }
             Err(refused) => {

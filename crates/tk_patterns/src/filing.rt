@@ -1,6 +1,6 @@
 //! Under which number a binding is filed, so that an event looks at few of them.
 ghost use Rattle.std.specs.Prelude.{◌≡◌, ◌<◌, ◌==◌, Some, None};
-ghost use Rattle.tk_buckets.specs.Filed.{stamps_of};
+ghost use Rattle.tk_buckets.specs.Filed.{stamps_of, IsRising};
 ghost use Rattle.tk_patterns.specs.Filing.{mixed, filing_number, detail_number, class_number, sequence_class, number_of, is_number, is_number_of_key, is_number_of_button, is_number_of_virtuals};
 
 use crate::binding::Binding;
@@ -55,7 +55,8 @@ pub(crate) fn stamps_of_button<'a>(
 
 /// The stamps of a tag's bindings that are for any key or button.
 pub(crate) fn stamps_of_any<'a>(filed: &'a Buckets, tag: &str, kind: EventType) -> &'a [u64]
-    ensures { result.now ≡ stamps_of (is_number tag.now kind None) filed.now }
+    ensures stamps { result.now ≡ stamps_of (is_number tag.now kind None) filed.now }
+    ensures rising { IsRising filed.now }
 {
     stamps_of_class(filed, tag, class_number(kind, None))
 }
@@ -69,7 +70,8 @@ pub(crate) fn stamps_of_virtuals<'a>(filed: &'a Buckets, tag: &str) -> &'a [u64]
 
 /// The stamps of a tag's bindings of a class, and of those that have its number by chance.
 fn stamps_of_class<'a>(filed: &'a Buckets, tag: &str, class: u64) -> &'a [u64]
-    ensures { result.now ≡ stamps_of (λ number. number == filing_number tag.now class) filed.now }
+    ensures stamps { result.now ≡ stamps_of (λ number. number == filing_number tag.now class) filed.now }
+    ensures rising { IsRising filed.now }
 {
     filed.stamps(filing_number(tag, class))
 }

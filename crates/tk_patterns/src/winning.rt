@@ -2,6 +2,7 @@
 ghost use Rattle.std.specs.Prelude.{◌≡◌, ℕ, Some, None, map, option_map, slice_get};
 ghost use Rattle.std.specs.Option.{option_copied};
 ghost use Rattle.tk_buckets.specs.Filed.{numbers_of, HasStampAt};
+ghost use Rattle.tk_buckets.specs.Rests.{first_of, earlier};
 ghost use Rattle.tk_patterns.specs.Filing.{number_of};
 ghost use Rattle.tk_patterns.specs.Own.{is_of, script_of};
 ghost use Rattle.tk_patterns.specs.Same.{same_sequence};
@@ -84,10 +85,7 @@ fn holder_of<'a>(
     let mut any = stamps_of_any(filed, tag, kind);
     let mut named = stamps_of_virtuals(filed, tag);
     let mut holder = None;
-    while let Some(stamp) = earlier(
-        earlier(first_of(by_key), first_of(by_button)),
-        earlier(first_of(any), first_of(named)),
-    ) {
+    while let Some(stamp) = first_of_all(by_key, by_button, any, named) {
         let Some(binding) = binding_at(bindings, filed, stamp) else {
             return holder;
         };
@@ -98,6 +96,16 @@ fn holder_of<'a>(
         holder = after_tagged(holder, binding, tag, event, history, virtuals);
     }
     holder
+}
+
+/// The stamp of four lists that comes first.
+fn first_of_all(by_key: &[u64], by_button: &[u64], any: &[u64], named: &[u64]) -> Option<u64>
+    ensures { result ≡ earlier (earlier (first_of by_key.now) (first_of by_button.now)) (earlier (first_of any.now) (first_of named.now)) }
+{
+    earlier(
+        earlier(first_of(by_key), first_of(by_button)),
+        earlier(first_of(any), first_of(named)),
+    )
 }
 
 /// The binding whose place has a stamp.

@@ -120,7 +120,7 @@ fn detail_number(detail: Option<Detail>) -> u64
 {
     match detail {
         Some(Detail::Key(key)) => match key.character() {
-            Some(character) => 512 + u64::from(character),
+            Some(character) => 512 + u64::from(character as u32),
             None => 1,
         },
         Some(Detail::Button(button)) => 256 + u64::from(button),

@@ -137,9 +137,7 @@ impl BindTable {
         ensures { option_copied result
             ≡ winner virtuals.now tag.now event.now history.now (own_of owner self.now) }
     {
-        match self.owners.get(&owner) {
-            Some(own) => own.winner(tag, event, history, virtuals),
-            None => None,
-        }
+        let own = self.owners.get(&owner)?;
+        own.winner(tag, event, history, virtuals)
     }
 }

@@ -22,6 +22,10 @@ module _ {X : Type 0} (test : X → Bool) where
   abbrev pub out_from : ℕ → List X → List X
   out_from place xs = take place xs ++ filter test (drop place xs)
 
+  pub all_in : (xs : List X) → xs ≡ out_from (length xs) xs
+  all_in [] = refl
+  all_in (x ∷ xs) = ap (λ ys. x ∷ ys) (all_in xs)
+
   passed_by : (t : Bool) (x : X) (xs : List X) → t ≡ true → x ∷ xs ≡ cond t (x ∷ xs) xs
   passed_by true x xs h = refl
   passed_by false x xs h = absurd (cc)

@@ -119,26 +119,14 @@ impl OwnBindings {
     pub(crate) fn unbind(&mut self, tag: &str, sequence: &Sequence)
         ensures { self.new ≡ without_binding tag.now sequence.now self.old }
     {
-        let mut place = self.bindings.len();
-        while place > 0 {
-            place -= 1;
-            if is_of(&self.bindings[place], tag, sequence) {
-                take_out(&mut self.bindings, &mut self.filed, place);
-            }
-        }
+        leave_out_binding(&mut self.bindings, &mut self.filed, tag, sequence);
     }
 
     /// Takes out all bindings of a tag.
     pub(crate) fn unbind_all(&mut self, tag: &str)
         ensures { self.new ≡ without_tag tag.now self.old }
     {
-        let mut place = self.bindings.len();
-        while place > 0 {
-            place -= 1;
-            if has_tag(&self.bindings[place], tag) {
-                take_out(&mut self.bindings, &mut self.filed, place);
-            }
-        }
+        leave_out_tag(&mut self.bindings, &mut self.filed, tag);
     }
 
     /// The script of a tag for a sequence.
@@ -198,6 +186,41 @@ fn set_script(bindings: &mut Vec<Binding>, place: usize, script: Text)
 {
     let binding = &mut bindings[place];
     binding.script = script;
+}
+
+/// Takes out the binding of a tag for a sequence, the last place first.
+fn leave_out_binding(
+    bindings: &mut Vec<Binding>,
+    filed: &mut Buckets,
+    tag: &str,
+    sequence: &Sequence,
+)
+    requires { numbers_of filed.old ≡ map number_of bindings.old.items }
+    ensures bindings { bindings.new.items ≡ without_binding tag.now sequence.now bindings.old.items }
+    ensures filed { numbers_of filed.new ≡ map number_of bindings.new.items }
+{
+    let mut place = bindings.len();
+    while place > 0 {
+        place -= 1;
+        if is_of(&bindings[place], tag, sequence) {
+            take_out(bindings, filed, place);
+        }
+    }
+}
+
+/// Takes out all bindings of a tag, the last place first.
+fn leave_out_tag(bindings: &mut Vec<Binding>, filed: &mut Buckets, tag: &str)
+    requires { numbers_of filed.old ≡ map number_of bindings.old.items }
+    ensures bindings { bindings.new.items ≡ without_tag tag.now bindings.old.items }
+    ensures filed { numbers_of filed.new ≡ map number_of bindings.new.items }
+{
+    let mut place = bindings.len();
+    while place > 0 {
+        place -= 1;
+        if has_tag(&bindings[place], tag) {
+            take_out(bindings, filed, place);
+        }
+    }
 }
 
 /// Takes out the binding at a place.

@@ -17,13 +17,21 @@ loop-stamp-init c = record {
 }
 
 pub loop-stamp-preserved : goal.loop-stamp-preserved
-loop-stamp-preserved c = ?
+loop-stamp-preserved c =
+    let it = next c.args.event.now c.args.history.now c.args.virtuals.now c.args.tag.now c.args.kind c.args.bindings.now c.args.filed.now c.requires.kind c.stamps_of_any-any.ensures.rising c.requires.filed _ _ _ _ _ c.in-Some.stamp c.loop-stamp.invariant (sym c.in-Some.ensures) in
+    let is : Some c.in-Some-binding_at.binding.now ≡ Some it.binding = c.in-Some-binding_at.ensures it.place it.there ∙ it.is in
+    let same : c.in-Some-binding_at.binding.now ≡ it.binding = cc in
+    rw (c.past-by_key.ensures, c.past-by_button.ensures, c.past-any.ensures, c.past-named.ensures, c.after_tagged-holder.ensures, same) it.after
 
 pub loop-stamp-smaller : goal.loop-stamp-smaller
-loop-stamp-smaller c = ?
+loop-stamp-smaller c =
+    rw (c.past-by_key.ensures, c.past-by_button.ensures, c.past-any.ensures, c.past-named.ensures) (fewer c.in-Some.stamp _ _ _ _ (sym c.in-Some.ensures))
 
 pub returns-in_default-binding_at : goal.returns-in_default-binding_at
-returns-in_default-binding_at c = ?
+returns-in_default-binding_at c =
+    let it = next c.args.event.now c.args.history.now c.args.virtuals.now c.args.tag.now c.args.kind c.args.bindings.now c.args.filed.now c.requires.kind c.stamps_of_any-any.ensures.rising c.requires.filed _ _ _ _ _ c.in-Some.stamp c.loop-stamp.invariant (sym c.in-Some.ensures) in
+    absurd (let is : None ≡ Some it.binding = c.in_default-binding_at.ensures it.place it.there ∙ it.is in cc)
 
+-- nothing is left: all_done, with the clause of first_of_all
 pub returns : goal.returns
 returns c = ?

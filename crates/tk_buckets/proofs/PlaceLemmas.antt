@@ -1,8 +1,9 @@
 -- What a search finds among stamps that rise.
-use Rattle.std.proofs.Common.{◌≡◌, ℕ, zero, suc, ◌+◌, ◌<◌, ◌≤◌, List, [], ◌∷◌, length, get_or, Option, Some, None, Result, Ok, Err, refl, sym, ap, ◌∙◌, arith}
+use Rattle.std.proofs.Common.{◌≡◌, ℕ, zero, suc, ◌+◌, ◌<◌, ◌≤◌, List, [], ◌∷◌, length, get_or, Option, Some, None, Result, Ok, Err, inl, inr, refl, sym, ap, ◌∙◌, arith}
 use Rattle.std.specs.List.Sorted.{IsSearchInRange, IsBinarySearchResult, IsNonDecreasingBy}
 use Rattle.std.specs.Ordering.{nat_cmp, ordering_index}
 use Rattle.std.specs.Result.{result_ok}
+use Rattle.std.proofs.lemmas.Bool.{cases_lt}
 use Rattle.std.proofs.lemmas.Cmp.{ranked}
 use Rattle.std.proofs.lemmas.List.Sorted.{IsNonDecreasingBy-from_default}
 use Rattle.std.proofs.lemmas.Bool.Decides.{nat_tests}
@@ -39,7 +40,13 @@ module _ (list : List Filed) (rising : IsRising list) (stamp : ℕ) where
 
   -- no two places have one stamp
   one_place : (i j : ℕ) → i < length list → j < length list → (get_or list i nothing).stamp ≡ stamp → (get_or list j nothing).stamp ≡ stamp → i ≡ j
-  one_place i j i_below j_below i_is j_is = omega (arith, rises list rising i j, rises list rising j i, i_is, j_is)
+  one_place i j i_below j_below i_is j_is = elim (cases_lt i j) [
+    | inl less ↦ absurd (let rise = rises list rising i j less j_below in omega (arith, rise, i_is, j_is))
+    | inr le ↦ elim (cases_lt j i) [
+      | inl less ↦ absurd (let rise = rises list rising j i less i_below in omega (arith, rise, i_is, j_is))
+      | inr ge ↦ omega (arith, le, ge)
+    ]
+  ]
 
   pub found : (r : Result ℕ ℕ) → IsSearchInRange r (length list) → IsBinarySearchResult (λ filed. nat_cmp filed.stamp stamp) list r → (place : ℕ) → HasStampAt place stamp list → result_ok r ≡ Some place
   found (Ok at) in_range equal place there =
@@ -47,6 +54,7 @@ module _ (list : List Filed) (rising : IsRising list) (stamp : ℕ) where
       ap Some (one_place at place in_range facts.0 (ranked _ stamp _ (sym (equal nothing))) facts.1)
   found (Err at) in_range parted place there =
       let facts = stamp_there list place stamp there in
-      let before = λ less. ranked _ stamp _ (sym ((parted comparisons_rise).0 place nothing less facts.0)) in
-      let after = λ le. ranked _ stamp _ (sym ((parted comparisons_rise).1 place nothing le facts.0)) in
-      absurd (omega (arith, before, after, facts.1))
+      elim (cases_lt place at) [
+        | inl less ↦ absurd (let before = ranked _ stamp _ (sym ((parted comparisons_rise).0 place nothing facts.0 less)) in omega (arith, before, facts.1))
+        | inr le ↦ absurd (let after = ranked _ stamp _ (sym ((parted comparisons_rise).1 place nothing le facts.0)) in omega (arith, after, facts.1))
+      ]

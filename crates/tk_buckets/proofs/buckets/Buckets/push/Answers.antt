@@ -11,6 +11,6 @@ invariant_of-self-in-Ok c =
     let new : Filed = record { stamp = next; number = c.args.number } in
     let items = c.in_ok-push.ensures.items in
     let was = c.self.invariant in
-    (subst IsRising (sym items) (rising_more list new was.0 was.1.0),
-    (subst (AllBelow (next + 1)) (sym items) (below_more list new (next + 1) was.1.0 (omega arith)),
-    λ n. c.in-Ok.ensures.ok n ∙ ap (λ stamps. stamps ++ stamp_under n c.args.number next) (was.1.1 n) ∙ sym (under_more n list new) ∙ ap (stamps_under n) (sym items)))
+    (subst IsRising (sym items) (rising_more list new was.0 was.1),
+    subst (AllBelow (next + 1)) (sym items) (below_more list new (next + 1) was.1 (omega arith)),
+    λ n. c.in-Ok.ensures.ok n ∙ ap (λ stamps. stamps ++ stamp_under n c.args.number next) (was.2 n) ∙ sym (under_more n list new) ∙ ap (stamps_under n) (sym items))

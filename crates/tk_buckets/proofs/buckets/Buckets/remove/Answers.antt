@@ -12,6 +12,6 @@ invariant_of-self c =
     let was = c.self.invariant in
     let below = subst (λ l. place < length l) (sym c.self.view_is) c.requires in
     (subst IsRising (sym items) (rising_less list place was.0),
-    (subst (AllBelow c.self.inside.next) (sym items) (below_less list place c.self.inside.next was.1.0),
-    λ n. buckets_less list place filed (bucket_in c.self.inside.stamps) (bucket_in c.take_out.new.buckets) was.0 below c.remove-filed.ensures.value was.1.1 c.take_out.ensures.own c.take_out.ensures.others n
-        ∙ ap (stamps_under n) (sym items)))
+    subst (AllBelow c.self.inside.next) (sym items) (below_less list place c.self.inside.next was.1),
+    λ n. buckets_less list place filed (bucket_in c.self.inside.stamps) (bucket_in c.take_out.new.buckets) was.0 below c.remove-filed.ensures.value was.2 c.take_out.ensures.own c.take_out.ensures.others n
+        ∙ ap (stamps_under n) (sym items))

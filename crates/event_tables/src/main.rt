@@ -1,7 +1,7 @@
 //! Asks the crates of timers, events and sessions, and tells of each answer that isn't the one in a table.
 //!
 //! Each argument `KIND/NAME` is a table, the file `KIND/NAME.table`. What stands in it is told at the head of the file of its kind: `timers.rt`,
-//! `routes.rt`, `sequences.rt`, `bindings.rt`, `services.rt`, which all have the form that `asking.rt` tells, and `sessions.rt`.
+//! `routes.rt`, `sequences.rt`, `bindings.rt`, `commands.rt`, `services.rt`, which all have the form that `asking.rt` tells, and `sessions.rt`.
 //!
 //! With `bench` as its first argument it times events instead.
 #![tactic(auto)]
@@ -9,6 +9,8 @@
 mod asking;
 mod bench;
 mod bindings;
+mod bound;
+mod commands;
 mod counting;
 mod read;
 mod routes;
@@ -19,6 +21,7 @@ mod state;
 mod timers;
 
 use crate::bindings::BindingTable;
+use crate::commands::CommandTable;
 use crate::routes::RouteTable;
 use crate::sequences::SequenceTable;
 use crate::services::ServiceTable;
@@ -61,6 +64,13 @@ fn of_bindings(rt: &(impl Print + AllocGlobal), name: &str, table: &str) -> Resu
     Ok(wrong)
 }
 
+fn of_commands(rt: &(impl Print + AllocGlobal), name: &str, table: &str) -> Result<u32> {
+    let mut asked = CommandTable::new(rt.alloc())?;
+    let Tally { answers, wrong } = ask(rt, name, table, &mut asked)?;
+    println!(rt; "{name}: {answers} answers, {wrong} wrong")?;
+    Ok(wrong)
+}
+
 fn of_services(rt: &(impl Print + AllocGlobal), name: &str, table: &str) -> Result<u32> {
     let mut asked = ServiceTable::new();
     let Tally { answers, wrong } = ask(rt, name, table, &mut asked)?;
@@ -78,6 +88,7 @@ fn of_kind(rt: &(impl Print + AllocGlobal), kind: &str, name: &str, table: &str)
         "routes" => of_routes(rt, name, table),
         "sequences" => of_sequences(rt, name, table),
         "bindings" => of_bindings(rt, name, table),
+        "commands" => of_commands(rt, name, table),
         "services" => of_services(rt, name, table),
         "sessions" => sessions::ask(rt, name, table),
         _ => bail!("no such kind of table"),

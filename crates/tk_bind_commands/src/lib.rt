@@ -1,0 +1,14 @@
+//! The commands that bind scripts to events: bind(n), bindtags(n) and event(n) without `generate`, each on the own parts of the tables that it
+//! needs; and the bindings that an application has for the classes of its widgets.
+#![tactic(auto)]
+
+mod answers;
+mod bind;
+mod bindtags;
+mod class_bindings;
+mod event;
+
+pub use bind::bind_command;
+pub use bindtags::bindtags_command;
+pub use class_bindings::bind_classes;
+pub use event::{event_add, event_command, event_delete, event_info};

@@ -22,9 +22,13 @@ become own (Err text) = (own, Err text)
 abbrev pub IsRefusal : VirtualFault → Answer → Type 0
 IsRefusal fault answer = (own : List Pair) (outcome : Outcome (List Pair)) → (fault ≢ NoMemory → outcome ≡ Err fault) → (own, answer) ≡ become own (or_virtual_fault outcome)
 
+-- the pairs of a name and sequences are added
+unfoldable pub added_told : List ℕ → List (List ℕ) → List Pair → Told
+added_told name sequences own = become own (or_virtual_fault (all_added name sequences own))
+
 -- event add <<name>> sequence ?sequence ..?
 abbrev pub add_words : List (List ℕ) → List Pair → Told
-add_words (name ∷ sequence ∷ others) own = become own (or_virtual_fault (all_added name (sequence ∷ others) own))
+add_words (name ∷ sequence ∷ others) own = added_told name (sequence ∷ others) own
 add_words _ own = (own, wrong_args (codes "event add <<name>> sequence ?sequence ..?"))
 
 -- event delete <<name>> ?sequence ..?

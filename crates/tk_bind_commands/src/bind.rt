@@ -33,14 +33,65 @@ pub fn bind_command(
     ensures err { OnErr result (LeavesAll bindings.old bindings.new) }
 {
     match words {
-        [tag] => answered(sequences_answer(alloc, windows, bindings, slot, tag)),
-        [tag, sequence] => answered(script_answer(alloc, windows, bindings, slot, tag, sequence)),
+        [tag] => {
+            let answer = told_sequences(alloc, windows, bindings, slot, tag)?;
+            Ok(answer)
+        }
+        [tag, sequence] => {
+            let answer = told_script(alloc, windows, bindings, slot, tag, sequence)?;
+            Ok(answer)
+        }
         [tag, sequence, script] => {
-            let sequence = tested_sequence(alloc, windows, slot, tag, sequence);
-            bind_word(alloc, bindings, slot, tag, sequence, script)
+            bind_told(alloc, windows, bindings, slot, tag, sequence, script)
         }
         _ => answered(wrong_args(alloc, "bind tag ?sequence? ?script?")),
     }
+}
+
+/// The sequences of a tag, or the text of an error.
+fn told_sequences(
+    alloc: Global,
+    windows: &Windows,
+    bindings: &BindTable,
+    slot: usize,
+    tag: &Text,
+) -> Result<Answer, AllocError>
+    ensures { IfOk result (λ answer. answer ≡ spec.list_words (windows_of.own_of slot windows.now) tag.now (own_of slot bindings.now)) }
+{
+    answered(sequences_answer(alloc, windows, bindings, slot, tag))
+}
+
+/// The script of a tag for a sequence, or the text of an error.
+fn told_script(
+    alloc: Global,
+    windows: &Windows,
+    bindings: &BindTable,
+    slot: usize,
+    tag: &Text,
+    sequence: &Text,
+) -> Result<Answer, AllocError>
+    ensures { IfOk result (λ answer. answer ≡ spec.script_words (windows_of.own_of slot windows.now) tag.now sequence.now (own_of slot bindings.now)) }
+{
+    answered(script_answer(alloc, windows, bindings, slot, tag, sequence))
+}
+
+/// Binds what a word means to the sequence that another is.
+fn bind_told(
+    alloc: Global,
+    windows: &Windows,
+    bindings: &mut BindTable,
+    slot: usize,
+    tag: &Text,
+    sequence: &Text,
+    script: &Text,
+) -> Result<Answer, AllocError>
+    ensures own { IfOk result (λ answer. (own_of slot bindings.new, answer)
+        ≡ spec.with_word tag.now (spec.sequence_words (windows_of.own_of slot windows.now) tag.now sequence.now) script.now (own_of slot bindings.old)) }
+    ensures others { LeavesOthers slot bindings.old bindings.new }
+    ensures err { OnErr result (LeavesAll bindings.old bindings.new) }
+{
+    let sequence = tested_sequence(alloc, windows, slot, tag, sequence);
+    bind_word(alloc, bindings, slot, tag, sequence, script)
 }
 
 /// The sequences of a tag.

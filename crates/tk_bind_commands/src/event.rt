@@ -51,15 +51,31 @@ pub fn event_add(
     ensures others { LeavesOthers slot virtuals.old virtuals.new }
     ensures err { OnErr result (virtuals.new ≡ virtuals.old) }
 {
-    let done = nothing(alloc)?;
     match words {
         [name, sequences @ ..] if !sequences.is_empty() => {
-            match virtuals.add_all(alloc, slot, name, sequences) {
-                Ok(()) => Ok(Ok(done)),
-                Err(fault) => refused(alloc, &fault),
-            }
+            add_sequences(alloc, virtuals, slot, name, sequences)
         }
-        _ => { answered(wrong_args(alloc, "event add <<name>> sequence ?sequence ..?")) }
+        _ => answered(wrong_args(alloc, "event add <<name>> sequence ?sequence ..?")),
+    }
+}
+
+/// Adds the pairs of a name and sequences.
+#[tactic(auto, unfolding(crate::specs::Event::added_told))]
+fn add_sequences(
+    alloc: Global,
+    virtuals: &mut VirtualTable,
+    slot: usize,
+    name: &Text,
+    sequences: &[Text],
+) -> Result<Answer, AllocError>
+    ensures own { IfOk result (λ answer. (own_of slot virtuals.new, answer) ≡ spec.added_told name.now sequences.now (own_of slot virtuals.old)) }
+    ensures others { LeavesOthers slot virtuals.old virtuals.new }
+    ensures err { OnErr result (virtuals.new ≡ virtuals.old) }
+{
+    let done = nothing(alloc)?;
+    match virtuals.add_all(alloc, slot, name, sequences) {
+        Ok(()) => Ok(Ok(done)),
+        Err(fault) => refused(alloc, &fault),
     }
 }
 

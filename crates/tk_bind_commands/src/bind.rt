@@ -179,7 +179,7 @@ fn script_told(
 }
 
 /// Binds what a word means to a sequence, if it is one.
-pub fn bind_word(
+fn bind_word(
     alloc: Global,
     bindings: &mut BindTable,
     slot: usize,

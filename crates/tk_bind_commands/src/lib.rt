@@ -7,7 +7,6 @@ mod bind;
 mod bindtags;
 mod event;
 
-pub use answers::{sequence_in, short_text};
-pub use bind::{bind_command, bind_word};
+pub use bind::bind_command;
 pub use bindtags::bindtags_command;
 pub use event::{event_add, event_command, event_delete, event_info};

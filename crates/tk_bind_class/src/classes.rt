@@ -14,6 +14,7 @@ use tk_sequences::{Sequence, SequenceFault};
 pub fn bind_classes(alloc: Global, bindings: &mut BindTable, slot: usize) -> Result<(), AllocError>
     ensures own { OnOk result (own_of slot bindings.new ≡ with_class_bindings (own_of slot bindings.old)) }
     ensures others { LeavesOthers slot bindings.old bindings.new }
+    ensures kept { OnOk result (without_class_bindings (own_of slot bindings.new) ≡ without_class_bindings (own_of slot bindings.old)) }
     ensures err { OnErr result (own_of slot bindings.new ≡ without_class_bindings (own_of slot bindings.old)) }
 {
     match bind_each(alloc, bindings, slot) {
@@ -83,7 +84,7 @@ fn bind_rows(
 }
 
 /// Binds a script to a sequence for a tag.
-#[tactic(auto, unfolding(crate::specs::ClassBindings::with_row), using(crate::proofs::Kept::with_binding_kept))]
+#[tactic(auto, unfolding(crate::specs::ClassBindings::with_row))]
 fn bind_row(
     alloc: Global,
     bindings: &mut BindTable,
@@ -119,7 +120,8 @@ fn bind(
     ensures kept { without_tag class (own_of slot bindings.new) ≡ without_tag class (own_of slot bindings.old) }
 {
     match bindings.bind(slot, class, sequence, script) {
-        Ok(()) | Err(BindFault::Full) => Ok(()),
+        Ok(()) => Ok(()),
+        Err(BindFault::Full) => Ok(()),
         Err(BindFault::NoMemory) => Err(AllocError),
     }
 }

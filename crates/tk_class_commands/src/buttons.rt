@@ -288,12 +288,7 @@ fn sink(alloc: Global, screen: &mut Screen, win: Win) -> Result<(), AllocError>
 }
 
 /// Gives a button the relief again that it had when it was pressed.
-fn restore(
-    alloc: Global,
-    screen: &mut Screen,
-    inputs: &Inputs,
-    win: Win,
-) -> Result<(), AllocError>
+fn restore(alloc: Global, screen: &mut Screen, inputs: &Inputs, win: Win) -> Result<(), AllocError>
     ensures own { OnOk result (own_of win.owner screen.new
         ≡ spec.restored win.number (inputs_of.own_of win.owner inputs.now).relief (own_of win.owner screen.old)) }
     ensures others { LeavesOthers win.owner screen.old screen.new }
@@ -305,12 +300,7 @@ fn restore(
 }
 
 /// Gives a button a relief, as `configure -relief RELIEF` does.
-fn put_relief(
-    alloc: Global,
-    screen: &mut Screen,
-    win: Win,
-    relief: Text,
-) -> Result<(), AllocError>
+fn put_relief(alloc: Global, screen: &mut Screen, win: Win, relief: Text) -> Result<(), AllocError>
     ensures own { OnOk result (own_of win.owner screen.new ≡ spec.with_relief win.number relief (own_of win.owner screen.old)) }
     ensures others { LeavesOthers win.owner screen.old screen.new }
 {

@@ -9,12 +9,7 @@ use tk_screen::Screen;
 use tk_widgets::Change;
 
 /// Makes a change of a window's widget; nothing where it has none.
-pub fn make(
-    alloc: Global,
-    screen: &mut Screen,
-    win: Win,
-    change: Change,
-) -> Result<(), AllocError>
+pub fn make(alloc: Global, screen: &mut Screen, win: Win, change: Change) -> Result<(), AllocError>
     ensures own { OnOk result (own_of win.owner screen.new ≡ with_change win.number change (own_of win.owner screen.old)) }
     ensures others { LeavesOthers win.owner screen.old screen.new }
 {

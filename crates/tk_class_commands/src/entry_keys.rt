@@ -184,11 +184,7 @@ fn pointed_in(widget: &Widget, scopes: &Scopes, x: i64) -> Result<Option<usize>,
     }
 }
 
-fn pointed_cursor(
-    entry: &Entry,
-    variable: Option<&Text>,
-    room: usize,
-) -> Result<usize, AllocError>
+fn pointed_cursor(entry: &Entry, variable: Option<&Text>, room: usize) -> Result<usize, AllocError>
     ensures { IfOk result (λ at. at ≡ characters_within room (chars (shown (option_copied variable.entry) entry.now))) }
 {
     let mut pointed = copy_of(entry)?;

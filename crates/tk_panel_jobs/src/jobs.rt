@@ -3,7 +3,7 @@ ghost use Rattle.std.specs.Prelude.{◌≡◌, IfOk, OnOk};
 ghost use Rattle.tcl_vars.specs.Store.{Store};
 ghost use Rattle.tcl_jobs.specs.Tasks.{act_of};
 ghost use Rattle.tk_panel.specs.Panel.{LeavesOthers, panel_of};
-ghost use Rattle.tk_panel_jobs.specs.Calls.{begun};
+ghost use Rattle.tk_panel_jobs.specs.Calls.{begun, settling};
 ghost use Rattle.tk_panel_jobs.specs.Course.{bound_ended, ended, ended_by, look, looked_of, started, with_end};
 
 use std::alloc::{AllocError, Global};
@@ -11,7 +11,7 @@ use tcl_interp::{Act, Code};
 use tcl_jobs::{Looked, Started, Task};
 use tcl_text::Text;
 use tcl_vars::Scopes;
-use tk_panel::{Job, Rest, Scripts, Stream, Tables, next, short_text, write};
+use tk_panel::{Home, Job, Numbers, Rest, Scripts, Stream, Tables, next, short_text, write};
 
 /// The job whose next script waits for its step; a job that has nothing more ends with the empty text.
 fn looked_of(alloc: Global, job: Option<Job>) -> Result<Looked<Job>, AllocError>
@@ -140,4 +140,17 @@ pub fn begin(
 {
     let looked = look(tables, slot, scopes, job)?;
     Ok(act_for(looked))
+}
+
+/// What is to be done at a moment, where nothing is under way.
+pub fn settling(alloc: Global, home: Home) -> Job
+    ensures { result ≡ settling home }
+{
+    Job {
+        event: None,
+        rest: Rest::Rounds {
+            round: Numbers::none(alloc),
+            home,
+        },
+    }
 }

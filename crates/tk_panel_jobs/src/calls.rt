@@ -22,6 +22,16 @@ fn answer_act(answer: Answer) -> Act<Task<Job>>
     }
 }
 
+/// The act of a command that runs a script.
+fn invoke_act(script: Text) -> Act<Task<Job>>
+    ensures { result ≡ Act.Run script Task.Invoked }
+{
+    Act::Run {
+        script,
+        task: Task::Invoked,
+    }
+}
+
 /// What the interpreter does then.
 fn act_for(
     tables: &mut Tables,
@@ -34,10 +44,7 @@ fn act_for(
 {
     match outcome {
         Outcome::Answers(answer) => Ok(answer_act(answer)),
-        Outcome::Runs(script) => Ok(Act::Run {
-            script,
-            task: Task::Invoked,
-        }),
+        Outcome::Runs(script) => Ok(invoke_act(script)),
         Outcome::Begins(job) => begin(tables, slot, scopes, job),
         Outcome::Unknown => Ok(Act::Unknown),
     }

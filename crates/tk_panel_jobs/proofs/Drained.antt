@@ -60,11 +60,12 @@ unfolding drained
 drained_out [] panel is none = is
 drained_out (event ∷ events) panel is none =
     let there : Panel × List (List ℕ) = chosen event (with_queue events panel) in
-    by there.1 there.0 (chosen_queue event (with_queue events panel)) none
+    by there.1 there.0 (λ none. drained_out events there.0 (chosen_queue event (with_queue events panel)) none) none
   where
-    by : (scripts : List (List ℕ)) (after : Panel) → after.queue ≡ events → (or_later (drained events) after scripts).1 ≡ [] → (or_later (drained events) after scripts).0.queue ≡ []
-    by [] after left none = drained_out events after left none
-    by (script ∷ scripts) after left none = cc
+    by : (scripts : List (List ℕ)) (after : Panel) → ((drained events after).1 ≡ [] → (drained events after).0.queue ≡ [])
+        → (or_later (drained events) after scripts).1 ≡ [] → (or_later (drained events) after scripts).0.queue ≡ []
+    by [] after later none = later none
+    by (script ∷ scripts) after later none = cc
 
 -- ── layout ──
 

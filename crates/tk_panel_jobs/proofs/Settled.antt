@@ -157,8 +157,7 @@ rests room job state after code text is came =
     ended_at there.0 after.shows there.1 code text (comes last.last after.store last.before last.is_kind) last.found
 
 pub due_comes : DueComes
-unfolding still_waiting
-unfolding turn
+unfolding still_waiting turn
 due_comes store panel open due =
     let there : Panel × List (List ℕ) = drained panel.queue panel in
     rw open (by there.1 there.0 (due_as panel there.0 (drained_leaves panel.queue panel) ∙ due))

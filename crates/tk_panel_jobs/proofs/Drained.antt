@@ -1,8 +1,7 @@
 -- What events without scripts and layout leave: the moment, the timers and the windows that are there.
-use Rattle.std.proofs.Common.{◌≡◌, ℕ, List, [], ◌∷◌, refl, sym, ap, ◌∙◌}
+use Rattle.std.proofs.Common.{◌≡◌, ℕ, List, [], ◌∷◌, refl, ◌∙◌}
 use Rattle.std.specs.Prelude.{Option, Some, None, Ok, Err}
 use Rattle.tcl_vars.specs.Store.{Store}
-use Rattle.tk_after.specs.Timers.{Own as Timers}
 use Rattle.tk_dispatch.specs.Dispatch.{Chosen}
 use Rattle.tk_events.specs.declared.event.Event.{Event}
 use Rattle.tk_layout.specs.declared.changes.Change.{Change}

@@ -19,8 +19,8 @@ use Rattle.tk_panel.specs.Changes.{laid_out}
 use Rattle.tk_panel.specs.Next.{next, next_event, next_rest}
 use Rattle.tk_panel.specs.Panel.{Panel}
 use Rattle.tk_panel.specs.Settle.{Next, after_layout, after_round, at_home, drained, idle_round, is_closed, is_due, on_event, on_round, on_timer, queue_or_round, still_waiting, turn}
-use Rattle.tk_panel.specs.Start.{start, start_event, start_rest, timer_taken}
-use Rattle.tk_panel_jobs.specs.Calls.{calls, settling}
+use Rattle.tk_panel.specs.Start.{start_event, start_rest, timer_taken}
+use Rattle.tk_panel_jobs.specs.Calls.{calls}
 use Rattle.tk_panel_jobs.specs.Course.{bound_ended, course, ended_by, looked_of}
 use Rattle.tk_panel_jobs.specs.Rests.{DueComes, Rests, has_settled, home_settles, is_empty, rest_settles, settles_last}
 use Rattle.tk_panel_jobs.proofs.Drained.{LeavesTimers, drained_leaves, drained_out, layout_leaves, then}
@@ -146,21 +146,22 @@ keeps = record {
 
 -- ── the laws ──
 
-ended_at : (panel shows : Panel) (found : Option Job) (code : Code) (text : List ℕ) → OnJob panel found → (panel, looked_of found) ≡ (shows, Ends code text) → has_settled shows ≡ true
-ended_at panel shows None code text on is = ap has_settled (sym (ap (λ (there : Panel × Looked Job). there.0) is)) ∙ on
-ended_at panel shows (Some job) code text on is = let differ : Wants job ≡ Ends code text = ap (λ (there : Panel × Looked Job). there.1) is in cc
+ended_at : (panel shows : Panel) (found : Option Job) (code : Code) (text : List ℕ) → OnJob panel found → panel ≡ shows → looked_of found ≡ Ends code text → has_settled shows ≡ true
+ended_at panel shows None code text on same is = ap has_settled (sym same) ∙ on
+ended_at panel shows (Some job) code text on same is = cc
 
 pub rests : Rests
 rests room job state after code text is came =
     let last = ends_looked course calls room settles_last keeps job state after code text is came in
     let there : Next = next last.last after.store last.before in
-    ended_at there.0 after.shows there.1 code text (comes last.last after.store last.before last.is_kind) last.found
+    ended_at there.0 after.shows there.1 code text (comes last.last after.store last.before last.is_kind)
+    (ap (λ (t : Panel × Looked Job). t.0) last.found) (ap (λ (t : Panel × Looked Job). t.1) last.found)
 
 pub due_comes : DueComes
 unfolding still_waiting turn
-due_comes store panel open due =
+due_comes store panel there_is due =
     let there : Panel × List (List ℕ) = drained panel.queue panel in
-    rw open (by there.1 there.0 (due_as panel there.0 (drained_leaves panel.queue panel) ∙ due))
+    rw there_is (by there.1 there.0 (due_as panel there.0 (drained_leaves panel.queue panel) ∙ due))
   where
     by : (scripts : List (List ℕ)) (after : Panel) → is_due after.moment after.timers.entries ≡ true → is_some (on_event Settle (on_timer Settle (after_layout Settle store)) after scripts).1 ≡ true
     by [] after due = rw due refl

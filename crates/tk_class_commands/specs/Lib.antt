@@ -1,0 +1,8 @@
+-- What the contracts cite.
+pub mod Buttons
+pub mod Changes
+pub mod Commands
+pub mod Entries
+pub mod Listboxes
+pub mod Outcomes
+pub mod Targets

@@ -26,11 +26,11 @@ use Rattle.tk_panel_jobs.specs.Rests.{DueComes, Rests, has_settled, home_settles
 use Rattle.tk_panel_jobs.proofs.Drained.{LeavesTimers, drained_leaves, drained_out, layout_leaves, then}
 
 -- either nothing comes next, and nothing is left to do, or a job that settles too
-abbrev OnJob : Panel → Option Job → Type 0
+abbrev pub OnJob : Panel → Option Job → Type 0
 OnJob panel None = has_settled panel ≡ true
 OnJob panel (Some job) = settles_last job ≡ true
 
-abbrev On : Next → Type 0
+abbrev pub On : Next → Type 0
 On there = OnJob there.0 there.1
 
 -- ── from the last to the first ──
@@ -102,12 +102,12 @@ event_comes (Some (script ∷ scripts)) rest store panel is = is
 event_comes (Some []) rest store panel is = rest_comes rest store panel is
 event_comes None rest store panel is = rest_comes rest store panel is
 
-comes : (job : Job) (store : Store) (panel : Panel) → settles_last job ≡ true → On (next job store panel)
+pub comes : (job : Job) (store : Store) (panel : Panel) → settles_last job ≡ true → On (next job store panel)
 comes job store panel is = event_comes job.event job.rest store panel is
 
 -- ── jobs that settle stay so ──
 
-wanted : (panel : Panel) (found : Option Job) (job : Job) → OnJob panel found → looked_of found ≡ Wants job → settles_last job ≡ true
+pub wanted : (panel : Panel) (found : Option Job) (job : Job) → OnJob panel found → looked_of found ≡ Wants job → settles_last job ≡ true
 wanted panel None job on is = cc
 wanted panel (Some next) job on is = let same : next ≡ job = cc in ap settles_last (sym same) ∙ on
 
@@ -121,7 +121,7 @@ rest_starts (Destroys window doomed paths) panel is = is
 rest_starts (Rounds [] home) panel is = timer_starts home panel (first_due panel.moment panel.timers.entries) is
 rest_starts (Rounds (id ∷ ids) home) panel is = is
 
-event_starts : (event : Option (List (List ℕ))) (rest : Rest) (panel : Panel) → rest_settles rest ≡ true → settles_last (start_event event rest panel).1.1 ≡ true
+pub event_starts : (event : Option (List (List ℕ))) (rest : Rest) (panel : Panel) → rest_settles rest ≡ true → settles_last (start_event event rest panel).1.1 ≡ true
 event_starts (Some (script ∷ scripts)) rest panel is = is
 event_starts (Some []) rest panel is = rest_starts rest panel is
 event_starts None rest panel is = rest_starts rest panel is
@@ -133,7 +133,7 @@ bound_ends (Return code) text scripts rest panel is = is
 bound_ends Break text scripts rest panel is = is
 bound_ends Continue text scripts rest panel is = is
 
-script_ends : (event : Option (List (List ℕ))) (rest : Rest) (code : Code) (text : List ℕ) (panel : Panel) → rest_settles rest ≡ true → settles_last (ended_by event rest code text panel).1 ≡ true
+pub script_ends : (event : Option (List (List ℕ))) (rest : Rest) (code : Code) (text : List ℕ) (panel : Panel) → rest_settles rest ≡ true → settles_last (ended_by event rest code text panel).1 ≡ true
 script_ends (Some scripts) rest code text panel is = bound_ends code text scripts rest panel is
 script_ends None rest code text panel is = is
 
@@ -146,7 +146,7 @@ keeps = record {
 
 -- ── the laws ──
 
-ended_at : (panel shows : Panel) (found : Option Job) (code : Code) (text : List ℕ) → OnJob panel found → panel ≡ shows → looked_of found ≡ Ends code text → has_settled shows ≡ true
+pub ended_at : (panel shows : Panel) (found : Option Job) (code : Code) (text : List ℕ) → OnJob panel found → panel ≡ shows → looked_of found ≡ Ends code text → has_settled shows ≡ true
 ended_at panel shows None code text on same is = ap has_settled (sym same) ∙ on
 ended_at panel shows (Some job) code text on same is = cc
 

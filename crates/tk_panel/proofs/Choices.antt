@@ -1,0 +1,40 @@
+-- What a choice of scripts leaves as it is.
+use Rattle.std.proofs.Common.{◌≡◌, ℕ, true, List, [], refl, sym, ap, ◌∙◌}
+use Rattle.std.specs.Prelude.{Option, Some, None, Ok, Err, is_some}
+use Rattle.tk_dispatch.specs.Dispatch.{Chosen}
+use Rattle.tk_dispatch.specs.Histories.{entered}
+use Rattle.tk_events.specs.declared.event.Event.{Event}
+use Rattle.tk_tree.specs.declared.window.Window.{Window}
+use Rattle.tk_tree.specs.Own.{window_at}
+use Rattle.tk_panel.specs.declared.transcript.Stream.TheVariants.{Err as Errors}
+use Rattle.tk_panel.specs.Choice.{chosen, chosen_at, on_scripts, scripts_of, with_entered}
+use Rattle.tk_panel.specs.Panel.{Panel}
+use Rattle.tk_panel.specs.Reports.{with_line}
+
+by_scripts : (event : Event) (panel : Panel) (scripts : Chosen) → (on_scripts event panel scripts).0.queue ≡ panel.queue
+by_scripts event panel (Ok scripts) = refl
+by_scripts event panel (Err text) = refl
+
+by_window : (event : Event) (panel : Panel) (window : Option Window) → (chosen_at event panel window).0.queue ≡ panel.queue
+by_window event panel None = refl
+by_window event panel (Some window) = by_scripts event panel (scripts_of event panel)
+
+-- the events that wait
+pub chosen_queue : (event : Event) (panel : Panel) → (chosen event panel).0.queue ≡ panel.queue
+unfolding chosen
+chosen_queue event panel = by_window event panel (window_at event.number panel.screen.tree)
+
+-- ── a refused substitution ──
+
+at_window : (event : Event) (panel : Panel) (window : Option Window) → is_some window ≡ true → on_scripts event panel (scripts_of event panel) ≡ chosen_at event panel window
+at_window event panel None is = cc
+at_window event panel (Some window) is = refl
+
+pub chosen_refused : (event : Event) (panel told : Panel) (history : List Event) (text : List ℕ) → is_some (window_at event.number panel.screen.tree) ≡ true → scripts_of event panel ≡ Err text
+    → told ≡ with_line Errors text panel → history ≡ entered event told.history → (record told { history = history }, []) ≡ chosen event panel
+unfolding chosen
+chosen_refused event panel told history text is refused tells enters =
+    ap (λ h. (record told { history = h }, [])) enters
+    ∙ ap (λ (p : Panel). (with_entered event p, [])) tells
+    ∙ ap (on_scripts event panel) (sym refused)
+    ∙ at_window event panel (window_at event.number panel.screen.tree) is

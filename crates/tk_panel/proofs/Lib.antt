@@ -1,0 +1,12 @@
+-- What the proofs share.
+pub mod Bounds
+pub mod Choices
+pub mod Dooms
+pub mod Drains
+pub mod Heads
+pub mod Marks
+pub mod Nexts
+pub mod Others
+pub mod Rounds
+pub mod Starts
+pub mod Turns

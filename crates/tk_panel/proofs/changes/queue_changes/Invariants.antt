@@ -1,0 +1,13 @@
+use Rattle.std.proofs.Common.{◌≡◌, length}
+use Rattle.tk_panel.specs.Changes.{with_changes}
+use Rattle.tk_panel.specs.Panel.{LeavesOthers, panel_of}
+use Rattle.tk_panel.proofs.changes.queue_changes.Given as goal
+
+abbrev pub invariant-loop-change : goal.invariant-loop-change
+invariant-loop-change l = record {
+  same : with_changes l.rest (panel_of l.slot l.tables) ≡ with_changes l.fn.changes (panel_of l.slot l.fn.tables);
+  others : LeavesOthers l.slot l.fn.tables l.tables;
+}
+
+abbrev pub decreases-loop-change : goal.decreases-loop-change
+decreases-loop-change l = length l.rest

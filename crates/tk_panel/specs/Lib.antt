@@ -1,0 +1,12 @@
+-- What the contracts cite.
+pub mod Changes
+pub mod Choice
+pub mod Commands
+pub mod Destroy
+pub mod Fresh
+pub mod Next
+pub mod Panel
+pub mod Reports
+pub mod Settle
+pub mod Start
+pub mod Transcript

@@ -1,0 +1,68 @@
+-- What one application has in the tables of all.
+use Rattle.std.specs.Prelude.{◌≡◌, ℕ, List, ◌==◌, filter, map, not}
+use Rattle.std.specs.Borrow.{GName}
+use Rattle.std.specs.List.{range_with_len}
+use Rattle.tk_after.specs.Timers as timers
+use Rattle.tk_dispatch.specs.Histories as histories
+use Rattle.tk_events.specs.declared.event.Event.{Event}
+use Rattle.tk_patterns.specs.declared.binding.Binding.{Binding}
+use Rattle.tk_patterns.specs.Own as bindings
+use Rattle.tk_queue.specs.Queue as queues
+use Rattle.tk_screen.specs.Own as screens
+use Rattle.tk_virtual.specs.declared.pair.Pair.{Pair}
+use Rattle.tk_virtual.specs.Virtual as virtuals
+use Rattle.tk_panel.specs.declared.tables.Tables.{Tables}
+use Rattle.tk_panel.specs.declared.transcript.Line.{Line}
+use Rattle.tk_panel.specs.Transcript.{lines_of, LeavesLines}
+
+pub record Panel : Type 0 where
+  -- the moment, in milliseconds, which is the same for all applications
+  pub moment : ℕ
+  -- its windows, their widgets, what is packed, and its rectangle
+  pub screen : screens.Own
+  -- in the order of registration
+  pub bindings : List Binding
+  pub virtuals : List Pair
+  -- the last events of keys and buttons
+  pub history : List Event
+  -- the events that wait, the next one first
+  pub queue : List Event
+  pub timers : timers.Own
+  pub transcript : List Line
+
+abbrev pub panel_of : ℕ → Tables → Panel
+panel_of slot tables = record {
+  moment = tables.clock;
+  screen = screens.own_of slot tables.screen;
+  bindings = bindings.own_of slot tables.bindings;
+  virtuals = virtuals.own_of slot tables.virtuals;
+  history = histories.own_of slot tables.histories;
+  queue = queues.own_of slot tables.queue;
+  timers = timers.own_of slot tables.timers;
+  transcript = lines_of slot tables.transcripts;
+}
+
+-- what the others have, and the moment, are left alone
+pub record LeavesOthers (slot : ℕ) (old new : Tables) : Type 0 where
+  pub clock : new.clock ≡ old.clock
+  pub screen : screens.LeavesOthers slot old.screen new.screen
+  pub bindings : bindings.LeavesOthers slot old.bindings new.bindings
+  pub virtuals : virtuals.LeavesOthers slot old.virtuals new.virtuals
+  pub histories : histories.LeavesOthers slot old.histories new.histories
+  pub queue : queues.LeavesOthers slot old.queue new.queue
+  pub timers : timers.LeavesOthers slot old.timers new.timers
+  pub lines : LeavesLines slot old.transcripts new.transcripts
+
+-- what each of the 16 slots but one has
+unfoldable pub others_of : ℕ → Tables → List Panel
+others_of slot tables = map (λ other. panel_of other tables) (filter (λ other. not (other == slot)) (range_with_len 0 16))
+
+-- what the calls of one application leave alone: which one it is, the tables that it is in, the moment, and what the others have
+pub record LeftAlone : Type 0 where
+  pub slot : ℕ
+  pub name : GName
+  pub moment : ℕ
+  pub others : List Panel
+
+abbrev pub left_of : ℕ → GName → Tables → LeftAlone
+left_of slot name tables = record { slot = slot; name = name; moment = tables.clock; others = others_of slot tables }

@@ -1,0 +1,104 @@
+//! Layout, and the events that it queues (pack(n), bind(n)).
+ghost use Rattle.std.specs.Prelude.{◌≡◌, OnOk, IfOk};
+ghost use Rattle.tk_panel.specs.Changes.{configure_event, event_of, laid_out, number_of, place_of, window_event, with_change, with_changes};
+ghost use Rattle.tk_panel.specs.Panel.{LeavesOthers, panel_of};
+
+use crate::tables::Tables;
+use std::alloc::AllocError;
+use tcl_vars::Scopes;
+use tk_base::{Rect, Win};
+use tk_events::{Event, EventKind, EventType};
+use tk_layout::Change;
+use tk_tree::Window;
+
+/// An event of a window, without fields.
+fn window_event(kind: EventType, window: &Window, moment: u64) -> Result<Event, AllocError>
+    ensures { IfOk result (λ event. event ≡ window_event kind window.now moment) }
+{
+    let path = window.path.copy()?;
+    Ok(Event::new(EventKind::Physical(kind), window.number, path, moment))
+}
+
+fn place_of(x: u32) -> Option<i32>
+    ensures { result ≡ place_of x }
+{
+    match i32::try_from(x) {
+        Ok(x) => Some(x),
+        Err(_) => None,
+    }
+}
+
+/// The event of a window that has another rectangle.
+fn configure_event(window: &Window, rect: Rect, moment: u64) -> Result<Event, AllocError>
+    ensures { IfOk result (λ event. event ≡ configure_event window.now rect moment) }
+{
+    let event = window_event(EventType::Configure, window, moment)?;
+    Ok(Event {
+        x: place_of(rect.x),
+        y: place_of(rect.y),
+        width: Some(rect.width),
+        height: Some(rect.height),
+        ..event
+    })
+}
+
+/// The event of what became of a window.
+fn event_of(change: Change, window: &Window, moment: u64) -> Result<Event, AllocError>
+    ensures { IfOk result (λ event. event ≡ event_of change window.now moment) }
+{
+    match change {
+        Change::Unmap(_) => window_event(EventType::Unmap, window, moment),
+        Change::Configure(_, rect) => configure_event(window, rect, moment),
+        Change::Map(_) => window_event(EventType::Map, window, moment),
+    }
+}
+
+fn number_of(change: Change) -> u64
+    ensures { result ≡ number_of change }
+{
+    match change {
+        Change::Unmap(number) | Change::Configure(number, _) | Change::Map(number) => number,
+    }
+}
+
+/// Queues the event of a change.
+fn queue_change(tables: &mut Tables, slot: usize, change: Change) -> Result<(), AllocError>
+    ensures own { OnOk result (panel_of slot tables.new ≡ with_change change (panel_of slot tables.old)) }
+    ensures others { LeavesOthers slot tables.old tables.new }
+{
+    let win = Win {
+        owner: slot,
+        number: number_of(change),
+    };
+    match tables.screen.windows.window(win) {
+        None => Ok(()),
+        Some(window) => {
+            let event = event_of(change, window, tables.clock.moment())?;
+            tables.queue.push_tail(slot, event)
+        }
+    }
+}
+
+/// Queues the events of changes, in their order.
+#[tactic(auto, unfolding(crate::specs::Changes::with_changes))]
+fn queue_changes(tables: &mut Tables, slot: usize, changes: &[Change]) -> Result<(), AllocError>
+    ensures own { OnOk result (panel_of slot tables.new ≡ with_changes changes.now (panel_of slot tables.old)) }
+    ensures others { LeavesOthers slot tables.old tables.new }
+{
+    let mut rest = changes;
+    while let Some((change, later)) = rest.split_first() {
+        queue_change(tables, slot, *change)?;
+        rest = later;
+    }
+    Ok(())
+}
+
+/// Lays out the windows of an application, and queues what that changes.
+#[tactic(auto, unfolding(crate::specs::Changes::laid_out))]
+pub fn lay_out(tables: &mut Tables, slot: usize, scopes: &Scopes) -> Result<(), AllocError>
+    ensures own { OnOk result (panel_of slot tables.new ≡ laid_out scopes.now (panel_of slot tables.old)) }
+    ensures others { LeavesOthers slot tables.old tables.new }
+{
+    let changes = tk_screen::lay_out(tables.alloc, &mut tables.screen, slot, scopes)?;
+    queue_changes(tables, slot, changes.as_slice())
+}

@@ -1,0 +1,103 @@
+//! The commands `puts`, `clock` and `after`, by the words behind their names.
+ghost use Rattle.std.specs.Prelude.{◌≡◌, IfOk, codes};
+ghost use Rattle.tcl_text.specs.Answers.{wrong_args as wrong_args_of};
+ghost use Rattle.tk_panel.specs.Commands.{after_told, clock_words, milliseconds, put_to, puts_words, written};
+ghost use Rattle.tk_panel.specs.Panel.{LeavesOthers, panel_of};
+
+use crate::message::{Answer, bad_option, short_text, wrong_args};
+use crate::report::write;
+use crate::tables::Tables;
+use crate::transcript::Stream;
+use itoa::Buffer;
+use std::alloc::{AllocError, Global};
+use tcl_text::Text;
+
+/// Writes a line, and answers the empty text.
+fn write_out(tables: &mut Tables, slot: usize, text: &Text) -> Result<Answer, AllocError>
+    ensures own { IfOk result (λ answer. (panel_of slot tables.new, answer) ≡ written text.now (panel_of slot tables.old)) }
+    ensures others { LeavesOthers slot tables.old tables.new }
+{
+    let line = text.copy()?;
+    let empty = short_text(tables.alloc, "")?;
+    write(tables, slot, Stream::Out, line)?;
+    Ok(Ok(empty))
+}
+
+/// Writes a line to a channel: to `stdout` alone.
+fn put_to(
+    tables: &mut Tables,
+    slot: usize,
+    channel: &Text,
+    text: &Text,
+) -> Result<Answer, AllocError>
+    ensures own { IfOk result (λ answer. (panel_of slot tables.new, answer) ≡ put_to channel.now text.now (panel_of slot tables.old)) }
+    ensures others { LeavesOthers slot tables.old tables.new }
+{
+    if channel.as_str() == "stdout" {
+        return write_out(tables, slot, text);
+    }
+    let answer = bad_option(tables.alloc, channel.as_str())?;
+    Ok(answer)
+}
+
+fn puts_usage(alloc: Global) -> Result<Answer, AllocError>
+    ensures { IfOk result (λ answer. answer ≡ wrong_args_of (codes "puts ?stdout? text")) }
+{
+    wrong_args(alloc, "puts ?stdout? text")
+}
+
+/// The command `puts` (puts(n)): one line of the transcript, at the moment.
+#[tactic(auto, unfolding(crate::specs::Commands::puts_words))]
+pub fn puts_command(tables: &mut Tables, slot: usize, words: &[Text]) -> Result<Answer, AllocError>
+    ensures own { IfOk result (λ answer. (panel_of slot tables.new, answer) ≡ puts_words words.now (panel_of slot tables.old)) }
+    ensures others { LeavesOthers slot tables.old tables.new }
+{
+    match words {
+        [text] => write_out(tables, slot, text),
+        [channel, text] => put_to(tables, slot, channel, text),
+        [] => {
+            let answer = puts_usage(tables.alloc)?;
+            Ok(answer)
+        }
+        [_, _, _, ..] => {
+            let answer = puts_usage(tables.alloc)?;
+            Ok(answer)
+        }
+    }
+}
+
+/// `clock milliseconds`, with the words behind both.
+fn milliseconds(alloc: Global, moment: u64, words: &[Text]) -> Result<Answer, AllocError>
+    ensures { IfOk result (λ answer. answer ≡ milliseconds words.now moment) }
+{
+    match words {
+        [] => {
+            let mut buffer = Buffer::new();
+            Ok(Ok(short_text(alloc, buffer.format(moment))?))
+        }
+        [_, ..] => wrong_args(alloc, "clock milliseconds"),
+    }
+}
+
+/// The command `clock` at a moment, in milliseconds (clock(n)): `clock milliseconds` answers it.
+#[tactic(auto, unfolding(crate::specs::Commands::clock_words))]
+pub fn clock_command(alloc: Global, moment: u64, words: &[Text]) -> Result<Answer, AllocError>
+    ensures { IfOk result (λ answer. answer ≡ clock_words words.now moment) }
+{
+    let Some((option, words)) = words.split_first() else {
+        return wrong_args(alloc, "clock option ?arg ..?");
+    };
+    match option.as_str() {
+        "milliseconds" => milliseconds(alloc, moment, words),
+        other => bad_option(alloc, other),
+    }
+}
+
+/// The command `after` (after(n)) at the moment.
+pub fn after_command(tables: &mut Tables, slot: usize, words: &[Text]) -> Result<Answer, AllocError>
+    ensures own { IfOk result (λ answer. (panel_of slot tables.new, answer) ≡ after_told words.now (panel_of slot tables.old)) }
+    ensures others { LeavesOthers slot tables.old tables.new }
+{
+    let moment = tables.clock.moment();
+    tk_after::after_command(tables.alloc, &mut tables.timers, slot, moment, words)
+}

@@ -1,0 +1,47 @@
+ghost use Rattle.std.specs.Prelude.{◌≡◌, ℕ, IfOk};
+ghost use Rattle.tk_panel.specs.Fresh.{nothing};
+ghost use Rattle.tk_panel.specs.Panel.{panel_of};
+
+use crate::clock::Clock;
+use crate::transcript::Transcripts;
+use std::alloc::{AllocError, Global};
+use tk_after::Timers;
+use tk_dispatch::Histories;
+use tk_patterns::BindTable;
+use tk_queue::EventQueue;
+use tk_screen::Screen;
+use tk_virtual::VirtualTable;
+
+/// The tables of all applications. What one application has in each is told apart by its slot.
+#[derive(Drop)]
+pub struct Tables {
+    pub alloc: Global,
+    pub clock: Clock,
+    pub screen: Screen,
+    pub bindings: BindTable,
+    pub virtuals: VirtualTable,
+    pub histories: Histories,
+    pub queue: EventQueue,
+    pub timers: Timers,
+    pub transcripts: Transcripts,
+}
+
+impl Tables {
+    /// No application has anything, at moment 0.
+    pub fn new(alloc: Global) -> Result<Tables, AllocError>
+        ensures moment { IfOk result (λ tables. tables.clock ≡ 0) }
+        ensures nothing { IfOk result (λ tables. (slot : ℕ) → panel_of slot tables ≡ nothing 0) }
+    {
+        Ok(Tables {
+            alloc,
+            clock: Clock::new(),
+            screen: Screen::new(alloc),
+            bindings: BindTable::new(alloc),
+            virtuals: VirtualTable::new(alloc),
+            histories: Histories::new(alloc)?,
+            queue: EventQueue::new(alloc),
+            timers: Timers::new(alloc),
+            transcripts: Transcripts::new(alloc),
+        })
+    }
+}

@@ -1,0 +1,12 @@
+use Rattle.tk_panel.proofs.Others.{left_same}
+use Rattle.tk_panel_jobs.proofs.view.TablesViewTasks.call.Goals as goal
+
+pub returns-in_err-act-clause-left : goal.returns-in_err-act-clause-left
+returns-in_err-act-clause-left c =
+    let view = c.args.self.now in
+    left_same view.slot view.tables.ghost_name view.tables.now c.call.new.tables c.call.ensures.others
+
+pub returns-clause-left : goal.returns-clause-left
+returns-clause-left c =
+    let view = c.args.self.now in
+    left_same view.slot view.tables.ghost_name view.tables.now c.call.new.tables c.call.ensures.others

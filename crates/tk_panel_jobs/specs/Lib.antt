@@ -1,0 +1,4 @@
+-- What the contracts cite.
+pub mod Calls
+pub mod Course
+pub mod Laws

@@ -1,0 +1,143 @@
+//! The course of an application's jobs.
+ghost use Rattle.std.specs.Prelude.{◌≡◌, IfOk, OnOk};
+ghost use Rattle.tcl_vars.specs.Store.{Store};
+ghost use Rattle.tcl_jobs.specs.Tasks.{act_of};
+ghost use Rattle.tk_panel.specs.Panel.{LeavesOthers, panel_of};
+ghost use Rattle.tk_panel_jobs.specs.Calls.{begun};
+ghost use Rattle.tk_panel_jobs.specs.Course.{bound_ended, ended, ended_by, look, looked_of, started, with_end};
+
+use std::alloc::{AllocError, Global};
+use tcl_interp::{Act, Code};
+use tcl_jobs::{Looked, Started, Task};
+use tcl_text::Text;
+use tcl_vars::Scopes;
+use tk_panel::{Job, Rest, Scripts, Stream, Tables, next, short_text, write};
+
+/// The job whose next script waits for its step; a job that has nothing more ends with the empty text.
+fn looked_of(alloc: Global, job: Option<Job>) -> Result<Looked<Job>, AllocError>
+    ensures { IfOk result (λ looked. looked ≡ looked_of job) }
+{
+    match job {
+        Some(job) => Ok(Looked::Wants(job)),
+        None => Ok(Looked::Ends(Code::Normal, short_text(alloc, "")?)),
+    }
+}
+
+/// Looks for what comes next of a job.
+pub fn look(
+    tables: &mut Tables,
+    slot: usize,
+    scopes: &Scopes,
+    job: Job,
+) -> Result<Looked<Job>, AllocError>
+    ensures own { IfOk result (λ looked. (panel_of slot tables.new, looked) ≡ look (panel_of slot tables.old) scopes.now job) }
+    ensures others { LeavesOthers slot tables.old tables.new }
+{
+    let job = next(tables, slot, scopes, job)?;
+    looked_of(tables.alloc, job)
+}
+
+/// Starts what a job waited for, whose step is taken.
+pub fn start(tables: &mut Tables, slot: usize, job: Job) -> Result<Started<Job>, AllocError>
+    ensures own { IfOk result (λ started'. (store : Store) → (panel_of slot tables.new, started') ≡ started (panel_of slot tables.old) store job) }
+    ensures others { LeavesOthers slot tables.old tables.new }
+{
+    let (script, job) = tk_panel::start(tables, slot, job)?;
+    Ok(Started { script, job })
+}
+
+/// A bound script has ended: a break ends the event, and so does an error, which is told.
+fn bound_ended(
+    tables: &mut Tables,
+    slot: usize,
+    scripts: Scripts,
+    rest: Rest,
+    code: Code,
+    text: Text,
+) -> Result<Job, AllocError>
+    ensures own { IfOk result (λ job. (panel_of slot tables.new, job) ≡ bound_ended code text scripts rest (panel_of slot tables.old)) }
+    ensures others { LeavesOthers slot tables.old tables.new }
+{
+    let none = Scripts::none(tables.alloc);
+    match code {
+        Code::Normal | Code::Return(_) | Code::Continue => Ok(Job {
+            event: Some(scripts),
+            rest,
+        }),
+        Code::Break => Ok(Job {
+            event: Some(none),
+            rest,
+        }),
+        Code::Error => {
+            write(tables, slot, Stream::Err, text)?;
+            Ok(Job {
+                event: Some(none),
+                rest,
+            })
+        }
+    }
+}
+
+/// Tells how a timer's script, an idle one or the application's own has ended, where it tells of a fault.
+fn tell_end(tables: &mut Tables, slot: usize, code: Code, text: Text) -> Result<(), AllocError>
+    ensures own { OnOk result (panel_of slot tables.new ≡ with_end code text (panel_of slot tables.old)) }
+    ensures others { LeavesOthers slot tables.old tables.new }
+{
+    match code {
+        Code::Normal | Code::Return(_) => Ok(()),
+        Code::Error => write(tables, slot, Stream::Err, text),
+        Code::Break => {
+            let fault = short_text(tables.alloc, "invoked \"break\" outside of a loop")?;
+            write(tables, slot, Stream::Err, fault)
+        }
+        Code::Continue => {
+            let fault = short_text(tables.alloc, "invoked \"continue\" outside of a loop")?;
+            write(tables, slot, Stream::Err, fault)
+        }
+    }
+}
+
+/// Goes on behind a script of a job.
+pub fn ended(
+    tables: &mut Tables,
+    slot: usize,
+    job: Job,
+    code: Code,
+    text: Text,
+) -> Result<Job, AllocError>
+    ensures own { IfOk result (λ next. (panel_of slot tables.new, next) ≡ ended code text (panel_of slot tables.old) job) }
+    ensures others { LeavesOthers slot tables.old tables.new }
+{
+    let Job { event, rest } = job;
+    match event {
+        Some(scripts) => bound_ended(tables, slot, scripts, rest, code, text),
+        None => {
+            tell_end(tables, slot, code, text)?;
+            Ok(Job { event: None, rest })
+        }
+    }
+}
+
+/// What a task of the job does then.
+fn act_for(looked: Looked<Job>) -> Act<Task<Job>>
+    ensures { result ≡ act_of looked }
+{
+    match looked {
+        Looked::Wants(job) => Act::Step(Task::Waits(job)),
+        Looked::Ends(code, text) => Act::Done(code, text),
+    }
+}
+
+/// A command begins a job, and goes on with it.
+pub fn begin(
+    tables: &mut Tables,
+    slot: usize,
+    scopes: &Scopes,
+    job: Job,
+) -> Result<Act<Task<Job>>, AllocError>
+    ensures own { IfOk result (λ act. record { shows = panel_of slot tables.new; store = scopes.now; act = act } ≡ begun job (panel_of slot tables.old) scopes.now) }
+    ensures others { LeavesOthers slot tables.old tables.new }
+{
+    let looked = look(tables, slot, scopes, job)?;
+    Ok(act_for(looked))
+}

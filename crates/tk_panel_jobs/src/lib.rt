@@ -1,0 +1,10 @@
+//! The jobs and the commands of applications over one set of tables, as an interpreter calls them: a view of one application does both.
+#![tactic(auto)]
+
+mod calls;
+mod jobs;
+pub mod laws;
+mod view;
+
+pub use calls::Command;
+pub use view::{TablesView, view_of};

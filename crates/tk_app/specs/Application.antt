@@ -2,55 +2,98 @@
 use Rattle.std.specs.Prelude.{ℕ, List, [], ◌∷◌, ◌++◌, Option, None}
 use Rattle.tcl_control.specs.Table.{Table, first_commands}
 use Rattle.tcl_vars.specs.Store.{Store}
-use Rattle.tk_after.specs.Timers.{Own, due_moments, fresh as nothing_waits, least}
+use Rattle.tk_after.specs.Timers.{Own as Timers, due_moments, least}
+use Rattle.tk_events.specs.declared.event.Event.{Event}
+use Rattle.tk_inputs.specs.declared.inputs.Input.{Input}
+use Rattle.tk_patterns.specs.declared.binding.Binding.{Binding}
+use Rattle.tk_screen.specs.Own.{Own as Screen}
+use Rattle.tk_virtual.specs.declared.pair.Pair.{Pair}
+use Rattle.tk_panel.specs.declared.transcript.Line.{Line}
+use Rattle.tk_panel.specs.Fresh.{fresh as fresh_panel}
+use Rattle.tk_panel.specs.Panel.{Panel}
 use Rattle.tk_app.specs.declared.budget.Budget.{Budget}
 use Rattle.tk_app.specs.declared.state.AppState.{AppState}
 use Rattle.tk_app.specs.declared.state.AppState.TheVariants.{Running, Exhausted, Closed}
-use Rattle.tk_app.specs.declared.transcript.Line.{Line}
-use Rattle.tk_app.specs.declared.window.Window.{Window}
-use Rattle.tk_app.specs.Outside.{served_names}
+use Rattle.tk_app.specs.Names.{command_names}
 use Rattle.tk_app.specs.Seen.{names_of}
-use Rattle.tk_app.specs.Shown.{unlaid}
 use Rattle.tk_app.specs.Spec.{Spec}
 
 pub record Application (M : Type 0) : Type 0 where
   pub name : List ℕ
-  pub width : ℕ
-  pub height : ℕ
   pub aliases : List (List ℕ × M)
   pub store : Store
   pub commands : Table
+  -- what it has in the tables: its windows, their widgets, what is packed, its rectangle and its title
+  pub screen : Screen
+  -- its bindings and virtual events, in the order of registration
+  pub bindings : List Binding
+  pub virtuals : List Pair
+  -- the last events of keys and buttons
+  pub history : List Event
+  -- the events that wait, the next one first
+  pub queue : List Event
+  -- which window has the keys, where the pointer is, which button is pressed
+  pub input : Input
+  pub timers : Timers
   pub transcript : List Line
-  pub window : Window
-  pub title : List ℕ
-  pub own : Own
   pub budget : Budget
   pub steps : ℕ
   pub state : AppState
 
--- An application before its script, with no variables, the commands at first, and nothing that waits. An alias replaces a command of its name.
-abbrev pub fresh : {M : Type 0} → Spec M → Application M
-fresh spec = record {
-  name = spec.name;
-  width = spec.width;
-  height = spec.height;
-  aliases = spec.aliases;
-  store = [] ∷ [];
-  commands = first_commands (served_names ++ names_of spec.aliases);
-  transcript = [];
-  window = unlaid;
-  title = spec.name;
-  own = nothing_waits;
-  budget = spec.budget;
-  steps = spec.budget.total;
-  state = Running;
-}
+module _ {M : Type 0} where
+  -- what it has in the tables, at a moment
+  abbrev pub panel_at : ℕ → Application M → Panel
+  panel_at moment application = record {
+    moment = moment;
+    screen = application.screen;
+    bindings = application.bindings;
+    virtuals = application.virtuals;
+    history = application.history;
+    queue = application.queue;
+    input = application.input;
+    timers = application.timers;
+    transcript = application.transcript;
+  }
+
+  -- the application with other things in the tables; the moment isn't its own
+  abbrev pub with_panel : Panel → Application M → Application M
+  with_panel panel application = record application {
+    screen = panel.screen;
+    bindings = panel.bindings;
+    virtuals = panel.virtuals;
+    history = panel.history;
+    queue = panel.queue;
+    input = panel.input;
+    timers = panel.timers;
+    transcript = panel.transcript;
+  }
+
+  -- An application before its script, with no variables, the commands at first, and what *fresh* of panels gives it. An alias replaces a command of
+  -- its name.
+  abbrev pub fresh : Spec M → Application M
+  fresh spec = (let panel : Panel = fresh_panel spec.name (spec.width, spec.height) 0 in record {
+    name = spec.name;
+    aliases = spec.aliases;
+    store = [] ∷ [];
+    commands = first_commands (command_names ++ names_of spec.aliases);
+    screen = panel.screen;
+    bindings = panel.bindings;
+    virtuals = panel.virtuals;
+    history = panel.history;
+    queue = panel.queue;
+    input = panel.input;
+    timers = panel.timers;
+    transcript = panel.transcript;
+    budget = spec.budget;
+    steps = spec.budget.total;
+    state = Running;
+  })
 
 -- when something of its own is due next, while it runs
-abbrev pub next_due_as : AppState → Own → Option ℕ
-next_due_as Running own = least (due_moments own.entries)
-next_due_as Exhausted own = None
-next_due_as Closed own = None
+abbrev pub next_due_as : AppState → Timers → Option ℕ
+next_due_as Running timers = least (due_moments timers.entries)
+next_due_as Exhausted timers = None
+next_due_as Closed timers = None
 
 abbrev pub next_due : {M : Type 0} → Application M → Option ℕ
-next_due application = next_due_as application.state application.own
+next_due application = next_due_as application.state application.timers

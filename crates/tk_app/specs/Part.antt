@@ -1,43 +1,44 @@
 -- A part: an application, with what its interpreter still has to do.
-use Rattle.std.specs.Prelude.{◌≡◌, ℕ, ◌+◌, ◌-◌, min, Bool, true, false, List, [], ◌∷◌}
+use Rattle.std.specs.Prelude.{◌≡◌, ℕ, ◌+◌, ◌-◌, min, Bool, true, false, List, [], ◌∷◌, if◌then◌else◌}
 use Rattle.tcl_control.specs.declared.code.Code.{Code}
 use Rattle.tcl_control.specs.declared.code.Code.TheVariants.{Normal}
 use Rattle.tcl_interp.specs.Evaluation.{State, Outcome, Ended, OutOfSteps}
 use Rattle.tcl_interp.specs.Finish.{Doing, Resumes, Waiting, Rest, Running as RestRunning, Idle, Spent, Broken, finish}
+use Rattle.tcl_jobs.specs.declared.job.Task.{Task}
+use Rattle.tcl_jobs.specs.declared.job.Task.TheVariants as task
 use Rattle.tk_input.specs.declared.event.LocalEvent.{LocalEvent}
-use Rattle.tk_input.specs.declared.event.LocalKind.{LocalKind}
-use Rattle.tk_input.specs.declared.event.LocalKind.TheVariants.{Size as Resized}
+use Rattle.tk_panel.specs.declared.job.Job.{Job}
+use Rattle.tk_panel.specs.Deliver.{delivered as delivered_panel}
+use Rattle.tk_panel.specs.Panel.{Panel}
+use Rattle.tk_panel.specs.Settle.{is_closed}
 use Rattle.tk_app.specs.declared.budget.Budget.{Budget}
-use Rattle.tk_app.specs.declared.settling.Settling.{Settling}
-use Rattle.tk_app.specs.declared.settling.Settling.TheVariants as settling
 use Rattle.tk_app.specs.declared.state.AppState.{AppState}
 use Rattle.tk_app.specs.declared.state.AppState.TheVariants.{Running, Exhausted, Closed}
-use Rattle.tk_app.specs.Application.{Application, fresh}
+use Rattle.tk_app.specs.Application.{Application, fresh, panel_at, with_panel}
 use Rattle.tk_app.specs.Outside.{outside}
 use Rattle.tk_app.specs.Seen.{Meaning, Seen, meanings}
-use Rattle.tk_app.specs.Settle.{settle_meaning, start_meaning}
-use Rattle.tk_app.specs.Shown.{Shown}
+use Rattle.tk_app.specs.Settle.{settle_meaning, settling, start_meaning}
 use Rattle.tk_app.specs.Spec.{Spec}
 
 -- What is under way: nothing, or what is done now, with the levels that it is done at, and what waits for it, innermost first.
 pub data Work : Type 0 where
   Rests : Work
-  Goes : List ℕ → Doing Settling → List (Waiting Settling) → Work
+  Goes : List ℕ → Doing (Task Job) → List (Waiting (Task Job)) → Work
 
 pub record Part (M : Type 0) : Type 0 where
   pub application : Application M
   pub work : Work
 
 -- a task alone, at global level
-abbrev pub task_begins : Settling → Work
+abbrev pub task_begins : Task Job → Work
 task_begins task = Goes (0 ∷ []) (Resumes 200 task Normal []) []
 
--- settling begins at a moment, where nothing is under way and the application runs
-abbrev pub settling_as : AppState → ℕ → Work → Work
-settling_as Running moment Rests = task_begins (settling.Rest moment [])
-settling_as Running moment (Goes levels doing waits) = Goes levels doing waits
-settling_as Exhausted moment work = work
-settling_as Closed moment work = work
+-- settling begins, where nothing is under way and the application runs
+abbrev pub settling_as : AppState → Work → Work
+settling_as Running Rests = task_begins (task.Runs settling)
+settling_as Running (Goes levels doing waits) = Goes levels doing waits
+settling_as Exhausted work = work
+settling_as Closed work = work
 
 -- whether something is under way
 abbrev pub is_under_way : Work → Bool
@@ -45,7 +46,7 @@ is_under_way Rests = false
 is_under_way (Goes levels doing waits) = true
 
 -- what is under way in an interpreter, at these levels
-abbrev pub work_of : Rest Settling → List ℕ → Work
+abbrev pub work_of : Rest (Task Job) → List ℕ → Work
 work_of Idle levels = Rests
 work_of (RestRunning doing waits) levels = Goes levels doing waits
 work_of Spent levels = Rests
@@ -55,44 +56,37 @@ work_of Broken levels = Rests
 abbrev pub granted : Budget → ℕ → ℕ
 granted budget steps = min (steps + budget.refill) budget.total
 
+-- What has become of an application once what was under way has ended: it is closed where its main window is gone.
+abbrev pub state_after : Panel → AppState
+state_after panel = if is_closed panel then Closed else Running
+
 module _ {M : Type 0} where
   -- an application before its script, with the script as what is to be done
   abbrev pub added : Spec M → Part M
-  added spec = record { application = fresh spec; work = task_begins (settling.Script spec.script) }
+  added spec = record { application = fresh spec; work = task_begins (task.Begins spec.script settling) }
 
-  abbrev pub settling_begun : ℕ → Part M → Part M
-  settling_begun moment part = record part { work = settling_as part.application.state moment part.work }
+  abbrev pub settling_begun : Part M → Part M
+  settling_begun part = record part { work = settling_as part.application.state part.work }
 
   -- the application that a state belongs to
   abbrev pub with_left : State Seen → Application M → Application M
-  with_left left application =
-      record application {
-        store = left.store;
-        commands = left.context.commands;
-        transcript = left.shows.panel.transcript;
-        window = left.shows.panel.window;
-        own = left.shows.panel.own;
-        steps = left.steps;
-      }
+  with_left left application = record (with_panel left.shows.panel application) { store = left.store; commands = left.context.commands; steps = left.steps }
 
   -- what has become of it: where a step was needed and none was left, it is exhausted
   abbrev pub after_outcome : Outcome Seen → Application M → Application M
-  after_outcome (Ended left code text) application = with_left left application
+  after_outcome (Ended left code text) application = record (with_left left application) { state = state_after left.shows.panel }
   after_outcome (OutOfSteps left) application = record (with_left left application) { steps = 0; state = Exhausted }
 
   -- ── an event ──
 
-  -- what an event is to an application
-  abbrev pub with_event : LocalKind → Application M → Application M
-  with_event (Resized width height) application = record application { width = width; height = height }
-  with_event kind application = application
-
+  -- an event of its moment is given to an application that runs: it is granted steps, and the panel takes the event
   abbrev pub delivered_as : AppState → LocalEvent → Application M → Application M
-  delivered_as Running event application = with_event event.kind (record application { steps = granted application.budget application.steps })
+  delivered_as Running event application =
+      record (with_panel (delivered_panel event (panel_at event.moment application)) application) { steps = granted application.budget application.steps }
   delivered_as Exhausted event application = application
   delivered_as Closed event application = application
 
-  -- An application that an event was given to, before it does what comes of it: first it is granted steps. One that doesn't run gets nothing.
+  -- An application that an event was given to, before it does what comes of it. One that doesn't run gets nothing.
   unfoldable pub delivered : LocalEvent → Application M → Application M
   delivered event application = delivered_as application.state event application
 
@@ -101,16 +95,7 @@ module _ {M : Type 0} (answer : M → Meaning) where
 
   -- what its scripts find
   abbrev pub seen_at : ℕ → Application M → Seen
-  seen_at moment application = record {
-    serves = meanings answer application.aliases;
-    panel = record {
-      moment = moment;
-      size = record { width = application.width; height = application.height };
-      transcript = application.transcript;
-      window = application.window;
-      own = application.own;
-    };
-  }
+  seen_at moment application = record { serves = meanings answer application.aliases; panel = panel_at moment application }
 
   -- the state that its scripts act on, at some levels
   abbrev pub state_in : List ℕ → ℕ → Application M → State Seen
@@ -127,7 +112,7 @@ module _ {M : Type 0} (answer : M → Meaning) where
 
   -- What is to be done at a moment has been done. An application that is exhausted or closed does nothing more.
   abbrev pub settled_as : AppState → ℕ → Application M → Application M
-  settled_as Running moment application = after_outcome (settle_meaning moment (state_at moment application)) application
+  settled_as Running moment application = after_outcome (settle_meaning (state_at moment application)) application
   settled_as Exhausted moment application = application
   settled_as Closed moment application = application
 
@@ -154,7 +139,7 @@ module _ {M : Type 0} (answer : M → Meaning) where
   -- what settles from rest is settled
   abbrev pub SettlesFromRest : Type 0
   SettlesFromRest = (moment : ℕ) (application : Application M)
-      → stage_done moment (settling_begun moment (record { application = application; work = Rests })) ≡ record { application = settled moment application; work = Rests }
+      → stage_done moment (settling_begun (record { application = application; work = Rests })) ≡ record { application = settled moment application; work = Rests }
 
   -- an application begins with its script, and then settles
   abbrev pub BeginsWithScript : Type 0

@@ -1,7 +1,7 @@
--- What the scripts of an application see of it beside its variables: what its panel has, and the commands that the program serves for it.
+-- What the scripts of an application see of it beside its variables: what it has in the tables, and the commands that the program serves for it.
 use Rattle.std.specs.Prelude.{ℕ, List, [], ◌∷◌, Option, Some, None, if◌then◌else◌, bytes_eq, map}
 use Rattle.tk_alias.specs.Replies.{Answer}
-use Rattle.tk_app.specs.Shown.{Shown}
+use Rattle.tk_panel.specs.Panel.{Panel}
 
 -- what an alias answers to the words behind its name
 abbrev pub Meaning : Type 0
@@ -9,10 +9,10 @@ Meaning = List (List ℕ) → Answer
 
 pub record Seen : Type 0 where
   pub serves : List (List ℕ × Meaning)
-  pub panel : Shown
+  pub panel : Panel
 
 -- the same with something else in its panel
-abbrev pub with_panel : Shown → Seen → Seen
+abbrev pub with_panel : Panel → Seen → Seen
 with_panel panel seen = record seen { panel = panel }
 
 -- what the alias of a name means, where there is one

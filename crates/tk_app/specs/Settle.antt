@@ -1,54 +1,72 @@
--- What is done at a moment: timers that are due, layout, and idle scripts.
-use Rattle.std.specs.Prelude.{ℕ, zero, suc, List, [], ◌∷◌, Option, Some, None}
+-- What is done at a moment, and how an application begins.
+use Rattle.std.specs.Prelude.{◌≡◌, ℕ, List, [], ◌∷◌, Option, Some, None}
+use Rattle.tcl_control.specs.declared.code.Code.{Code}
 use Rattle.tcl_control.specs.declared.code.Code.TheVariants.{Normal}
-use Rattle.tcl_interp.specs.Evaluation.{State, Outcome, Ended, OutOfSteps, and_then, with_step}
-use Rattle.tk_after.specs.declared.entry.Entry.{Entry}
-use Rattle.tk_after.specs.Timers.{entry_with, first_due, idle_ids}
-use Rattle.tk_app.specs.Seen.{Seen}
-use Rattle.tk_app.specs.Shown.{laid, taken}
-use Rattle.tk_app.specs.Global.{in_panel, script_at_global, with_report}
+use Rattle.tcl_interp.specs.Evaluation.{State, Outcome, Ended, and_then, with_step}
+use Rattle.tcl_interp.specs.Plans.{run_at}
+use Rattle.tcl_interp.specs.Scripts.{out_of_global, script_meaning}
+use Rattle.tcl_jobs.specs.Meaning.{job_meaning}
+use Rattle.tk_panel.specs.declared.job.Home.TheVariants.{Settle}
+use Rattle.tk_panel.specs.declared.job.Job.{Job}
+use Rattle.tk_panel.specs.declared.job.Rest.TheVariants.{Rounds}
+use Rattle.tk_panel.specs.Next.{next}
+use Rattle.tk_panel.specs.Panel.{Panel}
+use Rattle.tk_panel.specs.Settle.{Next}
+use Rattle.tk_panel.specs.Start.{alone, start}
+use Rattle.tk_panel_jobs.specs.Course.{ended, with_end}
+use Rattle.tk_app.specs.Outside.{calls, course, outside}
+use Rattle.tk_app.specs.Seen.{Seen, with_panel}
 
-abbrev pub done : State Seen → Outcome Seen
-done state = Ended state Normal []
+-- a script at global level, where the first of the levels is alone, with room for 200 scripts one in another
+abbrev pub at_global : List ℕ → State Seen → Outcome Seen
+at_global script state = run_at (script_meaning outside 200) 1 script state
 
--- the scripts that wait in a state
-abbrev pub entries_in : State Seen → List Entry
-entries_in state = state.shows.panel.own.entries
+-- a state in which the panel is another
+abbrev pub in_panel : Panel → State Seen → State Seen
+in_panel panel state = record state { shows = with_panel panel state.shows }
 
--- A script that waits under a number is started: it takes a step, and only then leaves the table. It runs at global level, and its error is told.
-unfoldable pub started_script : ℕ → List ℕ → State Seen → Outcome Seen
-started_script id script state =
-    with_step state (λ left.
-    and_then (script_at_global script (in_panel (taken id) left)) (λ after code text. done (with_report code text after)))
+-- what a job comes to
+abbrev pub meaning : Job → State Seen → Outcome Seen
+meaning job state = job_meaning course calls 200 job state
 
--- one that still waits; it may have been cancelled
-abbrev pub started_if : ℕ → Option Entry → State Seen → Outcome Seen
-started_if id (Some entry) state = started_script id entry.script state
-started_if id None state = done state
+-- ── a moment ──
 
--- a round: these idle scripts one after another
-abbrev pub round_meaning : List ℕ → State Seen → Outcome Seen
-round_meaning [] state = done state
-round_meaning (id ∷ ids) state = and_then (started_if id (entry_with id (entries_in state)) state) (λ after _ _. round_meaning ids after)
+-- what is to be done at a moment, where nothing is under way
+abbrev pub settling : Job
+settling = alone (Rounds [] Settle)
 
--- a round of those that wait now, and what comes after it
-abbrev pub on_idle : (State Seen → Outcome Seen) → List ℕ → State Seen → Outcome Seen
-on_idle again [] state = done state
-on_idle again (id ∷ ids) state = and_then (round_meaning (id ∷ ids) state) (λ after _ _. again after)
+-- all that is to be done at a moment
+abbrev pub settle_meaning : State Seen → Outcome Seen
+settle_meaning state = meaning settling state
 
--- The timer that goes first of those due; or else layout, which changes nothing where it was done before, and a round.
-abbrev pub on_due : (State Seen → Outcome Seen) → Option Entry → State Seen → Outcome Seen
-on_due again (Some entry) state = and_then (started_script entry.id entry.script state) (λ after _ _. again after)
-on_due again None state = let there = in_panel laid state in on_idle again (idle_ids (entries_in there)) there
+-- ── the beginning ──
 
--- All that is to be done at a moment, in so many turns. Each turn but the last takes a step, so one more than steps are left is enough.
-abbrev pub settle_turns : ℕ → ℕ → State Seen → Outcome Seen
-settle_turns moment zero state = OutOfSteps state
-settle_turns moment (suc turns) state = on_due (settle_turns moment turns) (first_due moment (entries_in state)) state
+-- an error of the application's own script is told, and then comes what is to be done at the moment
+abbrev pub after_script : State Seen → Code → List ℕ → Outcome Seen
+after_script state code text = settle_meaning (in_panel (with_end (out_of_global code) text state.shows.panel) state)
 
-abbrev pub settle_meaning : ℕ → State Seen → Outcome Seen
-settle_meaning moment state = settle_turns moment (suc state.steps) state
-
--- an application's own script, whose error is told, and then what is to be done at the moment at which it began
 abbrev pub start_meaning : List ℕ → State Seen → Outcome Seen
-start_meaning script state = and_then (script_at_global script state) (λ left code text. settle_meaning state.shows.panel.moment (with_report code text left))
+start_meaning script state = and_then (at_global script state) after_script
+
+-- ── what comes next, again and again ──
+
+-- a script of a job has ended, and then the job goes on
+abbrev pub goes_on : Job → State Seen → Code → List ℕ → Outcome Seen
+goes_on job state code text =
+    (let there : Panel × Job = ended (out_of_global code) text state.shows.panel job in meaning there.1 (in_panel there.0 state))
+
+-- the step of what is next is taken, it starts, and its script runs
+abbrev pub starts : Job → State Seen → Outcome Seen
+starts job state =
+    (let there : Panel × (List ℕ × Job) = start job state.shows.panel in and_then (at_global there.1.0 (in_panel there.0 state)) (goes_on there.1.1))
+
+abbrev pub on_next : State Seen → Option Job → Outcome Seen
+on_next state None = Ended state Normal []
+on_next state (Some job) = with_step state (starts job)
+
+abbrev pub comes_next : State Seen → Next → Outcome Seen
+comes_next state there = on_next (in_panel there.0 state) there.1
+
+-- what a job comes to, and with it what is done at a moment, is what comes next of it, again and again
+abbrev pub GoesByNext : Type 0
+GoesByNext = (job : Job) (state : State Seen) → meaning job state ≡ comes_next state (next job state.store state.shows.panel)

@@ -1,29 +1,29 @@
 -- All applications side by side, and what a turn of one of them makes of all.
-use Rattle.std.specs.Prelude.{◌≡◌, ◌≢◌, ◌⊎◌, ℕ, ◌+◌, ◌-◌, ◌≤◌, Bool, List, [], ◌∷◌, ◌++◌, Some, min, slice_get, slice_set}
+use Rattle.std.specs.Prelude.{◌≡◌, ◌≢◌, ◌⊎◌, ℕ, ◌+◌, ◌-◌, ◌≤◌, ◌<◌, Bool, List, [], ◌∷◌, ◌++◌, Some, min, slice_get, slice_set}
 use Rattle.tcl_vars.specs.Store.{Store}
-use Rattle.tcl_interp.specs.declared.interp.SliceEnd.{SliceEnd}
-use Rattle.tcl_interp.specs.declared.interp.SliceEnd.TheVariants as slice
 use Rattle.tcl_interp.specs.Finish.{Rest, Idle, Spent, Broken}
 use Rattle.tcl_interp.specs.Interp.{IsRunning}
 use Rattle.tcl_control.specs.Table.{Table}
+use Rattle.tcl_jobs.specs.declared.job.Task.{Task}
+use Rattle.tcl_jobs.specs.declared.job.Task.TheVariants as task
+use Rattle.tk_input.specs.declared.event.LocalEvent.{LocalEvent}
+use Rattle.tk_panel.specs.declared.job.Job.{Job}
+use Rattle.tk_panel.specs.declared.tables.Tables.{Tables}
+use Rattle.tk_panel.specs.Fresh.{nothing}
+use Rattle.tk_panel.specs.Panel.{Panel, panel_of}
+use Rattle.tk_turns.specs.declared.turn.Turn.{Turn}
+use Rattle.tk_turns.specs.Rounds.{entry}
 use Rattle.tk_app.specs.declared.budget.Budget.{Budget}
 use Rattle.tk_app.specs.declared.runner.Progress.{Progress}
 use Rattle.tk_app.specs.declared.runner.Progress.TheVariants.{Resting, Going, Lost}
-use Rattle.tk_app.specs.declared.settling.Settling.{Settling}
-use Rattle.tk_app.specs.declared.settling.Settling.TheVariants.{Script}
-use Rattle.tk_input.specs.declared.event.LocalEvent.{LocalEvent}
 use Rattle.tk_app.specs.declared.state.AppState.{AppState}
 use Rattle.tk_app.specs.declared.state.AppState.TheVariants.{Running, Exhausted, Closed}
-use Rattle.tk_app.specs.declared.tables.Tables.{Tables}
 use Rattle.tk_app.specs.declared.state.AppEnd.{AppEnd}
 use Rattle.tk_app.specs.declared.state.AppEnd.TheVariants.{Settled, More, Stopped}
-use Rattle.tk_turns.specs.declared.turn.Turn.{Turn}
-use Rattle.tk_turns.specs.Rounds.{entry}
 use Rattle.tk_app.specs.Application.{Application}
 use Rattle.tk_app.specs.Part.{Part, Work, Goes, Rests, delivered, needs, settling_begun, stage_done, task_begins}
 use Rattle.tk_app.specs.Seen.{Meaning}
-use Rattle.tk_app.specs.Shown.{Shown}
-use Rattle.tk_app.specs.Tables.{panel_of}
+use Rattle.tk_app.specs.Settle.{settling}
 
 -- the moment, the part in each slot, the turns that were taken, and whether memory was refused while one was taken
 pub record Applications (M : Type 0) : Type 0 where
@@ -37,7 +37,6 @@ pub record Applications (M : Type 0) : Type 0 where
 -- what of an application doesn't stand in the tables
 pub record Program (M : Type 0) : Type 0 where
   pub name : List ℕ
-  pub title : List ℕ
   pub aliases : List (List ℕ × M)
   pub budget : Budget
   pub store : Store
@@ -52,30 +51,36 @@ work_by Running work = work
 work_by Exhausted work = Rests
 work_by Closed work = Rests
 
-abbrev pub application_of : {M : Type 0} → Shown → Program M → Application M
-application_of shown program = record {
+abbrev pub application_of : {M : Type 0} → Panel → Program M → Application M
+application_of panel program = record {
   name = program.name;
-  width = shown.size.width;
-  height = shown.size.height;
   aliases = program.aliases;
   store = program.store;
   commands = program.commands;
-  transcript = shown.transcript;
-  window = shown.window;
-  title = program.title;
-  own = shown.own;
+  screen = panel.screen;
+  bindings = panel.bindings;
+  virtuals = panel.virtuals;
+  history = panel.history;
+  queue = panel.queue;
+  input = panel.input;
+  timers = panel.timers;
+  transcript = panel.transcript;
   budget = program.budget;
   steps = program.steps;
   state = program.state;
 }
 
-abbrev pub part_of : {M : Type 0} → Shown → Program M → Part M
-part_of shown program = record { application = application_of shown program; work = program.work }
+abbrev pub part_of : {M : Type 0} → Panel → Program M → Part M
+part_of panel program = record { application = application_of panel program; work = program.work }
 
 -- the parts from a slot on
 unfoldable pub parts_from : {M : Type 0} → ℕ → Tables → List (Program M) → List (Part M)
 parts_from slot tables [] = []
 parts_from slot tables (program ∷ programs) = part_of (panel_of slot tables) program ∷ parts_from (slot + 1) tables programs
+
+-- no application from a slot on has anything
+abbrev pub IsVacantFrom : ℕ → Tables → Type 0
+IsVacantFrom first tables = (slot : ℕ) → first ≤ slot → slot < 16 → panel_of slot tables ≡ nothing tables.clock
 
 -- ── turns ──
 
@@ -110,21 +115,21 @@ pub record SettlesSlot {M : Type 0} (answer : M → Meaning) (steps slot : ℕ) 
   pub after : Part M
   pub was : slice_get old.parts slot ≡ Some before
   pub changed : new.parts ≡ slice_set old.parts slot after
-  pub turn : TakesTurn answer old.moment steps end (settling_begun old.moment before) after
-  pub told : new.turns ≡ old.turns ++ entry slot (min steps (needs answer old.moment (settling_begun old.moment before)))
+  pub turn : TakesTurn answer old.moment steps end (settling_begun before) after
+  pub told : new.turns ≡ old.turns ++ entry slot (min steps (needs answer old.moment (settling_begun before)))
   pub moment : new.moment ≡ old.moment
 
 -- settling begins in the part in a slot, where nothing is under way in it
 pub record BeginsIn {M : Type 0} (slot : ℕ) (old new : Applications M) : Type 0 where
   pub before : Part M
   pub was : slice_get old.parts slot ≡ Some before
-  pub changed : new ≡ record old { parts = slice_set old.parts slot (settling_begun old.moment before) }
+  pub changed : new ≡ record old { parts = slice_set old.parts slot (settling_begun before) }
 
 -- ── events ──
 
 -- Nothing is under way in a part, or it is still to begin its script, with all of its steps.
 abbrev pub MayGet : {M : Type 0} → Part M → Type 0
-MayGet part = (part.work ≡ Rests) ⊎ ((script : List ℕ) × (part.work ≡ task_begins (Script script)) × (part.application.steps ≡ part.application.budget.total))
+MayGet part = (part.work ≡ Rests) ⊎ ((script : List ℕ) × (part.work ≡ task_begins (task.Begins script settling)) × (part.application.steps ≡ part.application.budget.total))
 
 -- the part in a slot may get an event
 abbrev pub MayGetIn : {M : Type 0} → ℕ → List (Part M) → Type 0
@@ -147,16 +152,16 @@ pub record DeliversIn {M : Type 0} (slot : ℕ) (event : LocalEvent) (old new : 
 
 -- ── slices ──
 
--- how a turn ends, by how the interpreter's slice does
-abbrev pub end_of : SliceEnd → AppEnd
-end_of (slice.Done code text) = Settled
-end_of slice.More = More
-end_of slice.Exhausted = Stopped
+-- how a turn ends once nothing is under way, by what has become of the application
+abbrev pub end_as : AppState → AppEnd
+end_as Running = Settled
+end_as Exhausted = Stopped
+end_as Closed = Stopped
 
 -- ── how far a runner has come ──
 
 -- While it runs and rests, its steps aren't spent.
-abbrev pub IsAsFar : Progress → AppState → Rest Settling → Type 0
+abbrev pub IsAsFar : Progress → AppState → Rest (Task Job) → Type 0
 IsAsFar Resting Running rest = rest ≡ Idle
 IsAsFar Resting Exhausted rest = (rest ≡ Idle) ⊎ (rest ≡ Spent)
 IsAsFar Resting Closed rest = (rest ≡ Idle) ⊎ (rest ≡ Spent)

@@ -1,15 +1,17 @@
 //! The commands that the program serves for an application.
 ghost use Rattle.std.specs.Prelude.{◌≡◌, ◌++◌, IfOk, OnOk};
 ghost use Rattle.std.specs.Option.{option_copied};
-ghost use Rattle.tk_app.specs.Outside.{act_of, alias_act, served_names};
+ghost use Rattle.tk_app.specs.Names.{command_names as panel_names};
+ghost use Rattle.tk_app.specs.Outside.{act_of, alias_act};
 ghost use Rattle.tk_app.specs.Seen.{alias_named, meanings, names_of};
 
-use crate::message::short_text;
-use crate::settling::Settling;
+use crate::names::panel_names;
 use std::alloc::{AllocError, Global};
 use tcl_interp::{Act, Code};
+use tcl_jobs::Task;
 use tcl_text::Text;
 use tk_alias::{Alias, AliasMeaning, AliasReply, Aliases};
+use tk_panel::Job;
 
 /// Adds the names of aliases.
 fn push_names<M: AliasMeaning>(
@@ -30,12 +32,9 @@ pub fn command_names<M: AliasMeaning>(
     alloc: Global,
     aliases: &Aliases<M>,
 ) -> Result<Vec<Text>, AllocError>
-    ensures { IfOk result (λ names. names.items ≡ served_names ++ names_of aliases.now) }
+    ensures { IfOk result (λ names. names.items ≡ panel_names ++ names_of aliases.now) }
 {
-    let mut names = Vec::new(alloc);
-    names.push(short_text(alloc, "puts")?)?;
-    names.push(short_text(alloc, "after")?)?;
-    names.push(short_text(alloc, "clock")?)?;
+    let mut names = panel_names(alloc)?;
     push_names(&mut names, aliases.as_slice())?;
     Ok(names)
 }
@@ -59,7 +58,7 @@ fn reply<M: AliasMeaning>(
     alloc: Global,
     alias: &Alias<M>,
     arguments: &[Text],
-) -> Result<Act<Settling>, AllocError>
+) -> Result<Act<Task<Job>>, AllocError>
     ensures { IfOk result (λ act. act ≡ act_of (M.answer alias.now.1 arguments.now)) }
 {
     match alias.call(alloc, arguments) {
@@ -74,7 +73,7 @@ pub fn served<M: AliasMeaning>(
     alloc: Global,
     aliases: &Aliases<M>,
     words: &[Text],
-) -> Result<Option<Act<Settling>>, AllocError>
+) -> Result<Option<Act<Task<Job>>>, AllocError>
     ensures { IfOk result (λ act. act ≡ alias_act (meanings M.answer aliases.now) words.now) }
 {
     let [name, arguments @ ..] = words else {

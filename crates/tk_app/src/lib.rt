@@ -1,34 +1,27 @@
-//! The tables of all applications, each application's view of them, and its turns: slices of steps in which its scripts run and what is due is done.
+//! All applications in one set of tables, each seen through a view of its own, and the turns in which they run: slices of steps in which their scripts
+//! run, and what is to be done at a moment is done.
 #![tactic(auto)]
 
 mod aliases;
 mod budget;
-mod clock;
-mod commands;
-mod due;
-mod events;
+mod jobs;
 mod laws;
-mod message;
-mod round;
+mod names;
 mod runner;
 mod section;
-mod settling;
 mod shared;
+mod size;
 mod state;
-mod tables;
-mod tasks;
-mod transcript;
+mod turn;
 mod view;
-mod window;
 
 pub use budget::Budget;
-pub use clock::MAX_MOMENT;
-pub use laws::{begins_with_script, settles_from_rest};
+pub use laws::{begins_with_script, goes_by_next, settles_from_rest};
 pub use shared::{MAX_APPLICATIONS, Shared};
+pub use size::Size;
 pub use state::{AppEnd, AppState};
 pub use tk_alias::{Alias, AliasMeaning, AliasReply, Aliases};
 pub use tk_input::{LocalEvent, LocalKind};
+pub use tk_panel::{Line, MAX_MOMENT, Stream};
 pub use tk_turns::Turn;
-pub use transcript::{Line, Stream};
 pub use view::AppView;
-pub use window::{Size, Window};

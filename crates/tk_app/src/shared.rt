@@ -1,17 +1,18 @@
 ghost use Rattle.std.specs.Prelude.{◌≡◌, ◌↔◌, Any, IsTrue};
+ghost use Rattle.tk_panel.specs.Panel.{panel_of};
+ghost use Rattle.tk_app.specs.Application.{next_due_as};
 
 use crate::budget::Budget;
-use crate::due::next_due;
 use crate::runner::Runner;
 use crate::section::section;
+use crate::size::Size;
 use crate::state::AppState;
-use crate::tables::Tables;
 use crate::view::AppView;
-use crate::window::Size;
 use std::alloc::{AllocError, Global};
 use std::marker::Model;
 use tcl_text::Text;
 use tk_alias::{AliasMeaning, Aliases};
+use tk_panel::Tables;
 use tk_turns::Turn;
 
 /// How many applications there are at most.
@@ -29,14 +30,13 @@ pub struct Shared<M: AliasMeaning> {
 
 impl<M: AliasMeaning> Model for Shared<M> {
     ghost use Rattle.std.specs.Prelude.{◌≡◌, ◌≤◌, length};
-    ghost use Rattle.tk_app.specs.Tables.{IsVacantFrom};
-    ghost use Rattle.tk_app.specs.Turns.{Applications, parts_from};
+    ghost use Rattle.tk_app.specs.Turns.{Applications, IsVacantFrom, parts_from};
 
     ghost Value = { Applications M };
 
     ghost view = { λ s. record { moment = s.tables.clock; parts = parts_from 0 s.tables s.runners.items; turns = s.turns.items; refused = s.refused } };
 
-    ghost invariant = { λ s. (length s.runners.items ≤ 16) × (length s.tables.windows ≡ length s.runners.items) × IsVacantFrom (length s.runners.items) s.tables };
+    ghost invariant = { λ s. (length s.runners.items ≤ 16) × IsVacantFrom (length s.runners.items) s.tables };
 }
 
 impl<M: AliasMeaning> Shared<M> {
@@ -45,17 +45,17 @@ impl<M: AliasMeaning> Shared<M> {
     ghost use Rattle.tk_app.specs.Part.{added, is_under_way};
     ghost use Rattle.tk_app.specs.Section.{section};
 
-    /// No application, at moment 0. It takes no memory.
+    /// No application, at moment 0.
     #[tactic(auto, unfolding(crate::specs::Turns::parts_from))]
-    pub fn new(alloc: Global) -> Shared<M>
-        ensures { result ≡ record { moment = 0; parts = []; turns = []; refused = false } }
+    pub fn new(alloc: Global) -> Result<Shared<M>, AllocError>
+        ensures { IfOk result (λ shared. shared ≡ record { moment = 0; parts = []; turns = []; refused = false }) }
     {
-        Shared {
-            tables: Tables::new(alloc),
+        Ok(Shared {
+            tables: Tables::new(alloc)?,
             runners: Vec::new(alloc),
             turns: Vec::new(alloc),
             refused: false,
-        }
+        })
     }
 
     /// How many applications there are. It takes no memory.
@@ -65,8 +65,8 @@ impl<M: AliasMeaning> Shared<M> {
         self.runners.len()
     }
 
-    /// Adds an application, in the next slot, which it answers: its name, the size of its rectangle in pixels, its steps, its script, which is the
-    /// first that it does when it settles, and its aliases, each of which replaces a command of its name (interp(n)).
+    /// Adds an application, in the next slot, which it answers: its name, the size of its rectangle in pixels, its steps, its script,
+    /// which is the first that it does when it settles, and its aliases, each of which replaces a command of its name (interp(n)).
     pub fn add(
         &mut self,
         name: Text,
@@ -85,7 +85,12 @@ impl<M: AliasMeaning> Shared<M> {
         let slot = self.runners.len();
         let runner = Runner::new(self.tables.alloc, name, script, budget, aliases)?;
         self.runners.reserve(1)?;
-        self.tables.windows.add(size)?;
+        tk_panel::add(
+            &mut self.tables,
+            slot,
+            runner.name(),
+            (size.width, size.height),
+        )?;
         match self.runners.push(runner) {
             Ok(()) => Ok(slot),
             Err(_) => unreachable!(),
@@ -176,6 +181,16 @@ impl<M: AliasMeaning> Shared<M> {
         ensures { self.new ≡ record self.old { turns = [] } }
     {
         self.turns.clear();
+    }
+}
+
+/// The moment at which the earliest of an application's timers is due, while it runs.
+fn next_due(tables: &Tables, slot: usize, state: AppState) -> Option<u64>
+    ensures { result ≡ next_due_as state (panel_of slot tables.now).timers }
+{
+    match state {
+        AppState::Running => tables.timers.next_due_of(slot),
+        AppState::Exhausted | AppState::Closed => None,
     }
 }
 

@@ -1,8 +1,8 @@
 ghost use Rattle.std.specs.Prelude.{◌≡◌, ◌<◌, length};
 
-use crate::runner::{deliver, take_turn};
 use crate::shared::Shared;
 use crate::state::{AppEnd, AppState};
+use crate::turn::{deliver, take_turn};
 use std::alloc::{AllocError, Global};
 use tk_alias::AliasMeaning;
 use tk_input::LocalEvent;
@@ -22,8 +22,8 @@ impl<M: AliasMeaning> AppView<'_, M> {
     ghost use Rattle.tk_app.specs.Section.{section};
     ghost use Rattle.tk_app.specs.Turns.{BeginsIn, ChangesOnly, ChangesPart, DeliversIn, MayGetIn, SettlesSlot};
 
-    /// Does what is to be done at the moment, for at most so many steps: what is under way, or else the timers that are due, layout and the idle scripts.
-    /// An application's own script is under way from the first. The steps that it takes are told as a turn.
+    /// Does what is to be done at the moment, for at most so many steps: what is under way, or else queued events, the timers that are due, layout and
+    /// the idle scripts. An application's own script is under way from the first. The steps that it takes are told as a turn.
     ///
     /// Once memory was refused in it, for whatever application, it is refused in every further call.
     pub fn settle(&mut self, steps: u64) -> Result<AppEnd, AllocError>
@@ -68,8 +68,10 @@ impl<M: AliasMeaning> AppView<'_, M> {
         if shared.refused {
             return Err(AllocError);
         }
+        shared.refused = true;
         let runner = &mut shared.runners[slot];
-        deliver(&mut shared.tables, slot, runner, event);
+        deliver(&mut shared.tables, slot, runner, event)?;
+        shared.refused = false;
         Ok(())
     }
 
@@ -83,9 +85,8 @@ impl<M: AliasMeaning> AppView<'_, M> {
         let slot = self.slot;
         let shared = &mut *self.shared;
         let alloc = shared.tables.alloc;
-        let moment = shared.tables.clock.moment();
         let runner = &mut shared.runners[slot];
-        runner.begin(alloc, moment)?;
+        runner.begin(alloc)?;
         Ok(())
     }
 

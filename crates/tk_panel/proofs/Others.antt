@@ -47,7 +47,7 @@ pub others_same : (slot : ℕ) (old new : Tables) → LeavesOthers slot old new 
 unfolding others_of
 others_same slot old new leaves =
     kept_at (λ k. panel_of k new) (λ k. panel_of k old) slot
-    (λ k differ. rw (leaves.clock, leaves.screen k differ, leaves.bindings k differ, leaves.virtuals k differ, leaves.histories k differ, leaves.queue k differ, leaves.timers k differ, leaves.lines k differ) refl) (range_with_len 0 16)
+    (λ k differ. rw (leaves.clock, leaves.screen k differ, leaves.bindings k differ, leaves.virtuals k differ, leaves.histories k differ, leaves.queue k differ, leaves.inputs k differ, leaves.timers k differ, leaves.lines k differ) refl) (range_with_len 0 16)
 
 -- what a call leaves alone
 pub left_same : (slot : ℕ) (name : GName) (old new : Tables) → LeavesOthers slot old new → left_of slot name new ≡ left_of slot name old
@@ -64,6 +64,7 @@ others_then slot first next last one other = record {
   virtuals = λ k differ. other.virtuals k differ ∙ one.virtuals k differ;
   histories = λ k differ. other.histories k differ ∙ one.histories k differ;
   queue = λ k differ. other.queue k differ ∙ one.queue k differ;
+  inputs = λ k differ. other.inputs k differ ∙ one.inputs k differ;
   timers = λ k differ. other.timers k differ ∙ one.timers k differ;
   lines = λ k differ. other.lines k differ ∙ one.lines k differ;
 }
@@ -77,6 +78,7 @@ others_queue slot tables queue leaves = record {
   virtuals = λ k differ. refl;
   histories = λ k differ. refl;
   queue = leaves;
+  inputs = λ k differ. refl;
   timers = λ k differ. refl;
   lines = λ k differ. refl;
 }

@@ -4,6 +4,7 @@ use Rattle.std.specs.Prelude.{ℕ, List, [], ◌∷◌, Option, Some, None, leng
 use Rattle.tk_events.specs.declared.event.Event.{Event}
 use Rattle.tk_events.specs.declared.event.EventKind.TheVariants.{Physical}
 use Rattle.tk_events.specs.Event.{bare_event}
+use Rattle.tk_inputs.specs.Inputs.{without_window}
 use Rattle.tk_patterns.specs.Own.{without_tag}
 use Rattle.tk_sequences.specs.declared.event_type.EventType.TheVariants.{Destroy}
 use Rattle.tk_screen.specs.Own.{without}
@@ -41,9 +42,11 @@ marked numbers panel = record panel { screen = record panel.screen { tree = all_
 
 -- ── removal ──
 
--- a window goes, with its widget and its packing, and the bindings for its path with it
+-- a window goes, with its widget and its packing, and the bindings for its path with it; the main window has the keys if this one had them, and it is
+-- neither under the pointer nor pressed any more
 abbrev pub without_path : ℕ → List ℕ → Panel → Panel
-without_path number path panel = record panel { screen = without number panel.screen; bindings = without_tag path panel.bindings }
+without_path number path panel =
+    record panel { screen = without number panel.screen; bindings = without_tag path panel.bindings; input = without_window number panel.input }
 
 -- Children go before their parents, so none is left.
 abbrev pub removed_at : ℕ → Panel → Option Window → Panel

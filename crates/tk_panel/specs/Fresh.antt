@@ -1,6 +1,8 @@
--- What an application has that wasn't added yet.
-use Rattle.std.specs.Prelude.{ℕ, []}
-use Rattle.tk_after.specs.Timers.{fresh}
+-- What an application has before it is added, and when it was.
+use Rattle.std.specs.Prelude.{ℕ, List, []}
+use Rattle.tk_after.specs.Timers as timers
+use Rattle.tk_bind_class.specs.ClassBindings.{with_class_bindings}
+use Rattle.tk_inputs.specs.Inputs as inputs
 use Rattle.tk_screen.specs.Own as screens
 use Rattle.tk_panel.specs.Panel.{Panel}
 
@@ -13,6 +15,11 @@ nothing moment = record {
   virtuals = [];
   history = [];
   queue = [];
-  timers = fresh;
+  input = inputs.fresh;
+  timers = timers.fresh;
   transcript = [];
 }
+
+-- a new application of a name, with a rectangle of a size: its main window `.`, and what the classes of widgets bind
+unfoldable pub fresh : List ℕ → ℕ × ℕ → ℕ → Panel
+fresh name size moment = record (nothing moment) { screen = screens.added name size; bindings = with_class_bindings [] }

@@ -2,6 +2,7 @@
 pub mod Changes
 pub mod Choice
 pub mod Commands
+pub mod Deliver
 pub mod Destroy
 pub mod Fresh
 pub mod Next

@@ -5,6 +5,8 @@ use Rattle.std.specs.List.{range_with_len}
 use Rattle.tk_after.specs.Timers as timers
 use Rattle.tk_dispatch.specs.Histories as histories
 use Rattle.tk_events.specs.declared.event.Event.{Event}
+use Rattle.tk_inputs.specs.declared.inputs.Input.{Input}
+use Rattle.tk_inputs.specs.Inputs as inputs
 use Rattle.tk_patterns.specs.declared.binding.Binding.{Binding}
 use Rattle.tk_patterns.specs.Own as bindings
 use Rattle.tk_queue.specs.Queue as queues
@@ -27,6 +29,8 @@ pub record Panel : Type 0 where
   pub history : List Event
   -- the events that wait, the next one first
   pub queue : List Event
+  -- which window has the keys, where the pointer is, which button is pressed
+  pub input : Input
   pub timers : timers.Own
   pub transcript : List Line
 
@@ -38,6 +42,7 @@ panel_of slot tables = record {
   virtuals = virtuals.own_of slot tables.virtuals;
   history = histories.own_of slot tables.histories;
   queue = queues.own_of slot tables.queue;
+  input = inputs.own_of slot tables.inputs;
   timers = timers.own_of slot tables.timers;
   transcript = lines_of slot tables.transcripts;
 }
@@ -50,6 +55,7 @@ pub record LeavesOthers (slot : ℕ) (old new : Tables) : Type 0 where
   pub virtuals : virtuals.LeavesOthers slot old.virtuals new.virtuals
   pub histories : histories.LeavesOthers slot old.histories new.histories
   pub queue : queues.LeavesOthers slot old.queue new.queue
+  pub inputs : inputs.LeavesOthers slot old.inputs new.inputs
   pub timers : timers.LeavesOthers slot old.timers new.timers
   pub lines : LeavesLines slot old.transcripts new.transcripts
 

@@ -69,7 +69,7 @@ fn doom(tables: &mut Tables, slot: usize, path: &Text) -> Result<Numbers, AllocE
     Ok(Numbers::of(numbers))
 }
 
-/// A window goes, if it is still there, and the bindings for its path with it.
+/// A window goes, if it is still there, and the bindings for its path with it. The keys, the pointer and a press no longer mean it.
 #[tactic(auto, unfolding(crate::specs::Destroy::removed))]
 fn remove(tables: &mut Tables, slot: usize, number: u64) -> Result<(), AllocError>
     ensures own { OnOk result (panel_of slot tables.new ≡ removed number (panel_of slot tables.old)) }
@@ -86,6 +86,7 @@ fn remove(tables: &mut Tables, slot: usize, number: u64) -> Result<(), AllocErro
     if tables.screen.windows.children(win).is_empty() {
         tables.screen.remove(win);
         tables.bindings.unbind_all(slot, path.as_str());
+        tables.inputs.forget(slot, number);
     }
     Ok(())
 }

@@ -2,10 +2,12 @@
 //! that are destroyed (after(n), bind(n), destroy(n), update(n)).
 #![tactic(auto)]
 
+mod adding;
 mod changes;
 mod choice;
 mod clock;
 mod commands;
+mod delivery;
 mod destroy;
 mod job;
 mod looking;
@@ -16,8 +18,12 @@ mod starting;
 mod tables;
 mod transcript;
 
+pub use adding::add;
+pub use changes::lay_out;
+pub use choice::choose;
 pub use clock::{Clock, MAX_MOMENT};
 pub use commands::{after_command, clock_command, puts_command};
+pub use delivery::deliver;
 pub use job::{Home, Job, Rest};
 pub use looking::next;
 pub use message::{Answer, bad_option, short_text, wrong_args};

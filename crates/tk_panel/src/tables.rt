@@ -7,6 +7,7 @@ use crate::transcript::Transcripts;
 use std::alloc::{AllocError, Global};
 use tk_after::Timers;
 use tk_dispatch::Histories;
+use tk_inputs::Inputs;
 use tk_patterns::BindTable;
 use tk_queue::EventQueue;
 use tk_screen::Screen;
@@ -22,6 +23,7 @@ pub struct Tables {
     pub virtuals: VirtualTable,
     pub histories: Histories,
     pub queue: EventQueue,
+    pub inputs: Inputs,
     pub timers: Timers,
     pub transcripts: Transcripts,
 }
@@ -40,6 +42,7 @@ impl Tables {
             virtuals: VirtualTable::new(alloc),
             histories: Histories::new(alloc)?,
             queue: EventQueue::new(alloc),
+            inputs: Inputs::new(alloc),
             timers: Timers::new(alloc),
             transcripts: Transcripts::new(alloc),
         })

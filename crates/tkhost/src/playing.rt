@@ -120,7 +120,7 @@ fn played<M: AliasMeaning>(
     ensures host { IfOk result (λ host. host.held ≡ held_after M.answer (calls_of session.now aliases.items)) }
     ensures memory { IfErr result (λ fault. fault ≡ PlayFault.NoMemory) }
 {
-    let mut host = Host::new(alloc, slice);
+    let mut host = Host::new(alloc, slice)?;
     add_all(&mut host, session.apps(), aliases)?;
     unless_memory(host.start())?;
     line_all(&mut host, session.events())?;

@@ -1,0 +1,131 @@
+//! The tables as the interpreter of one application sees them: its jobs, its commands and its aliases.
+ghost use Rattle.std.specs.Prelude.{◌≡◌, IfOk};
+ghost use Rattle.tk_panel.specs.Panel.{LeavesOthers, panel_of};
+ghost use Rattle.tk_app.specs.Outside.{calls};
+ghost use Rattle.tk_app.specs.Seen.{meanings};
+
+use crate::aliases::served;
+use std::alloc::AllocError;
+use tcl_interp::{Act, Code, Tasks};
+use tcl_jobs::{Jobs, Looked, Started, Task};
+use tcl_text::Text;
+use tcl_vars::Scopes;
+use tk_alias::{AliasMeaning, Aliases};
+use tk_panel::{Job, Tables};
+
+/// The tables, as one application sees them.
+#[derive(Drop)]
+pub struct AppTables<'a, M: AliasMeaning> {
+    pub slot: usize,
+    pub tables: &'a mut Tables,
+    pub aliases: &'a Aliases<M>,
+}
+
+/// The tables as an application with these aliases sees them.
+pub fn tables_of<'a, M: AliasMeaning>(
+    tables: &'a mut Tables,
+    slot: usize,
+    aliases: &'a Aliases<M>,
+) -> AppTables<'a, M>
+    ensures slot { result.slot ≡ slot }
+    ensures same_reference { result.tables.ghost_name ≡ tables.entry.ghost_name }
+    ensures now { result.tables.now ≡ tables.old }
+    ensures aliases { result.aliases.now ≡ aliases.now }
+{
+    AppTables {
+        slot,
+        tables,
+        aliases,
+    }
+}
+
+/// A command of an application with these aliases, by its name and the words behind it: an alias goes before the others.
+fn call<M: AliasMeaning>(
+    tables: &mut Tables,
+    slot: usize,
+    aliases: &Aliases<M>,
+    scopes: &mut Scopes,
+    words: &[Text],
+) -> Result<Act<Task<Job>>, AllocError>
+    ensures own { IfOk result (λ act. record { shows = record { serves = meanings M.answer aliases.now; panel = panel_of slot tables.new }; store = scopes.new; act = act }
+        ≡ calls (record { serves = meanings M.answer aliases.now; panel = panel_of slot tables.old }) scopes.old words.now) }
+    ensures others { LeavesOthers slot tables.old tables.new }
+{
+    match served(tables.alloc, aliases, words)? {
+        Some(act) => Ok(act),
+        None => tk_panel_jobs::call(tables, slot, scopes, words),
+    }
+}
+
+impl<M: AliasMeaning> Jobs for AppTables<'_, M> {
+    ghost use Rattle.std.specs.Prelude.{ℕ, List};
+    ghost use Rattle.tk_panel.specs.Panel.{LeftAlone, left_of, panel_of};
+    ghost use Rattle.tk_app.specs.Outside.{course as own_course};
+    ghost use Rattle.tk_app.specs.Seen.{Seen, meanings};
+
+    type Job = Job;
+
+    ghost Shows = { Seen };
+
+    ghost shows = { λ v. record { serves = meanings M.answer v.aliases.now; panel = panel_of v.slot v.tables.now } };
+
+    ghost course = { own_course };
+
+    ghost Left = { LeftAlone × List (List ℕ × M) };
+
+    ghost left_alone = { λ v. (left_of v.slot v.tables.ghost_name v.tables.now, v.aliases.now) };
+
+    fn look(&mut self, scopes: &Scopes, job: Job) -> Result<Looked<Job>, AllocError> {
+        let looked = tk_panel_jobs::look(self.tables, self.slot, scopes, job)?;
+        Ok(looked)
+    }
+
+    fn start(&mut self, _scopes: &Scopes, job: Job) -> Result<Started<Job>, AllocError> {
+        let started = tk_panel_jobs::start(self.tables, self.slot, job)?;
+        Ok(started)
+    }
+
+    fn ended(&mut self, job: Job, code: Code, text: Text) -> Result<Job, AllocError> {
+        let next = tk_panel_jobs::ended(self.tables, self.slot, job, code, text)?;
+        Ok(next)
+    }
+}
+
+impl<M: AliasMeaning> Tasks for AppTables<'_, M> {
+    ghost use Rattle.std.specs.Prelude.{ℕ, List};
+    ghost use Rattle.tcl_jobs.specs.Falls.{jobs_fall};
+    ghost use Rattle.tk_panel.specs.Panel.{LeftAlone, left_of, panel_of};
+    ghost use Rattle.tk_app.specs.Outside.{calls, course, outside as own_commands};
+    ghost use Rattle.tk_app.specs.Seen.{Seen, meanings};
+
+    type Task = Task<Job>;
+
+    ghost Shows = { Seen };
+
+    ghost shows = { λ v. record { serves = meanings M.answer v.aliases.now; panel = panel_of v.slot v.tables.now } };
+
+    ghost outside = { own_commands };
+
+    ghost Left = { LeftAlone × List (List ℕ × M) };
+
+    ghost left_alone = { λ v. (left_of v.slot v.tables.ghost_name v.tables.now, v.aliases.now) };
+
+    fn call(&mut self, scopes: &mut Scopes, words: &[Text]) -> Result<Act<Task<Job>>, AllocError> {
+        let act = call(self.tables, self.slot, self.aliases, scopes, words)?;
+        Ok(act)
+    }
+
+    fn resume(
+        &mut self,
+        scopes: &mut Scopes,
+        task: Task<Job>,
+        code: Code,
+        text: Text,
+    ) -> Result<Act<Task<Job>>, AllocError> {
+        let alloc = self.tables.alloc;
+        let act = tcl_jobs::resume(alloc, self, scopes, task, code, text)?;
+        Ok(act)
+    }
+
+    ghost falls = { jobs_fall course calls };
+}

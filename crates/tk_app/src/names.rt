@@ -1,0 +1,75 @@
+//! The names of the commands that an application's panel serves, beside the paths of its windows.
+ghost use Rattle.std.specs.Prelude.{◌≡◌, ◌≤◌, ◌∷◌, [], ◌++◌, IfOk, OnOk, length};
+ghost use Rattle.tk_app.specs.Names.{class_names, command_names, plain_names, widget_names};
+
+use std::alloc::{AllocError, Global};
+use tcl_text::Text;
+use tk_panel::short_text;
+
+/// Adds a name of a few characters.
+fn push_name(alloc: Global, names: &mut Vec<Text>, name: &str) -> Result<(), AllocError>
+    requires { length name.now ≤ 65536 }
+    ensures { OnOk result (names.new.items ≡ names.old.items ++ name.now ∷ []) }
+{
+    Ok(names.push(short_text(alloc, name)?)?)
+}
+
+/// Adds those of Tcl, and of all windows.
+fn push_plain(alloc: Global, names: &mut Vec<Text>) -> Result<(), AllocError>
+    ensures { OnOk result (names.new.items ≡ names.old.items ++ plain_names) }
+{
+    push_name(alloc, names, "after")?;
+    push_name(alloc, names, "bind")?;
+    push_name(alloc, names, "bindtags")?;
+    push_name(alloc, names, "clock")?;
+    push_name(alloc, names, "destroy")?;
+    push_name(alloc, names, "event")?;
+    push_name(alloc, names, "focus")?;
+    push_name(alloc, names, "pack")?;
+    push_name(alloc, names, "puts")?;
+    push_name(alloc, names, "update")?;
+    push_name(alloc, names, "winfo")?;
+    push_name(alloc, names, "wm")
+}
+
+/// Adds those that make widgets.
+fn push_widget(alloc: Global, names: &mut Vec<Text>) -> Result<(), AllocError>
+    ensures { OnOk result (names.new.items ≡ names.old.items ++ widget_names) }
+{
+    push_name(alloc, names, "button")?;
+    push_name(alloc, names, "entry")?;
+    push_name(alloc, names, "frame")?;
+    push_name(alloc, names, "label")?;
+    push_name(alloc, names, "listbox")
+}
+
+/// Adds those that the bindings of the widgets' classes call.
+fn push_class(alloc: Global, names: &mut Vec<Text>) -> Result<(), AllocError>
+    ensures { OnOk result (names.new.items ≡ names.old.items ++ class_names) }
+{
+    push_name(alloc, names, "tk::ButtonDown")?;
+    push_name(alloc, names, "tk::ButtonEnter")?;
+    push_name(alloc, names, "tk::ButtonInvoke")?;
+    push_name(alloc, names, "tk::ButtonLeave")?;
+    push_name(alloc, names, "tk::ButtonUp")?;
+    push_name(alloc, names, "tk::EntryBackspace")?;
+    push_name(alloc, names, "tk::EntryDelete")?;
+    push_name(alloc, names, "tk::EntryDown")?;
+    push_name(alloc, names, "tk::EntryInsert")?;
+    push_name(alloc, names, "tk::EntryMove")?;
+    push_name(alloc, names, "tk::ListboxDown")?;
+    push_name(alloc, names, "tk::ListboxDrag")?;
+    push_name(alloc, names, "tk::ListboxMove")?;
+    push_name(alloc, names, "tk::ListboxSpace")
+}
+
+/// The names.
+pub fn panel_names(alloc: Global) -> Result<Vec<Text>, AllocError>
+    ensures { IfOk result (λ names. names.items ≡ command_names) }
+{
+    let mut names = Vec::new(alloc);
+    push_plain(alloc, &mut names)?;
+    push_widget(alloc, &mut names)?;
+    push_class(alloc, &mut names)?;
+    Ok(names)
+}

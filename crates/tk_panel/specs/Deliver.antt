@@ -1,0 +1,24 @@
+-- What a line of the session gives an application.
+use Rattle.std.specs.Prelude.{ℕ}
+use Rattle.tk_input.specs.declared.event.LocalEvent.{LocalEvent}
+use Rattle.tk_input.specs.declared.event.LocalKind.{LocalKind}
+use Rattle.tk_input.specs.declared.event.LocalKind.TheVariants.{Size}
+use Rattle.tk_inputs.specs.Deliver.{Arrivals, delivered as arrived}
+use Rattle.tk_screen.specs.Own.{with_size}
+use Rattle.tk_panel.specs.Panel.{Panel}
+
+-- what it keeps of its input, and the events that wait for it
+abbrev pub arrivals_in : Panel → Arrivals
+arrivals_in panel = record { input = panel.input; queue = panel.queue }
+
+abbrev pub with_arrivals : Arrivals → Panel → Panel
+with_arrivals arrivals panel = record panel { input = arrivals.input; queue = arrivals.queue }
+
+-- the rectangle has another size; `.` fills it at the next layout
+abbrev pub with_rectangle : LocalKind → Panel → Panel
+with_rectangle (Size width height) panel = record panel { screen = with_size (width, height) panel.screen }
+with_rectangle kind panel = panel
+
+-- keys go to the focus window, the pointer to the window that it is in or that holds it, the host's focus to the focus window, with the windows as they are
+unfoldable pub delivered : LocalEvent → Panel → Panel
+delivered event panel = with_rectangle event.kind (with_arrivals (arrived event panel.screen.tree (arrivals_in panel)) panel)

@@ -1,0 +1,68 @@
+//! Applications that are added.
+ghost use Rattle.std.specs.Prelude.{◌≡◌, IfOk, OnErr, OnOk, codes};
+ghost use Rattle.tk_panel.specs.Fresh.{fresh, nothing};
+ghost use Rattle.tk_panel.specs.Panel.{LeavesOthers, panel_of};
+ghost use Rattle.tk_screen.specs.Own as screens;
+
+use crate::message::short_text;
+use crate::tables::Tables;
+use std::alloc::{AllocError, Global};
+use tcl_text::Text;
+use tk_base::Kind;
+use tk_bind_class::{bind_classes, unbind_classes};
+use tk_screen::{Screen, Toplevel};
+use tk_widgets::Widget;
+
+/// Adds an application of a name that had nothing, with a rectangle of a size in pixels: its main window `.`, whose title is the name, and the bindings
+/// of the classes of widgets. After want of memory it has nothing still.
+#[tactic(auto, unfolding(crate::specs::Fresh::fresh))]
+pub fn add(
+    tables: &mut Tables,
+    slot: usize,
+    name: &Text,
+    size: (u32, u32),
+) -> Result<(), AllocError>
+    requires { panel_of slot tables.old ≡ nothing tables.old.clock }
+    ensures own { OnOk result (panel_of slot tables.new ≡ fresh name.now size tables.old.clock) }
+    ensures others { LeavesOthers slot tables.old tables.new }
+    ensures err { OnErr result (panel_of slot tables.new ≡ panel_of slot tables.old) }
+{
+    bind_classes(tables.alloc, &mut tables.bindings, slot)?;
+    match show_main(tables.alloc, &mut tables.screen, slot, name, size) {
+        Ok(()) => Ok(()),
+        Err(refused) => {
+            unbind_classes(&mut tables.bindings, slot);
+            Err(refused)
+        }
+    }
+}
+
+/// The main window of an application of which nothing is on the screen.
+fn show_main(
+    alloc: Global,
+    screen: &mut Screen,
+    slot: usize,
+    name: &Text,
+    size: (u32, u32),
+) -> Result<(), AllocError>
+    requires { screens.own_of slot screen.old ≡ screens.nothing }
+    ensures own { OnOk result (screens.own_of slot screen.new ≡ screens.added name.now size) }
+    ensures others { screens.LeavesOthers slot screen.old screen.new }
+    ensures err { OnErr result (screens.own_of slot screen.new ≡ screens.own_of slot screen.old) }
+{
+    let main = short_text(alloc, ".")?;
+    let widget = Widget::new(alloc, Kind::Frame)?;
+    let toplevel = Toplevel {
+        name: name.copy()?,
+        title: name.copy()?,
+        size,
+    };
+    screen.toplevels.insert(slot, toplevel)?;
+    match screen.create(slot, &main, Kind::Frame, widget) {
+        Ok(_) => Ok(()),
+        Err(_) => {
+            screen.toplevels.remove(&slot);
+            Err(AllocError)
+        }
+    }
+}

@@ -1,0 +1,3 @@
+-- What the proofs share.
+mod Escapes
+mod Listed

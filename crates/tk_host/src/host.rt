@@ -13,7 +13,7 @@ use crate::fault::HostFault;
 use crate::phase::Phase;
 use crate::spec::is_in_range;
 use crate::stages::{advance, stage};
-use std::alloc::Global;
+use std::alloc::{AllocError, Global};
 use std::marker::Model;
 use tcl_text::Text;
 use tk_app::{Alias, AliasMeaning, Aliases, Budget, MAX_APPLICATIONS, Shared, Size};

@@ -20,7 +20,7 @@ use Rattle.tk_app.specs.Seen.{Meaning, Seen, served_by, with_panel}
 
 -- ── jobs ──
 
--- what becomes of the panel, which is all of it that changes
+-- what becomes of the panel, which is all that changes; the moment stays
 abbrev pub of_panel : {T : Type 0} → Seen → Panel × T → Seen × T
 of_panel seen there = (with_panel there.0 seen, there.1)
 

@@ -1,0 +1,3 @@
+-- What the proofs share.
+pub mod Kept
+pub mod Same

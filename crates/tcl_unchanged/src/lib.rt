@@ -1,0 +1,6 @@
+//! What scripts leave as it is.
+#![tactic(auto)]
+
+mod laws;
+
+pub use laws::{scripts_leave, tasks_leave};

@@ -1,35 +1,22 @@
 -- What an event makes of a part.
-use Rattle.std.proofs.Common.{◌≡◌, ◌≢◌, refl, sym, ap, ◌∙◌}
+use Rattle.std.proofs.Common.{◌≡◌, ◌≢◌, ℕ, refl, sym, ap, ◌∙◌}
 use Rattle.tk_input.specs.declared.event.LocalEvent.{LocalEvent}
-use Rattle.tk_input.specs.declared.event.LocalKind.{LocalKind}
-use Rattle.tk_input.specs.declared.event.LocalKind.TheVariants.{Position, Press, Release, Keydown, Keyup, FocusIn, FocusOut, Size}
+use Rattle.tk_panel.specs.Deliver.{delivered as delivered_panel}
+use Rattle.tk_panel.specs.Panel.{Panel}
 use Rattle.tk_app.specs.declared.state.AppState.{AppState}
 use Rattle.tk_app.specs.declared.state.AppState.TheVariants.{Running, Exhausted, Closed}
-use Rattle.tk_app.specs.Application.{Application}
-use Rattle.tk_app.specs.Part.{Part, delivered, delivered_as, granted, with_event}
-use Rattle.tk_app.specs.Shown.{Shown, event_taken}
+use Rattle.tk_app.specs.Part.{Part, delivered, delivered_as, granted}
 use Rattle.tk_app.specs.Turns.{Program, application_of, part_of}
 
 module _ {M : Type 0} where
-  -- an event of an application is one of its panel
-  pub event_of : (kind : LocalKind) (shown : Shown) (program : Program M) → application_of (event_taken kind shown) program ≡ with_event kind (application_of shown program)
-  event_of (Position x y) shown program = refl
-  event_of (Press button x y) shown program = refl
-  event_of (Release button x y) shown program = refl
-  event_of (Keydown key) shown program = refl
-  event_of (Keyup key) shown program = refl
-  event_of FocusIn shown program = refl
-  event_of FocusOut shown program = refl
-  event_of (Size width height) shown program = refl
-
-  -- an application that runs gets it
-  pub deliver_is : (event : LocalEvent) (old new : Shown) (before after : Program M) → before.state ≡ Running → new ≡ event_taken event.kind old
+  -- an application that runs gets an event of its moment
+  pub deliver_is : (event : LocalEvent) (old new : Panel) (before after : Program M) → before.state ≡ Running → event.moment ≡ old.moment → new ≡ delivered_panel event old
       → after ≡ record before { steps = granted before.budget before.steps } → part_of new after ≡ record (part_of old before) { application = delivered event (part_of old before).application }
   unfolding delivered
-  deliver_is event old new before after runs took grants =
+  deliver_is event old new before after runs moment took grants =
       let richer : Program M = record before { steps = granted before.budget before.steps } in
-      ap (λ s. part_of s after) took ∙ ap (λ (p : Program M). part_of (event_taken event.kind old) p) grants
-      ∙ ap (λ (a : Application M). record { application = a; work = before.work }) (event_of event.kind old richer)
+      ap (λ s. part_of s after) took ∙ ap (λ (p : Program M). part_of (delivered_panel event old) p) grants
+      ∙ ap (λ m. part_of (delivered_panel event (record old { moment = m })) richer) (sym moment)
       ∙ ap (λ s. record { application = delivered_as s event (application_of old before); work = before.work }) (sym runs)
 
   -- and one that doesn't run gets nothing

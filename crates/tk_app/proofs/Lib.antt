@@ -1,16 +1,8 @@
--- What the proofs share. `Dues` and `Falls` also serve who lets applications pass from moment to moment.
-pub mod Acts
-pub mod Dues
+-- What the proofs share. `Parts` and `Slices` also serve who lets applications pass from moment to moment.
 mod Adding
-mod Escapes
 mod Events
-pub mod Falls
 mod Lines
-mod Listed
-pub mod Others
 pub mod Parts
-pub mod Slots
 pub mod Slices
-mod Started
+pub mod Slots
 pub mod Views
-mod Words

@@ -4,9 +4,9 @@ use Rattle.std.specs.Prelude.{◌==◌, filter, flat_map}
 use Rattle.std.proofs.lemmas.Grind.{flat_map-append}
 use Rattle.std.proofs.lemmas.List.{append-nil, map-append, take_more}
 use Rattle.std.proofs.lemmas.List.Elements.{filter-append}
-use Rattle.tk_app.specs.declared.transcript.Line.{Line}
-use Rattle.tk_app.specs.declared.transcript.Written.{Written}
-use Rattle.tk_app.specs.Tables.{lines_of}
+use Rattle.tk_panel.specs.declared.transcript.Line.{Line}
+use Rattle.tk_panel.specs.declared.transcript.Written.{Written}
+use Rattle.tk_panel.specs.Transcript.{lines_of}
 
 -- the lines of a log's line alone
 abbrev one_line : ℕ → Written → List Line

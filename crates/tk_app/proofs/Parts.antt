@@ -1,55 +1,56 @@
 -- What a part comes to, by what is done at a moment.
-use Rattle.std.proofs.Common.{◌≡◌, ℕ, suc, List, [], refl, ap, ◌∙◌, arith}
-use Rattle.tcl_control.specs.declared.code.Code.{Code}
+use Rattle.std.proofs.Common.{◌≡◌, ℕ, List, [], refl, ap, ◌∙◌}
+use Rattle.std.specs.Prelude.{Option, Some, None}
 use Rattle.tcl_control.specs.declared.code.Code.TheVariants.{Normal}
 use Rattle.tcl_interp.specs.Evaluation.{State, Outcome, Ended, OutOfSteps, and_then}
-use Rattle.tcl_interp.specs.Scripts.{resumed, script_meaning, task_meaning}
+use Rattle.tcl_interp.specs.Scripts.{script_meaning, task_meaning}
 use Rattle.tcl_interp.specs.Finish.{waits_meaning}
-use Rattle.tcl_interp.specs.Plans.{run_at}
-use Rattle.tcl_interp.proofs.Bounds.{within_run_at, within_script}
-use Rattle.tk_app.specs.declared.settling.Settling.TheVariants as settling
+use Rattle.tcl_jobs.specs.declared.job.Task.TheVariants as task
+use Rattle.tcl_jobs.specs.Laws.{runs}
+use Rattle.tcl_jobs.specs.Meaning.{looked}
+use Rattle.tcl_jobs.proofs.Unrolled as jobs
+use Rattle.tk_panel.specs.declared.job.Job.{Job}
+use Rattle.tk_panel.specs.Next.{next}
+use Rattle.tk_panel.specs.Settle.{Next}
+use Rattle.tk_panel_jobs.specs.Course.{looked_of}
 use Rattle.tk_app.specs.declared.state.AppState.{AppState}
 use Rattle.tk_app.specs.declared.state.AppState.TheVariants.{Running, Exhausted, Closed}
 use Rattle.tk_app.specs.Application.{Application, fresh}
-use Rattle.tk_app.specs.Global.{script_at_global, with_report}
-use Rattle.tk_app.specs.Outside.{outside}
+use Rattle.tk_app.specs.Outside.{calls, course, outside}
 use Rattle.tk_app.specs.Part.{Rests, BeginsWithScript, SettlesFromRest, after_outcome, done_as, settled, settled_as, settling_as, stage_done, started, state_at}
-use Rattle.tk_app.specs.Settle.{done, settle_meaning, start_meaning}
 use Rattle.tk_app.specs.Seen.{Meaning, Seen}
-use Rattle.tk_app.proofs.Acts.{comes, on_step, run, script_told, told_end}
+use Rattle.tk_app.specs.Settle.{GoesByNext, comes_next, in_panel, meaning, on_next, settle_meaning, settling, start_meaning}
 
 -- nothing comes behind the end
 ended_alone : (outcome : Outcome Seen) → and_then outcome (waits_meaning outside []) ≡ outcome
 ended_alone (Ended state code text) = refl
 ended_alone (OutOfSteps state) = refl
 
--- a task of settling comes to what settling is
-settles : (moment : ℕ) (state : State Seen) → task_meaning outside (script_meaning outside 200) (settling.Rest moment []) state Normal [] ≡ settle_meaning moment state
-settles moment state = comes moment state.steps (suc state.steps) [] state.shows state.store state.context state.steps (omega arith) (omega arith)
-
--- a report and what comes behind it
-reported_then : (outcome : Outcome Seen) (g : State Seen → Outcome Seen)
-    → and_then (and_then outcome (λ after code text. done (with_report code text after))) (λ after _ _. g after) ≡ and_then outcome (λ after code text. g (with_report code text after))
-reported_then (Ended state code text) g = refl
-reported_then (OutOfSteps state) g = refl
+-- the task with which settling begins comes to what settling is
+settles : (state : State Seen) → task_meaning outside (script_meaning outside 200) (task.Runs settling) state Normal [] ≡ settle_meaning state
+settles state = (jobs.goes_on course calls 200 settling state Normal [] []).0
 
 -- the task of an application's own script comes to the script and what settling is
-starts : (script : List ℕ) (state : State Seen) → task_meaning outside (script_meaning outside 200) (settling.Script script) state Normal [] ≡ start_meaning script state
-starts script state =
-    let moment = state.shows.panel.moment in
-    script_told state.steps (run_at run 1 script state)
-    (λ after code text. resumed outside run (on_step state.steps) 0 (settling.Rest moment []) after code text) (settle_meaning moment)
-    (within_run_at run (within_script outside 200) state.steps 1 script state (omega arith))
-    (λ after code text within. comes moment state.steps (suc after.steps) [] (told_end code text after).shows after.store after.context after.steps within (omega arith))
-    ∙ reported_then (script_at_global script state) (settle_meaning moment)
+starts : (script : List ℕ) (state : State Seen) → task_meaning outside (script_meaning outside 200) (task.Begins script settling) state Normal [] ≡ start_meaning script state
+starts script state = (jobs.goes_on course calls 200 settling state Normal [] script).1
+
+-- what is next of a job, where it ends or takes a step
+by_next : (job : Option Job) (state : State Seen) → looked course (runs course calls 200) meaning (looked_of job) state ≡ on_next state job
+by_next None state = refl
+by_next (Some job) state = refl
+
+pub goes_by_next : GoesByNext
+goes_by_next job state =
+    let there : Next = next job state.store state.shows.panel in
+    jobs.unrolls course calls 200 job state ∙ by_next there.1 (in_panel there.0 state)
 
 module _ {M : Type 0} (answer : M → Meaning) where
   from_rest : (s : AppState) (moment : ℕ) (application : Application M) → application.state ≡ s
-      → done_as answer moment (settling_as s moment Rests) application ≡ record { application = settled_as answer s moment application; work = Rests }
+      → done_as answer moment (settling_as s Rests) application ≡ record { application = settled_as answer s moment application; work = Rests }
   from_rest Running moment application is =
       let state = state_at answer moment application in
       ap (λ o. record { application = after_outcome o application; work = Rests })
-      (ended_alone (task_meaning outside (script_meaning outside 200) (settling.Rest moment []) state Normal []) ∙ settles moment state)
+      (ended_alone (task_meaning outside (script_meaning outside 200) (task.Runs settling) state Normal []) ∙ settles state)
   from_rest Exhausted moment application is = refl
   from_rest Closed moment application is = refl
 
@@ -63,4 +64,4 @@ module _ {M : Type 0} (answer : M → Meaning) where
       let application = fresh spec in
       let state = state_at answer moment application in
       ap (λ o. record { application = after_outcome o application; work = Rests })
-      (ended_alone (task_meaning outside (script_meaning outside 200) (settling.Script spec.script) state Normal []) ∙ starts spec.script state)
+      (ended_alone (task_meaning outside (script_meaning outside 200) (task.Begins spec.script settling) state Normal []) ∙ starts spec.script state)

@@ -5,64 +5,63 @@ use Rattle.tcl_vars.specs.Store.{Store}
 use Rattle.tcl_interp.specs.Evaluation.{State, Outcome, Ended, OutOfSteps}
 use Rattle.tcl_interp.specs.Finish.{Rest, Running as RestRunning, Idle, Spent, Broken, finish}
 use Rattle.tcl_interp.specs.declared.interp.Interp.{Interp}
-use Rattle.tcl_interp.specs.declared.interp.SliceEnd.{SliceEnd}
-use Rattle.tcl_interp.specs.declared.interp.SliceEnd.TheVariants as slice
 use Rattle.tcl_interp.specs.Interp.{IsRunning, context_of, left_of, rest_of, state_of}
 use Rattle.tcl_interp.proofs.Bounds.{Within}
 use Rattle.tcl_interp.proofs.Finishing.{within_finish}
-use Rattle.tk_app.specs.declared.settling.Settling.{Settling}
+use Rattle.tcl_jobs.specs.declared.job.Task.{Task}
+use Rattle.tk_panel.specs.declared.job.Job.{Job}
+use Rattle.tk_panel.specs.Panel.{Panel}
 use Rattle.tk_app.specs.declared.state.AppEnd.{AppEnd}
 use Rattle.tk_app.specs.declared.state.AppEnd.TheVariants.{Settled, More, Stopped}
 use Rattle.tk_app.specs.declared.state.AppState.{AppState}
 use Rattle.tk_app.specs.declared.state.AppState.TheVariants.{Running, Exhausted, Closed}
 use Rattle.tk_app.specs.Application.{Application}
 use Rattle.tk_app.specs.Outside.{outside}
-use Rattle.tk_app.specs.Part.{Part, Work, Rests, Goes, after_outcome, done_as, settling_as, settling_begun, stage_done, state_in, with_left, work_of}
-use Rattle.tk_app.specs.declared.window.Size.{Size}
+use Rattle.tk_app.specs.Part.{Part, Work, Rests, Goes, after_outcome, done_as, settling_as, settling_begun, stage_done, state_after, state_in, with_left, work_of}
 use Rattle.tk_app.specs.Seen.{Meaning, Seen, meanings}
-use Rattle.tk_app.specs.Shown.{Setting, Shown, setting_of}
-use Rattle.tk_app.specs.Turns.{EndsAs, Program, TakesTurn, application_of, end_of, part_of, work_by}
+use Rattle.tk_app.specs.Turns.{EndsAs, Program, TakesTurn, end_as, part_of, work_by}
 
 -- what goes on doesn't rest
-goes_work : (rest : Rest Settling) (levels : List ℕ) → IsRunning rest → work_of rest levels ≢ Rests
+goes_work : (rest : Rest (Task Job)) (levels : List ℕ) → IsRunning rest → work_of rest levels ≢ Rests
 goes_work rest levels (doing, waits, is) rests =
-    let P : Rest Settling → Type 0 = λ r. work_of r levels ≡ Rests in
+    let P : Rest (Task Job) → Type 0 = λ r. work_of r levels ≡ Rests in
     let gone : Goes levels doing waits ≡ Rests = subst P is rests in
     cc
 
 -- and what doesn't rest goes on
-pub rest_goes : (rest : Rest Settling) (levels : List ℕ) → work_of rest levels ≢ Rests → IsRunning rest
+pub rest_goes : (rest : Rest (Task Job)) (levels : List ℕ) → work_of rest levels ≢ Rests → IsRunning rest
 rest_goes Idle levels goes = absurd (goes refl)
 rest_goes (RestRunning doing waits) levels goes = (doing, waits, refl)
 rest_goes Spent levels goes = absurd (goes refl)
 rest_goes Broken levels goes = absurd (goes refl)
 
-pub not_idle : (rest : Rest Settling) → IsRunning rest → rest ≢ Idle
+pub not_idle : (rest : Rest (Task Job)) → IsRunning rest → rest ≢ Idle
 not_idle rest (doing, waits, is) idle = let gone : RestRunning doing waits ≡ Idle = sym is ∙ idle in cc
 
 -- settling that has begun doesn't rest
-pub settling_goes : (state : AppState) (moment : ℕ) (work : Work) → state ≡ Running → settling_as state moment work ≢ Rests
-settling_goes Running moment Rests runs rests = cc
-settling_goes Running moment (Goes levels doing waits) runs rests = cc
-settling_goes Exhausted moment work runs rests = cc
-settling_goes Closed moment work runs rests = cc
+pub settling_goes : (state : AppState) (work : Work) → state ≡ Running → settling_as state work ≢ Rests
+settling_goes Running Rests runs rests = cc
+settling_goes Running (Goes levels doing waits) runs rests = cc
+settling_goes Exhausted work runs rests = cc
+settling_goes Closed work runs rests = cc
 
 -- ── how a slice ended ──
 
-pub settled_of : (end : SliceEnd) → end_of end ≡ Settled → (code : Code) × (text : List ℕ) × (end ≡ slice.Done code text)
-settled_of (slice.Done code text) is = (code, text, refl)
-settled_of slice.More is = absurd (let wrong : More ≡ Settled = is in cc)
-settled_of slice.Exhausted is = absurd (let wrong : Stopped ≡ Settled = is in cc)
+-- nothing is under way then, and there is no more to do
+ends_rest : (state : AppState) → work_by state Rests ≡ Rests
+ends_rest Running = refl
+ends_rest Exhausted = refl
+ends_rest Closed = refl
 
-pub more_of : (end : SliceEnd) → end_of end ≡ More → end ≡ slice.More
-more_of (slice.Done code text) is = absurd (let wrong : Settled ≡ More = is in cc)
-more_of slice.More is = refl
-more_of slice.Exhausted is = absurd (let wrong : Stopped ≡ More = is in cc)
+pub ends_over : (state : AppState) → end_as state ≢ More
+ends_over Running e = cc
+ends_over Exhausted e = cc
+ends_over Closed e = cc
 
-pub stopped_of : (end : SliceEnd) → end_of end ≡ Stopped → end ≡ slice.Exhausted
-stopped_of (slice.Done code text) is = absurd (let wrong : Settled ≡ Stopped = is in cc)
-stopped_of slice.More is = absurd (let wrong : More ≡ Stopped = is in cc)
-stopped_of slice.Exhausted is = refl
+ends_as : {M : Type 0} (state : AppState) (part : Part M) → part.application.state ≡ state → part.work ≡ Rests → EndsAs (end_as state) part
+ends_as Running part is rests = (is, rests)
+ends_as Exhausted part is rests = ((λ e. let wrong : Exhausted ≡ Running = sym is ∙ e in cc), rests)
+ends_as Closed part is rests = ((λ e. let wrong : Closed ≡ Running = sym is ∙ e in cc), rests)
 
 -- ── an application that doesn't run ──
 
@@ -71,13 +70,13 @@ work_stops Running work stopped = absurd (stopped refl)
 work_stops Exhausted work stopped = refl
 work_stops Closed work stopped = refl
 
-settling_stops : (state : AppState) (moment : ℕ) (work : Work) → state ≢ Running → settling_as state moment work ≡ work
-settling_stops Running moment work stopped = absurd (stopped refl)
-settling_stops Exhausted moment work stopped = refl
-settling_stops Closed moment work stopped = refl
+settling_stops : (state : AppState) (work : Work) → state ≢ Running → settling_as state work ≡ work
+settling_stops Running work stopped = absurd (stopped refl)
+settling_stops Exhausted work stopped = refl
+settling_stops Closed work stopped = refl
 
 -- what runs and doesn't rest has an interpreter that goes on
-pub going_rest : {M : Type 0} (program : Program M) (state : AppState) (rest : Rest Settling) (levels : List ℕ) → state ≡ program.state → work_by state (work_of rest levels) ≡ program.work
+pub going_rest : {M : Type 0} (program : Program M) (state : AppState) (rest : Rest (Task Job)) (levels : List ℕ) → state ≡ program.state → work_by state (work_of rest levels) ≡ program.work
     → program.state ≡ Running → program.work ≢ Rests → IsRunning rest
 going_rest program state rest levels same work runs goes =
     rest_goes rest levels (λ rests. goes (sym work ∙ ap (λ s. work_by s (work_of rest levels)) (same ∙ runs) ∙ rests))
@@ -152,10 +151,10 @@ module _ {M : Type 0} (answer : M → Meaning) where
   -- ── slices ──
 
   -- what an interpreter has under way is done as it finishes
-  done_of_rest : (moment : ℕ) (rest : Rest Settling) (levels : List ℕ) (application : Application M) → IsRunning rest
+  done_of_rest : (moment : ℕ) (rest : Rest (Task Job)) (levels : List ℕ) (application : Application M) → IsRunning rest
       → done_as answer moment (work_of rest levels) application ≡ record { application = after_outcome (finish outside rest (state_in answer levels moment application)) application; work = Rests }
   done_of_rest moment rest levels application (doing, waits, is) =
-      let P : Rest Settling → Type 0 = λ r.
+      let P : Rest (Task Job) → Type 0 = λ r.
       done_as answer moment (work_of r levels) application ≡ record { application = after_outcome (finish outside r (state_in answer levels moment application)) application; work = Rests } in
       subst P (sym is) refl
 
@@ -165,41 +164,42 @@ module _ {M : Type 0} (answer : M → Meaning) where
   after_again (OutOfSteps state) left application = refl
 
   -- an application that runs, and what its interpreter has under way
-  abbrev pub going : Application M → Rest Settling → List ℕ → Part M
+  abbrev pub going : Application M → Rest (Task Job) → List ℕ → Part M
   going application rest levels = record { application = application; work = work_by application.state (work_of rest levels) }
 
-  going_runs : (application : Application M) (rest : Rest Settling) (levels : List ℕ) → application.state ≡ Running
+  going_runs : (application : Application M) (rest : Rest (Task Job)) (levels : List ℕ) → application.state ≡ Running
       → going application rest levels ≡ record { application = application; work = work_of rest levels }
   going_runs application rest levels runs = ap (λ s. record { application = application; work = work_by s (work_of rest levels) }) runs
 
-  pub done_going : (moment : ℕ) (application : Application M) (rest : Rest Settling) (levels : List ℕ) → application.state ≡ Running → IsRunning rest
+  pub done_going : (moment : ℕ) (application : Application M) (rest : Rest (Task Job)) (levels : List ℕ) → application.state ≡ Running → IsRunning rest
       → stage_done answer moment (going application rest levels)
       ≡ record { application = after_outcome (finish outside rest (state_in answer levels moment application)) application; work = Rests }
   unfolding stage_done
   done_going moment application rest levels runs running =
       ap (λ (p : Part M). done_as answer moment p.work p.application) (going_runs application rest levels runs) ∙ done_of_rest moment rest levels application running
 
-  module _ (moment : ℕ) (application : Application M) (rest : Rest Settling) (levels : List ℕ) (runs : application.state ≡ Running) (running : IsRunning rest) where
+  module _ (moment : ℕ) (application : Application M) (rest : Rest (Task Job)) (levels : List ℕ) (runs : application.state ≡ Running) (running : IsRunning rest) where
     abbrev outcome : Outcome Seen
     outcome = finish outside rest (state_in answer levels moment application)
 
     -- it ended
-    pub all_done : (left : State Seen) (code : Code) (text : List ℕ) (rest' : Rest Settling) (levels' : List ℕ) → outcome ≡ Ended left code text → rest' ≡ Idle
-        → going (with_left left application) rest' levels' ≡ stage_done answer moment (going application rest levels)
+    pub all_done : (left : State Seen) (code : Code) (text : List ℕ) (rest' : Rest (Task Job)) (levels' : List ℕ) → outcome ≡ Ended left code text → rest' ≡ Idle
+        → going (record (with_left left application) { state = state_after left.shows.panel }) rest' levels' ≡ stage_done answer moment (going application rest levels)
     all_done left code text rest' levels' ended idle =
-        going_runs (with_left left application) rest' levels' runs
-        ∙ ap (λ r. record { application = with_left left application; work = work_of r levels' }) idle
+        let over : Application M = record (with_left left application) { state = state_after left.shows.panel } in
+        ap (λ r. record { application = over; work = work_by over.state (work_of r levels') }) idle
+        ∙ ap (λ w. record { application = over; work = w }) (ends_rest over.state)
         ∙ sym (done_going moment application rest levels runs running ∙ ap (λ o. record { application = after_outcome o application; work = Rests }) ended)
 
     -- a step was needed, and none was left
-    pub all_spent : (left : State Seen) (rest' : Rest Settling) (levels' : List ℕ) → outcome ≡ OutOfSteps left → left.steps ≡ 0
+    pub all_spent : (left : State Seen) (rest' : Rest (Task Job)) (levels' : List ℕ) → outcome ≡ OutOfSteps left → left.steps ≡ 0
         → going (record (with_left left application) { state = Exhausted }) rest' levels' ≡ stage_done answer moment (going application rest levels)
     all_spent left rest' levels' out none =
         ap (λ n. record { application = record (with_left left application) { steps = n; state = Exhausted }; work = Rests }) none
         ∙ sym (done_going moment application rest levels runs running ∙ ap (λ o. record { application = after_outcome o application; work = Rests }) out)
 
     -- it goes on: the same is to be done
-    pub goes_on : (left : State Seen) (rest' : Rest Settling) → outcome ≡ finish outside rest' left → IsRunning rest' → left ≡ state_in answer left.context.levels moment (with_left left application)
+    pub goes_on : (left : State Seen) (rest' : Rest (Task Job)) → outcome ≡ finish outside rest' left → IsRunning rest' → left ≡ state_in answer left.context.levels moment (with_left left application)
         → stage_done answer moment (going (with_left left application) rest' left.context.levels) ≡ stage_done answer moment (going application rest levels)
     goes_on left rest' same running' stands =
         done_going moment (with_left left application) rest' left.context.levels runs running'
@@ -211,7 +211,7 @@ module _ {M : Type 0} (answer : M → Meaning) where
   -- ── a runner ──
 
   -- a runner, with another interpreter and other variables
-  abbrev pub ran : Program M → Interp Settling → Store → AppState → Program M
+  abbrev pub ran : Program M → Interp (Task Job) → Store → AppState → Program M
   ran program interp store state =
       record program {
         store = store;
@@ -222,8 +222,8 @@ module _ {M : Type 0} (answer : M → Meaning) where
       }
 
   -- a slice of an interpreter, between what its application had in the tables and what it has then
-  module _ (program : Program M) (panel panel' : Shown) (interp interp' : Interp Settling) (store store' : Store) (state : AppState) (runs : state ≡ Running)
-      (setting : setting_of panel' ≡ setting_of panel) (running : IsRunning (rest_of interp)) where
+  module _ (program : Program M) (panel panel' : Panel) (interp interp' : Interp (Task Job)) (store store' : Store) (state : AppState) (runs : state ≡ Running)
+      (moment : panel'.moment ≡ panel.moment) (running : IsRunning (rest_of interp)) where
     abbrev before : Part M
     before = part_of panel (ran program interp store state)
 
@@ -231,7 +231,7 @@ module _ {M : Type 0} (answer : M → Meaning) where
     after_as state' = part_of panel' (ran program interp' store' state')
 
     -- what its scripts see
-    abbrev seen : Shown → Seen
+    abbrev seen : Panel → Seen
     seen there = record { serves = meanings answer program.aliases; panel = there }
 
     abbrev left : State Seen
@@ -240,44 +240,39 @@ module _ {M : Type 0} (answer : M → Meaning) where
     abbrev outcome_of : Outcome Seen
     outcome_of = finish outside (rest_of interp) (state_of interp (seen panel) store)
 
-    -- the size stays
-    left_as : (state' : AppState) → (after_as state').application ≡ record (with_left left before.application) { state = state' }
-    left_as state' = ap (λ (s : Size). application_of (record panel' { size = s }) (ran program interp' store' state')) (ap (λ s. s.1) setting)
-
-    going_as : (state' : AppState) → after_as state' ≡ going (record (with_left left before.application) { state = state' }) (rest_of interp') (context_of interp').levels
-    going_as state' = ap (λ a. record { application = a; work = work_by state' (work_of (rest_of interp') (context_of interp').levels) }) (left_as state')
-
+    -- the moment stays
     stands : left ≡ state_in answer left.context.levels panel.moment (with_left left before.application)
-    stands = ap (λ (s : Setting). record left { shows = seen (record panel' { moment = s.0; size = s.1 }) }) setting
+    stands = ap (λ m. record left { shows = seen (record panel' { moment = m }) }) moment
 
     -- what is under way then
     work_then : (after_as state).work ≡ work_of (rest_of interp') (context_of interp').levels
     work_then = ap (λ s. work_by s (work_of (rest_of interp') (context_of interp').levels)) runs
 
+    -- it has ended
     pub turn_settles : (steps : ℕ) (code : Code) (text : List ℕ) → outcome_of ≡ Ended left code text → rest_of interp' ≡ Idle → left_of interp ≤ left_of interp' + steps
-        → TakesTurn answer panel.moment steps Settled before (after_as state)
+        → TakesTurn answer panel.moment steps (end_as (state_after panel')) before (after_as (state_after panel'))
     turn_settles steps code text ended idle most =
-        turn_last panel.moment steps Settled before (after_as state)
-        (going_as state ∙ all_done panel.moment before.application (rest_of interp) (context_of interp).levels runs running left code text (rest_of interp') (context_of interp').levels ended idle)
-        most (λ e. cc) (runs, work_then ∙ ap (λ r. work_of r (context_of interp').levels) idle)
+        let state' : AppState = state_after panel' in
+        turn_last panel.moment steps (end_as state') before (after_as state')
+        (all_done panel.moment before.application (rest_of interp) (context_of interp).levels runs running left code text (rest_of interp') (context_of interp').levels ended idle)
+        most (ends_over state') (ends_as state' (after_as state') refl (ap (λ r. work_by state' (work_of r (context_of interp').levels)) idle ∙ ends_rest state'))
 
     pub turn_stops : (steps : ℕ) → outcome_of ≡ OutOfSteps left → left_of interp' ≡ 0 → left_of interp ≤ left_of interp' + steps → TakesTurn answer panel.moment steps Stopped before (after_as Exhausted)
     turn_stops steps out none most =
         turn_last panel.moment steps Stopped before (after_as Exhausted)
-        (going_as Exhausted ∙ all_spent panel.moment before.application (rest_of interp) (context_of interp).levels runs running left (rest_of interp') (context_of interp').levels out none)
+        (all_spent panel.moment before.application (rest_of interp) (context_of interp).levels runs running left (rest_of interp') (context_of interp').levels out none)
         most (λ e. cc) ((λ e. cc), refl)
 
     pub turn_goes_on : (steps : ℕ) → outcome_of ≡ finish outside (rest_of interp') left → IsRunning (rest_of interp') → left_of interp' + steps ≡ left_of interp
         → TakesTurn answer panel.moment steps More before (after_as state)
     turn_goes_on steps same running' took =
         turn_more panel.moment steps before (after_as state)
-        (ap (stage_done answer panel.moment) (going_as state)
-        ∙ goes_on panel.moment before.application (rest_of interp) (context_of interp).levels runs running left (rest_of interp') same running' stands)
+        (goes_on panel.moment before.application (rest_of interp) (context_of interp).levels runs running left (rest_of interp') same running' stands)
         took (runs, λ rests. goes_work (rest_of interp') (context_of interp').levels running' (sym work_then ∙ rests))
 
   -- its turn is none
-  pub stopped_turn : (moment steps : ℕ) (part : Part M) → part.application.state ≢ Running → part.work ≡ Rests → TakesTurn answer moment steps Stopped (settling_begun moment part) part
+  pub stopped_turn : (moment steps : ℕ) (part : Part M) → part.application.state ≢ Running → part.work ≡ Rests → TakesTurn answer moment steps Stopped (settling_begun part) part
   stopped_turn moment steps part stopped rests =
-      let stays : part ≡ settling_begun moment part = ap (λ w. record part { work = w }) (sym (settling_stops part.application.state moment part.work stopped)) in
+      let stays : part ≡ settling_begun part = ap (λ w. record part { work = w }) (sym (settling_stops part.application.state part.work stopped)) in
       subst (λ (begun : Part M). TakesTurn answer moment steps Stopped begun part) stays
       (turn_last moment steps Stopped part part (sym (rests_stays moment part rests)) (omega arith) (λ e. cc) (stopped, rests))

@@ -2,19 +2,10 @@
 use Rattle.std.proofs.Common.{◌≡◌, ◌≢◌, ℕ, zero, suc, ◌+◌, ◌<◌, ◌≤◌, List, [], ◌∷◌, ◌++◌, length, get_or, set, refl, sym, ap, ◌∙◌, arith}
 use Rattle.std.specs.Prelude.{Any, Option, Some, option_map, slice_get}
 use Rattle.std.proofs.lemmas.Option.{slice_get_read}
-use Rattle.tk_app.specs.declared.tables.Tables.{Tables}
+use Rattle.tk_panel.specs.declared.tables.Tables.{Tables}
+use Rattle.tk_panel.specs.Panel.{panel_of}
 use Rattle.tk_app.specs.Part.{Part}
-use Rattle.tk_app.specs.Shown.{Shown}
-use Rattle.tk_app.specs.Tables.{panel_of}
 use Rattle.tk_app.specs.Turns.{Program, part_of, parts_from}
-
--- the moment isn't seen in a part
-pub same_part : {M : Type 0} (program : Program M) (one other : Shown) → one.size ≡ other.size → one.transcript ≡ other.transcript → one.window ≡ other.window → one.own ≡ other.own → part_of one program ≡ part_of other program
-same_part program one other size transcript window own =
-    ap (λ s. part_of (record one { size = s }) program) size
-    ∙ ap (λ t. part_of (record { moment = one.moment; size = other.size; transcript = t; window = one.window; own = one.own }) program) transcript
-    ∙ ap (λ w. part_of (record { moment = one.moment; size = other.size; transcript = other.transcript; window = w; own = one.own }) program) window
-    ∙ ap (λ o. part_of (record { moment = one.moment; size = other.size; transcript = other.transcript; window = other.window; own = o }) program) own
 
 pub length-parts_from : {M : Type 0} (n : ℕ) (tables : Tables) (ps : List (Program M)) → length (parts_from n tables ps) ≡ length ps
 unfolding parts_from

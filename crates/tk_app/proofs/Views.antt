@@ -4,12 +4,12 @@ use Rattle.std.specs.Prelude.{Some, Result, Ok, Err, OnErr, slice_get, slice_set
 use Rattle.std.proofs.lemmas.List.{append-nil, length-set}
 use Rattle.tk_turns.specs.declared.turn.Turn.{Turn}
 use Rattle.tk_turns.specs.Rounds.{entry}
-use Rattle.tk_app.specs.declared.tables.Tables.{Tables}
+use Rattle.tk_panel.specs.declared.tables.Tables.{Tables}
+use Rattle.tk_panel.specs.Fresh.{nothing}
+use Rattle.tk_panel.specs.Panel.{others_of, panel_of}
+use Rattle.tk_panel.proofs.Others.{other_same}
 use Rattle.tk_app.specs.Part.{Part}
-use Rattle.tk_app.specs.Shown.{Shown}
-use Rattle.tk_app.specs.Tables.{IsVacantFrom, others_of, panel_of}
-use Rattle.tk_app.specs.Turns.{Applications, ChangesOnly, ChangesPart, Program, part_of, parts_from}
-use Rattle.tk_app.proofs.Others.{other_same}
+use Rattle.tk_app.specs.Turns.{Applications, ChangesOnly, ChangesPart, IsVacantFrom, Program, part_of, parts_from}
 use Rattle.tk_app.proofs.Slots.{get_parts, length-parts_from, set_parts}
 
 -- without a step nothing is told
@@ -46,17 +46,14 @@ module _ {M : Type 0} (slot : ℕ) (old new : Tables) (programs : List (Program 
 
 -- ── what all applications keep ──
 
-pub held_kept : {M : Type 0} (slot : ℕ) (old new : Tables) (programs : List (Program M)) (after : Program M) → length programs ≤ 16 → length old.windows ≡ length programs → IsVacantFrom (length programs) old → slot < length programs
-    → length new.windows ≡ length old.windows → others_of slot new ≡ others_of slot old
-    → (length (set programs slot after) ≤ 16) × (length new.windows ≡ length (set programs slot after)) × IsVacantFrom (length (set programs slot after)) new
-held_kept slot old new programs after few seats vacant lt count others =
+pub held_kept : {M : Type 0} (slot : ℕ) (old new : Tables) (programs : List (Program M)) (after : Program M) → length programs ≤ 16 → IsVacantFrom (length programs) old → slot < length programs
+    → new.clock ≡ old.clock → others_of slot new ≡ others_of slot old
+    → (length (set programs slot after) ≤ 16) × IsVacantFrom (length (set programs slot after)) new
+held_kept slot old new programs after few vacant lt clock others =
     let same = length-set programs slot after in (
       omega (arith, same, few),
-      count ∙ seats ∙ sym same,
       λ k from below.
-          let kept = other_same slot old new others k below (λ e. omega (arith, e, from, same, lt)) in
-          let was = vacant k (omega (arith, from, same)) below in
-          (ap (λ (s : Shown). s.transcript) kept ∙ was.0, ap (λ (s : Shown). s.own) kept ∙ was.1),
+          other_same slot old new others k below (λ e. omega (arith, e, from, same, lt)) ∙ vacant k (omega (arith, from, same)) below ∙ ap nothing (sym clock),
     )
 
 -- the slot is held as before

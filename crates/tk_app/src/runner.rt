@@ -112,7 +112,7 @@ impl<M: AliasMeaning> Runner<M> {
         budget: Budget,
         aliases: Aliases<M>,
     ) -> Result<Runner<M>, AllocError>
-        ensures { IfOk result (λ runner. (width height moment : ℕ) → part_of (fresh_panel name (width, height) moment) runner
+        ensures { IfOk result (λ runner. (width height : ℕ) → part_of (fresh_panel name (width, height) 0) runner
             ≡ added (record { name = name; width = width; height = height; script = script; budget = budget; aliases = aliases })) }
     {
         let commands = command_names(alloc, &aliases)?;

@@ -14,6 +14,7 @@ use tk_sequences::{Sequence, SequenceFault};
 pub fn bind_classes(alloc: Global, bindings: &mut BindTable, slot: usize) -> Result<(), AllocError>
     ensures own { OnOk result (own_of slot bindings.new ≡ with_class_bindings (own_of slot bindings.old)) }
     ensures others { LeavesOthers slot bindings.old bindings.new }
+    ensures kept { OnOk result (without_class_bindings (own_of slot bindings.new) ≡ without_class_bindings (own_of slot bindings.old)) }
     ensures err { OnErr result (own_of slot bindings.new ≡ without_class_bindings (own_of slot bindings.old)) }
 {
     match bind_each(alloc, bindings, slot) {

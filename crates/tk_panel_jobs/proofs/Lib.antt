@@ -1,2 +1,4 @@
 -- What the proofs share.
+pub mod Drained
 pub mod Meanings
+pub mod Settled

@@ -2,3 +2,4 @@
 pub mod Calls
 pub mod Course
 pub mod Laws
+pub mod Rests

@@ -3,15 +3,15 @@ ghost use Rattle.std.specs.Prelude.{◌≡◌, IfOk, OnOk};
 ghost use Rattle.tcl_vars.specs.Store.{Store};
 ghost use Rattle.tcl_jobs.specs.Tasks.{act_of};
 ghost use Rattle.tk_panel.specs.Panel.{LeavesOthers, panel_of};
-ghost use Rattle.tk_panel_jobs.specs.Calls.{begun};
-ghost use Rattle.tk_panel_jobs.specs.Course.{bound_ended, ended, ended_by, look, looked_of, started, with_end};
+ghost use Rattle.tk_panel_jobs.specs.Calls.{begun, settling};
+ghost use Rattle.tk_panel_jobs.specs.Course.{bound_ended, ended, event_job, look, looked_of, started, with_end};
 
 use std::alloc::{AllocError, Global};
 use tcl_interp::{Act, Code};
 use tcl_jobs::{Looked, Started, Task};
 use tcl_text::Text;
 use tcl_vars::Scopes;
-use tk_panel::{Job, Rest, Scripts, Stream, Tables, next, short_text, write};
+use tk_panel::{Home, Job, Numbers, Rest, Scripts, Stream, Tables, next, short_text, write};
 
 /// The job whose next script waits for its step; a job that has nothing more ends with the empty text.
 fn looked_of(alloc: Global, job: Option<Job>) -> Result<Looked<Job>, AllocError>
@@ -46,6 +46,16 @@ pub fn start(tables: &mut Tables, slot: usize, job: Job) -> Result<Started<Job>,
     Ok(Started { script, job })
 }
 
+/// The scripts of an event that are still to run, and what comes behind them.
+fn event_job(scripts: Scripts, rest: Rest) -> Job
+    ensures { result ≡ event_job scripts rest }
+{
+    Job {
+        event: Some(scripts),
+        rest,
+    }
+}
+
 /// A bound script has ended: a break ends the event, and so does an error, which is told.
 fn bound_ended(
     tables: &mut Tables,
@@ -60,20 +70,11 @@ fn bound_ended(
 {
     let none = Scripts::none(tables.alloc);
     match code {
-        Code::Normal | Code::Return(_) | Code::Continue => Ok(Job {
-            event: Some(scripts),
-            rest,
-        }),
-        Code::Break => Ok(Job {
-            event: Some(none),
-            rest,
-        }),
+        Code::Normal | Code::Return(_) | Code::Continue => Ok(event_job(scripts, rest)),
+        Code::Break => Ok(event_job(none, rest)),
         Code::Error => {
             write(tables, slot, Stream::Err, text)?;
-            Ok(Job {
-                event: Some(none),
-                rest,
-            })
+            Ok(event_job(none, rest))
         }
     }
 }
@@ -140,4 +141,17 @@ pub fn begin(
 {
     let looked = look(tables, slot, scopes, job)?;
     Ok(act_for(looked))
+}
+
+/// What is to be done at a moment, where nothing is under way.
+pub fn settling(alloc: Global, home: Home) -> Job
+    ensures { result ≡ settling home }
+{
+    Job {
+        event: None,
+        rest: Rest::Rounds {
+            round: Numbers::none(alloc),
+            home,
+        },
+    }
 }

@@ -1,6 +1,7 @@
 //! What jobs come to. The functions do nothing: their contracts are the laws.
 
 ghost use Rattle.tk_panel_jobs.specs.Laws.{Begins, Destroys, Dispatches, Settles};
+ghost use Rattle.tk_panel_jobs.specs.Rests.{DueComes, Rests};
 
 /// An event's scripts run one after another at global level, a step before each. A break ends the event, and so does an error, which is told (bind(n)).
 pub fn dispatches()
@@ -20,4 +21,14 @@ pub fn destroys()
 /// An application begins with its script, which takes no step to start; an error of it is told, and then all is settled.
 pub fn begins()
     ensures { Begins }
+{}
+
+/// Where a settle has ended, nothing is left to do at the moment: there is no main window; or no event waits, no timer is due, and no idle script waits.
+pub fn rests()
+    ensures { Rests }
+{}
+
+/// While a timer is due and there is a main window, something comes next, so that a settle takes a step.
+pub fn due_comes()
+    ensures { DueComes }
 {}

@@ -6,6 +6,6 @@ mod jobs;
 pub mod laws;
 mod view;
 
-pub use calls::{Command, call};
-pub use jobs::{ended, look, start};
+pub use calls::call;
+pub use jobs::{begin, ended, look, settling, start};
 pub use view::{TablesView, view_of};

@@ -1,7 +1,7 @@
 use Rattle.std.proofs.Common.{◌≡◌, ◌++◌, take}
 use Rattle.std.specs.Prelude.{flat_map}
 use Rattle.tk_app.specs.Section.{transcript_line}
-use Rattle.tk_app.specs.Tables.{lines_of}
+use Rattle.tk_panel.specs.Transcript.{lines_of}
 use Rattle.tk_app.proofs.section.push_transcript.Given as goal
 
 -- what was read is written

@@ -1,0 +1,29 @@
+-- An application that is added, or isn't.
+use Rattle.std.proofs.Common.{◌≡◌, ℕ, List, [], refl, sym, ap, ◌∙◌}
+use Rattle.tk_bind_class.specs.ClassBindings.{with_class_bindings, without_class_bindings}
+use Rattle.tk_patterns.specs.declared.binding.Binding.{Binding}
+use Rattle.tk_screen.specs.Own as screens
+use Rattle.tk_panel.specs.Fresh.{fresh, nothing}
+use Rattle.tk_panel.specs.Panel.{Panel}
+
+module _ (panel : Panel) (moment : ℕ) (none : panel ≡ nothing moment) where
+  pub nothing_shown : panel.screen ≡ screens.nothing
+  nothing_shown = ap (λ (p : Panel). p.screen) none
+
+  nothing_bound : panel.bindings ≡ []
+  nothing_bound = ap (λ (p : Panel). p.bindings) none
+
+  pub added_is : (name : List ℕ) (size : ℕ × ℕ) (screen : screens.Own) (bindings : List Binding) → screen ≡ screens.added name size → bindings ≡ with_class_bindings panel.bindings
+      → record panel { screen = screen; bindings = bindings } ≡ fresh name size moment
+  unfolding fresh
+  added_is name size screen bindings shows binds =
+      ap (λ (p : Panel). record p { screen = screen; bindings = bindings }) none
+      ∙ ap (λ (s : screens.Own). record (nothing moment) { screen = s; bindings = bindings }) shows
+      ∙ ap (λ (b : List Binding). record (nothing moment) { screen = screens.added name size; bindings = b }) (binds ∙ ap with_class_bindings nothing_bound)
+
+  -- the bindings of classes are out again
+  pub still_nothing : (screen : screens.Own) (bindings : List Binding) → screen ≡ panel.screen → bindings ≡ without_class_bindings panel.bindings
+      → record panel { screen = screen; bindings = bindings } ≡ panel
+  still_nothing screen bindings same out =
+      ap (λ (s : screens.Own). record panel { screen = s; bindings = bindings }) same
+      ∙ ap (λ (b : List Binding). record panel { bindings = b }) (out ∙ ap without_class_bindings nothing_bound ∙ sym nothing_bound)

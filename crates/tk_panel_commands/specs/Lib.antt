@@ -1,0 +1,4 @@
+-- What the contracts cite.
+pub mod Commands
+pub mod Moment
+pub mod Outcomes

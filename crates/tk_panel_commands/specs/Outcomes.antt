@@ -1,0 +1,27 @@
+-- What a command leaves of its application, and what comes of it.
+use Rattle.std.specs.Prelude.{×}
+use Rattle.tcl_text.specs.Answers.{Answer}
+use Rattle.tcl_vars.specs.Store.{Store}
+use Rattle.tk_panel.specs.Panel.{Panel}
+use Rattle.tk_panel_commands.specs.declared.outcome.Outcome.{Outcome}
+use Rattle.tk_panel_commands.specs.declared.outcome.Outcome.TheVariants.{Answers}
+
+pub record Done : Type 0 where
+  pub panel : Panel
+  pub store : Store
+  pub outcome : Outcome
+
+-- the same of a command that has to do with no variables
+pub record Told : Type 0 where
+  pub panel : Panel
+  pub outcome : Outcome
+
+abbrev pub with_store : Store → Told → Done
+with_store store told = record { panel = told.panel; store = store; outcome = told.outcome }
+
+abbrev pub told : Panel → Outcome → Told
+told panel outcome = record { panel = panel; outcome = outcome }
+
+-- a command that answers
+abbrev pub answered : Panel × Answer → Told
+answered there = told there.0 (Answers there.1)

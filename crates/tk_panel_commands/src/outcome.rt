@@ -1,0 +1,15 @@
+use tcl_text::Text;
+use tk_panel::{Answer, Job};
+
+/// What comes of a command.
+#[derive(Drop)]
+pub enum Outcome {
+    /// Its result, or the text of its error.
+    Answers(Answer),
+    /// This script runs at global level, and its result is the command's: `path invoke` of button(n).
+    Runs(Text),
+    /// This job begins, and the command ends, with an empty result, when it does: update(n), destroy(n), event(n).
+    Begins(Job),
+    /// There is no command of this name.
+    Unknown,
+}

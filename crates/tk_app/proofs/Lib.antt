@@ -1,8 +1,10 @@
--- What the proofs share. `Parts` and `Slices` also serve who lets applications pass from moment to moment.
+-- What the proofs share. `Parts`, `Settled` and `Slices` also serve who lets applications pass from moment to moment.
 mod Adding
 mod Events
+mod Kinds
 mod Lines
 pub mod Parts
+pub mod Settled
 pub mod Slices
 pub mod Slots
 pub mod Views

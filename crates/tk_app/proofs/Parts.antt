@@ -27,11 +27,11 @@ ended_alone (Ended state code text) = refl
 ended_alone (OutOfSteps state) = refl
 
 -- the task with which settling begins comes to what settling is
-settles : (state : State Seen) → task_meaning outside (script_meaning outside 200) (task.Runs settling) state Normal [] ≡ settle_meaning state
+pub settles : (state : State Seen) → task_meaning outside (script_meaning outside 200) (task.Runs settling) state Normal [] ≡ settle_meaning state
 settles state = (jobs.goes_on course calls 200 settling state Normal [] []).0
 
 -- the task of an application's own script comes to the script and what settling is
-starts : (script : List ℕ) (state : State Seen) → task_meaning outside (script_meaning outside 200) (task.Begins script settling) state Normal [] ≡ start_meaning script state
+pub starts : (script : List ℕ) (state : State Seen) → task_meaning outside (script_meaning outside 200) (task.Begins script settling) state Normal [] ≡ start_meaning script state
 starts script state = (jobs.goes_on course calls 200 settling state Normal [] script).1
 
 -- what is next of a job, where it ends or takes a step

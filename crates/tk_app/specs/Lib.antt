@@ -1,5 +1,6 @@
 -- What the contracts cite.
 pub mod Application
+pub mod Dues
 pub mod Names
 pub mod Outside
 pub mod Part

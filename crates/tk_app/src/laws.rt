@@ -1,4 +1,5 @@
 //! What a part comes to, by what is done at a moment. The functions do nothing: their contracts are the laws.
+ghost use Rattle.tk_app.specs.Dues.{DueTakesAStep, SettledIsPast, StartedIsPast};
 ghost use Rattle.tk_app.specs.Part.{BeginsWithScript, SettlesFromRest};
 ghost use Rattle.tk_app.specs.Settle.{GoesByNext};
 
@@ -18,4 +19,19 @@ pub fn begins_with_script<M: AliasMeaning>()
 /// (after(n), update(n)).
 pub fn goes_by_next()
     ensures { GoesByNext }
+{}
+
+/// What is due of an application by a moment takes a step, or stops it.
+pub fn due_takes_a_step<M: AliasMeaning>()
+    ensures { DueTakesAStep M.answer }
+{}
+
+/// An application that has settled at a moment has nothing due by it: by itself it does nothing more then.
+pub fn settled_is_past<M: AliasMeaning>()
+    ensures { SettledIsPast M.answer }
+{}
+
+/// Nor has one whose script has run.
+pub fn started_is_past<M: AliasMeaning>()
+    ensures { StartedIsPast M.answer }
 {}

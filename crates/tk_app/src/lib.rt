@@ -16,7 +16,10 @@ mod turn;
 mod view;
 
 pub use budget::Budget;
-pub use laws::{begins_with_script, goes_by_next, settles_from_rest};
+pub use laws::{
+    begins_with_script, due_takes_a_step, goes_by_next, settled_is_past, settles_from_rest,
+    started_is_past,
+};
 pub use shared::{MAX_APPLICATIONS, Shared};
 pub use size::Size;
 pub use state::{AppEnd, AppState};

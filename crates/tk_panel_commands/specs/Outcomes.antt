@@ -1,5 +1,5 @@
 -- What a command leaves of its application, and what comes of it.
-use Rattle.std.specs.Prelude.{×}
+
 use Rattle.tcl_text.specs.Answers.{Answer}
 use Rattle.tcl_vars.specs.Store.{Store}
 use Rattle.tk_panel.specs.Panel.{Panel}
@@ -10,6 +10,9 @@ pub record Done : Type 0 where
   pub panel : Panel
   pub store : Store
   pub outcome : Outcome
+
+abbrev pub done : Panel → Store → Outcome → Done
+done panel store outcome = record { panel = panel; store = store; outcome = outcome }
 
 -- the same of a command that has to do with no variables
 pub record Told : Type 0 where

@@ -3,6 +3,7 @@ ghost use Rattle.std.specs.Prelude.{◌≡◌, IfOk};
 ghost use Rattle.tcl_text.specs.Answers.{bad_option as bad_option_of, wrong_args as wrong_args_of};
 ghost use Rattle.tk_panel.specs.Panel.{LeavesOthers, panel_of};
 ghost use Rattle.tk_panel_commands.specs.Moment as spec;
+ghost use Rattle.tk_panel_commands.specs.Outcomes.{told};
 
 use crate::outcome::Outcome;
 use std::alloc::{AllocError, Global};
@@ -45,7 +46,7 @@ pub fn moment_command_done(
     command: MomentCommand,
     words: &[Text],
 ) -> Result<Outcome, AllocError>
-    ensures own { IfOk result (λ outcome. record { panel = panel_of slot tables.new; outcome = outcome }
+    ensures own { IfOk result (λ outcome. told (panel_of slot tables.new) outcome
         ≡ spec.moment_command_done command words.now (panel_of slot tables.old)) }
     ensures others { LeavesOthers slot tables.old tables.new }
 {

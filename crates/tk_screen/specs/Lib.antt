@@ -3,4 +3,5 @@ pub mod Changes
 pub mod Layout
 pub mod Own
 pub mod Shapes
+pub mod Touches
 pub mod Widgets

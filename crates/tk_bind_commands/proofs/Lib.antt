@@ -1,0 +1,3 @@
+-- Lemmas of the proofs.
+pub mod EventLemmas
+pub mod PlusLemmas

@@ -1,0 +1,5 @@
+-- What the contracts cite.
+pub mod Bind
+pub mod Bindtags
+pub mod Event
+pub mod Words

@@ -1,0 +1,7 @@
+-- What the contracts cite.
+pub mod Buttons
+pub mod Commands
+pub mod Entries
+pub mod Listboxes
+pub mod Outcomes
+pub mod Targets

@@ -1,0 +1,34 @@
+-- What comes of a command.
+use Rattle.std.specs.Prelude.{ℕ, List, [], Option, Some, None, Ok, Err}
+use Rattle.tcl_vars.specs.Store.{Store}
+use Rattle.tk_class_commands.specs.declared.outcome.ClassOutcome.{ClassOutcome}
+use Rattle.tk_class_commands.specs.declared.outcome.ClassOutcome.TheVariants.{Answers, Runs}
+use Rattle.tk_inputs.specs.Deliver.{Arrivals}
+use Rattle.tk_screen.specs.Own.{Own}
+use Rattle.tk_widgets.specs.declared.outcome.WidgetAct.{WidgetAct}
+use Rattle.tk_widgets.specs.declared.outcome.WidgetAct.TheVariants.{Answer, Script, Fault}
+
+-- the empty result
+abbrev pub nothing : ClassOutcome
+nothing = Answers (Ok [])
+
+abbrev pub error : List ℕ → ClassOutcome
+error text = Answers (Err text)
+
+-- what was told of a widget; the empty result where there is none
+abbrev pub outcome_of : Option WidgetAct → ClassOutcome
+outcome_of (Some (Answer text)) = Answers (Ok text)
+outcome_of (Some (Script script)) = Runs script
+outcome_of (Some (Fault text)) = Answers (Err text)
+outcome_of None = nothing
+
+-- what is left of the application, and what comes of the command
+pub record Done : Type 0 where
+  pub own : Own
+  -- what it keeps of its input, and the events that wait for it
+  pub arrivals : Arrivals
+  pub store : Store
+  pub outcome : ClassOutcome
+
+abbrev pub done : Own → Arrivals → Store → ClassOutcome → Done
+done own arrivals store outcome = record { own = own; arrivals = arrivals; store = store; outcome = outcome }

@@ -1,0 +1,312 @@
+//! What the pointer and keys do to buttons (button(n)).
+ghost use Rattle.std.specs.Prelude.{◌≡◌, IfOk, OnOk, codes};
+ghost use Rattle.std.specs.Option.{option_copied};
+ghost use Rattle.tcl_text.specs.Answers.{Gives};
+ghost use Rattle.tk_class_commands.specs.Buttons as spec;
+ghost use Rattle.tk_inputs.specs.Inputs as inputs_of;
+ghost use Rattle.tk_screen.specs.Own.{LeavesOthers, own_of};
+
+use crate::outcome::{ClassOutcome, nothing};
+use crate::refusals::number_of;
+use std::alloc::{AllocError, Global};
+use tcl_text::Text;
+use tcl_text::answers::{Refusal, wrong_args};
+use tk_base::{Kind, Win};
+use tk_inputs::Inputs;
+use tk_screen::{Screen, Touch};
+use tk_widgets::Widget;
+
+/// A command of the class Button.
+#[derive(Clone, Copy, Debug, PartialEq, Eq)]
+pub enum ButtonCommand {
+    /// The pointer comes over the button.
+    Enter,
+    /// The pointer leaves it.
+    Leave,
+    /// It is pressed.
+    Down,
+    /// It is let go.
+    Up,
+    /// It is invoked by a key.
+    Invoke,
+}
+
+/// The one of a name.
+#[tactic(auto, unfolding(crate::specs::Buttons::button_command_named))]
+pub fn button_command_named(name: &str) -> Option<ButtonCommand>
+    ensures { result ≡ spec.button_command_named name.now }
+{
+    match name {
+        "tk::ButtonEnter" => Some(ButtonCommand::Enter),
+        "tk::ButtonLeave" => Some(ButtonCommand::Leave),
+        "tk::ButtonDown" => Some(ButtonCommand::Down),
+        "tk::ButtonUp" => Some(ButtonCommand::Up),
+        "tk::ButtonInvoke" => Some(ButtonCommand::Invoke),
+        _ => None,
+    }
+}
+
+/// What one does, from the words behind its name: the path of a button (24).
+#[tactic(auto, unfolding(crate::specs::Buttons::button_words))]
+pub fn button_command_done(
+    alloc: Global,
+    screen: &mut Screen,
+    inputs: &mut Inputs,
+    slot: usize,
+    command: ButtonCommand,
+    words: &[Text],
+) -> Result<ClassOutcome, AllocError>
+    ensures own { IfOk result (λ outcome. spec.told (own_of slot screen.new) (inputs_of.own_of slot inputs.new) outcome
+        ≡ spec.button_words command words.now (own_of slot screen.old) (inputs_of.own_of slot inputs.old)) }
+    ensures screen { LeavesOthers slot screen.old screen.new }
+    ensures inputs { inputs_of.LeavesOthers slot inputs.old inputs.new }
+{
+    let number = button_in(alloc, screen, slot, command, words);
+    acted(alloc, screen, inputs, slot, command, number)
+}
+
+/// The button that the words are for.
+fn button_in(
+    alloc: Global,
+    screen: &Screen,
+    slot: usize,
+    command: ButtonCommand,
+    words: &[Text],
+) -> Result<u64, Refusal>
+    ensures { Gives result (spec.button_in command words.now (own_of slot screen.now)) }
+{
+    match words {
+        [path] => number_of(alloc, screen, slot, Kind::Button, path),
+        _ => wrong_args(alloc, usage_of(command)),
+    }
+}
+
+fn usage_of(command: ButtonCommand) -> &'static str
+    ensures { result.now ≡ spec.usage_of command }
+{
+    match command {
+        ButtonCommand::Enter => "tk::ButtonEnter %W",
+        ButtonCommand::Leave => "tk::ButtonLeave %W",
+        ButtonCommand::Down => "tk::ButtonDown %W",
+        ButtonCommand::Up => "tk::ButtonUp %W",
+        ButtonCommand::Invoke => "tk::ButtonInvoke %W",
+    }
+}
+
+/// What is done to the button, if there is one.
+fn acted(
+    alloc: Global,
+    screen: &mut Screen,
+    inputs: &mut Inputs,
+    slot: usize,
+    command: ButtonCommand,
+    number: Result<u64, Refusal>,
+) -> Result<ClassOutcome, AllocError>
+    ensures own { IfOk result (λ outcome. spec.IsActed command number (own_of slot screen.old) (inputs_of.own_of slot inputs.old)
+        (spec.told (own_of slot screen.new) (inputs_of.own_of slot inputs.new) outcome)) }
+    ensures screen { LeavesOthers slot screen.old screen.new }
+    ensures inputs { inputs_of.LeavesOthers slot inputs.old inputs.new }
+{
+    match number {
+        Ok(number) => {
+            let win = Win {
+                owner: slot,
+                number,
+            };
+            act(alloc, screen, inputs, win, command)
+        }
+        Err(Refusal::Error(text)) => Ok(ClassOutcome::Answers(Err(text))),
+        Err(Refusal::NoMemory) => Err(AllocError),
+    }
+}
+
+/// What is done to a button.
+#[tactic(auto, unfolding(crate::specs::Buttons::act))]
+fn act(
+    alloc: Global,
+    screen: &mut Screen,
+    inputs: &mut Inputs,
+    win: Win,
+    command: ButtonCommand,
+) -> Result<ClassOutcome, AllocError>
+    ensures own { IfOk result (λ outcome. spec.told (own_of win.owner screen.new) (inputs_of.own_of win.owner inputs.new) outcome
+        ≡ spec.act command win.number (own_of win.owner screen.old) (inputs_of.own_of win.owner inputs.old)) }
+    ensures screen { LeavesOthers win.owner screen.old screen.new }
+    ensures inputs { inputs_of.LeavesOthers win.owner inputs.old inputs.new }
+{
+    match command {
+        ButtonCommand::Enter => enter(alloc, screen, inputs, win),
+        ButtonCommand::Leave => leave(alloc, screen, inputs, win),
+        ButtonCommand::Down => down(alloc, screen, inputs, win),
+        ButtonCommand::Up => up(alloc, screen, inputs, win),
+        ButtonCommand::Invoke => invoke(alloc, screen, win),
+    }
+}
+
+/// The pointer comes over a button: it is sunken again if it is pressed.
+fn enter(
+    alloc: Global,
+    screen: &mut Screen,
+    inputs: &mut Inputs,
+    win: Win,
+) -> Result<ClassOutcome, AllocError>
+    ensures own { IfOk result (λ outcome. spec.told (own_of win.owner screen.new) (inputs_of.own_of win.owner inputs.new) outcome
+        ≡ spec.entered win.number (own_of win.owner screen.old) (inputs_of.own_of win.owner inputs.old)) }
+    ensures screen { LeavesOthers win.owner screen.old screen.new }
+    ensures inputs { inputs_of.LeavesOthers win.owner inputs.old inputs.new }
+{
+    if is_pressed(inputs, win) {
+        sink(alloc, screen, win)?;
+    }
+    inputs.enter(win.owner, win.number)?;
+    nothing(alloc)
+}
+
+/// The pointer leaves a button: it has the relief that it had before it was pressed.
+fn leave(
+    alloc: Global,
+    screen: &mut Screen,
+    inputs: &mut Inputs,
+    win: Win,
+) -> Result<ClassOutcome, AllocError>
+    ensures own { IfOk result (λ outcome. spec.told (own_of win.owner screen.new) (inputs_of.own_of win.owner inputs.new) outcome
+        ≡ spec.left win.number (own_of win.owner screen.old) (inputs_of.own_of win.owner inputs.old)) }
+    ensures screen { LeavesOthers win.owner screen.old screen.new }
+    ensures inputs { inputs_of.LeavesOthers win.owner inputs.old inputs.new }
+{
+    if is_pressed(inputs, win) {
+        restore(screen, inputs, win)?;
+    }
+    inputs.leave(win.owner, win.number)?;
+    nothing(alloc)
+}
+
+/// A button is pressed, unless it is disabled: it is sunken, and its relief is kept.
+fn down(
+    alloc: Global,
+    screen: &mut Screen,
+    inputs: &mut Inputs,
+    win: Win,
+) -> Result<ClassOutcome, AllocError>
+    ensures own { IfOk result (λ outcome. spec.told (own_of win.owner screen.new) (inputs_of.own_of win.owner inputs.new) outcome
+        ≡ spec.pressed win.number (own_of win.owner screen.old) (inputs_of.own_of win.owner inputs.old)) }
+    ensures screen { LeavesOthers win.owner screen.old screen.new }
+    ensures inputs { inputs_of.LeavesOthers win.owner inputs.old inputs.new }
+{
+    if let Some(relief) = relief_to_keep(alloc, screen, win)? {
+        sink(alloc, screen, win)?;
+        inputs.press(win.owner, win.number, relief)?;
+    }
+    nothing(alloc)
+}
+
+/// A button is let go, if it is pressed: it has its relief again, and is invoked where the pointer is over it.
+fn up(
+    alloc: Global,
+    screen: &mut Screen,
+    inputs: &mut Inputs,
+    win: Win,
+) -> Result<ClassOutcome, AllocError>
+    ensures own { IfOk result (λ outcome. spec.told (own_of win.owner screen.new) (inputs_of.own_of win.owner inputs.new) outcome
+        ≡ spec.let_go win.number (own_of win.owner screen.old) (inputs_of.own_of win.owner inputs.old)) }
+    ensures screen { LeavesOthers win.owner screen.old screen.new }
+    ensures inputs { inputs_of.LeavesOthers win.owner inputs.old inputs.new }
+{
+    if !is_pressed(inputs, win) {
+        return nothing(alloc);
+    }
+    restore(screen, inputs, win)?;
+    inputs.release(win.owner)?;
+    if is_over(inputs, win) {
+        return invoke(alloc, screen, win);
+    }
+    nothing(alloc)
+}
+
+/// What `invoke` of a button does: nothing where it is disabled, and else it runs its command.
+fn invoke(alloc: Global, screen: &Screen, win: Win) -> Result<ClassOutcome, AllocError>
+    ensures { IfOk result (λ outcome. outcome ≡ spec.invoked_at win.number (own_of win.owner screen.now)) }
+{
+    match screen.widget(win) {
+        Some(Widget::Button(button)) => {
+            match button.invoke() {
+                Some(script) => Ok(ClassOutcome::Runs(script.copy()?)),
+                None => nothing(alloc),
+            }
+        }
+        _ => nothing(alloc),
+    }
+}
+
+/// Whether the button is pressed.
+fn is_pressed(inputs: &Inputs, win: Win) -> bool
+    ensures { result ≡ spec.is_it win.number (inputs_of.own_of win.owner inputs.now).pressed }
+{
+    is_it(win.number, inputs.pressed(win.owner))
+}
+
+/// Whether the pointer is over the button.
+fn is_over(inputs: &Inputs, win: Win) -> bool
+    ensures { result ≡ spec.is_it win.number (inputs_of.own_of win.owner inputs.now).over }
+{
+    is_it(win.number, inputs.over(win.owner))
+}
+
+/// Whether it is the button that is kept.
+fn is_it(number: u64, kept: Option<u64>) -> bool
+    ensures { result ≡ spec.is_it number kept }
+{
+    match kept {
+        Some(other) => other == number,
+        None => false,
+    }
+}
+
+/// The relief of a button that can be pressed.
+fn relief_to_keep(alloc: Global, screen: &Screen, win: Win) -> Result<Option<Text>, AllocError>
+    ensures { IfOk result (λ relief. relief ≡ spec.relief_to_keep win.number (own_of win.owner screen.now)) }
+{
+    match screen.widget(win) {
+        Some(Widget::Button(button)) => {
+            if button.is_disabled() {
+                return Ok(None);
+            }
+            Ok(Some(button.relief(alloc)?))
+        }
+        _ => Ok(None),
+    }
+}
+
+/// Makes the relief of a button sunken.
+fn sink(alloc: Global, screen: &mut Screen, win: Win) -> Result<(), AllocError>
+    ensures own { OnOk result (own_of win.owner screen.new ≡ spec.with_relief win.number (codes "sunken") (own_of win.owner screen.old)) }
+    ensures others { LeavesOthers win.owner screen.old screen.new }
+{
+    match Text::new(alloc, "sunken") {
+        Ok(sunken) => {
+            put_relief(screen, win, sunken);
+            Ok(())
+        }
+        Err(_) => Err(AllocError),
+    }
+}
+
+/// Gives a button the relief again that it had when it was pressed.
+fn restore(screen: &mut Screen, inputs: &Inputs, win: Win) -> Result<(), AllocError>
+    ensures own { OnOk result (own_of win.owner screen.new
+        ≡ spec.restored win.number (inputs_of.own_of win.owner inputs.now).relief (own_of win.owner screen.old)) }
+    ensures others { LeavesOthers win.owner screen.old screen.new }
+{
+    if let Some(relief) = inputs.relief(win.owner) {
+        put_relief(screen, win, relief.copy()?);
+    }
+    Ok(())
+}
+
+/// Gives a button a relief. It takes no memory.
+fn put_relief(screen: &mut Screen, win: Win, relief: Text)
+    ensures own { own_of win.owner screen.new ≡ spec.with_relief win.number relief (own_of win.owner screen.old) }
+    ensures others { LeavesOthers win.owner screen.old screen.new }
+{
+    screen.widgets.touch(win, None, Touch::Relief(relief));
+}

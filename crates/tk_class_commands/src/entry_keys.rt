@@ -1,0 +1,176 @@
+//! What keys and the pointer do to entries (entry(n)).
+ghost use Rattle.std.specs.Prelude.{◌≡◌, IfOk, OnOk};
+ghost use Rattle.std.specs.Option.{option_copied};
+ghost use Rattle.tk_class_commands.specs.Entries as spec;
+ghost use Rattle.tk_class_commands.specs.Outcomes.{done};
+ghost use Rattle.tk_inputs.specs.Deliver.{arrivals_of};
+ghost use Rattle.tk_inputs.specs.Inputs as inputs_of;
+ghost use Rattle.tk_queue.specs.Queue as queue_of;
+ghost use Rattle.tk_screen.specs.Own.{LeavesOthers, own_of};
+ghost use Rattle.tk_widgets.specs.Outcomes.{asked_by};
+
+use crate::outcome::{ClassOutcome, empty_text, nothing, outcome_of};
+use std::alloc::{AllocError, Global};
+use tcl_text::Text;
+use tcl_vars::Scopes;
+use tk_base::Win;
+use tk_entry::Move;
+use tk_inputs::{Inputs, set_focus};
+use tk_queue::EventQueue;
+use tk_screen::{Screen, Touch, change_widget, variable_text};
+use tk_widgets::{Asked, EntryWidget, Widget, WidgetAct};
+
+/// What a command asks of an entry.
+#[derive(Drop)]
+pub enum EntryAsk {
+    /// An edit by a key.
+    Edit(EntryKey),
+    /// The cursor goes by a key.
+    Move(Move),
+    /// The entry is pressed, so many pixels from its left edge.
+    Point(i64),
+}
+
+/// A key that edits.
+#[derive(Drop)]
+pub enum EntryKey {
+    /// The text of the key is inserted.
+    Type(Text),
+    /// The character before the cursor is deleted.
+    Backspace,
+    /// The character behind the cursor is deleted.
+    Delete,
+}
+
+/// What is done to an entry, at a moment in milliseconds.
+pub fn entry_asked(
+    alloc: Global,
+    screen: &mut Screen,
+    inputs: &mut Inputs,
+    queue: &mut EventQueue,
+    scopes: &mut Scopes,
+    win: Win,
+    moment: u64,
+    ask: EntryAsk,
+) -> Result<ClassOutcome, AllocError>
+    ensures own { IfOk result (λ outcome. done (own_of win.owner screen.new) (arrivals_of win.owner inputs.new queue.new) scopes.new outcome
+        ≡ spec.entry_asked win.number moment ask (own_of win.owner screen.old) (arrivals_of win.owner inputs.old queue.old) scopes.old) }
+    ensures screen { LeavesOthers win.owner screen.old screen.new }
+    ensures inputs { inputs_of.LeavesOthers win.owner inputs.old inputs.new }
+    ensures queue { queue_of.LeavesOthers win.owner queue.old queue.new }
+{
+    match ask {
+        EntryAsk::Edit(key) => edit(alloc, screen, scopes, win, key),
+        EntryAsk::Move(way) => {
+            touch(screen, scopes, win, Touch::Move(way));
+            nothing(alloc)
+        }
+        EntryAsk::Point(x) => point(alloc, screen, inputs, queue, scopes, win, moment, x),
+    }
+}
+
+/// An edit by a key, with the variable that the entry shows.
+fn edit(
+    alloc: Global,
+    screen: &mut Screen,
+    scopes: &mut Scopes,
+    win: Win,
+    key: EntryKey,
+) -> Result<ClassOutcome, AllocError>
+    ensures own { IfOk result (λ outcome. spec.edit_told (own_of win.owner screen.new) scopes.new outcome
+        ≡ spec.edited win.number key (own_of win.owner screen.old) scopes.old) }
+    ensures others { LeavesOthers win.owner screen.old screen.new }
+{
+    let Some(widget) = screen.widget(win) else {
+        return nothing(alloc);
+    };
+    match asked_of(alloc, widget, scopes, &key)? {
+        Asked::Done(act) => outcome_of(alloc, Some(act)),
+        Asked::Wants(change) => {
+            let act = change_widget(alloc, screen, scopes, win, change)?;
+            outcome_of(alloc, act)
+        }
+    }
+}
+
+/// What a key asks of a widget: nothing where it is no entry.
+fn asked_of(
+    alloc: Global,
+    widget: &Widget,
+    scopes: &Scopes,
+    key: &EntryKey,
+) -> Result<Asked, AllocError>
+    ensures { IfOk result (λ asked. asked ≡ spec.asked_of key.now widget.now scopes.now) }
+{
+    match widget {
+        Widget::Entry(entry) => key_asked(alloc, entry, variable_text(widget, scopes), key),
+        _ => Ok(Asked::Done(WidgetAct::Answer(empty_text(alloc)?))),
+    }
+}
+
+/// What a key asks of an entry that shows this text of a variable.
+fn key_asked(
+    alloc: Global,
+    entry: &EntryWidget,
+    variable: Option<&Text>,
+    key: &EntryKey,
+) -> Result<Asked, AllocError>
+    ensures { IfOk result (λ asked. asked ≡ asked_by (spec.wanted key.now (option_copied variable.entry) entry.now)) }
+{
+    match key {
+        EntryKey::Type(text) => entry.ask_typed(alloc, variable, text),
+        EntryKey::Backspace => entry.ask_backspace(alloc, variable),
+        EntryKey::Delete => entry.ask_delete(alloc, variable),
+    }
+}
+
+/// Does to an entry what a key or the pointer makes of it at once. It takes no memory.
+fn touch(screen: &mut Screen, scopes: &Scopes, win: Win, touch: Touch)
+    ensures own { own_of win.owner screen.new ≡ spec.with_touch win.number touch (own_of win.owner screen.old) scopes.now }
+    ensures others { LeavesOthers win.owner screen.old screen.new }
+{
+    let variable = text_of(screen, scopes, win);
+    screen.widgets.touch(win, variable, touch);
+}
+
+/// The text of the variable that a window's widget shows.
+fn text_of<'a>(screen: &Screen, scopes: &'a Scopes, win: Win) -> Option<&'a Text>
+    ensures { option_copied result ≡ spec.text_at win.number (own_of win.owner screen.now) scopes.now }
+{
+    variable_text(screen.widget(win)?, scopes)
+}
+
+/// An entry is pressed, unless it is disabled: it gets the keys, and its cursor goes to the pointer.
+fn point(
+    alloc: Global,
+    screen: &mut Screen,
+    inputs: &mut Inputs,
+    queue: &mut EventQueue,
+    scopes: &Scopes,
+    win: Win,
+    moment: u64,
+    x: i64,
+) -> Result<ClassOutcome, AllocError>
+    ensures own { IfOk result (λ outcome. done (own_of win.owner screen.new) (arrivals_of win.owner inputs.new queue.new) scopes.now outcome
+        ≡ spec.pointed win.number moment x (own_of win.owner screen.old) (arrivals_of win.owner inputs.old queue.old) scopes.now) }
+    ensures screen { LeavesOthers win.owner screen.old screen.new }
+    ensures inputs { inputs_of.LeavesOthers win.owner inputs.old inputs.new }
+    ensures queue { queue_of.LeavesOthers win.owner queue.old queue.new }
+{
+    if is_disabled(screen, win) {
+        return nothing(alloc);
+    }
+    set_focus(&screen.windows, inputs, queue, win, moment)?;
+    touch(screen, scopes, win, Touch::Point(x));
+    nothing(alloc)
+}
+
+/// Whether it is an entry that takes no part in anything.
+fn is_disabled(screen: &Screen, win: Win) -> bool
+    ensures { result ≡ spec.is_disabled_at win.number (own_of win.owner screen.now) }
+{
+    match screen.widget(win) {
+        Some(Widget::Entry(entry)) => entry.is_disabled(),
+        _ => false,
+    }
+}

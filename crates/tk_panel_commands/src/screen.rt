@@ -1,0 +1,80 @@
+//! The commands on windows: those that make them, `winfo`, `wm` and `pack`.
+ghost use Rattle.std.specs.Prelude.{◌≡◌, IfOk};
+ghost use Rattle.tk_panel.specs.Panel.{LeavesOthers, panel_of};
+ghost use Rattle.tk_panel_commands.specs.Outcomes.{done};
+ghost use Rattle.tk_panel_commands.specs.Screen as spec;
+ghost use Rattle.tk_screen.specs.Own as screens;
+
+use crate::outcome::Outcome;
+use std::alloc::{AllocError, Global};
+use tcl_text::Text;
+use tcl_vars::Scopes;
+use tk_panel::{Answer, Tables};
+use tk_screen::Screen;
+use tk_window_commands::{WindowCommand, window_command_done, window_command_named};
+
+/// A command on what is on the screen.
+#[derive(Clone, Copy, Debug, PartialEq, Eq)]
+pub enum ScreenCommand {
+    Window(WindowCommand),
+    Pack,
+}
+
+/// The one of a name.
+#[tactic(auto, unfolding(crate::specs::Screen::screen_command_named))]
+pub fn screen_command_named(name: &str) -> Option<ScreenCommand>
+    ensures { result ≡ spec.screen_command_named name.now }
+{
+    if name == "pack" {
+        return Some(ScreenCommand::Pack);
+    }
+    match window_command_named(name) {
+        Some(command) => Some(ScreenCommand::Window(command)),
+        None => None,
+    }
+}
+
+/// What one does, from the words behind its name.
+#[tactic(auto, unfolding(crate::specs::Screen::screen_command_done))]
+pub fn screen_command_done(
+    tables: &mut Tables,
+    slot: usize,
+    scopes: &mut Scopes,
+    command: ScreenCommand,
+    words: &[Text],
+) -> Result<Outcome, AllocError>
+    ensures own { IfOk result (λ outcome. done (panel_of slot tables.new) scopes.new outcome
+        ≡ spec.screen_command_done command words.now (panel_of slot tables.old) scopes.old) }
+    ensures others { LeavesOthers slot tables.old tables.new }
+{
+    match command {
+        ScreenCommand::Window(command) => {
+            let answer = window_command_done(
+                tables.alloc,
+                &mut tables.screen,
+                scopes,
+                slot,
+                command,
+                words,
+            )?;
+            Ok(Outcome::Answers(answer))
+        }
+        ScreenCommand::Pack => {
+            let answer = pack(tables.alloc, &mut tables.screen, slot, words)?;
+            Ok(Outcome::Answers(answer))
+        }
+    }
+}
+
+/// The command `pack` (pack(n)).
+fn pack(
+    alloc: Global,
+    screen: &mut Screen,
+    slot: usize,
+    words: &[Text],
+) -> Result<Answer, AllocError>
+    ensures own { IfOk result (λ answer. (screens.own_of slot screen.new, answer) ≡ spec.pack_told words.now (screens.own_of slot screen.old)) }
+    ensures others { screens.LeavesOthers slot screen.old screen.new }
+{
+    tk_pack_commands::pack_command(alloc, &screen.windows, &mut screen.packs, slot, words)
+}

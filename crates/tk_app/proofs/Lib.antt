@@ -5,6 +5,7 @@ mod Kinds
 mod Lines
 pub mod Parts
 pub mod Settled
+mod Shows
 pub mod Slices
 pub mod Slots
 pub mod Views

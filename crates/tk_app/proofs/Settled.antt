@@ -30,7 +30,7 @@ use Rattle.tk_panel_jobs.specs.Rests.{has_settled, is_empty, settles_last}
 use Rattle.tk_panel_jobs.proofs.Settled.{due_comes}
 use Rattle.tk_app.specs.declared.state.AppState.{AppState}
 use Rattle.tk_app.specs.declared.state.AppState.TheVariants.{Running, Exhausted, Closed}
-use Rattle.tk_app.specs.Application.{Application, next_due, next_due_as}
+use Rattle.tk_app.specs.Application.{Application, next_due, next_due_as, panel_at}
 use Rattle.tk_app.specs.Dues.{DueTakesAStep, SettledIsPast, StartedIsPast}
 use Rattle.tk_app.specs.Outside.{calls, called_as, alias_act, course, outside}
 use Rattle.tk_app.specs.Part.{after_outcome, settled, settled_as, started, state_after, state_at}
@@ -104,10 +104,10 @@ quiet_start script state = by (at_global script state)
 -- ── so nothing is due ──
 
 not_due : (closed empty due idle : Bool) → (closed || (empty && (not due && idle))) ≡ true → closed ≡ false → due ≡ false
-not_due true empty due idle settled open = cc
-not_due false true false idle settled open = refl
-not_due false true true idle settled open = cc
-not_due false false due idle settled open = cc
+not_due true empty due idle settled held = cc
+not_due false true false idle settled held = refl
+not_due false true true idle settled held = cc
+not_due false false due idle settled held = cc
 
 due_past : (moment : ℕ) (entries : List Entry) → is_due moment entries ≡ false → IsPast moment (least (due_moments entries))
 due_past moment entries early = by (least (due_moments entries)) refl
@@ -151,27 +151,24 @@ closed_ends : (state : State Seen) → is_closed state.shows.panel ≡ true → 
 closed_ends state closed = goes_by_next settling state ∙ ap (comes_next state) (closed_next state.shows.panel state.store closed)
 
 module _ {M : Type 0} (answer : M → Meaning) where
+  due_now : (moment due : ℕ) (entries : List Entry) → least (due_moments entries) ≡ Some due → due ≤ moment → is_due moment entries ≡ true
+  due_now moment due entries next_is le = ap (λ o. option_map_or (λ due. nat_le due moment) o false) next_is ∙ le-leb due moment le
+
   fewer : (moment due : ℕ) (application : Application M) → least (due_moments application.timers.entries) ≡ Some due → due ≤ moment
       → (after_outcome (settle_meaning (state_at answer moment application)) application).state ≡ Running
       → (after_outcome (settle_meaning (state_at answer moment application)) application).steps < application.steps
-  fewer moment due application next_is le runs = by (is_closed panel) refl
+  fewer moment due application next_is le runs = by (is_closed (panel_at moment application)) refl
     where
-      abbrev state : State Seen
-      state = state_at answer moment application
-
-      abbrev panel : Panel
-      panel = state.shows.panel
-
-      by_due : is_due moment application.timers.entries ≡ true
-      by_due = ap (λ o. option_map_or (λ due. nat_le due moment) o false) next_is ∙ le-leb due moment le
-
-      by : (b : Bool) → is_closed panel ≡ b → (after_outcome (settle_meaning state) application).steps < application.steps
+      by : (b : Bool) → is_closed (panel_at moment application) ≡ b → (after_outcome (settle_meaning (state_at answer moment application)) application).steps < application.steps
       by true closed =
-          let ends : (after_outcome (settle_meaning state) application).state ≡ Closed = ap (λ o. (after_outcome o application).state) (closed_ends state closed) ∙ ap (λ b. cond b Closed Running) closed in
+          let here : State Seen = state_at answer moment application in
+          let ends : (after_outcome (settle_meaning here) application).state ≡ Closed = ap (λ o. (after_outcome o application).state) (closed_ends here closed) ∙ ap (λ b. cond b Closed Running) closed in
           let wrong : Closed ≡ Running = sym ends ∙ runs in
           absurd cc
-      by false open =
-          fewer_by (settle_meaning state) application (comes_below state (next settling state.store panel).1 refl (due_comes state.store panel open by_due)) runs
+      by false held =
+          let here : State Seen = state_at answer moment application in
+          fewer_by (settle_meaning here) application
+          (comes_below here (next settling here.store here.shows.panel).1 refl (due_comes here.store here.shows.panel held (due_now moment due application.timers.entries next_is le))) runs
 
   fewer_as : (s : AppState) (moment due : ℕ) (application : Application M) → next_due_as s application.timers ≡ Some due → due ≤ moment
       → (settled_as answer s moment application).state ≡ Running → (settled_as answer s moment application).steps < application.steps

@@ -1,5 +1,5 @@
 use Rattle.std.proofs.Common.{ℕ, List, refl, ap, ◌∙◌}
-use Rattle.tk_app.specs.declared.tables.Tables.{Tables}
+use Rattle.tk_panel.specs.declared.tables.Tables.{Tables}
 use Rattle.tk_app.specs.Part.{Part}
 use Rattle.tk_app.specs.Turns.{Applications, parts_from}
 use Rattle.tk_app.proofs.Slots.{same_from}

@@ -1,6 +1,6 @@
 use Rattle.std.proofs.Common.{◌≡◌, ℕ, List, ◌<◌, set, ap, ◌∙◌, subst, length, arith, refl}
 use Rattle.tk_app.specs.Part.{Part, settling_as}
-use Rattle.tk_app.specs.Tables.{panel_of}
+use Rattle.tk_panel.specs.Panel.{panel_of}
 use Rattle.tk_app.specs.Turns.{Applications, BeginsIn, Program, part_of, parts_from}
 use Rattle.tk_app.proofs.Slots.{in_range}
 use Rattle.tk_app.proofs.Views.{one_changed, one_was, slot_held}
@@ -23,8 +23,7 @@ returns-clause-begun g c =
     let r : Program _ = c.index_mut-runner.result.now in
     let after : Program _ = c.begin.new.self in
     let lt : i < length old.runners.items = in_range c.shared.inside.tables c.shared.inside.runners.items c.args.self.now.shared.now.parts c.args.self.now.slot (ap (λ (h : Applications _). h.parts) c.shared.view_is) c.args.self.now.held in
-    let begun : after ≡ record r { work = settling_as r.state old.tables.clock r.work } =
-    c.in_ok-begin.ensures.ok ∙ ap (λ (m : ℕ). record r { work = settling_as r.state m r.work }) c.moment-moment.ensures.moment in
+    let begun : after ≡ record r { work = settling_as r.state r.work } = c.in_ok-begin.ensures.ok in
     let held : List (Part _) → Applications _ = λ parts. record { moment = old.tables.clock; parts = parts; turns = old.turns.items; refused = old.refused } in
     let parts = parts_from 0 old.tables old.runners.items in
     subst (λ (h : Applications _). BeginsIn i h (held (parts_from 0 old.tables (set old.runners.items i after)))) c.shared.view_is (record {

@@ -1,6 +1,6 @@
 use Rattle.std.proofs.Common.{◌++◌, ◌<◌, set, ap, ◌∙◌, subst, length, arith, true, false}
 use Rattle.tk_turns.specs.Rounds.{entry}
-use Rattle.tk_app.specs.Tables.{panel_of}
+use Rattle.tk_panel.specs.Panel.{panel_of}
 use Rattle.tk_app.specs.Turns.{Applications, ChangesOnly, Program, SettlesSlot, part_of, parts_from}
 use Rattle.tk_app.proofs.Slots.{in_range}
 use Rattle.tk_app.proofs.Views.{held_kept, one_changed, one_was, only_same, slot_held}
@@ -17,8 +17,8 @@ index_mut-runner-requires g c =
 pub invariant_of-shared : goal.invariant_of-shared
 invariant_of-shared g c =
     let old = c.shared.inside in
-    held_kept c.args.self.now.slot old.tables c.take_turn.new.tables old.runners.items c.take_turn.new.runner c.shared.invariant.0 c.shared.invariant.1 c.shared.invariant.2
-    (in_range c.shared.inside.tables c.shared.inside.runners.items c.args.self.now.shared.now.parts c.args.self.now.slot (ap (λ (h : Applications _). h.parts) c.shared.view_is) c.args.self.now.held) c.take_turn.ensures.count c.take_turn.ensures.others
+    held_kept c.args.self.now.slot old.tables c.take_turn.new.tables old.runners.items c.take_turn.new.runner c.shared.invariant.0 c.shared.invariant.1
+    (in_range c.shared.inside.tables c.shared.inside.runners.items c.args.self.now.shared.now.parts c.args.self.now.slot (ap (λ (h : Applications _). h.parts) c.shared.view_is) c.args.self.now.held) c.take_turn.ensures.clock c.take_turn.ensures.others
 
 pub invariant_of-self-in-Break-1 : goal.invariant_of-self-in-Break-1
 invariant_of-self-in-Break-1 g c =
@@ -45,8 +45,8 @@ returns-in_err-end-clause-only g c =
 pub invariant_of-shared-2 : goal.invariant_of-shared-2
 invariant_of-shared-2 g c =
     let old = c.shared.inside in
-    held_kept c.args.self.now.slot old.tables c.take_turn.new.tables old.runners.items c.take_turn.new.runner c.shared.invariant.0 c.shared.invariant.1 c.shared.invariant.2
-    (in_range c.shared.inside.tables c.shared.inside.runners.items c.args.self.now.shared.now.parts c.args.self.now.slot (ap (λ (h : Applications _). h.parts) c.shared.view_is) c.args.self.now.held) c.take_turn.ensures.count c.take_turn.ensures.others
+    held_kept c.args.self.now.slot old.tables c.take_turn.new.tables old.runners.items c.take_turn.new.runner c.shared.invariant.0 c.shared.invariant.1
+    (in_range c.shared.inside.tables c.shared.inside.runners.items c.args.self.now.shared.now.parts c.args.self.now.slot (ap (λ (h : Applications _). h.parts) c.shared.view_is) c.args.self.now.held) c.take_turn.ensures.clock c.take_turn.ensures.others
 
 pub invariant_of-self-2 : goal.invariant_of-self-2
 invariant_of-self-2 g c =

@@ -1,9 +1,9 @@
 use Rattle.std.proofs.Common.{refl, sym, ap, ◌∙◌}
-use Rattle.tk_app.specs.Tables.{panel_of}
+use Rattle.tk_panel.specs.Panel.{panel_of}
 use Rattle.tk_app.specs.Turns.{Program, part_of}
 use Rattle.tk_app.proofs.Slices.{stopped_turn, work_stops}
 use Rattle.tk_app.proofs.Views.{none_told}
-use Rattle.tk_app.proofs.runner.take_turn.Goals as goal
+use Rattle.tk_app.proofs.turn.take_turn.Goals as goal
 
 pub returns-in_default : goal.returns-in_default
 returns-in_default g c =
@@ -14,6 +14,5 @@ returns-in_default g c =
           (sym (ap (λ (q : Program _). q.work) c.runner.view_is) ∙ work_stops c.runner.inside.state _ c.in_default.not-Running);
       told = none_told c.args.turns.now.items c.args.slot p.steps;
       clock = refl;
-      count = refl;
       others = refl;
     }

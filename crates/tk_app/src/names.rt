@@ -1,14 +1,13 @@
 //! The names of the commands that an application's panel serves, beside the paths of its windows.
-ghost use Rattle.std.specs.Prelude.{◌≡◌, ◌≤◌, ◌∷◌, [], ◌++◌, IfOk, OnOk, length};
+ghost use Rattle.std.specs.Prelude.{◌≡◌, ◌∷◌, [], ◌++◌, IfOk, OnOk};
 ghost use Rattle.tk_app.specs.Names.{class_names, command_names, plain_names, widget_names};
 
 use std::alloc::{AllocError, Global};
 use tcl_text::Text;
 use tk_panel::short_text;
 
-/// Adds a name of a few characters.
+/// Adds a name.
 fn push_name(alloc: Global, names: &mut Vec<Text>, name: &str) -> Result<(), AllocError>
-    requires { length name.now ≤ 65536 }
     ensures { OnOk result (names.new.items ≡ names.old.items ++ name.now ∷ []) }
 {
     Ok(names.push(short_text(alloc, name)?)?)

@@ -3,5 +3,4 @@ pub mod Changes
 pub mod Layout
 pub mod Own
 pub mod Shapes
-pub mod Touches
 pub mod Widgets

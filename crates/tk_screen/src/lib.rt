@@ -7,7 +7,6 @@ mod layout;
 mod screen;
 mod shapes;
 mod toplevel;
-mod touch;
 mod widgets;
 
 pub use changes::{change_widget, write_variable};
@@ -15,5 +14,4 @@ pub use layout::{lay_out, requested_size};
 pub use screen::Screen;
 pub use shapes::{value, variable_text};
 pub use toplevel::Toplevel;
-pub use touch::Touch;
 pub use widgets::Widgets;

@@ -2,14 +2,11 @@
 ghost use Rattle.std.specs.Prelude.{◌≡◌, [], ℕ, IfOk, OnOk, OnErr, IsSome, nat_eq};
 ghost use Rattle.std.specs.HashMap.{get};
 ghost use Rattle.std.specs.Option.{option_copied};
-ghost use Rattle.tk_screen.specs.Touches.{touched_at};
 ghost use Rattle.tk_screen.specs.Widgets.{widgets_of, widget_at, with_widget, without_widget, made_at, HasRoom, LeavesOtherWidgets};
 
-use crate::touch::{Touch, touch_widget};
 use indexmap::IndexMap;
 use std::alloc::{AllocError, Global};
 use std::collections::HashMap;
-use tcl_text::Text;
 use tk_base::Win;
 use tk_widgets::{Change, Widget, WidgetAct};
 
@@ -106,20 +103,5 @@ impl Widgets {
             return Ok(Some(act));
         }
         Ok(None)
-    }
-
-    /// Does to a window's widget what a key or the pointer makes of it at once, where the widget shows this text of a variable, and answers whether a
-    /// selection was made or toggled: not where the window has no widget. It takes no memory.
-    pub fn touch(&mut self, win: Win, variable: Option<&Text>, touch: Touch) -> bool
-        ensures own { record { widgets = widgets_of win.owner self.new; told = result }
-            ≡ touched_at win.number touch (option_copied variable.entry) (widgets_of win.owner self.old) }
-        ensures others { LeavesOtherWidgets win.owner self.old self.new }
-    {
-        if let Some(row) = self.rows.get_mut(&win.owner)
-            && let Some(widget) = row.get_mut(&win.number)
-        {
-            return touch_widget(widget, variable, touch);
-        }
-        false
     }
 }

@@ -32,7 +32,7 @@ use Rattle.tcl_interp.specs.Outside.{Outside}
 use Rattle.tcl_interp.specs.Evaluation.{State, Outcome, Ended, OutOfSteps, level_of, and_then, on_normal, stepped, on_read, words_of, on_words, index_pieces, element_read, on_index, piece_meaning, pieces_meaning, index_depth, element_meaning, words_meaning, called, commands_meaning}
 use Rattle.tcl_interp.specs.Plans.{cut, others, levels_back, procedure_ended, caught, on_tested, loop_ended, after_body, after_next, run_at, next_turn, test_meaning, turn_meaning, turns_meaning, loop_meaning, plan_meaning}
 use Rattle.tcl_interp.specs.Expressions.{value_ended, on_truth, on_value, if_holds, run_meaning, tree_meaning, expression_meaning, condition_meaning, otherwise_meaning, choices_meaning}
-use Rattle.tcl_interp.specs.Scripts.{out_of_global, on_act, resumed, after_step, task_meaning, act_meaning, outside_meaning, by_call, called_meaning, call_meaning, on_parsed, script_meaning}
+use Rattle.tcl_interp.specs.Scripts.{out_of_global, on_act, resumed, after_step, task_meaning, act_meaning, by_call, call_meaning, on_parsed, script_meaning}
 
 module _ {S : Type 0} (P : S → Type 0) where
   -- the calls and the tasks keep it

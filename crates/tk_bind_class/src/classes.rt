@@ -84,7 +84,7 @@ fn bind_rows(
 }
 
 /// Binds a script to a sequence for a tag.
-#[tactic(auto, unfolding(crate::specs::ClassBindings::with_row), using(crate::proofs::Kept::with_binding_kept))]
+#[tactic(auto, unfolding(crate::specs::ClassBindings::with_row))]
 fn bind_row(
     alloc: Global,
     bindings: &mut BindTable,
@@ -120,7 +120,8 @@ fn bind(
     ensures kept { without_tag class (own_of slot bindings.new) ≡ without_tag class (own_of slot bindings.old) }
 {
     match bindings.bind(slot, class, sequence, script) {
-        Ok(()) | Err(BindFault::Full) => Ok(()),
+        Ok(()) => Ok(()),
+        Err(BindFault::Full) => Ok(()),
         Err(BindFault::NoMemory) => Err(AllocError),
     }
 }

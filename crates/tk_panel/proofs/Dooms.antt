@@ -1,7 +1,7 @@
 -- Windows that are destroyed, one after another.
-use Rattle.std.proofs.Common.{◌≡◌, ℕ, Bool, true, false, List, [], ◌∷◌, refl, ap, ◌∙◌, sym}
-use Rattle.std.specs.Prelude.{Option, Some, None}
-use Rattle.tk_panel.specs.Destroy.{Doomed, destroy_chosen, destroys, doomed_by, doomed_next, marked, next_doomed, on_doomed, or_removed, removed}
+use Rattle.std.proofs.Common.{◌≡◌, ℕ, List, [], ◌∷◌, refl, ap}
+use Rattle.std.specs.Prelude.{Some, None}
+use Rattle.tk_panel.specs.Destroy.{Doomed, destroy_chosen, doomed_next, next_doomed, on_doomed, or_removed, removed}
 use Rattle.tk_panel.specs.Panel.{Panel}
 use Rattle.tk_panel.specs.Settle.{Next}
 

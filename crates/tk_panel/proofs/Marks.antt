@@ -1,6 +1,6 @@
 -- A window that isn't there, and so isn't changed.
 use Rattle.std.proofs.Common.{◌≡◌, ℕ, Bool, true, false, cond, List, [], ◌∷◌, refl, sym, ap}
-use Rattle.std.specs.Prelude.{◌==◌, Option, Some, None, is_some, find}
+use Rattle.std.specs.Prelude.{◌==◌, Some, is_some}
 use Rattle.tk_bag.specs.Bag.{changed_at, numbered}
 use Rattle.tk_tree.specs.declared.window.Window.{Window}
 use Rattle.tk_tree.specs.Change.{dying}

@@ -1,8 +1,7 @@
 -- What comes next and what starts, from the scripts of the event under way.
-use Rattle.std.proofs.Common.{◌≡◌, ℕ, List, [], ◌∷◌, refl, ap, ◌∙◌, sym}
-use Rattle.std.specs.Prelude.{Option, Some, None}
+use Rattle.std.proofs.Common.{◌≡◌, ℕ, List, [], ◌∷◌, ap, ◌∙◌, sym}
+use Rattle.std.specs.Prelude.{Option, Some}
 use Rattle.tcl_vars.specs.Store.{Store}
-use Rattle.tk_panel.specs.declared.job.Job.{Job}
 use Rattle.tk_panel.specs.declared.job.Rest.{Rest}
 use Rattle.tk_panel.specs.Next.{next_event, next_rest}
 use Rattle.tk_panel.specs.Panel.{Panel}

@@ -1,5 +1,5 @@
 -- What comes next, from what was found before it.
-use Rattle.std.proofs.Common.{◌≡◌, ℕ, Bool, true, false, List, [], ◌∷◌, refl, ap, ◌∙◌, sym}
+use Rattle.std.proofs.Common.{◌≡◌, ℕ, List, [], ◌∷◌, ap, ◌∙◌, sym}
 use Rattle.std.specs.Prelude.{Option, Some, None}
 use Rattle.tcl_vars.specs.Store.{Store}
 use Rattle.tk_after.specs.Timers.{idle_ids}
@@ -9,7 +9,7 @@ use Rattle.tk_panel.specs.declared.job.Job.{Job}
 use Rattle.tk_panel.specs.declared.job.Rest.TheVariants.{Rounds}
 use Rattle.tk_panel.specs.Changes.{laid_out}
 use Rattle.tk_panel.specs.Panel.{Panel}
-use Rattle.tk_panel.specs.Settle.{Next, after_layout, after_round, at_home, drained, idle_round, is_due, on_event, on_round, on_timer, rounds_next, still_waiting, tasks, tasks_round, turn}
+use Rattle.tk_panel.specs.Settle.{Next, after_round, at_home, drained, idle_round, on_event, on_round, rounds_next, still_waiting, tasks, tasks_round}
 
 abbrev round_job : List ℕ → Home → Option Job
 round_job ids home = Some (record { event = None; rest = Rounds ids home })

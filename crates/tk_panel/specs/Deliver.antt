@@ -1,5 +1,4 @@
 -- What a line of the session gives an application.
-use Rattle.std.specs.Prelude.{ℕ}
 use Rattle.tk_input.specs.declared.event.LocalEvent.{LocalEvent}
 use Rattle.tk_input.specs.declared.event.LocalKind.{LocalKind}
 use Rattle.tk_input.specs.declared.event.LocalKind.TheVariants.{Size}

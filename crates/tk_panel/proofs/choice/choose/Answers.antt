@@ -1,4 +1,4 @@
-use Rattle.std.proofs.Common.{[], sym, ap, ◌∙◌}
+use Rattle.std.proofs.Common.{sym, ap, ◌∙◌}
 use Rattle.tk_dispatch.specs.Histories as histories
 use Rattle.tk_panel.specs.Panel.{panel_of}
 use Rattle.tk_panel.proofs.Choices.{chosen_refused}

@@ -1,7 +1,6 @@
-use Rattle.std.proofs.Common.{◌≡◌, ℕ, List, [], ◌∷◌, length, arith, sym, ap, ◌∙◌}
-use Rattle.tk_events.specs.declared.event.Event.{Event}
+use Rattle.std.proofs.Common.{◌≡◌, ℕ, List, length, arith, sym, ap, ◌∙◌}
 use Rattle.tk_queue.specs.Queue.{own_of}
-use Rattle.tk_panel.specs.Panel.{LeavesOthers, Panel, panel_of}
+use Rattle.tk_panel.specs.Panel.{Panel, panel_of}
 use Rattle.tk_panel.specs.Settle.{with_queue}
 use Rattle.tk_panel.proofs.Choices.{chosen_queue}
 use Rattle.tk_panel.proofs.Drains.{drained_finds, drained_skips}

@@ -1,7 +1,7 @@
-use Rattle.std.proofs.Common.{◌≡◌, sym, ap, ◌∙◌}
+use Rattle.std.proofs.Common.{sym, ap, ◌∙◌}
 use Rattle.tk_after.specs.Timers as timers
 use Rattle.tk_panel.specs.declared.job.Rest.TheVariants.{Rounds}
-use Rattle.tk_panel.specs.Panel.{Panel, panel_of}
+use Rattle.tk_panel.specs.Panel.{panel_of}
 use Rattle.tk_panel.specs.Start.{alone}
 use Rattle.tk_panel.proofs.Starts.{idle_found, idle_gone}
 use Rattle.tk_panel.proofs.starting.start_idle.Goals as goal

@@ -1,7 +1,7 @@
 -- What the proofs share. `Parts`, `Settled` and `Slices` also serve who lets applications pass from moment to moment.
 mod Adding
 mod Events
-mod Kinds
+mod Homes
 mod Lines
 pub mod Parts
 pub mod Settled

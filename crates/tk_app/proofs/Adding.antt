@@ -6,8 +6,9 @@ use Rattle.tk_panel.specs.declared.tables.Tables.{Tables}
 use Rattle.tk_panel.specs.Fresh.{fresh, nothing}
 use Rattle.tk_panel.specs.Panel.{LeavesOthers, panel_of}
 use Rattle.tk_panel.proofs.Others.{other_same, others_same}
-use Rattle.tk_app.specs.Part.{Part}
-use Rattle.tk_app.specs.Turns.{IsVacantFrom, Program, part_of, parts_from}
+use Rattle.tk_app.specs.declared.budget.Budget.{Budget}
+use Rattle.tk_app.specs.Part.{added}
+use Rattle.tk_app.specs.Turns.{IsVacantFrom, Program, beginning, part_of, parts_from}
 use Rattle.tk_app.proofs.Slots.{push_parts, same_from}
 
 -- the moment isn't seen in a part
@@ -24,13 +25,15 @@ module _ {M : Type 0} (old new : Tables) (programs : List (Program M)) (slot : �
   parts_kept = same_from 0 old new programs (λ k q le lt. ap (λ s. part_of s q) (kept k (omega (arith, lt, few)) (λ same. omega (arith, lt, same, at))))
 
   -- the parts, with one more
-  pub parts_more : (name : List ℕ) (size : ℕ × ℕ) (program : Program M) (added : Part M) → panel_of slot new ≡ fresh name size old.clock → part_of (fresh name size 0) program ≡ added
-      → parts_from 0 new (programs ++ program ∷ []) ≡ parts_from 0 old programs ++ added ∷ []
-  parts_more name size program added has is =
+  pub parts_more : (name script : List ℕ) (width height : ℕ) (budget : Budget) (aliases : List (List ℕ × M)) (program : Program M) → panel_of slot new ≡ fresh name (width, height) old.clock → program ≡ beginning name script budget aliases
+      → parts_from 0 new (programs ++ program ∷ [])
+      ≡ parts_from 0 old programs ++ added (record { name = name; width = width; height = height; script = script; budget = budget; aliases = aliases }) ∷ []
+  parts_more name script width height budget aliases program has is =
       push_parts new programs program
       ∙ ap (λ parts. parts ++ part_of (panel_of (length programs) new) program ∷ []) parts_kept
       ∙ ap (λ part. parts_from 0 old programs ++ part ∷ [])
-      (ap (λ k. part_of (panel_of k new) program) (sym at) ∙ ap (λ s. part_of s program) has ∙ fresh_part name size old.clock program ∙ is)
+      (ap (λ k. part_of (panel_of k new) program) (sym at) ∙ ap (λ s. part_of s program) has ∙ fresh_part name (width, height) old.clock program
+      ∙ ap (λ (p : Program M). part_of (fresh name (width, height) 0) p) is)
 
   one_more : (xs : List (Program M)) (x : Program M) → length (xs ++ x ∷ []) ≡ length xs + 1
   one_more [] x = refl

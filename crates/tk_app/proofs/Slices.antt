@@ -1,5 +1,6 @@
 -- What a slice of an application's interpreter makes of its part.
-use Rattle.std.proofs.Common.{◌≡◌, ◌≢◌, ℕ, ◌+◌, ◌-◌, ◌≤◌, List, refl, sym, ap, ◌∙◌, subst, arith}
+use Rattle.std.specs.Prelude.{◌⊎◌}
+use Rattle.std.proofs.Common.{◌≡◌, ◌≢◌, inl, inr, ℕ, ◌+◌, ◌-◌, ◌≤◌, List, refl, sym, ap, ◌∙◌, subst, arith}
 use Rattle.tcl_control.specs.declared.code.Code.{Code}
 use Rattle.tcl_vars.specs.Store.{Store}
 use Rattle.tcl_interp.specs.Evaluation.{State, Outcome, Ended, OutOfSteps}
@@ -11,15 +12,17 @@ use Rattle.tcl_interp.proofs.Finishing.{within_finish}
 use Rattle.tcl_jobs.specs.declared.job.Task.{Task}
 use Rattle.tk_panel.specs.declared.job.Job.{Job}
 use Rattle.tk_panel.specs.Panel.{Panel}
+use Rattle.tk_app.specs.declared.runner.Progress.{Progress}
+use Rattle.tk_app.specs.declared.runner.Progress.TheVariants.{Going}
 use Rattle.tk_app.specs.declared.state.AppEnd.{AppEnd}
 use Rattle.tk_app.specs.declared.state.AppEnd.TheVariants.{Settled, More, Stopped}
 use Rattle.tk_app.specs.declared.state.AppState.{AppState}
 use Rattle.tk_app.specs.declared.state.AppState.TheVariants.{Running, Exhausted, Closed}
 use Rattle.tk_app.specs.Application.{Application}
 use Rattle.tk_app.specs.Outside.{outside}
-use Rattle.tk_app.specs.Part.{Part, Work, Rests, Goes, after_outcome, done_as, settling_as, settling_begun, stage_done, state_after, state_in, with_left, work_of}
+use Rattle.tk_app.specs.Part.{Part, Work, Rests, Goes, after_outcome, done_as, granted, settling_as, settling_begun, stage_done, state_after, state_in, with_left, work_of}
 use Rattle.tk_app.specs.Seen.{Meaning, Seen, meanings}
-use Rattle.tk_app.specs.Turns.{EndsAs, Program, TakesTurn, end_as, part_of, work_by}
+use Rattle.tk_app.specs.Turns.{EndsAs, IsAsFar, Program, TakesTurn, end_as, part_of, work_by}
 
 -- what goes on doesn't rest
 goes_work : (rest : Rest (Task Job)) (levels : List ℕ) → IsRunning rest → work_of rest levels ≢ Rests
@@ -80,6 +83,18 @@ pub going_rest : {M : Type 0} (program : Program M) (state : AppState) (rest : R
     → program.state ≡ Running → program.work ≢ Rests → IsRunning rest
 going_rest program state rest levels same work runs goes =
     rest_goes rest levels (λ rests. goes (sym work ∙ ap (λ s. work_by s (work_of rest levels)) (same ∙ runs) ∙ rests))
+
+-- where something is under way, an event comes before the first step
+pub full_granted : {M : Type 0} (program : Program M) (progress : Progress) (state : AppState) (rest : Rest (Task Job)) (levels : List ℕ) → progress ≡ Going → IsAsFar progress state rest → state ≡ program.state
+    → work_by state (work_of rest levels) ≡ program.work → program.state ≡ Running → (program.work ≡ Rests) ⊎ (program.steps ≡ program.budget.total)
+    → program ≡ record program { steps = granted program.budget program.steps }
+full_granted program progress state rest levels goes far same work runs may =
+    let running : IsRunning rest = subst (λ p. IsAsFar p state rest) goes far in
+    let is : work_of rest levels ≡ program.work = ap (λ s. work_by s (work_of rest levels)) (sym (same ∙ runs)) ∙ work in
+    elim may [
+      | inl rests ↦ absurd (goes_work rest levels running (is ∙ rests))
+      | inr full ↦ (let all : program.steps ≡ granted program.budget program.steps = omega (arith, full) in ap (λ n. record program { steps = n }) all)
+    ]
 
 module _ {M : Type 0} (answer : M → Meaning) where
   -- ── what is under way ──

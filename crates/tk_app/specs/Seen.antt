@@ -28,8 +28,3 @@ module _ {M : Type 0} where
   -- and what they mean, by what each thing that they are set up with answers
   abbrev pub meanings : (M → Meaning) → List (List ℕ × M) → List (List ℕ × Meaning)
   meanings answer aliases = map (λ alias. (alias.0, answer alias.1)) aliases
-
-  -- the first alias of a name, where there is one
-  abbrev pub alias_named : List ℕ → List (List ℕ × M) → Option (List ℕ × M)
-  alias_named name [] = None
-  alias_named name (alias ∷ aliases) = if bytes_eq alias.0 name then Some alias else alias_named name aliases

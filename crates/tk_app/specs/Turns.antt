@@ -3,7 +3,7 @@ use Rattle.std.specs.Prelude.{◌≡◌, ◌≢◌, ◌⊎◌, ℕ, ◌+◌, ◌
 use Rattle.tcl_vars.specs.Store.{Store}
 use Rattle.tcl_interp.specs.Finish.{Rest, Idle, Spent, Broken}
 use Rattle.tcl_interp.specs.Interp.{IsRunning}
-use Rattle.tcl_control.specs.Table.{Table}
+use Rattle.tcl_control.specs.Table.{Table, first_commands}
 use Rattle.tcl_jobs.specs.declared.job.Task.{Task}
 use Rattle.tcl_jobs.specs.declared.job.Task.TheVariants as task
 use Rattle.tk_input.specs.declared.event.LocalEvent.{LocalEvent}
@@ -21,8 +21,9 @@ use Rattle.tk_app.specs.declared.state.AppState.TheVariants.{Running, Exhausted,
 use Rattle.tk_app.specs.declared.state.AppEnd.{AppEnd}
 use Rattle.tk_app.specs.declared.state.AppEnd.TheVariants.{Settled, More, Stopped}
 use Rattle.tk_app.specs.Application.{Application}
+use Rattle.tk_app.specs.Names.{command_names}
 use Rattle.tk_app.specs.Part.{Part, Work, Goes, Rests, delivered, needs, settling_begun, stage_done, task_begins}
-use Rattle.tk_app.specs.Seen.{Meaning}
+use Rattle.tk_app.specs.Seen.{Meaning, names_of}
 use Rattle.tk_app.specs.Settle.{settling}
 
 -- the moment, the part in each slot, the turns that were taken, and whether memory was refused while one was taken
@@ -44,6 +45,19 @@ pub record Program (M : Type 0) : Type 0 where
   pub steps : ℕ
   pub state : AppState
   pub work : Work
+
+-- before its script, which is what is to be done
+abbrev pub beginning : {M : Type 0} → List ℕ → List ℕ → Budget → List (List ℕ × M) → Program M
+beginning name script budget aliases = record {
+  name = name;
+  aliases = aliases;
+  budget = budget;
+  store = [] ∷ [];
+  commands = first_commands (command_names ++ names_of aliases);
+  steps = budget.total;
+  state = Running;
+  work = task_begins (task.Begins script settling);
+}
 
 -- nothing is under way in one that doesn't run
 abbrev pub work_by : AppState → Work → Work

@@ -1,9 +1,8 @@
 //! The commands that the program serves for an application.
-ghost use Rattle.std.specs.Prelude.{◌≡◌, ◌++◌, IfOk, OnOk};
-ghost use Rattle.std.specs.Option.{option_copied};
+ghost use Rattle.std.specs.Prelude.{◌≡◌, ◌++◌, IfOk, OnOk, option_map};
 ghost use Rattle.tk_app.specs.Names.{command_names as panel_names};
 ghost use Rattle.tk_app.specs.Outside.{act_of, alias_act};
-ghost use Rattle.tk_app.specs.Seen.{alias_named, meanings, names_of};
+ghost use Rattle.tk_app.specs.Seen.{meanings, names_of, served_by};
 
 use crate::names::panel_names;
 use std::alloc::{AllocError, Global};
@@ -39,20 +38,6 @@ pub fn command_names<M: AliasMeaning>(
     Ok(names)
 }
 
-/// The first alias of this name.
-fn alias_named<'a, M: AliasMeaning>(aliases: &'a [Alias<M>], name: &Text) -> Option<&'a Alias<M>>
-    ensures { option_copied result ≡ alias_named name.now aliases.now }
-{
-    let mut rest = aliases;
-    while let [alias, others @ ..] = rest {
-        if alias.name().as_str() == name.as_str() {
-            return Some(alias);
-        }
-        rest = others;
-    }
-    None
-}
-
 /// What an alias answers to the words behind its name.
 fn reply<M: AliasMeaning>(
     alloc: Global,
@@ -68,6 +53,26 @@ fn reply<M: AliasMeaning>(
     }
 }
 
+/// What the first alias of this name answers to the words behind it, where there is one.
+fn named<M: AliasMeaning>(
+    alloc: Global,
+    aliases: &[Alias<M>],
+    name: &Text,
+    arguments: &[Text],
+) -> Result<Option<Act<Task<Job>>>, AllocError>
+    ensures { IfOk result (λ act. act ≡ option_map (λ meaning. act_of (meaning arguments.now)) (served_by name.now (meanings M.answer aliases.now))) }
+{
+    let mut rest = aliases;
+    while let [alias, others @ ..] = rest {
+        if alias.name().as_str() == name.as_str() {
+            let act = reply(alloc, alias, arguments)?;
+            return Ok(Some(act));
+        }
+        rest = others;
+    }
+    Ok(None)
+}
+
 /// What the alias of a command's name answers, where there is one (interp(n), alias).
 pub fn served<M: AliasMeaning>(
     alloc: Global,
@@ -76,12 +81,9 @@ pub fn served<M: AliasMeaning>(
 ) -> Result<Option<Act<Task<Job>>>, AllocError>
     ensures { IfOk result (λ act. act ≡ alias_act (meanings M.answer aliases.now) words.now) }
 {
-    let [name, arguments @ ..] = words else {
+    let Some((name, arguments)) = words.split_first() else {
         return Ok(None);
     };
-    let Some(alias) = alias_named(aliases.as_slice(), name) else {
-        return Ok(None);
-    };
-    let act = reply(alloc, alias, arguments)?;
-    Ok(Some(act))
+    let act = named(alloc, aliases.as_slice(), name, arguments)?;
+    Ok(act)
 }

@@ -53,7 +53,10 @@ fn call<M: AliasMeaning>(
 {
     match served(tables.alloc, aliases, words)? {
         Some(act) => Ok(act),
-        None => tk_panel_jobs::call(tables, slot, scopes, words),
+        None => {
+            let told = tk_panel_jobs::call(tables, slot, scopes, words)?;
+            Ok(told)
+        }
     }
 }
 

@@ -97,12 +97,11 @@ fn end_as(state: AppState) -> AppEnd
 }
 
 impl<M: AliasMeaning> Runner<M> {
-    ghost use Rattle.std.specs.Prelude.{◌≡◌, ◌≢◌, ◌<◌, ◌≤◌, ◌↔◌, ◌⊎◌, ℕ, IfOk, IsTrue, OnErr, OnOk};
-    ghost use Rattle.tk_panel.specs.Fresh.{fresh as fresh_panel};
+    ghost use Rattle.std.specs.Prelude.{◌≡◌, ◌≢◌, ◌<◌, ◌≤◌, ◌↔◌, ◌⊎◌, IfOk, IsTrue, OnErr, OnOk};
     ghost use Rattle.tk_panel.specs.Panel.{others_of, panel_of};
     ghost use Rattle.tk_app.specs.declared.state.AppState.TheVariants.{Running};
-    ghost use Rattle.tk_app.specs.Part.{Rests, added, granted, is_under_way, settling_as};
-    ghost use Rattle.tk_app.specs.Turns.{TakesTurn, part_of};
+    ghost use Rattle.tk_app.specs.Part.{Rests, granted, is_under_way, settling_as};
+    ghost use Rattle.tk_app.specs.Turns.{TakesTurn, beginning, part_of};
 
     /// An application before its script, with the script as what it has to do.
     pub fn new(
@@ -112,8 +111,7 @@ impl<M: AliasMeaning> Runner<M> {
         budget: Budget,
         aliases: Aliases<M>,
     ) -> Result<Runner<M>, AllocError>
-        ensures { IfOk result (λ runner. (width height : ℕ) → part_of (fresh_panel name (width, height) 0) runner
-            ≡ added (record { name = name; width = width; height = height; script = script; budget = budget; aliases = aliases })) }
+        ensures { IfOk result (λ runner. runner ≡ beginning name script budget aliases) }
     {
         let commands = command_names(alloc, &aliases)?;
         let mut interp = Interp::new(alloc, budget.total, commands.as_slice())?;
@@ -153,9 +151,10 @@ impl<M: AliasMeaning> Runner<M> {
         &self.scopes
     }
 
-    /// What has become of it.
+    /// What has become of it. Nothing is under way in one that doesn't run.
     pub fn state(&self) -> AppState
-        ensures { result ≡ self.now.state }
+        ensures state { result ≡ self.now.state }
+        ensures stops { result ≢ Running → self.now.work ≡ Rests }
     {
         self.state
     }
@@ -194,13 +193,18 @@ impl<M: AliasMeaning> Runner<M> {
     }
 
     /// Grants the steps of an event, where it runs: what it has of them, it has at most as many as at first. Nothing is under way, or it has all.
-    pub fn grant(&mut self)
+    pub fn grant(&mut self) -> Result<(), AllocError>
         requires rests { (self.old.work ≡ Rests) ⊎ (self.old.steps ≡ self.old.budget.total) }
         requires running { self.old.state ≡ Running }
-        ensures { self.new ≡ record self.old { steps = granted self.old.budget self.old.steps } }
+        ensures ok { OnOk result (self.new ≡ record self.old { steps = granted self.old.budget self.old.steps }) }
     {
-        if let Progress::Resting = self.progress {
-            self.interp.grant(self.budget.refill);
+        match self.progress {
+            Progress::Resting => {
+                self.interp.grant(self.budget.refill);
+                Ok(())
+            }
+            Progress::Going => Ok(()),
+            Progress::Lost => Err(AllocError),
         }
     }
 

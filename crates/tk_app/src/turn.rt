@@ -103,7 +103,7 @@ pub fn take_turn<M: AliasMeaning>(
 {
     match runner.state() {
         AppState::Running => {}
-        AppState::Exhausted | AppState::Closed => return Ok(AppEnd::Stopped),
+        _ => return Ok(AppEnd::Stopped),
     }
     turns.reserve(1)?;
     runner.begin(tables.alloc)?;
@@ -127,8 +127,9 @@ fn deliver_running<M: AliasMeaning>(
     ensures clock { tables.new.clock ≡ tables.old.clock }
     ensures others { others_of slot tables.new ≡ others_of slot tables.old }
 {
-    runner.grant();
-    tk_panel::deliver(tables, slot, event)
+    runner.grant()?;
+    tk_panel::deliver(tables, slot, event)?;
+    Ok(())
 }
 
 /// Gives an application an event. One that doesn't run gets nothing.
@@ -146,6 +147,6 @@ pub fn deliver<M: AliasMeaning>(
 {
     match runner.state() {
         AppState::Running => deliver_running(tables, slot, runner, event),
-        AppState::Exhausted | AppState::Closed => Ok(()),
+        _ => Ok(()),
     }
 }

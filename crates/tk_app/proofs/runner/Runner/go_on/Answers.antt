@@ -29,7 +29,7 @@ returns-in-Done-clause-turn g c =
     let running = going_rest c.args.self.now i.state (rest_of i.interp) (context_of i.interp).levels (ap (λ (p : Program _). p.state) c.self.view_is) (ap (λ (p : Program _). p.work) c.self.view_is) c.requires.running c.requires.going in
     let end = c.in_ok-end.ensures in
     let settles = turn_settles g.M.AliasMeaning.answer program panel panel' i.interp c.run.new.interp i.scopes c.run.new.scopes i.state runs end.clock running c.args.steps c.in-Done._code c.in-Done._text (rw c.in-Done.is at end.reached) (rw c.in-Done.is at end.rest) end.most in
-    let Turn : AppEnd → AppState → Program _ → Type 0 = λ e s p. TakesTurn g.M.AliasMeaning.answer panel.moment c.args.steps e (part_of panel p) (part_of panel' (ran program c.run.new.interp c.run.new.scopes s)) in
+    let Turn : AppEnd → AppState → Program _ → Type 0 = λ e s p. TakesTurn g.M.AliasMeaning.answer panel.moment c.args.steps e (part_of panel p) (part_of panel' (ran g.M.AliasMeaning.answer program c.run.new.interp c.run.new.scopes s)) in
     subst (λ (p : Program _). Turn c.end_as.result c.state_after.result p) c.self.view_is
     (subst (λ e. Turn e c.state_after.result program) (sym c.end_as.ensures)
     (subst (λ s. Turn (end_as s) s program) (sym c.state_after.ensures) settles))
@@ -52,7 +52,7 @@ returns-in-More-clause-turn g c =
     let runs = ap (λ (p : Program _). p.state) c.self.view_is ∙ c.requires.running in
     let running = going_rest c.args.self.now i.state (rest_of i.interp) (context_of i.interp).levels (ap (λ (p : Program _). p.state) c.self.view_is) (ap (λ (p : Program _). p.work) c.self.view_is) c.requires.running c.requires.going in
     let end = c.in_ok-end.ensures in
-    subst (λ (p : Program _). TakesTurn g.M.AliasMeaning.answer panel.moment c.args.steps More (part_of panel p) (part_of panel' (ran program c.run.new.interp c.run.new.scopes i.state))) c.self.view_is
+    subst (λ (p : Program _). TakesTurn g.M.AliasMeaning.answer panel.moment c.args.steps More (part_of panel p) (part_of panel' (ran g.M.AliasMeaning.answer program c.run.new.interp c.run.new.scopes i.state))) c.self.view_is
     (turn_goes_on g.M.AliasMeaning.answer program panel panel' i.interp c.run.new.interp i.scopes c.run.new.scopes i.state runs end.clock running c.args.steps (rw c.in-More.is at end.reached) (rw c.in-More.is at end.rest) (end.more (ap Ok c.in-More.is)))
 
 pub returns-in-Exhausted-clause-turn : goal.returns-in-Exhausted-clause-turn
@@ -73,5 +73,5 @@ returns-in-Exhausted-clause-turn g c =
     let runs = ap (λ (p : Program _). p.state) c.self.view_is ∙ c.requires.running in
     let running = going_rest c.args.self.now i.state (rest_of i.interp) (context_of i.interp).levels (ap (λ (p : Program _). p.state) c.self.view_is) (ap (λ (p : Program _). p.work) c.self.view_is) c.requires.running c.requires.going in
     let end = c.in_ok-end.ensures in
-    subst (λ (p : Program _). TakesTurn g.M.AliasMeaning.answer panel.moment c.args.steps Stopped (part_of panel p) (part_of panel' (ran program c.run.new.interp c.run.new.scopes Exhausted))) c.self.view_is
+    subst (λ (p : Program _). TakesTurn g.M.AliasMeaning.answer panel.moment c.args.steps Stopped (part_of panel p) (part_of panel' (ran g.M.AliasMeaning.answer program c.run.new.interp c.run.new.scopes Exhausted))) c.self.view_is
     (turn_stops g.M.AliasMeaning.answer program panel panel' i.interp c.run.new.interp i.scopes c.run.new.scopes i.state runs end.clock running c.args.steps (rw c.in-Exhausted.is at end.reached) (end.exhausted (ap Ok c.in-Exhausted.is)) end.most)

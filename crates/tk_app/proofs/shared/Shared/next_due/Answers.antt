@@ -15,4 +15,4 @@ index-runner-requires g c =
 pub returns : goal.returns
 returns g c =
     of_slot (λ (p : Part _). next_due p.application) c.self.inside.tables c.self.inside.runners.items c.args.self.now.parts c.args.slot c.index-runner.result.now _ (ap (λ (h : Applications _). h.parts) c.self.view_is)
-    c.requires c.index-runner.ensures (c.next_due.ensures ∙ ap (λ s. next_due_as s (panel_of c.args.slot c.self.inside.tables).timers) c.state.ensures)
+    c.requires c.index-runner.ensures (c.next_due.ensures ∙ ap (λ s. next_due_as s (panel_of c.args.slot c.self.inside.tables).timers) c.state.ensures.state)

@@ -12,4 +12,4 @@ index-runner-requires g c =
 pub returns : goal.returns
 returns g c =
     of_slot (λ (p : Part _). p.application.state) c.self.inside.tables c.self.inside.runners.items c.args.self.now.parts c.args.slot c.index-runner.result.now _ (ap (λ (h : Applications _). h.parts) c.self.view_is)
-    c.requires c.index-runner.ensures c.state.ensures
+    c.requires c.index-runner.ensures c.state.ensures.state

@@ -62,7 +62,8 @@ fn push_button(alloc: Global, names: &mut Vec<Text>) -> Result<(), AllocError>
     push_name(alloc, names, "tk::ButtonEnter")?;
     push_name(alloc, names, "tk::ButtonInvoke")?;
     push_name(alloc, names, "tk::ButtonLeave")?;
-    push_name(alloc, names, "tk::ButtonUp")
+    push_name(alloc, names, "tk::ButtonUp")?;
+    Ok(())
 }
 
 /// Adds those that the bindings of class Entry call.
@@ -73,7 +74,8 @@ fn push_entry(alloc: Global, names: &mut Vec<Text>) -> Result<(), AllocError>
     push_name(alloc, names, "tk::EntryDelete")?;
     push_name(alloc, names, "tk::EntryDown")?;
     push_name(alloc, names, "tk::EntryInsert")?;
-    push_name(alloc, names, "tk::EntryMove")
+    push_name(alloc, names, "tk::EntryMove")?;
+    Ok(())
 }
 
 /// Adds those that the bindings of class Listbox call.
@@ -83,7 +85,8 @@ fn push_listbox(alloc: Global, names: &mut Vec<Text>) -> Result<(), AllocError>
     push_name(alloc, names, "tk::ListboxDown")?;
     push_name(alloc, names, "tk::ListboxDrag")?;
     push_name(alloc, names, "tk::ListboxMove")?;
-    push_name(alloc, names, "tk::ListboxSpace")
+    push_name(alloc, names, "tk::ListboxSpace")?;
+    Ok(())
 }
 
 /// Adds those that an application's scripts call.

@@ -234,9 +234,10 @@ impl<M: AliasMeaning> Runner<M> {
         )?;
         match end {
             SliceEnd::Done(_code, _text) => {
+                let state = state_after(tables, slot);
                 self.progress = Progress::Resting;
-                self.state = state_after(tables, slot);
-                Ok(end_as(self.state))
+                self.state = state;
+                Ok(end_as(state))
             }
             SliceEnd::More => {
                 self.progress = Progress::Going;

@@ -30,9 +30,9 @@ returns-in-Done-clause-turn g c =
     let end = c.in_ok-end.ensures in
     let settles = turn_settles g.M.AliasMeaning.answer program panel panel' i.interp c.run.new.interp i.scopes c.run.new.scopes i.state runs end.clock running c.args.steps c.in-Done._code c.in-Done._text (rw c.in-Done.is at end.reached) (rw c.in-Done.is at end.rest) end.most in
     let Turn : AppEnd → AppState → Program _ → Type 0 = λ e s p. TakesTurn g.M.AliasMeaning.answer panel.moment c.args.steps e (part_of panel p) (part_of panel' (ran g.M.AliasMeaning.answer program c.run.new.interp c.run.new.scopes s)) in
-    subst (λ (p : Program _). Turn c.end_as.result c.state_after.result p) c.self.view_is
-    (subst (λ e. Turn e c.state_after.result program) (sym c.end_as.ensures)
-    (subst (λ s. Turn (end_as s) s program) (sym c.state_after.ensures) settles))
+    subst (λ (p : Program _). Turn c.end_as.result c.state_after-state.result p) c.self.view_is
+    (subst (λ e. Turn e c.state_after-state.result program) (sym c.end_as.ensures)
+    (subst (λ s. Turn (end_as s) s program) (sym c.state_after-state.ensures) settles))
 
 pub returns-in-More-clause-turn : goal.returns-in-More-clause-turn
 returns-in-More-clause-turn g c =

@@ -1,4 +1,5 @@
 use Rattle.std.proofs.Common.{◌≡◌, ◌<◌, ◌≤◌, List, [], ◌∷◌, ◌++◌, arith, refl, sym, ap, ◌∙◌, subst, length}
+use Rattle.std.proofs.lemmas.Result.{err_from_is_err_and}
 use Rattle.tk_panel.specs.declared.tables.Tables.{Tables}
 use Rattle.tk_panel.specs.Fresh.{fresh}
 use Rattle.tk_app.specs.Part.{Part, added}
@@ -67,3 +68,16 @@ returns-clause-added g c =
     (parts_more i.tables c.add.new.tables i.runners.items c.len-slot.result at few c.add.ensures.others c.args.name c.args.script c.args.size.width c.args.size.height c.args.budget c.args.aliases runner
     (c.in_ok-add.ensures.own ∙ ap (λ n. fresh n (c.args.size.width, c.args.size.height) i.tables.clock) (c.name.ensures ∙ ap (λ (p : Program _). p.name) c.in_ok-runner.ensures)) c.in_ok-runner.ensures)
     ∙ ap (λ (h : Applications _). record h { parts = h.parts ++ new ∷ [] }) c.self.view_is
+
+pub returns-in_err-reserve-clause-added : goal.returns-in_err-reserve-clause-added
+returns-in_err-reserve-clause-added g c = let p = err_from_is_err_and c.from_residual-in_err-reserve.result c.from_residual-in_err-reserve.ensures.1 in rw p.1 tt
+
+pub returns-in_err-reserve-clause-unchanged : goal.returns-in_err-reserve-clause-unchanged
+returns-in_err-reserve-clause-unchanged g c =
+    let i = c.self.inside in
+    let value : List (Program _) → Applications _ = λ ps. record { moment = i.tables.clock; parts = parts_from 0 i.tables ps; turns = i.turns.items; refused = i.refused } in
+    let same : value c.reserve.new.self.items ≡ c.args.self.now = ap value c.reserve.ensures.items ∙ c.self.view_is in
+    on_err _ _ same
+
+pub returns-in_err-add-clause-added : goal.returns-in_err-add-clause-added
+returns-in_err-add-clause-added g c = let p = err_from_is_err_and c.from_residual-in_err-add.result c.from_residual-in_err-add.ensures.1 in rw p.1 tt

@@ -84,3 +84,22 @@ returns-clause-only g c =
       turns = refl;
       moment = c.deliver.ensures.clock;
     })
+
+pub returns-clause-delivered : goal.returns-clause-delivered
+returns-clause-delivered g c =
+    let i = c.args.self.now.slot in
+    let old = c.shared.inside in
+    let r : Program _ = c.index_mut-runner.result.now in
+    let new = c.deliver.new in
+    let lt : i < length old.runners.items = in_range old.tables old.runners.items c.args.self.now.shared.now.parts i (ap (λ (h : Applications _). h.parts) c.shared.view_is) c.args.self.now.held in
+    let before : Part _ = part_of (panel_of i old.tables) r in
+    let held : Applications _ = record { moment = new.tables.clock; parts = parts_from 0 new.tables (set old.runners.items i new.runner); turns = old.turns.items; refused = false } in
+    subst (λ (h : Applications _). DeliversIn i c.args.event h held) c.shared.view_is (record {
+      before = before;
+      was = one_was i old.tables new.tables old.runners.items r new.runner c.shared.invariant.0 lt c.index_mut-runner.ensures.value c.deliver.ensures.others;
+      changed = ap (λ m. record held { moment = m }) c.deliver.ensures.clock
+          ∙ ap (λ b. record held { moment = old.tables.clock; refused = b }) (sym c.if-shared.false)
+          ∙ ap (λ ps. record { moment = old.tables.clock; parts = ps; turns = old.turns.items; refused = old.refused })
+          (one_changed i old.tables new.tables old.runners.items r new.runner c.shared.invariant.0 lt c.index_mut-runner.ensures.value c.deliver.ensures.others
+          ∙ ap (λ p. set (parts_from 0 old.tables old.runners.items) i p) c.in_ok-deliver.ensures.own);
+    })

@@ -6,6 +6,8 @@ use Rattle.tcl_vars.specs.Store.{Store}
 use Rattle.tcl_interp.specs.Evaluation.{State, Outcome, Ended, OutOfSteps}
 use Rattle.tcl_interp.specs.Finish.{Rest, Running as RestRunning, Idle, Spent, Broken, finish}
 use Rattle.tcl_interp.specs.declared.interp.Interp.{Interp}
+use Rattle.tcl_interp.specs.declared.interp.SliceEnd.{SliceEnd}
+use Rattle.tcl_interp.specs.declared.interp.SliceEnd.TheVariants as slice
 use Rattle.tcl_interp.specs.Interp.{IsRunning, context_of, left_of, rest_of, state_of}
 use Rattle.tcl_interp.proofs.Bounds.{Within}
 use Rattle.tcl_interp.proofs.Finishing.{within_finish}
@@ -22,7 +24,7 @@ use Rattle.tk_app.specs.Application.{Application}
 use Rattle.tk_app.specs.Outside.{outside}
 use Rattle.tk_app.specs.Part.{Part, Work, Rests, Goes, after_outcome, done_as, granted, settling_as, settling_begun, stage_done, state_after, state_in, with_left, work_of}
 use Rattle.tk_app.specs.Seen.{Meaning, Seen, meanings}
-use Rattle.tk_app.specs.Turns.{EndsAs, IsAsFar, Program, TakesTurn, end_as, part_of, work_by}
+use Rattle.tk_app.specs.Turns.{EndsAs, IsAsFar, Program, TakesTurn, end_as, end_of, part_of, work_by}
 
 -- what goes on doesn't rest
 goes_work : (rest : Rest (Task Job)) (levels : List ℕ) → IsRunning rest → work_of rest levels ≢ Rests
@@ -50,7 +52,22 @@ settling_goes Closed work runs rests = cc
 
 -- ── how a slice ended ──
 
--- nothing is under way then, and there is no more to do
+pub settled_of : (end : SliceEnd) → end_of end ≡ Settled → (code : Code) × (text : List ℕ) × (end ≡ slice.Done code text)
+settled_of (slice.Done code text) is = (code, text, refl)
+settled_of slice.More is = absurd (let wrong : More ≡ Settled = is in cc)
+settled_of slice.Exhausted is = absurd (let wrong : Stopped ≡ Settled = is in cc)
+
+pub more_of : (end : SliceEnd) → end_of end ≡ More → end ≡ slice.More
+more_of (slice.Done code text) is = absurd (let wrong : Settled ≡ More = is in cc)
+more_of slice.More is = refl
+more_of slice.Exhausted is = absurd (let wrong : Stopped ≡ More = is in cc)
+
+pub stopped_of : (end : SliceEnd) → end_of end ≡ Stopped → end ≡ slice.Exhausted
+stopped_of (slice.Done code text) is = absurd (let wrong : Settled ≡ Stopped = is in cc)
+stopped_of slice.More is = absurd (let wrong : More ≡ Stopped = is in cc)
+stopped_of slice.Exhausted is = refl
+
+-- nothing is under way once it has ended, and there is no more to do
 ends_rest : (state : AppState) → work_by state Rests ≡ Rests
 ends_rest Running = refl
 ends_rest Exhausted = refl

@@ -1,6 +1,8 @@
 -- All applications side by side, and what a turn of one of them makes of all.
 use Rattle.std.specs.Prelude.{◌≡◌, ◌≢◌, ◌⊎◌, ℕ, ◌+◌, ◌-◌, ◌≤◌, ◌<◌, Bool, List, [], ◌∷◌, ◌++◌, Some, min, slice_get, slice_set}
 use Rattle.tcl_vars.specs.Store.{Store}
+use Rattle.tcl_interp.specs.declared.interp.SliceEnd.{SliceEnd}
+use Rattle.tcl_interp.specs.declared.interp.SliceEnd.TheVariants as slice
 use Rattle.tcl_interp.specs.Finish.{Rest, Idle, Spent, Broken}
 use Rattle.tcl_interp.specs.Interp.{IsRunning}
 use Rattle.tcl_control.specs.Table.{Table, first_commands}
@@ -166,7 +168,13 @@ pub record DeliversIn {M : Type 0} (slot : ℕ) (event : LocalEvent) (old new : 
 
 -- ── slices ──
 
--- how a turn ends once nothing is under way, by what has become of the application
+-- how a turn ends, by how the interpreter's slice does, where the main window is still there
+abbrev pub end_of : SliceEnd → AppEnd
+end_of (slice.Done code text) = Settled
+end_of slice.More = More
+end_of slice.Exhausted = Stopped
+
+-- how it ends once nothing is under way, by what has become of the application
 abbrev pub end_as : AppState → AppEnd
 end_as Running = Settled
 end_as Exhausted = Stopped

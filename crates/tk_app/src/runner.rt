@@ -2,7 +2,7 @@ ghost use Rattle.std.specs.Prelude.{◌≡◌};
 ghost use Rattle.tk_panel.specs.Panel.{panel_of};
 ghost use Rattle.tk_app.specs.Part.{state_after};
 ghost use Rattle.tk_app.specs.Settle.{settling};
-ghost use Rattle.tk_app.specs.Turns.{end_as};
+ghost use Rattle.tk_app.specs.Turns.{end_as, end_of};
 
 use crate::aliases::command_names;
 use crate::budget::Budget;
@@ -83,6 +83,17 @@ fn state_after(tables: &Tables, slot: usize) -> AppState
         AppState::Closed
     } else {
         AppState::Running
+    }
+}
+
+/// How a turn ends, by how the interpreter's slice does, where the main window is still there.
+fn end_of(end: SliceEnd) -> AppEnd
+    ensures { result ≡ end_of end }
+{
+    match end {
+        SliceEnd::Done(_code, _text) => AppEnd::Settled,
+        SliceEnd::More => AppEnd::More,
+        SliceEnd::Exhausted => AppEnd::Stopped,
     }
 }
 
@@ -232,18 +243,19 @@ impl<M: AliasMeaning> Runner<M> {
             &mut self.scopes,
             steps,
         )?;
-        match end {
-            SliceEnd::Done(_code, _text) => {
+        let ended = end_of(end);
+        match ended {
+            AppEnd::Settled => {
                 let state = state_after(tables, slot);
                 self.progress = Progress::Resting;
                 self.state = state;
                 Ok(end_as(state))
             }
-            SliceEnd::More => {
+            AppEnd::More => {
                 self.progress = Progress::Going;
                 Ok(AppEnd::More)
             }
-            SliceEnd::Exhausted => {
+            AppEnd::Stopped => {
                 self.progress = Progress::Resting;
                 self.state = AppState::Exhausted;
                 Ok(AppEnd::Stopped)

@@ -1,5 +1,5 @@
 -- A refusal of virtual events, and what is told of it.
-use Rattle.std.proofs.Common.{◌≡◌, ℕ, List, Option, Some, None, sym, ap, ◌∙◌}
+use Rattle.std.proofs.Common.{◌≡◌, ℕ, Some, sym, ap, ◌∙◌}
 use Rattle.tcl_text.specs.Answers.{Answer, fails}
 use Rattle.tk_bind_commands.specs.Event.{IsRefusal, become}
 use Rattle.tk_bind_commands.specs.Words.{or_virtual_fault}

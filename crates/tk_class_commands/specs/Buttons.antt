@@ -2,10 +2,12 @@
 -- relief that it had then.
 use Rattle.std.specs.Prelude.{◌≡◌, ℕ, Bool, false, ◌==◌, List, [], ◌∷◌, Option, Some, None, Result, Ok, Err, codes, if◌then◌else◌}
 use Rattle.std.specs.Option.{option_map_or}
+use Rattle.std.specs.Result.{result_ok}
 use Rattle.std.specs.Str.{bytes_eq}
 use Rattle.tcl_text.specs.Answers.{Gives, wrong_args}
 use Rattle.tcl_text.specs.declared.commands.answers.Refusal.{Refusal}
 use Rattle.tk_base.specs.declared.kind.Kind.TheVariants.{Button as ButtonKind}
+use Rattle.tk_class_commands.specs.Changes.{with_change}
 use Rattle.tk_class_commands.specs.declared.buttons.ButtonCommand.{ButtonCommand}
 use Rattle.tk_class_commands.specs.declared.buttons.ButtonCommand.TheVariants.{Enter, Leave, Down, Up, Invoke}
 use Rattle.tk_class_commands.specs.declared.outcome.ClassOutcome.{ClassOutcome}
@@ -16,11 +18,13 @@ use Rattle.tk_inputs.specs.declared.inputs.Input.{Input}
 use Rattle.tk_inputs.specs.Inputs.{left_by}
 use Rattle.tk_options.specs.declared.option.OptionEntry.{OptionEntry}
 use Rattle.tk_options.specs.declared.option.OptionName.TheVariants.{State}
-use Rattle.tk_screen.specs.declared.touch.Touch.TheVariants.{Relief}
+use Rattle.tk_options.specs.declared.settings.Setting.{Setting}
+use Rattle.tk_options.specs.Options.{settings}
 use Rattle.tk_screen.specs.Own.{Own}
-use Rattle.tk_screen.specs.Touches.{touched_at}
 use Rattle.tk_screen.specs.Widgets.{widget_at}
 use Rattle.tk_widgets.specs.Classes.{has_value, invoked, relief_of}
+use Rattle.tk_widgets.specs.Commands.{options_in}
+use Rattle.tk_widgets.specs.declared.outcome.Change.TheVariants.{Configure}
 use Rattle.tk_widgets.specs.declared.widget.Widget.{Widget}
 use Rattle.tk_widgets.specs.declared.widget.Widget.TheVariants.{Button}
 
@@ -55,9 +59,21 @@ told own input outcome = record { own = own; input = input; outcome = outcome }
 abbrev pub is_it : ℕ → Option ℕ → Bool
 is_it number kept = option_map_or (λ other. other == number) kept false
 
--- the button with a number has another relief
+-- what sets a widget's relief, if it takes that
+unfoldable pub relief_settings : List ℕ → Widget → Option (List Setting)
+relief_settings relief widget = result_ok (settings (codes "-relief" ∷ relief ∷ []) (options_in widget))
+
+abbrev pub configured : ℕ → Own → Option (List Setting) → Own
+configured number own None = own
+configured number own (Some all) = with_change number (Configure all) own
+
+abbrev pub with_relief_of : ℕ → List ℕ → Own → Option Widget → Own
+with_relief_of number relief own None = own
+with_relief_of number relief own (Some widget) = configured number own (relief_settings relief widget)
+
+-- the button with a number has another relief, as by `configure -relief RELIEF`
 abbrev pub with_relief : ℕ → List ℕ → Own → Own
-with_relief number relief own = record own { widgets = (touched_at number (Relief relief) None own.widgets).widgets }
+with_relief number relief own = with_relief_of number relief own (widget_at number own.widgets)
 
 abbrev pub restored : ℕ → Option (List ℕ) → Own → Own
 restored number None own = own

@@ -18,7 +18,7 @@ or_else None later = later
 unfoldable pub class_command_named : List ℕ → Option ClassCommand
 class_command_named name =
     or_else (option_map Button (buttons.button_command_named name))
-        (or_else (option_map Entry (entry_command_named name)) (option_map Listbox (listboxes.listbox_command_named name)))
+    (or_else (option_map Entry (entry_command_named name)) (option_map Listbox (listboxes.listbox_command_named name)))
 
 -- commands of buttons have to do with no variables and no events
 abbrev pub button_done : Arrivals → Store → buttons.Told → Done

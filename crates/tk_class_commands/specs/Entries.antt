@@ -1,10 +1,11 @@
 -- What keys and the pointer do to entries (entry(n)).
-use Rattle.std.specs.Prelude.{◌≡◌, ℕ, ℤ, Bool, false, List, [], ◌∷◌, Option, Some, None, option_and_then, Result, Ok, Err, codes, if◌then◌else◌}
-use Rattle.std.specs.Str.{bytes_eq}
+use Rattle.std.specs.Prelude.{◌≡◌, ℕ, ℤ, Bool, false, List, [], ◌∷◌, Option, Some, None, Result, Ok, Err, codes, if◌then◌else◌}
+use Rattle.std.specs.Str.{bytes_eq, chars}
 use Rattle.tcl_text.specs.Answers.{Gives, ◌>>=◌, bad_option, integer_in, wrong_args}
 use Rattle.tcl_text.specs.declared.commands.answers.Refusal.{Refusal}
 use Rattle.tcl_vars.specs.Store.{Store}
 use Rattle.tk_base.specs.declared.kind.Kind.TheVariants.{Entry as EntryKind}
+use Rattle.tk_class_commands.specs.Changes.{with_change}
 use Rattle.tk_class_commands.specs.declared.entries.EntryCommand.{EntryCommand}
 use Rattle.tk_class_commands.specs.declared.entries.EntryCommand.TheVariants as command
 use Rattle.tk_class_commands.specs.declared.entries.EntryRequest.{EntryRequest}
@@ -16,20 +17,20 @@ use Rattle.tk_class_commands.specs.declared.outcome.ClassOutcome.{ClassOutcome}
 use Rattle.tk_class_commands.specs.Outcomes.{Done, done, error, nothing, outcome_of}
 use Rattle.tk_class_commands.specs.Targets.{number_of}
 use Rattle.tk_entry.specs.declared.keys.Move.{Move as Way}
-use Rattle.tk_entry.specs.Entries.{move_named}
+use Rattle.tk_entry.specs.Columns.{characters_within}
+use Rattle.tk_entry.specs.Entries.{move_named, moved, shown}
 use Rattle.tk_inputs.specs.Deliver.{Arrivals}
 use Rattle.tk_inputs.specs.Focus.{focused}
-use Rattle.tk_options.specs.declared.option.OptionName.TheVariants.{State}
+use Rattle.tk_options.specs.declared.option.OptionName.TheVariants.{BorderWidth, State}
+use Rattle.tk_options.specs.Options.{amount_of}
 use Rattle.tk_screen.specs.Changes.{Changed, changed}
-use Rattle.tk_screen.specs.declared.touch.Touch.{Touch}
-use Rattle.tk_screen.specs.declared.touch.Touch.TheVariants as touch
 use Rattle.tk_screen.specs.Own.{Own}
 use Rattle.tk_screen.specs.Shapes.{variable_text}
-use Rattle.tk_screen.specs.Touches.{touched_at}
 use Rattle.tk_screen.specs.Widgets.{widget_at}
-use Rattle.tk_widgets.specs.Classes.{has_value}
+use Rattle.tk_widgets.specs.Classes.{columns_to, has_value}
 use Rattle.tk_widgets.specs.declared.outcome.Asked.{Asked}
 use Rattle.tk_widgets.specs.declared.outcome.Asked.TheVariants as asked
+use Rattle.tk_widgets.specs.declared.outcome.Change.TheVariants.{PutCursor}
 use Rattle.tk_widgets.specs.declared.outcome.WidgetAct.TheVariants.{Answer}
 use Rattle.tk_widgets.specs.declared.widget.EntryWidget.{EntryWidget}
 use Rattle.tk_widgets.specs.declared.widget.Widget.{Widget}
@@ -84,12 +85,31 @@ edited number key own store = edited_by number key own store (widget_at number o
 
 -- ---- the cursor
 
--- the text of the variable that a window's widget shows
-abbrev pub text_at : ℕ → Own → Store → Option (List ℕ)
-text_at number own store = option_and_then (λ widget. variable_text widget store) (widget_at number own.widgets)
+-- the cursor of an entry stands behind so many characters
+abbrev pub with_cursor : ℕ → Option ℕ → Own → Own
+with_cursor number None own = own
+with_cursor number (Some at) own = with_change number (PutCursor at) own
 
-abbrev pub with_touch : ℕ → Touch → Own → Store → Own
-with_touch number touch own store = record own { widgets = (touched_at number touch (text_at number own store) own.widgets).widgets }
+-- behind how many characters it is once it went by a key, in the text that the entry shows
+abbrev pub moved_in : Way → Store → Widget → Option ℕ
+moved_in way store (Entry entry) = Some (moved way (shown (variable_text (Entry entry) store) entry.entry) entry.entry).cursor
+moved_in way store widget = None
+
+-- behind how many characters the pointer is, so many pixels from the left edge
+abbrev pub pointed_in : ℤ → Store → Widget → Option ℕ
+pointed_in x store (Entry entry) =
+    Some (characters_within (columns_to x (amount_of BorderWidth entry.options)) (chars (shown (variable_text (Entry entry) store) entry.entry)))
+pointed_in x store widget = None
+
+abbrev pub with_cursor_by : ℕ → (Widget → Option ℕ) → Own → Option Widget → Own
+with_cursor_by number place own None = own
+with_cursor_by number place own (Some widget) = with_cursor number (place widget) own
+
+abbrev pub moved_at : ℕ → Way → Own → Store → Own
+moved_at number way own store = with_cursor_by number (moved_in way store) own (widget_at number own.widgets)
+
+abbrev pub pointed_at : ℕ → ℤ → Own → Store → Own
+pointed_at number x own store = with_cursor_by number (pointed_in x store) own (widget_at number own.widgets)
 
 abbrev pub is_disabled : Option Widget → Bool
 is_disabled (Some (Entry entry)) = has_value State (codes "disabled") entry.options
@@ -102,7 +122,7 @@ is_disabled_at number own = is_disabled (widget_at number own.widgets)
 abbrev pub pointed : ℕ → ℕ → ℤ → Own → Arrivals → Store → Done
 pointed number moment x own arrivals store =
     if is_disabled_at number own then done own arrivals store nothing
-    else done (with_touch number (touch.Point x) own store) (focused number moment own.tree arrivals) store nothing
+    else done (pointed_at number x own store) (focused number moment own.tree arrivals) store nothing
 
 -- ---- what is asked of an entry
 
@@ -111,7 +131,7 @@ edit_done arrivals there = done there.own arrivals there.store there.outcome
 
 abbrev pub entry_asked : ℕ → ℕ → EntryAsk → Own → Arrivals → Store → Done
 entry_asked number moment (ask.Edit key) own arrivals store = edit_done arrivals (edited number key own store)
-entry_asked number moment (ask.Move way) own arrivals store = done (with_touch number (touch.Move way) own store) arrivals store nothing
+entry_asked number moment (ask.Move way) own arrivals store = done (moved_at number way own store) arrivals store nothing
 entry_asked number moment (ask.Point x) own arrivals store = pointed number moment x own arrivals store
 
 -- ---- the words

@@ -1,5 +1,6 @@
 -- What the contracts cite.
 pub mod Buttons
+pub mod Changes
 pub mod Commands
 pub mod Entries
 pub mod Listboxes

@@ -1,9 +1,11 @@
 -- What keys and the pointer do to listboxes (listbox(n)).
-use Rattle.std.specs.Prelude.{◌≡◌, ℕ, Bool, true, false, List, [], ◌∷◌, Option, Some, None, Result, Ok, Err, codes, if◌then◌else◌}
+use Rattle.std.specs.Prelude.{◌≡◌, ℕ, ℤ, Bool, true, false, not, ◌||◌, ◌==◌, List, [], ◌∷◌, length, Option, Some, None, Result, Ok, Err, codes, if◌then◌else◌}
 use Rattle.std.specs.Str.{bytes_eq}
 use Rattle.tcl_text.specs.Answers.{Gives, ◌>>=◌, bad_option, integer_in, wrong_args}
 use Rattle.tcl_text.specs.declared.commands.answers.Refusal.{Refusal}
 use Rattle.tk_base.specs.declared.kind.Kind.TheVariants.{Listbox as ListboxKind}
+use Rattle.tk_class_commands.specs.Changes.{with_change}
+use Rattle.tk_class_commands.specs.declared.listboxes.Effect.{Effect}
 use Rattle.tk_class_commands.specs.declared.listboxes.ListboxAsk.{ListboxAsk}
 use Rattle.tk_class_commands.specs.declared.listboxes.ListboxAsk.TheVariants as ask
 use Rattle.tk_class_commands.specs.declared.listboxes.ListboxCommand.{ListboxCommand}
@@ -15,12 +17,16 @@ use Rattle.tk_class_commands.specs.Outcomes.{error, nothing}
 use Rattle.tk_class_commands.specs.Targets.{number_of}
 use Rattle.tk_inputs.specs.Deliver.{Arrivals}
 use Rattle.tk_inputs.specs.Focus.{focused}
-use Rattle.tk_screen.specs.declared.touch.Touch.{Touch}
-use Rattle.tk_screen.specs.declared.touch.Touch.TheVariants as touch
+use Rattle.tk_listbox.specs.declared.choice.Choice.{Choice}
+use Rattle.tk_listbox.specs.declared.choice.Choice.TheVariants.{Alone, Toggle}
 use Rattle.tk_screen.specs.Own.{Own}
-use Rattle.tk_screen.specs.Touches.{TouchedOf, touched_at}
+use Rattle.tk_screen.specs.Widgets.{widget_at}
 use Rattle.tk_widgets.specs.declared.listbox_keys.Step.{Step}
-use Rattle.tk_widgets.specs.ListboxKeys.{step_named}
+use Rattle.tk_widgets.specs.declared.outcome.Change.TheVariants.{Activate, Select}
+use Rattle.tk_widgets.specs.declared.widget.ListboxWidget.{ListboxWidget}
+use Rattle.tk_widgets.specs.declared.widget.Widget.{Widget}
+use Rattle.tk_widgets.specs.declared.widget.Widget.TheVariants.{Listbox}
+use Rattle.tk_widgets.specs.ListboxKeys.{has_mode, place_after, row_of, step_named}
 
 unfoldable pub listbox_command_named : List ℕ → Option ListboxCommand
 listbox_command_named name =
@@ -41,11 +47,48 @@ told own arrivals outcome = record { own = own; arrivals = arrivals; outcome = o
 
 -- ---- what is asked of a listbox
 
-abbrev pub touch_of : ListboxAsk → Touch
-touch_of (ask.Press y) = touch.Press y
-touch_of (ask.Drag y) = touch.Drag y
-touch_of (ask.Step step) = touch.Step step
-touch_of ask.Choose = touch.Choose
+-- how an item is chosen: in the mode `multiple` it is toggled, else it is the selection
+abbrev pub choice_of : ℕ → ListboxWidget → Choice
+choice_of place listbox = if has_mode (codes "multiple") listbox then Toggle place else Alone place
+
+-- this item becomes active, and is chosen so
+abbrev pub effect : ℕ → Option Choice → Option Effect
+effect place choice = Some (record { active = place; choice = choice })
+
+-- a press at a height: the item there; an empty listbox does nothing
+abbrev pub pressed : ℤ → ListboxWidget → Option Effect
+pressed y listbox =
+    if length listbox.listbox.items == 0 then None else effect (row_of y listbox) (Some (choice_of (row_of y listbox) listbox))
+
+-- the pointer dragged to a height: in the mode `browse` the item there, where it isn't the active one
+abbrev pub dragged : ℤ → ListboxWidget → Option Effect
+dragged y listbox =
+    if not (has_mode (codes "browse") listbox) || row_of y listbox == listbox.listbox.active then None
+    else effect (row_of y listbox) (Some (Alone (row_of y listbox)))
+
+-- a step from the active item, where there is another: that one; in the mode `browse` it is the selection
+abbrev pub stepped : Step → ListboxWidget → Option Effect
+stepped step listbox =
+    if place_after step listbox.listbox == listbox.listbox.active then None
+    else effect (place_after step listbox.listbox) (if has_mode (codes "browse") listbox then Some (Alone (place_after step listbox.listbox)) else None)
+
+-- the active item; an empty listbox does nothing
+abbrev pub chosen : ListboxWidget → Option Effect
+chosen listbox =
+    if length listbox.listbox.items == 0 then None else effect listbox.listbox.active (Some (choice_of listbox.listbox.active listbox))
+
+abbrev pub effect_on : ListboxAsk → ListboxWidget → Option Effect
+effect_on (ask.Press y) listbox = pressed y listbox
+effect_on (ask.Drag y) listbox = dragged y listbox
+effect_on (ask.Step step) listbox = stepped step listbox
+effect_on ask.Choose listbox = chosen listbox
+
+abbrev pub effect_of : ListboxAsk → Option Widget → Option Effect
+effect_of ask (Some (Listbox listbox)) = effect_on ask listbox
+effect_of ask _ = None
+
+abbrev pub effect_at : ℕ → ListboxAsk → Own → Option Effect
+effect_at number ask own = effect_of ask (widget_at number own.widgets)
 
 abbrev pub is_press : ListboxAsk → Bool
 is_press (ask.Press y) = true
@@ -53,15 +96,26 @@ is_press (ask.Drag y) = false
 is_press (ask.Step step) = false
 is_press ask.Choose = false
 
--- where a selection was made or toggled, `<<ListboxSelect>>` follows; a press that makes one gives the listbox the keys
-abbrev pub selected : ℕ → ℕ → ListboxAsk → Own → Arrivals → TouchedOf → Told
-selected number moment ask own arrivals there =
-    if there.told
-    then told (record own { widgets = there.widgets }) (if is_press ask then focused number moment own.tree arrivals else arrivals) (Selects number)
-    else told (record own { widgets = there.widgets }) arrivals nothing
+abbrev pub with_choice : ℕ → Option Choice → Own → Own
+with_choice number None own = own
+with_choice number (Some choice) own = with_change number (Select choice) own
+
+abbrev pub with_effect : ℕ → Effect → Own → Own
+with_effect number effect own = with_choice number effect.choice (with_change number (Activate effect.active) own)
+
+-- where a selection was made or toggled, `<<ListboxSelect>>` follows
+abbrev pub outcome_of : ℕ → Option Choice → ClassOutcome
+outcome_of number (Some choice) = Selects number
+outcome_of number None = nothing
+
+-- a press that does something gives the listbox the keys
+abbrev pub asked_with : ℕ → ℕ → ListboxAsk → Own → Arrivals → Option Effect → Told
+asked_with number moment ask own arrivals None = told own arrivals nothing
+asked_with number moment ask own arrivals (Some effect) =
+    told (with_effect number effect own) (if is_press ask then focused number moment own.tree arrivals else arrivals) (outcome_of number effect.choice)
 
 unfoldable pub listbox_asked : ℕ → ℕ → ListboxAsk → Own → Arrivals → Told
-listbox_asked number moment ask own arrivals = selected number moment ask own arrivals (touched_at number (touch_of ask) None own.widgets)
+listbox_asked number moment ask own arrivals = asked_with number moment ask own arrivals (effect_at number ask own)
 
 -- ---- the words
 

@@ -6,15 +6,17 @@ ghost use Rattle.tk_class_commands.specs.Buttons as spec;
 ghost use Rattle.tk_inputs.specs.Inputs as inputs_of;
 ghost use Rattle.tk_screen.specs.Own.{LeavesOthers, own_of};
 
-use crate::outcome::{ClassOutcome, nothing};
+use crate::changes::make;
+use crate::outcome::{ClassOutcome, nothing, short_text};
 use crate::refusals::number_of;
 use std::alloc::{AllocError, Global};
-use tcl_text::Text;
 use tcl_text::answers::{Refusal, wrong_args};
+use tcl_text::{Text, TextList};
 use tk_base::{Kind, Win};
 use tk_inputs::Inputs;
-use tk_screen::{Screen, Touch};
-use tk_widgets::Widget;
+use tk_options::{OptionFault, Settings};
+use tk_screen::Screen;
+use tk_widgets::{Change, Widget};
 
 /// A command of the class Button.
 #[derive(Clone, Copy, Debug, PartialEq, Eq)]
@@ -175,7 +177,7 @@ fn leave(
     ensures inputs { inputs_of.LeavesOthers win.owner inputs.old inputs.new }
 {
     if is_pressed(inputs, win) {
-        restore(screen, inputs, win)?;
+        restore(alloc, screen, inputs, win)?;
     }
     inputs.leave(win.owner, win.number)?;
     nothing(alloc)
@@ -215,7 +217,7 @@ fn up(
     if !is_pressed(inputs, win) {
         return nothing(alloc);
     }
-    restore(screen, inputs, win)?;
+    restore(alloc, screen, inputs, win)?;
     inputs.release(win.owner)?;
     if is_over(inputs, win) {
         return invoke(alloc, screen, win);
@@ -282,31 +284,50 @@ fn sink(alloc: Global, screen: &mut Screen, win: Win) -> Result<(), AllocError>
     ensures own { OnOk result (own_of win.owner screen.new ≡ spec.with_relief win.number (codes "sunken") (own_of win.owner screen.old)) }
     ensures others { LeavesOthers win.owner screen.old screen.new }
 {
-    match Text::new(alloc, "sunken") {
-        Ok(sunken) => {
-            put_relief(screen, win, sunken);
-            Ok(())
-        }
-        Err(_) => Err(AllocError),
-    }
+    put_relief(alloc, screen, win, short_text(alloc, "sunken")?)
 }
 
 /// Gives a button the relief again that it had when it was pressed.
-fn restore(screen: &mut Screen, inputs: &Inputs, win: Win) -> Result<(), AllocError>
+fn restore(alloc: Global, screen: &mut Screen, inputs: &Inputs, win: Win) -> Result<(), AllocError>
     ensures own { OnOk result (own_of win.owner screen.new
         ≡ spec.restored win.number (inputs_of.own_of win.owner inputs.now).relief (own_of win.owner screen.old)) }
     ensures others { LeavesOthers win.owner screen.old screen.new }
 {
     if let Some(relief) = inputs.relief(win.owner) {
-        put_relief(screen, win, relief.copy()?);
+        put_relief(alloc, screen, win, relief.copy()?)?;
     }
     Ok(())
 }
 
-/// Gives a button a relief. It takes no memory.
-fn put_relief(screen: &mut Screen, win: Win, relief: Text)
-    ensures own { own_of win.owner screen.new ≡ spec.with_relief win.number relief (own_of win.owner screen.old) }
+/// Gives a button a relief, as `configure -relief RELIEF` does.
+fn put_relief(alloc: Global, screen: &mut Screen, win: Win, relief: Text) -> Result<(), AllocError>
+    ensures own { OnOk result (own_of win.owner screen.new ≡ spec.with_relief win.number relief (own_of win.owner screen.old)) }
     ensures others { LeavesOthers win.owner screen.old screen.new }
 {
-    screen.widgets.touch(win, None, Touch::Relief(relief));
+    let Some(widget) = screen.widget(win) else {
+        return Ok(());
+    };
+    match relief_settings(alloc, widget, relief)? {
+        Some(all) => make(alloc, screen, win, Change::Configure(all)),
+        None => Ok(()),
+    }
+}
+
+/// What sets a widget's relief, if it takes that.
+#[tactic(auto, unfolding(crate::specs::Buttons::relief_settings))]
+fn relief_settings(
+    alloc: Global,
+    widget: &Widget,
+    relief: Text,
+) -> Result<Option<Settings>, AllocError>
+    ensures { IfOk result (λ all. all ≡ spec.relief_settings relief widget.now) }
+{
+    let mut words = TextList::new(alloc);
+    words.push(short_text(alloc, "-relief")?)?;
+    words.push(relief)?;
+    match widget.options().settings(alloc, words.as_slice()) {
+        Ok(all) => Ok(Some(all)),
+        Err(OptionFault::NoMemory) => Err(AllocError),
+        Err(_) => Ok(None),
+    }
 }

@@ -1,24 +1,33 @@
 //! What keys and the pointer do to entries (entry(n)).
 ghost use Rattle.std.specs.Prelude.{◌≡◌, IfOk, OnOk};
 ghost use Rattle.std.specs.Option.{option_copied};
+ghost use Rattle.std.specs.Str.{chars};
 ghost use Rattle.tk_class_commands.specs.Entries as spec;
 ghost use Rattle.tk_class_commands.specs.Outcomes.{done};
+ghost use Rattle.tk_entry.specs.Columns.{characters_within};
+ghost use Rattle.tk_entry.specs.Entries.{moved, shown};
 ghost use Rattle.tk_inputs.specs.Deliver.{arrivals_of};
 ghost use Rattle.tk_inputs.specs.Inputs as inputs_of;
 ghost use Rattle.tk_queue.specs.Queue as queue_of;
 ghost use Rattle.tk_screen.specs.Own.{LeavesOthers, own_of};
+ghost use Rattle.tk_widgets.specs.Classes.{columns_to};
 ghost use Rattle.tk_widgets.specs.Outcomes.{asked_by};
 
-use crate::outcome::{ClassOutcome, empty_text, nothing, outcome_of};
+use crate::changes::make;
+use crate::outcome::{ClassOutcome, nothing, outcome_of, short_text};
 use std::alloc::{AllocError, Global};
 use tcl_text::Text;
 use tcl_vars::Scopes;
 use tk_base::Win;
-use tk_entry::Move;
+use tk_entry::{Entry, Move};
 use tk_inputs::{Inputs, set_focus};
+use tk_options::OptionName;
 use tk_queue::EventQueue;
-use tk_screen::{Screen, Touch, change_widget, variable_text};
-use tk_widgets::{Asked, EntryWidget, Widget, WidgetAct};
+use tk_screen::{Screen, change_widget, variable_text};
+use tk_widgets::{Asked, Change, EntryWidget, Widget, WidgetAct};
+
+/// The width of a column, in pixels.
+const COLUMN: usize = 8;
 
 /// What a command asks of an entry.
 #[derive(Drop)]
@@ -62,7 +71,7 @@ pub fn entry_asked(
     match ask {
         EntryAsk::Edit(key) => edit(alloc, screen, scopes, win, key),
         EntryAsk::Move(way) => {
-            touch(screen, scopes, win, Touch::Move(way));
+            move_cursor(alloc, screen, scopes, win, way)?;
             nothing(alloc)
         }
         EntryAsk::Point(x) => point(alloc, screen, inputs, queue, scopes, win, moment, x),
@@ -104,7 +113,7 @@ fn asked_of(
 {
     match widget {
         Widget::Entry(entry) => key_asked(alloc, entry, variable_text(widget, scopes), key),
-        _ => Ok(Asked::Done(WidgetAct::Answer(empty_text(alloc)?))),
+        _ => Ok(Asked::Done(WidgetAct::Answer(short_text(alloc, "")?))),
     }
 }
 
@@ -124,20 +133,119 @@ fn key_asked(
     }
 }
 
-/// Does to an entry what a key or the pointer makes of it at once. It takes no memory.
-fn touch(screen: &mut Screen, scopes: &Scopes, win: Win, touch: Touch)
-    ensures own { own_of win.owner screen.new ≡ spec.with_touch win.number touch (own_of win.owner screen.old) scopes.now }
+/// Puts the cursor of an entry behind so many characters.
+fn put_cursor(
+    alloc: Global,
+    screen: &mut Screen,
+    win: Win,
+    at: Option<usize>,
+) -> Result<(), AllocError>
+    ensures own { OnOk result (own_of win.owner screen.new ≡ spec.with_cursor win.number at (own_of win.owner screen.old)) }
     ensures others { LeavesOthers win.owner screen.old screen.new }
 {
-    let variable = text_of(screen, scopes, win);
-    screen.widgets.touch(win, variable, touch);
+    match at {
+        Some(at) => make(alloc, screen, win, Change::PutCursor(at)),
+        None => Ok(()),
+    }
 }
 
-/// The text of the variable that a window's widget shows.
-fn text_of<'a>(screen: &Screen, scopes: &'a Scopes, win: Win) -> Option<&'a Text>
-    ensures { option_copied result ≡ spec.text_at win.number (own_of win.owner screen.now) scopes.now }
+/// Behind how many characters the cursor is once it went by a key; none where the widget is no entry.
+fn moved_in(widget: &Widget, scopes: &Scopes, way: Move) -> Result<Option<usize>, AllocError>
+    ensures { IfOk result (λ at. at ≡ spec.moved_in way scopes.now widget.now) }
 {
-    variable_text(screen.widget(win)?, scopes)
+    match widget {
+        Widget::Entry(entry) => {
+            let at = moved_cursor(&entry.entry, variable_text(widget, scopes), way)?;
+            Ok(Some(at))
+        }
+        _ => Ok(None),
+    }
+}
+
+fn moved_cursor(entry: &Entry, variable: Option<&Text>, way: Move) -> Result<usize, AllocError>
+    ensures { IfOk result (λ at. at ≡ (moved way (shown (option_copied variable.entry) entry.now) entry.now).cursor) }
+{
+    let mut moved = copy_of(entry)?;
+    moved.move_cursor(variable, way);
+    Ok(moved.cursor)
+}
+
+/// Behind how many characters the pointer is; none where the widget is no entry.
+fn pointed_in(widget: &Widget, scopes: &Scopes, x: i64) -> Result<Option<usize>, AllocError>
+    ensures { IfOk result (λ at. at ≡ spec.pointed_in x scopes.now widget.now) }
+{
+    match widget {
+        Widget::Entry(entry) => {
+            let room = columns_to(x, entry.options.amount(OptionName::BorderWidth));
+            let at = pointed_cursor(&entry.entry, variable_text(widget, scopes), room)?;
+            Ok(Some(at))
+        }
+        _ => Ok(None),
+    }
+}
+
+fn pointed_cursor(entry: &Entry, variable: Option<&Text>, room: usize) -> Result<usize, AllocError>
+    ensures { IfOk result (λ at. at ≡ characters_within room (chars (shown (option_copied variable.entry) entry.now))) }
+{
+    let mut pointed = copy_of(entry)?;
+    pointed.point(variable, room);
+    Ok(pointed.cursor)
+}
+
+/// How many columns stand to the left of so many pixels, inside a border.
+fn columns_to(x: i64, border: u32) -> usize
+    ensures { result ≡ columns_to x border }
+{
+    usize::try_from(x)
+        .unwrap_or(0)
+        .saturating_sub(border as usize)
+        / COLUMN
+}
+
+/// The same.
+fn copy_of(entry: &Entry) -> Result<Entry, AllocError>
+    ensures { IfOk result (λ copy. copy ≡ entry.now) }
+{
+    Ok(Entry {
+        text: entry.text.copy()?,
+        cursor: entry.cursor,
+    })
+}
+
+/// The cursor of an entry goes by a key.
+fn move_cursor(
+    alloc: Global,
+    screen: &mut Screen,
+    scopes: &Scopes,
+    win: Win,
+    way: Move,
+) -> Result<(), AllocError>
+    ensures own { OnOk result (own_of win.owner screen.new ≡ spec.moved_at win.number way (own_of win.owner screen.old) scopes.now) }
+    ensures others { LeavesOthers win.owner screen.old screen.new }
+{
+    let Some(widget) = screen.widget(win) else {
+        return Ok(());
+    };
+    let at = moved_in(widget, scopes, way)?;
+    put_cursor(alloc, screen, win, at)
+}
+
+/// The cursor of an entry goes to the pointer.
+fn point_cursor(
+    alloc: Global,
+    screen: &mut Screen,
+    scopes: &Scopes,
+    win: Win,
+    x: i64,
+) -> Result<(), AllocError>
+    ensures own { OnOk result (own_of win.owner screen.new ≡ spec.pointed_at win.number x (own_of win.owner screen.old) scopes.now) }
+    ensures others { LeavesOthers win.owner screen.old screen.new }
+{
+    let Some(widget) = screen.widget(win) else {
+        return Ok(());
+    };
+    let at = pointed_in(widget, scopes, x)?;
+    put_cursor(alloc, screen, win, at)
 }
 
 /// An entry is pressed, unless it is disabled: it gets the keys, and its cursor goes to the pointer.
@@ -161,7 +269,7 @@ fn point(
         return nothing(alloc);
     }
     set_focus(&screen.windows, inputs, queue, win, moment)?;
-    touch(screen, scopes, win, Touch::Point(x));
+    point_cursor(alloc, screen, scopes, win, x)?;
     nothing(alloc)
 }
 

@@ -3,6 +3,7 @@
 #![tactic(auto)]
 
 mod buttons;
+mod changes;
 mod commands;
 mod entries;
 mod entry_keys;

@@ -1,12 +1,14 @@
 //! The commands of the class Listbox (listbox(n)).
-ghost use Rattle.std.specs.Prelude.{◌≡◌, IfOk};
+ghost use Rattle.std.specs.Prelude.{◌≡◌, IfOk, OnOk};
 ghost use Rattle.tcl_text.specs.Answers.{Gives};
 ghost use Rattle.tk_class_commands.specs.Listboxes as spec;
 ghost use Rattle.tk_inputs.specs.Deliver.{arrivals_of};
 ghost use Rattle.tk_inputs.specs.Inputs as inputs_of;
 ghost use Rattle.tk_queue.specs.Queue as queue_of;
 ghost use Rattle.tk_screen.specs.Own.{LeavesOthers, own_of};
+ghost use Rattle.tk_widgets.specs.ListboxKeys.{place_after};
 
+use crate::changes::make;
 use crate::outcome::{ClassOutcome, nothing};
 use crate::refusals::{integer_in, number_of};
 use std::alloc::{AllocError, Global};
@@ -14,9 +16,10 @@ use tcl_text::Text;
 use tcl_text::answers::{Refusal, bad_option, wrong_args};
 use tk_base::{Kind, Win};
 use tk_inputs::{Inputs, set_focus};
+use tk_listbox::{Choice, Listbox};
 use tk_queue::EventQueue;
-use tk_screen::{Screen, Touch};
-use tk_widgets::Step;
+use tk_screen::Screen;
+use tk_widgets::{Change, ListboxWidget, Step, Widget};
 
 /// A command of the class Listbox.
 #[derive(Clone, Copy, Debug, PartialEq, Eq)]
@@ -38,6 +41,15 @@ pub enum ListboxAsk {
     Drag(i64),
     Step(Step),
     Choose,
+}
+
+/// What is to be done to a listbox.
+#[derive(Clone, Copy)]
+pub struct Effect {
+    /// The place of the item that becomes active.
+    pub active: usize,
+    /// How it is chosen; none where it isn't.
+    pub choice: Option<Choice>,
 }
 
 /// A listbox, and what a command asks of it.
@@ -113,7 +125,7 @@ fn requested(
     }
 }
 
-/// What is done to a listbox. A press gives it the keys, unless it is empty.
+/// What is done to a listbox. A press that does something gives it the keys.
 #[tactic(auto, unfolding(crate::specs::Listboxes::listbox_asked))]
 fn listbox_asked(
     alloc: Global,
@@ -130,23 +142,144 @@ fn listbox_asked(
     ensures inputs { inputs_of.LeavesOthers win.owner inputs.old inputs.new }
     ensures queue { queue_of.LeavesOthers win.owner queue.old queue.new }
 {
-    if !screen.widgets.touch(win, None, touch_of(ask)) {
+    let Some(effect) = effect_at(screen, win, ask) else {
         return nothing(alloc);
-    }
+    };
     if is_press(ask) {
         set_focus(&screen.windows, inputs, queue, win, moment)?;
     }
-    Ok(ClassOutcome::Selects(win.number))
+    take_effect(alloc, screen, win, effect)?;
+    outcome_of(alloc, win.number, effect)
 }
 
-fn touch_of(ask: ListboxAsk) -> Touch
-    ensures { result ≡ spec.touch_of ask }
+/// The item becomes active, and is chosen if it is to be.
+fn take_effect(
+    alloc: Global,
+    screen: &mut Screen,
+    win: Win,
+    effect: Effect,
+) -> Result<(), AllocError>
+    ensures own { OnOk result (own_of win.owner screen.new ≡ spec.with_effect win.number effect (own_of win.owner screen.old)) }
+    ensures others { LeavesOthers win.owner screen.old screen.new }
+{
+    make(alloc, screen, win, Change::Activate(effect.active))?;
+    match effect.choice {
+        Some(choice) => make(alloc, screen, win, Change::Select(choice)),
+        None => Ok(()),
+    }
+}
+
+/// A selection that was made or toggled is to be told.
+fn outcome_of(alloc: Global, number: u64, effect: Effect) -> Result<ClassOutcome, AllocError>
+    ensures { IfOk result (λ outcome. outcome ≡ spec.outcome_of number effect.choice) }
+{
+    match effect.choice {
+        Some(_) => Ok(ClassOutcome::Selects(number)),
+        None => nothing(alloc),
+    }
+}
+
+/// What is to be done to the listbox of a window; none where nothing is.
+fn effect_at(screen: &Screen, win: Win, ask: ListboxAsk) -> Option<Effect>
+    ensures { result ≡ spec.effect_at win.number ask (own_of win.owner screen.now) }
+{
+    match screen.widget(win) {
+        Some(Widget::Listbox(listbox)) => effect_on(listbox, ask),
+        _ => None,
+    }
+}
+
+fn effect_on(listbox: &ListboxWidget, ask: ListboxAsk) -> Option<Effect>
+    ensures { result ≡ spec.effect_on ask listbox.now }
 {
     match ask {
-        ListboxAsk::Press(y) => Touch::Press(y),
-        ListboxAsk::Drag(y) => Touch::Drag(y),
-        ListboxAsk::Step(step) => Touch::Step(step),
-        ListboxAsk::Choose => Touch::Choose,
+        ListboxAsk::Press(y) => pressed(listbox, y),
+        ListboxAsk::Drag(y) => dragged(listbox, y),
+        ListboxAsk::Step(step) => stepped(listbox, step),
+        ListboxAsk::Choose => chosen(listbox),
+    }
+}
+
+/// A press at a height: the item there, unless there is none.
+fn pressed(listbox: &ListboxWidget, y: i64) -> Option<Effect>
+    ensures { result ≡ spec.pressed y listbox.now }
+{
+    if listbox.listbox.size() == 0 {
+        return None;
+    }
+    let row = listbox.row(y);
+    Some(Effect {
+        active: row,
+        choice: Some(choice_of(listbox, row)),
+    })
+}
+
+/// The pointer dragged to a height, in the mode `browse`: the item there, where it isn't the active one.
+fn dragged(listbox: &ListboxWidget, y: i64) -> Option<Effect>
+    ensures { result ≡ spec.dragged y listbox.now }
+{
+    let row = listbox.row(y);
+    if !listbox.is_browse() || row == listbox.listbox.active() {
+        return None;
+    }
+    Some(Effect {
+        active: row,
+        choice: Some(Choice::Alone { place: row }),
+    })
+}
+
+/// A step from the active item, where there is another; in the mode `browse` it is the selection.
+fn stepped(listbox: &ListboxWidget, step: Step) -> Option<Effect>
+    ensures { result ≡ spec.stepped step listbox.now }
+{
+    let place = place_after(&listbox.listbox, step);
+    if place == listbox.listbox.active() {
+        return None;
+    }
+    let choice = if listbox.is_browse() {
+        Some(Choice::Alone { place })
+    } else {
+        None
+    };
+    Some(Effect {
+        active: place,
+        choice,
+    })
+}
+
+/// The active item, unless there is none.
+fn chosen(listbox: &ListboxWidget) -> Option<Effect>
+    ensures { result ≡ spec.chosen listbox.now }
+{
+    if listbox.listbox.size() == 0 {
+        return None;
+    }
+    let active = listbox.listbox.active();
+    Some(Effect {
+        active,
+        choice: Some(choice_of(listbox, active)),
+    })
+}
+
+/// How an item is chosen: in the mode `multiple` it is toggled, else it is the selection.
+fn choice_of(listbox: &ListboxWidget, place: usize) -> Choice
+    ensures { result ≡ spec.choice_of place listbox.now }
+{
+    if listbox.is_multiple() {
+        Choice::Toggle { place }
+    } else {
+        Choice::Alone { place }
+    }
+}
+
+/// The place a step further, or that of the active item where there is none.
+fn place_after(listbox: &Listbox, step: Step) -> usize
+    ensures { result ≡ place_after step listbox.now }
+{
+    let last = listbox.size().saturating_sub(1);
+    match step {
+        Step::Up => listbox.active().saturating_sub(1),
+        Step::Down => listbox.active().saturating_add(1).min(last),
     }
 }
 

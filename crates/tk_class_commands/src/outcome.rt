@@ -18,11 +18,11 @@ pub enum ClassOutcome {
     Selects(u64),
 }
 
-/// The empty text.
-pub fn empty_text(alloc: Global) -> Result<Text, AllocError>
-    ensures { IfOk result (λ text. text ≡ []) }
+/// A text of characters that are known to be few enough.
+pub fn short_text(alloc: Global, characters: &str) -> Result<Text, AllocError>
+    ensures { IfOk result (λ text. text ≡ characters.now) }
 {
-    match Text::new(alloc, "") {
+    match Text::new(alloc, characters) {
         Ok(text) => Ok(text),
         Err(_) => Err(AllocError),
     }
@@ -32,7 +32,7 @@ pub fn empty_text(alloc: Global) -> Result<Text, AllocError>
 pub fn nothing(alloc: Global) -> Result<ClassOutcome, AllocError>
     ensures { IfOk result (λ outcome. outcome ≡ Answers (Ok [])) }
 {
-    Ok(ClassOutcome::Answers(Ok(empty_text(alloc)?)))
+    Ok(ClassOutcome::Answers(Ok(short_text(alloc, "")?)))
 }
 
 /// What was told of a widget; the empty result where there is none.

@@ -18,8 +18,8 @@ use Rattle.tk_panel_commands.specs.Screen.{screen_command_done, screen_command_n
 unfoldable pub command_named : List ℕ → Option Command
 command_named name =
     or_else (option_map Screen (screen_command_named name))
-        (or_else (option_map Moment (moment_command_named name))
-        (or_else (option_map Binding (binding_command_named name)) (option_map Class (class_command_named name))))
+    (or_else (option_map Moment (moment_command_named name))
+    (or_else (option_map Binding (binding_command_named name)) (option_map Class (class_command_named name))))
 
 -- what it does, with the words behind its name
 unfoldable pub command_done : Command → List (List ℕ) → Panel → Store → Done

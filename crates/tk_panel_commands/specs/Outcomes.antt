@@ -1,5 +1,4 @@
 -- What a command leaves of its application, and what comes of it.
-
 use Rattle.tcl_text.specs.Answers.{Answer}
 use Rattle.tcl_vars.specs.Store.{Store}
 use Rattle.tk_panel.specs.Panel.{Panel}

@@ -102,12 +102,7 @@ fn selection_event(
         return Ok(None);
     };
     let kind = EventKind::Virtual(selection_name(alloc)?);
-    Ok(Some(Event::new(
-        kind,
-        window.number,
-        window.path.copy()?,
-        moment,
-    )))
+    Ok(Some(Event::new(kind, window.number, window.path.copy()?, moment)))
 }
 
 /// The name of the event of a listbox that has another selection.

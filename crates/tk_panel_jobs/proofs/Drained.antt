@@ -1,8 +1,7 @@
 -- What events without scripts and layout leave: the moment, the timers and the windows that are there.
-use Rattle.std.proofs.Common.{◌≡◌, ℕ, List, [], ◌∷◌, refl, sym, ap, ◌∙◌}
+use Rattle.std.proofs.Common.{◌≡◌, ℕ, List, [], ◌∷◌, refl, ◌∙◌}
 use Rattle.std.specs.Prelude.{Option, Some, None, Ok, Err}
 use Rattle.tcl_vars.specs.Store.{Store}
-use Rattle.tk_after.specs.Timers.{Own as Timers}
 use Rattle.tk_dispatch.specs.Dispatch.{Chosen}
 use Rattle.tk_events.specs.declared.event.Event.{Event}
 use Rattle.tk_layout.specs.declared.changes.Change.{Change}
@@ -60,11 +59,12 @@ unfolding drained
 drained_out [] panel is none = is
 drained_out (event ∷ events) panel is none =
     let there : Panel × List (List ℕ) = chosen event (with_queue events panel) in
-    by there.1 there.0 (chosen_queue event (with_queue events panel)) none
+    by there.1 there.0 (λ none. drained_out events there.0 (chosen_queue event (with_queue events panel)) none) none
   where
-    by : (scripts : List (List ℕ)) (after : Panel) → after.queue ≡ events → (or_later (drained events) after scripts).1 ≡ [] → (or_later (drained events) after scripts).0.queue ≡ []
-    by [] after left none = drained_out events after left none
-    by (script ∷ scripts) after left none = cc
+    by : (scripts : List (List ℕ)) (after : Panel) → ((drained events after).1 ≡ [] → (drained events after).0.queue ≡ [])
+        → (or_later (drained events) after scripts).1 ≡ [] → (or_later (drained events) after scripts).0.queue ≡ []
+    by [] after later none = later none
+    by (script ∷ scripts) after later none = cc
 
 -- ── layout ──
 

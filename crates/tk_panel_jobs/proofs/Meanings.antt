@@ -1,13 +1,11 @@
 -- What jobs come to, from what comes next of them.
-use Rattle.std.proofs.Common.{◌≡◌, ℕ, List, [], ◌∷◌, refl, sym, ◌∙◌}
+use Rattle.std.proofs.Common.{◌≡◌, ℕ, [], ◌∷◌, refl, sym, ◌∙◌}
 use Rattle.std.specs.Prelude.{Option, Some, None}
-use Rattle.tcl_control.specs.declared.code.Code.{Code}
-use Rattle.tcl_interp.specs.Evaluation.{State, Outcome}
+use Rattle.tcl_interp.specs.Evaluation.{State}
 use Rattle.tcl_jobs.specs.Laws.{runs}
 use Rattle.tcl_jobs.specs.Meaning.{looked}
 use Rattle.tcl_jobs.proofs.Unrolled as jobs
 use Rattle.tk_panel.specs.declared.job.Job.{Job}
-use Rattle.tk_panel.specs.declared.job.Rest.{Rest}
 use Rattle.tk_panel.specs.declared.job.Rest.TheVariants.{Destroys as DestroysRest, Rounds}
 use Rattle.tk_panel.specs.Next.{next}
 use Rattle.tk_panel.specs.Panel.{Panel}

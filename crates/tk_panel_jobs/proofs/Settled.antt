@@ -19,18 +19,18 @@ use Rattle.tk_panel.specs.Changes.{laid_out}
 use Rattle.tk_panel.specs.Next.{next, next_event, next_rest}
 use Rattle.tk_panel.specs.Panel.{Panel}
 use Rattle.tk_panel.specs.Settle.{Next, after_layout, after_round, at_home, drained, idle_round, is_closed, is_due, on_event, on_round, on_timer, queue_or_round, still_waiting, turn}
-use Rattle.tk_panel.specs.Start.{start, start_event, start_rest, timer_taken}
-use Rattle.tk_panel_jobs.specs.Calls.{calls, settling}
+use Rattle.tk_panel.specs.Start.{start_event, start_rest, timer_taken}
+use Rattle.tk_panel_jobs.specs.Calls.{calls}
 use Rattle.tk_panel_jobs.specs.Course.{bound_ended, course, ended_by, looked_of}
 use Rattle.tk_panel_jobs.specs.Rests.{DueComes, Rests, has_settled, home_settles, is_empty, rest_settles, settles_last}
 use Rattle.tk_panel_jobs.proofs.Drained.{LeavesTimers, drained_leaves, drained_out, layout_leaves, then}
 
 -- either nothing comes next, and nothing is left to do, or a job that settles too
-abbrev OnJob : Panel → Option Job → Type 0
+abbrev pub OnJob : Panel → Option Job → Type 0
 OnJob panel None = has_settled panel ≡ true
 OnJob panel (Some job) = settles_last job ≡ true
 
-abbrev On : Next → Type 0
+abbrev pub On : Next → Type 0
 On there = OnJob there.0 there.1
 
 -- ── from the last to the first ──
@@ -102,12 +102,12 @@ event_comes (Some (script ∷ scripts)) rest store panel is = is
 event_comes (Some []) rest store panel is = rest_comes rest store panel is
 event_comes None rest store panel is = rest_comes rest store panel is
 
-comes : (job : Job) (store : Store) (panel : Panel) → settles_last job ≡ true → On (next job store panel)
+pub comes : (job : Job) (store : Store) (panel : Panel) → settles_last job ≡ true → On (next job store panel)
 comes job store panel is = event_comes job.event job.rest store panel is
 
 -- ── jobs that settle stay so ──
 
-wanted : (panel : Panel) (found : Option Job) (job : Job) → OnJob panel found → looked_of found ≡ Wants job → settles_last job ≡ true
+pub wanted : (panel : Panel) (found : Option Job) (job : Job) → OnJob panel found → looked_of found ≡ Wants job → settles_last job ≡ true
 wanted panel None job on is = cc
 wanted panel (Some next) job on is = let same : next ≡ job = cc in ap settles_last (sym same) ∙ on
 
@@ -121,7 +121,7 @@ rest_starts (Destroys window doomed paths) panel is = is
 rest_starts (Rounds [] home) panel is = timer_starts home panel (first_due panel.moment panel.timers.entries) is
 rest_starts (Rounds (id ∷ ids) home) panel is = is
 
-event_starts : (event : Option (List (List ℕ))) (rest : Rest) (panel : Panel) → rest_settles rest ≡ true → settles_last (start_event event rest panel).1.1 ≡ true
+pub event_starts : (event : Option (List (List ℕ))) (rest : Rest) (panel : Panel) → rest_settles rest ≡ true → settles_last (start_event event rest panel).1.1 ≡ true
 event_starts (Some (script ∷ scripts)) rest panel is = is
 event_starts (Some []) rest panel is = rest_starts rest panel is
 event_starts None rest panel is = rest_starts rest panel is
@@ -133,7 +133,7 @@ bound_ends (Return code) text scripts rest panel is = is
 bound_ends Break text scripts rest panel is = is
 bound_ends Continue text scripts rest panel is = is
 
-script_ends : (event : Option (List (List ℕ))) (rest : Rest) (code : Code) (text : List ℕ) (panel : Panel) → rest_settles rest ≡ true → settles_last (ended_by event rest code text panel).1 ≡ true
+pub script_ends : (event : Option (List (List ℕ))) (rest : Rest) (code : Code) (text : List ℕ) (panel : Panel) → rest_settles rest ≡ true → settles_last (ended_by event rest code text panel).1 ≡ true
 script_ends (Some scripts) rest code text panel is = bound_ends code text scripts rest panel is
 script_ends None rest code text panel is = is
 
@@ -146,22 +146,22 @@ keeps = record {
 
 -- ── the laws ──
 
-ended_at : (panel shows : Panel) (found : Option Job) (code : Code) (text : List ℕ) → OnJob panel found → (panel, looked_of found) ≡ (shows, Ends code text) → has_settled shows ≡ true
-ended_at panel shows None code text on is = ap has_settled (sym (ap (λ (there : Panel × Looked Job). there.0) is)) ∙ on
-ended_at panel shows (Some job) code text on is = let differ : Wants job ≡ Ends code text = ap (λ (there : Panel × Looked Job). there.1) is in cc
+pub ended_at : (panel shows : Panel) (found : Option Job) (code : Code) (text : List ℕ) → OnJob panel found → panel ≡ shows → looked_of found ≡ Ends code text → has_settled shows ≡ true
+ended_at panel shows None code text on same is = ap has_settled (sym same) ∙ on
+ended_at panel shows (Some job) code text on same is = cc
 
 pub rests : Rests
 rests room job state after code text is came =
     let last = ends_looked course calls room settles_last keeps job state after code text is came in
     let there : Next = next last.last after.store last.before in
-    ended_at there.0 after.shows there.1 code text (comes last.last after.store last.before last.is_kind) last.found
+    ended_at there.0 after.shows there.1 code text (comes last.last after.store last.before last.is_kind)
+    (ap (λ (t : Panel × Looked Job). t.0) last.found) (ap (λ (t : Panel × Looked Job). t.1) last.found)
 
 pub due_comes : DueComes
-unfolding still_waiting
-unfolding turn
-due_comes store panel open due =
+unfolding still_waiting turn
+due_comes store panel there_is due =
     let there : Panel × List (List ℕ) = drained panel.queue panel in
-    rw open (by there.1 there.0 (due_as panel there.0 (drained_leaves panel.queue panel) ∙ due))
+    rw there_is (by there.1 there.0 (due_as panel there.0 (drained_leaves panel.queue panel) ∙ due))
   where
     by : (scripts : List (List ℕ)) (after : Panel) → is_due after.moment after.timers.entries ≡ true → is_some (on_event Settle (on_timer Settle (after_layout Settle store)) after scripts).1 ≡ true
     by [] after due = rw due refl

@@ -1,8 +1,7 @@
 -- What jobs come to, big-step.
 use Rattle.std.specs.Prelude.{◌≡◌, ℕ, List, [], ◌∷◌, Option, Some, None}
-use Rattle.tcl_vars.specs.Store.{Store}
 use Rattle.tcl_control.specs.declared.code.Code.{Code}
-use Rattle.tcl_control.specs.declared.code.Code.TheVariants.{Normal, Error, Return, Break, Continue}
+use Rattle.tcl_control.specs.declared.code.Code.TheVariants.{Normal}
 use Rattle.tcl_interp.specs.Evaluation.{State, Outcome, Ended, and_then, with_step}
 use Rattle.tcl_interp.specs.Plans.{run_at}
 use Rattle.tcl_interp.specs.Scripts.{out_of_global, task_meaning}

@@ -3,6 +3,7 @@ ghost use Rattle.std.specs.Prelude.{◌≡◌, IfOk, OnOk};
 ghost use Rattle.tcl_vars.specs.Store.{Store};
 ghost use Rattle.tcl_jobs.specs.Tasks.{act_of};
 ghost use Rattle.tk_panel.specs.Panel.{LeavesOthers, panel_of};
+ghost use Rattle.tk_panel.specs.Reports.{with_line};
 ghost use Rattle.tk_panel_jobs.specs.Calls.{begun, settling};
 ghost use Rattle.tk_panel_jobs.specs.Course.{bound_ended, ended, event_job, look, looked_of, started, with_end};
 
@@ -79,6 +80,15 @@ fn bound_ended(
     }
 }
 
+/// Tells a fault.
+fn tell_fault(tables: &mut Tables, slot: usize, fault: &str) -> Result<(), AllocError>
+    ensures own { OnOk result (panel_of slot tables.new ≡ with_line Stream.Err fault.now (panel_of slot tables.old)) }
+    ensures others { LeavesOthers slot tables.old tables.new }
+{
+    let text = short_text(tables.alloc, fault)?;
+    write(tables, slot, Stream::Err, text)
+}
+
 /// Tells how a timer's script, an idle one or the application's own has ended, where it tells of a fault.
 fn tell_end(tables: &mut Tables, slot: usize, code: Code, text: Text) -> Result<(), AllocError>
     ensures own { OnOk result (panel_of slot tables.new ≡ with_end code text (panel_of slot tables.old)) }
@@ -87,14 +97,8 @@ fn tell_end(tables: &mut Tables, slot: usize, code: Code, text: Text) -> Result<
     match code {
         Code::Normal | Code::Return(_) => Ok(()),
         Code::Error => write(tables, slot, Stream::Err, text),
-        Code::Break => {
-            let fault = short_text(tables.alloc, "invoked \"break\" outside of a loop")?;
-            write(tables, slot, Stream::Err, fault)
-        }
-        Code::Continue => {
-            let fault = short_text(tables.alloc, "invoked \"continue\" outside of a loop")?;
-            write(tables, slot, Stream::Err, fault)
-        }
+        Code::Break => tell_fault(tables, slot, "invoked \"break\" outside of a loop"),
+        Code::Continue => tell_fault(tables, slot, "invoked \"continue\" outside of a loop"),
     }
 }
 

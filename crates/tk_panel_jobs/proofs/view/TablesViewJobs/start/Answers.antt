@@ -10,3 +10,6 @@ pub returns-clause-left : goal.returns-clause-left
 returns-clause-left c =
     let view = c.args.self.now in
     left_same view.slot view.tables.ghost_name view.tables.now c.start.new.tables c.start.ensures.others
+
+pub returns-clause-ok : goal.returns-clause-ok
+returns-clause-ok c = c.in_ok-started.ensures.own c.args._scopes.now

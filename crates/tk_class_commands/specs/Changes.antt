@@ -1,0 +1,9 @@
+-- Changes of widgets that have to do with no variable.
+use Rattle.std.specs.Prelude.{ℕ}
+use Rattle.tk_screen.specs.Own.{Own}
+use Rattle.tk_screen.specs.Widgets.{made_at}
+use Rattle.tk_widgets.specs.declared.outcome.Change.{Change}
+
+-- a change of the widget of the window with a number
+abbrev pub with_change : ℕ → Change → Own → Own
+with_change number change own = record own { widgets = (made_at number change own.widgets).widgets }

@@ -1,5 +1,5 @@
 -- What an event makes of a part.
-use Rattle.std.proofs.Common.{◌≡◌, ◌≢◌, ℕ, refl, sym, ap, ◌∙◌}
+use Rattle.std.proofs.Common.{◌≡◌, ◌≢◌, refl, sym, ap, ◌∙◌}
 use Rattle.tk_input.specs.declared.event.LocalEvent.{LocalEvent}
 use Rattle.tk_panel.specs.Deliver.{delivered as delivered_panel}
 use Rattle.tk_panel.specs.Panel.{Panel}

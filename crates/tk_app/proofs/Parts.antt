@@ -19,7 +19,7 @@ use Rattle.tk_app.specs.Application.{Application, fresh}
 use Rattle.tk_app.specs.Outside.{calls, course, outside}
 use Rattle.tk_app.specs.Part.{Rests, BeginsWithScript, SettlesFromRest, after_outcome, done_as, settled, settled_as, settling_as, stage_done, started, state_at}
 use Rattle.tk_app.specs.Seen.{Meaning, Seen}
-use Rattle.tk_app.specs.Settle.{GoesByNext, comes_next, in_panel, meaning, on_next, settle_meaning, settling, start_meaning}
+use Rattle.tk_app.specs.Settle.{GoesByNext, in_panel, meaning, on_next, settle_meaning, settling, start_meaning}
 
 -- nothing comes behind the end
 ended_alone : (outcome : Outcome Seen) → and_then outcome (waits_meaning outside []) ≡ outcome

@@ -1,5 +1,5 @@
 -- What scripts see of a panel that has changed, at the same moment.
-use Rattle.std.proofs.Common.{◌≡◌, ℕ, List, ap, ◌∙◌}
+use Rattle.std.proofs.Common.{◌≡◌, ℕ, ap, ◌∙◌}
 use Rattle.tcl_vars.specs.Store.{Store}
 use Rattle.tcl_interp.specs.declared.tasks.Act.{Act}
 use Rattle.tcl_interp.specs.Outside.{Told}

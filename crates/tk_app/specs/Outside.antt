@@ -1,13 +1,10 @@
 -- The commands of an application and the course of its jobs, as its scripts see them.
 use Rattle.std.specs.Prelude.{ℕ, List, [], ◌∷◌, Option, Some, None, option_map, Ok, Err}
 use Rattle.tcl_vars.specs.Store.{Store}
-use Rattle.tcl_control.specs.declared.code.Code.{Code}
 use Rattle.tcl_control.specs.declared.code.Code.TheVariants.{Normal, Error}
 use Rattle.tcl_interp.specs.declared.tasks.Act.{Act}
 use Rattle.tcl_interp.specs.declared.tasks.Act.TheVariants.{Done}
 use Rattle.tcl_interp.specs.Outside.{Outside, Told}
-use Rattle.tcl_jobs.specs.declared.job.Looked.{Looked}
-use Rattle.tcl_jobs.specs.declared.job.Started.{Started}
 use Rattle.tcl_jobs.specs.declared.job.Task.{Task}
 use Rattle.tcl_jobs.specs.Course.{Course}
 use Rattle.tcl_jobs.specs.Tasks.{outside_of}

@@ -1,6 +1,5 @@
 -- A part: an application, with what its interpreter still has to do.
 use Rattle.std.specs.Prelude.{◌≡◌, ℕ, ◌+◌, ◌-◌, min, Bool, true, false, List, [], ◌∷◌, if◌then◌else◌}
-use Rattle.tcl_control.specs.declared.code.Code.{Code}
 use Rattle.tcl_control.specs.declared.code.Code.TheVariants.{Normal}
 use Rattle.tcl_interp.specs.Evaluation.{State, Outcome, Ended, OutOfSteps}
 use Rattle.tcl_interp.specs.Finish.{Doing, Resumes, Waiting, Rest, Running as RestRunning, Idle, Spent, Broken, finish}

@@ -1,5 +1,5 @@
 -- What is done at a moment, and how an application begins.
-use Rattle.std.specs.Prelude.{◌≡◌, ℕ, List, [], ◌∷◌, Option, Some, None}
+use Rattle.std.specs.Prelude.{◌≡◌, ℕ, List, [], Option, Some, None}
 use Rattle.tcl_control.specs.declared.code.Code.{Code}
 use Rattle.tcl_control.specs.declared.code.Code.TheVariants.{Normal}
 use Rattle.tcl_interp.specs.Evaluation.{State, Outcome, Ended, and_then, with_step}

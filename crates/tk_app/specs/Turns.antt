@@ -24,7 +24,7 @@ use Rattle.tk_app.specs.declared.state.AppEnd.{AppEnd}
 use Rattle.tk_app.specs.declared.state.AppEnd.TheVariants.{Settled, More, Stopped}
 use Rattle.tk_app.specs.Application.{Application}
 use Rattle.tk_app.specs.Names.{command_names}
-use Rattle.tk_app.specs.Part.{Part, Work, Goes, Rests, delivered, needs, settling_begun, stage_done, task_begins}
+use Rattle.tk_app.specs.Part.{Part, Work, Rests, delivered, needs, settling_begun, stage_done, task_begins}
 use Rattle.tk_app.specs.Seen.{Meaning, names_of}
 use Rattle.tk_app.specs.Settle.{settling}
 

@@ -1,4 +1,4 @@
-use Rattle.std.proofs.Common.{refl, sym, ap, ◌∙◌}
+use Rattle.std.proofs.Common.{refl, ◌∙◌}
 use Rattle.tk_panel.specs.Panel.{panel_of}
 use Rattle.tk_app.specs.Turns.{Program, part_of}
 use Rattle.tk_app.proofs.Slices.{stopped_turn}

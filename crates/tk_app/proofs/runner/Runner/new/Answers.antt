@@ -1,4 +1,4 @@
-use Rattle.std.proofs.Common.{refl, ap, ◌∙◌}
+use Rattle.std.proofs.Common.{refl, ◌∙◌}
 use Rattle.tcl_interp.specs.Interp.{context_of}
 use Rattle.tk_app.proofs.Beginnings.{begins}
 use Rattle.tk_app.proofs.runner.Runner.new.Goals as goal

@@ -1,4 +1,4 @@
-use Rattle.std.proofs.Common.{◌≡◌, ℕ, List, ◌<◌, set, ap, ◌∙◌, subst, length, arith, refl}
+use Rattle.std.proofs.Common.{◌≡◌, List, ◌<◌, set, ap, ◌∙◌, subst, length, arith, refl}
 use Rattle.tk_app.specs.Part.{Part, settling_as}
 use Rattle.tk_panel.specs.Panel.{panel_of}
 use Rattle.tk_app.specs.Turns.{Applications, BeginsIn, Program, part_of, parts_from}

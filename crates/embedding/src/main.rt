@@ -4,7 +4,8 @@
 use anyhow::Result;
 use std::str;
 use tcl_text::Text;
-use tk_host::{Budget, Host, Rect};
+use tk_host::{Aliases, Budget, Host, Rect};
+use tk_services::Service;
 
 const LEFT: Rect = Rect {
     x: 0,
@@ -25,9 +26,11 @@ fn main(rt: HostRuntime) -> Result<()> {
     let endless = Text::new(alloc, "while 1 {}")?;
     let timed = Text::new(alloc, "after 5 {puts ready}")?;
 
-    let mut host = Host::new(alloc, 64);
-    host.add_app(Text::new(alloc, "runaway")?, LEFT, endless, budget(1_000))?;
-    host.add_app(Text::new(alloc, "gauge")?, RIGHT, timed, budget(20))?;
+    let mut host: Host<Service> = Host::new(alloc, 64);
+    let runaway = Text::new(alloc, "runaway")?;
+    host.add_app(runaway, LEFT, endless, budget(1_000), Aliases::new(alloc))?;
+    let gauge = Text::new(alloc, "gauge")?;
+    host.add_app(gauge, RIGHT, timed, budget(20), Aliases::new(alloc))?;
     host.start()?;
     host.advance_to(10)?;
 

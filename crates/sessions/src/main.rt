@@ -11,7 +11,7 @@ use anyhow::{Context, Result, bail};
 use std::alloc::Global;
 use std::rt::Files;
 use std::{env, fs};
-use tkhost::{Outcome, play, read_session, run};
+use tkhost::{Outcome, play, read_session, run, services_of};
 
 /// Slices that no section may depend on, in steps.
 const SLICES: [u64; 6] = [1, 2, 3, 7, 64, 1_000_000];
@@ -45,7 +45,10 @@ fn same_at_each_slice(alloc: Global, session: &[u8], expected: &[u8]) -> Result<
     };
     for slice in SLICES {
         let mut sections = Vec::new(alloc);
-        if play(alloc, &session, slice, &mut sections).is_err() || sections.as_slice() != expected {
+        let aliases = services_of(alloc, &session)?;
+        if play(alloc, &session, aliases, slice, &mut sections).is_err()
+            || sections.as_slice() != expected
+        {
             return Ok(false);
         }
     }

@@ -40,7 +40,7 @@ panel_new size tables n count none idle =
     ∙ ap (λ o. record { moment = tables.clock; size = size; transcript = []; window = unlaid; own = o }) idle
 
 -- the parts, with one more
-pub parts_more : (size : Size) (tables : Tables) (ps : List Program) (p : Program) (n : ℕ) (added : Part) → length ps ≡ n → length tables.windows ≡ n → lines_of n tables.transcripts ≡ [] → own_of n tables.timers ≡ nothing_waits
+pub parts_more : {M : Type 0} (size : Size) (tables : Tables) (ps : List (Program M)) (p : Program M) (n : ℕ) (added : Part M) → length ps ≡ n → length tables.windows ≡ n → lines_of n tables.transcripts ≡ [] → own_of n tables.timers ≡ nothing_waits
     → part_of (record { moment = tables.clock; size = size; transcript = []; window = unlaid; own = nothing_waits }) p ≡ added
     → parts_from 0 (seated size tables) (ps ++ p ∷ []) ≡ parts_from 0 tables ps ++ added ∷ []
 parts_more size tables ps p n added count windows none idle is =
@@ -54,7 +54,7 @@ one_more [] x = refl
 one_more (y ∷ ys) x = let rest = one_more ys x in omega (arith, rest)
 
 -- what all applications keep
-pub added_kept : (tables : Tables) (size : Size) (seats : List MainWindow) (old new : List Program) (p : Program) → new ≡ old ++ p ∷ [] → seats ≡ tables.windows ++ row size ∷ [] → length old < 16
+pub added_kept : {M : Type 0} (tables : Tables) (size : Size) (seats : List MainWindow) (old new : List (Program M)) (p : Program M) → new ≡ old ++ p ∷ [] → seats ≡ tables.windows ++ row size ∷ [] → length old < 16
     → length tables.windows ≡ length old → IsVacantFrom (length old) tables
     → (length new ≤ 16) × (length seats ≡ length new)
     × ((slot : ℕ) → length new ≤ slot → slot < 16 → (lines_of slot tables.transcripts ≡ []) × (own_of slot tables.timers ≡ nothing_waits))

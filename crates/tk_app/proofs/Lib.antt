@@ -3,6 +3,7 @@ pub mod Acts
 pub mod Dues
 mod Adding
 mod Escapes
+mod Events
 pub mod Falls
 mod Lines
 mod Listed

@@ -19,89 +19,9 @@ use Rattle.tk_app.specs.Application.{Application}
 use Rattle.tk_app.specs.Outside.{outside}
 use Rattle.tk_app.specs.Part.{Part, Work, Rests, Goes, after_outcome, done_as, settling_as, settling_begun, stage_done, state_in, with_left, work_of}
 use Rattle.tk_app.specs.declared.window.Size.{Size}
+use Rattle.tk_app.specs.Seen.{Meaning, Seen, meanings}
 use Rattle.tk_app.specs.Shown.{Setting, Shown, setting_of}
 use Rattle.tk_app.specs.Turns.{EndsAs, Program, TakesTurn, application_of, end_of, part_of, work_by}
-
--- ── what is under way ──
-
--- nothing is under way once it is done
-done_rests : (moment : ℕ) (part : Part) → (stage_done moment part).work ≡ Rests
-unfolding stage_done
-done_rests moment part = by part.work
-  where
-    by : (work : Work) → (done_as moment work part.application).work ≡ Rests
-    by Rests = refl
-    by (Goes levels doing waits) = refl
-
--- and what rests stays
-pub rests_stays : (moment : ℕ) (part : Part) → part.work ≡ Rests → stage_done moment part ≡ part
-unfolding stage_done
-rests_stays moment part rests =
-    ap (λ w. done_as moment w part.application) rests ∙ ap (λ w. record { application = part.application; work = w }) (sym rests)
-
-steps_of_outcome : (outcome : Outcome Shown) (application : Application) → Within application.steps outcome → (after_outcome outcome application).steps ≤ application.steps
-steps_of_outcome (Ended left code text) application within = within
-steps_of_outcome (OutOfSteps left) application within = omega arith
-
--- steps only fall
-pub done_within : (moment : ℕ) (part : Part) → (stage_done moment part).application.steps ≤ part.application.steps
-unfolding stage_done
-done_within moment part = by part.work
-  where
-    by : (work : Work) → (done_as moment work part.application).application.steps ≤ part.application.steps
-    by Rests = omega arith
-    by (Goes levels doing waits) =
-        let state = state_in levels moment part.application in
-        steps_of_outcome (finish outside (RestRunning doing waits) state) part.application (within_finish outside part.application.steps (RestRunning doing waits) state (omega arith))
-
--- ── turns ──
-
--- a turn with which all is done
-pub turn_last : (moment steps : ℕ) (end : AppEnd) (begun after : Part) → after ≡ stage_done moment begun → begun.application.steps ≤ after.application.steps + steps
-    → end ≢ More → EndsAs end after → TakesTurn moment steps end begun after
-turn_last moment steps end begun after all most over ends =
-    let rests : after.work ≡ Rests = ap (λ p. p.work) all ∙ done_rests moment begun in
-    let stays : stage_done moment after ≡ after = rests_stays moment after rests in
-    let none : (stage_done moment after).application.steps ≡ after.application.steps = ap (λ p. p.application.steps) stays in
-    let left : after.application.steps ≡ (stage_done moment begun).application.steps = ap (λ p. p.application.steps) all in
-    record {
-      same = stays ∙ all;
-      left = omega (arith, none, left, most);
-      taken = omega (arith, left, most);
-      last = λ _. all;
-      more = λ e. absurd (over e);
-      ends = ends;
-    }
-
--- a turn with more to do behind it
-pub turn_more : (moment steps : ℕ) (begun after : Part) → stage_done moment after ≡ stage_done moment begun → after.application.steps + steps ≡ begun.application.steps
-    → EndsAs More after → TakesTurn moment steps More begun after
-turn_more moment steps begun after same took ends =
-    let final : (stage_done moment after).application.steps ≡ (stage_done moment begun).application.steps = ap (λ p. p.application.steps) same in
-    let within = done_within moment after in
-    record {
-      same = same;
-      left = omega (arith, final, took);
-      taken = omega (arith, final, took, within);
-      last = λ over. absurd (over refl);
-      more = λ _. omega (arith, final, took, within);
-      ends = ends;
-    }
-
--- ── slices ──
-
--- what an interpreter has under way is done as it finishes
-done_of_rest : (moment : ℕ) (rest : Rest Settling) (levels : List ℕ) (application : Application) → IsRunning rest
-    → done_as moment (work_of rest levels) application ≡ record { application = after_outcome (finish outside rest (state_in levels moment application)) application; work = Rests }
-done_of_rest moment rest levels application (doing, waits, is) =
-    let P : Rest Settling → Type 0 = λ r.
-    done_as moment (work_of r levels) application ≡ record { application = after_outcome (finish outside r (state_in levels moment application)) application; work = Rests } in
-    subst P (sym is) refl
-
--- what has become of it is the same from where it was left
-after_again : (outcome : Outcome Shown) (left : State Shown) (application : Application) → after_outcome outcome (with_left left application) ≡ after_outcome outcome application
-after_again (Ended state code text) left application = refl
-after_again (OutOfSteps state) left application = refl
 
 -- what goes on doesn't rest
 goes_work : (rest : Rest Settling) (levels : List ℕ) → IsRunning rest → work_of rest levels ≢ Rests
@@ -116,119 +36,6 @@ rest_goes Idle levels goes = absurd (goes refl)
 rest_goes (RestRunning doing waits) levels goes = (doing, waits, refl)
 rest_goes Spent levels goes = absurd (goes refl)
 rest_goes Broken levels goes = absurd (goes refl)
-
--- an application that runs, and what its interpreter has under way
-abbrev pub going : Application → Rest Settling → List ℕ → Part
-going application rest levels = record { application = application; work = work_by application.state (work_of rest levels) }
-
-going_runs : (application : Application) (rest : Rest Settling) (levels : List ℕ) → application.state ≡ Running
-    → going application rest levels ≡ record { application = application; work = work_of rest levels }
-going_runs application rest levels runs = ap (λ s. record { application = application; work = work_by s (work_of rest levels) }) runs
-
-pub done_going : (moment : ℕ) (application : Application) (rest : Rest Settling) (levels : List ℕ) → application.state ≡ Running → IsRunning rest
-    → stage_done moment (going application rest levels)
-    ≡ record { application = after_outcome (finish outside rest (state_in levels moment application)) application; work = Rests }
-unfolding stage_done
-done_going moment application rest levels runs running =
-    ap (λ (p : Part). done_as moment p.work p.application) (going_runs application rest levels runs) ∙ done_of_rest moment rest levels application running
-
-module _ (moment : ℕ) (application : Application) (rest : Rest Settling) (levels : List ℕ) (runs : application.state ≡ Running) (running : IsRunning rest) where
-  abbrev outcome : Outcome Shown
-  outcome = finish outside rest (state_in levels moment application)
-
-  -- it ended
-  pub all_done : (left : State Shown) (code : Code) (text : List ℕ) (rest' : Rest Settling) (levels' : List ℕ) → outcome ≡ Ended left code text → rest' ≡ Idle
-      → going (with_left left application) rest' levels' ≡ stage_done moment (going application rest levels)
-  all_done left code text rest' levels' ended idle =
-      going_runs (with_left left application) rest' levels' runs
-      ∙ ap (λ r. record { application = with_left left application; work = work_of r levels' }) idle
-      ∙ sym (done_going moment application rest levels runs running ∙ ap (λ o. record { application = after_outcome o application; work = Rests }) ended)
-
-  -- a step was needed, and none was left
-  pub all_spent : (left : State Shown) (rest' : Rest Settling) (levels' : List ℕ) → outcome ≡ OutOfSteps left → left.steps ≡ 0
-      → going (record (with_left left application) { state = Exhausted }) rest' levels' ≡ stage_done moment (going application rest levels)
-  all_spent left rest' levels' out none =
-      ap (λ n. record { application = record (with_left left application) { steps = n; state = Exhausted }; work = Rests }) none
-      ∙ sym (done_going moment application rest levels runs running ∙ ap (λ o. record { application = after_outcome o application; work = Rests }) out)
-
-  -- it goes on: the same is to be done
-  pub goes_on : (left : State Shown) (rest' : Rest Settling) → outcome ≡ finish outside rest' left → IsRunning rest' → left ≡ state_in left.context.levels moment (with_left left application)
-      → stage_done moment (going (with_left left application) rest' left.context.levels) ≡ stage_done moment (going application rest levels)
-  goes_on left rest' same running' stands =
-      done_going moment (with_left left application) rest' left.context.levels runs running'
-      ∙ ap (λ s. record { application = after_outcome (finish outside rest' s) (with_left left application); work = Rests }) (sym stands)
-      ∙ ap (λ a. record { application = a; work = Rests }) (after_again (finish outside rest' left) left application)
-      ∙ ap (λ o. record { application = after_outcome o application; work = Rests }) (sym same)
-      ∙ sym (done_going moment application rest levels runs running)
-
--- ── a runner ──
-
--- a runner, with another interpreter and other variables
-abbrev pub ran : Program → Interp Settling → Store → AppState → Program
-ran program interp store state =
-    record program {
-      store = store;
-      commands = (context_of interp).commands;
-      steps = left_of interp;
-      state = state;
-      work = work_by state (work_of (rest_of interp) (context_of interp).levels);
-    }
-
--- a slice of an interpreter, between what its application had in the tables and what it has then
-module _ (program : Program) (panel panel' : Shown) (interp interp' : Interp Settling) (store store' : Store) (state : AppState) (runs : state ≡ Running)
-    (setting : setting_of panel' ≡ setting_of panel) (running : IsRunning (rest_of interp)) where
-  abbrev before : Part
-  before = part_of panel (ran program interp store state)
-
-  abbrev after_as : AppState → Part
-  after_as state' = part_of panel' (ran program interp' store' state')
-
-  abbrev left : State Shown
-  left = state_of interp' panel' store'
-
-  abbrev outcome_of : Outcome Shown
-  outcome_of = finish outside (rest_of interp) (state_of interp panel store)
-
-  -- the size stays
-  left_as : (state' : AppState) → (after_as state').application ≡ record (with_left left before.application) { state = state' }
-  left_as state' = ap (λ (s : Size). application_of (record panel' { size = s }) (ran program interp' store' state')) (ap (λ s. s.1) setting)
-
-  going_as : (state' : AppState) → after_as state' ≡ going (record (with_left left before.application) { state = state' }) (rest_of interp') (context_of interp').levels
-  going_as state' = ap (λ a. record { application = a; work = work_by state' (work_of (rest_of interp') (context_of interp').levels) }) (left_as state')
-
-  stands : left ≡ state_in left.context.levels panel.moment (with_left left before.application)
-  stands = ap (λ (s : Setting). record left { shows = record panel' { moment = s.0; size = s.1 } }) setting
-
-  -- what is under way then
-  work_then : (after_as state).work ≡ work_of (rest_of interp') (context_of interp').levels
-  work_then = ap (λ s. work_by s (work_of (rest_of interp') (context_of interp').levels)) runs
-
-  pub turn_settles : (steps : ℕ) (code : Code) (text : List ℕ) → outcome_of ≡ Ended left code text → rest_of interp' ≡ Idle → left_of interp ≤ left_of interp' + steps
-      → TakesTurn panel.moment steps Settled before (after_as state)
-  turn_settles steps code text ended idle most =
-      turn_last panel.moment steps Settled before (after_as state)
-      (going_as state ∙ all_done panel.moment before.application (rest_of interp) (context_of interp).levels runs running left code text (rest_of interp') (context_of interp').levels ended idle)
-      most (λ e. cc) (runs, work_then ∙ ap (λ r. work_of r (context_of interp').levels) idle)
-
-  pub turn_stops : (steps : ℕ) → outcome_of ≡ OutOfSteps left → left_of interp' ≡ 0 → left_of interp ≤ left_of interp' + steps → TakesTurn panel.moment steps Stopped before (after_as Exhausted)
-  turn_stops steps out none most =
-      turn_last panel.moment steps Stopped before (after_as Exhausted)
-      (going_as Exhausted ∙ all_spent panel.moment before.application (rest_of interp) (context_of interp).levels runs running left (rest_of interp') (context_of interp').levels out none)
-      most (λ e. cc) ((λ e. cc), refl)
-
-  pub turn_goes_on : (steps : ℕ) → outcome_of ≡ finish outside (rest_of interp') left → IsRunning (rest_of interp') → left_of interp' + steps ≡ left_of interp
-      → TakesTurn panel.moment steps More before (after_as state)
-  turn_goes_on steps same running' took =
-      turn_more panel.moment steps before (after_as state)
-      (ap (stage_done panel.moment) (going_as state)
-      ∙ goes_on panel.moment before.application (rest_of interp) (context_of interp).levels runs running left (rest_of interp') same running' stands)
-      took (runs, λ rests. goes_work (rest_of interp') (context_of interp').levels running' (sym work_then ∙ rests))
-
--- what runs and doesn't rest has an interpreter that goes on
-pub going_rest : (program : Program) (state : AppState) (rest : Rest Settling) (levels : List ℕ) → state ≡ program.state → work_by state (work_of rest levels) ≡ program.work
-    → program.state ≡ Running → program.work ≢ Rests → IsRunning rest
-going_rest program state rest levels same work runs goes =
-    rest_goes rest levels (λ rests. goes (sym work ∙ ap (λ s. work_by s (work_of rest levels)) (same ∙ runs) ∙ rests))
 
 pub not_idle : (rest : Rest Settling) → IsRunning rest → rest ≢ Idle
 not_idle rest (doing, waits, is) idle = let gone : RestRunning doing waits ≡ Idle = sym is ∙ idle in cc
@@ -269,9 +76,208 @@ settling_stops Running moment work stopped = absurd (stopped refl)
 settling_stops Exhausted moment work stopped = refl
 settling_stops Closed moment work stopped = refl
 
--- its turn is none
-pub stopped_turn : (moment steps : ℕ) (part : Part) → part.application.state ≢ Running → part.work ≡ Rests → TakesTurn moment steps Stopped (settling_begun moment part) part
-stopped_turn moment steps part stopped rests =
-    let stays : part ≡ settling_begun moment part = ap (λ w. record part { work = w }) (sym (settling_stops part.application.state moment part.work stopped)) in
-    subst (λ (begun : Part). TakesTurn moment steps Stopped begun part) stays
-    (turn_last moment steps Stopped part part (sym (rests_stays moment part rests)) (omega arith) (λ e. cc) (stopped, rests))
+-- what runs and doesn't rest has an interpreter that goes on
+pub going_rest : {M : Type 0} (program : Program M) (state : AppState) (rest : Rest Settling) (levels : List ℕ) → state ≡ program.state → work_by state (work_of rest levels) ≡ program.work
+    → program.state ≡ Running → program.work ≢ Rests → IsRunning rest
+going_rest program state rest levels same work runs goes =
+    rest_goes rest levels (λ rests. goes (sym work ∙ ap (λ s. work_by s (work_of rest levels)) (same ∙ runs) ∙ rests))
+
+module _ {M : Type 0} (answer : M → Meaning) where
+  -- ── what is under way ──
+
+  -- nothing is under way once it is done
+  done_rests : (moment : ℕ) (part : Part M) → (stage_done answer moment part).work ≡ Rests
+  unfolding stage_done
+  done_rests moment part = by part.work
+    where
+      by : (work : Work) → (done_as answer moment work part.application).work ≡ Rests
+      by Rests = refl
+      by (Goes levels doing waits) = refl
+
+  -- and what rests stays
+  pub rests_stays : (moment : ℕ) (part : Part M) → part.work ≡ Rests → stage_done answer moment part ≡ part
+  unfolding stage_done
+  rests_stays moment part rests =
+      ap (λ w. done_as answer moment w part.application) rests ∙ ap (λ w. record { application = part.application; work = w }) (sym rests)
+
+  steps_of_outcome : (outcome : Outcome Seen) (application : Application M) → Within application.steps outcome → (after_outcome outcome application).steps ≤ application.steps
+  steps_of_outcome (Ended left code text) application within = within
+  steps_of_outcome (OutOfSteps left) application within = omega arith
+
+  -- steps only fall
+  pub done_within : (moment : ℕ) (part : Part M) → (stage_done answer moment part).application.steps ≤ part.application.steps
+  unfolding stage_done
+  done_within moment part = by part.work
+    where
+      by : (work : Work) → (done_as answer moment work part.application).application.steps ≤ part.application.steps
+      by Rests = omega arith
+      by (Goes levels doing waits) =
+          let state = state_in answer levels moment part.application in
+          steps_of_outcome (finish outside (RestRunning doing waits) state) part.application (within_finish outside part.application.steps (RestRunning doing waits) state (omega arith))
+
+  -- ── turns ──
+
+  -- a turn with which all is done
+  pub turn_last : (moment steps : ℕ) (end : AppEnd) (begun after : Part M) → after ≡ stage_done answer moment begun → begun.application.steps ≤ after.application.steps + steps
+      → end ≢ More → EndsAs end after → TakesTurn answer moment steps end begun after
+  turn_last moment steps end begun after all most over ends =
+      let rests : after.work ≡ Rests = ap (λ p. p.work) all ∙ done_rests moment begun in
+      let stays : stage_done answer moment after ≡ after = rests_stays moment after rests in
+      let none : (stage_done answer moment after).application.steps ≡ after.application.steps = ap (λ p. p.application.steps) stays in
+      let left : after.application.steps ≡ (stage_done answer moment begun).application.steps = ap (λ p. p.application.steps) all in
+      record {
+        same = stays ∙ all;
+        left = omega (arith, none, left, most);
+        taken = omega (arith, left, most);
+        last = λ _. all;
+        more = λ e. absurd (over e);
+        ends = ends;
+      }
+
+  -- a turn with more to do behind it
+  pub turn_more : (moment steps : ℕ) (begun after : Part M) → stage_done answer moment after ≡ stage_done answer moment begun → after.application.steps + steps ≡ begun.application.steps
+      → EndsAs More after → TakesTurn answer moment steps More begun after
+  turn_more moment steps begun after same took ends =
+      let final : (stage_done answer moment after).application.steps ≡ (stage_done answer moment begun).application.steps = ap (λ p. p.application.steps) same in
+      let within = done_within moment after in
+      record {
+        same = same;
+        left = omega (arith, final, took);
+        taken = omega (arith, final, took, within);
+        last = λ over. absurd (over refl);
+        more = λ _. omega (arith, final, took, within);
+        ends = ends;
+      }
+
+  -- ── slices ──
+
+  -- what an interpreter has under way is done as it finishes
+  done_of_rest : (moment : ℕ) (rest : Rest Settling) (levels : List ℕ) (application : Application M) → IsRunning rest
+      → done_as answer moment (work_of rest levels) application ≡ record { application = after_outcome (finish outside rest (state_in answer levels moment application)) application; work = Rests }
+  done_of_rest moment rest levels application (doing, waits, is) =
+      let P : Rest Settling → Type 0 = λ r.
+      done_as answer moment (work_of r levels) application ≡ record { application = after_outcome (finish outside r (state_in answer levels moment application)) application; work = Rests } in
+      subst P (sym is) refl
+
+  -- what has become of it is the same from where it was left
+  after_again : (outcome : Outcome Seen) (left : State Seen) (application : Application M) → after_outcome outcome (with_left left application) ≡ after_outcome outcome application
+  after_again (Ended state code text) left application = refl
+  after_again (OutOfSteps state) left application = refl
+
+  -- an application that runs, and what its interpreter has under way
+  abbrev pub going : Application M → Rest Settling → List ℕ → Part M
+  going application rest levels = record { application = application; work = work_by application.state (work_of rest levels) }
+
+  going_runs : (application : Application M) (rest : Rest Settling) (levels : List ℕ) → application.state ≡ Running
+      → going application rest levels ≡ record { application = application; work = work_of rest levels }
+  going_runs application rest levels runs = ap (λ s. record { application = application; work = work_by s (work_of rest levels) }) runs
+
+  pub done_going : (moment : ℕ) (application : Application M) (rest : Rest Settling) (levels : List ℕ) → application.state ≡ Running → IsRunning rest
+      → stage_done answer moment (going application rest levels)
+      ≡ record { application = after_outcome (finish outside rest (state_in answer levels moment application)) application; work = Rests }
+  unfolding stage_done
+  done_going moment application rest levels runs running =
+      ap (λ (p : Part M). done_as answer moment p.work p.application) (going_runs application rest levels runs) ∙ done_of_rest moment rest levels application running
+
+  module _ (moment : ℕ) (application : Application M) (rest : Rest Settling) (levels : List ℕ) (runs : application.state ≡ Running) (running : IsRunning rest) where
+    abbrev outcome : Outcome Seen
+    outcome = finish outside rest (state_in answer levels moment application)
+
+    -- it ended
+    pub all_done : (left : State Seen) (code : Code) (text : List ℕ) (rest' : Rest Settling) (levels' : List ℕ) → outcome ≡ Ended left code text → rest' ≡ Idle
+        → going (with_left left application) rest' levels' ≡ stage_done answer moment (going application rest levels)
+    all_done left code text rest' levels' ended idle =
+        going_runs (with_left left application) rest' levels' runs
+        ∙ ap (λ r. record { application = with_left left application; work = work_of r levels' }) idle
+        ∙ sym (done_going moment application rest levels runs running ∙ ap (λ o. record { application = after_outcome o application; work = Rests }) ended)
+
+    -- a step was needed, and none was left
+    pub all_spent : (left : State Seen) (rest' : Rest Settling) (levels' : List ℕ) → outcome ≡ OutOfSteps left → left.steps ≡ 0
+        → going (record (with_left left application) { state = Exhausted }) rest' levels' ≡ stage_done answer moment (going application rest levels)
+    all_spent left rest' levels' out none =
+        ap (λ n. record { application = record (with_left left application) { steps = n; state = Exhausted }; work = Rests }) none
+        ∙ sym (done_going moment application rest levels runs running ∙ ap (λ o. record { application = after_outcome o application; work = Rests }) out)
+
+    -- it goes on: the same is to be done
+    pub goes_on : (left : State Seen) (rest' : Rest Settling) → outcome ≡ finish outside rest' left → IsRunning rest' → left ≡ state_in answer left.context.levels moment (with_left left application)
+        → stage_done answer moment (going (with_left left application) rest' left.context.levels) ≡ stage_done answer moment (going application rest levels)
+    goes_on left rest' same running' stands =
+        done_going moment (with_left left application) rest' left.context.levels runs running'
+        ∙ ap (λ s. record { application = after_outcome (finish outside rest' s) (with_left left application); work = Rests }) (sym stands)
+        ∙ ap (λ a. record { application = a; work = Rests }) (after_again (finish outside rest' left) left application)
+        ∙ ap (λ o. record { application = after_outcome o application; work = Rests }) (sym same)
+        ∙ sym (done_going moment application rest levels runs running)
+
+  -- ── a runner ──
+
+  -- a runner, with another interpreter and other variables
+  abbrev pub ran : Program M → Interp Settling → Store → AppState → Program M
+  ran program interp store state =
+      record program {
+        store = store;
+        commands = (context_of interp).commands;
+        steps = left_of interp;
+        state = state;
+        work = work_by state (work_of (rest_of interp) (context_of interp).levels);
+      }
+
+  -- a slice of an interpreter, between what its application had in the tables and what it has then
+  module _ (program : Program M) (panel panel' : Shown) (interp interp' : Interp Settling) (store store' : Store) (state : AppState) (runs : state ≡ Running)
+      (setting : setting_of panel' ≡ setting_of panel) (running : IsRunning (rest_of interp)) where
+    abbrev before : Part M
+    before = part_of panel (ran program interp store state)
+
+    abbrev after_as : AppState → Part M
+    after_as state' = part_of panel' (ran program interp' store' state')
+
+    -- what its scripts see
+    abbrev seen : Shown → Seen
+    seen there = record { serves = meanings answer program.aliases; panel = there }
+
+    abbrev left : State Seen
+    left = state_of interp' (seen panel') store'
+
+    abbrev outcome_of : Outcome Seen
+    outcome_of = finish outside (rest_of interp) (state_of interp (seen panel) store)
+
+    -- the size stays
+    left_as : (state' : AppState) → (after_as state').application ≡ record (with_left left before.application) { state = state' }
+    left_as state' = ap (λ (s : Size). application_of (record panel' { size = s }) (ran program interp' store' state')) (ap (λ s. s.1) setting)
+
+    going_as : (state' : AppState) → after_as state' ≡ going (record (with_left left before.application) { state = state' }) (rest_of interp') (context_of interp').levels
+    going_as state' = ap (λ a. record { application = a; work = work_by state' (work_of (rest_of interp') (context_of interp').levels) }) (left_as state')
+
+    stands : left ≡ state_in answer left.context.levels panel.moment (with_left left before.application)
+    stands = ap (λ (s : Setting). record left { shows = seen (record panel' { moment = s.0; size = s.1 }) }) setting
+
+    -- what is under way then
+    work_then : (after_as state).work ≡ work_of (rest_of interp') (context_of interp').levels
+    work_then = ap (λ s. work_by s (work_of (rest_of interp') (context_of interp').levels)) runs
+
+    pub turn_settles : (steps : ℕ) (code : Code) (text : List ℕ) → outcome_of ≡ Ended left code text → rest_of interp' ≡ Idle → left_of interp ≤ left_of interp' + steps
+        → TakesTurn answer panel.moment steps Settled before (after_as state)
+    turn_settles steps code text ended idle most =
+        turn_last panel.moment steps Settled before (after_as state)
+        (going_as state ∙ all_done panel.moment before.application (rest_of interp) (context_of interp).levels runs running left code text (rest_of interp') (context_of interp').levels ended idle)
+        most (λ e. cc) (runs, work_then ∙ ap (λ r. work_of r (context_of interp').levels) idle)
+
+    pub turn_stops : (steps : ℕ) → outcome_of ≡ OutOfSteps left → left_of interp' ≡ 0 → left_of interp ≤ left_of interp' + steps → TakesTurn answer panel.moment steps Stopped before (after_as Exhausted)
+    turn_stops steps out none most =
+        turn_last panel.moment steps Stopped before (after_as Exhausted)
+        (going_as Exhausted ∙ all_spent panel.moment before.application (rest_of interp) (context_of interp).levels runs running left (rest_of interp') (context_of interp').levels out none)
+        most (λ e. cc) ((λ e. cc), refl)
+
+    pub turn_goes_on : (steps : ℕ) → outcome_of ≡ finish outside (rest_of interp') left → IsRunning (rest_of interp') → left_of interp' + steps ≡ left_of interp
+        → TakesTurn answer panel.moment steps More before (after_as state)
+    turn_goes_on steps same running' took =
+        turn_more panel.moment steps before (after_as state)
+        (ap (stage_done answer panel.moment) (going_as state)
+        ∙ goes_on panel.moment before.application (rest_of interp) (context_of interp).levels runs running left (rest_of interp') same running' stands)
+        took (runs, λ rests. goes_work (rest_of interp') (context_of interp').levels running' (sym work_then ∙ rests))
+
+  -- its turn is none
+  pub stopped_turn : (moment steps : ℕ) (part : Part M) → part.application.state ≢ Running → part.work ≡ Rests → TakesTurn answer moment steps Stopped (settling_begun moment part) part
+  stopped_turn moment steps part stopped rests =
+      let stays : part ≡ settling_begun moment part = ap (λ w. record part { work = w }) (sym (settling_stops part.application.state moment part.work stopped)) in
+      subst (λ (begun : Part M). TakesTurn answer moment steps Stopped begun part) stays
+      (turn_last moment steps Stopped part part (sym (rests_stays moment part rests)) (omega arith) (λ e. cc) (stopped, rests))

@@ -8,7 +8,7 @@ use Rattle.tk_app.specs.declared.tables.Tables.{Tables}
 use Rattle.tk_app.specs.Part.{Part}
 use Rattle.tk_app.specs.Shown.{Shown}
 use Rattle.tk_app.specs.Tables.{IsVacantFrom, others_of, panel_of}
-use Rattle.tk_app.specs.Turns.{Applications, ChangesOnly, Program, part_of, parts_from}
+use Rattle.tk_app.specs.Turns.{Applications, ChangesOnly, ChangesPart, Program, part_of, parts_from}
 use Rattle.tk_app.proofs.Others.{other_same}
 use Rattle.tk_app.proofs.Slots.{get_parts, length-parts_from, set_parts}
 
@@ -16,20 +16,25 @@ use Rattle.tk_app.proofs.Slots.{get_parts, length-parts_from, set_parts}
 pub none_told : (turns : List Turn) (slot steps : ℕ) → turns ≡ turns ++ entry slot (steps - steps)
 none_told turns slot steps = let none : steps - steps ≡ 0 = omega arith in sym (ap (λ n. turns ++ entry slot n) none ∙ append-nil turns)
 
-there : (parts : List Part) (slot : ℕ) → slot < length parts → (part : Part) × (slice_get parts slot ≡ Some part) × (slice_set parts slot part ≡ parts)
+there : {M : Type 0} (parts : List (Part M)) (slot : ℕ) → slot < length parts → (part : Part M) × (slice_get parts slot ≡ Some part) × (slice_set parts slot part ≡ parts)
 there [] slot lt = absurd (omega (arith, lt))
 there (part ∷ parts) zero lt = (part, refl, refl)
 there (part ∷ parts) (suc slot) lt = let rest = there parts slot (omega (arith, lt)) in (rest.0, rest.1, ap (λ ps. part ∷ ps) rest.2)
 
 -- a call that changes nothing
-pub only_same : (slot : ℕ) (held : Applications) → slot < length held.parts → ChangesOnly slot held held
+pub only_same : {M : Type 0} (slot : ℕ) (held : Applications M) → slot < length held.parts → ChangesOnly slot held held
 only_same slot held lt =
     let here = there held.parts slot lt in
     record { before = here.0; after = here.0; was = here.1; changed = sym here.2; told = none_told held.turns slot here.0.application.steps; moment = refl }
 
-module _ (slot : ℕ) (old new : Tables) (programs : List Program) (before after : Program) (few : length programs ≤ 16) (lt : slot < length programs) (at : before ≡ get_or programs slot before)
+pub part_same : {M : Type 0} (slot : ℕ) (held : Applications M) → slot < length held.parts → ChangesPart slot held held
+part_same slot held lt =
+    let here = there held.parts slot lt in
+    record { before = here.0; after = here.0; was = here.1; changed = sym here.2; turns = refl; moment = refl }
+
+module _ {M : Type 0} (slot : ℕ) (old new : Tables) (programs : List (Program M)) (before after : Program M) (few : length programs ≤ 16) (lt : slot < length programs) (at : before ≡ get_or programs slot before)
     (others : others_of slot new ≡ others_of slot old) where
-  abbrev part : Tables → Program → Part
+  abbrev part : Tables → Program M → Part M
   part tables program = part_of (panel_of slot tables) program
 
   -- the part in the slot is another, and the others are the same
@@ -41,7 +46,7 @@ module _ (slot : ℕ) (old new : Tables) (programs : List Program) (before after
 
 -- ── what all applications keep ──
 
-pub held_kept : (slot : ℕ) (old new : Tables) (programs : List Program) (after : Program) → length programs ≤ 16 → length old.windows ≡ length programs → IsVacantFrom (length programs) old → slot < length programs
+pub held_kept : {M : Type 0} (slot : ℕ) (old new : Tables) (programs : List (Program M)) (after : Program M) → length programs ≤ 16 → length old.windows ≡ length programs → IsVacantFrom (length programs) old → slot < length programs
     → length new.windows ≡ length old.windows → others_of slot new ≡ others_of slot old
     → (length (set programs slot after) ≤ 16) × (length new.windows ≡ length (set programs slot after)) × IsVacantFrom (length (set programs slot after)) new
 held_kept slot old new programs after few seats vacant lt count others =
@@ -55,7 +60,7 @@ held_kept slot old new programs after few seats vacant lt count others =
     )
 
 -- the slot is held as before
-pub slot_held : (slot : ℕ) (old new : Tables) (programs : List Program) (after : Program) (parts : List Part) → parts_from 0 old programs ≡ parts → slot < length parts → slot < length (parts_from 0 new (set programs slot after))
+pub slot_held : {M : Type 0} (slot : ℕ) (old new : Tables) (programs : List (Program M)) (after : Program M) (parts : List (Part M)) → parts_from 0 old programs ≡ parts → slot < length parts → slot < length (parts_from 0 new (set programs slot after))
 slot_held slot old new programs after parts is lt =
     omega (arith, lt, ap (λ ps. length ps) is, length-parts_from 0 old programs, length-parts_from 0 new (set programs slot after), length-set programs slot after)
 

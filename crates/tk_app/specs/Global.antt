@@ -10,6 +10,7 @@ use Rattle.tcl_interp.specs.Finish.{at_global}
 use Rattle.tcl_interp.specs.Plans.{run_at}
 use Rattle.tk_app.specs.Outside.{outside}
 use Rattle.tk_app.specs.declared.transcript.Stream.TheVariants.{Err}
+use Rattle.tk_app.specs.Seen.{Seen, with_panel}
 use Rattle.tk_app.specs.Shown.{Shown, with_line}
 
 -- the global level alone, with these commands
@@ -18,13 +19,17 @@ global_with commands = record { levels = 0 ∷ []; commands = commands }
 
 -- What it comes to where the first of the levels is alone, with room for 200 scripts one in another. There is no loop around it, and a return has
 -- become its -code.
-abbrev pub script_at_global : List ℕ → State Shown → Outcome Shown
+abbrev pub script_at_global : List ℕ → State Seen → Outcome Seen
 script_at_global script state = and_then (run_at (script_meaning outside 200) 1 script state) (λ left code text. at_global left (out_of_global code) text)
+
+-- a state in which something of the panel has changed
+abbrev pub in_panel : (Shown → Shown) → State Seen → State Seen
+in_panel change state = record state { shows = with_panel (change state.shows.panel) state.shows }
 
 -- what is told when it has ended: an error
 abbrev pub reported : Code → List ℕ → Shown → Shown
 reported Error text shown = with_line Err text shown
 reported code text shown = shown
 
-abbrev pub with_report : Code → List ℕ → State Shown → State Shown
-with_report code text state = record state { shows = reported code text state.shows }
+abbrev pub with_report : Code → List ℕ → State Seen → State Seen
+with_report code text state = in_panel (reported code text) state

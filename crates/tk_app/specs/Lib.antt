@@ -4,6 +4,7 @@ pub mod Global
 pub mod Outside
 pub mod Part
 pub mod Section
+pub mod Seen
 pub mod Settle
 pub mod Shown
 pub mod Smaller

@@ -1,5 +1,5 @@
 -- The commands that an application serves itself, and how what is due at a moment is done one act after another.
-use Rattle.std.specs.Prelude.{ℕ, Bool, true, false, List, [], ◌∷◌, ◌++◌, Option, Some, None, is_some, Result, Ok, Err, if◌then◌else◌, codes, bytes_eq, nat_le}
+use Rattle.std.specs.Prelude.{ℕ, Bool, true, false, List, [], ◌∷◌, ◌++◌, Option, Some, None, is_some, option_map, Result, Ok, Err, if◌then◌else◌, codes, bytes_eq, nat_le}
 use Rattle.std.specs.Fmt.{decimal}
 use Rattle.std.specs.Option.{option_map_or}
 use Rattle.tcl_text.specs.Answers.{Answer}
@@ -16,6 +16,7 @@ use Rattle.tk_after.specs.After.{after_words}
 use Rattle.tk_app.specs.declared.settling.Settling.{Settling}
 use Rattle.tk_app.specs.declared.settling.Settling.TheVariants.{Script, Rest, Timer, Idle}
 use Rattle.tk_app.specs.declared.transcript.Stream.TheVariants.{Out, Err as Errors}
+use Rattle.tk_app.specs.Seen.{Meaning, Seen, served_by, with_panel}
 use Rattle.tk_app.specs.Shown.{Shown, laid, taken, with_line}
 
 abbrev pub bad_option : List ℕ → List ℕ
@@ -133,10 +134,29 @@ size_of (Rest moment ids) = 0
 size_of (Timer moment) = 1
 size_of (Idle moment id ids) = 1
 
+-- ── with the aliases of an application ──
+
+-- what is answered of a panel changes nothing else
+abbrev pub of_panel : Seen → Told Shown Settling → Told Seen Settling
+of_panel seen answered = record { shows = with_panel answered.shows seen; store = answered.store; act = answered.act }
+
+-- what the alias of a command's name answers, where there is one
+abbrev pub alias_act : List (List ℕ × Meaning) → List (List ℕ) → Option (Act Settling)
+alias_act serves [] = None
+alias_act serves (name ∷ arguments) = option_map (λ meaning. act_of (meaning arguments)) (served_by name serves)
+
+-- a command: an alias goes before the others, and changes nothing
+abbrev pub called_as : Option (Act Settling) → List (List ℕ) → Seen → Store → Told Seen Settling
+called_as (Some act) words seen store = record { shows = seen; store = store; act = act }
+called_as None words seen store = of_panel seen (told_by words seen.panel store)
+
+abbrev pub called : List (List ℕ) → Seen → Store → Told Seen Settling
+called words seen store = called_as (alias_act seen.serves words) words seen store
+
 -- What the commands and the tasks do. No command begins a task.
-abbrev pub outside : Outside Shown Settling
+abbrev pub outside : Outside Seen Settling
 outside = record {
-  calls = λ shown store words. told_by words shown store;
-  resumes = λ shown store task code text. resumed_told task code text shown store;
+  calls = λ seen store words. called words seen store;
+  resumes = λ seen store task code text. of_panel seen (resumed_told task code text seen.panel store);
   size = λ task. size_of task;
 }

@@ -1,15 +1,20 @@
 -- A part: an application, with what its interpreter still has to do.
-use Rattle.std.specs.Prelude.{◌≡◌, ℕ, ◌-◌, Bool, true, false, List, [], ◌∷◌}
+use Rattle.std.specs.Prelude.{◌≡◌, ℕ, ◌+◌, ◌-◌, min, Bool, true, false, List, [], ◌∷◌}
 use Rattle.tcl_control.specs.declared.code.Code.{Code}
 use Rattle.tcl_control.specs.declared.code.Code.TheVariants.{Normal}
 use Rattle.tcl_interp.specs.Evaluation.{State, Outcome, Ended, OutOfSteps}
 use Rattle.tcl_interp.specs.Finish.{Doing, Resumes, Waiting, Rest, Running as RestRunning, Idle, Spent, Broken, finish}
+use Rattle.tk_input.specs.declared.event.LocalEvent.{LocalEvent}
+use Rattle.tk_input.specs.declared.event.LocalKind.{LocalKind}
+use Rattle.tk_input.specs.declared.event.LocalKind.TheVariants.{Size as Resized}
+use Rattle.tk_app.specs.declared.budget.Budget.{Budget}
 use Rattle.tk_app.specs.declared.settling.Settling.{Settling}
 use Rattle.tk_app.specs.declared.settling.Settling.TheVariants as settling
 use Rattle.tk_app.specs.declared.state.AppState.{AppState}
 use Rattle.tk_app.specs.declared.state.AppState.TheVariants.{Running, Exhausted, Closed}
 use Rattle.tk_app.specs.Application.{Application, fresh}
 use Rattle.tk_app.specs.Outside.{outside}
+use Rattle.tk_app.specs.Seen.{Meaning, Seen, meanings}
 use Rattle.tk_app.specs.Settle.{settle_meaning, start_meaning}
 use Rattle.tk_app.specs.Shown.{Shown}
 use Rattle.tk_app.specs.Spec.{Spec}
@@ -19,65 +24,13 @@ pub data Work : Type 0 where
   Rests : Work
   Goes : List ℕ → Doing Settling → List (Waiting Settling) → Work
 
-pub record Part : Type 0 where
-  pub application : Application
+pub record Part (M : Type 0) : Type 0 where
+  pub application : Application M
   pub work : Work
-
--- ── an application at a moment ──
-
--- what its scripts find
-abbrev pub shown_at : ℕ → Application → Shown
-shown_at moment application =
-    record { moment = moment; size = record { width = application.width; height = application.height }; transcript = application.transcript; window = application.window; own = application.own }
-
--- the state that its scripts act on, at some levels
-abbrev pub state_in : List ℕ → ℕ → Application → State Shown
-state_in levels moment application =
-    record { shows = shown_at moment application; store = application.store; context = record { levels = levels; commands = application.commands }; steps = application.steps }
-
--- and at the global level alone
-abbrev pub state_at : ℕ → Application → State Shown
-state_at moment application = state_in (0 ∷ []) moment application
-
--- the application that a state belongs to
-abbrev pub with_left : State Shown → Application → Application
-with_left left application =
-    record application {
-      store = left.store;
-      commands = left.context.commands;
-      transcript = left.shows.transcript;
-      window = left.shows.window;
-      own = left.shows.own;
-      steps = left.steps;
-    }
-
--- what has become of it: where a step was needed and none was left, it is exhausted
-abbrev pub after_outcome : Outcome Shown → Application → Application
-after_outcome (Ended left code text) application = with_left left application
-after_outcome (OutOfSteps left) application = record (with_left left application) { steps = 0; state = Exhausted }
-
--- its script has run at a moment, an error of it is told, and what was to be done then is done
-unfoldable pub started : ℕ → List ℕ → Application → Application
-started moment script application = after_outcome (start_meaning script (state_at moment application)) application
-
--- What is to be done at a moment has been done. An application that is exhausted or closed does nothing more.
-abbrev pub settled_as : AppState → ℕ → Application → Application
-settled_as Running moment application = after_outcome (settle_meaning moment (state_at moment application)) application
-settled_as Exhausted moment application = application
-settled_as Closed moment application = application
-
-unfoldable pub settled : ℕ → Application → Application
-settled moment application = settled_as application.state moment application
-
--- ── what is under way ──
 
 -- a task alone, at global level
 abbrev pub task_begins : Settling → Work
 task_begins task = Goes (0 ∷ []) (Resumes 200 task Normal []) []
-
--- an application before its script, with the script as what is to be done
-abbrev pub added : Spec → Part
-added spec = record { application = fresh spec; work = task_begins (settling.Script spec.script) }
 
 -- settling begins at a moment, where nothing is under way and the application runs
 abbrev pub settling_as : AppState → ℕ → Work → Work
@@ -86,28 +39,10 @@ settling_as Running moment (Goes levels doing waits) = Goes levels doing waits
 settling_as Exhausted moment work = work
 settling_as Closed moment work = work
 
-abbrev pub settling_begun : ℕ → Part → Part
-settling_begun moment part = record part { work = settling_as part.application.state moment part.work }
-
--- what is under way has been done, at a moment
-abbrev pub done_as : ℕ → Work → Application → Part
-done_as moment Rests application = record { application = application; work = Rests }
-done_as moment (Goes levels doing waits) application =
-    record { application = after_outcome (finish outside (RestRunning doing waits) (state_in levels moment application)) application; work = Rests }
-
-unfoldable pub stage_done : ℕ → Part → Part
-stage_done moment part = done_as moment part.work part.application
-
--- how many steps that takes
-abbrev pub needs : ℕ → Part → ℕ
-needs moment part = part.application.steps - (stage_done moment part).application.steps
-
 -- whether something is under way
 abbrev pub is_under_way : Work → Bool
 is_under_way Rests = false
 is_under_way (Goes levels doing waits) = true
-
--- ── of an interpreter ──
 
 -- what is under way in an interpreter, at these levels
 abbrev pub work_of : Rest Settling → List ℕ → Work
@@ -116,13 +51,111 @@ work_of (RestRunning doing waits) levels = Goes levels doing waits
 work_of Spent levels = Rests
 work_of Broken levels = Rests
 
--- ── laws ──
+-- how many steps are left once an event has granted some: as many as there were at first, at most
+abbrev pub granted : Budget → ℕ → ℕ
+granted budget steps = min (steps + budget.refill) budget.total
 
--- what settles from rest is settled
-abbrev pub SettlesFromRest : Type 0
-SettlesFromRest = (moment : ℕ) (application : Application)
-    → stage_done moment (settling_begun moment (record { application = application; work = Rests })) ≡ record { application = settled moment application; work = Rests }
+module _ {M : Type 0} where
+  -- an application before its script, with the script as what is to be done
+  abbrev pub added : Spec M → Part M
+  added spec = record { application = fresh spec; work = task_begins (settling.Script spec.script) }
 
--- an application begins with its script, and then settles
-abbrev pub BeginsWithScript : Type 0
-BeginsWithScript = (moment : ℕ) (spec : Spec) → stage_done moment (added spec) ≡ record { application = started moment spec.script (fresh spec); work = Rests }
+  abbrev pub settling_begun : ℕ → Part M → Part M
+  settling_begun moment part = record part { work = settling_as part.application.state moment part.work }
+
+  -- the application that a state belongs to
+  abbrev pub with_left : State Seen → Application M → Application M
+  with_left left application =
+      record application {
+        store = left.store;
+        commands = left.context.commands;
+        transcript = left.shows.panel.transcript;
+        window = left.shows.panel.window;
+        own = left.shows.panel.own;
+        steps = left.steps;
+      }
+
+  -- what has become of it: where a step was needed and none was left, it is exhausted
+  abbrev pub after_outcome : Outcome Seen → Application M → Application M
+  after_outcome (Ended left code text) application = with_left left application
+  after_outcome (OutOfSteps left) application = record (with_left left application) { steps = 0; state = Exhausted }
+
+  -- ── an event ──
+
+  -- what an event is to an application
+  abbrev pub with_event : LocalKind → Application M → Application M
+  with_event (Resized width height) application = record application { width = width; height = height }
+  with_event kind application = application
+
+  abbrev pub delivered_as : AppState → LocalEvent → Application M → Application M
+  delivered_as Running event application = with_event event.kind (record application { steps = granted application.budget application.steps })
+  delivered_as Exhausted event application = application
+  delivered_as Closed event application = application
+
+  -- An application that an event was given to, before it does what comes of it: first it is granted steps. One that doesn't run gets nothing.
+  unfoldable pub delivered : LocalEvent → Application M → Application M
+  delivered event application = delivered_as application.state event application
+
+module _ {M : Type 0} (answer : M → Meaning) where
+  -- ── an application at a moment ──
+
+  -- what its scripts find
+  abbrev pub seen_at : ℕ → Application M → Seen
+  seen_at moment application = record {
+    serves = meanings answer application.aliases;
+    panel = record {
+      moment = moment;
+      size = record { width = application.width; height = application.height };
+      transcript = application.transcript;
+      window = application.window;
+      own = application.own;
+    };
+  }
+
+  -- the state that its scripts act on, at some levels
+  abbrev pub state_in : List ℕ → ℕ → Application M → State Seen
+  state_in levels moment application =
+      record { shows = seen_at moment application; store = application.store; context = record { levels = levels; commands = application.commands }; steps = application.steps }
+
+  -- and at the global level alone
+  abbrev pub state_at : ℕ → Application M → State Seen
+  state_at moment application = state_in (0 ∷ []) moment application
+
+  -- its script has run at a moment, an error of it is told, and what was to be done then is done
+  unfoldable pub started : ℕ → List ℕ → Application M → Application M
+  started moment script application = after_outcome (start_meaning script (state_at moment application)) application
+
+  -- What is to be done at a moment has been done. An application that is exhausted or closed does nothing more.
+  abbrev pub settled_as : AppState → ℕ → Application M → Application M
+  settled_as Running moment application = after_outcome (settle_meaning moment (state_at moment application)) application
+  settled_as Exhausted moment application = application
+  settled_as Closed moment application = application
+
+  unfoldable pub settled : ℕ → Application M → Application M
+  settled moment application = settled_as application.state moment application
+
+  -- ── what is under way ──
+
+  -- what is under way has been done, at a moment
+  abbrev pub done_as : ℕ → Work → Application M → Part M
+  done_as moment Rests application = record { application = application; work = Rests }
+  done_as moment (Goes levels doing waits) application =
+      record { application = after_outcome (finish outside (RestRunning doing waits) (state_in levels moment application)) application; work = Rests }
+
+  unfoldable pub stage_done : ℕ → Part M → Part M
+  stage_done moment part = done_as moment part.work part.application
+
+  -- how many steps that takes
+  abbrev pub needs : ℕ → Part M → ℕ
+  needs moment part = part.application.steps - (stage_done moment part).application.steps
+
+  -- ── laws ──
+
+  -- what settles from rest is settled
+  abbrev pub SettlesFromRest : Type 0
+  SettlesFromRest = (moment : ℕ) (application : Application M)
+      → stage_done moment (settling_begun moment (record { application = application; work = Rests })) ≡ record { application = settled moment application; work = Rests }
+
+  -- an application begins with its script, and then settles
+  abbrev pub BeginsWithScript : Type 0
+  BeginsWithScript = (moment : ℕ) (spec : Spec M) → stage_done moment (added spec) ≡ record { application = started moment spec.script (fresh spec); work = Rests }

@@ -60,7 +60,7 @@ abbrev pub entry_line : Entry → List ℕ
 entry_line entry = kind_fields entry.due entry.id ++ codes " " ++ escaped entry.script ++ codes "\n"
 
 -- what an application wrote, its windows, and what it has waiting in the order of the numbers
-unfoldable pub section : Application → List ℕ
+unfoldable pub section : {M : Type 0} → Application M → List ℕ
 section application =
     head_line application.name application.state application.steps ++ flat_map transcript_line application.transcript ++ codes "tree\n"
     ++ window_line application.window ++ codes "timers\n" ++ flat_map entry_line application.own.entries ++ codes "done\n"

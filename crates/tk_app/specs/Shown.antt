@@ -1,6 +1,8 @@
 -- What the commands of a script, and the settling of a moment, see of their application beside its variables.
 use Rattle.std.specs.Prelude.{ℕ, true, false, List, [], ◌∷◌, ◌++◌}
 use Rattle.tk_after.specs.Timers.{Own, without}
+use Rattle.tk_input.specs.declared.event.LocalKind.{LocalKind}
+use Rattle.tk_input.specs.declared.event.LocalKind.TheVariants.{Size as Resized}
 use Rattle.tk_app.specs.declared.transcript.Stream.{Stream}
 use Rattle.tk_app.specs.declared.transcript.Line.{Line}
 use Rattle.tk_app.specs.declared.window.Size.{Size}
@@ -35,6 +37,11 @@ filled size = record { place = record { x = 0; y = 0; width = size.width; height
 
 abbrev pub laid : Shown → Shown
 laid shown = record shown { window = filled shown.size }
+
+-- what an event makes of it
+abbrev pub event_taken : LocalKind → Shown → Shown
+event_taken (Resized width height) shown = record shown { size = record { width = width; height = height } }
+event_taken kind shown = shown
 
 -- a timer or an idle script has left the table
 abbrev pub taken : ℕ → Shown → Shown

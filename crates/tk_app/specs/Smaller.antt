@@ -38,7 +38,7 @@ started_below moment id ids (Some entry) shown store = omega arith
 started_below moment id ids None shown store = rest_below 1 moment ids (taken id shown) store
 
 pub settling_falls : Falls outside
-settling_falls shown store (Script script) code text = omega arith
-settling_falls shown store (Rest moment ids) code text = rest_below 0 moment ids (with_end code text shown) store
-settling_falls shown store (Timer moment) code text = timer_below moment (first_due moment shown.own.entries) shown store
-settling_falls shown store (Idle moment id ids) code text = started_below moment id ids (entry_with id shown.own.entries) shown store
+settling_falls seen store (Script script) code text = omega arith
+settling_falls seen store (Rest moment ids) code text = rest_below 0 moment ids (with_end code text seen.panel) store
+settling_falls seen store (Timer moment) code text = timer_below moment (first_due moment seen.panel.own.entries) seen.panel store
+settling_falls seen store (Idle moment id ids) code text = started_below moment id ids (entry_with id seen.panel.own.entries) seen.panel store

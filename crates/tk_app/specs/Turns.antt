@@ -10,6 +10,8 @@ use Rattle.tk_app.specs.declared.budget.Budget.{Budget}
 use Rattle.tk_app.specs.declared.runner.Progress.{Progress}
 use Rattle.tk_app.specs.declared.runner.Progress.TheVariants.{Resting, Going, Lost}
 use Rattle.tk_app.specs.declared.settling.Settling.{Settling}
+use Rattle.tk_app.specs.declared.settling.Settling.TheVariants.{Script}
+use Rattle.tk_input.specs.declared.event.LocalEvent.{LocalEvent}
 use Rattle.tk_app.specs.declared.state.AppState.{AppState}
 use Rattle.tk_app.specs.declared.state.AppState.TheVariants.{Running, Exhausted, Closed}
 use Rattle.tk_app.specs.declared.tables.Tables.{Tables}
@@ -18,23 +20,25 @@ use Rattle.tk_app.specs.declared.state.AppEnd.TheVariants.{Settled, More, Stoppe
 use Rattle.tk_turns.specs.declared.turn.Turn.{Turn}
 use Rattle.tk_turns.specs.Rounds.{entry}
 use Rattle.tk_app.specs.Application.{Application}
-use Rattle.tk_app.specs.Part.{Part, Work, Rests, needs, settling_begun, stage_done}
+use Rattle.tk_app.specs.Part.{Part, Work, Goes, Rests, delivered, needs, settling_begun, stage_done, task_begins}
+use Rattle.tk_app.specs.Seen.{Meaning}
 use Rattle.tk_app.specs.Shown.{Shown}
 use Rattle.tk_app.specs.Tables.{panel_of}
 
 -- the moment, the part in each slot, the turns that were taken, and whether memory was refused while one was taken
-pub record Applications : Type 0 where
+pub record Applications (M : Type 0) : Type 0 where
   pub moment : ℕ
-  pub parts : List Part
+  pub parts : List (Part M)
   pub turns : List Turn
   pub refused : Bool
 
 -- ── parts of the tables ──
 
 -- what of an application doesn't stand in the tables
-pub record Program : Type 0 where
+pub record Program (M : Type 0) : Type 0 where
   pub name : List ℕ
   pub title : List ℕ
+  pub aliases : List (List ℕ × M)
   pub budget : Budget
   pub store : Store
   pub commands : Table
@@ -48,11 +52,12 @@ work_by Running work = work
 work_by Exhausted work = Rests
 work_by Closed work = Rests
 
-abbrev pub application_of : Shown → Program → Application
+abbrev pub application_of : {M : Type 0} → Shown → Program M → Application M
 application_of shown program = record {
   name = program.name;
   width = shown.size.width;
   height = shown.size.height;
+  aliases = program.aliases;
   store = program.store;
   commands = program.commands;
   transcript = shown.transcript;
@@ -64,56 +69,81 @@ application_of shown program = record {
   state = program.state;
 }
 
-abbrev pub part_of : Shown → Program → Part
+abbrev pub part_of : {M : Type 0} → Shown → Program M → Part M
 part_of shown program = record { application = application_of shown program; work = program.work }
 
 -- the parts from a slot on
-unfoldable pub parts_from : ℕ → Tables → List Program → List Part
+unfoldable pub parts_from : {M : Type 0} → ℕ → Tables → List (Program M) → List (Part M)
 parts_from slot tables [] = []
 parts_from slot tables (program ∷ programs) = part_of (panel_of slot tables) program ∷ parts_from (slot + 1) tables programs
 
 -- ── turns ──
 
 -- whether something is left to do, or the application has stopped
-abbrev pub EndsAs : AppEnd → Part → Type 0
+abbrev pub EndsAs : {M : Type 0} → AppEnd → Part M → Type 0
 EndsAs Settled part = (part.application.state ≡ Running) × (part.work ≡ Rests)
 EndsAs More part = (part.application.state ≡ Running) × (part.work ≢ Rests)
 EndsAs Stopped part = (part.application.state ≢ Running) × (part.work ≡ Rests)
 
 -- A turn of at most so many steps, at a moment, of a part in which settling has begun. After it the same is to be done as before it, less by the
 -- steps; with nothing more to do, all of it is done.
-pub record TakesTurn (moment steps : ℕ) (end : AppEnd) (begun after : Part) : Type 0 where
-  pub same : stage_done moment after ≡ stage_done moment begun
-  pub left : needs moment after ≡ needs moment begun - steps
-  pub taken : begun.application.steps - after.application.steps ≡ min steps (needs moment begun)
-  pub last : end ≢ More → after ≡ stage_done moment begun
-  pub more : end ≡ More → steps ≤ needs moment begun
+pub record TakesTurn {M : Type 0} (answer : M → Meaning) (moment steps : ℕ) (end : AppEnd) (begun after : Part M) : Type 0 where
+  pub same : stage_done answer moment after ≡ stage_done answer moment begun
+  pub left : needs answer moment after ≡ needs answer moment begun - steps
+  pub taken : begun.application.steps - after.application.steps ≡ min steps (needs answer moment begun)
+  pub last : end ≢ More → after ≡ stage_done answer moment begun
+  pub more : end ≡ More → steps ≤ needs answer moment begun
   pub ends : EndsAs end after
 
 -- Whatever comes of it, only the part in one slot has changed, and the steps that it took are told.
-pub record ChangesOnly (slot : ℕ) (old new : Applications) : Type 0 where
-  pub before : Part
-  pub after : Part
+pub record ChangesOnly {M : Type 0} (slot : ℕ) (old new : Applications M) : Type 0 where
+  pub before : Part M
+  pub after : Part M
   pub was : slice_get old.parts slot ≡ Some before
   pub changed : new.parts ≡ slice_set old.parts slot after
   pub told : new.turns ≡ old.turns ++ entry slot (before.application.steps - after.application.steps)
   pub moment : new.moment ≡ old.moment
 
 -- a turn of the part in a slot
-pub record SettlesSlot (steps slot : ℕ) (end : AppEnd) (old new : Applications) : Type 0 where
-  pub before : Part
-  pub after : Part
+pub record SettlesSlot {M : Type 0} (answer : M → Meaning) (steps slot : ℕ) (end : AppEnd) (old new : Applications M) : Type 0 where
+  pub before : Part M
+  pub after : Part M
   pub was : slice_get old.parts slot ≡ Some before
   pub changed : new.parts ≡ slice_set old.parts slot after
-  pub turn : TakesTurn old.moment steps end (settling_begun old.moment before) after
-  pub told : new.turns ≡ old.turns ++ entry slot (min steps (needs old.moment (settling_begun old.moment before)))
+  pub turn : TakesTurn answer old.moment steps end (settling_begun old.moment before) after
+  pub told : new.turns ≡ old.turns ++ entry slot (min steps (needs answer old.moment (settling_begun old.moment before)))
   pub moment : new.moment ≡ old.moment
 
 -- settling begins in the part in a slot, where nothing is under way in it
-pub record BeginsIn (slot : ℕ) (old new : Applications) : Type 0 where
-  pub before : Part
+pub record BeginsIn {M : Type 0} (slot : ℕ) (old new : Applications M) : Type 0 where
+  pub before : Part M
   pub was : slice_get old.parts slot ≡ Some before
   pub changed : new ≡ record old { parts = slice_set old.parts slot (settling_begun old.moment before) }
+
+-- ── events ──
+
+-- Nothing is under way in a part, or it is still to begin its script, with all of its steps.
+abbrev pub MayGet : {M : Type 0} → Part M → Type 0
+MayGet part = (part.work ≡ Rests) ⊎ ((script : List ℕ) × (part.work ≡ task_begins (Script script)) × (part.application.steps ≡ part.application.budget.total))
+
+-- the part in a slot may get an event
+abbrev pub MayGetIn : {M : Type 0} → ℕ → List (Part M) → Type 0
+MayGetIn {M} slot parts = (part : Part M) → slice_get parts slot ≡ Some part → MayGet part
+
+-- whatever comes of it, only the part in one slot has changed, and no turn is told
+pub record ChangesPart {M : Type 0} (slot : ℕ) (old new : Applications M) : Type 0 where
+  pub before : Part M
+  pub after : Part M
+  pub was : slice_get old.parts slot ≡ Some before
+  pub changed : new.parts ≡ slice_set old.parts slot after
+  pub turns : new.turns ≡ old.turns
+  pub moment : new.moment ≡ old.moment
+
+-- an event was given to the part in a slot
+pub record DeliversIn {M : Type 0} (slot : ℕ) (event : LocalEvent) (old new : Applications M) : Type 0 where
+  pub before : Part M
+  pub was : slice_get old.parts slot ≡ Some before
+  pub changed : new ≡ record old { parts = slice_set old.parts slot (record before { application = delivered event before.application }) }
 
 -- ── slices ──
 
@@ -125,7 +155,10 @@ end_of slice.Exhausted = Stopped
 
 -- ── how far a runner has come ──
 
-abbrev pub ProgressIs : Progress → Rest Settling → Type 0
-ProgressIs Resting rest = (rest ≡ Idle) ⊎ (rest ≡ Spent)
-ProgressIs Going rest = IsRunning rest
-ProgressIs Lost rest = rest ≡ Broken
+-- While it runs and rests, its steps aren't spent.
+abbrev pub IsAsFar : Progress → AppState → Rest Settling → Type 0
+IsAsFar Resting Running rest = rest ≡ Idle
+IsAsFar Resting Exhausted rest = (rest ≡ Idle) ⊎ (rest ≡ Spent)
+IsAsFar Resting Closed rest = (rest ≡ Idle) ⊎ (rest ≡ Spent)
+IsAsFar Going state rest = IsRunning rest
+IsAsFar Lost state rest = rest ≡ Broken

@@ -14,6 +14,7 @@ use itoa::Buffer;
 use memchr::memchr3;
 use std::alloc::{AllocError, Global};
 use tk_after::{Entry, Timers};
+use tk_alias::AliasMeaning;
 
 /// Adds a number in decimal.
 fn push_number(out: &mut Vec<u8>, number: u64) -> Result<(), AllocError>
@@ -163,11 +164,11 @@ fn push_timers(out: &mut Vec<u8>, timers: &Timers, owner: usize) -> Result<(), A
 
 /// The section of an application: what it wrote and what is left of it.
 #[tactic(auto, unfolding(crate::specs::Section::section))]
-pub fn section(
+pub fn section<M: AliasMeaning>(
     alloc: Global,
     tables: &Tables,
     slot: usize,
-    runner: &Runner,
+    runner: &Runner<M>,
 ) -> Result<Vec<u8>, AllocError>
     ensures { IfOk result (λ bytes. bytes.items ≡ section (application_of (panel_of slot tables.now) runner.now)) }
 {

@@ -11,6 +11,7 @@ use crate::window::Size;
 use std::alloc::{AllocError, Global};
 use std::marker::Model;
 use tcl_text::Text;
+use tk_alias::{AliasMeaning, Aliases};
 use tk_turns::Turn;
 
 /// How many applications there are at most.
@@ -19,26 +20,26 @@ pub const MAX_APPLICATIONS: usize = 16;
 /// All applications, at one moment, in milliseconds: the tables that they have in common, and what each has by itself. An application is known by its
 /// slot, from 0 on, and each call on one goes through its view.
 #[derive(Drop)]
-pub struct Shared {
+pub struct Shared<M: AliasMeaning> {
     pub(crate) tables: Tables,
-    pub(crate) runners: Vec<Runner>,
+    pub(crate) runners: Vec<Runner<M>>,
     pub(crate) turns: Vec<Turn>,
     pub(crate) refused: bool,
 }
 
-impl Model for Shared {
+impl<M: AliasMeaning> Model for Shared<M> {
     ghost use Rattle.std.specs.Prelude.{◌≡◌, ◌≤◌, length};
     ghost use Rattle.tk_app.specs.Tables.{IsVacantFrom};
     ghost use Rattle.tk_app.specs.Turns.{Applications, parts_from};
 
-    ghost Value = { Applications };
+    ghost Value = { Applications M };
 
     ghost view = { λ s. record { moment = s.tables.clock; parts = parts_from 0 s.tables s.runners.items; turns = s.turns.items; refused = s.refused } };
 
     ghost invariant = { λ s. (length s.runners.items ≤ 16) × (length s.tables.windows ≡ length s.runners.items) × IsVacantFrom (length s.runners.items) s.tables };
 }
 
-impl Shared {
+impl<M: AliasMeaning> Shared<M> {
     ghost use Rattle.std.specs.Prelude.{◌≡◌, ◌<◌, ◌≤◌, ◌↔◌, [], ◌∷◌, ◌++◌, Any, IfOk, IsTrue, OnErr, OnOk, Some, false, length, option_map, slice_get};
     ghost use Rattle.tk_app.specs.Application.{next_due};
     ghost use Rattle.tk_app.specs.Part.{added, is_under_way};
@@ -46,7 +47,7 @@ impl Shared {
 
     /// No application, at moment 0. It takes no memory.
     #[tactic(auto, unfolding(crate::specs::Turns::parts_from))]
-    pub fn new(alloc: Global) -> Shared
+    pub fn new(alloc: Global) -> Shared<M>
         ensures { result ≡ record { moment = 0; parts = []; turns = []; refused = false } }
     {
         Shared {
@@ -64,24 +65,25 @@ impl Shared {
         self.runners.len()
     }
 
-    /// Adds an application, in the next slot, which it answers: its name, the size of its rectangle in pixels, its steps, and its script, which is the
-    /// first that it does when it settles.
+    /// Adds an application, in the next slot, which it answers: its name, the size of its rectangle in pixels, its steps, its script, which is the
+    /// first that it does when it settles, and its aliases, each of which replaces a command of its name (interp(n)).
     pub fn add(
         &mut self,
         name: Text,
         size: Size,
         budget: Budget,
         script: Text,
+        aliases: Aliases<M>,
     ) -> Result<usize, AllocError>
         requires { length self.old.parts < 16 }
         ensures slot { IfOk result (λ slot. slot ≡ length self.old.parts) }
         ensures added { OnOk result (self.new ≡ record self.old {
-          parts = self.old.parts ++ added (record { name = name; width = size.width; height = size.height; script = script; budget = budget }) ∷ [];
+          parts = self.old.parts ++ added (record { name = name; width = size.width; height = size.height; script = script; budget = budget; aliases = aliases }) ∷ [];
         }) }
         ensures unchanged { OnErr result (self.new ≡ self.old) }
     {
         let slot = self.runners.len();
-        let runner = Runner::new(self.tables.alloc, name, script, budget)?;
+        let runner = Runner::new(self.tables.alloc, name, script, budget, aliases)?;
         self.runners.reserve(1)?;
         self.tables.windows.add(size)?;
         match self.runners.push(runner) {
@@ -100,7 +102,7 @@ impl Shared {
     }
 
     /// The view of an application.
-    pub fn view(&mut self, slot: usize) -> AppView<'_>
+    pub fn view(&mut self, slot: usize) -> AppView<'_, M>
         requires { slot < length self.old.parts }
         ensures slot { result.slot ≡ slot }
         ensures same_reference { result.shared.ghost_name ≡ self.entry.ghost_name }
@@ -178,7 +180,7 @@ impl Shared {
 }
 
 /// Whether one of them has this name.
-fn have_name(runners: &[Runner], name: &Text) -> bool
+fn have_name<M: AliasMeaning>(runners: &[Runner<M>], name: &Text) -> bool
     ensures { IsTrue result ↔ Any (λ program. program.name ≡ name.now) runners.now }
 {
     runners.iter().any(|runner| runner.has_name(name))

@@ -1,24 +1,26 @@
 ghost use Rattle.std.specs.Prelude.{◌≡◌, ◌<◌, length};
 
-use crate::runner::take_turn;
+use crate::runner::{deliver, take_turn};
 use crate::shared::Shared;
 use crate::state::{AppEnd, AppState};
 use std::alloc::{AllocError, Global};
+use tk_alias::AliasMeaning;
+use tk_input::LocalEvent;
 
 /// All applications, as one of them is called.
 #[derive(Drop)]
-pub struct AppView<'a> {
+pub struct AppView<'a, M: AliasMeaning> {
     pub(crate) slot: usize,
-    pub(crate) shared: &'a mut Shared,
+    pub(crate) shared: &'a mut Shared<M>,
     ghost held: { slot < length shared.now.parts },
 }
 
-impl AppView<'_> {
+impl<M: AliasMeaning> AppView<'_, M> {
     ghost use Rattle.std.specs.Prelude.{◌≡◌, ◌<◌, IfOk, IsErr, OnErr, OnOk, Some, false, length, option_map, slice_get, true};
     ghost use Rattle.tk_app.specs.Application.{next_due};
     ghost use Rattle.tk_app.specs.Part.{is_under_way};
     ghost use Rattle.tk_app.specs.Section.{section};
-    ghost use Rattle.tk_app.specs.Turns.{BeginsIn, ChangesOnly, SettlesSlot};
+    ghost use Rattle.tk_app.specs.Turns.{BeginsIn, ChangesOnly, ChangesPart, DeliversIn, MayGetIn, SettlesSlot};
 
     /// Does what is to be done at the moment, for at most so many steps: what is under way, or else the timers that are due, layout and the idle scripts.
     /// An application's own script is under way from the first. The steps that it takes are told as a turn.
@@ -28,7 +30,7 @@ impl AppView<'_> {
         requires { 0 < steps }
         ensures slot { self.new.slot ≡ self.old.slot }
         ensures same_reference { self.new.shared.ghost_name ≡ self.old.shared.ghost_name }
-        ensures settled { IfOk result (λ end. SettlesSlot steps self.old.slot end self.old.shared.now self.new.shared.now) }
+        ensures settled { IfOk result (λ end. SettlesSlot M.answer steps self.old.slot end self.old.shared.now self.new.shared.now) }
         ensures only { ChangesOnly self.old.slot self.old.shared.now self.new.shared.now }
         ensures kept { OnOk result (self.new.shared.now.refused ≡ false) }
         ensures refused { OnErr result (self.new.shared.now.refused ≡ true) }
@@ -44,6 +46,31 @@ impl AppView<'_> {
         let end = take_turn(&mut shared.tables, slot, runner, steps, &mut shared.turns)?;
         shared.refused = false;
         Ok(end)
+    }
+
+    /// Gives the application an event of the moment: while it runs it is granted the steps of its budget for an event, and the event is added to what
+    /// it has to do, which settling then does. Its last `settle`, if any, didn't answer `More`.
+    ///
+    /// Once memory was refused in it, for whatever application, it is refused in every further call.
+    pub fn deliver(&mut self, event: LocalEvent) -> Result<(), AllocError>
+        requires moment { event.moment ≡ self.old.shared.now.moment }
+        requires may { MayGetIn self.old.slot self.old.shared.now.parts }
+        ensures slot { self.new.slot ≡ self.old.slot }
+        ensures same_reference { self.new.shared.ghost_name ≡ self.old.shared.ghost_name }
+        ensures delivered { OnOk result (DeliversIn self.old.slot event self.old.shared.now self.new.shared.now) }
+        ensures only { ChangesPart self.old.slot self.old.shared.now self.new.shared.now }
+        ensures kept { OnOk result (self.new.shared.now.refused ≡ false) }
+        ensures refused { OnErr result (self.new.shared.now.refused ≡ true) }
+        ensures again { self.old.shared.now.refused ≡ true → IsErr result }
+    {
+        let slot = self.slot;
+        let shared = &mut *self.shared;
+        if shared.refused {
+            return Err(AllocError);
+        }
+        let runner = &mut shared.runners[slot];
+        deliver(&mut shared.tables, slot, runner, event);
+        Ok(())
     }
 
     /// Begins to do what is to be done at the moment, where nothing is under way and the application runs; no step of it is taken.

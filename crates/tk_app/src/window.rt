@@ -1,4 +1,4 @@
-ghost use Rattle.std.specs.Prelude.{◌≡◌, [], ◌∷◌, ◌++◌, OnErr, OnOk, length};
+ghost use Rattle.std.specs.Prelude.{◌≡◌, ◌<◌, [], ◌∷◌, ◌++◌, OnErr, OnOk, length};
 ghost use Rattle.tk_app.specs.Shown.{filled, unlaid};
 ghost use Rattle.tk_app.specs.Tables.{LeavesWindows, window_of};
 
@@ -117,5 +117,17 @@ impl MainWindows {
             let row = &mut self.windows[slot];
             row.window = Window::filling(row.size);
         }
+    }
+
+    /// The rectangle of an application has another size from now on, which the next layout gives to its main window.
+    pub fn resize(&mut self, slot: usize, size: Size)
+        requires { slot < length self.old }
+        ensures size { (window_of slot self.new).size ≡ size }
+        ensures window { (window_of slot self.new).window ≡ (window_of slot self.old).window }
+        ensures others { LeavesWindows slot self.old self.new }
+        ensures count { length self.new ≡ length self.old }
+    {
+        let row = &mut self.windows[slot];
+        row.size = size;
     }
 }

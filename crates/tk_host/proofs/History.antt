@@ -1,26 +1,40 @@
 -- One call more after a list of calls.
-use Rattle.std.proofs.Common.{◌≡◌, ◌≢◌, ℕ, ◌≤◌, ◌<◌, ◌-◌, List, [], ◌∷◌, ◌++◌, map, refl, sym, ap, ◌∙◌, subst, arith}
-use Rattle.std.proofs.lemmas.List.{map-append, append-nil}
+use Rattle.std.proofs.Common.{◌≡◌, ◌≢◌, ℕ, zero, suc, ◌+◌, ◌≤◌, ◌<◌, ◌-◌, Bool, true, false, cond, List, [], ◌∷◌, ◌++◌, map, reverse, refl, sym, ap, ◌∙◌, subst, arith}
+use Rattle.std.proofs.lemmas.List.{map-append, append-nil, append_assoc, reverse-append}
 use Rattle.std.proofs.lemmas.Option.{slice_get-map}
-use Rattle.std.specs.Prelude.{Some, Result, Ok, Err, OnOk, option_map}
+use Rattle.std.specs.Prelude.{Option, Some, None, Result, Ok, Err, OnOk, option_map, slice_get, filter, nat_eq, ◌==◌}
 use Rattle.tk_base.specs.declared.rect.Rect.{Rect}
+use Rattle.tk_input.specs.declared.event.LocalEvent.{LocalEvent}
+use Rattle.tk_route.specs.Lines.{Line, at, values}
+use Rattle.tk_route.specs.Routes.{events_of, routed, routes}
+use Rattle.tk_route.specs.Values.{Values}
+use Rattle.tk_route.specs.declared.delivery.Delivery.{Delivery}
+use Rattle.tk_route.specs.declared.line.HostLine.{HostLine}
+use Rattle.tk_turns.specs.Stages.{IsPast}
 use Rattle.tk_turns.specs.declared.turn.Turn.{Turn}
 use Rattle.tk_turns.specs.Rounds.{turns_of}
-use Rattle.tk_app.specs.Application.{Application, fresh}
-use Rattle.tk_app.specs.Part.{Part, Rests, added, needs, stage_done, started}
+use Rattle.tk_app.specs.Application.{Application, fresh, next_due}
+use Rattle.tk_app.specs.Part.{Part, Rests, added, delivered, needs, settled, stage_done, started}
 use Rattle.tk_app.specs.Section.{section}
+use Rattle.tk_app.specs.Seen.{Meaning}
+use Rattle.tk_app.specs.Spec.{Spec}
 use Rattle.tk_app.proofs.Parts.{begins_with_script}
 use Rattle.tk_host.specs.declared.fault.HostFault.TheVariants.{Started, Ended, Broken}
 use Rattle.tk_host.specs.declared.phase.Phase.{Phase}
 use Rattle.tk_host.specs.declared.phase.Phase.TheVariants.{Adding, Reached, Finished, Lost}
 use Rattle.tk_host.specs.Spec.{Given, rect_of}
-use Rattle.tk_host.specs.Alone.{alone}
-use Rattle.tk_host.specs.Held.{Held, Hosted, Call, AddApp, Start, AdvanceTo, End, brought, with_app, after_start, gone_to, given_by, phase_after, application_in, part_in, reached, held_after, turns_after}
+use Rattle.tk_host.specs.Alone.{after_events, alone, passed}
+use Rattle.tk_host.specs.Held.{Held, Hosted, Call, AddApp, Start, LineAt, AdvanceTo, End, after_line, at_rest, brought, with_app, after_start, before_line, gone_to, given_by, first_rects, known_by, phase_after, lines_after, lines_of, application_in, part_in, parts_in, reached, held_in, held_after, turns_after}
 use Rattle.tk_host.specs.Refusals.{PhaseRefuses}
 use Rattle.tk_host.specs.Sections.{EachByItself, sections_after}
-use Rattle.tk_host.specs.Turns.{applications, steps_at_start, turns_at_start, turns_on_the_way}
+use Rattle.tk_host.specs.Slots.{AreAt}
+use Rattle.tk_host.specs.Turns.{after_each, after_given, applications, stages_of, steps_at_start, turns_at_start, turns_given, turns_on_the_way}
+use Rattle.tk_host.proofs.Kept.{AreOf, events_at}
 use Rattle.tk_host.proofs.Passing.{passed_passed, passed_past}
-use Rattle.tk_host.proofs.Settling.{started_past}
+use Rattle.tk_host.proofs.Routing.{routes_at}
+use Rattle.tk_host.proofs.Settling.{settled_past, started_past}
+
+-- ── phases ──
 
 -- a phase that refuses nothing is that of adding applications
 pub adding_if_not_refused : (phase : Phase) → ¬ PhaseRefuses phase Broken → ¬ PhaseRefuses phase Ended → ¬ PhaseRefuses phase Started → phase ≡ Adding
@@ -48,24 +62,6 @@ not_back phase before moment is forward =
     let ahead : ¬ (moment < before) = subst P is forward in
     omega (arith, ahead)
 
-given_by-append : (calls more : List Call) → given_by (calls ++ more) ≡ given_by calls ++ given_by more
-given_by-append [] more = refl
-given_by-append (AddApp app ∷ calls) more = ap (λ apps. app ∷ apps) (given_by-append calls more)
-given_by-append (Start ∷ calls) more = given_by-append calls more
-given_by-append (AdvanceTo moment ∷ calls) more = given_by-append calls more
-given_by-append (End moment ∷ calls) more = given_by-append calls more
-
-phase_after-append : (phase : Phase) (calls more : List Call) → phase_after phase (calls ++ more) ≡ phase_after (phase_after phase calls) more
-phase_after-append phase [] more = refl
-phase_after-append phase (AddApp app ∷ calls) more = phase_after-append phase calls more
-phase_after-append phase (Start ∷ calls) more = phase_after-append (Reached 0) calls more
-phase_after-append phase (AdvanceTo moment ∷ calls) more = phase_after-append (Reached moment) calls more
-phase_after-append phase (End moment ∷ calls) more = phase_after-append (Finished moment) calls more
-
--- what a host holds, by its phase and the applications
-abbrev held_in : Phase → List Given → Held
-held_in phase apps = record { phase = phase; rects = map rect_of apps; parts = map (part_in phase) apps }
-
 map-map : {A B C : Type 0} (f : B → C) (g : A → B) (xs : List A) → map f (map g xs) ≡ map (λ x. f (g x)) xs
 map-map f g [] = refl
 map-map f g (x ∷ xs) = ap (λ ys. f (g x) ∷ ys) (map-map f g xs)
@@ -74,119 +70,250 @@ map_same : {A B : Type 0} (f g : A → B) → ((x : A) → f x ≡ g x) → (xs 
 map_same f g same [] = refl
 map_same f g same (x ∷ xs) = ap (λ y. y ∷ map f xs) (same x) ∙ ap (λ ys. g x ∷ ys) (map_same f g same xs)
 
--- an application that has been started is as it is by itself at moment 0
-started_alone : (app : Given) → stage_done 0 (part_in Adding app) ≡ part_in (Reached 0) app
-started_alone app =
-    let there : Application = started 0 app.spec.script (fresh app.spec) in
-    begins_with_script 0 app.spec
-    ∙ ap (λ (a : Application). record { application = a; work = Rests }) (sym (passed_past 0 there (started_past 0 app.spec.script (fresh app.spec) refl)))
+-- ── lists of calls ──
 
--- and one that is brought from a moment to a later one as it is there
-brought_alone : (before moment : ℕ) → before ≤ moment → (app : Given) → brought moment (part_in (Reached before) app) ≡ part_in (Reached moment) app
-brought_alone before moment le app =
-    ap (λ (a : Application). record { application = a; work = Rests }) (passed_passed before moment (started 0 app.spec.script (fresh app.spec)) le)
+module _ {M : Type 0} where
+  given_by-append : (calls more : List (Call M)) → given_by (calls ++ more) ≡ given_by calls ++ given_by more
+  given_by-append [] more = refl
+  given_by-append (AddApp app ∷ calls) more = ap (λ apps. app ∷ apps) (given_by-append calls more)
+  given_by-append (Start ∷ calls) more = given_by-append calls more
+  given_by-append (LineAt moment line ∷ calls) more = given_by-append calls more
+  given_by-append (AdvanceTo moment ∷ calls) more = given_by-append calls more
+  given_by-append (End moment ∷ calls) more = given_by-append calls more
 
-after_add : (calls : List Call) (app : Given) → (held_after calls).phase ≡ Adding
-    → record { phase = (held_after calls).phase; rects = (held_after calls).rects ++ rect_of app ∷ []; parts = (held_after calls).parts ++ added app.spec ∷ [] } ≡ held_after (calls ++ AddApp app ∷ [])
-after_add calls app adding =
-    let apps : List Given = given_by calls in
-    let phases : phase_after Adding (calls ++ AddApp app ∷ []) ≡ Adding = phase_after-append Adding calls (AddApp app ∷ []) ∙ adding in
-    let all : given_by (calls ++ AddApp app ∷ []) ≡ apps ++ app ∷ [] = given_by-append calls (AddApp app ∷ []) in
-    ap (λ phase. record { phase = phase; rects = map rect_of apps ++ rect_of app ∷ []; parts = map (part_in phase) apps ++ added app.spec ∷ [] }) adding
-    ∙ ap (λ (rects : List Rect). record { phase = Adding; rects = rects; parts = map (part_in Adding) apps ++ added app.spec ∷ [] }) (sym (map-append rect_of apps (app ∷ [])))
-    ∙ ap (λ (parts : List Part). record { phase = Adding; rects = map rect_of (apps ++ app ∷ []); parts = parts }) (sym (map-append (part_in Adding) apps (app ∷ [])))
-    ∙ ap (held_in Adding) (sym all)
-    ∙ ap (λ phase. held_in phase (given_by (calls ++ AddApp app ∷ []))) (sym phases)
+  phase_after-append : (phase : Phase) (calls more : List (Call M)) → phase_after phase (calls ++ more) ≡ phase_after (phase_after phase calls) more
+  phase_after-append phase [] more = refl
+  phase_after-append phase (AddApp app ∷ calls) more = phase_after-append phase calls more
+  phase_after-append phase (Start ∷ calls) more = phase_after-append (Reached 0) calls more
+  phase_after-append phase (LineAt moment line ∷ calls) more = phase_after-append (Reached moment) calls more
+  phase_after-append phase (AdvanceTo moment ∷ calls) more = phase_after-append (Reached moment) calls more
+  phase_after-append phase (End moment ∷ calls) more = phase_after-append (Finished moment) calls more
 
--- a call that adds none leads on from a phase
-leads_on : (calls : List Call) (call : Call) (phase : Phase) (parts : List Part) → given_by (call ∷ []) ≡ [] → phase_after (phase_after Adding calls) (call ∷ []) ≡ phase
-    → parts ≡ map (part_in phase) (given_by calls)
-    → record { phase = phase; rects = (held_after calls).rects; parts = parts } ≡ held_after (calls ++ call ∷ [])
-leads_on calls call phase parts none leads is =
-    let phases : phase_after Adding (calls ++ call ∷ []) ≡ phase = phase_after-append Adding calls (call ∷ []) ∙ leads in
-    let all : given_by (calls ++ call ∷ []) ≡ given_by calls = given_by-append calls (call ∷ []) ∙ ap (λ apps. given_by calls ++ apps) none ∙ append-nil (given_by calls) in
-    ap (λ (ps : List Part). record { phase = phase; rects = map rect_of (given_by calls); parts = ps }) is
-    ∙ ap (held_in phase) (sym all)
-    ∙ ap (λ p. held_in p (given_by (calls ++ call ∷ []))) (sym phases)
+  lines_after-append : (earlier : List Line) (calls more : List (Call M)) → lines_after earlier (calls ++ more) ≡ lines_after (lines_after earlier calls) more
+  lines_after-append earlier [] more = refl
+  lines_after-append earlier (AddApp app ∷ calls) more = lines_after-append earlier calls more
+  lines_after-append earlier (Start ∷ calls) more = lines_after-append [] calls more
+  lines_after-append earlier (LineAt moment line ∷ calls) more = lines_after-append (at moment line ∷ earlier) calls more
+  lines_after-append earlier (AdvanceTo moment ∷ calls) more = lines_after-append earlier calls more
+  lines_after-append earlier (End moment ∷ calls) more = lines_after-append earlier calls more
 
-all_started : (apps : List Given) → map (stage_done 0) (map (part_in Adding) apps) ≡ map (part_in (Reached 0)) apps
-all_started apps = map-map (stage_done 0) (part_in Adding) apps ∙ map_same (λ app. stage_done 0 (part_in Adding app)) (part_in (Reached 0)) started_alone apps
+module _ {M : Type 0} (answer : M → Meaning) where
+  -- ── one application ──
 
-all_brought : (before moment : ℕ) → before ≤ moment → (apps : List Given) → map (brought moment) (map (part_in (Reached before)) apps) ≡ map (part_in (Reached moment)) apps
-all_brought before moment le apps =
-    map-map (brought moment) (part_in (Reached before)) apps ∙ map_same (λ app. brought moment (part_in (Reached before) app)) (part_in (Reached moment)) (brought_alone before moment le) apps
+  -- an application that has been started is as it is by itself at moment 0
+  started_alone : (app : Given M) → stage_done answer 0 (part_in answer Adding [] app) ≡ part_in answer (Reached 0) [] app
+  started_alone app =
+      let there : Application M = started answer 0 app.spec.script (fresh app.spec) in
+      begins_with_script answer 0 app.spec
+      ∙ ap (λ (a : Application M). record { application = a; work = Rests }) (sym (passed_past answer 0 there (started_past answer 0 app.spec.script (fresh app.spec) refl)))
 
--- what a call of the host leaves, where it held what a list of calls leads to
+  -- and one that is brought from a moment to a later one as it is there
+  brought_alone : (before moment : ℕ) → before ≤ moment → (routed : List LocalEvent) (app : Given M) → brought answer moment (part_in answer (Reached before) routed app) ≡ part_in answer (Reached moment) routed app
+  brought_alone before moment le routed app =
+      ap (λ (a : Application M). record { application = a; work = Rests }) (passed_passed answer before moment (after_events answer app.spec routed) le)
 
-pub history_of_add : (calls : List Call) (app : Given) (old : Hosted) (new : Held) → old.held ≡ held_after calls → old.held.phase ≡ Adding → new ≡ (with_app app old).held
-    → new ≡ held_after (calls ++ AddApp app ∷ [])
-history_of_add calls app old new held adding now =
-    now
-    ∙ ap (λ (h : Held). record { phase = h.phase; rects = h.rects ++ rect_of app ∷ []; parts = h.parts ++ added app.spec ∷ [] }) held
-    ∙ after_add calls app (sym (ap (λ (h : Held). h.phase) held) ∙ adding)
+  -- and one that did what comes of events is as it is with these
+  events_alone : (moment : ℕ) (events earlier : List LocalEvent) (spec : Spec M) → AreOf moment events
+      → after_each answer events (passed answer moment (after_events answer spec earlier)) ≡ passed answer moment (after_events answer spec (reverse events ++ earlier))
+  events_alone moment [] earlier spec at = refl
+  events_alone moment (event ∷ events) earlier spec at =
+      let there : Application M = after_events answer spec (event ∷ earlier) in
+      let quiet : IsPast moment (next_due there) =
+      subst (λ m. IsPast m (next_due there)) at.0 (settled_past answer event.moment (delivered event (passed answer event.moment (after_events answer spec earlier)))) in
+      let turned : reverse (event ∷ events) ++ earlier ≡ reverse events ++ event ∷ earlier =
+      ap (λ es. es ++ earlier) (reverse-append (event ∷ []) events) ∙ append_assoc (reverse events) (event ∷ []) earlier in
+      ap (λ m. after_each answer events (settled answer event.moment (delivered event (passed answer m (after_events answer spec earlier))))) (sym at.0)
+      ∙ ap (after_each answer events) (sym (passed_past answer moment there quiet))
+      ∙ events_alone moment events (event ∷ earlier) spec at.1
+      ∙ ap (λ es. passed answer moment (after_events answer spec es)) (sym turned)
 
-pub history_of_start : (calls : List Call) (old : Hosted) (new : Held) → old.held ≡ held_after calls → old.held.phase ≡ Adding → new ≡ (after_start old).held
-    → new ≡ held_after (calls ++ Start ∷ [])
-history_of_start calls old new held adding now =
-    let phase : phase_after Adding calls ≡ Adding = sym (ap (λ (h : Held). h.phase) held) ∙ adding in
-    now
-    ∙ ap (λ (h : Held). record { phase = Reached 0; rects = h.rects; parts = map (stage_done 0) h.parts }) held
-    ∙ leads_on calls Start (Reached 0) (map (stage_done 0) (held_after calls).parts) refl refl
-    (ap (λ p. map (stage_done 0) (map (part_in p) (given_by calls))) phase ∙ all_started (given_by calls))
+  -- ── all of them ──
 
-history_of_going : (calls : List Call) (call : Call) (before moment : ℕ) (after : Phase) (old new : Hosted) → given_by (call ∷ []) ≡ [] → phase_after (phase_after Adding calls) (call ∷ []) ≡ after
-    → part_in after ≡ part_in (Reached moment)
-    → old.held ≡ held_after calls → old.held.phase ≡ Reached before → before ≤ moment → new ≡ gone_to after moment old → new.held ≡ held_after (calls ++ call ∷ [])
-history_of_going calls call before moment after old new none leads same held reached le now =
-    let phase : phase_after Adding calls ≡ Reached before = sym (ap (λ (h : Held). h.phase) held) ∙ reached in
-    ap (λ (h : Hosted). h.held) now
-    ∙ ap (λ (h : Held). record { phase = after; rects = h.rects; parts = map (brought moment) h.parts }) held
-    ∙ leads_on calls call after (map (brought moment) (held_after calls).parts) none leads
-    (ap (λ p. map (brought moment) (map (part_in p) (given_by calls))) phase ∙ all_brought before moment le (given_by calls) ∙ ap (λ f. map f (given_by calls)) (sym same))
+  adding_parts : (first : List Rect) (lines : List Line) (slot : ℕ) (apps : List (Given M)) → parts_in answer Adding first lines slot apps ≡ map (λ app. added app.spec) apps
+  adding_parts first lines slot [] = refl
+  adding_parts first lines slot (app ∷ apps) = ap (λ ps. added app.spec ∷ ps) (adding_parts first lines (slot + 1) apps)
 
-pub history_of_advance : (calls : List Call) (before moment : ℕ) (old new : Hosted) → old.held ≡ held_after calls → old.held.phase ≡ Reached before → before ≤ moment
-    → new ≡ gone_to (Reached moment) moment old → new.held ≡ held_after (calls ++ AdvanceTo moment ∷ [])
-history_of_advance calls before moment old new held reached le now = history_of_going calls (AdvanceTo moment) before moment (Reached moment) old new refl refl refl held reached le now
+  started_parts : (first : List Rect) (lines : List Line) (slot : ℕ) (apps : List (Given M)) → map (stage_done answer 0) (parts_in answer Adding first lines slot apps) ≡ parts_in answer (Reached 0) first [] slot apps
+  started_parts first lines slot [] = refl
+  started_parts first lines slot (app ∷ apps) =
+      ap (λ p. p ∷ map (stage_done answer 0) (parts_in answer Adding first lines (slot + 1) apps)) (started_alone app)
+      ∙ ap (λ ps. part_in answer (Reached 0) [] app ∷ ps) (started_parts first lines (slot + 1) apps)
 
-pub history_of_end : (calls : List Call) (before moment : ℕ) (old new : Hosted) → old.held ≡ held_after calls → old.held.phase ≡ Reached before → before ≤ moment
-    → new ≡ gone_to (Finished moment) moment old → new.held ≡ held_after (calls ++ End moment ∷ [])
-history_of_end calls before moment old new held reached le now = history_of_going calls (End moment) before moment (Finished moment) old new refl refl refl held reached le now
+  brought_parts : (before moment : ℕ) → before ≤ moment → (first : List Rect) (lines : List Line) (slot : ℕ) (apps : List (Given M))
+      → map (brought answer moment) (parts_in answer (Reached before) first lines slot apps) ≡ parts_in answer (Reached moment) first lines slot apps
+  brought_parts before moment le first lines slot [] = refl
+  brought_parts before moment le first lines slot (app ∷ apps) =
+      ap (λ p. p ∷ map (brought answer moment) (parts_in answer (Reached before) first lines (slot + 1) apps)) (brought_alone before moment le (routed first lines slot) app)
+      ∙ ap (λ ps. part_in answer (Reached moment) (routed first lines slot) app ∷ ps) (brought_parts before moment le first lines (slot + 1) apps)
 
--- ── turns ──
+  finished_parts : (moment : ℕ) (first : List Rect) (lines : List Line) (slot : ℕ) (apps : List (Given M)) → parts_in answer (Reached moment) first lines slot apps ≡ parts_in answer (Finished moment) first lines slot apps
+  finished_parts moment first lines slot [] = refl
+  finished_parts moment first lines slot (app ∷ apps) = ap (λ ps. part_in answer (Reached moment) (routed first lines slot) app ∷ ps) (finished_parts moment first lines (slot + 1) apps)
 
-steps_of_start : (app : Given) → needs 0 (part_in Adding app) ≡ steps_at_start app.spec
-steps_of_start app = ap (λ (p : Part). app.spec.budget.total - p.application.steps) (begins_with_script 0 app.spec)
+  lined_parts : (before moment : ℕ) (line : HostLine) → before ≤ moment → (first : List Rect) (lines : List Line) (slot : ℕ) (apps : List (Given M))
+      → map at_rest (after_given answer slot (routes first lines (at moment line)) (map (passed answer moment) (applications (parts_in answer (Reached before) first lines slot apps))))
+      ≡ parts_in answer (Reached moment) first (at moment line ∷ lines) slot apps
+  lined_parts before moment line le first lines slot [] = refl
+  lined_parts before moment line le first lines slot (app ∷ apps) =
+      let given : List Delivery = routes first lines (at moment line) in
+      let events : List LocalEvent = events_of slot given in
+      let old : List LocalEvent = routed first lines slot in
+      let one : after_each answer events (passed answer moment (alone answer app.spec old before)) ≡ alone answer app.spec (reverse events ++ old) moment =
+      ap (after_each answer events) (passed_passed answer before moment (after_events answer app.spec old) le)
+      ∙ events_alone moment events old app.spec (events_at moment slot given (routes_at first lines (at moment line))) in
+      ap (λ (a : Application M). at_rest a ∷ map at_rest (after_given answer (slot + 1) given (map (passed answer moment) (applications (parts_in answer (Reached before) first lines (slot + 1) apps))))) one
+      ∙ ap (λ ps. part_in answer (Reached moment) (reverse events ++ old) app ∷ ps) (lined_parts before moment line le first lines (slot + 1) apps)
 
-pub turns_of_start : (calls : List Call) (old : Hosted) (new : List Turn) → old.held ≡ held_after calls → old.held.phase ≡ Adding → new ≡ (after_start old).turns
-    → new ≡ turns_after old.slice calls Start
-turns_of_start calls old new held adding now =
-    let phase : phase_after Adding calls ≡ Adding = sym (ap (λ (h : Held). h.phase) held) ∙ adding in
-    now
-    ∙ ap (λ (h : Held). turns_at_start old.slice h.parts) held
-    ∙ ap (λ p. turns_at_start old.slice (map (part_in p) (given_by calls))) phase
-    ∙ ap (turns_of old.slice) (map-map (needs 0) (part_in Adding) (given_by calls) ∙ map_same (λ app. needs 0 (part_in Adding app)) (λ app. steps_at_start app.spec) steps_of_start (given_by calls))
+  -- ── what a call of the host leaves, where it held what a list of calls leads to ──
 
-pub turns_of_going : (calls : List Call) (after : Phase) (moment : ℕ) (old new : Hosted) → old.held ≡ held_after calls → new ≡ gone_to after moment old
-    → new.turns ≡ turns_after old.slice calls (AdvanceTo moment)
-turns_of_going calls after moment old new held now =
-    ap (λ (h : Hosted). h.turns) now
-    ∙ ap (λ (h : Held). turns_on_the_way old.slice moment (applications h.parts)) held
-    ∙ ap (turns_on_the_way old.slice moment) (map-map (λ (part : Part). part.application) (part_in (phase_after Adding calls)) (given_by calls))
+  -- the same by another phase, other applications and other lines
+  held_same : (phase other : Phase) (apps more : List (Given M)) (lines lines' : List Line) → phase ≡ other → apps ≡ more → lines ≡ lines' → held_in answer phase apps lines ≡ held_in answer other more lines'
+  held_same phase other apps more lines lines' phases given told =
+      ap (λ p. held_in answer p apps lines) phases ∙ ap (λ more. held_in answer other more lines) given ∙ ap (held_in answer other more) told
 
--- ── sections ──
+  -- one that adds none
+  leads_on : (calls : List (Call M)) (call : Call M) (phase : Phase) (lines : List Line) → given_by (call ∷ []) ≡ [] → phase_after (phase_after Adding calls) (call ∷ []) ≡ phase
+      → lines_after (lines_of calls) (call ∷ []) ≡ lines → held_in answer phase (given_by calls) lines ≡ held_after answer (calls ++ call ∷ [])
+  leads_on calls call phase lines none leads tells =
+      held_same phase (phase_after Adding (calls ++ call ∷ [])) (given_by calls) (given_by (calls ++ call ∷ [])) lines (lines_of (calls ++ call ∷ []))
+      (sym (phase_after-append Adding calls (call ∷ []) ∙ leads))
+      (sym (given_by-append calls (call ∷ []) ∙ ap (λ apps. given_by calls ++ apps) none ∙ append-nil (given_by calls)))
+      (sym (lines_after-append [] calls (call ∷ []) ∙ tells))
 
--- the sections of what is held are those of the applications by themselves
-pub sections_of_held : (calls : List Call) (held : Held) → held ≡ held_after calls
-    → map (λ part. section part.application) held.parts ≡ sections_after calls
-sections_of_held calls held e =
-    ap (λ (h : Held). map (λ (part : Part). section part.application) h.parts) e
-    ∙ map-map (λ (part : Part). section part.application) (part_in (phase_after Adding calls)) (given_by calls)
+  -- what it held, in the phase that it was in
+  was_in : (calls : List (Call M)) (old : Held M) (phase : Phase) → old ≡ held_after answer calls → old.phase ≡ phase → old ≡ held_in answer phase (given_by calls) (lines_of calls)
+  was_in calls old phase held is =
+      held ∙ ap (λ p. held_in answer p (given_by calls) (lines_of calls)) (sym (ap (λ (h : Held M). h.phase) held) ∙ is)
 
-pub each_by_itself_holds : EachByItself
-each_by_itself_holds calls others slot other_slot app other phases is there same =
-    let section_in : Phase → Given → List ℕ = λ phase app. section (application_in phase app.spec) in
-    let here : Phase = phase_after Adding calls in
-    let elsewhere : Phase = phase_after Adding others in
-    slice_get-map (section_in here) (given_by calls) slot ∙ ap (option_map (section_in here)) is
-    ∙ ap (λ phase. Some (section (application_in phase app.spec))) phases ∙ ap (λ spec. Some (section (application_in elsewhere spec))) same
-    ∙ sym (slice_get-map (section_in elsewhere) (given_by others) other_slot ∙ ap (option_map (section_in elsewhere)) there)
+  pub history_of_add : (calls : List (Call M)) (app : Given M) (old : Hosted M) (new : Held M) → old.held ≡ held_after answer calls → old.held.phase ≡ Adding → new ≡ (with_app app old).held
+      → new ≡ held_after answer (calls ++ AddApp app ∷ [])
+  history_of_add calls app old new held adding now =
+      let apps : List (Given M) = given_by calls in
+      let lines : List Line = lines_of calls in
+      let first : List Rect = map rect_of apps in
+      let rects : first ++ rect_of app ∷ [] ≡ map rect_of (apps ++ app ∷ []) = sym (map-append rect_of apps (app ∷ [])) in
+      let parts : parts_in answer Adding first lines 0 apps ++ added app.spec ∷ [] ≡ parts_in answer Adding (map rect_of (apps ++ app ∷ [])) lines 0 (apps ++ app ∷ []) =
+      ap (λ ps. ps ++ added app.spec ∷ []) (adding_parts first lines 0 apps)
+      ∙ sym (map-append (λ (a : Given M). added a.spec) apps (app ∷ []))
+      ∙ sym (adding_parts (map rect_of (apps ++ app ∷ [])) lines 0 (apps ++ app ∷ [])) in
+      now
+      ∙ ap (λ (h : Held M). record { phase = h.phase; known = values (h.known.rects ++ rect_of app ∷ []) []; parts = h.parts ++ added app.spec ∷ [] }) (was_in calls old.held Adding held adding)
+      ∙ ap (λ rs. record { phase = Adding; known = values rs []; parts = parts_in answer Adding first lines 0 apps ++ added app.spec ∷ [] }) rects
+      ∙ ap (λ ps. record { phase = Adding; known = values (map rect_of (apps ++ app ∷ [])) []; parts = ps }) parts
+      ∙ held_same Adding (phase_after Adding (calls ++ AddApp app ∷ [])) (apps ++ app ∷ []) (given_by (calls ++ AddApp app ∷ [])) lines (lines_of (calls ++ AddApp app ∷ []))
+      (sym (phase_after-append Adding calls (AddApp app ∷ []) ∙ sym (ap (λ (h : Held M). h.phase) held) ∙ adding)) (sym (given_by-append calls (AddApp app ∷ []))) (sym (lines_after-append [] calls (AddApp app ∷ [])))
+
+  pub history_of_start : (calls : List (Call M)) (old : Hosted M) (new : Held M) → old.held ≡ held_after answer calls → old.held.phase ≡ Adding → new ≡ (after_start answer old).held
+      → new ≡ held_after answer (calls ++ Start ∷ [])
+  history_of_start calls old new held adding now =
+      let apps : List (Given M) = given_by calls in
+      let first : List Rect = map rect_of apps in
+      now
+      ∙ ap (λ (h : Held M). record { phase = Reached 0; known = h.known; parts = map (stage_done answer 0) h.parts }) (was_in calls old.held Adding held adding)
+      ∙ ap (λ ps. record { phase = Reached 0; known = values first []; parts = ps }) (started_parts first (lines_of calls) 0 apps)
+      ∙ leads_on calls Start (Reached 0) [] refl refl refl
+
+  pub history_of_advance : (calls : List (Call M)) (before moment : ℕ) (old new : Hosted M) → old.held ≡ held_after answer calls → old.held.phase ≡ Reached before → before ≤ moment
+      → new ≡ gone_to answer (Reached moment) moment old → new.held ≡ held_after answer (calls ++ AdvanceTo moment ∷ [])
+  history_of_advance calls before moment old new held from le now =
+      let apps : List (Given M) = given_by calls in
+      let first : List Rect = map rect_of apps in
+      ap (λ (h : Hosted M). h.held) now
+      ∙ ap (λ (h : Held M). record { phase = Reached moment; known = h.known; parts = map (brought answer moment) h.parts }) (was_in calls old.held (Reached before) held from)
+      ∙ ap (λ ps. record { phase = Reached moment; known = values first (lines_of calls); parts = ps }) (brought_parts before moment le first (lines_of calls) 0 apps)
+      ∙ leads_on calls (AdvanceTo moment) (Reached moment) (lines_of calls) refl refl refl
+
+  pub history_of_end : (calls : List (Call M)) (before moment : ℕ) (old new : Hosted M) → old.held ≡ held_after answer calls → old.held.phase ≡ Reached before → before ≤ moment
+      → new ≡ gone_to answer (Finished moment) moment old → new.held ≡ held_after answer (calls ++ End moment ∷ [])
+  history_of_end calls before moment old new held from le now =
+      let apps : List (Given M) = given_by calls in
+      let first : List Rect = map rect_of apps in
+      ap (λ (h : Hosted M). h.held) now
+      ∙ ap (λ (h : Held M). record { phase = Finished moment; known = h.known; parts = map (brought answer moment) h.parts }) (was_in calls old.held (Reached before) held from)
+      ∙ ap (λ ps. record { phase = Finished moment; known = values first (lines_of calls); parts = ps })
+      (brought_parts before moment le first (lines_of calls) 0 apps ∙ finished_parts moment first (lines_of calls) 0 apps)
+      ∙ leads_on calls (End moment) (Finished moment) (lines_of calls) refl refl refl
+
+  -- what is known is known by the lines
+  known_lines : (calls : List (Call M)) (before : ℕ) (old : Held M) → old ≡ held_after answer calls → old.phase ≡ Reached before → old.known ≡ values (first_rects calls) (lines_of calls)
+  known_lines calls before old held from = ap (λ (h : Held M). h.known) (was_in calls old (Reached before) held from)
+
+  pub history_of_line : (calls : List (Call M)) (before moment : ℕ) (line : HostLine) (old new : Hosted M) → old.held ≡ held_after answer calls → old.held.phase ≡ Reached before → before ≤ moment
+      → ((first : List Rect) (earlier : List Line) → old.held.known ≡ values first earlier → new ≡ after_line answer first earlier (at moment line) old)
+      → new.held ≡ held_after answer (calls ++ LineAt moment line ∷ [])
+  history_of_line calls before moment line old new held from le lined =
+      let apps : List (Given M) = given_by calls in
+      let first : List Rect = map rect_of apps in
+      let lines : List Line = lines_of calls in
+      ap (λ (h : Hosted M). h.held) (lined first lines (known_lines calls before old.held held from))
+      ∙ ap (λ (h : Held M). record {
+        phase = Reached moment;
+        known = values first (at moment line ∷ lines);
+        parts = map at_rest (after_given answer 0 (routes first lines (at moment line)) (map (passed answer moment) (applications h.parts)));
+      }) (was_in calls old.held (Reached before) held from)
+      ∙ ap (λ ps. record { phase = Reached moment; known = values first (at moment line ∷ lines); parts = ps }) (lined_parts before moment line le first lines 0 apps)
+      ∙ leads_on calls (LineAt moment line) (Reached moment) (at moment line ∷ lines) refl refl refl
+
+  -- ── turns ──
+
+  steps_of_start : (app : Given M) → needs answer 0 (part_in answer Adding [] app) ≡ steps_at_start answer app.spec
+  steps_of_start app = ap (λ (p : Part M). app.spec.budget.total - p.application.steps) (begins_with_script answer 0 app.spec)
+
+  pub turns_of_start : (calls : List (Call M)) (old : Hosted M) (new : List Turn) → old.held ≡ held_after answer calls → old.held.phase ≡ Adding → new ≡ (after_start answer old).turns
+      → new ≡ turns_after answer old.slice calls Start
+  turns_of_start calls old new held adding now =
+      let apps : List (Given M) = given_by calls in
+      now
+      ∙ ap (λ (h : Held M). turns_at_start answer old.slice h.parts) (was_in calls old.held Adding held adding)
+      ∙ ap (λ ps. turns_at_start answer old.slice ps) (adding_parts (map rect_of apps) (lines_of calls) 0 apps)
+      ∙ ap (turns_of old.slice) (map-map (needs answer 0) (λ (app : Given M). added app.spec) apps ∙ map_same (λ (app : Given M). needs answer 0 (added app.spec)) (λ app. steps_at_start answer app.spec) steps_of_start apps)
+
+  pub turns_of_going : (calls : List (Call M)) (after : Phase) (moment : ℕ) (old new : Hosted M) → old.held ≡ held_after answer calls → new ≡ gone_to answer after moment old
+      → new.turns ≡ turns_on_the_way answer old.slice moment (applications (held_after answer calls).parts)
+  turns_of_going calls after moment old new held now =
+      ap (λ (h : Hosted M). h.turns) now ∙ ap (λ (h : Held M). turns_on_the_way answer old.slice moment (applications h.parts)) held
+
+  pub turns_of_line : (calls : List (Call M)) (before moment : ℕ) (line : HostLine) (old new : Hosted M) → old.held ≡ held_after answer calls → old.held.phase ≡ Reached before
+      → ((first : List Rect) (earlier : List Line) → old.held.known ≡ values first earlier → new ≡ after_line answer first earlier (at moment line) old)
+      → new.turns ≡ turns_after answer old.slice calls (LineAt moment line)
+  turns_of_line calls before moment line old new held from lined =
+      let first : List Rect = first_rects calls in
+      let lines : List Line = lines_of calls in
+      let given : List Delivery = routes first lines (at moment line) in
+      ap (λ (h : Hosted M). h.turns) (lined first lines (known_lines calls before old.held held from))
+      ∙ ap (λ (h : Held M). turns_on_the_way answer old.slice moment (applications h.parts)
+      ++ turns_given answer old.slice (stages_of given) (map (passed answer moment) (applications h.parts))) held
+
+  -- ── sections ──
+
+  -- the sections of what is held are those of the applications by themselves
+  pub sections_of_held : (calls : List (Call M)) (held : Held M) → held ≡ held_after answer calls → map (λ part. section part.application) held.parts ≡ sections_after answer calls
+  sections_of_held calls held e = ap (λ (h : Held M). map (λ (part : Part M). section part.application) h.parts) e
+
+  part_at : (phase : Phase) (first : List Rect) (lines : List Line) (n i slot : ℕ) (apps : List (Given M)) (app : Given M) → n + i ≡ slot → slice_get apps i ≡ Some app
+      → slice_get (parts_in answer phase first lines n apps) i ≡ Some (part_in answer phase (routed first lines slot) app)
+  part_at phase first lines n i slot [] app e is = cc
+  part_at phase first lines n zero slot (a ∷ apps) app e is =
+      let here : n ≡ slot = omega (arith, e) in
+      let same : a ≡ app = cc in
+      ap (λ m. Some (part_in answer phase (routed first lines m) a)) here ∙ ap (λ b. Some (part_in answer phase (routed first lines slot) b)) same
+  part_at phase first lines n (suc i) slot (a ∷ apps) app e is = part_at phase first lines (n + 1) i slot apps app (omega (arith, e)) is
+
+  section_at : (calls : List (Call M)) (slot : ℕ) (app : Given M) → slice_get (given_by calls) slot ≡ Some app
+      → slice_get (sections_after answer calls) slot ≡ Some (section (application_in answer (phase_after Adding calls) (routed (first_rects calls) (lines_of calls) slot) app.spec))
+  section_at calls slot app is =
+      let section_of : Part M → List ℕ = λ part. section part.application in
+      slice_get-map section_of (held_after answer calls).parts slot
+      ∙ ap (option_map section_of) (part_at (phase_after Adding calls) (first_rects calls) (lines_of calls) 0 slot slot (given_by calls) app refl is)
+
+  pub each_by_itself_holds : EachByItself answer
+  each_by_itself_holds calls others slot other_slot app other phases is there same events =
+      let here : Phase = phase_after Adding calls in
+      let elsewhere : Phase = phase_after Adding others in
+      let mine : List LocalEvent = routed (first_rects calls) (lines_of calls) slot in
+      let theirs : List LocalEvent = routed (first_rects others) (lines_of others) other_slot in
+      section_at calls slot app is
+      ∙ ap (λ phase. Some (section (application_in answer phase mine app.spec))) phases
+      ∙ ap (λ es. Some (section (application_in answer elsewhere es app.spec))) events
+      ∙ ap (λ spec. Some (section (application_in answer elsewhere theirs spec))) same
+      ∙ sym (section_at others other_slot other there)

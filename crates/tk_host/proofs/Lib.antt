@@ -1,8 +1,11 @@
+mod Apart
+mod Events
 mod History
 mod Kept
 mod Order
 mod Parts
 mod Passing
+mod Routing
 mod Settling
 mod Slots
 mod Ways

@@ -1,31 +1,33 @@
 -- Which fault of adding an application is the first.
-use Rattle.std.proofs.Common.{◌≡◌, IsTrue, List, [], ◌∷◌, Result, Ok, Err, MatchResult, sym, ◌∙◌, subst, inl, inr}
+use Rattle.std.proofs.Common.{◌≡◌, ℕ, ◌≤◌, ◌<◌, IsTrue, arith, List, [], ◌∷◌, Result, Ok, Err, MatchResult, refl, sym, ◌∙◌, subst, inl, inr}
 use Rattle.tk_host.specs.declared.fault.HostFault.{HostFault}
-use Rattle.tk_host.specs.declared.fault.HostFault.TheVariants.{Overlap, TimeBack, BadValue, NoApp, TooManyApps, NameTaken, Started, Ended, Broken, NoMemory}
+use Rattle.tk_host.specs.declared.fault.HostFault.TheVariants.{Overlap, TimeBack, BadValue, NoApp, TooManyApps, NameTaken, RectOverlap, Started, Ended, Broken, NoMemory}
 use Rattle.tk_host.specs.declared.phase.Phase.{Phase}
-use Rattle.tk_host.specs.declared.phase.Phase.TheVariants.{Adding}
+use Rattle.tk_host.specs.declared.phase.Phase.TheVariants.{Adding, Reached}
+use Rattle.tk_route.specs.Values.{Values}
+use Rattle.tk_route.specs.declared.line.HostLine.{HostLine}
 use Rattle.tk_host.specs.Held.{Held}
 use Rattle.tk_host.specs.Spec.{Given}
-use Rattle.tk_host.specs.Refusals.{IsFirst, NoneApplies, IsRefusal, OneRefusal, PhaseRefuses, PartsRefuse, RefusesApp, app_faults, add_faults}
+use Rattle.tk_host.specs.Refusals.{IsFirst, NoneApplies, IsRefusal, OneRefusal, PhaseRefuses, PartsRefuse, RefusesApp, RefusesLine, RefusesRoute, app_faults, add_faults, line_faults, route_faults, time_faults}
 
 -- while applications are added the phase refuses nothing
 pub not_past : (phase : Phase) (fault : HostFault) → phase ≡ Adding → ¬ PhaseRefuses phase fault
 not_past phase fault adding refused = let P : Phase → Type 0 = λ p. PhaseRefuses p fault in subst P adding refused
 
 -- while applications are added those that are there decide
-pub first_of_parts : (held : Held) (app : Given) (fault : HostFault) → held.phase ≡ Adding
-    → IsFirst (PartsRefuse held.rects held.parts app) app_faults fault → IsFirst (RefusesApp held app) add_faults fault
+pub first_of_parts : {M : Type 0} (held : Held M) (app : Given M) (fault : HostFault) → held.phase ≡ Adding
+    → IsFirst (PartsRefuse held.known.rects held.parts app) app_faults fault → IsFirst (RefusesApp held app) add_faults fault
 first_of_parts held app fault adding first =
     inr (not_past held.phase Broken adding, inr (not_past held.phase Ended adding, inr (not_past held.phase Started adding, first)))
 
-pub none_of_parts : (held : Held) (app : Given) → held.phase ≡ Adding
-    → NoneApplies (PartsRefuse held.rects held.parts app) app_faults → NoneApplies (RefusesApp held app) add_faults
+pub none_of_parts : {M : Type 0} (held : Held M) (app : Given M) → held.phase ≡ Adding
+    → NoneApplies (PartsRefuse held.known.rects held.parts app) app_faults → NoneApplies (RefusesApp held app) add_faults
 none_of_parts held app adding none =
     (not_past held.phase Broken adding, (not_past held.phase Ended adding, (not_past held.phase Started adding, none)))
 
 -- what the applications that are there decide is decided
-pub decided_by_parts : {T : Type 0} (held : Held) (app : Given) (answer : Result T HostFault) → held.phase ≡ Adding
-    → MatchResult answer (λ _. NoneApplies (PartsRefuse held.rects held.parts app) app_faults) (IsRefusal (PartsRefuse held.rects held.parts app) app_faults)
+pub decided_by_parts : {T M : Type 0} (held : Held M) (app : Given M) (answer : Result T HostFault) → held.phase ≡ Adding
+    → MatchResult answer (λ _. NoneApplies (PartsRefuse held.known.rects held.parts app) app_faults) (IsRefusal (PartsRefuse held.known.rects held.parts app) app_faults)
     → MatchResult answer (λ _. NoneApplies (RefusesApp held app) add_faults) (IsRefusal (RefusesApp held app) add_faults)
 decided_by_parts held app (Ok x) adding none = none_of_parts held app adding none
 decided_by_parts held app (Err NoMemory) adding none = none_of_parts held app adding none
@@ -35,9 +37,38 @@ decided_by_parts held app (Err BadValue) adding first = first_of_parts held app 
 decided_by_parts held app (Err NoApp) adding first = first_of_parts held app NoApp adding first
 decided_by_parts held app (Err TooManyApps) adding first = first_of_parts held app TooManyApps adding first
 decided_by_parts held app (Err NameTaken) adding first = first_of_parts held app NameTaken adding first
+decided_by_parts held app (Err RectOverlap) adding first = first_of_parts held app RectOverlap adding first
 decided_by_parts held app (Err Started) adding first = first_of_parts held app Started adding first
 decided_by_parts held app (Err Ended) adding first = first_of_parts held app Ended adding first
 decided_by_parts held app (Err Broken) adding first = first_of_parts held app Broken adding first
+
+-- A line of the right time is refused for what it names. What is known came no later than what was reached.
+module _ {M : Type 0} (held : Held M) (known : Values) (before moment : ℕ) (line : HostLine) (from : held.phase ≡ Reached before) (le : before ≤ moment) (behind : known.moment ≤ before)
+    (same : held.known ≡ known) (timely : NoneApplies (RefusesLine held moment line) time_faults) where
+  abbrev Applies : HostFault → Type 0
+  Applies = RefusesLine held moment line
+
+  -- the first fault of the router is that of the line
+  pub route_first : (fault : HostFault) → IsFirst (RefusesRoute known moment line) route_faults fault → IsRefusal Applies line_faults fault
+  route_first fault (inl bad) = absurd (timely.1.1.0 bad.0)
+  route_first fault (inr (not_bad, inl back)) = let late : moment < known.moment = back.0 in absurd (omega (arith, late, le, behind))
+  route_first fault (inr (not_bad, inr (not_back, inl nobody))) =
+      let P : Values → Type 0 = λ k. RefusesRoute k moment line NoApp in
+      let Q : HostFault → Type 0 = λ f. IsRefusal Applies line_faults f in
+      subst Q (sym nobody.1) (inr (timely.0, inr (timely.1.0, inr (timely.1.1.0, inr (timely.1.1.1.0, inl (subst P (sym same) nobody.0, refl))))))
+  route_first fault (inr (not_bad, inr (not_back, inr (somebody, inl covers)))) =
+      let P : Values → Type 0 = λ k. RefusesRoute k moment line RectOverlap in
+      let N : Values → Type 0 = λ k. ¬ RefusesRoute k moment line NoApp in
+      let Q : HostFault → Type 0 = λ f. IsRefusal Applies line_faults f in
+      subst Q (sym covers.1) (inr (timely.0, inr (timely.1.0, inr (timely.1.1.0, inr (timely.1.1.1.0, inr (subst N (sym same) somebody, inl (subst P (sym same) covers.0, refl)))))))
+  route_first fault (inr (not_bad, inr (not_back, inr (somebody, inr (apart, none))))) = absurd none
+
+  -- and where it has none, the line has none
+  pub route_none : NoneApplies (RefusesRoute known moment line) route_faults → NoneApplies Applies line_faults
+  route_none none =
+      let N : Values → Type 0 = λ k. ¬ RefusesRoute k moment line NoApp in
+      let R : Values → Type 0 = λ k. ¬ RefusesRoute k moment line RectOverlap in
+      (timely.0, (timely.1.0, (timely.1.1.0, (timely.1.1.1.0, (subst N (sym same) none.1.1.0, (subst R (sym same) none.1.1.1.0, tt))))))
 
 only_first : (Applies : HostFault → Type 0) (faults : List HostFault) (one other : HostFault) → IsFirst Applies faults one → IsFirst Applies faults other → one ≡ other
 only_first Applies [] one other first next = absurd first

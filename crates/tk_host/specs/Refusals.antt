@@ -1,13 +1,17 @@
 -- When the calls of a host are refused, and with which fault.
 use Rattle.std.specs.Prelude.{Bool, IsTrue, ◌≡◌, ℕ, ◌<◌, ◌≤◌, ◌⊎◌, List, [], ◌∷◌, length, Any}
 use Rattle.tk_host.specs.declared.fault.HostFault.{HostFault}
-use Rattle.tk_host.specs.declared.fault.HostFault.TheVariants.{Overlap, TimeBack, BadValue, NoApp, TooManyApps, NameTaken, Started, Ended, Broken, NoMemory}
+use Rattle.tk_host.specs.declared.fault.HostFault.TheVariants.{Overlap, TimeBack, BadValue, NoApp, TooManyApps, NameTaken, RectOverlap, Started, Ended, Broken, NoMemory}
 use Rattle.tk_host.specs.declared.phase.Phase.{Phase}
 use Rattle.tk_host.specs.declared.phase.Phase.TheVariants.{Reached, Finished, Lost}
 use Rattle.tk_base.specs.declared.rect.Rect.{Rect}
 use Rattle.tk_base.specs.Rect.{SharePixel}
 use Rattle.tk_app.specs.Part.{Part}
-use Rattle.tk_host.specs.Spec.{Given, IsInRange, rect_of}
+use Rattle.tk_route.specs.Refusals.{Covers, NamesNobody, IsInRange as IsLineInRange}
+use Rattle.tk_route.specs.Values.{Values}
+use Rattle.tk_route.specs.declared.line.HostLine.{HostLine}
+use Rattle.tk_app.specs.Seen.{names_of}
+use Rattle.tk_host.specs.Spec.{Given, IsInRange, Repeats, rect_of}
 use Rattle.tk_host.specs.Held.{Held, Hosted, reached}
 
 -- the first of these faults that applies is this one
@@ -32,7 +36,7 @@ PhaseRefuses (Reached moment) Started = Unit {0}
 PhaseRefuses phase found = ⊥
 
 -- A refused call leaves a host as it was, but for want of memory while applications run.
-abbrev pub LeftBy : HostFault → Hosted → Hosted → Type 0
+abbrev pub LeftBy : {M : Type 0} → HostFault → Hosted M → Hosted M → Type 0
 LeftBy NoMemory old new = new.held.phase ≡ Lost
 LeftBy found old new = new ≡ old
 
@@ -40,10 +44,10 @@ LeftBy found old new = new ≡ old
 abbrev pub app_faults : List HostFault
 app_faults = BadValue ∷ TooManyApps ∷ NameTaken ∷ Overlap ∷ []
 
-abbrev pub PartsRefuse : List Rect → List Part → Given → HostFault → Type 0
-PartsRefuse rects parts app BadValue = ¬ IsInRange app
+abbrev pub PartsRefuse : {M : Type 0} → List Rect → List (Part M) → Given M → HostFault → Type 0
+PartsRefuse rects parts app BadValue = ¬ IsInRange app.spec.name (rect_of app) app.spec.budget
 PartsRefuse rects parts app TooManyApps = 16 ≤ length parts
-PartsRefuse rects parts app NameTaken = Any (λ part. part.application.name ≡ app.spec.name) parts
+PartsRefuse rects parts app NameTaken = Any (λ part. part.application.name ≡ app.spec.name) parts ⊎ Repeats (names_of app.spec.aliases)
 PartsRefuse rects parts app Overlap = Any (λ rect. SharePixel rect (rect_of app)) rects
 PartsRefuse rects parts app found = ⊥
 
@@ -51,11 +55,11 @@ PartsRefuse rects parts app found = ⊥
 abbrev pub add_faults : List HostFault
 add_faults = Broken ∷ Ended ∷ Started ∷ app_faults
 
-abbrev pub RefusesApp : Held → Given → HostFault → Type 0
+abbrev pub RefusesApp : {M : Type 0} → Held M → Given M → HostFault → Type 0
 RefusesApp held app Broken = PhaseRefuses held.phase Broken
 RefusesApp held app Ended = PhaseRefuses held.phase Ended
 RefusesApp held app Started = PhaseRefuses held.phase Started
-RefusesApp held app found = PartsRefuse held.rects held.parts app found
+RefusesApp held app found = PartsRefuse held.known.rects held.parts app found
 
 -- starting the applications
 abbrev pub start_faults : List HostFault
@@ -65,16 +69,42 @@ start_faults = Broken ∷ Ended ∷ Started ∷ []
 abbrev pub moment_faults : List HostFault
 moment_faults = Broken ∷ Ended ∷ BadValue ∷ TimeBack ∷ []
 
-abbrev pub RefusesMoment : Held → ℕ → HostFault → Type 0
+abbrev pub RefusesMoment : {M : Type 0} → Held M → ℕ → HostFault → Type 0
 RefusesMoment held moment BadValue = 1000000000000 < moment
 RefusesMoment held moment TimeBack = moment < reached held.phase
 RefusesMoment held moment found = PhaseRefuses held.phase found
+
+-- a line at a moment
+abbrev pub line_faults : List HostFault
+line_faults = Broken ∷ Ended ∷ BadValue ∷ TimeBack ∷ NoApp ∷ RectOverlap ∷ []
+
+abbrev pub RefusesLine : {M : Type 0} → Held M → ℕ → HostLine → HostFault → Type 0
+RefusesLine held moment line BadValue = ¬ ((moment ≤ 1000000000000) × IsLineInRange line)
+RefusesLine held moment line TimeBack = moment < reached held.phase
+RefusesLine held moment line NoApp = NamesNobody held.known.rects line
+RefusesLine held moment line RectOverlap = Covers held.known.rects line
+RefusesLine held moment line found = PhaseRefuses held.phase found
+
+-- those that a host tells before it routes a line
+abbrev pub time_faults : List HostFault
+time_faults = Broken ∷ Ended ∷ BadValue ∷ TimeBack ∷ []
+
+-- and what a router refuses, by what it knows
+abbrev pub route_faults : List HostFault
+route_faults = BadValue ∷ TimeBack ∷ NoApp ∷ RectOverlap ∷ []
+
+abbrev pub RefusesRoute : Values → ℕ → HostLine → HostFault → Type 0
+RefusesRoute known moment line BadValue = ¬ ((moment ≤ 1000000000000) × IsLineInRange line)
+RefusesRoute known moment line TimeBack = moment < known.moment
+RefusesRoute known moment line NoApp = NamesNobody known.rects line
+RefusesRoute known moment line RectOverlap = Covers known.rects line
+RefusesRoute known moment line found = ⊥
 
 -- the section of a slot
 abbrev pub section_faults : List HostFault
 section_faults = Broken ∷ NoApp ∷ []
 
-abbrev pub RefusesSection : Held → ℕ → HostFault → Type 0
+abbrev pub RefusesSection : {M : Type 0} → Held M → ℕ → HostFault → Type 0
 RefusesSection held slot NoApp = length held.parts ≤ slot
 RefusesSection held slot found = PhaseRefuses held.phase found
 

@@ -1,33 +1,57 @@
 -- What a step of a stage makes of the part in one slot.
-use Rattle.std.specs.Prelude.{◌≡◌, ◌≤◌, ◌-◌, ◌++◌, ◌==◌, ℕ, Bool, true, false, List, Option, Some, None, slice_get, slice_set, min, if◌then◌else◌}
+use Rattle.std.specs.Prelude.{◌≡◌, ◌+◌, ◌≤◌, ◌-◌, ◌++◌, ◌==◌, ℕ, Bool, true, false, List, [], ◌∷◌, Option, Some, None, slice_get, slice_set, min, if◌then◌else◌}
+use Rattle.tk_input.specs.declared.event.LocalEvent.{LocalEvent}
+use Rattle.tk_route.specs.declared.delivery.Delivery.{Delivery}
 use Rattle.tk_turns.specs.Rounds.{entry}
 use Rattle.tk_app.specs.Application.{next_due}
-use Rattle.tk_app.specs.Part.{Part, needs, settling_begun, stage_done}
+use Rattle.tk_app.specs.Part.{Part, Rests, delivered, needs, settling_begun, stage_done}
+use Rattle.tk_app.specs.Seen.{Meaning}
 use Rattle.tk_app.specs.Turns.{Applications}
 
 -- a part after a stage at a moment began: where something is due of it then, it begins to settle
-abbrev pub begun_by : Option ℕ → ℕ → Part → Part
+abbrev pub begun_by : {M : Type 0} → Option ℕ → ℕ → Part M → Part M
 begun_by None moment part = part
 begun_by (Some due) moment part = if due == moment then settling_begun moment part else part
 
-abbrev pub begun_at : ℕ → Part → Part
+abbrev pub begun_at : {M : Type 0} → ℕ → Part M → Part M
 begun_at moment part = begun_by (next_due part.application) moment part
 
 -- the part in a slot began a stage at a moment
-pub record BeginsAt (moment slot : ℕ) (old new : Applications) : Type 0 where
-  pub before : Part
+pub record BeginsAt {M : Type 0} (moment slot : ℕ) (old new : Applications M) : Type 0 where
+  pub before : Part M
   pub was : slice_get old.parts slot ≡ Some before
   pub changed : new ≡ record old { parts = slice_set old.parts slot (begun_at moment before) }
 
 -- The part in a slot took its turn: where something is under way in it, it took what that still needs, and at most a slice, and that is told.
-pub record TakesTurn (slice slot : ℕ) (again : Bool) (old new : Applications) : Type 0 where
-  pub before : Part
-  pub after : Part
+pub record TakesTurn {M : Type 0} (answer : M → Meaning) (slice slot : ℕ) (again : Bool) (old new : Applications M) : Type 0 where
+  pub before : Part M
+  pub after : Part M
   pub was : slice_get old.parts slot ≡ Some before
   pub changed : new.parts ≡ slice_set old.parts slot after
-  pub same : stage_done old.moment after ≡ stage_done old.moment before
-  pub left : needs old.moment after ≡ needs old.moment before - slice
-  pub told : new.turns ≡ old.turns ++ entry slot (min slice (needs old.moment before))
-  pub last : again ≡ false → after ≡ stage_done old.moment before
-  pub more : again ≡ true → slice ≤ needs old.moment before
+  pub same : stage_done answer old.moment after ≡ stage_done answer old.moment before
+  pub left : needs answer old.moment after ≡ needs answer old.moment before - slice
+  pub told : new.turns ≡ old.turns ++ entry slot (min slice (needs answer old.moment before))
+  pub last : again ≡ false → after ≡ stage_done answer old.moment before
+  pub more : again ≡ true → slice ≤ needs answer old.moment before
   pub moment : new.moment ≡ old.moment
+
+-- ── events ──
+
+-- a part to which an event was given, and which begins to settle
+abbrev pub given_event : {M : Type 0} → LocalEvent → Part M → Part M
+given_event event part = settling_begun event.moment (record part { application = delivered event part.application })
+
+-- the parts from a slot on, after what one of them is given
+abbrev pub given_from : {M : Type 0} → ℕ → Delivery → List (Part M) → List (Part M)
+given_from slot delivery [] = []
+given_from slot delivery (part ∷ parts) =
+    (if delivery.slot == slot then given_event delivery.event part else part) ∷ given_from (slot + 1) delivery parts
+
+-- who is given an event has nothing under way
+abbrev pub RestsIn : {M : Type 0} → ℕ → List (Part M) → Type 0
+RestsIn {M} slot parts = (part : Part M) → slice_get parts slot ≡ Some part → part.work ≡ Rests
+
+-- the deliveries are of this moment
+abbrev pub AreAt : ℕ → List Delivery → Type 0
+AreAt moment [] = Unit {0}
+AreAt moment (delivery ∷ given) = (delivery.event.moment ≡ moment) × AreAt moment given

@@ -22,6 +22,9 @@ pub enum HostFault {
     /// Another application has this name (39).
     #[error("name is taken")]
     NameTaken,
+    /// The new rectangle shares a pixel with another application's (43).
+    #[error("new rectangle overlaps another")]
+    RectOverlap,
     /// The applications have been started (40).
     #[error("already started")]
     Started,
@@ -51,6 +54,7 @@ impl HostFault {
             HostFault::NoApp => Some(37),
             HostFault::TooManyApps => Some(38),
             HostFault::NameTaken => Some(39),
+            HostFault::RectOverlap => Some(43),
             HostFault::Started => Some(40),
             HostFault::Ended => Some(41),
             HostFault::Broken => Some(42),

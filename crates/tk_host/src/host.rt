@@ -1,8 +1,14 @@
-ghost use Rattle.std.specs.Prelude.{◌≡◌, ◌↔◌, ℕ, List, IsTrue, Any, MatchResult};
+ghost use Rattle.std.specs.Prelude.{◌≡◌, ◌≤◌, ◌↔◌, ℕ, true, List, [], ◌∷◌, length, IsTrue, Any, IfOk, OnErr, OnOk, MatchResult};
 ghost use Rattle.tk_base.specs.Rect.{SharePixel};
-ghost use Rattle.tk_host.specs.Refusals.{IsRefusal, NoneApplies, app_faults, PartsRefuse};
-ghost use Rattle.tk_host.specs.Spec.{given};
+ghost use Rattle.tk_base.specs.declared.rect.Rect.{Rect as RectOf};
+ghost use Rattle.tk_app.specs.Seen.{names_of};
+ghost use Rattle.tk_route.specs.Lines.{Line, at, values};
+ghost use Rattle.tk_route.specs.Routes.{deliveries, routes};
+ghost use Rattle.tk_route.specs.Screen.{are_apart};
+ghost use Rattle.tk_host.specs.Refusals.{IsFirst, IsRefusal, NoneApplies, PartsRefuse, RefusesRoute, app_faults, route_faults};
+ghost use Rattle.tk_host.specs.Spec.{Repeats, given};
 
+use crate::events::deliver_all;
 use crate::fault::HostFault;
 use crate::phase::Phase;
 use crate::spec::is_in_range;
@@ -10,8 +16,9 @@ use crate::stages::{advance, stage};
 use std::alloc::Global;
 use std::marker::Model;
 use tcl_text::Text;
-use tk_app::{Budget, MAX_APPLICATIONS, Shared, Size};
+use tk_app::{Alias, AliasMeaning, Aliases, Budget, MAX_APPLICATIONS, Shared, Size};
 use tk_base::Rect;
+use tk_route::{HostLine, LineFault, Routed, Router};
 use tk_turns::Turn;
 
 /// The last moment of a host, in milliseconds.
@@ -20,77 +27,83 @@ pub const MAX_MOMENT: u64 = 1_000_000_000_000;
 /// Applications side by side with one clock, in milliseconds from 0. What becomes of each rests on itself alone; those that have something to
 /// do at a moment take turns, in the order of their slots, each at most a slice of steps.
 #[derive(Drop)]
-pub struct Host {
+pub struct Host<M: AliasMeaning> {
     alloc: Global,
     slice: u64,
     phase: Phase,
     rects: Vec<Rect>,
-    shared: Shared,
+    router: Router,
+    shared: Shared<M>,
 }
 
-impl Model for Host {
+impl<M: AliasMeaning> Model for Host<M> {
     ghost use Rattle.std.specs.Prelude.{◌≤◌};
-    ghost use Rattle.tk_host.specs.Held.{Hosted};
-    ghost use Rattle.tk_host.specs.Ready.{IsReady};
+    ghost use Rattle.tk_host.specs.Held.{Hosted, known_by};
+    ghost use Rattle.tk_host.specs.Ready.{IsReady, IsRouted};
 
-    ghost Value = { Hosted };
+    ghost Value = { Hosted M };
 
     ghost view = { λ h. record {
-      held = record { phase = h.phase; rects = h.rects.items; parts = h.shared.parts };
+      held = record { phase = h.phase; known = known_by h.phase h.rects.items h.router; parts = h.shared.parts };
       slice = h.slice;
       turns = h.shared.turns;
     } };
 
-    ghost invariant = { λ h. (1 ≤ h.slice) × IsReady h.phase h.shared.moment h.shared.parts };
+    ghost invariant = { λ h. (1 ≤ h.slice) × IsReady M.answer h.phase h.shared.moment h.shared.parts × IsRouted h.phase h.rects.items h.router h.shared.parts };
 }
 
-impl Host {
+impl<M: AliasMeaning> Host<M> {
     ghost use Rattle.std.specs.Prelude.{◌≡◌, ◌≢◌, ◌≤◌, ℕ, List, [], ◌∷◌, ◌++◌, map, slice_get, Some, IfOk, IfErr, OnOk, OnErr, MatchResult};
     ghost use Rattle.tk_app.specs.Section.{section};
-    ghost use Rattle.tk_host.specs.Held.{AddApp, AdvanceTo, Call, End, Start, after_advance, after_end, after_start, gone_to, held_after, turns_after, with_app};
+    ghost use Rattle.tk_base.specs.declared.rect.Rect.{Rect};
+    ghost use Rattle.tk_route.specs.Lines.{Line, at, values};
+    ghost use Rattle.tk_host.specs.Held.{AddApp, AdvanceTo, Call, End, LineAt, Start, after_advance, after_end, after_line, after_start, gone_to, held_after, turns_after, with_app};
     ghost use Rattle.tk_host.specs.Ready.{IsAt};
     ghost use Rattle.tk_host.specs.Sections.{sections_after};
     ghost use Rattle.tk_host.specs.Spec.{given};
-    ghost use Rattle.tk_host.specs.Refusals.{IsRefusal, LeftBy, NoneApplies, PhaseRefuses, RefusesApp, RefusesMoment, RefusesSection, add_faults, moment_faults, section_faults, start_faults};
+    ghost use Rattle.tk_host.specs.Refusals.{IsRefusal, LeftBy, NoneApplies, PhaseRefuses, RefusesApp, RefusesLine, RefusesMoment, RefusesSection, add_faults, line_faults, moment_faults, section_faults, start_faults, time_faults};
 
     /// A host without applications. Each takes at most `slice` steps in a turn; what comes of it doesn't depend on that. It takes no memory.
-    pub fn new(alloc: Global, slice: u64) -> Host
+    pub fn new(alloc: Global, slice: u64) -> Host<M>
         requires { 1 ≤ slice }
-        ensures { result ≡ record { held = held_after []; slice = slice; turns = [] } }
+        ensures { result ≡ record { held = held_after M.answer []; slice = slice; turns = [] } }
     {
         Host {
             alloc,
             slice,
             phase: Phase::Adding,
             rects: Vec::new(alloc),
+            router: router_of(&[]),
             shared: Shared::new(alloc),
         }
     }
 
-    /// Adds an application in the next slot, from 0 on: its rectangle on the screen in pixels, and the steps that its scripts may take: how
-    /// many at first, and how many each event grants that is routed to it, up to that number again. Refused are, in this order: `Broken`
-    /// (42), `Ended` (41), `Started` (40), `BadValue` (36), `TooManyApps` (38), `NameTaken` (39) and `Overlap` (34).
+    /// Adds an application in the next slot, from 0 on: its rectangle on the screen in pixels, the steps that its scripts may take: how
+    /// many at first, and how many each event grants that is routed to it, up to that number again; and its aliases, each of which replaces a
+    /// command of its name (interp(n)). Refused are, in this order: `Broken` (42), `Ended` (41), `Started` (40), `BadValue` (36), `TooManyApps`
+    /// (38), `NameTaken` (39; also where two of the aliases have one name) and `Overlap` (34).
     pub fn add_app(
         &mut self,
         name: Text,
         rect: Rect,
         script: Text,
         budget: Budget,
+        aliases: Aliases<M>,
     ) -> Result<(), HostFault>
-        ensures added { OnOk result (self.new ≡ with_app (given name rect script budget) self.old) }
-        ensures unless { OnOk result (NoneApplies (RefusesApp self.old.held (given name rect script budget)) add_faults) }
-        ensures refused { IfErr result (IsRefusal (RefusesApp self.old.held (given name rect script budget)) add_faults) }
+        ensures added { OnOk result (self.new ≡ with_app (given name rect script budget aliases) self.old) }
+        ensures unless { OnOk result (NoneApplies (RefusesApp self.old.held (given name rect script budget aliases)) add_faults) }
+        ensures refused { IfErr result (IsRefusal (RefusesApp self.old.held (given name rect script budget aliases)) add_faults) }
         ensures unchanged { OnErr result (self.new ≡ self.old) }
-        ensures history { (calls : List Call) → self.old.held ≡ held_after calls
-            → OnOk result (self.new.held ≡ held_after (calls ++ AddApp (given name rect script budget) ∷ [])) }
+        ensures history { (calls : List (Call M)) → self.old.held ≡ held_after M.answer calls
+            → OnOk result (self.new.held ≡ held_after M.answer (calls ++ AddApp (given name rect script budget aliases) ∷ [])) }
     {
-        self.may_add(&name, rect, budget)?;
+        self.may_add(&name, rect, budget, &aliases)?;
         self.rects.reserve(1)?;
         let size = Size {
             width: rect.width,
             height: rect.height,
         };
-        self.shared.add(name, size, budget, script)?;
+        self.shared.add(name, size, budget, script, aliases)?;
         match self.rects.push(rect) {
             Ok(()) => Ok(()),
             Err(_) => unreachable!(),
@@ -100,12 +113,12 @@ impl Host {
     /// Runs each application's script at moment 0, and does what is due then, in turns. Refused are, in this order: `Broken` (42), `Ended`
     /// (41) and `Started` (40). After a want of memory the host is broken.
     pub fn start(&mut self) -> Result<(), HostFault>
-        ensures started { OnOk result (self.new ≡ after_start self.old) }
+        ensures started { OnOk result (self.new ≡ after_start M.answer self.old) }
         ensures unless { OnOk result (NoneApplies (PhaseRefuses self.old.held.phase) start_faults) }
         ensures refused { IfErr result (IsRefusal (PhaseRefuses self.old.held.phase) start_faults) }
         ensures left { IfErr result (λ fault. LeftBy fault self.old self.new) }
-        ensures history { (calls : List Call) → self.old.held ≡ held_after calls → OnOk result (self.new.held ≡ held_after (calls ++ Start ∷ [])) }
-        ensures turns { (calls : List Call) → self.old.held ≡ held_after calls → OnOk result (self.new.turns ≡ turns_after self.old.slice calls Start) }
+        ensures history { (calls : List (Call M)) → self.old.held ≡ held_after M.answer calls → OnOk result (self.new.held ≡ held_after M.answer (calls ++ Start ∷ [])) }
+        ensures turns { (calls : List (Call M)) → self.old.held ≡ held_after M.answer calls → OnOk result (self.new.turns ≡ turns_after M.answer self.old.slice calls Start) }
     {
         match self.phase {
             Phase::Adding => {}
@@ -113,10 +126,37 @@ impl Host {
             Phase::Finished(_) => return Err(HostFault::Ended),
             Phase::Lost => return Err(HostFault::Broken),
         }
+        self.router = router_of(self.rects.as_slice());
         self.phase = Phase::Lost;
         self.shared.clear_turns();
         stage(&mut self.shared, self.slice)?;
         self.phase = Phase::Reached(0);
+        Ok(())
+    }
+
+    /// A line of the pointer, of a key, of who has the keys, or of a rectangle, at a moment, in milliseconds: the applications come to the
+    /// moment, each doing what is due of its own on the way, and then those that the line gives an event do what comes of it, in turns. Refused
+    /// are, in this order: `Broken` (42), `Ended` (41), `BadValue` (36) outside the ranges of a session, `TimeBack` (35), `NoApp` (37) and
+    /// `RectOverlap` (43). After a want of memory the host is broken.
+    pub fn line(&mut self, moment: u64, line: HostLine) -> Result<(), HostFault>
+        requires { self.old.held.phase ≢ Phase.Adding }
+        ensures lined { (first : List Rect) (earlier : List Line) → self.old.held.known ≡ values first earlier
+            → OnOk result (self.new ≡ after_line M.answer first earlier (at moment line) self.old) }
+        ensures unless { OnOk result (NoneApplies (RefusesLine self.old.held moment line) line_faults) }
+        ensures refused { IfErr result (IsRefusal (RefusesLine self.old.held moment line) line_faults) }
+        ensures left { IfErr result (λ fault. LeftBy fault self.old self.new) }
+        ensures history { (calls : List (Call M)) → self.old.held ≡ held_after M.answer calls → OnOk result (self.new.held ≡ held_after M.answer (calls ++ LineAt moment line ∷ [])) }
+        ensures turns { (calls : List (Call M)) → self.old.held ≡ held_after M.answer calls → OnOk result (self.new.turns ≡ turns_after M.answer self.old.slice calls (LineAt moment line)) }
+    {
+        self.may_take(moment, &line)?;
+        let routed = route(&mut self.router, moment, line)?;
+        self.phase = Phase::Lost;
+        let shared = &mut self.shared;
+        shared.clear_turns();
+        advance(shared, moment, self.slice)?;
+        shared.set_moment(moment);
+        deliver_all(shared, routed, self.slice)?;
+        self.phase = Phase::Reached(moment);
         Ok(())
     }
 
@@ -125,12 +165,12 @@ impl Host {
     /// want of memory the host is broken.
     pub fn advance_to(&mut self, moment: u64) -> Result<(), HostFault>
         requires { self.old.held.phase ≢ Phase.Adding }
-        ensures advanced { OnOk result (self.new ≡ after_advance moment self.old) }
+        ensures advanced { OnOk result (self.new ≡ after_advance M.answer moment self.old) }
         ensures unless { OnOk result (NoneApplies (RefusesMoment self.old.held moment) moment_faults) }
         ensures refused { IfErr result (IsRefusal (RefusesMoment self.old.held moment) moment_faults) }
         ensures left { IfErr result (λ fault. LeftBy fault self.old self.new) }
-        ensures history { (calls : List Call) → self.old.held ≡ held_after calls → OnOk result (self.new.held ≡ held_after (calls ++ AdvanceTo moment ∷ [])) }
-        ensures turns { (calls : List Call) → self.old.held ≡ held_after calls → OnOk result (self.new.turns ≡ turns_after self.old.slice calls (AdvanceTo moment)) }
+        ensures history { (calls : List (Call M)) → self.old.held ≡ held_after M.answer calls → OnOk result (self.new.held ≡ held_after M.answer (calls ++ AdvanceTo moment ∷ [])) }
+        ensures turns { (calls : List (Call M)) → self.old.held ≡ held_after M.answer calls → OnOk result (self.new.turns ≡ turns_after M.answer self.old.slice calls (AdvanceTo moment)) }
     {
         self.go_to(moment, Phase::Reached(moment))
     }
@@ -139,12 +179,12 @@ impl Host {
     /// memory the host is broken.
     pub fn end(&mut self, moment: u64) -> Result<(), HostFault>
         requires { self.old.held.phase ≢ Phase.Adding }
-        ensures ended { OnOk result (self.new ≡ after_end moment self.old) }
+        ensures ended { OnOk result (self.new ≡ after_end M.answer moment self.old) }
         ensures unless { OnOk result (NoneApplies (RefusesMoment self.old.held moment) moment_faults) }
         ensures refused { IfErr result (IsRefusal (RefusesMoment self.old.held moment) moment_faults) }
         ensures left { IfErr result (λ fault. LeftBy fault self.old self.new) }
-        ensures history { (calls : List Call) → self.old.held ≡ held_after calls → OnOk result (self.new.held ≡ held_after (calls ++ End moment ∷ [])) }
-        ensures turns { (calls : List Call) → self.old.held ≡ held_after calls → OnOk result (self.new.turns ≡ turns_after self.old.slice calls (End moment)) }
+        ensures history { (calls : List (Call M)) → self.old.held ≡ held_after M.answer calls → OnOk result (self.new.held ≡ held_after M.answer (calls ++ End moment ∷ [])) }
+        ensures turns { (calls : List (Call M)) → self.old.held ≡ held_after M.answer calls → OnOk result (self.new.turns ≡ turns_after M.answer self.old.slice calls (End moment)) }
     {
         self.go_to(moment, Phase::Finished(moment))
     }
@@ -155,7 +195,7 @@ impl Host {
         ensures section { IfOk result (λ bytes. slice_get (map (λ part. section part.application) self.now.held.parts) slot ≡ Some bytes.items) }
         ensures unless { OnOk result (NoneApplies (RefusesSection self.now.held slot) section_faults) }
         ensures refused { IfErr result (IsRefusal (RefusesSection self.now.held slot) section_faults) }
-        ensures history { (calls : List Call) → self.now.held ≡ held_after calls → IfOk result (λ bytes. slice_get (sections_after calls) slot ≡ Some bytes.items) }
+        ensures history { (calls : List (Call M)) → self.now.held ≡ held_after M.answer calls → IfOk result (λ bytes. slice_get (sections_after M.answer calls) slot ≡ Some bytes.items) }
     {
         if let Phase::Lost = self.phase {
             return Err(HostFault::Broken);
@@ -166,7 +206,7 @@ impl Host {
         Ok(self.shared.section(self.alloc, slot)?)
     }
 
-    /// The turns that took steps in the last `start`, `advance_to` or `end` that wasn't refused with a number, one after another: whose each
+    /// The turns that took steps in the last `start`, `line`, `advance_to` or `end` that wasn't refused with a number, one after another: whose each
     /// was, and how many steps it took. Before the first of these calls there are none, and after a want of memory it is those of the call
     /// that met it. It takes no memory.
     pub fn turns(&self) -> &[Turn]
@@ -179,7 +219,7 @@ impl Host {
     fn go_to(&mut self, moment: u64, phase: Phase) -> Result<(), HostFault>
         requires begun { self.old.held.phase ≢ Phase.Adding }
         requires there { IsAt moment phase }
-        ensures gone { OnOk result (self.new ≡ gone_to phase moment self.old) }
+        ensures gone { OnOk result (self.new ≡ gone_to M.answer phase moment self.old) }
         ensures unless { OnOk result (NoneApplies (RefusesMoment self.old.held moment) moment_faults) }
         ensures refused { IfErr result (IsRefusal (RefusesMoment self.old.held moment) moment_faults) }
         ensures left { IfErr result (λ fault. LeftBy fault self.old self.new) }
@@ -214,14 +254,48 @@ impl Host {
         Ok(())
     }
 
+    /// Why a line can't be taken, if it can't, but for what it names.
+    fn may_take(&self, moment: u64, line: &HostLine) -> Result<(), HostFault>
+        requires { self.now.held.phase ≢ Phase.Adding }
+        ensures answer { MatchResult result (λ _. NoneApplies (RefusesLine self.now.held moment line.now) time_faults) (IsRefusal (RefusesLine self.now.held moment line.now) line_faults) }
+        ensures left { IfErr result (λ fault. LeftBy fault self.now self.now) }
+    {
+        let reached = match self.phase {
+            Phase::Adding => unreachable!(),
+            Phase::Reached(reached) => reached,
+            Phase::Finished(_) => return Err(HostFault::Ended),
+            Phase::Lost => return Err(HostFault::Broken),
+        };
+        if moment > MAX_MOMENT || !line.is_in_range() {
+            return Err(HostFault::BadValue);
+        }
+        if moment < reached {
+            return Err(HostFault::TimeBack);
+        }
+        Ok(())
+    }
+
     /// Why an application can't be added, if it can't.
-    fn may_add(&self, name: &Text, rect: Rect, budget: Budget) -> Result<(), HostFault>
+    fn may_add(
+        &self,
+        name: &Text,
+        rect: Rect,
+        budget: Budget,
+        aliases: &Aliases<M>,
+    ) -> Result<(), HostFault>
         ensures { (script : List ℕ) → MatchResult result
-            (λ _. NoneApplies (RefusesApp self.now.held (given name.now rect script budget)) add_faults)
-            (IsRefusal (RefusesApp self.now.held (given name.now rect script budget)) add_faults) }
+            (λ _. NoneApplies (RefusesApp self.now.held (given name.now rect script budget aliases.now)) add_faults)
+            (IsRefusal (RefusesApp self.now.held (given name.now rect script budget aliases.now)) add_faults) }
     {
         match self.phase {
-            Phase::Adding => test_app(&self.shared, self.rects.as_slice(), name, rect, budget),
+            Phase::Adding => test_app(
+                &self.shared,
+                self.rects.as_slice(),
+                name,
+                rect,
+                budget,
+                aliases,
+            ),
             Phase::Reached(_) => Err(HostFault::Started),
             Phase::Finished(_) => Err(HostFault::Ended),
             Phase::Lost => Err(HostFault::Broken),
@@ -230,16 +304,17 @@ impl Host {
 }
 
 /// Why an application can't join these, if it can't.
-fn test_app(
-    shared: &Shared,
+fn test_app<M: AliasMeaning>(
+    shared: &Shared<M>,
     rects: &[Rect],
     name: &Text,
     rect: Rect,
     budget: Budget,
+    aliases: &Aliases<M>,
 ) -> Result<(), HostFault>
     ensures { (script : List ℕ) → MatchResult result
-        (λ _. NoneApplies (PartsRefuse rects.now shared.now.parts (given name.now rect script budget)) app_faults)
-        (IsRefusal (PartsRefuse rects.now shared.now.parts (given name.now rect script budget)) app_faults) }
+        (λ _. NoneApplies (PartsRefuse rects.now shared.now.parts (given name.now rect script budget aliases.now)) app_faults)
+        (IsRefusal (PartsRefuse rects.now shared.now.parts (given name.now rect script budget aliases.now)) app_faults) }
 {
     if !is_in_range(name, rect, budget) {
         return Err(HostFault::BadValue);
@@ -247,7 +322,7 @@ fn test_app(
     if shared.len() >= MAX_APPLICATIONS {
         return Err(HostFault::TooManyApps);
     }
-    if shared.has_name(name) {
+    if shared.has_name(name) || names_repeat(aliases) {
         return Err(HostFault::NameTaken);
     }
     if is_place_taken(rects, rect) {
@@ -261,4 +336,58 @@ fn is_place_taken(rects: &[Rect], rect: Rect) -> bool
     ensures { IsTrue result ↔ Any (λ other. SharePixel other rect) rects.now }
 {
     rects.iter().any(|other| other.overlaps(rect))
+}
+
+/// Whether two of the aliases have one name.
+fn names_repeat<M: AliasMeaning>(aliases: &Aliases<M>) -> bool
+    ensures { IsTrue result ↔ Repeats (names_of aliases.now) }
+{
+    let mut rest = aliases.as_slice();
+    while let [alias, others @ ..] = rest {
+        if is_among(alias.name(), others) {
+            return true;
+        }
+        rest = others;
+    }
+    false
+}
+
+/// Whether one of the aliases has this name.
+fn is_among<M: AliasMeaning>(name: &Text, aliases: &[Alias<M>]) -> bool
+    ensures { IsTrue result ↔ Any (λ alias. alias.0 ≡ name.now) aliases.now }
+{
+    aliases
+        .iter()
+        .any(|alias| alias.name().as_str() == name.as_str())
+}
+
+/// A router before the first line, for rectangles that are apart.
+fn router_of(rects: &[Rect]) -> Router
+    requires apart { are_apart rects.now ≡ true }
+    requires few { length rects.now ≤ 16 }
+    ensures { result ≡ values rects.now [] }
+{
+    match Router::new(rects) {
+        Ok(router) => router,
+        Err(_) => unreachable!(),
+    }
+}
+
+/// Leads a line whose numbers are in their ranges and which doesn't go back in time. It is refused for what it names alone.
+fn route(router: &mut Router, moment: u64, line: HostLine) -> Result<Routed, HostFault>
+    ensures routed { (first : List RectOf) (earlier : List Line) → router.old ≡ values first earlier
+        → IfOk result (λ routed. deliveries routed ≡ routes first earlier (at moment line)) }
+    ensures known { (first : List RectOf) (earlier : List Line) → router.old ≡ values first earlier → OnOk result (router.new ≡ values first (at moment line ∷ earlier)) }
+    ensures refused { MatchResult result
+        (λ _. NoneApplies (RefusesRoute router.old moment line) route_faults)
+        (IsFirst (RefusesRoute router.old moment line) route_faults) }
+    ensures unchanged { OnErr result (router.new ≡ router.old) }
+{
+    match router.line(moment, line) {
+        Ok(routed) => Ok(routed),
+        Err(LineFault::BadLine) => Err(HostFault::BadValue),
+        Err(LineFault::TimeBack) => Err(HostFault::TimeBack),
+        Err(LineFault::NoApp) => Err(HostFault::NoApp),
+        Err(LineFault::RectOverlap) => Err(HostFault::RectOverlap),
+    }
 }

@@ -1,6 +1,7 @@
 //! Applications side by side in one host, which take turns, and the section that each of them ends with.
 #![tactic(auto)]
 
+mod events;
 mod fault;
 mod host;
 mod laws;
@@ -13,6 +14,7 @@ pub use host::{Host, MAX_MOMENT};
 pub use laws::{bounded_stages, each_by_itself, one_refusal};
 pub use phase::Phase;
 pub use spec::{MAX_BUDGET, MAX_PIXELS, is_name};
-pub use tk_app::{Budget, MAX_APPLICATIONS};
+pub use tk_app::{Alias, AliasMeaning, AliasReply, Aliases, Budget, MAX_APPLICATIONS};
 pub use tk_base::Rect;
+pub use tk_route::{HostLine, Keysym};
 pub use tk_turns::Turn;

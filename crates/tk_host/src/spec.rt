@@ -1,5 +1,5 @@
-ghost use Rattle.std.specs.Prelude.{◌↔◌, ℕ, List, IsTrue, All};
-ghost use Rattle.tk_host.specs.Spec.{IsName, IsNameByte, IsLength, IsInRange, given};
+ghost use Rattle.std.specs.Prelude.{◌↔◌, IsTrue, All};
+ghost use Rattle.tk_host.specs.Spec.{IsName, IsNameByte, IsLength, IsInRange};
 
 use tcl_text::Text;
 use tk_app::Budget;
@@ -39,9 +39,9 @@ fn is_name_byte(byte: u8) -> bool
     byte.is_ascii_alphanumeric() || byte == b'_'
 }
 
-/// Whether the values of an application are in the ranges that a session allows. The script can be any.
+/// Whether the values of an application are in the ranges that a session allows.
 pub fn is_in_range(name: &Text, rect: Rect, budget: Budget) -> bool
-    ensures { (script : List ℕ) → IsTrue result ↔ IsInRange (given name.now rect script budget) }
+    ensures { IsTrue result ↔ IsInRange name.now rect budget }
 {
     is_name(name.as_str().as_bytes())
         && rect.x <= MAX_PIXELS

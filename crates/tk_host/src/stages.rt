@@ -12,21 +12,26 @@ ghost use Rattle.tk_host.specs.Slots.{BeginsAt, TakesTurn, begun_at};
 ghost use Rattle.tk_host.specs.Turns.{applications, turns_on_the_way};
 
 use std::alloc::AllocError;
-use tk_app::{AppEnd, Shared};
+use tk_app::{AliasMeaning, AppEnd, Shared};
 use tk_turns::earlier;
 
 /// Goes on to a moment, from due moment to due moment: at each the applications of which something is due then do it.
-pub fn advance(shared: &mut Shared, target: u64, slice: u64) -> Result<(), AllocError>
+pub fn advance<M: AliasMeaning>(
+    shared: &mut Shared<M>,
+    target: u64,
+    slice: u64,
+) -> Result<(), AllocError>
     requires slice { 0 < slice }
     requires in_time { target ≤ 1000000000000 }
     requires rest { AllRest shared.old.parts }
-    requires past { IsPast shared.old.moment (first_due next_due settled (applications shared.old.parts)) }
+    requires past { IsPast shared.old.moment (first_due next_due (settled M.answer) (applications shared.old.parts)) }
     requires ahead { shared.old.moment ≤ target }
-    ensures brought { OnOk result (applications shared.new.parts ≡ map (passed target) (applications shared.old.parts)) }
+    ensures brought { OnOk result (applications shared.new.parts ≡ map (passed M.answer target) (applications shared.old.parts)) }
     ensures rest { OnOk result (AllRest shared.new.parts) }
-    ensures past { OnOk result (IsPast shared.new.moment (first_due next_due settled (applications shared.new.parts))) }
+    ensures past { OnOk result (IsPast shared.new.moment (first_due next_due (settled M.answer) (applications shared.new.parts))) }
+    ensures through { OnOk result (IsPast target (first_due next_due (settled M.answer) (applications shared.new.parts))) }
     ensures ahead { OnOk result (shared.new.moment ≤ target) }
-    ensures turns { OnOk result (shared.new.turns ≡ shared.old.turns ++ turns_on_the_way slice target (applications shared.old.parts)) }
+    ensures turns { OnOk result (shared.new.turns ≡ shared.old.turns ++ turns_on_the_way M.answer slice target (applications shared.old.parts)) }
 {
     'moments: while let Some(due) = next_due(shared) {
         if due > target {
@@ -40,8 +45,8 @@ pub fn advance(shared: &mut Shared, target: u64, slice: u64) -> Result<(), Alloc
 }
 
 /// When something is due next of any of the applications.
-fn next_due(shared: &Shared) -> Option<u64>
-    ensures { result ≡ first_due next_due settled (applications shared.now.parts) }
+fn next_due<M: AliasMeaning>(shared: &Shared<M>) -> Option<u64>
+    ensures { result ≡ first_due next_due (settled M.answer) (applications shared.now.parts) }
 {
     let mut first = None;
     for slot in 0..shared.len() {
@@ -51,7 +56,7 @@ fn next_due(shared: &Shared) -> Option<u64>
 }
 
 /// The applications of which something is due at a moment begin to settle.
-fn begin_all(shared: &mut Shared, moment: u64) -> Result<(), AllocError>
+fn begin_all<M: AliasMeaning>(shared: &mut Shared<M>, moment: u64) -> Result<(), AllocError>
     requires { shared.old.moment ≡ moment }
     ensures { OnOk result (shared.new ≡ record shared.old { parts = map (begun_at moment) shared.old.parts }) }
 {
@@ -62,7 +67,11 @@ fn begin_all(shared: &mut Shared, moment: u64) -> Result<(), AllocError>
 }
 
 /// The application in a slot begins to settle, if something is due of it at the moment.
-fn begin(shared: &mut Shared, slot: usize, moment: u64) -> Result<(), AllocError>
+fn begin<M: AliasMeaning>(
+    shared: &mut Shared<M>,
+    slot: usize,
+    moment: u64,
+) -> Result<(), AllocError>
     requires slot { slot < length shared.old.parts }
     requires moment { shared.old.moment ≡ moment }
     ensures { OnOk result (BeginsAt moment slot shared.old shared.new) }
@@ -77,7 +86,7 @@ fn begin(shared: &mut Shared, slot: usize, moment: u64) -> Result<(), AllocError
 }
 
 /// The application in a slot begins to settle.
-fn begin_settling(shared: &mut Shared, slot: usize) -> Result<(), AllocError>
+fn begin_settling<M: AliasMeaning>(shared: &mut Shared<M>, slot: usize) -> Result<(), AllocError>
     requires { slot < length shared.old.parts }
     ensures { OnOk result (BeginsIn slot shared.old shared.new) }
 {
@@ -86,11 +95,11 @@ fn begin_settling(shared: &mut Shared, slot: usize) -> Result<(), AllocError>
 }
 
 /// Does what is under way in each application, in turns of at most `slice` steps.
-pub fn stage(shared: &mut Shared, slice: u64) -> Result<(), AllocError>
+pub fn stage<M: AliasMeaning>(shared: &mut Shared<M>, slice: u64) -> Result<(), AllocError>
     requires { 0 < slice }
     ensures moment { OnOk result (shared.new.moment ≡ shared.old.moment) }
-    ensures done { OnOk result (shared.new.parts ≡ map (stage_done shared.old.moment) shared.old.parts) }
-    ensures turns { OnOk result (shared.new.turns ≡ shared.old.turns ++ turns_of slice (map (needs shared.old.moment) shared.old.parts)) }
+    ensures done { OnOk result (shared.new.parts ≡ map (stage_done M.answer shared.old.moment) shared.old.parts) }
+    ensures turns { OnOk result (shared.new.turns ≡ shared.old.turns ++ turns_of slice (map (needs M.answer shared.old.moment) shared.old.parts)) }
 {
     let mut more = true;
     'rounds: while more {
@@ -100,14 +109,14 @@ pub fn stage(shared: &mut Shared, slice: u64) -> Result<(), AllocError>
 }
 
 /// One round: each application in which something is under way takes a turn, in the order of their slots. It answers whether one needs more.
-fn run_round(shared: &mut Shared, slice: u64) -> Result<bool, AllocError>
+fn run_round<M: AliasMeaning>(shared: &mut Shared<M>, slice: u64) -> Result<bool, AllocError>
     requires { 0 < slice }
     ensures moment { OnOk result (shared.new.moment ≡ shared.old.moment) }
-    ensures done { OnOk result (map (stage_done shared.old.moment) shared.new.parts ≡ map (stage_done shared.old.moment) shared.old.parts) }
-    ensures left { OnOk result (map (needs shared.old.moment) shared.new.parts ≡ map (λ need. need - slice) (map (needs shared.old.moment) shared.old.parts)) }
-    ensures turns { OnOk result (shared.new.turns ≡ shared.old.turns ++ round slice (map (needs shared.old.moment) shared.old.parts) 0) }
-    ensures last { result ≡ Ok false → shared.new.parts ≡ map (stage_done shared.old.moment) shared.old.parts }
-    ensures falls { result ≡ Ok true → sum_by (needs shared.old.moment) shared.new.parts < sum_by (needs shared.old.moment) shared.old.parts }
+    ensures done { OnOk result (map (stage_done M.answer shared.old.moment) shared.new.parts ≡ map (stage_done M.answer shared.old.moment) shared.old.parts) }
+    ensures left { OnOk result (map (needs M.answer shared.old.moment) shared.new.parts ≡ map (λ need. need - slice) (map (needs M.answer shared.old.moment) shared.old.parts)) }
+    ensures turns { OnOk result (shared.new.turns ≡ shared.old.turns ++ round slice (map (needs M.answer shared.old.moment) shared.old.parts) 0) }
+    ensures last { result ≡ Ok false → shared.new.parts ≡ map (stage_done M.answer shared.old.moment) shared.old.parts }
+    ensures falls { result ≡ Ok true → sum_by (needs M.answer shared.old.moment) shared.new.parts < sum_by (needs M.answer shared.old.moment) shared.old.parts }
 {
     let slots = shared.len();
     let mut more = false;
@@ -118,10 +127,14 @@ fn run_round(shared: &mut Shared, slice: u64) -> Result<bool, AllocError>
 }
 
 /// The turn of the application in a slot, where something is under way in it. It answers whether it needs more.
-fn take_turn(shared: &mut Shared, slot: usize, slice: u64) -> Result<bool, AllocError>
+fn take_turn<M: AliasMeaning>(
+    shared: &mut Shared<M>,
+    slot: usize,
+    slice: u64,
+) -> Result<bool, AllocError>
     requires slot { slot < length shared.old.parts }
     requires slice { 0 < slice }
-    ensures { IfOk result (λ again. TakesTurn slice slot again shared.old shared.new) }
+    ensures { IfOk result (λ again. TakesTurn M.answer slice slot again shared.old shared.new) }
 {
     if !shared.is_under_way(slot) {
         return Ok(false);

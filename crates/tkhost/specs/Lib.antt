@@ -1,4 +1,3 @@
-pub mod Session
-pub mod Reading
+-- What the contracts cite.
 pub mod Output
 pub mod Play

@@ -2,8 +2,6 @@
 use Rattle.std.specs.Prelude.{◌≡◌, ℕ, List, [], ◌++◌, Option, codes}
 use Rattle.std.specs.Fmt.{decimal}
 use Rattle.std.specs.Io.KnownBytes.{Appends}
-use Rattle.tkhost.specs.declared.fault.LineFault.{LineFault}
-use Rattle.tkhost.specs.declared.fault.LineFault.TheVariants as faults
 use Rattle.tkhost.specs.declared.outcome.Outcome.{Outcome}
 use Rattle.tkhost.specs.declared.outcome.Outcome.TheVariants.{Done, Refused, Usage, Read, Write, NoMemory}
 
@@ -13,12 +11,6 @@ AppendsFront old new text = (front : List ℕ) × (rest : List ℕ) × (text ≡
 
 abbrev pub refusal : ℕ → ℕ → List ℕ
 refusal number line = (codes "tkhost: fault " ++ decimal number) ++ ((codes " at line " ++ decimal line) ++ codes "\n")
-
-abbrev pub number_of_fault : LineFault → ℕ
-number_of_fault faults.Overlap = 34
-number_of_fault faults.BadLine = 36
-number_of_fault faults.TooManyApps = 38
-number_of_fault faults.NameTaken = 39
 
 abbrev pub status_of : Outcome → ℕ
 status_of Done = 0

@@ -1,30 +1,77 @@
 -- What a session comes to.
-use Rattle.std.specs.Prelude.{ℕ, List, [], ◌∷◌, ◌++◌, flat_map}
-use Rattle.tk_app.specs.Spec.{Spec}
+use Rattle.std.specs.Prelude.{◌≡◌, ℕ, ◌+◌, List, [], ◌∷◌, ◌++◌, map}
+use Rattle.tk_base.specs.declared.rect.Rect.{Rect}
+use Rattle.tk_route.specs.Lines.{Line}
+use Rattle.tk_route.specs.Routes.{routed}
+use Rattle.tk_app.specs.declared.budget.Budget.{Budget}
 use Rattle.tk_app.specs.Section.{section}
-use Rattle.tk_host.specs.Spec.{Given, given}
+use Rattle.tk_app.specs.Seen.{Meaning, names_of}
+use Rattle.tk_app.specs.Spec.{Spec}
 use Rattle.tk_host.specs.Alone.{alone}
-use Rattle.tk_host.specs.Held.{Call, AddApp, Start, End}
-use Rattle.tkhost.specs.declared.session.AppBlock.{AppBlock}
-use Rattle.tkhost.specs.Session.{Plan, without_refill}
+use Rattle.tk_host.specs.Held.{Call, AddApp, End, LineAt, Start}
+use Rattle.tk_host.specs.Spec.{Given, given}
+use Rattle.tk_services.specs.Services.{answer_of}
+use Rattle.tk_services.specs.declared.service.Service.{Service}
+use Rattle.tk_session.specs.declared.session.AliasLine.{AliasLine}
+use Rattle.tk_session.specs.declared.session.AppBlock.{AppBlock}
+use Rattle.tk_session.specs.declared.session.EventLine.{EventLine}
+use Rattle.tk_session.specs.Session.{Plan, newest_first, rects_of}
 
--- what an application of a session is begun with: no slot, no place on the screen and no neighbour
-abbrev pub spec_of : AppBlock → Spec
-spec_of app = record { name = app.name; width = app.rect.width; height = app.rect.height; script = app.script; budget = without_refill app.budget }
+abbrev pub budget_of : AppBlock → Budget
+budget_of app = record { total = app.budget.total; refill = app.budget.refill }
 
--- The sections of the applications in their order, and nothing else: each that of the application by itself, up to the session's end.
-abbrev pub sections_of : Plan → List ℕ
-sections_of plan = flat_map (λ app. section (alone (spec_of app) plan.end)) plan.apps
+-- an alias that a service of the program answers
+abbrev pub service_of : AliasLine → List ℕ × Service
+service_of line = (line.name, line.service)
 
--- an application as a host is given it
-abbrev pub given_of : AppBlock → Given
-given_of app = given app.name app.rect app.script (without_refill app.budget)
+abbrev pub services_in : AppBlock → List (List ℕ × Service)
+services_in app = map service_of app.aliases
 
--- the calls that add applications
-abbrev pub adding : List AppBlock → List Call
-adding [] = []
-adding (app ∷ apps) = AddApp (given_of app) ∷ adding apps
+-- the calls that hand the events to a host
+abbrev pub lining : {M : Type 0} → List EventLine → List (Call M)
+lining [] = []
+lining (event ∷ events) = LineAt event.moment event.line ∷ lining events
 
--- the calls by which a session is played
-abbrev pub calls_of : Plan → List Call
-calls_of plan = adding plan.apps ++ Start ∷ End plan.end ∷ []
+module _ {M : Type 0} where
+  -- the lists of aliases are those of the applications: each has the names of its lines, in their order
+  abbrev pub Serve : List AppBlock → List (List (List ℕ × M)) → Type 0
+  Serve [] [] = Unit {0}
+  Serve [] (aliases ∷ lists) = ⊥
+  Serve (app ∷ apps) [] = ⊥
+  Serve (app ∷ apps) (aliases ∷ lists) = (names_of aliases ≡ map (λ (line : AliasLine). line.name) app.aliases) × Serve apps lists
+
+  -- what an application of a session is begun with: no slot, no place on the screen and no neighbour
+  abbrev pub spec_of : AppBlock → List (List ℕ × M) → Spec M
+  spec_of app aliases =
+      record { name = app.name; width = app.rect.width; height = app.rect.height; script = app.script; budget = budget_of app; aliases = aliases }
+
+  -- an application as a host is given it
+  abbrev pub given_of : AppBlock → List (List ℕ × M) → Given M
+  given_of app aliases = given app.name app.rect app.script (budget_of app) aliases
+
+  -- the calls that add applications
+  abbrev pub adding : List AppBlock → List (List (List ℕ × M)) → List (Call M)
+  adding [] lists = []
+  adding (app ∷ apps) [] = []
+  adding (app ∷ apps) (aliases ∷ lists) = AddApp (given_of app aliases) ∷ adding apps lists
+
+  -- the calls by which a session is played
+  abbrev pub calls_of : Plan → List (List (List ℕ × M)) → List (Call M)
+  calls_of plan lists = adding plan.apps lists ++ Start ∷ (lining plan.events ++ End plan.end ∷ [])
+
+module _ {M : Type 0} (answer : M → Meaning) where
+  -- the sections of the applications from a slot on, with the events that these lines route to each
+  abbrev pub sections_from : ℕ → List Rect → List Line → ℕ → List AppBlock → List (List (List ℕ × M)) → List ℕ
+  sections_from end first lines slot [] lists = []
+  sections_from end first lines slot (app ∷ apps) [] = []
+  sections_from end first lines slot (app ∷ apps) (aliases ∷ lists) =
+      section (alone answer (spec_of app aliases) (routed first lines slot) end) ++ sections_from end first lines (slot + 1) apps lists
+
+  -- The sections of the applications in their order, and nothing else: each that of the application by itself, with its own aliases and the events that
+  -- are routed to it, up to the session's end.
+  abbrev pub sections_of : Plan → List (List (List ℕ × M)) → List ℕ
+  sections_of plan lists = sections_from plan.end (rects_of plan.apps) (newest_first plan.events) 0 plan.apps lists
+
+-- what the program writes of a session, by its own services
+abbrev pub program_sections : Plan → List ℕ
+program_sections plan = sections_of (λ (service : Service). answer_of service.kind service.config) plan (map services_in plan.apps)

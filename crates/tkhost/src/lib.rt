@@ -1,24 +1,21 @@
 //! Sessions: how they are read, played and told.
 #![tactic(auto)]
 
-mod fault;
 mod input;
-mod line;
 mod outcome;
 mod output;
 mod playing;
 mod program;
-mod reading;
-mod script;
-mod session;
-mod stage;
+mod services;
 
-pub use fault::{LineFault, SessionFault};
 pub use input::{InputFault, read_input};
 pub use outcome::Outcome;
 pub use output::{WriteFault, write_whole};
 pub use playing::{PlayFault, play};
 pub use program::run;
-pub use reading::read_session;
-pub use session::{AppBlock, AppBlocks, Session};
-pub use tk_host::Rect;
+pub use services::services_of;
+pub use tk_host::{Alias, AliasMeaning, AliasReply, Aliases};
+pub use tk_session::{
+    AliasLine, AppBlock, Budget, EventLine, HostLine, LineFault, Listing, Rect, Service,
+    ServiceKind, Session, SessionFault, read_session,
+};

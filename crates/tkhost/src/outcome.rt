@@ -11,7 +11,7 @@ use std::io::Write;
 pub enum Outcome {
     /// The sections were written.
     Done,
-    /// The input is no session: the number of the fault (34, 36, 38 or 39), and the first faulty line, counted from 1.
+    /// The input is no session: the number of the fault (34 to 39 or 43), and the first faulty line, counted from 1.
     Refused { number: u8, line: usize },
     /// An argument was given.
     Usage,

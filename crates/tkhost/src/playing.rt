@@ -1,18 +1,18 @@
 ghost use Rattle.std.specs.Prelude.{◌≡◌, ◌≤◌, ℕ, List, [], ◌∷◌, ◌++◌, Some, map, slice_get, IfOk, IfErr, OnOk, OnErr, IsErr};
 ghost use Rattle.std.specs.Io.KnownBytes.{Appends};
-ghost use Rattle.tk_host.specs.Held.{Call, AddApp, Start, End, held_after};
-ghost use Rattle.tk_host.specs.Refusals.{NoneApplies, RefusesApp, RefusesSection, add_faults, section_faults};
+ghost use Rattle.tk_host.specs.Held.{Call, AddApp, LineAt, Start, End, held_after};
+ghost use Rattle.tk_host.specs.Refusals.{NoneApplies, RefusesApp, RefusesLine, RefusesSection, add_faults, line_faults, section_faults};
 ghost use Rattle.tk_host.specs.Sections.{sections_after};
+ghost use Rattle.tk_session.specs.Session.{AreAllowed, MayHappen};
 ghost use Rattle.tkhost.specs.Output.{AppendsFront};
-ghost use Rattle.tkhost.specs.Play.{adding, calls_of, given_of, sections_of};
-ghost use Rattle.tkhost.specs.Session.{AreAllowed};
+ghost use Rattle.tkhost.specs.Play.{Serve, adding, calls_of, given_of, lining, sections_of};
 
 use crate::output::write_whole;
-use crate::session::{AppBlock, Session};
 use std::alloc::{AllocError, AllocFailed, Global};
 use std::io::Write;
 use thiserror::Error;
-use tk_host::{Budget, Host, HostFault};
+use tk_host::{AliasMeaning, Aliases, Budget, Host, HostFault};
+use tk_session::{AppBlock, EventLine, Session};
 
 /// Why a session was not played to its end, or its sections not written.
 #[derive(Clone, Copy, Debug, PartialEq, Eq, Drop, Error)]
@@ -61,87 +61,124 @@ fn unless_memory<T: Drop>(answer: Result<T, HostFault>) -> Result<T, PlayFault>
     }
 }
 
-/// Adds an application that the host takes.
-fn add(host: &mut Host, app: &AppBlock) -> Result<(), PlayFault>
-    requires { NoneApplies (RefusesApp host.old.held (given_of app.now)) add_faults }
-    ensures history { (calls : List Call) → host.old.held ≡ held_after calls → OnOk result (host.new.held ≡ held_after (calls ++ AddApp (given_of app.now) ∷ [])) }
+/// Adds an application that the host takes, with these aliases.
+fn add<M: AliasMeaning>(
+    host: &mut Host<M>,
+    app: &AppBlock,
+    aliases: Aliases<M>,
+) -> Result<(), PlayFault>
+    requires { NoneApplies (RefusesApp host.old.held (given_of app.now aliases)) add_faults }
+    ensures history { (calls : List (Call M)) → host.old.held ≡ held_after M.answer calls → OnOk result (host.new.held ≡ held_after M.answer (calls ++ AddApp (given_of app.now aliases) ∷ [])) }
     ensures memory { IfErr result (λ fault. fault ≡ PlayFault.NoMemory) }
 {
     let name = app.name.copy()?;
     let script = app.script.copy()?;
     let budget = Budget {
-        total: app.budget,
-        refill: 0,
+        total: app.budget.total,
+        refill: app.budget.refill,
     };
-    unless_memory(host.add_app(name, app.rect, script, budget))
+    unless_memory(host.add_app(name, app.rect, script, budget, aliases))
 }
 
-/// Adds applications that may stand side by side.
-fn add_all(host: &mut Host, apps: &[AppBlock]) -> Result<(), PlayFault>
-    requires empty { host.old.held ≡ held_after [] }
+/// Adds applications that may stand side by side, each with its aliases.
+fn add_all<M: AliasMeaning>(
+    host: &mut Host<M>,
+    apps: &[AppBlock],
+    aliases: Vec<Aliases<M>>,
+) -> Result<(), PlayFault>
+    requires empty { host.old.held ≡ held_after M.answer [] }
     requires allowed { AreAllowed [] apps.now }
-    ensures added { OnOk result (host.new.held ≡ held_after (adding apps.now)) }
+    requires serve { Serve apps.now aliases.items }
+    ensures added { OnOk result (host.new.held ≡ held_after M.answer (adding apps.now aliases.items)) }
     ensures memory { IfErr result (λ fault. fault ≡ PlayFault.NoMemory) }
 {
-    for app in apps {
-        add(host, app)?;
+    for (app, list) in apps.iter().zip(aliases) {
+        add(host, app, list)?;
+    }
+    Ok(())
+}
+
+/// Hands the events of a session to a host that takes them.
+fn line_all<M: AliasMeaning>(host: &mut Host<M>, events: &[EventLine]) -> Result<(), PlayFault>
+    ensures memory { IfErr result (λ fault. fault ≡ PlayFault.NoMemory) }
+{
+    for event in events {
+        unless_memory(host.line(event.moment, event.line))?;
     }
     Ok(())
 }
 
 /// A host that has played the session.
-fn played(alloc: Global, session: &Session, slice: u64) -> Result<Host, PlayFault>
-    requires { 1 ≤ slice }
-    ensures host { IfOk result (λ host. host.held ≡ held_after (calls_of session.now)) }
+fn played<M: AliasMeaning>(
+    alloc: Global,
+    session: &Session,
+    aliases: Vec<Aliases<M>>,
+    slice: u64,
+) -> Result<Host<M>, PlayFault>
+    requires slice { 1 ≤ slice }
+    requires serve { Serve session.now.apps aliases.items }
+    ensures host { IfOk result (λ host. host.held ≡ held_after M.answer (calls_of session.now aliases.items)) }
     ensures memory { IfErr result (λ fault. fault ≡ PlayFault.NoMemory) }
 {
     let mut host = Host::new(alloc, slice);
-    add_all(&mut host, session.apps())?;
+    add_all(&mut host, session.apps(), aliases)?;
     unless_memory(host.start())?;
+    line_all(&mut host, session.events())?;
     unless_memory(host.end(session.end()))?;
     Ok(host)
 }
 
-/// The sections of a host that has played the session.
-fn sections(alloc: Global, host: &Host, session: &Session) -> Result<Vec<u8>, PlayFault>
-    requires { host.now.held ≡ held_after (calls_of session.now) }
-    ensures text { IfOk result (λ text. text.items ≡ sections_of session.now) }
+/// The sections of all applications of a host.
+fn sections<M: AliasMeaning>(
+    alloc: Global,
+    host: &Host<M>,
+    count: usize,
+) -> Result<Vec<u8>, PlayFault>
     ensures memory { IfErr result (λ fault. fault ≡ PlayFault.NoMemory) }
 {
     let mut text = Vec::new(alloc);
-    for slot in 0..session.apps().len() {
+    for slot in 0..count {
         let section = unless_memory(host.section(slot))?;
         text.extend_from_slice(section.as_slice())?;
     }
     Ok(text)
 }
 
-fn text_of(alloc: Global, session: &Session, slice: u64) -> Result<Vec<u8>, PlayFault>
-    requires { 1 ≤ slice }
-    ensures text { IfOk result (λ text. text.items ≡ sections_of session.now) }
-    ensures memory { IfErr result (λ fault. fault ≡ PlayFault.NoMemory) }
-{
-    let host = played(alloc, session, slice)?;
-    sections(alloc, &host, session)
-}
-
-/// Plays a session, each application at most `slice` steps at a time, and writes their sections once all have come to the end. `NoMemory`
-/// comes before a byte went out, and `Write` where the writer fails or takes nothing; neither has a number.
-///
-/// What each application's section is rests on its own name, size, script and budget and on the moment of the end: on nothing that another
-/// does.
-pub fn play<W: Write>(
+fn text_of<M: AliasMeaning>(
     alloc: Global,
     session: &Session,
+    aliases: Vec<Aliases<M>>,
+    slice: u64,
+) -> Result<Vec<u8>, PlayFault>
+    requires slice { 1 ≤ slice }
+    requires serve { Serve session.now.apps aliases.items }
+    ensures text { IfOk result (λ text. text.items ≡ sections_of M.answer session.now aliases.items) }
+    ensures memory { IfErr result (λ fault. fault ≡ PlayFault.NoMemory) }
+{
+    let host = played(alloc, session, aliases, slice)?;
+    sections(alloc, &host, session.apps().len())
+}
+
+/// Plays a session, each application at most `slice` steps at a time, and writes their sections once all have come to the end. The lists of
+/// aliases are those of the applications, in their order: each has the names of its application's alias lines. `NoMemory` comes before a
+/// byte went out, and `Write` where the writer fails or takes nothing; neither has a number.
+///
+/// What each application's section is rests on its own name, size, script, budget and aliases, on the events that are routed to it, and on
+/// the moment of the end: on nothing that another does.
+pub fn play<M: AliasMeaning, W: Write>(
+    alloc: Global,
+    session: &Session,
+    aliases: Vec<Aliases<M>>,
     slice: u64,
     writer: &mut W,
 ) -> Result<(), PlayFault>
-    requires { 1 ≤ slice }
-    ensures sections { OnOk result (Appends (W.contents writer.old) (W.contents writer.new) (sections_of session.now)) }
-    ensures write { result ≡ Err PlayFault.Write → AppendsFront (W.contents writer.old) (W.contents writer.new) (sections_of session.now) }
+    requires slice { 1 ≤ slice }
+    requires serve { Serve session.now.apps aliases.items }
+    ensures sections { OnOk result (Appends (W.contents writer.old) (W.contents writer.new) (sections_of M.answer session.now aliases.items)) }
+    ensures write { result ≡ Err PlayFault.Write → AppendsFront (W.contents writer.old) (W.contents writer.new) (sections_of M.answer session.now aliases.items) }
     ensures no_memory { result ≡ Err PlayFault.NoMemory → writer.new ≡ writer.old }
 {
-    let text = text_of(alloc, session, slice)?;
+    let text = text_of(alloc, session, aliases, slice)?;
     match write_whole(writer, text.as_slice()) {
         Ok(()) => Ok(()),
         Err(_) => Err(PlayFault::Write),

@@ -1,34 +1,36 @@
 ghost use Rattle.std.specs.Prelude.{◌≡◌, ℕ, IfSome};
 ghost use Rattle.std.specs.Io.KnownBytes.{Appends};
-ghost use Rattle.tkhost.specs.declared.fault.LineFault.{LineFault};
-ghost use Rattle.tkhost.specs.Output.{AppendsFront, number_of_fault};
-ghost use Rattle.tkhost.specs.Play.{sections_of};
-ghost use Rattle.tkhost.specs.Session.{Plan, IsSession, HasFault};
+ghost use Rattle.tk_services.specs.Services.{answer_of};
+ghost use Rattle.tk_session.specs.Fault.{number_of as number_of_fault};
+ghost use Rattle.tk_session.specs.Session.{Plan, IsSession, HasFault};
+ghost use Rattle.tk_session.specs.declared.fault.LineFault.{LineFault};
+ghost use Rattle.tkhost.specs.Output.{AppendsFront};
+ghost use Rattle.tkhost.specs.Play.{program_sections};
 
-use crate::fault::SessionFault;
 use crate::input::{InputFault, read_input};
 use crate::outcome::Outcome;
 use crate::playing::{PlayFault, play};
-use crate::reading::read_session;
+use crate::services::services_of;
 use std::alloc::Global;
 use std::io::{Read, Write};
+use tk_session::{SessionFault, read_session};
 
 /// How many steps of an application the interpreter takes at a stretch.
 const SLICE: u64 = 64;
 
-/// What the program does without arguments: reads a session, plays it, at most 64 steps of an application at a time, and writes its
-/// sections. The first fault is the outcome.
+/// What the program does without arguments: reads a session, plays it with its own services as aliases, at most 64 steps of an application
+/// at a time, and writes its sections. The first fault is the outcome.
 pub fn run<R: Read, W: Write>(alloc: Global, reader: &mut R, writer: &mut W) -> Outcome
     ensures done { result ≡ Outcome.Done → (plan : Plan)
         × IfSome (R.remaining reader.old) (λ input. IsSession input plan)
-        × Appends (W.contents writer.old) (W.contents writer.new) (sections_of plan) }
+        × Appends (W.contents writer.old) (W.contents writer.new) (program_sections plan) }
     ensures refused { (number line : ℕ) → result ≡ Outcome.Refused number line → (fault : LineFault)
         × IfSome (R.remaining reader.old) (λ input. HasFault input fault line)
         × (number ≡ number_of_fault fault)
         × (writer.new ≡ writer.old) }
     ensures write { result ≡ Outcome.Write → (plan : Plan)
         × IfSome (R.remaining reader.old) (λ input. IsSession input plan)
-        × AppendsFront (W.contents writer.old) (W.contents writer.new) (sections_of plan) }
+        × AppendsFront (W.contents writer.old) (W.contents writer.new) (program_sections plan) }
     ensures read { result ≡ Outcome.Read → writer.new ≡ writer.old }
     ensures no_memory { result ≡ Outcome.NoMemory → writer.new ≡ writer.old }
     ensures argued { result ≡ Outcome.Usage → ⊥ }
@@ -48,7 +50,10 @@ pub fn run<R: Read, W: Write>(alloc: Global, reader: &mut R, writer: &mut W) -> 
         }
         Err(SessionFault::NoMemory) => return Outcome::NoMemory,
     };
-    match play(alloc, &session, SLICE, writer) {
+    let Ok(aliases) = services_of(alloc, &session) else {
+        return Outcome::NoMemory;
+    };
+    match play(alloc, &session, aliases, SLICE, writer) {
         Ok(()) => Outcome::Done,
         Err(PlayFault::Write) => Outcome::Write,
         Err(PlayFault::NoMemory) => Outcome::NoMemory,

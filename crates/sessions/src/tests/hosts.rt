@@ -5,7 +5,8 @@ ghost use Rattle.std.specs.Prelude.{◌≢◌};
 use std::alloc::Global;
 use std::test::Fail;
 use tcl_text::Text;
-use tk_host::{Budget, Host, HostFault, Phase, Rect};
+use tk_host::{Aliases, Budget, Host, HostFault, HostLine, Phase, Rect};
+use tk_services::Service;
 
 const LEFT: Rect = Rect {
     x: 0,
@@ -23,7 +24,7 @@ const RIGHT: Rect = Rect {
 
 /// Adds an application, and answers the number of its refusal.
 fn add(
-    host: &mut Host,
+    host: &mut Host<Service>,
     alloc: Global,
     name: &str,
     rect: Rect,
@@ -36,7 +37,7 @@ fn add(
         total: budget,
         refill: 0,
     };
-    Ok(number_of(host.add_app(name, rect, script, budget)))
+    Ok(number_of(host.add_app(name, rect, script, budget, Aliases::new(alloc))))
 }
 
 fn number_of(answer: Result<(), HostFault>) -> Option<u32> {
@@ -47,7 +48,7 @@ fn number_of(answer: Result<(), HostFault>) -> Option<u32> {
 }
 
 /// Goes on to the end, and answers the number of the refusal.
-fn end(host: &mut Host, moment: u64) -> Option<u32>
+fn end(host: &mut Host<Service>, moment: u64) -> Option<u32>
     requires { host.old.held.phase ≢ Phase.Adding }
     ensures { host.new.held.phase ≢ Phase.Adding }
 {
@@ -55,11 +56,19 @@ fn end(host: &mut Host, moment: u64) -> Option<u32>
 }
 
 /// Goes on to a moment, and answers the number of the refusal.
-fn advance(host: &mut Host, moment: u64) -> Option<u32>
+fn advance(host: &mut Host<Service>, moment: u64) -> Option<u32>
     requires { host.old.held.phase ≢ Phase.Adding }
     ensures { host.new.held.phase ≢ Phase.Adding }
 {
     number_of(host.advance_to(moment))
+}
+
+/// Takes a line, and answers the number of the refusal.
+fn take(host: &mut Host<Service>, moment: u64, line: HostLine) -> Option<u32>
+    requires { host.old.held.phase ≢ Phase.Adding }
+    ensures { host.new.held.phase ≢ Phase.Adding }
+{
+    number_of(host.line(moment, line))
 }
 
 /// Scripts of a first application with its budget and its section, whatever the slice; a second one beside it says bye.
@@ -255,7 +264,7 @@ fn goes_forth_alone(rt: HostRuntime) -> Result<(), Fail> {
 }
 
 /// Whether these turns were taken: whose each was, and how many steps it took.
-fn are_turns(host: &Host, wanted: &[(usize, u64)]) -> bool {
+fn are_turns(host: &Host<Service>, wanted: &[(usize, u64)]) -> bool {
     let turns = host.turns();
     for (turn, want) in turns.iter().zip(wanted.iter()) {
         if turn.slot != want.0 || turn.steps != want.1 {
@@ -321,5 +330,46 @@ fn takes_turns_at_each_moment(rt: HostRuntime) -> Result<(), Fail> {
     assert!(rt; are_turns(&host, &[(0, 2), (1, 2), (0, 1), (1, 1)]));
     assert_eq!(rt; end(&mut host, 8), None);
     assert!(rt; are_turns(&host, &[(0, 2)]));
+    Ok(())
+}
+
+/// Lines: their refusals in their order, the size that a rectangle gives, and the steps that events grant.
+#[test]
+fn takes_lines(rt: HostRuntime) -> Result<(), Fail> {
+    let alloc = rt.alloc();
+    let mut host = Host::new(alloc, 64);
+    let name = Text::new(alloc, "a")?;
+    let script = Text::new(alloc, "after 7 {set x 1}; after 9 {set x 2}")?;
+    let budget = Budget {
+        total: 4,
+        refill: 1,
+    };
+    host.add_app(name, LEFT, script, budget, Aliases::new(alloc))?;
+    assert_eq!(rt; add(&mut host, alloc, "b", RIGHT, "", 9)?, None);
+    host.start()?;
+    assert_eq!(rt; advance(&mut host, 5), None);
+    let far = HostLine::Move { x: 65_536, y: 0 };
+    assert_eq!(rt; take(&mut host, 4, far), Some(36));
+    assert_eq!(rt; take(&mut host, 4, HostLine::Focus(Some(16))), Some(35));
+    assert_eq!(rt; take(&mut host, 5, HostLine::Focus(Some(16))), Some(37));
+    let covering = HostLine::Rect {
+        slot: 1,
+        rect: LEFT,
+    };
+    assert_eq!(rt; take(&mut host, 5, covering), Some(43));
+    let higher = Rect { height: 60, ..LEFT };
+    let placed = HostLine::Rect {
+        slot: 0,
+        rect: higher,
+    };
+    assert_eq!(rt; take(&mut host, 5, placed), None);
+    assert_eq!(rt; take(&mut host, 8, HostLine::Focus(Some(0))), None);
+    assert!(rt; are_turns(&host, &[(0, 2)]));
+    assert_eq!(rt; end(&mut host, 9), None);
+    assert_eq!(rt;
+        host.section(0)?.as_slice(),
+        b"app a running 0\ntree\nwin . Tk 0 0 100 60 1\ntimers\ndone\n".as_slice()
+    );
+    assert_eq!(rt; take(&mut host, 9, HostLine::Focus(None)), Some(41));
     Ok(())
 }

@@ -1,6 +1,6 @@
 use crate::tests::fakes::{Pieces, Sink};
 use std::test::Fail;
-use tkhost::{Outcome, PlayFault, play, read_session, run};
+use tkhost::{Outcome, PlayFault, play, read_session, run, services_of};
 
 /// Sessions, and the sections that they come to.
 const PLAYED: [(&[u8], &[u8]); 6] = [
@@ -35,7 +35,8 @@ fn plays_sessions(rt: HostRuntime) -> Result<(), Fail> {
         for slice in [1u64, 64] {
             let session = read_session(rt.alloc(), bytes)?;
             let mut sink = Sink::new(rt.alloc(), 7, 1000, true);
-            play(rt.alloc(), &session, slice, &mut sink)?;
+            let aliases = services_of(rt.alloc(), &session)?;
+            play(rt.alloc(), &session, aliases, slice, &mut sink)?;
             assert_eq!(rt; sink.taken.as_slice(), sections);
         }
     }
@@ -49,7 +50,8 @@ fn stops_at_writer_faults(rt: HostRuntime) -> Result<(), Fail> {
     for calls in 0..sections.len() / 7 {
         for fails in [true, false] {
             let mut sink = Sink::new(rt.alloc(), 7, calls, fails);
-            let outcome = play(rt.alloc(), &session, 64, &mut sink);
+            let aliases = services_of(rt.alloc(), &session)?;
+            let outcome = play(rt.alloc(), &session, aliases, 64, &mut sink);
             assert!(rt; matches!(outcome, Err(PlayFault::Write)));
             assert_eq!(rt; sink.taken.len(), 7 * calls);
             assert!(rt; sections.starts_with(sink.taken.as_slice()));

@@ -30,7 +30,8 @@ fn reads_hello_and_bye(rt: HostRuntime) -> Result<(), Fail> {
         assert_eq!(rt; app.script.as_str(), scripts[i]);
         assert_eq!(rt; app.rect.x, corners[i]);
         assert_eq!(rt; app.rect.width, 100);
-        assert_eq!(rt; app.budget, 100);
+        assert_eq!(rt; app.budget.total, 100);
+        assert_eq!(rt; app.budget.refill, 0);
     }
     Ok(())
 }
@@ -64,14 +65,14 @@ fn tells_the_first_fault(rt: HostRuntime) {
         (b"tkhost 1\nevents\n+1 end\n", 3, 36),
         (b"tkhost 1\nevents\n1000000000001 end\n", 3, 36),
         (b"tkhost 1\nevents\n18446744073709551616 end\n", 3, 36),
-        (b"tkhost 1\nevents\n5 focus -\n4 end\n", 3, 36),
+        (b"tkhost 1\nevents\n5 focus -\n4 end\n", 4, 35),
         (b"tkhost 1\napp 1a 0 0 9 9 5\n", 2, 36),
         (b"tkhost 1\napp a 0 0 0 9 5\n", 2, 36),
         (b"tkhost 1\napp a 32768 0 9 9 5\n", 2, 36),
         (b"tkhost 1\napp a 0 0 9 9 10000001\n", 2, 36),
         (b"tkhost 1\napp a  0 0 9 9 5\n", 2, 36),
         (
-            b"tkhost 1\napp a 0 0 9 9 5\nalias c const x\nscript 0\n",
+            b"tkhost 1\napp a 0 0 9 9 5\nalias c none x\nscript 0\n",
             3,
             36,
         ),

@@ -2,4 +2,4 @@ use Rattle.tk_app.proofs.Parts.{settles_from_rest}
 use Rattle.tk_app.proofs.laws.settles_from_rest.Goals as goal
 
 pub returns : goal.returns
-returns c = settles_from_rest
+returns g c = settles_from_rest g.M.AliasMeaning.answer

@@ -4,9 +4,9 @@ use Rattle.tk_app.specs.Part.{Part, needs, stage_done}
 use Rattle.tk_host.proofs.laws.bounded_stages.Goals as goal
 
 pub returns : goal.returns
-returns c = λ slice moment parts positive.
+returns g c = λ slice moment parts positive.
     omega (
       arith,
-      steps_in_turns slice (map (needs moment) parts) positive,
-      sum_used (λ (part : Part). part.application.steps) (λ part. (stage_done moment part).application.steps) parts,
+      steps_in_turns slice (map (needs g.M.AliasMeaning.answer moment) parts) positive,
+      sum_used (λ (part : Part _). part.application.steps) (λ part. (stage_done g.M.AliasMeaning.answer moment part).application.steps) parts,
     )

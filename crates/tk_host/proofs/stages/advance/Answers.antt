@@ -7,42 +7,44 @@ use Rattle.tk_host.proofs.Ways.{way_brought, way_lighter, way_on, way_told}
 use Rattle.tk_host.proofs.stages.advance.Goals as goal
 
 pub moments-init : goal.moments-init
-moments-init c = record { rest = c.requires.rest; past = c.requires.past; ahead = c.requires.ahead; brought = refl; turns = refl }
+moments-init g c = record { rest = c.requires.rest; past = c.requires.past; ahead = c.requires.ahead; brought = refl; turns = refl }
 
 pub returns-then-due-target : goal.returns-then-due-target
-returns-then-due-target c =
+returns-then-due-target g c =
     let way = c.moments.invariant in
     let here = c.moments.shared in
-    let past : IsPast c.args.target (first_due next_due settled (applications here.parts)) = subst (IsPast c.args.target) c.in-Some.ensures c.if-due-target.true in
+    let past : IsPast c.args.target (first_due next_due (settled g.M.AliasMeaning.answer) (applications here.parts)) = subst (IsPast c.args.target) c.in-Some.ensures c.if-due-target.true in
     record {
-      brought = way_brought c.args.slice c.args.target c.args.shared.now here way past;
+      brought = way_brought g.M.AliasMeaning.answer c.args.slice c.args.target c.args.shared.now here way past;
       rest = way.rest;
       past = way.past;
+      through = past;
       ahead = way.ahead;
-      turns = way_told c.args.slice c.args.target c.args.shared.now here way past;
+      turns = way_told g.M.AliasMeaning.answer c.args.slice c.args.target c.args.shared.now here way past;
     }
 
 pub moments-smaller : goal.moments-smaller
-moments-smaller c =
+moments-smaller g c =
     let here = c.moments.shared in
-    way_lighter c.in-Some.due here c.set_moment.new.self c.begin_all.new.shared c.stage.new.shared (sym c.in-Some.ensures) c.moments.invariant.rest c.set_moment.ensures c.in_ok-begin_all.ensures c.in_ok-stage.ensures.done
+    way_lighter g.M.AliasMeaning.answer c.in-Some.due here c.set_moment.new.self c.begin_all.new.shared c.stage.new.shared (sym c.in-Some.ensures) c.moments.invariant.rest c.set_moment.ensures c.in_ok-begin_all.ensures c.in_ok-stage.ensures.done
 
 pub moments-preserved : goal.moments-preserved
-moments-preserved c =
+moments-preserved g c =
     let here = c.moments.shared in
     let told = c.in_ok-stage.ensures in
-    way_on c.args.slice c.args.target c.in-Some.due c.args.shared.now here c.set_moment.new.self c.begin_all.new.shared c.stage.new.shared (sym c.in-Some.ensures) c.if-due-target.false c.moments.invariant
+    way_on g.M.AliasMeaning.answer c.args.slice c.args.target c.in-Some.due c.args.shared.now here c.set_moment.new.self c.begin_all.new.shared c.stage.new.shared (sym c.in-Some.ensures) c.if-due-target.false c.moments.invariant
     c.set_moment.ensures c.in_ok-begin_all.ensures told.moment told.done told.turns
 
 pub returns : goal.returns
-returns c =
+returns g c =
     let way = c.moments.invariant in
     let here = c.moments.shared in
-    let past : IsPast c.args.target (first_due next_due settled (applications here.parts)) = subst (IsPast c.args.target) c.in_default.ensures tt in
+    let past : IsPast c.args.target (first_due next_due (settled g.M.AliasMeaning.answer) (applications here.parts)) = subst (IsPast c.args.target) c.in_default.ensures tt in
     record {
-      brought = way_brought c.args.slice c.args.target c.args.shared.now here way past;
+      brought = way_brought g.M.AliasMeaning.answer c.args.slice c.args.target c.args.shared.now here way past;
       rest = way.rest;
       past = way.past;
+      through = past;
       ahead = way.ahead;
-      turns = way_told c.args.slice c.args.target c.args.shared.now here way past;
+      turns = way_told g.M.AliasMeaning.answer c.args.slice c.args.target c.args.shared.now here way past;
     }

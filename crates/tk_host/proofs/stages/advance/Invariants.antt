@@ -6,8 +6,8 @@ use Rattle.tk_host.proofs.stages.advance.Given as goal
 
 -- what is left to be done comes to what all does
 abbrev pub invariant-moments : goal.invariant-moments
-invariant-moments l = Way l.slice l.target l.fn.shared l.shared
+invariant-moments g l = Way g.M.AliasMeaning.answer l.slice l.target l.fn.shared l.shared
 
 -- each stage takes a step or is the last of an application
 abbrev pub decreases-moments : goal.decreases-moments
-decreases-moments l = sum_by weight (applications l.shared.parts)
+decreases-moments g l = sum_by weight (applications l.shared.parts)

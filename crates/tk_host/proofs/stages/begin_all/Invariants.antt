@@ -3,4 +3,4 @@ use Rattle.tk_host.proofs.stages.begin_all.Given as goal
 
 -- those below the slot have begun
 abbrev pub invariant-loop-slot : goal.invariant-loop-slot
-invariant-loop-slot l = BegunBelow l.moment l.slot l.fn.shared l.shared
+invariant-loop-slot g l = BegunBelow g.M.AliasMeaning.answer l.moment l.slot l.fn.shared l.shared

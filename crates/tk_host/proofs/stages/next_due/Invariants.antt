@@ -7,5 +7,5 @@ use Rattle.tk_host.proofs.stages.next_due.Given as goal
 
 -- the first so far and of the rest is that of them all
 abbrev pub invariant-loop-slot : goal.invariant-loop-slot
-invariant-loop-slot l =
-    earlier l.first (first_due next_due settled (drop l.slot (applications l.shared.parts))) ≡ first_due next_due settled (applications l.shared.parts)
+invariant-loop-slot g l =
+    earlier l.first (first_due next_due (settled g.M.AliasMeaning.answer) (drop l.slot (applications l.shared.parts))) ≡ first_due next_due (settled g.M.AliasMeaning.answer) (applications l.shared.parts)

@@ -3,6 +3,6 @@ use Rattle.tk_host.proofs.Slots.{reaches_more}
 use Rattle.tk_host.proofs.stages.run_round.Goals as goal
 
 pub loop-slot-preserved : goal.loop-slot-preserved
-loop-slot-preserved c =
+loop-slot-preserved g c =
     let loop = c.loop-slot in
-    reaches_more c.args.slice loop.slot c.args.shared.now loop.shared c.take_turn.new.shared loop.more c.in_ok-more.field-0 (omega arith) (omega arith) loop.invariant c.in_ok-more.ensures
+    reaches_more g.M.AliasMeaning.answer c.args.slice loop.slot c.args.shared.now loop.shared c.take_turn.new.shared loop.more c.in_ok-more.field-0 (omega arith) (omega arith) loop.invariant c.in_ok-more.ensures

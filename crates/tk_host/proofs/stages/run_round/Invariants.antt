@@ -3,4 +3,4 @@ use Rattle.tk_host.proofs.stages.run_round.Given as goal
 
 -- the parts below the slot have had their turn
 abbrev pub invariant-loop-slot : goal.invariant-loop-slot
-invariant-loop-slot l = Reaches l.slice l.slot l.fn.shared l.shared l.more
+invariant-loop-slot g l = Reaches g.M.AliasMeaning.answer l.slice l.slot l.fn.shared l.shared l.more

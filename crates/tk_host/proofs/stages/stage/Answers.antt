@@ -6,12 +6,12 @@ use Rattle.tk_host.proofs.Slots.{none_needed}
 use Rattle.tk_host.proofs.stages.stage.Goals as goal
 
 pub rounds-preserved : goal.rounds-preserved
-rounds-preserved c =
+rounds-preserved g c =
     let loop = c.rounds in
     let m : ℕ = c.args.shared.now.moment in
     let is : loop.shared.moment ≡ m = loop.invariant.moment in
-    let done_by : ℕ → List Part → List Part = λ n ps. map (stage_done n) ps in
-    let needed_by : ℕ → List Part → List ℕ = λ n ps. map (needs n) ps in
+    let done_by : ℕ → List (Part _) → List (Part _) = λ n ps. map (stage_done g.M.AliasMeaning.answer n) ps in
+    let needed_by : ℕ → List (Part _) → List ℕ = λ n ps. map (needs g.M.AliasMeaning.answer n) ps in
     let here = loop.shared.parts in
     let there = c.run_round.new.shared.parts in
     let told = c.in_ok-more.ensures in
@@ -28,9 +28,9 @@ rounds-preserved c =
     }
 
 pub returns-clause-turns : goal.returns-clause-turns
-returns-clause-turns c =
+returns-clause-turns g c =
     let loop = c.rounds in
     let m : ℕ = c.args.shared.now.moment in
-    let rest : turns_of c.args.slice (map (needs m) loop.shared.parts) ≡ [] =
-    turns_none c.args.slice (map (needs m) loop.shared.parts) (ap (λ ps. sum (map (needs m) ps)) (loop.invariant.last c.rounds-test.false) ∙ none_needed m c.args.shared.now.parts) in
+    let rest : turns_of c.args.slice (map (needs g.M.AliasMeaning.answer m) loop.shared.parts) ≡ [] =
+    turns_none c.args.slice (map (needs g.M.AliasMeaning.answer m) loop.shared.parts) (ap (λ ps. sum (map (needs g.M.AliasMeaning.answer m) ps)) (loop.invariant.last c.rounds-test.false) ∙ none_needed g.M.AliasMeaning.answer m c.args.shared.now.parts) in
     sym (append-nil loop.shared.turns) ∙ ap (λ ts. loop.shared.turns ++ ts) (sym rest) ∙ loop.invariant.turns

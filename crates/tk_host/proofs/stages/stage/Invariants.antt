@@ -6,14 +6,14 @@ use Rattle.tk_host.proofs.stages.stage.Given as goal
 
 -- what is left to be done, and who is to take turns, comes to what all does
 abbrev pub invariant-rounds : goal.invariant-rounds
-invariant-rounds l = record {
+invariant-rounds g l = record {
   moment : l.shared.moment ≡ l.fn.shared.moment;
-  done : map (stage_done l.fn.shared.moment) l.shared.parts ≡ map (stage_done l.fn.shared.moment) l.fn.shared.parts;
-  turns : l.shared.turns ++ turns_of l.slice (map (needs l.fn.shared.moment) l.shared.parts)
-      ≡ l.fn.shared.turns ++ turns_of l.slice (map (needs l.fn.shared.moment) l.fn.shared.parts);
-  last : l.more ≡ false → l.shared.parts ≡ map (stage_done l.fn.shared.moment) l.fn.shared.parts;
+  done : map (stage_done g.M.AliasMeaning.answer l.fn.shared.moment) l.shared.parts ≡ map (stage_done g.M.AliasMeaning.answer l.fn.shared.moment) l.fn.shared.parts;
+  turns : l.shared.turns ++ turns_of l.slice (map (needs g.M.AliasMeaning.answer l.fn.shared.moment) l.shared.parts)
+      ≡ l.fn.shared.turns ++ turns_of l.slice (map (needs g.M.AliasMeaning.answer l.fn.shared.moment) l.fn.shared.parts);
+  last : l.more ≡ false → l.shared.parts ≡ map (stage_done g.M.AliasMeaning.answer l.fn.shared.moment) l.fn.shared.parts;
 }
 
 -- each round that isn't the last takes a step
 abbrev pub decreases-rounds : goal.decreases-rounds
-decreases-rounds l = cond l.more (suc (sum_by (needs l.fn.shared.moment) l.shared.parts)) 0
+decreases-rounds g l = cond l.more (suc (sum_by (needs g.M.AliasMeaning.answer l.fn.shared.moment) l.shared.parts)) 0

@@ -9,11 +9,12 @@ use Rattle.tk_app.proofs.Slices.{going_rest, more_of, ran, settled_of, stopped_o
 use Rattle.tk_app.proofs.runner.Runner.go_on.Goals as goal
 
 pub returns-in-Settled-clause-turn : goal.returns-in-Settled-clause-turn
-returns-in-Settled-clause-turn c =
+returns-in-Settled-clause-turn g c =
     let i = c.self.inside in
-    let program : Program = record {
+    let program : Program _ = record {
       name = i.name;
       title = i.title;
+      aliases = i.aliases;
       budget = i.budget;
       store = i.scopes;
       commands = (context_of i.interp).commands;
@@ -23,19 +24,20 @@ returns-in-Settled-clause-turn c =
     } in
     let panel = panel_of c.args.slot c.args.tables.now in
     let panel' = panel_of c.args.slot c.run.new.tables in
-    let runs = ap (λ (p : Program). p.state) c.self.view_is ∙ c.requires.running in
-    let running = going_rest c.args.self.now i.state (rest_of i.interp) (context_of i.interp).levels (ap (λ (p : Program). p.state) c.self.view_is) (ap (λ (p : Program). p.work) c.self.view_is) c.requires.running c.requires.going in
+    let runs = ap (λ (p : Program _). p.state) c.self.view_is ∙ c.requires.running in
+    let running = going_rest c.args.self.now i.state (rest_of i.interp) (context_of i.interp).levels (ap (λ (p : Program _). p.state) c.self.view_is) (ap (λ (p : Program _). p.work) c.self.view_is) c.requires.running c.requires.going in
     let end = c.in_ok-end.ensures in
     let is = settled_of c.in_ok-end.end (sym c.end_of-ended.ensures ∙ c.in-Settled.is) in
-    subst (λ (p : Program). TakesTurn panel.moment c.args.steps Settled (part_of panel p) (part_of panel' (ran program c.run.new.interp c.run.new.scopes i.state))) c.self.view_is
-    (turn_settles program panel panel' i.interp c.run.new.interp i.scopes c.run.new.scopes i.state runs end.setting running c.args.steps is.0 is.1 (rw is.2 at end.reached) (rw is.2 at end.rest) end.most)
+    subst (λ (p : Program _). TakesTurn g.M.AliasMeaning.answer panel.moment c.args.steps Settled (part_of panel p) (part_of panel' (ran program c.run.new.interp c.run.new.scopes i.state))) c.self.view_is
+    (turn_settles g.M.AliasMeaning.answer program panel panel' i.interp c.run.new.interp i.scopes c.run.new.scopes i.state runs end.setting running c.args.steps is.0 is.1 (rw is.2 at end.reached) (rw is.2 at end.rest) end.most)
 
 pub returns-in-More-clause-turn : goal.returns-in-More-clause-turn
-returns-in-More-clause-turn c =
+returns-in-More-clause-turn g c =
     let i = c.self.inside in
-    let program : Program = record {
+    let program : Program _ = record {
       name = i.name;
       title = i.title;
+      aliases = i.aliases;
       budget = i.budget;
       store = i.scopes;
       commands = (context_of i.interp).commands;
@@ -45,19 +47,20 @@ returns-in-More-clause-turn c =
     } in
     let panel = panel_of c.args.slot c.args.tables.now in
     let panel' = panel_of c.args.slot c.run.new.tables in
-    let runs = ap (λ (p : Program). p.state) c.self.view_is ∙ c.requires.running in
-    let running = going_rest c.args.self.now i.state (rest_of i.interp) (context_of i.interp).levels (ap (λ (p : Program). p.state) c.self.view_is) (ap (λ (p : Program). p.work) c.self.view_is) c.requires.running c.requires.going in
+    let runs = ap (λ (p : Program _). p.state) c.self.view_is ∙ c.requires.running in
+    let running = going_rest c.args.self.now i.state (rest_of i.interp) (context_of i.interp).levels (ap (λ (p : Program _). p.state) c.self.view_is) (ap (λ (p : Program _). p.work) c.self.view_is) c.requires.running c.requires.going in
     let end = c.in_ok-end.ensures in
     let is = more_of c.in_ok-end.end (sym c.end_of-ended.ensures ∙ c.in-More.is) in
-    subst (λ (p : Program). TakesTurn panel.moment c.args.steps More (part_of panel p) (part_of panel' (ran program c.run.new.interp c.run.new.scopes i.state))) c.self.view_is
-    (turn_goes_on program panel panel' i.interp c.run.new.interp i.scopes c.run.new.scopes i.state runs end.setting running c.args.steps (rw is at end.reached) (rw is at end.rest) (end.more (ap Ok is)))
+    subst (λ (p : Program _). TakesTurn g.M.AliasMeaning.answer panel.moment c.args.steps More (part_of panel p) (part_of panel' (ran program c.run.new.interp c.run.new.scopes i.state))) c.self.view_is
+    (turn_goes_on g.M.AliasMeaning.answer program panel panel' i.interp c.run.new.interp i.scopes c.run.new.scopes i.state runs end.setting running c.args.steps (rw is at end.reached) (rw is at end.rest) (end.more (ap Ok is)))
 
 pub returns-in-Stopped-clause-turn : goal.returns-in-Stopped-clause-turn
-returns-in-Stopped-clause-turn c =
+returns-in-Stopped-clause-turn g c =
     let i = c.self.inside in
-    let program : Program = record {
+    let program : Program _ = record {
       name = i.name;
       title = i.title;
+      aliases = i.aliases;
       budget = i.budget;
       store = i.scopes;
       commands = (context_of i.interp).commands;
@@ -67,9 +70,9 @@ returns-in-Stopped-clause-turn c =
     } in
     let panel = panel_of c.args.slot c.args.tables.now in
     let panel' = panel_of c.args.slot c.run.new.tables in
-    let runs = ap (λ (p : Program). p.state) c.self.view_is ∙ c.requires.running in
-    let running = going_rest c.args.self.now i.state (rest_of i.interp) (context_of i.interp).levels (ap (λ (p : Program). p.state) c.self.view_is) (ap (λ (p : Program). p.work) c.self.view_is) c.requires.running c.requires.going in
+    let runs = ap (λ (p : Program _). p.state) c.self.view_is ∙ c.requires.running in
+    let running = going_rest c.args.self.now i.state (rest_of i.interp) (context_of i.interp).levels (ap (λ (p : Program _). p.state) c.self.view_is) (ap (λ (p : Program _). p.work) c.self.view_is) c.requires.running c.requires.going in
     let end = c.in_ok-end.ensures in
     let is = stopped_of c.in_ok-end.end (sym c.end_of-ended.ensures ∙ c.in-Stopped.is) in
-    subst (λ (p : Program). TakesTurn panel.moment c.args.steps Stopped (part_of panel p) (part_of panel' (ran program c.run.new.interp c.run.new.scopes Exhausted))) c.self.view_is
-    (turn_stops program panel panel' i.interp c.run.new.interp i.scopes c.run.new.scopes i.state runs end.setting running c.args.steps (rw is at end.reached) (end.exhausted (ap Ok is)) end.most)
+    subst (λ (p : Program _). TakesTurn g.M.AliasMeaning.answer panel.moment c.args.steps Stopped (part_of panel p) (part_of panel' (ran program c.run.new.interp c.run.new.scopes Exhausted))) c.self.view_is
+    (turn_stops g.M.AliasMeaning.answer program panel panel' i.interp c.run.new.interp i.scopes c.run.new.scopes i.state runs end.setting running c.args.steps (rw is at end.reached) (end.exhausted (ap Ok is)) end.most)

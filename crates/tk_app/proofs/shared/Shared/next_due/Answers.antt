@@ -8,11 +8,11 @@ use Rattle.tk_app.specs.Tables.{panel_of}
 use Rattle.tk_app.proofs.shared.Shared.next_due.Goals as goal
 
 pub index-runner-requires : goal.index-runner-requires
-index-runner-requires c =
-    let lt = in_range c.self.inside.tables c.self.inside.runners.items c.args.self.now.parts c.args.slot (ap (λ (h : Applications). h.parts) c.self.view_is) c.requires in
+index-runner-requires g c =
+    let lt = in_range c.self.inside.tables c.self.inside.runners.items c.args.self.now.parts c.args.slot (ap (λ (h : Applications _). h.parts) c.self.view_is) c.requires in
     omega (arith, lt)
 
 pub returns : goal.returns
-returns c =
-    of_slot (λ (p : Part). next_due p.application) c.self.inside.tables c.self.inside.runners.items c.args.self.now.parts c.args.slot c.index-runner.result.now _ (ap (λ (h : Applications). h.parts) c.self.view_is)
+returns g c =
+    of_slot (λ (p : Part _). next_due p.application) c.self.inside.tables c.self.inside.runners.items c.args.self.now.parts c.args.slot c.index-runner.result.now _ (ap (λ (h : Applications _). h.parts) c.self.view_is)
     c.requires c.index-runner.ensures (c.next_due.ensures ∙ ap (λ s. next_due_as s (panel_of c.args.slot c.self.inside.tables).own) c.state.ensures)

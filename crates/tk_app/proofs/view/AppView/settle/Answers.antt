@@ -7,33 +7,33 @@ use Rattle.tk_app.proofs.Views.{held_kept, one_changed, one_was, only_same, slot
 use Rattle.tk_app.proofs.view.AppView.settle.Goals as goal
 
 pub returns-then-shared-clause-only : goal.returns-then-shared-clause-only
-returns-then-shared-clause-only c = only_same c.args.self.now.slot c.args.self.now.shared.now c.args.self.now.held
+returns-then-shared-clause-only g c = only_same c.args.self.now.slot c.args.self.now.shared.now c.args.self.now.held
 
 pub index_mut-runner-requires : goal.index_mut-runner-requires
-index_mut-runner-requires c =
-    let lt = in_range c.shared.inside.tables c.shared.inside.runners.items c.args.self.now.shared.now.parts c.args.self.now.slot (ap (λ (h : Applications). h.parts) c.shared.view_is) c.args.self.now.held in
+index_mut-runner-requires g c =
+    let lt = in_range c.shared.inside.tables c.shared.inside.runners.items c.args.self.now.shared.now.parts c.args.self.now.slot (ap (λ (h : Applications _). h.parts) c.shared.view_is) c.args.self.now.held in
     omega (arith, lt)
 
 pub invariant_of-shared : goal.invariant_of-shared
-invariant_of-shared c =
+invariant_of-shared g c =
     let old = c.shared.inside in
     held_kept c.args.self.now.slot old.tables c.take_turn.new.tables old.runners.items c.take_turn.new.runner c.shared.invariant.0 c.shared.invariant.1 c.shared.invariant.2
-    (in_range c.shared.inside.tables c.shared.inside.runners.items c.args.self.now.shared.now.parts c.args.self.now.slot (ap (λ (h : Applications). h.parts) c.shared.view_is) c.args.self.now.held) c.take_turn.ensures.count c.take_turn.ensures.others
+    (in_range c.shared.inside.tables c.shared.inside.runners.items c.args.self.now.shared.now.parts c.args.self.now.slot (ap (λ (h : Applications _). h.parts) c.shared.view_is) c.args.self.now.held) c.take_turn.ensures.count c.take_turn.ensures.others
 
 pub invariant_of-self-in-Break-1 : goal.invariant_of-self-in-Break-1
-invariant_of-self-in-Break-1 c =
+invariant_of-self-in-Break-1 g c =
     let old = c.shared.inside in
-    record { held = slot_held c.args.self.now.slot old.tables c.take_turn.new.tables old.runners.items c.take_turn.new.runner c.args.self.now.shared.now.parts (ap (λ (h : Applications). h.parts) c.shared.view_is) c.args.self.now.held }
+    record { held = slot_held c.args.self.now.slot old.tables c.take_turn.new.tables old.runners.items c.take_turn.new.runner c.args.self.now.shared.now.parts (ap (λ (h : Applications _). h.parts) c.shared.view_is) c.args.self.now.held }
 
 pub returns-in_err-end-clause-only : goal.returns-in_err-end-clause-only
-returns-in_err-end-clause-only c =
+returns-in_err-end-clause-only g c =
     let i = c.args.self.now.slot in
     let old = c.shared.inside in
-    let r : Program = c.index_mut-runner.result.now in
+    let r : Program _ = c.index_mut-runner.result.now in
     let new = c.take_turn.new in
-    let lt : i < length old.runners.items = in_range c.shared.inside.tables c.shared.inside.runners.items c.args.self.now.shared.now.parts c.args.self.now.slot (ap (λ (h : Applications). h.parts) c.shared.view_is) c.args.self.now.held in
-    let held : Applications = record { moment = new.tables.clock; parts = parts_from 0 new.tables (set old.runners.items i new.runner); turns = new.turns.items; refused = true } in
-    subst (λ (h : Applications). ChangesOnly i h held) c.shared.view_is (record {
+    let lt : i < length old.runners.items = in_range c.shared.inside.tables c.shared.inside.runners.items c.args.self.now.shared.now.parts c.args.self.now.slot (ap (λ (h : Applications _). h.parts) c.shared.view_is) c.args.self.now.held in
+    let held : Applications _ = record { moment = new.tables.clock; parts = parts_from 0 new.tables (set old.runners.items i new.runner); turns = new.turns.items; refused = true } in
+    subst (λ (h : Applications _). ChangesOnly i h held) c.shared.view_is (record {
       before = part_of (panel_of i old.tables) r;
       after = part_of (panel_of i new.tables) new.runner;
       was = one_was i old.tables new.tables old.runners.items r new.runner c.shared.invariant.0 lt c.index_mut-runner.ensures.value c.take_turn.ensures.others;
@@ -43,25 +43,25 @@ returns-in_err-end-clause-only c =
     })
 
 pub invariant_of-shared-2 : goal.invariant_of-shared-2
-invariant_of-shared-2 c =
+invariant_of-shared-2 g c =
     let old = c.shared.inside in
     held_kept c.args.self.now.slot old.tables c.take_turn.new.tables old.runners.items c.take_turn.new.runner c.shared.invariant.0 c.shared.invariant.1 c.shared.invariant.2
-    (in_range c.shared.inside.tables c.shared.inside.runners.items c.args.self.now.shared.now.parts c.args.self.now.slot (ap (λ (h : Applications). h.parts) c.shared.view_is) c.args.self.now.held) c.take_turn.ensures.count c.take_turn.ensures.others
+    (in_range c.shared.inside.tables c.shared.inside.runners.items c.args.self.now.shared.now.parts c.args.self.now.slot (ap (λ (h : Applications _). h.parts) c.shared.view_is) c.args.self.now.held) c.take_turn.ensures.count c.take_turn.ensures.others
 
 pub invariant_of-self-2 : goal.invariant_of-self-2
-invariant_of-self-2 c =
+invariant_of-self-2 g c =
     let old = c.shared.inside in
-    record { held = slot_held c.args.self.now.slot old.tables c.take_turn.new.tables old.runners.items c.take_turn.new.runner c.args.self.now.shared.now.parts (ap (λ (h : Applications). h.parts) c.shared.view_is) c.args.self.now.held }
+    record { held = slot_held c.args.self.now.slot old.tables c.take_turn.new.tables old.runners.items c.take_turn.new.runner c.args.self.now.shared.now.parts (ap (λ (h : Applications _). h.parts) c.shared.view_is) c.args.self.now.held }
 
 pub returns-clause-only : goal.returns-clause-only
-returns-clause-only c =
+returns-clause-only g c =
     let i = c.args.self.now.slot in
     let old = c.shared.inside in
-    let r : Program = c.index_mut-runner.result.now in
+    let r : Program _ = c.index_mut-runner.result.now in
     let new = c.take_turn.new in
-    let lt : i < length old.runners.items = in_range c.shared.inside.tables c.shared.inside.runners.items c.args.self.now.shared.now.parts c.args.self.now.slot (ap (λ (h : Applications). h.parts) c.shared.view_is) c.args.self.now.held in
-    let held : Applications = record { moment = new.tables.clock; parts = parts_from 0 new.tables (set old.runners.items i new.runner); turns = new.turns.items; refused = false } in
-    subst (λ (h : Applications). ChangesOnly i h held) c.shared.view_is (record {
+    let lt : i < length old.runners.items = in_range c.shared.inside.tables c.shared.inside.runners.items c.args.self.now.shared.now.parts c.args.self.now.slot (ap (λ (h : Applications _). h.parts) c.shared.view_is) c.args.self.now.held in
+    let held : Applications _ = record { moment = new.tables.clock; parts = parts_from 0 new.tables (set old.runners.items i new.runner); turns = new.turns.items; refused = false } in
+    subst (λ (h : Applications _). ChangesOnly i h held) c.shared.view_is (record {
       before = part_of (panel_of i old.tables) r;
       after = part_of (panel_of i new.tables) new.runner;
       was = one_was i old.tables new.tables old.runners.items r new.runner c.shared.invariant.0 lt c.index_mut-runner.ensures.value c.take_turn.ensures.others;
@@ -71,15 +71,15 @@ returns-clause-only c =
     })
 
 pub returns-clause-settled : goal.returns-clause-settled
-returns-clause-settled c =
+returns-clause-settled g c =
     let i = c.args.self.now.slot in
     let old = c.shared.inside in
-    let r : Program = c.index_mut-runner.result.now in
+    let r : Program _ = c.index_mut-runner.result.now in
     let new = c.take_turn.new in
     let turn = c.in_ok-end.ensures.turn in
-    let lt : i < length old.runners.items = in_range c.shared.inside.tables c.shared.inside.runners.items c.args.self.now.shared.now.parts c.args.self.now.slot (ap (λ (h : Applications). h.parts) c.shared.view_is) c.args.self.now.held in
-    let held : Applications = record { moment = new.tables.clock; parts = parts_from 0 new.tables (set old.runners.items i new.runner); turns = new.turns.items; refused = false } in
-    subst (λ (h : Applications). SettlesSlot c.args.steps i c.in_ok-end.end h held) c.shared.view_is (record {
+    let lt : i < length old.runners.items = in_range c.shared.inside.tables c.shared.inside.runners.items c.args.self.now.shared.now.parts c.args.self.now.slot (ap (λ (h : Applications _). h.parts) c.shared.view_is) c.args.self.now.held in
+    let held : Applications _ = record { moment = new.tables.clock; parts = parts_from 0 new.tables (set old.runners.items i new.runner); turns = new.turns.items; refused = false } in
+    subst (λ (h : Applications _). SettlesSlot g.M.AliasMeaning.answer c.args.steps i c.in_ok-end.end h held) c.shared.view_is (record {
       before = part_of (panel_of i old.tables) r;
       after = part_of (panel_of i new.tables) new.runner;
       was = one_was i old.tables new.tables old.runners.items r new.runner c.shared.invariant.0 lt c.index_mut-runner.ensures.value c.take_turn.ensures.others;

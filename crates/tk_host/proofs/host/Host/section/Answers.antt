@@ -8,11 +8,11 @@ use Rattle.tk_host.proofs.History.{sections_of_held}
 use Rattle.tk_host.proofs.host.Host.section.Goals as goal
 
 pub returns-clause-section : goal.returns-clause-section
-returns-clause-section c =
-    let section_of : Part → List ℕ = λ part. section part.application in
-    let parts : c.args.self.now.held.parts ≡ c.self.inside.shared.parts = sym (ap (λ (h : Hosted). h.held.parts) c.self.view_is) in
+returns-clause-section g c =
+    let section_of : Part _ → List ℕ = λ part. section part.application in
+    let parts : c.args.self.now.held.parts ≡ c.self.inside.shared.parts = sym (ap (λ (h : Hosted _). h.held.parts) c.self.view_is) in
     ap (λ ps. slice_get (map section_of ps) c.args.slot) parts ∙ slice_get-map section_of c.self.inside.shared.parts c.args.slot ∙ c.in_ok-section.ensures
 
 pub returns-clause-history : goal.returns-clause-history
-returns-clause-history c = λ calls held.
-    ap (λ sections. slice_get sections c.args.slot) (sym (sections_of_held calls c.args.self.now.held held)) ∙ returns-clause-section c
+returns-clause-history g c = λ calls held.
+    ap (λ sections. slice_get sections c.args.slot) (sym (sections_of_held g.M.AliasMeaning.answer calls c.args.self.now.held held)) ∙ returns-clause-section c

@@ -1,0 +1,74 @@
+use Rattle.std.proofs.Common.{◌≡◌, ◌<◌, set, refl, ap, ◌∙◌, subst, length, arith}
+use Rattle.tk_app.specs.Part.{Part, delivered}
+use Rattle.tk_app.specs.Tables.{panel_of}
+use Rattle.tk_app.specs.Turns.{Applications, ChangesPart, DeliversIn, MayGet, Program, part_of, parts_from}
+use Rattle.tk_app.proofs.Slots.{get_parts, in_range}
+use Rattle.tk_app.proofs.Views.{held_kept, one_changed, one_was, part_same, slot_held}
+use Rattle.tk_app.proofs.view.AppView.deliver.Goals as goal
+
+pub returns-then-shared-clause-only : goal.returns-then-shared-clause-only
+returns-then-shared-clause-only g c = part_same c.args.self.now.slot c.args.self.now.shared.now c.args.self.now.held
+
+pub index_mut-runner-requires : goal.index_mut-runner-requires
+index_mut-runner-requires g c =
+    let lt = in_range c.shared.inside.tables c.shared.inside.runners.items c.args.self.now.shared.now.parts c.args.self.now.slot (ap (λ (h : Applications _). h.parts) c.shared.view_is) c.args.self.now.held in
+    omega (arith, lt)
+
+pub deliver-requires : goal.deliver-requires
+deliver-requires g c =
+    let i = c.args.self.now.slot in
+    let old = c.shared.inside in
+    let r : Program _ = c.index_mut-runner.result.now in
+    let parts = c.args.self.now.shared.now.parts in
+    let are : parts_from 0 old.tables old.runners.items ≡ parts = ap (λ (h : Applications _). h.parts) c.shared.view_is in
+    let lt : i < length old.runners.items = in_range old.tables old.runners.items parts i are c.args.self.now.held in
+    record {
+      there = omega (arith, lt, c.shared.invariant.1);
+      may = c.requires.may (part_of (panel_of i old.tables) r) (get_parts old.tables old.runners.items parts i r are lt c.index_mut-runner.ensures.value);
+    }
+
+pub invariant_of-shared : goal.invariant_of-shared
+invariant_of-shared g c =
+    let old = c.shared.inside in
+    held_kept c.args.self.now.slot old.tables c.deliver.new.tables old.runners.items c.deliver.new.runner c.shared.invariant.0 c.shared.invariant.1 c.shared.invariant.2
+    (in_range old.tables old.runners.items c.args.self.now.shared.now.parts c.args.self.now.slot (ap (λ (h : Applications _). h.parts) c.shared.view_is) c.args.self.now.held) c.deliver.ensures.count c.deliver.ensures.others
+
+pub invariant_of-self : goal.invariant_of-self
+invariant_of-self g c =
+    let old = c.shared.inside in
+    record { held = slot_held c.args.self.now.slot old.tables c.deliver.new.tables old.runners.items c.deliver.new.runner c.args.self.now.shared.now.parts (ap (λ (h : Applications _). h.parts) c.shared.view_is) c.args.self.now.held }
+
+pub returns-clause-delivered : goal.returns-clause-delivered
+returns-clause-delivered g c =
+    let i = c.args.self.now.slot in
+    let old = c.shared.inside in
+    let r : Program _ = c.index_mut-runner.result.now in
+    let new = c.deliver.new in
+    let lt : i < length old.runners.items = in_range old.tables old.runners.items c.args.self.now.shared.now.parts i (ap (λ (h : Applications _). h.parts) c.shared.view_is) c.args.self.now.held in
+    let before : Part _ = part_of (panel_of i old.tables) r in
+    let held : Applications _ = record { moment = new.tables.clock; parts = parts_from 0 new.tables (set old.runners.items i new.runner); turns = old.turns.items; refused = old.refused } in
+    subst (λ (h : Applications _). DeliversIn i c.args.event h held) c.shared.view_is (record {
+      before = before;
+      was = one_was i old.tables new.tables old.runners.items r new.runner c.shared.invariant.0 lt c.index_mut-runner.ensures.value c.deliver.ensures.others;
+      changed = ap (λ m. record held { moment = m }) c.deliver.ensures.clock
+          ∙ ap (λ ps. record { moment = old.tables.clock; parts = ps; turns = old.turns.items; refused = old.refused })
+          (one_changed i old.tables new.tables old.runners.items r new.runner c.shared.invariant.0 lt c.index_mut-runner.ensures.value c.deliver.ensures.others
+          ∙ ap (λ p. set (parts_from 0 old.tables old.runners.items) i p) c.deliver.ensures.own);
+    })
+
+pub returns-clause-only : goal.returns-clause-only
+returns-clause-only g c =
+    let i = c.args.self.now.slot in
+    let old = c.shared.inside in
+    let r : Program _ = c.index_mut-runner.result.now in
+    let new = c.deliver.new in
+    let lt : i < length old.runners.items = in_range old.tables old.runners.items c.args.self.now.shared.now.parts i (ap (λ (h : Applications _). h.parts) c.shared.view_is) c.args.self.now.held in
+    let held : Applications _ = record { moment = new.tables.clock; parts = parts_from 0 new.tables (set old.runners.items i new.runner); turns = old.turns.items; refused = old.refused } in
+    subst (λ (h : Applications _). ChangesPart i h held) c.shared.view_is (record {
+      before = part_of (panel_of i old.tables) r;
+      after = part_of (panel_of i new.tables) new.runner;
+      was = one_was i old.tables new.tables old.runners.items r new.runner c.shared.invariant.0 lt c.index_mut-runner.ensures.value c.deliver.ensures.others;
+      changed = one_changed i old.tables new.tables old.runners.items r new.runner c.shared.invariant.0 lt c.index_mut-runner.ensures.value c.deliver.ensures.others;
+      turns = refl;
+      moment = c.deliver.ensures.clock;
+    })

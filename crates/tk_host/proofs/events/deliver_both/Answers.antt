@@ -1,0 +1,44 @@
+use Rattle.std.proofs.Common.{◌≡◌, ◌++◌, map, sym, ap, ◌∙◌, arith}
+use Rattle.std.proofs.lemmas.Result.{on_ok_weaker}
+use Rattle.tk_turns.specs.Rounds.{turns_of}
+use Rattle.tk_app.specs.Part.{needs, stage_done}
+use Rattle.tk_app.specs.Turns.{Applications}
+use Rattle.tk_host.specs.Slots.{given_from}
+use Rattle.tk_host.proofs.Events.{done_two, given_twice, needs_two, rests_in, rests_other}
+use Rattle.tk_host.proofs.events.deliver_both.Goals as goal
+
+pub give-requires : goal.give-requires
+give-requires g c = record { now = c.requires.now; rests = λ part is. rests_in c.args.shared.now.parts c.args.first.slot part c.requires.rest is }
+
+pub give-2-requires : goal.give-2-requires
+give-2-requires g c =
+    let mid = c.in_ok-give.ensures in
+    record {
+      now = c.requires.also_now ∙ sym (ap (λ (h : Applications _). h.moment) mid);
+      rests = λ part is. rests_other c.args.first c.args.second.slot c.args.shared.now c.give.new.shared part c.requires.differ mid c.requires.rest is;
+    }
+
+pub returns-clause-moment : goal.returns-clause-moment
+returns-clause-moment g c =
+    on_ok_weaker c.stage.result
+    (λ same. same ∙ ap (λ (h : Applications _). h.moment) (given_twice c.args.first c.args.second c.args.shared.now c.give.new.shared c.give-2.new.shared c.in_ok-give.ensures c.in_ok-give-2.ensures)) c.stage.ensures.moment
+
+pub returns-clause-parts : goal.returns-clause-parts
+returns-clause-parts g c =
+    let answer = g.M.AliasMeaning.answer in
+    let old = c.args.shared.now in
+    let both = given_twice c.args.first c.args.second old c.give.new.shared c.give-2.new.shared c.in_ok-give.ensures c.in_ok-give-2.ensures in
+    on_ok_weaker c.stage.result
+    (λ done. done ∙ ap (λ (h : Applications _). map (stage_done answer h.moment) h.parts) both
+    ∙ done_two answer c.args.first c.args.second old.moment c.requires.differ c.requires.now c.requires.also_now 0 old.parts c.requires.rest)
+    c.stage.ensures.done
+
+pub returns-clause-turns : goal.returns-clause-turns
+returns-clause-turns g c =
+    let answer = g.M.AliasMeaning.answer in
+    let old = c.args.shared.now in
+    let both = given_twice c.args.first c.args.second old c.give.new.shared c.give-2.new.shared c.in_ok-give.ensures c.in_ok-give-2.ensures in
+    on_ok_weaker c.stage.result
+    (λ told. told ∙ ap (λ (h : Applications _). h.turns ++ turns_of c.args.slice (map (needs answer h.moment) h.parts)) both
+    ∙ ap (λ ns. old.turns ++ turns_of c.args.slice ns) (needs_two answer c.args.first c.args.second old.moment c.requires.differ c.requires.now c.requires.also_now 0 old.parts c.requires.rest))
+    c.stage.ensures.turns

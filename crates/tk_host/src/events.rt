@@ -1,0 +1,94 @@
+//! What a line gives to applications, and what comes of it, in turns of slices.
+
+ghost use Rattle.std.specs.Prelude.{◌≡◌, ◌≢◌, ◌<◌, ◌++◌, [], ◌∷◌, map, length, AllByRecursion, OnOk};
+ghost use Rattle.tk_turns.specs.Rounds.{turns_of};
+ghost use Rattle.tk_route.specs.Routes.{deliveries};
+ghost use Rattle.tk_host.specs.Held.{at_rest};
+ghost use Rattle.tk_host.specs.Ready.{AllRest};
+ghost use Rattle.tk_host.specs.Slots.{AreAt, RestsIn, given_from};
+ghost use Rattle.tk_host.specs.Turns.{after_given, applications, stages_of, steps_given, turns_given};
+
+use crate::stages::stage;
+use std::alloc::AllocError;
+use tk_app::{AliasMeaning, Shared};
+use tk_route::{Delivery, Routed};
+
+/// Gives what a line gives, and does what comes of it. Events of different applications are one stage, in which these take turns; a second
+/// event of the same application is a stage of its own.
+pub fn deliver_all<M: AliasMeaning>(
+    shared: &mut Shared<M>,
+    routed: Routed,
+    slice: u64,
+) -> Result<(), AllocError>
+    requires slice { 0 < slice }
+    requires rest { AllRest shared.old.parts }
+    requires now { AreAt shared.old.moment (deliveries routed) }
+    ensures moment { OnOk result (shared.new.moment ≡ shared.old.moment) }
+    ensures parts { OnOk result (shared.new.parts ≡ map at_rest (after_given M.answer 0 (deliveries routed) (applications shared.old.parts))) }
+    ensures turns { OnOk result (shared.new.turns ≡ shared.old.turns ++ turns_given M.answer slice (stages_of (deliveries routed)) (applications shared.old.parts)) }
+{
+    match routed {
+        Routed::Nobody => Ok(()),
+        Routed::One(only) => deliver_one(shared, only, slice),
+        Routed::Two(first, second) => {
+            if first.slot == second.slot {
+                deliver_one(shared, first, slice)?;
+                deliver_one(shared, second, slice)
+            } else {
+                deliver_both(shared, first, second, slice)
+            }
+        }
+    }
+}
+
+/// A stage of one event.
+fn deliver_one<M: AliasMeaning>(
+    shared: &mut Shared<M>,
+    only: Delivery,
+    slice: u64,
+) -> Result<(), AllocError>
+    requires slice { 0 < slice }
+    requires rest { AllRest shared.old.parts }
+    requires now { only.event.moment ≡ shared.old.moment }
+    ensures moment { OnOk result (shared.new.moment ≡ shared.old.moment) }
+    ensures parts { OnOk result (shared.new.parts ≡ map at_rest (after_given M.answer 0 (only ∷ []) (applications shared.old.parts))) }
+    ensures turns { OnOk result (shared.new.turns ≡ shared.old.turns ++ turns_of slice (steps_given M.answer 0 (only ∷ []) (applications shared.old.parts))) }
+{
+    give(shared, only)?;
+    stage(shared, slice)
+}
+
+/// A stage of two events, for different applications.
+fn deliver_both<M: AliasMeaning>(
+    shared: &mut Shared<M>,
+    first: Delivery,
+    second: Delivery,
+    slice: u64,
+) -> Result<(), AllocError>
+    requires slice { 0 < slice }
+    requires rest { AllRest shared.old.parts }
+    requires now { first.event.moment ≡ shared.old.moment }
+    requires also_now { second.event.moment ≡ shared.old.moment }
+    requires differ { first.slot ≢ second.slot }
+    ensures moment { OnOk result (shared.new.moment ≡ shared.old.moment) }
+    ensures parts { OnOk result (shared.new.parts ≡ map at_rest (after_given M.answer 0 (first ∷ second ∷ []) (applications shared.old.parts))) }
+    ensures turns { OnOk result (shared.new.turns ≡ shared.old.turns ++ turns_of slice (steps_given M.answer 0 (first ∷ second ∷ []) (applications shared.old.parts))) }
+{
+    give(shared, first)?;
+    give(shared, second)?;
+    stage(shared, slice)
+}
+
+/// Gives an event to the application that it is for, which begins to settle. A slot that no application has is given nothing.
+fn give<M: AliasMeaning>(shared: &mut Shared<M>, delivery: Delivery) -> Result<(), AllocError>
+    requires now { delivery.event.moment ≡ shared.old.moment }
+    requires rests { RestsIn delivery.slot shared.old.parts }
+    ensures { OnOk result (shared.new ≡ record shared.old { parts = given_from 0 delivery shared.old.parts }) }
+{
+    if delivery.slot >= shared.len() {
+        return Ok(());
+    }
+    let mut view = shared.view(delivery.slot);
+    view.deliver(delivery.event)?;
+    view.begin_settling()
+}

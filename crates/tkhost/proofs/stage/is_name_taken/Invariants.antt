@@ -1,6 +1,0 @@
-use Rattle.std.proofs.Common.{◌≡◌, false, take}
-use Rattle.tkhost.specs.Reading.{is_taken}
-use Rattle.tkhost.proofs.stage.is_name_taken.Given as goal
-
-abbrev pub invariant-loop-app : goal.invariant-loop-app
-invariant-loop-app l = is_taken l.name (take l.app-index l.apps) ≡ false

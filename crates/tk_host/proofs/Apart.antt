@@ -23,27 +23,27 @@ any_later P x xs (k, y, within, is, holds) = (suc k, y, omega (arith, within), i
 list_any_more : (rect other : Rect) (rects : List Rect) → shares_pixel rect other ≡ false → list_any (λ r. shares_pixel rect r) rects ≡ false
     → list_any (λ r. shares_pixel rect r) (rects ++ other ∷ []) ≡ false
 list_any_more rect other [] apart none = ap (λ b. b || false) apart
-list_any_more rect other (r ∷ rects) apart none = by (shares_pixel rect r) none
+list_any_more rect other (r ∷ rects) apart none = by (shares_pixel rect r) none (list_any_more rect other rects apart)
   where
-    by : (b : Bool) → (b || list_any (λ r. shares_pixel rect r) rects) ≡ false → (b || list_any (λ r. shares_pixel rect r) (rects ++ other ∷ [])) ≡ false
-    by true is = cc
-    by false is = list_any_more rect other rects apart is
+    by : (b : Bool) → (b || list_any (λ r. shares_pixel rect r) rects) ≡ false
+        → (list_any (λ r. shares_pixel rect r) rects ≡ false → list_any (λ r. shares_pixel rect r) (rects ++ other ∷ []) ≡ false)
+        → (b || list_any (λ r. shares_pixel rect r) (rects ++ other ∷ [])) ≡ false
+    by true is more = cc
+    by false is more = more is
 
 pub apart_more : (rects : List Rect) (other : Rect) → are_apart rects ≡ true → ¬ Any (λ rect. SharePixel rect other) rects → are_apart (rects ++ other ∷ []) ≡ true
 apart_more [] other apart free = refl
-apart_more (rect ∷ rects) other apart free = by (list_any (λ r. shares_pixel rect r) rects) refl (are_apart rects) refl apart (shares_pixel rect other) refl
+apart_more (rect ∷ rects) other apart free =
+    by (list_any (λ r. shares_pixel rect r) rects) refl (are_apart rects) refl apart (shares_pixel rect other) refl
+    (λ rest. apart_more rects other rest (λ any. free (any_later (λ r. SharePixel r other) rect rects any)))
   where
-    P : Rect → Type 0
-    P r = SharePixel r other
-
     by : (b : Bool) → list_any (λ r. shares_pixel rect r) rects ≡ b → (c : Bool) → are_apart rects ≡ c → (not b && c) ≡ true → (d : Bool) → shares_pixel rect other ≡ d
+        → (are_apart rects ≡ true → are_apart (rects ++ other ∷ []) ≡ true)
         → (not (list_any (λ r. shares_pixel rect r) (rects ++ other ∷ [])) && are_apart (rects ++ other ∷ [])) ≡ true
-    by true any c rest all d shares = cc
-    by false none false rest all d shares = cc
-    by false none true rest all true shares = absurd (free (any_first P rect rects (SharePixel-shares_pixel rect other shares)))
-    by false none true rest all false shares =
-        let later : are_apart (rects ++ other ∷ []) ≡ true = apart_more rects other rest (λ any. free (any_later P rect rects any)) in
-        ap (λ x. not x && are_apart (rects ++ other ∷ [])) (list_any_more rect other rects shares none) ∙ later
+    by true any c rest all d shares more = cc
+    by false none false rest all d shares more = cc
+    by false none true rest all true shares more = absurd (free (any_first (λ r. SharePixel r other) rect rects (SharePixel-shares_pixel rect other shares)))
+    by false none true rest all false shares more = ap (λ x. not x && are_apart (rects ++ other ∷ [])) (list_any_more rect other rects shares none) ∙ more rest
 
 one_more : {X : Type 0} (xs : List X) (x : X) → length (xs ++ x ∷ []) ≡ length xs + 1
 one_more [] x = refl

@@ -32,7 +32,7 @@ use Rattle.tk_host.specs.Turns.{after_each, after_given, applications, stages_of
 use Rattle.tk_host.proofs.Kept.{AreOf, events_at}
 use Rattle.tk_host.proofs.Passing.{passed_passed, passed_past}
 use Rattle.tk_host.proofs.Routing.{routes_at}
-use Rattle.tk_host.proofs.Settling.{settled_past, started_past}
+use Rattle.tk_app.proofs.Lasting.{settled_past, started_past}
 
 -- ── phases ──
 

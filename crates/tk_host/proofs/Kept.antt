@@ -25,7 +25,7 @@ use Rattle.tk_host.specs.Ready.{AllAdded, AllRest, IsAt, IsReady, IsRouted}
 use Rattle.tk_host.specs.Slots.{AreAt}
 use Rattle.tk_host.specs.Turns.{after_each, after_given, applications, stages_of, turns_given, turns_on_the_way}
 use Rattle.tk_host.proofs.Parts.{added_more, all_rest, apps_at, brought_all, rest_at, start_past, start_rest}
-use Rattle.tk_host.proofs.Settling.{settled_past}
+use Rattle.tk_app.proofs.Lasting.{settled_past}
 
 -- ── the router ──
 
@@ -78,11 +78,11 @@ AreOf moment (event ∷ events) = (event.moment ≡ moment) × AreOf moment even
 
 pub events_at : (moment slot : ℕ) (given : List Delivery) → AreAt moment given → AreOf moment (events_of slot given)
 events_at moment slot [] at = tt
-events_at moment slot (delivery ∷ given) at = by (nat_eq delivery.slot slot)
+events_at moment slot (delivery ∷ given) at = by (nat_eq delivery.slot slot) (events_at moment slot given at.1)
   where
-    by : (b : Bool) → AreOf moment (map (λ (d : Delivery). d.event) (cond b (delivery ∷ filter (λ (d : Delivery). d.slot == slot) given) (filter (λ (d : Delivery). d.slot == slot) given)))
-    by true = (at.0, events_at moment slot given at.1)
-    by false = events_at moment slot given at.1
+    by : (b : Bool) → AreOf moment (events_of slot given) → AreOf moment (map (λ (d : Delivery). d.event) (cond b (delivery ∷ filter (λ (d : Delivery). d.slot == slot) given) (filter (λ (d : Delivery). d.slot == slot) given)))
+    by true later = (at.0, later)
+    by false later = later
 
 module _ {M : Type 0} (answer : M → Meaning) where
   each_past : (moment : ℕ) (events : List LocalEvent) (application : Application M) → AreOf moment events → IsPast moment (next_due application) → IsPast moment (next_due (after_each answer events application))

@@ -1,5 +1,5 @@
 mod Apart
-mod Events
+mod Deliveries
 mod History
 mod Kept
 mod Order

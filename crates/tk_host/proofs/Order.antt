@@ -1,10 +1,14 @@
 -- Which fault of adding an application is the first.
-use Rattle.std.proofs.Common.{◌≡◌, ℕ, ◌≤◌, ◌<◌, IsTrue, arith, List, [], ◌∷◌, Result, Ok, Err, MatchResult, refl, sym, ◌∙◌, subst, inl, inr}
+use Rattle.std.proofs.Common.{◌≡◌, ℕ, ◌≤◌, ◌<◌, IsTrue, arith, List, [], ◌∷◌, Result, Ok, Err, MatchResult, refl, sym, ap, ◌∙◌, subst, inl, inr}
 use Rattle.tk_host.specs.declared.fault.HostFault.{HostFault}
 use Rattle.tk_host.specs.declared.fault.HostFault.TheVariants.{Overlap, TimeBack, BadValue, NoApp, TooManyApps, NameTaken, RectOverlap, Started, Ended, Broken, NoMemory}
 use Rattle.tk_host.specs.declared.phase.Phase.{Phase}
 use Rattle.tk_host.specs.declared.phase.Phase.TheVariants.{Adding, Reached}
+use Rattle.tk_route.specs.Refusals.{Refuses, line_faults as faults_of_lines}
+use Rattle.tk_route.specs.Refusals as route
 use Rattle.tk_route.specs.Values.{Values}
+use Rattle.tk_route.specs.declared.fault.LineFault.{LineFault}
+use Rattle.tk_route.specs.declared.fault.LineFault.TheVariants as line
 use Rattle.tk_route.specs.declared.line.HostLine.{HostLine}
 use Rattle.tk_host.specs.Held.{Held}
 use Rattle.tk_host.specs.Spec.{Given}
@@ -41,6 +45,22 @@ decided_by_parts held app (Err RectOverlap) adding first = first_of_parts held a
 decided_by_parts held app (Err Started) adding first = first_of_parts held app Started adding first
 decided_by_parts held app (Err Ended) adding first = first_of_parts held app Ended adding first
 decided_by_parts held app (Err Broken) adding first = first_of_parts held app Broken adding first
+
+-- a fault of a router, as the host tells it
+abbrev pub told_as : LineFault → HostFault
+told_as line.BadLine = BadValue
+told_as line.TimeBack = TimeBack
+told_as line.NoApp = NoApp
+told_as line.RectOverlap = RectOverlap
+
+-- the router's first fault is the host's first of these
+pub first_told : (known : Values) (moment : ℕ) (at : HostLine) (fault : LineFault) → route.IsFirst (Refuses known moment at) faults_of_lines fault
+    → IsFirst (RefusesRoute known moment at) route_faults (told_as fault)
+first_told known moment at fault (inl is) = inl (is.0, ap told_as is.1)
+first_told known moment at fault (inr (no_range, inl is)) = inr (no_range, inl (is.0, ap told_as is.1))
+first_told known moment at fault (inr (no_range, inr (no_time, inl is))) = inr (no_range, inr (no_time, inl (is.0, ap told_as is.1)))
+first_told known moment at fault (inr (no_range, inr (no_time, inr (no_name, inl is)))) = inr (no_range, inr (no_time, inr (no_name, inl (is.0, ap told_as is.1))))
+first_told known moment at fault (inr (no_range, inr (no_time, inr (no_name, inr (no_rect, none))))) = absurd none
 
 -- A line of the right time is refused for what it names. What is known came no later than what was reached.
 module _ {M : Type 0} (held : Held M) (known : Values) (before moment : ℕ) (line : HostLine) (from : held.phase ≡ Reached before) (le : before ≤ moment) (behind : known.moment ≤ before)

@@ -13,11 +13,11 @@ use Rattle.tk_host.specs.Held.{at_rest, brought}
 use Rattle.tk_host.specs.Ready.{AllAdded, AllRest}
 use Rattle.tk_host.specs.Slots.{begun_by, begun_at}
 use Rattle.tk_host.specs.Turns.{applications, steps_left}
-use Rattle.tk_host.proofs.Settling.{started_past}
+use Rattle.tk_app.proofs.Lasting.{started_past}
 use Rattle.tk_app.specs.Seen.{Meaning}
 
 module _ {M : Type 0} (answer : M → Meaning) where
-  rests : (part : Part M) → part.work ≡ Rests → part ≡ at_rest part.application
+  pub rests : (part : Part M) → part.work ≡ Rests → part ≡ at_rest part.application
   rests part is = ap (λ (work : Work). record { application = part.application; work = work }) is
 
   -- a part in which nothing is under way stays as it is

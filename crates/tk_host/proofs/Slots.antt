@@ -65,13 +65,13 @@ module _ {M : Type 0} (answer : M → Meaning) where
     where
       by : (state : AppState) (work : Work) → part.work ≡ work → record { application = part.application; work = settling_as state moment work } ≡ part
       by Running Rests is = let wrong : is_under_way part.work ≡ false = ap is_under_way is in cc
-      by Running (Goes levels doing waits) is = ap (λ (w : Work). record { application = part.application; work = w }) (sym is)
+      by Running work is = ap (λ (w : Work). record { application = part.application; work = w }) (sym is)
       by Exhausted work is = ap (λ (w : Work). record { application = part.application; work = w }) (sym is)
       by Closed work is = ap (λ (w : Work). record { application = part.application; work = w }) (sym is)
 
   rests_unless : (work : Work) → is_under_way work ≡ false → work ≡ Rests
   rests_unless Rests is = refl
-  rests_unless (Goes levels doing waits) is = cc
+  rests_unless work is = cc
 
   -- where nothing is under way, a turn takes nothing
   pub turn_at_rest : (slice slot : ℕ) (held : Applications M) → option_map (λ (part : Part M). is_under_way part.work) (slice_get held.parts slot) ≡ Some false → TakesTurn answer slice slot false held held
@@ -165,7 +165,7 @@ module _ {M : Type 0} (answer : M → Meaning) where
     where
       by : (work : Work) → (done_as answer moment work part.application).work ≡ Rests
       by Rests = refl
-      by (Goes levels doing waits) = refl
+      by work = refl
 
   needs_done : (moment : ℕ) (part : Part M) → needs answer moment (stage_done answer moment part) ≡ 0
   needs_done moment part =

@@ -16,7 +16,8 @@ use Rattle.tk_host.specs.Slots.{BeginsAt, begun_by, begun_at}
 use Rattle.tk_host.specs.Turns.{applications, steps_left, turns_on_the_way}
 use Rattle.tk_host.proofs.Parts.{apps_at, needs_all, rest_at, stage_all}
 use Rattle.tk_host.proofs.Passing.{all_passed, all_through, lighter_by_stage, way_past, way_through}
-use Rattle.tk_host.proofs.Settling.{settled_lighter, settled_past}
+use Rattle.tk_app.proofs.Lasting.{settled_past}
+use Rattle.tk_host.proofs.Settling.{settled_lighter}
 use Rattle.tk_host.proofs.Slots.{get_or_some, part_there, set_same}
 use Rattle.tk_app.specs.Seen.{Meaning}
 

@@ -11,7 +11,7 @@ use Rattle.tk_route.specs.Refusals.{Covers, NamesNobody, IsInRange as IsLineInRa
 use Rattle.tk_route.specs.Values.{Values}
 use Rattle.tk_route.specs.declared.line.HostLine.{HostLine}
 use Rattle.tk_app.specs.Seen.{names_of}
-use Rattle.tk_host.specs.Spec.{Given, IsInRange, Repeats, rect_of}
+use Rattle.tk_host.specs.Spec.{Given, IsInRange, Repeats, are_aliases, rect_of}
 use Rattle.tk_host.specs.Held.{Held, Hosted, reached}
 
 -- the first of these faults that applies is this one
@@ -45,7 +45,7 @@ abbrev pub app_faults : List HostFault
 app_faults = BadValue ∷ TooManyApps ∷ NameTaken ∷ Overlap ∷ []
 
 abbrev pub PartsRefuse : {M : Type 0} → List Rect → List (Part M) → Given M → HostFault → Type 0
-PartsRefuse rects parts app BadValue = ¬ IsInRange app.spec.name (rect_of app) app.spec.budget
+PartsRefuse rects parts app BadValue = ¬ (IsInRange app.spec.name (rect_of app) app.spec.budget × IsTrue (are_aliases app.spec.aliases))
 PartsRefuse rects parts app TooManyApps = 16 ≤ length parts
 PartsRefuse rects parts app NameTaken = Any (λ part. part.application.name ≡ app.spec.name) parts ⊎ Repeats (names_of app.spec.aliases)
 PartsRefuse rects parts app Overlap = Any (λ rect. SharePixel rect (rect_of app)) rects

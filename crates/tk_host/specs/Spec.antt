@@ -1,6 +1,7 @@
 -- What a host is given of an application.
-use Rattle.std.specs.Prelude.{◌≡◌, ℕ, ◌<◌, ◌≤◌, ◌⊎◌, List, [], ◌∷◌, length, All, Any}
+use Rattle.std.specs.Prelude.{◌≡◌, ℕ, ◌<◌, ◌≤◌, ◌⊎◌, Bool, false, true, not, ◌&&◌, ◌||◌, ◌==◌, nat_le, List, [], ◌∷◌, length, All, Any}
 use Rattle.std.specs.Char.{IsAsciiAlphabetic, IsAsciiAlphanumeric}
+use Rattle.std.specs.List.{list_all}
 use Rattle.tk_base.specs.declared.rect.Rect.{Rect}
 use Rattle.tk_app.specs.declared.budget.Budget.{Budget}
 use Rattle.tk_app.specs.Spec.{Spec}
@@ -33,6 +34,26 @@ rect_of app = record { x = app.x; y = app.y; width = app.spec.width; height = ap
 abbrev pub Repeats : List (List ℕ) → Type 0
 Repeats [] = ⊥
 Repeats (name ∷ names) = Any (λ other. other ≡ name) names ⊎ Repeats names
+
+-- ── the names of commands ──
+
+-- a printing ASCII character, and no blank
+abbrev pub is_printing : ℕ → Bool
+is_printing byte = nat_le 33 byte && nat_le byte 126
+
+-- a dot in front, as in the path of a window, or two colons, as in the name of a namespace
+abbrev pub begins_apart : List ℕ → Bool
+begins_apart [] = false
+begins_apart (c ∷ []) = c == 46
+begins_apart (c ∷ d ∷ cs) = c == 46 || (c == 58 && d == 58)
+
+-- a name that an alias may have: 1 to 64 printing characters
+abbrev pub is_command_name : List ℕ → Bool
+is_command_name name = nat_le 1 (length name) && nat_le (length name) 64 && list_all is_printing name && not (begins_apart name)
+
+-- aliases that an application may have: at most 64, by names that commands may have
+abbrev pub are_aliases : {M : Type 0} → List (List ℕ × M) → Bool
+are_aliases aliases = nat_le (length aliases) 64 && list_all (λ alias. is_command_name alias.0) aliases
 
 -- the ranges of a session
 pub record IsInRange (name : List ℕ) (rect : Rect) (budget : Budget) : Type 0 where

@@ -1,6 +1,6 @@
 //! What a line gives to applications, and what comes of it, in turns of slices.
 
-ghost use Rattle.std.specs.Prelude.{◌≡◌, ◌≢◌, ◌<◌, ◌++◌, [], ◌∷◌, map, length, AllByRecursion, OnOk};
+ghost use Rattle.std.specs.Prelude.{◌≡◌, ◌≢◌, ◌<◌, ◌++◌, [], ◌∷◌, map, length, OnOk};
 ghost use Rattle.tk_turns.specs.Rounds.{turns_of};
 ghost use Rattle.tk_route.specs.Routes.{deliveries};
 ghost use Rattle.tk_host.specs.Held.{at_rest};

@@ -11,7 +11,7 @@ ghost use Rattle.tk_host.specs.Spec.{Repeats, given};
 use crate::events::deliver_all;
 use crate::fault::HostFault;
 use crate::phase::Phase;
-use crate::spec::is_in_range;
+use crate::spec::may_be_given;
 use crate::stages::{advance, stage};
 use std::alloc::Global;
 use std::marker::Model;
@@ -80,8 +80,9 @@ impl<M: AliasMeaning> Host<M> {
 
     /// Adds an application in the next slot, from 0 on: its rectangle on the screen in pixels, the steps that its scripts may take: how
     /// many at first, and how many each event grants that is routed to it, up to that number again; and its aliases, each of which replaces a
-    /// command of its name (interp(n)). Refused are, in this order: `Broken` (42), `Ended` (41), `Started` (40), `BadValue` (36), `TooManyApps`
-    /// (38), `NameTaken` (39; also where two of the aliases have one name) and `Overlap` (34).
+    /// command of its name (interp(n)). Refused are, in this order: `Broken` (42), `Ended` (41), `Started` (40), `BadValue` (36; also more than
+    /// 64 aliases, or one by a name that `is_command_name` refuses), `TooManyApps` (38), `NameTaken` (39; also where two of the aliases have one
+    /// name) and `Overlap` (34).
     pub fn add_app(
         &mut self,
         name: Text,
@@ -316,7 +317,7 @@ fn test_app<M: AliasMeaning>(
         (λ _. NoneApplies (PartsRefuse rects.now shared.now.parts (given name.now rect script budget aliases.now)) app_faults)
         (IsRefusal (PartsRefuse rects.now shared.now.parts (given name.now rect script budget aliases.now)) app_faults) }
 {
-    if !is_in_range(name, rect, budget) {
+    if !may_be_given(name, rect, budget, aliases) {
         return Err(HostFault::BadValue);
     }
     if shared.len() >= MAX_APPLICATIONS {
@@ -356,9 +357,13 @@ fn names_repeat<M: AliasMeaning>(aliases: &Aliases<M>) -> bool
 fn is_among<M: AliasMeaning>(name: &Text, aliases: &[Alias<M>]) -> bool
     ensures { IsTrue result ↔ Any (λ alias. alias.0 ≡ name.now) aliases.now }
 {
-    aliases
-        .iter()
-        .any(|alias| alias.name().as_str() == name.as_str())
+    aliases.iter().any(|alias| is_named(alias, name))
+}
+
+fn is_named<M: AliasMeaning>(alias: &Alias<M>, name: &Text) -> bool
+    ensures { IsTrue result ↔ alias.now.0 ≡ name.now }
+{
+    alias.name().as_str() == name.as_str()
 }
 
 /// A router before the first line, for rectangles that are apart.

@@ -4,7 +4,7 @@ use Rattle.tk_turns.specs.Rounds.{turns_of}
 use Rattle.tk_app.specs.Part.{needs, stage_done}
 use Rattle.tk_app.specs.Turns.{Applications}
 use Rattle.tk_host.specs.Slots.{given_from}
-use Rattle.tk_host.proofs.Events.{done_two, given_twice, needs_two, rests_in, rests_other}
+use Rattle.tk_host.proofs.Deliveries.{done_two, given_twice, needs_two, rests_in, rests_other}
 use Rattle.tk_host.proofs.events.deliver_both.Goals as goal
 
 pub give-requires : goal.give-requires

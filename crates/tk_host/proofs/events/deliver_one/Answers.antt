@@ -3,7 +3,7 @@ use Rattle.std.proofs.lemmas.Result.{on_ok_weaker}
 use Rattle.tk_turns.specs.Rounds.{turns_of}
 use Rattle.tk_app.specs.Part.{needs, stage_done}
 use Rattle.tk_app.specs.Turns.{Applications}
-use Rattle.tk_host.proofs.Events.{done_one, needs_one, rests_in}
+use Rattle.tk_host.proofs.Deliveries.{done_one, needs_one, rests_in}
 use Rattle.tk_host.proofs.events.deliver_one.Goals as goal
 
 pub give-requires : goal.give-requires

@@ -2,7 +2,7 @@ use Rattle.std.proofs.Common.{◌≡◌, List, ap, ◌∙◌, sym, inl, arith}
 use Rattle.std.proofs.lemmas.Result.{on_ok_weaker}
 use Rattle.tk_app.specs.Part.{Part}
 use Rattle.tk_app.specs.Turns.{Applications}
-use Rattle.tk_host.proofs.Events.{given_is, given_nobody}
+use Rattle.tk_host.proofs.Deliveries.{given_is, given_nobody}
 use Rattle.tk_host.proofs.events.give.Goals as goal
 
 pub returns-then-slot : goal.returns-then-slot

@@ -227,7 +227,7 @@ module _ {M : Type 0} where
         ∙ ap (λ (h : Applications M). record h { parts = set h.parts i (settling_begun h.moment begins.before) }) delivers.changed
         ∙ ap (λ (p : Part M). record old { parts = set (set old.parts i got) i (settling_begun old.moment p) }) same
         ∙ ap (λ m. record old { parts = set (set old.parts i got) i (settling_begun m got) }) (sym now)
-        ∙ ap (λ (ps : List (Part M)). record old { parts = ps }) (set_set old.parts i got (given_event delivery.event delivers.before) ∙ sym (given_at 0 i old.parts delivers.before refl delivers.was))
+        ∙ ap (λ (ps : List (Part M)). record old { parts = ps }) (set_set old.parts i got (given_event delivery.event delivers.before) ∙ sym (given_at 0 i old.parts delivers.before (omega arith) delivers.was))
 
   -- two events, one after the other
   pub given_twice : (first second : Delivery) (old mid new : Applications M) → mid ≡ record old { parts = given_from 0 first old.parts } → new ≡ record mid { parts = given_from 0 second mid.parts }
@@ -239,4 +239,4 @@ module _ {M : Type 0} where
       → slice_get mid.parts slot ≡ Some part → part.work ≡ Rests
   rests_other first slot old mid part differ one rest is =
       rests_in old.parts slot part rest
-      (given_other first 0 slot old.parts part (λ e. differ (sym e)) (sym (ap (λ (h : Applications M). slice_get h.parts slot) one) ∙ is))
+      (given_other first 0 slot old.parts part (λ e. differ (omega (arith, e))) (sym (ap (λ (h : Applications M). slice_get h.parts slot) one) ∙ is))

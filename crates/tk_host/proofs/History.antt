@@ -304,7 +304,7 @@ module _ {M : Type 0} (answer : M → Meaning) where
   section_at calls slot app is =
       let section_of : Part M → List ℕ = λ part. section part.application in
       slice_get-map section_of (held_after answer calls).parts slot
-      ∙ ap (option_map section_of) (part_at (phase_after Adding calls) (first_rects calls) (lines_of calls) 0 slot slot (given_by calls) app refl is)
+      ∙ ap (option_map section_of) (part_at (phase_after Adding calls) (first_rects calls) (lines_of calls) 0 slot slot (given_by calls) app (omega arith) is)
 
   pub each_by_itself_holds : EachByItself answer
   each_by_itself_holds calls others slot other_slot app other phases is there same events =

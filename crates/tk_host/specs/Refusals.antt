@@ -10,8 +10,7 @@ use Rattle.tk_app.specs.Part.{Part}
 use Rattle.tk_route.specs.Refusals.{Covers, NamesNobody, IsInRange as IsLineInRange}
 use Rattle.tk_route.specs.Values.{Values}
 use Rattle.tk_route.specs.declared.line.HostLine.{HostLine}
-use Rattle.tk_app.specs.Seen.{names_of}
-use Rattle.tk_host.specs.Spec.{Given, IsInRange, Repeats, are_aliases, rect_of}
+use Rattle.tk_host.specs.Spec.{Given, IsInRange, are_aliases, have_one_name, rect_of}
 use Rattle.tk_host.specs.Held.{Held, Hosted, reached}
 
 -- the first of these faults that applies is this one
@@ -47,7 +46,7 @@ app_faults = BadValue ∷ TooManyApps ∷ NameTaken ∷ Overlap ∷ []
 abbrev pub PartsRefuse : {M : Type 0} → List Rect → List (Part M) → Given M → HostFault → Type 0
 PartsRefuse rects parts app BadValue = ¬ (IsInRange app.spec.name (rect_of app) app.spec.budget × IsTrue (are_aliases app.spec.aliases))
 PartsRefuse rects parts app TooManyApps = 16 ≤ length parts
-PartsRefuse rects parts app NameTaken = Any (λ part. part.application.name ≡ app.spec.name) parts ⊎ Repeats (names_of app.spec.aliases)
+PartsRefuse rects parts app NameTaken = Any (λ part. part.application.name ≡ app.spec.name) parts ⊎ IsTrue (have_one_name app.spec.aliases)
 PartsRefuse rects parts app Overlap = Any (λ rect. SharePixel rect (rect_of app)) rects
 PartsRefuse rects parts app found = ⊥
 

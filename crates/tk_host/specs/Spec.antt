@@ -1,7 +1,8 @@
 -- What a host is given of an application.
-use Rattle.std.specs.Prelude.{◌≡◌, ℕ, ◌<◌, ◌≤◌, ◌⊎◌, Bool, false, true, not, ◌&&◌, ◌||◌, ◌==◌, nat_le, List, [], ◌∷◌, length, All, Any}
+use Rattle.std.specs.Prelude.{◌≡◌, ℕ, ◌<◌, ◌≤◌, ◌⊎◌, Bool, false, true, not, ◌&&◌, ◌||◌, ◌==◌, nat_le, List, [], ◌∷◌, length, All}
 use Rattle.std.specs.Char.{IsAsciiAlphabetic, IsAsciiAlphanumeric}
 use Rattle.std.specs.List.{list_all}
+use Rattle.std.specs.Str.{bytes_eq}
 use Rattle.tk_base.specs.declared.rect.Rect.{Rect}
 use Rattle.tk_app.specs.declared.budget.Budget.{Budget}
 use Rattle.tk_app.specs.Spec.{Spec}
@@ -30,10 +31,15 @@ given name rect script budget aliases =
 abbrev pub rect_of : {M : Type 0} → Given M → Rect
 rect_of app = record { x = app.x; y = app.y; width = app.spec.width; height = app.spec.height }
 
--- one of these stands behind another that is the same
-abbrev pub Repeats : List (List ℕ) → Type 0
-Repeats [] = ⊥
-Repeats (name ∷ names) = Any (λ other. other ≡ name) names ⊎ Repeats names
+-- one of the aliases has this name
+abbrev pub is_served : {M : Type 0} → List ℕ → List (List ℕ × M) → Bool
+is_served name [] = false
+is_served name (alias ∷ aliases) = bytes_eq alias.0 name || is_served name aliases
+
+-- two of them have one name
+abbrev pub have_one_name : {M : Type 0} → List (List ℕ × M) → Bool
+have_one_name [] = false
+have_one_name (alias ∷ aliases) = is_served alias.0 aliases || have_one_name aliases
 
 -- ── the names of commands ──
 

@@ -1,16 +1,16 @@
 //! What a line gives to applications, and what comes of it, in turns of slices.
 
 ghost use Rattle.std.specs.Prelude.{◌≡◌, ◌≢◌, ◌<◌, ◌++◌, [], ◌∷◌, map, length, OnOk};
-ghost use Rattle.tk_turns.specs.Rounds.{turns_of};
+ghost use Rattle.tk_app.specs.Turns.{DeliversIn};
 ghost use Rattle.tk_route.specs.Routes.{deliveries};
 ghost use Rattle.tk_host.specs.Held.{at_rest};
 ghost use Rattle.tk_host.specs.Ready.{AllRest};
 ghost use Rattle.tk_host.specs.Slots.{AreAt, RestsIn, given_from};
-ghost use Rattle.tk_host.specs.Turns.{after_given, applications, stages_of, steps_given, turns_given};
+ghost use Rattle.tk_host.specs.Turns.{after_given, applications, stages_of, turns_given};
 
-use crate::stages::stage;
+use crate::stages::{begin_settling, stage};
 use std::alloc::AllocError;
-use tk_app::{AliasMeaning, Shared};
+use tk_app::{AliasMeaning, LocalEvent, Shared};
 use tk_route::{Delivery, Routed};
 
 /// Gives what a line gives, and does what comes of it. Events of different applications are one stage, in which these take turns; a second
@@ -32,8 +32,7 @@ pub fn deliver_all<M: AliasMeaning>(
         Routed::One(only) => deliver_one(shared, only, slice),
         Routed::Two(first, second) => {
             if first.slot == second.slot {
-                deliver_one(shared, first, slice)?;
-                deliver_one(shared, second, slice)
+                deliver_twice(shared, first, second, slice)
             } else {
                 deliver_both(shared, first, second, slice)
             }
@@ -52,10 +51,30 @@ fn deliver_one<M: AliasMeaning>(
     requires now { only.event.moment ≡ shared.old.moment }
     ensures moment { OnOk result (shared.new.moment ≡ shared.old.moment) }
     ensures parts { OnOk result (shared.new.parts ≡ map at_rest (after_given M.answer 0 (only ∷ []) (applications shared.old.parts))) }
-    ensures turns { OnOk result (shared.new.turns ≡ shared.old.turns ++ turns_of slice (steps_given M.answer 0 (only ∷ []) (applications shared.old.parts))) }
+    ensures turns { OnOk result (shared.new.turns ≡ shared.old.turns ++ turns_given M.answer slice (stages_of (only ∷ [])) (applications shared.old.parts)) }
 {
     give(shared, only)?;
     stage(shared, slice)
+}
+
+/// Two stages, of an event each, for the same application.
+fn deliver_twice<M: AliasMeaning>(
+    shared: &mut Shared<M>,
+    first: Delivery,
+    second: Delivery,
+    slice: u64,
+) -> Result<(), AllocError>
+    requires slice { 0 < slice }
+    requires rest { AllRest shared.old.parts }
+    requires now { first.event.moment ≡ shared.old.moment }
+    requires also_now { second.event.moment ≡ shared.old.moment }
+    requires same { first.slot ≡ second.slot }
+    ensures moment { OnOk result (shared.new.moment ≡ shared.old.moment) }
+    ensures parts { OnOk result (shared.new.parts ≡ map at_rest (after_given M.answer 0 (first ∷ second ∷ []) (applications shared.old.parts))) }
+    ensures turns { OnOk result (shared.new.turns ≡ shared.old.turns ++ turns_given M.answer slice (stages_of (first ∷ second ∷ [])) (applications shared.old.parts)) }
+{
+    deliver_one(shared, first, slice)?;
+    deliver_one(shared, second, slice)
 }
 
 /// A stage of two events, for different applications.
@@ -72,7 +91,7 @@ fn deliver_both<M: AliasMeaning>(
     requires differ { first.slot ≢ second.slot }
     ensures moment { OnOk result (shared.new.moment ≡ shared.old.moment) }
     ensures parts { OnOk result (shared.new.parts ≡ map at_rest (after_given M.answer 0 (first ∷ second ∷ []) (applications shared.old.parts))) }
-    ensures turns { OnOk result (shared.new.turns ≡ shared.old.turns ++ turns_of slice (steps_given M.answer 0 (first ∷ second ∷ []) (applications shared.old.parts))) }
+    ensures turns { OnOk result (shared.new.turns ≡ shared.old.turns ++ turns_given M.answer slice (stages_of (first ∷ second ∷ [])) (applications shared.old.parts)) }
 {
     give(shared, first)?;
     give(shared, second)?;
@@ -88,7 +107,21 @@ fn give<M: AliasMeaning>(shared: &mut Shared<M>, delivery: Delivery) -> Result<(
     if delivery.slot >= shared.len() {
         return Ok(());
     }
-    let mut view = shared.view(delivery.slot);
-    view.deliver(delivery.event)?;
-    view.begin_settling()
+    deliver(shared, delivery.slot, delivery.event)?;
+    begin_settling(shared, delivery.slot)
+}
+
+/// Gives an event to the application in a slot.
+fn deliver<M: AliasMeaning>(
+    shared: &mut Shared<M>,
+    slot: usize,
+    event: LocalEvent,
+) -> Result<(), AllocError>
+    requires slot { slot < length shared.old.parts }
+    requires now { event.moment ≡ shared.old.moment }
+    requires rests { RestsIn slot shared.old.parts }
+    ensures { OnOk result (DeliversIn slot event shared.old shared.new) }
+{
+    let mut view = shared.view(slot);
+    view.deliver(event)
 }

@@ -1,12 +1,11 @@
 ghost use Rattle.std.specs.Prelude.{◌≡◌, ◌≤◌, ◌↔◌, ℕ, true, List, [], ◌∷◌, length, IsTrue, Any, IfOk, OnErr, OnOk, MatchResult};
 ghost use Rattle.tk_base.specs.Rect.{SharePixel};
 ghost use Rattle.tk_base.specs.declared.rect.Rect.{Rect as RectOf};
-ghost use Rattle.tk_app.specs.Seen.{names_of};
 ghost use Rattle.tk_route.specs.Lines.{Line, at, values};
 ghost use Rattle.tk_route.specs.Routes.{deliveries, routes};
 ghost use Rattle.tk_route.specs.Screen.{are_apart};
 ghost use Rattle.tk_host.specs.Refusals.{IsFirst, IsRefusal, NoneApplies, PartsRefuse, RefusesRoute, app_faults, route_faults};
-ghost use Rattle.tk_host.specs.Spec.{Repeats, given};
+ghost use Rattle.tk_host.specs.Spec.{given, have_one_name, is_served};
 
 use crate::events::deliver_all;
 use crate::fault::HostFault;
@@ -323,7 +322,7 @@ fn test_app<M: AliasMeaning>(
     if shared.len() >= MAX_APPLICATIONS {
         return Err(HostFault::TooManyApps);
     }
-    if shared.has_name(name) || names_repeat(aliases) {
+    if shared.has_name(name) || have_one_name(aliases.as_slice()) {
         return Err(HostFault::NameTaken);
     }
     if is_place_taken(rects, rect) {
@@ -340,12 +339,12 @@ fn is_place_taken(rects: &[Rect], rect: Rect) -> bool
 }
 
 /// Whether two of the aliases have one name.
-fn names_repeat<M: AliasMeaning>(aliases: &Aliases<M>) -> bool
-    ensures { IsTrue result ↔ Repeats (names_of aliases.now) }
+fn have_one_name<M: AliasMeaning>(aliases: &[Alias<M>]) -> bool
+    ensures { result ≡ have_one_name aliases.now }
 {
-    let mut rest = aliases.as_slice();
+    let mut rest = aliases;
     while let [alias, others @ ..] = rest {
-        if is_among(alias.name(), others) {
+        if is_served(alias.name(), others) {
             return true;
         }
         rest = others;
@@ -354,16 +353,17 @@ fn names_repeat<M: AliasMeaning>(aliases: &Aliases<M>) -> bool
 }
 
 /// Whether one of the aliases has this name.
-fn is_among<M: AliasMeaning>(name: &Text, aliases: &[Alias<M>]) -> bool
-    ensures { IsTrue result ↔ Any (λ alias. alias.0 ≡ name.now) aliases.now }
+fn is_served<M: AliasMeaning>(name: &Text, aliases: &[Alias<M>]) -> bool
+    ensures { result ≡ is_served name.now aliases.now }
 {
-    aliases.iter().any(|alias| is_named(alias, name))
-}
-
-fn is_named<M: AliasMeaning>(alias: &Alias<M>, name: &Text) -> bool
-    ensures { IsTrue result ↔ alias.now.0 ≡ name.now }
-{
-    alias.name().as_str() == name.as_str()
+    let mut rest = aliases;
+    while let [alias, others @ ..] = rest {
+        if alias.name().as_str() == name.as_str() {
+            return true;
+        }
+        rest = others;
+    }
+    false
 }
 
 /// A router before the first line, for rectangles that are apart.

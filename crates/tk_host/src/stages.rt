@@ -86,7 +86,10 @@ fn begin<M: AliasMeaning>(
 }
 
 /// The application in a slot begins to settle.
-fn begin_settling<M: AliasMeaning>(shared: &mut Shared<M>, slot: usize) -> Result<(), AllocError>
+pub fn begin_settling<M: AliasMeaning>(
+    shared: &mut Shared<M>,
+    slot: usize,
+) -> Result<(), AllocError>
     requires { slot < length shared.old.parts }
     ensures { OnOk result (BeginsIn slot shared.old shared.new) }
 {

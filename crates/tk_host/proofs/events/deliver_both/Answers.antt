@@ -4,14 +4,15 @@ use Rattle.tk_turns.specs.Rounds.{turns_of}
 use Rattle.tk_app.specs.Part.{needs, stage_done}
 use Rattle.tk_app.specs.Turns.{Applications}
 use Rattle.tk_host.specs.Slots.{given_from}
-use Rattle.tk_host.proofs.Deliveries.{done_two, given_twice, needs_two, rests_in, rests_other}
+use Rattle.tk_host.specs.Turns.{applications}
+use Rattle.tk_host.proofs.Deliveries.{done_two, given_twice, needs_two, rests_in, rests_other, turns_apart}
 use Rattle.tk_host.proofs.events.deliver_both.Goals as goal
 
 pub give-requires : goal.give-requires
 give-requires g c = record { now = c.requires.now; rests = λ part is. rests_in c.args.shared.now.parts c.args.first.slot part c.requires.rest is }
 
-pub give-2-requires : goal.give-2-requires
-give-2-requires g c =
+pub give-requires-2 : goal.give-requires-2
+give-requires-2 g c =
     let mid = c.in_ok-give.ensures in
     record {
       now = c.requires.also_now ∙ sym (ap (λ (h : Applications _). h.moment) mid);
@@ -40,5 +41,6 @@ returns-clause-turns g c =
     let both = given_twice c.args.first c.args.second old c.give.new.shared c.give-2.new.shared c.in_ok-give.ensures c.in_ok-give-2.ensures in
     on_ok_weaker c.stage.result
     (λ told. told ∙ ap (λ (h : Applications _). h.turns ++ turns_of c.args.slice (map (needs answer h.moment) h.parts)) both
-    ∙ ap (λ ns. old.turns ++ turns_of c.args.slice ns) (needs_two answer c.args.first c.args.second old.moment c.requires.differ c.requires.now c.requires.also_now 0 old.parts c.requires.rest))
+    ∙ ap (λ ns. old.turns ++ turns_of c.args.slice ns) (needs_two answer c.args.first c.args.second old.moment c.requires.differ c.requires.now c.requires.also_now 0 old.parts c.requires.rest)
+    ∙ ap (λ ts. old.turns ++ ts) (sym (turns_apart answer c.args.slice c.args.first c.args.second (applications old.parts) c.requires.differ)))
     c.stage.ensures.turns

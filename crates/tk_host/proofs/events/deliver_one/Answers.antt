@@ -1,9 +1,10 @@
-use Rattle.std.proofs.Common.{◌++◌, map, ap, ◌∙◌}
+use Rattle.std.proofs.Common.{◌++◌, map, sym, ap, ◌∙◌}
 use Rattle.std.proofs.lemmas.Result.{on_ok_weaker}
 use Rattle.tk_turns.specs.Rounds.{turns_of}
 use Rattle.tk_app.specs.Part.{needs, stage_done}
 use Rattle.tk_app.specs.Turns.{Applications}
-use Rattle.tk_host.proofs.Deliveries.{done_one, needs_one, rests_in}
+use Rattle.tk_host.specs.Turns.{applications}
+use Rattle.tk_host.proofs.Deliveries.{done_one, needs_one, rests_in, turns_one}
 use Rattle.tk_host.proofs.events.deliver_one.Goals as goal
 
 pub give-requires : goal.give-requires
@@ -26,5 +27,6 @@ returns-clause-turns g c =
     let old = c.args.shared.now in
     on_ok_weaker c.stage.result
     (λ told. told ∙ ap (λ (h : Applications _). h.turns ++ turns_of c.args.slice (map (needs answer h.moment) h.parts)) c.in_ok-give.ensures
-    ∙ ap (λ ns. old.turns ++ turns_of c.args.slice ns) (needs_one answer 0 c.args.only old.moment old.parts c.requires.now c.requires.rest))
+    ∙ ap (λ ns. old.turns ++ turns_of c.args.slice ns) (needs_one answer 0 c.args.only old.moment old.parts c.requires.now c.requires.rest)
+    ∙ ap (λ ts. old.turns ++ ts) (sym (turns_one answer c.args.slice c.args.only (applications old.parts))))
     c.stage.ensures.turns

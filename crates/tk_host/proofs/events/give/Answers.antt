@@ -1,12 +1,17 @@
-use Rattle.std.proofs.Common.{◌≡◌, List, ap, ◌∙◌, sym, inl, arith}
+use Rattle.std.proofs.Common.{◌≡◌, List, ap, sym, arith}
 use Rattle.std.proofs.lemmas.Result.{on_ok_weaker}
 use Rattle.tk_app.specs.Part.{Part}
 use Rattle.tk_app.specs.Turns.{Applications}
 use Rattle.tk_host.proofs.Deliveries.{given_is, given_nobody}
 use Rattle.tk_host.proofs.events.give.Goals as goal
 
-pub returns-then-slot : goal.returns-then-slot
-returns-then-slot g c = ap (λ (ps : List (Part _)). record c.args.shared.now { parts = ps }) (sym (given_nobody c.args.delivery 0 c.args.shared.now.parts (omega arith)))
+pub returns-then-delivery-len : goal.returns-then-delivery-len
+returns-then-delivery-len g c = ap (λ (ps : List (Part _)). record c.args.shared.now { parts = ps }) (sym (given_nobody g.M.AliasMeaning.answer c.args.delivery 0 c.args.shared.now.parts (omega arith)))
 
-pub deliver-requires : goal.deliver-requires
-deliver-requires g c = record { moment = c.requires.now; may = λ part is. inl (c.requires.rests part is) }
+pub begin_settling-requires : goal.begin_settling-requires
+begin_settling-requires g c = ?
+
+pub returns : goal.returns
+returns g c =
+    on_ok_weaker c.begin_settling.result
+    (λ begins. given_is g.M.AliasMeaning.answer c.args.delivery c.args.shared.now c.deliver.new.shared c.begin_settling.new.shared c.requires.now c.in_ok-deliver.ensures begins) c.begin_settling.ensures

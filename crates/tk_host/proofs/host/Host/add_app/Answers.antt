@@ -50,14 +50,19 @@ invariant_of-self-2 g c =
           (λ any. none.1.1.1.1.1.1.0 (subst (λ rs. Any (λ other. SharePixel other (rect_of app)) rs) rects any)),
     )
 
-pub returns-clause-history : goal.returns-clause-history
-returns-clause-history g c = λ calls held.
+pub returns-clause-added : goal.returns-clause-added
+returns-clause-added g c =
     let none = c.in_ok-may_add.ensures c.args.script in
     let app = given c.args.name c.args.rect c.args.script c.args.budget c.args.aliases in
     let inside = c.self.inside in
     let adding = adding_if_not_refused c.args.self.now.held.phase none.0 none.1.0 none.1.1.0 in
-    let now : seen g.M.AliasMeaning.answer inside.phase c.push.new.self.items inside.router inside.slice c.add.new.self ≡ with_app app c.args.self.now =
     added_is g.M.AliasMeaning.answer inside.phase inside.rects.items c.push.new.self.items inside.router inside.slice inside.shared c.add.new.self c.args.self.now app
     (ap (λ (h : Hosted _). h.held.phase) c.self.view_is ∙ adding) c.self.view_is
-    (c.in-Ok.ensures.items ∙ ap (λ rects. rects ++ rect_of app ∷ []) c.in_ok-reserve.ensures.items) c.in_ok-add.ensures.added in
-    history_of_add g.M.AliasMeaning.answer calls app c.args.self.now _ held adding (ap (λ (h : Hosted _). h.held) now)
+    (c.in-Ok.ensures.items ∙ ap (λ rects. rects ++ rect_of app ∷ []) c.in_ok-reserve.ensures.items) c.in_ok-add.ensures.added
+
+pub returns-clause-history : goal.returns-clause-history
+returns-clause-history g c = λ calls held.
+    let none = c.in_ok-may_add.ensures c.args.script in
+    let app = given c.args.name c.args.rect c.args.script c.args.budget c.args.aliases in
+    let adding = adding_if_not_refused c.args.self.now.held.phase none.0 none.1.0 none.1.1.0 in
+    history_of_add g.M.AliasMeaning.answer calls app c.args.self.now _ held adding (ap (λ (h : Hosted _). h.held) (returns-clause-added g c))

@@ -1,4 +1,5 @@
 use Rattle.std.proofs.Common.{◌≡◌, ◌≤◌, ◌<◌, ◌∷◌, arith, sym, ap, ◌∙◌, subst}
+use Rattle.std.proofs.lemmas.Result.{err_from_is_err_and}
 use Rattle.tk_turns.specs.Stages.{IsPast, first_due}
 use Rattle.tk_route.specs.Lines.{at}
 use Rattle.tk_route.specs.Routes.{deliveries, routes}
@@ -12,6 +13,7 @@ use Rattle.tk_host.specs.Slots.{AreAt}
 use Rattle.tk_host.specs.Turns.{applications}
 use Rattle.tk_host.proofs.History.{history_of_line, not_back, reached_if_not_refused, turns_of_line}
 use Rattle.tk_host.proofs.Kept.{known_reached, lined_is, ready_line, routed_line}
+use Rattle.tk_host.proofs.Order.{route_first, route_none}
 use Rattle.tk_host.proofs.Routing.{routes_at}
 use Rattle.tk_host.proofs.host.Host.line.Goals as goal
 
@@ -54,6 +56,46 @@ deliver_all-requires g c =
       now = subst (λ m. AreAt m (deliveries c.in_ok-routed.routed)) (sym (ap (λ (h : Applications _). h.moment) moved))
           (subst (AreAt c.args.moment) (sym given) (routes_at known.1 known.2 (at c.args.moment c.args.line)));
     }
+
+-- what the router knows of a line of the right time is what the host does
+pub returns-in_err-routed-clause-refused : goal.returns-in_err-routed-clause-refused
+returns-in_err-routed-clause-refused g c =
+    let inside = c.self.inside in
+    let held = c.args.self.now.held in
+    let none = c.in_ok-may_take.ensures.answer in
+    let from = reached_if_not_refused held.phase c.requires none.0 none.1.0 in
+    let there : inside.phase ≡ Reached from.0 = ap (λ (h : Hosted _). h.held.phase) c.self.view_is ∙ from.1 in
+    let known : held.known ≡ inside.router = sym (sym (known_reached inside.phase from.0 inside.rects.items inside.router there) ∙ ap (λ (h : Hosted _). h.held.known) c.self.view_is) in
+    let p = err_from_is_err_and c.from_residual-in_err-routed.result c.from_residual-in_err-routed.ensures.1 in
+    rw (p.1, p.2) (route_first held inside.router from.0 c.args.moment c.args.line from.1 (not_back held.phase from.0 c.args.moment from.1 none.1.1.1.0) (c.self.invariant.2.reached from.0 there).0 known none
+        c.in_err-routed.field-0.0 c.in_err-routed.ensures.refused)
+
+pub returns-in_err-advance-clause-refused : goal.returns-in_err-advance-clause-refused
+returns-in_err-advance-clause-refused g c =
+    let inside = c.self.inside in
+    let held = c.args.self.now.held in
+    let none = c.in_ok-may_take.ensures.answer in
+    let from = reached_if_not_refused held.phase c.requires none.0 none.1.0 in
+    let there : inside.phase ≡ Reached from.0 = ap (λ (h : Hosted _). h.held.phase) c.self.view_is ∙ from.1 in
+    let known : held.known ≡ inside.router = sym (sym (known_reached inside.phase from.0 inside.rects.items inside.router there) ∙ ap (λ (h : Hosted _). h.held.known) c.self.view_is) in
+    let p = err_from_is_err_and c.from_residual-in_err-advance.result c.from_residual-in_err-advance.ensures.1 in
+    rw (p.1, p.2) (route_none held inside.router from.0 c.args.moment c.args.line from.1 (not_back held.phase from.0 c.args.moment from.1 none.1.1.1.0) (c.self.invariant.2.reached from.0 there).0 known none
+        c.in_ok-routed.ensures.refused)
+
+pub returns-in_err-deliver_all-clause-refused : goal.returns-in_err-deliver_all-clause-refused
+returns-in_err-deliver_all-clause-refused g c =
+    let inside = c.self.inside in
+    let held = c.args.self.now.held in
+    let none = c.in_ok-may_take.ensures.answer in
+    let from = reached_if_not_refused held.phase c.requires none.0 none.1.0 in
+    let there : inside.phase ≡ Reached from.0 = ap (λ (h : Hosted _). h.held.phase) c.self.view_is ∙ from.1 in
+    let known : held.known ≡ inside.router = sym (sym (known_reached inside.phase from.0 inside.rects.items inside.router there) ∙ ap (λ (h : Hosted _). h.held.known) c.self.view_is) in
+    let p = err_from_is_err_and c.from_residual-in_err-deliver_all.result c.from_residual-in_err-deliver_all.ensures.1 in
+    rw (p.1, p.2) (route_none held inside.router from.0 c.args.moment c.args.line from.1 (not_back held.phase from.0 c.args.moment from.1 none.1.1.1.0) (c.self.invariant.2.reached from.0 there).0 known none
+        c.in_ok-routed.ensures.refused)
+
+pub invariant_of-self-2 : goal.invariant_of-self-2
+invariant_of-self-2 g c = ?
 
 pub returns-clause-lined : goal.returns-clause-lined
 returns-clause-lined g c = λ first earlier is.

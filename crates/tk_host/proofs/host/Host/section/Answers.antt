@@ -15,4 +15,4 @@ returns-clause-section g c =
 
 pub returns-clause-history : goal.returns-clause-history
 returns-clause-history g c = λ calls held.
-    ap (λ sections. slice_get sections c.args.slot) (sym (sections_of_held g.M.AliasMeaning.answer calls c.args.self.now.held held)) ∙ returns-clause-section c
+    ap (λ sections. slice_get sections c.args.slot) (sym (sections_of_held g.M.AliasMeaning.answer calls c.args.self.now.held held)) ∙ returns-clause-section g c

@@ -18,7 +18,7 @@ invariant_of-self-2 g c =
       ready_started g.M.AliasMeaning.answer shared.moment c.stage.new.shared.moment shared.parts c.stage.new.shared.parts ready
           (c.in_ok-stage.ensures.moment ∙ ap (λ (h : Applications _). h.moment) c.clear_turns.ensures)
           (c.in_ok-stage.ensures.done ∙ ap (λ (h : Applications _). map (stage_done g.M.AliasMeaning.answer h.moment) h.parts) c.clear_turns.ensures),
-      routed_start c.as_slice.result.now inside.rects.items c.router_of.result c.stage.new.shared.parts c.router_of.ensures,
+      routed_start c.as_slice.result.now inside.rects.items c.router_of-self-inside.result c.stage.new.shared.parts c.router_of-self-inside.ensures,
     )
 
 pub returns-clause-started : goal.returns-clause-started
@@ -26,8 +26,8 @@ returns-clause-started g c =
     let inside = c.self.inside in
     let shared = inside.shared in
     let start : shared.moment ≡ 0 = (c.self.invariant.1.adding c.in-Adding.is).0 in
-    started_is g.M.AliasMeaning.answer inside.phase inside.rects.items inside.router c.router_of.result inside.slice shared c.clear_turns.new.self c.stage.new.shared c.args.self.now c.in-Adding.is c.self.view_is
-    (c.router_of.ensures ∙ ap (λ rects. values rects []) c.as_slice.ensures.value) start c.clear_turns.ensures c.in_ok-stage.ensures.done c.in_ok-stage.ensures.turns
+    started_is g.M.AliasMeaning.answer inside.phase inside.rects.items inside.router c.router_of-self-inside.result inside.slice shared c.clear_turns.new.self c.stage.new.shared c.args.self.now c.in-Adding.is c.self.view_is
+    (c.router_of-self-inside.ensures ∙ ap (λ rects. values rects []) c.as_slice.ensures.value) start c.clear_turns.ensures c.in_ok-stage.ensures.done c.in_ok-stage.ensures.turns
 
 pub returns-clause-history : goal.returns-clause-history
 returns-clause-history g c = λ calls held.

@@ -1,0 +1,48 @@
+use Rattle.std.proofs.Common.{◌≡◌, ◌++◌, ◌∷◌, [], map, List, sym, ap, ◌∙◌, subst, append_assoc}
+use Rattle.std.proofs.lemmas.Result.{on_ok_weaker}
+use Rattle.tk_turns.specs.Rounds.{turns_of}
+use Rattle.tk_app.specs.Application.{Application}
+use Rattle.tk_host.specs.Held.{at_rest}
+use Rattle.tk_host.specs.Ready.{AllRest}
+use Rattle.tk_host.specs.Turns.{after_given, applications, steps_given}
+use Rattle.tk_host.proofs.Deliveries.{after_two, turns_one, turns_same}
+use Rattle.tk_host.proofs.Parts.{apps_at, rest_at}
+use Rattle.tk_host.proofs.events.deliver_twice.Goals as goal
+
+pub deliver_one-requires-2 : goal.deliver_one-requires-2
+deliver_one-requires-2 g c =
+    let first = c.in_ok-deliver_one.ensures in
+    record {
+      slice = c.requires.slice;
+      rest = subst AllRest (sym first.parts) (rest_at g.M.AliasMeaning.answer (after_given g.M.AliasMeaning.answer 0 (c.args.first ∷ []) (applications c.args.shared.now.parts)));
+      now = c.requires.also_now ∙ sym first.moment;
+    }
+
+pub returns-clause-moment : goal.returns-clause-moment
+returns-clause-moment g c = on_ok_weaker c.deliver_one-2.result (λ same. same ∙ c.in_ok-deliver_one.ensures.moment) c.deliver_one-2.ensures.moment
+
+pub returns-clause-parts : goal.returns-clause-parts
+returns-clause-parts g c =
+    let answer = g.M.AliasMeaning.answer in
+    let apps : List (Application _) = applications c.args.shared.now.parts in
+    let mid : applications c.deliver_one.new.shared.parts ≡ after_given answer 0 (c.args.first ∷ []) apps = ap applications c.in_ok-deliver_one.ensures.parts ∙ apps_at answer (after_given answer 0 (c.args.first ∷ []) apps) in
+    on_ok_weaker c.deliver_one-2.result
+    (λ done. done ∙ ap (λ there. map at_rest (after_given answer 0 (c.args.second ∷ []) there)) mid ∙ ap (λ there. map at_rest there) (after_two answer 0 c.args.first c.args.second apps)) c.deliver_one-2.ensures.parts
+
+pub returns-clause-turns : goal.returns-clause-turns
+returns-clause-turns g c =
+    let answer = g.M.AliasMeaning.answer in
+    let slice = c.args.slice in
+    let old = c.args.shared.now in
+    let apps : List (Application _) = applications old.parts in
+    let mid : applications c.deliver_one.new.shared.parts ≡ after_given answer 0 (c.args.first ∷ []) apps = ap applications c.in_ok-deliver_one.ensures.parts ∙ apps_at answer (after_given answer 0 (c.args.first ∷ []) apps) in
+    let one = c.in_ok-deliver_one.ensures.turns ∙ ap (λ ts. old.turns ++ ts) (turns_one answer slice c.args.first apps) in
+    on_ok_weaker c.deliver_one-2.result
+    (λ told.
+    told
+    ∙ ap (λ ts. c.deliver_one.new.shared.turns ++ ts) (turns_one answer slice c.args.second (applications c.deliver_one.new.shared.parts))
+    ∙ ap (λ there. c.deliver_one.new.shared.turns ++ turns_of slice (steps_given answer 0 (c.args.second ∷ []) there)) mid
+    ∙ ap (λ ts. ts ++ turns_of slice (steps_given answer 0 (c.args.second ∷ []) (after_given answer 0 (c.args.first ∷ []) apps))) one
+    ∙ append_assoc old.turns (turns_of slice (steps_given answer 0 (c.args.first ∷ []) apps)) (turns_of slice (steps_given answer 0 (c.args.second ∷ []) (after_given answer 0 (c.args.first ∷ []) apps)))
+    ∙ ap (λ ts. old.turns ++ ts) (sym (turns_same answer slice c.args.first c.args.second apps c.requires.same)))
+    c.deliver_one-2.ensures.turns

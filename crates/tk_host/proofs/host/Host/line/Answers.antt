@@ -95,7 +95,23 @@ returns-in_err-deliver_all-clause-refused g c =
         c.in_ok-routed.ensures.refused)
 
 pub invariant_of-self-2 : goal.invariant_of-self-2
-invariant_of-self-2 g c = ?
+invariant_of-self-2 g c =
+    let answer = g.M.AliasMeaning.answer in
+    let none = c.in_ok-may_take.ensures.answer in
+    let from = reached_if_not_refused c.args.self.now.held.phase c.requires none.0 none.1.0 in
+    let there : c.self.inside.phase ≡ Reached from.0 = ap (λ (h : Hosted _). h.held.phase) c.self.view_is ∙ from.1 in
+    let known = c.self.invariant.2.reached from.0 there in
+    let given = c.in_ok-routed.ensures.routed known.1 known.2 known.3 in
+    let moved = c.set_moment.ensures in
+    let told = c.in_ok-deliver_all.ensures in
+    let after = c.deliver_all.new.shared in (
+      c.self.invariant.0,
+      ready_line answer c.args.moment after.moment (deliveries c.in_ok-routed.routed) (applications c.set_moment.new.self.parts) after.parts
+          (told.moment ∙ ap (λ (h : Applications _). h.moment) moved) told.parts
+          (subst (AreAt c.args.moment) (sym given) (routes_at known.1 known.2 (at c.args.moment c.args.line)))
+          (subst (λ (h : Applications _). IsPast c.args.moment (first_due next_due (settled answer) (applications h.parts))) (sym moved) c.in_ok-advance.ensures.through),
+      routed_line c.self.inside.rects.items known.1 known.2 (at c.args.moment c.args.line) c.route.new.router after.parts (c.in_ok-routed.ensures.known known.1 known.2 known.3),
+    )
 
 pub returns-clause-lined : goal.returns-clause-lined
 returns-clause-lined g c = λ first earlier is.

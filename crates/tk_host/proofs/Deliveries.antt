@@ -224,9 +224,8 @@ module _ {M : Type 0} where
         let was : Some begins.before ≡ Some got = sym begins.was ∙ ap (λ ps. slice_get ps i) there ∙ get_set old.parts i delivers.before got delivers.was in
         let same : begins.before ≡ got = cc in
         begins.changed
-        ∙ ap (λ (h : Applications M). record h { parts = set h.parts i (settling_begun h.moment begins.before) }) delivers.changed
-        ∙ ap (λ (p : Part M). record old { parts = set (set old.parts i got) i (settling_begun old.moment p) }) same
-        ∙ ap (λ m. record old { parts = set (set old.parts i got) i (settling_begun m got) }) (sym now)
+        ∙ ap (λ (h : Applications M). record h { parts = set h.parts i (settling_begun begins.before) }) delivers.changed
+        ∙ ap (λ (p : Part M). record old { parts = set (set old.parts i got) i (settling_begun p) }) same
         ∙ ap (λ (ps : List (Part M)). record old { parts = ps }) (set_set old.parts i got (given_event delivery.event delivers.before) ∙ sym (given_at 0 i old.parts delivers.before (omega arith) delivers.was))
 
   -- two events, one after the other

@@ -32,7 +32,7 @@ use Rattle.tk_host.specs.Turns.{after_each, after_given, applications, stages_of
 use Rattle.tk_host.proofs.Kept.{AreOf, events_at}
 use Rattle.tk_host.proofs.Passing.{passed_passed, passed_past}
 use Rattle.tk_host.proofs.Routing.{routes_at}
-use Rattle.tk_app.proofs.Lasting.{settled_past, started_past}
+use Rattle.tk_app.proofs.Settled.{settled_is_past, started_is_past}
 
 -- ── phases ──
 
@@ -105,7 +105,7 @@ module _ {M : Type 0} (answer : M → Meaning) where
   started_alone app =
       let there : Application M = started answer 0 app.spec.script (fresh app.spec) in
       begins_with_script answer 0 app.spec
-      ∙ ap (λ (a : Application M). record { application = a; work = Rests }) (sym (passed_past answer 0 there (started_past answer 0 app.spec.script (fresh app.spec) refl)))
+      ∙ ap (λ (a : Application M). record { application = a; work = Rests }) (sym (passed_past answer 0 there (started_is_past answer 0 app.spec.script (fresh app.spec))))
 
   -- and one that is brought from a moment to a later one as it is there
   brought_alone : (before moment : ℕ) → before ≤ moment → (routed : List LocalEvent) (app : Given M) → brought answer moment (part_in answer (Reached before) routed app) ≡ part_in answer (Reached moment) routed app
@@ -119,7 +119,7 @@ module _ {M : Type 0} (answer : M → Meaning) where
   events_alone moment (event ∷ events) earlier spec at =
       let there : Application M = after_events answer spec (event ∷ earlier) in
       let quiet : IsPast moment (next_due there) =
-      subst (λ m. IsPast m (next_due there)) at.0 (settled_past answer event.moment (delivered event (passed answer event.moment (after_events answer spec earlier)))) in
+      subst (λ m. IsPast m (next_due there)) at.0 (settled_is_past answer event.moment (delivered event (passed answer event.moment (after_events answer spec earlier)))) in
       let turned : reverse (event ∷ events) ++ earlier ≡ reverse events ++ event ∷ earlier =
       ap (λ es. es ++ earlier) (reverse-append (event ∷ []) events) ∙ append_assoc (reverse events) (event ∷ []) earlier in
       ap (λ m. after_each answer events (settled answer event.moment (delivered event (passed answer m (after_events answer spec earlier))))) (sym at.0)

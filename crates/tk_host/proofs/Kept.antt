@@ -25,7 +25,7 @@ use Rattle.tk_host.specs.Ready.{AllAdded, AllRest, IsAt, IsReady, IsRouted}
 use Rattle.tk_host.specs.Slots.{AreAt}
 use Rattle.tk_host.specs.Turns.{after_each, after_given, applications, stages_of, turns_given, turns_on_the_way}
 use Rattle.tk_host.proofs.Parts.{added_more, all_rest, apps_at, brought_all, rest_at, start_past, start_rest}
-use Rattle.tk_app.proofs.Lasting.{settled_past}
+use Rattle.tk_app.proofs.Settled.{settled_is_past}
 
 -- ── the router ──
 
@@ -89,7 +89,7 @@ module _ {M : Type 0} (answer : M → Meaning) where
   each_past moment [] application at past = past
   each_past moment (event ∷ events) application at past =
       each_past moment events (settled answer event.moment (delivered event application)) at.1
-      (subst (λ m. IsPast m (next_due (settled answer event.moment (delivered event application)))) at.0 (settled_past answer event.moment (delivered event application)))
+      (subst (λ m. IsPast m (next_due (settled answer event.moment (delivered event application)))) at.0 (settled_is_past answer event.moment (delivered event application)))
 
   -- once applications have done what comes of events, nothing is due of them by their moment
   pub given_past : (moment slot : ℕ) (given : List Delivery) (apps : List (Application M)) → AreAt moment given → IsPast moment (first_due next_due (settled answer) apps)

@@ -13,7 +13,7 @@ use Rattle.tk_host.specs.Held.{at_rest, brought}
 use Rattle.tk_host.specs.Ready.{AllAdded, AllRest}
 use Rattle.tk_host.specs.Slots.{begun_by, begun_at}
 use Rattle.tk_host.specs.Turns.{applications, steps_left}
-use Rattle.tk_app.proofs.Lasting.{started_past}
+use Rattle.tk_app.proofs.Settled.{started_is_past}
 use Rattle.tk_app.specs.Seen.{Meaning}
 
 module _ {M : Type 0} (answer : M → Meaning) where
@@ -33,8 +33,8 @@ module _ {M : Type 0} (answer : M → Meaning) where
       stays : stage_done answer moment part ≡ at_rest part.application
       stays = done_at_rest moment part is ∙ rests part is
 
-      by_test : (b : Bool) → stage_done answer moment (if b then settling_begun moment part else part) ≡ at_rest (if b then settled answer moment part.application else part.application)
-      by_test true = ap (λ p. stage_done answer moment (settling_begun moment p)) (rests part is) ∙ settles_from_rest answer moment part.application
+      by_test : (b : Bool) → stage_done answer moment (if b then settling_begun part else part) ≡ at_rest (if b then settled answer moment part.application else part.application)
+      by_test true = ap (λ p. stage_done answer moment (settling_begun p)) (rests part is) ∙ settles_from_rest answer moment part.application
       by_test false = stays
 
       by : (o : Option ℕ) → stage_done answer moment (begun_by o moment part) ≡ at_rest (settled_if next_due (settled answer) o moment part.application)
@@ -44,7 +44,7 @@ module _ {M : Type 0} (answer : M → Meaning) where
   begun_same : (moment : ℕ) (part : Part M) → (begun_at moment part).application ≡ part.application
   begun_same moment part = by (next_due part.application)
     where
-      by_test : (b : Bool) → (if b then settling_begun moment part else part).application ≡ part.application
+      by_test : (b : Bool) → (if b then settling_begun part else part).application ≡ part.application
       by_test true = refl
       by_test false = refl
 
@@ -108,7 +108,7 @@ module _ {M : Type 0} (answer : M → Meaning) where
       let spec : Spec M = new.0.0 in
       let is : (stage_done answer 0 p).application ≡ started answer 0 spec.script (fresh spec) = ap (λ (q : Part M). (stage_done answer 0 q).application) new.0.1 ∙ ap (λ (q : Part M). q.application) (start_of spec) in
       past_both 0 (next_due (stage_done answer 0 p).application) (first_due next_due (settled answer) (applications (map (stage_done answer 0) ps)))
-      (subst (λ a. IsPast 0 (next_due a)) (sym is) (started_past answer 0 spec.script (fresh spec) refl)) (start_past ps new.1)
+      (subst (λ a. IsPast 0 (next_due a)) (sym is) (started_is_past answer 0 spec.script (fresh spec))) (start_past ps new.1)
 
   pub added_more : (parts : List (Part M)) (spec : Spec M) → AllAdded parts → AllAdded (parts ++ added spec ∷ [])
   added_more [] spec new = ((spec, refl), tt)

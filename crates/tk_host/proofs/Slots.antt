@@ -60,10 +60,10 @@ module _ {M : Type 0} (answer : M → Meaning) where
   -- ── turns ──
 
   -- settling has begun where something is under way
-  pub begun_already : (moment : ℕ) (part : Part M) → is_under_way part.work ≡ true → settling_begun moment part ≡ part
-  begun_already moment part goes = by part.application.state part.work refl
+  pub begun_already : (part : Part M) → is_under_way part.work ≡ true → settling_begun part ≡ part
+  begun_already part goes = by part.application.state part.work refl
     where
-      by : (state : AppState) (work : Work) → part.work ≡ work → record { application = part.application; work = settling_as state moment work } ≡ part
+      by : (state : AppState) (work : Work) → part.work ≡ work → record { application = part.application; work = settling_as state work } ≡ part
       by Running Rests is = let wrong : is_under_way part.work ≡ false = ap is_under_way is in cc
       by Running work is = ap (λ (w : Work). record { application = part.application; work = w }) (sym is)
       by Exhausted work is = ap (λ (w : Work). record { application = part.application; work = w }) (sym is)
@@ -101,7 +101,7 @@ module _ {M : Type 0} (answer : M → Meaning) where
       let there = part_there (λ (part : Part M). is_under_way part.work) old.parts slot true told in
       let same_part : there.0 ≡ settles.before = (let is : Some there.0 ≡ Some settles.before = sym there.1 ∙ settles.was in cc) in
       let goes : is_under_way settles.before.work ≡ true = ap (λ (p : Part M). is_under_way p.work) (sym same_part) ∙ there.2 in
-      let begun : settling_begun old.moment settles.before ≡ settles.before = begun_already old.moment settles.before goes in
+      let begun : settling_begun settles.before ≡ settles.before = begun_already settles.before goes in
       record {
         before = settles.before;
         after = settles.after;
@@ -111,7 +111,7 @@ module _ {M : Type 0} (answer : M → Meaning) where
         left = settles.turn.left ∙ ap (λ p. needs answer old.moment p - slice) begun;
         told = settles.told ∙ ap (λ p. old.turns ++ entry slot (min slice (needs answer old.moment p))) begun;
         last = λ e. settles.turn.last (done e) ∙ ap (stage_done answer old.moment) begun;
-        more = λ e. let le : slice ≤ needs answer old.moment (settling_begun old.moment settles.before) = settles.turn.more (goes_on e) in omega (arith, le, ap (needs answer old.moment) begun);
+        more = λ e. let le : slice ≤ needs answer old.moment (settling_begun settles.before) = settles.turn.more (goes_on e) in omega (arith, le, ap (needs answer old.moment) begun);
         moment = settles.moment;
       }
 

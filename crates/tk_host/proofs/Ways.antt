@@ -16,7 +16,7 @@ use Rattle.tk_host.specs.Slots.{BeginsAt, begun_by, begun_at}
 use Rattle.tk_host.specs.Turns.{applications, steps_left, turns_on_the_way}
 use Rattle.tk_host.proofs.Parts.{apps_at, needs_all, rest_at, stage_all}
 use Rattle.tk_host.proofs.Passing.{all_passed, all_through, lighter_by_stage, way_past, way_through}
-use Rattle.tk_app.proofs.Lasting.{settled_past}
+use Rattle.tk_app.proofs.Settled.{settled_is_past}
 use Rattle.tk_host.proofs.Settling.{settled_lighter}
 use Rattle.tk_host.proofs.Slots.{get_or_some, part_there, set_same}
 use Rattle.tk_app.specs.Seen.{Meaning}
@@ -44,7 +44,7 @@ module _ {M : Type 0} (answer : M → Meaning) where
       let there = part_there answer (λ (part : Part M). next_due part.application) held.parts slot (Some due) told in
       stays moment slot held there.0 there.1 (ap (λ (o : Option ℕ). begun_by o moment there.0) there.2 ∙ by (nat_eq due moment) refl there.0)
     where
-      by : (b : Bool) → nat_eq due moment ≡ b → (part : Part M) → (if b then settling_begun moment part else part) ≡ part
+      by : (b : Bool) → nat_eq due moment ≡ b → (part : Part M) → (if b then settling_begun part else part) ≡ part
       by true is part = absurd (differ (eqb-true due moment is))
       by false is part = refl
 
@@ -55,10 +55,9 @@ module _ {M : Type 0} (answer : M → Meaning) where
       let there = part_there answer (λ (part : Part M). next_due part.application) old.parts slot (Some due) told in
       let same_part : there.0 ≡ begins.before = (let is : Some there.0 ≡ Some begins.before = sym there.1 ∙ begins.was in cc) in
       let due_of : next_due begins.before.application ≡ Some due = ap (λ (p : Part M). next_due p.application) (sym same_part) ∙ there.2 in
-      let begun : begun_at moment begins.before ≡ settling_begun old.moment begins.before =
+      let begun : begun_at moment begins.before ≡ settling_begun begins.before =
       ap (λ (o : Option ℕ). begun_by o moment begins.before) due_of
-      ∙ ap (λ (b : Bool). if b then settling_begun moment begins.before else begins.before) (eq-eqb due moment same)
-      ∙ ap (λ m. settling_begun m begins.before) (sym now) in
+      ∙ ap (λ (b : Bool). if b then settling_begun begins.before else begins.before) (eq-eqb due moment same) in
       record {
         before = begins.before;
         was = begins.was;
@@ -118,7 +117,7 @@ module _ {M : Type 0} (answer : M → Meaning) where
       let now : after.moment ≡ due = moment ∙ ap (λ (h : Applications M). h.moment) both in
       let is : applications after.parts ≡ there = stage_apps due before at begun after way.rest on begins done in
       let from : IsFrom due (first_due next_due (settled answer) apps) = rw next (omega arith) in
-      let past : IsPast due (first_due next_due (settled answer) there) = stage_past next_due (settled answer) weight (settled_lighter answer) due apps (settled_past answer due) from in
+      let past : IsPast due (first_due next_due (settled answer) there) = stage_past next_due (settled answer) weight (settled_lighter answer) due apps (settled_is_past answer due) from in
       let here : after.turns ≡ before.turns ++ turns_at next_due (settled answer) steps_left slice due apps =
       told ∙ ap (λ (h : Applications M). h.turns ++ turns_of slice (map (needs answer h.moment) h.parts)) both
       ∙ ap (λ ns. before.turns ++ turns_of slice ns) (needs_all answer due before.parts way.rest) in

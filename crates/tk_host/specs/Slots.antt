@@ -11,7 +11,7 @@ use Rattle.tk_app.specs.Turns.{Applications}
 -- a part after a stage at a moment began: where something is due of it then, it begins to settle
 abbrev pub begun_by : {M : Type 0} → Option ℕ → ℕ → Part M → Part M
 begun_by None moment part = part
-begun_by (Some due) moment part = if due == moment then settling_begun moment part else part
+begun_by (Some due) moment part = if due == moment then settling_begun part else part
 
 abbrev pub begun_at : {M : Type 0} → ℕ → Part M → Part M
 begun_at moment part = begun_by (next_due part.application) moment part
@@ -39,7 +39,7 @@ pub record TakesTurn {M : Type 0} (answer : M → Meaning) (slice slot : ℕ) (a
 
 -- a part to which an event was given, and which begins to settle
 abbrev pub given_event : {M : Type 0} → LocalEvent → Part M → Part M
-given_event event part = settling_begun event.moment (record part { application = delivered event part.application })
+given_event event part = settling_begun (record part { application = delivered event part.application })
 
 -- the parts from a slot on, after what one of them is given
 abbrev pub given_from : {M : Type 0} → ℕ → Delivery → List (Part M) → List (Part M)

@@ -12,7 +12,7 @@ use crate::fault::HostFault;
 use crate::phase::Phase;
 use crate::spec::may_be_given;
 use crate::stages::{advance, stage};
-use std::alloc::Global;
+use std::alloc::{AllocError, Global};
 use std::marker::Model;
 use tcl_text::Text;
 use tk_app::{Alias, AliasMeaning, Aliases, Budget, MAX_APPLICATIONS, Shared, Size};
@@ -62,19 +62,19 @@ impl<M: AliasMeaning> Host<M> {
     ghost use Rattle.tk_host.specs.Spec.{given};
     ghost use Rattle.tk_host.specs.Refusals.{IsRefusal, LeftBy, NoneApplies, PhaseRefuses, RefusesApp, RefusesLine, RefusesMoment, RefusesSection, add_faults, line_faults, moment_faults, section_faults, start_faults, time_faults};
 
-    /// A host without applications. Each takes at most `slice` steps in a turn; what comes of it doesn't depend on that. It takes no memory.
-    pub fn new(alloc: Global, slice: u64) -> Host<M>
+    /// A host without applications. Each takes at most `slice` steps in a turn; what comes of it doesn't depend on that.
+    pub fn new(alloc: Global, slice: u64) -> Result<Host<M>, AllocError>
         requires { 1 ≤ slice }
-        ensures { result ≡ record { held = held_after M.answer []; slice = slice; turns = [] } }
+        ensures { IfOk result (λ host. host ≡ record { held = held_after M.answer []; slice = slice; turns = [] }) }
     {
-        Host {
+        Ok(Host {
             alloc,
             slice,
             phase: Phase::Adding,
             rects: Vec::new(alloc),
             router: router_of(&[]),
-            shared: Shared::new(alloc),
-        }
+            shared: Shared::new(alloc)?,
+        })
     }
 
     /// Adds an application in the next slot, from 0 on: its rectangle on the screen in pixels, the steps that its scripts may take: how

@@ -26,7 +26,7 @@ fn main(rt: HostRuntime) -> Result<()> {
     let endless = Text::new(alloc, "while 1 {}")?;
     let timed = Text::new(alloc, "after 5 {puts ready}")?;
 
-    let mut host: Host<Service> = Host::new(alloc, 64);
+    let mut host: Host<Service> = Host::new(alloc, 64)?;
     let runaway = Text::new(alloc, "runaway")?;
     host.add_app(runaway, LEFT, endless, budget(1_000), Aliases::new(alloc))?;
     let gauge = Text::new(alloc, "gauge")?;

@@ -1,4 +1,5 @@
 mod Apart
+mod Bounded
 mod Deliveries
 mod History
 mod Kept

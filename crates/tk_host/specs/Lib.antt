@@ -1,5 +1,6 @@
 -- What the contracts cite.
 pub mod Alone
+pub mod Bounds
 pub mod Fault
 pub mod Held
 pub mod Ready

@@ -1,7 +1,4 @@
-ghost use Rattle.std.specs.Prelude.{◌≤◌, ℕ, List, map, sum_by};
-ghost use Rattle.tk_turns.specs.Rounds.{turns_of};
-ghost use Rattle.tk_turns.specs.Shares.{steps_in};
-ghost use Rattle.tk_app.specs.Part.{Part, needs};
+ghost use Rattle.tk_host.specs.Bounds.{BoundedStages};
 ghost use Rattle.tk_host.specs.Refusals.{OneRefusal};
 ghost use Rattle.tk_host.specs.Sections.{EachByItself};
 
@@ -18,8 +15,7 @@ pub fn one_refusal()
     ensures { OneRefusal }
 {}
 
-/// In a stage at most the steps are taken that the applications had left at its start.
+/// In a stage at most the steps are taken that the applications had left at its start, and those that its events grant.
 pub fn bounded_stages<M: AliasMeaning>()
-    ensures { (slice moment : ℕ) (parts : List (Part M)) → 1 ≤ slice
-        → steps_in (turns_of slice (map (needs M.answer moment) parts)) ≤ sum_by (λ part. part.application.steps) parts }
+    ensures { BoundedStages M.answer }
 {}

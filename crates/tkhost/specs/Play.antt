@@ -1,5 +1,5 @@
 -- What a session comes to.
-use Rattle.std.specs.Prelude.{◌≡◌, ℕ, ◌+◌, List, [], ◌∷◌, ◌++◌, map}
+use Rattle.std.specs.Prelude.{◌≡◌, ℕ, ◌+◌, List, [], ◌∷◌, ◌++◌, map, flat_map, slice_get, Some}
 use Rattle.tk_base.specs.declared.rect.Rect.{Rect}
 use Rattle.tk_route.specs.Lines.{Line}
 use Rattle.tk_route.specs.Routes.{routed}
@@ -59,18 +59,36 @@ module _ {M : Type 0} where
   abbrev pub calls_of : Plan → List (List (List ℕ × M)) → List (Call M)
   calls_of plan lists = adding plan.apps lists ++ Start ∷ (lining plan.events ++ End plan.end ∷ [])
 
-module _ {M : Type 0} (answer : M → Meaning) where
-  -- the sections of the applications from a slot on, with the events that these lines route to each
-  abbrev pub sections_from : ℕ → List Rect → List Line → ℕ → List AppBlock → List (List (List ℕ × M)) → List ℕ
-  sections_from end first lines slot [] lists = []
-  sections_from end first lines slot (app ∷ apps) [] = []
-  sections_from end first lines slot (app ∷ apps) (aliases ∷ lists) =
-      section (alone answer (spec_of app aliases) (routed first lines slot) end) ++ sections_from end first lines (slot + 1) apps lists
+module _ {M : Type 0} where
+  -- what the applications are begun with, by their slots
+  abbrev pub specs_of : List AppBlock → List (List (List ℕ × M)) → List (Spec M)
+  specs_of [] lists = []
+  specs_of (app ∷ apps) [] = []
+  specs_of (app ∷ apps) (aliases ∷ lists) = spec_of app aliases ∷ specs_of apps lists
 
-  -- The sections of the applications in their order, and nothing else: each that of the application by itself, with its own aliases and the events that
-  -- are routed to it, up to the session's end.
+module _ {M : Type 0} (answer : M → Meaning) where
+  -- the sections of applications from a slot on, up to a last moment, with the events that these lines route to each
+  abbrev pub sections_from : ℕ → List Rect → List Line → ℕ → List (Spec M) → List (List ℕ)
+  sections_from end first lines slot [] = []
+  sections_from end first lines slot (spec ∷ specs) = section (alone answer spec (routed first lines slot) end) ∷ sections_from end first lines (slot + 1) specs
+
+  -- The section of each application of a session, in their order: that of the application by itself, with its own aliases and the events that are routed
+  -- to it, up to the session's end.
+  abbrev pub sections_in : Plan → List (List (List ℕ × M)) → List (List ℕ)
+  sections_in plan lists = sections_from plan.end (rects_of plan.apps) (newest_first plan.events) 0 (specs_of plan.apps lists)
+
+  -- and what is written of them: these one after another, and nothing else
   abbrev pub sections_of : Plan → List (List (List ℕ × M)) → List ℕ
-  sections_of plan lists = sections_from plan.end (rects_of plan.apps) (newest_first plan.events) 0 plan.apps lists
+  sections_of plan lists = flat_map (λ bytes. bytes) (sections_in plan lists)
+
+  -- Two sessions that end at the same moment, and have an application each with the same spec, be it in two places, to which the same events are routed, give it
+  -- the same bytes, whatever else they say.
+  abbrev pub SameBytes : Type 0
+  SameBytes =
+      (plan other : Plan) (lists others : List (List (List ℕ × M))) (slot other_slot : ℕ) (spec : Spec M)
+      → slice_get (specs_of plan.apps lists) slot ≡ Some spec → slice_get (specs_of other.apps others) other_slot ≡ Some spec → plan.end ≡ other.end
+      → routed (rects_of plan.apps) (newest_first plan.events) slot ≡ routed (rects_of other.apps) (newest_first other.events) other_slot
+      → slice_get (sections_in plan lists) slot ≡ slice_get (sections_in other others) other_slot
 
 -- what the program writes of a session, by its own services
 abbrev pub program_sections : Plan → List ℕ

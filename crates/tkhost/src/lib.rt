@@ -2,6 +2,7 @@
 #![tactic(auto)]
 
 mod input;
+mod laws;
 mod outcome;
 mod output;
 mod playing;
@@ -9,6 +10,7 @@ mod program;
 mod services;
 
 pub use input::{InputFault, read_input};
+pub use laws::same_bytes;
 pub use outcome::Outcome;
 pub use output::{WriteFault, write_whole};
 pub use playing::{PlayFault, play};

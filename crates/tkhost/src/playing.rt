@@ -1,11 +1,13 @@
-ghost use Rattle.std.specs.Prelude.{◌≡◌, ◌≤◌, ℕ, List, [], ◌∷◌, ◌++◌, Some, map, slice_get, IfOk, IfErr, OnOk, OnErr, IsErr};
+ghost use Rattle.std.specs.Prelude.{◌≡◌, ◌≢◌, ◌≤◌, ℕ, List, [], ◌∷◌, ◌++◌, flat_map, length, IfOk, IfErr, OnOk, OnErr, IsErr};
 ghost use Rattle.std.specs.Io.KnownBytes.{Appends};
-ghost use Rattle.tk_host.specs.Held.{Call, AddApp, LineAt, Start, End, held_after};
-ghost use Rattle.tk_host.specs.Refusals.{NoneApplies, RefusesApp, RefusesLine, RefusesSection, add_faults, line_faults, section_faults};
-ghost use Rattle.tk_host.specs.Sections.{sections_after};
-ghost use Rattle.tk_session.specs.Session.{AreAllowed, MayHappen};
+ghost use Rattle.tk_app.specs.Section.{section};
+ghost use Rattle.tk_route.specs.Lines.{values};
+ghost use Rattle.tk_host.specs.declared.phase.Phase.TheVariants.{Reached as reached_at, Lost as lost};
+ghost use Rattle.tk_host.specs.Held.{Call, AddApp, Start, End, held_after};
+ghost use Rattle.tk_host.specs.Refusals.{NoneApplies, RefusesApp, add_faults};
+ghost use Rattle.tk_session.specs.Session.{AreAllowed, rects_of};
 ghost use Rattle.tkhost.specs.Output.{AppendsFront};
-ghost use Rattle.tkhost.specs.Play.{Serve, adding, calls_of, given_of, lining, sections_of};
+ghost use Rattle.tkhost.specs.Play.{Serve, adding, given_of, lining, sections_of};
 
 use crate::output::write_whole;
 use std::alloc::{AllocError, AllocFailed, Global};
@@ -92,24 +94,31 @@ fn add_all<M: AliasMeaning>(
     ensures added { OnOk result (host.new.held ≡ held_after M.answer (adding apps.now aliases.items)) }
     ensures memory { IfErr result (λ fault. fault ≡ PlayFault.NoMemory) }
 {
-    for (app, list) in apps.iter().zip(aliases) {
+    let mut lists = aliases.into_iter();
+    for app in apps {
+        let Some(list) = lists.next() else {
+            unreachable!();
+        };
         add(host, app, list)?;
     }
     Ok(())
 }
 
-/// Hands the events of a session to a host that takes them.
-fn line_all<M: AliasMeaning>(host: &mut Host<M>, events: &[EventLine]) -> Result<(), PlayFault>
+/// Hands the events of a session to a host whose applications have these rectangles and have just been started.
+fn line_all<M: AliasMeaning>(host: &mut Host<M>, session: &Session) -> Result<(), PlayFault>
+    requires phase { host.old.held.phase ≡ reached_at 0 }
+    requires known { host.old.held.known ≡ values (rects_of session.now.apps) [] }
+    ensures history { (calls : List (Call M)) → host.old.held ≡ held_after M.answer calls → OnOk result (host.new.held ≡ held_after M.answer (calls ++ lining session.now.events)) }
     ensures memory { IfErr result (λ fault. fault ≡ PlayFault.NoMemory) }
 {
-    for event in events {
+    for event in session.events() {
         unless_memory(host.line(event.moment, event.line))?;
     }
     Ok(())
 }
 
-/// A host that has played the session.
-fn played<M: AliasMeaning>(
+/// A host to which the applications of a session were added, each with its aliases.
+fn filled<M: AliasMeaning>(
     alloc: Global,
     session: &Session,
     aliases: Vec<Aliases<M>>,
@@ -117,23 +126,35 @@ fn played<M: AliasMeaning>(
 ) -> Result<Host<M>, PlayFault>
     requires slice { 1 ≤ slice }
     requires serve { Serve session.now.apps aliases.items }
-    ensures host { IfOk result (λ host. host.held ≡ held_after M.answer (calls_of session.now aliases.items)) }
+    ensures host { IfOk result (λ host. host.held ≡ held_after M.answer (adding session.now.apps aliases.items)) }
     ensures memory { IfErr result (λ fault. fault ≡ PlayFault.NoMemory) }
 {
-    let mut host = Host::new(alloc, slice);
+    let mut host = Host::new(alloc, slice)?;
     add_all(&mut host, session.apps(), aliases)?;
-    unless_memory(host.start())?;
-    line_all(&mut host, session.events())?;
-    unless_memory(host.end(session.end()))?;
     Ok(host)
 }
 
-/// The sections of all applications of a host.
+/// The host runs the applications of a session that were added to it, hands them its events, and comes to its end.
+fn run_through<M: AliasMeaning>(host: &mut Host<M>, session: &Session) -> Result<(), PlayFault>
+    requires { (lists : List (List (List ℕ × M))) × Serve session.now.apps lists × (host.old.held ≡ held_after M.answer (adding session.now.apps lists)) }
+    ensures history { (calls : List (Call M)) → host.old.held ≡ held_after M.answer calls
+        → OnOk result (host.new.held ≡ held_after M.answer (calls ++ Start ∷ (lining session.now.events ++ End session.now.end ∷ []))) }
+    ensures memory { IfErr result (λ fault. fault ≡ PlayFault.NoMemory) }
+{
+    unless_memory(host.start())?;
+    line_all(host, session)?;
+    unless_memory(host.end(session.end()))
+}
+
+/// The sections of all applications of a host, one after another.
 fn sections<M: AliasMeaning>(
     alloc: Global,
     host: &Host<M>,
     count: usize,
 ) -> Result<Vec<u8>, PlayFault>
+    requires whole { host.now.held.phase ≢ lost }
+    requires count { count ≡ length host.now.held.parts }
+    ensures text { IfOk result (λ text. text.items ≡ flat_map (λ part. section part.application) host.now.held.parts) }
     ensures memory { IfErr result (λ fault. fault ≡ PlayFault.NoMemory) }
 {
     let mut text = Vec::new(alloc);
@@ -155,7 +176,8 @@ fn text_of<M: AliasMeaning>(
     ensures text { IfOk result (λ text. text.items ≡ sections_of M.answer session.now aliases.items) }
     ensures memory { IfErr result (λ fault. fault ≡ PlayFault.NoMemory) }
 {
-    let host = played(alloc, session, aliases, slice)?;
+    let mut host = filled(alloc, session, aliases, slice)?;
+    run_through(&mut host, session)?;
     sections(alloc, &host, session.apps().len())
 }
 

@@ -57,7 +57,7 @@ fn tells_the_first_fault(rt: HostRuntime) {
         (b"tkhost 1\napp a 0 0 9 9 5\nscript 1\nputs he", 5, 36),
         (b"tkhost 1\nevents\n", 3, 36),
         // forms
-        (b"tkhost 2\nevents\n0 end\n", 1, 36),
+        (b"tkhost 3\nevents\n0 end\n", 1, 36),
         (b"tkhost 1\r\nevents\n0 end\n", 1, 36),
         (b"tkhost 1\nevents\n0 end\n\n", 4, 36),
         (b"tkhost 1\nevents\n0 end \n", 3, 36),
@@ -183,9 +183,12 @@ fn bounds_scripts(rt: HostRuntime) -> Result<(), Fail> {
 fn numbers_faults(rt: HostRuntime) {
     let cases = [
         (LineFault::Overlap, 34),
+        (LineFault::TimeBack, 35),
         (LineFault::BadLine, 36),
+        (LineFault::NoApp, 37),
         (LineFault::TooManyApps, 38),
         (LineFault::NameTaken, 39),
+        (LineFault::RectOverlap, 43),
     ];
     for (fault, number) in cases {
         assert_eq!(rt; fault.number(), number);

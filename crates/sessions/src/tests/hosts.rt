@@ -175,7 +175,7 @@ impl Started {
 }
 
 /// A host whose applications, these, were started.
-fn started(alloc: Global, slice: u64, apps: &[App<'_>]) -> Result<Started, Fail>
+fn begun(alloc: Global, slice: u64, apps: &[App<'_>]) -> Result<Started, Fail>
     requires { 1 ≤ slice }
 {
     Started::of(host_of(alloc, slice, apps)?)
@@ -231,7 +231,7 @@ fn comes_to(
     requires { 1 ≤ slice }
 {
     let apps = [left(script, total), right("puts bye", 100)];
-    let mut started = started(alloc, slice, &apps)?;
+    let mut started = begun(alloc, slice, &apps)?;
     let at_start = started.is_section(0, wanted) && started.is_section(1, BYE);
     let ended = started.end(7).is_none();
     Ok(at_start && ended && started.is_section(0, wanted))
@@ -365,7 +365,7 @@ fn refuses_aliases(rt: HostRuntime) -> Result<(), Fail> {
 
 #[test]
 fn refuses_once_started(rt: HostRuntime) -> Result<(), Fail> {
-    let mut started = started(rt.alloc(), 64, &[left("", 5)])?;
+    let mut started = begun(rt.alloc(), 64, &[left("", 5)])?;
     let calls = [
         (Call::Start, Some(40)),
         (Call::End(1_000_000_000_001), Some(36)),
@@ -389,7 +389,7 @@ fn refuses_once_started(rt: HostRuntime) -> Result<(), Fail> {
 #[test]
 fn goes_on_to_moments(rt: HostRuntime) -> Result<(), Fail> {
     let script = "after 5 {puts a; after idle {puts b}}; after 8 {puts c}; after idle {puts e}";
-    let mut started = started(rt.alloc(), 3, &[left(script, 100)])?;
+    let mut started = begun(rt.alloc(), 3, &[left(script, 100)])?;
     assert_eq!(rt; started.advance_to(5), None);
     assert!(rt;
         started.is_section(0, "app a running 90\nout 0 e\nout 5 a\nout 5 b\ntree\nwin . Tk 0 0 100 50 1\ntimers\ntimer after#1 8 puts c\ndone\n")
@@ -407,7 +407,7 @@ fn takes_turns(rt: HostRuntime) -> Result<(), Fail> {
     let by_two = [(0, 2), (1, 1), (0, 2), (0, 1)];
     let by_64 = [(0, 5), (1, 1)];
     for (slice, wanted) in [(2, by_two.as_slice()), (64, by_64.as_slice())] {
-        let mut started = started(
+        let mut started = begun(
             rt.alloc(),
             slice,
             &[left("while 1 {}", 5), right("puts bye", 100)],
@@ -426,7 +426,7 @@ fn takes_turns(rt: HostRuntime) -> Result<(), Fail> {
 fn takes_turns_at_each_moment(rt: HostRuntime) -> Result<(), Fail> {
     let first = left("after 8 {puts a}; after 5 {puts b; puts c}", 100);
     let second = right("after 5 {puts d; puts e}", 100);
-    let mut started = started(rt.alloc(), 2, &[first, second])?;
+    let mut started = begun(rt.alloc(), 2, &[first, second])?;
     assert!(rt; started.are_turns(&[(0, 2), (1, 1)]));
     let calls = [
         (Call::Advance(6), [(0, 2), (1, 2), (0, 1), (1, 1)].as_slice()),
@@ -449,7 +449,7 @@ fn takes_lines(rt: HostRuntime) -> Result<(), Fail> {
         },
         ..left("after 7 {set x 1}; after 9 {set x 2}", 4)
     };
-    let mut started = started(rt.alloc(), 64, &[first, right("", 9)])?;
+    let mut started = begun(rt.alloc(), 64, &[first, right("", 9)])?;
     let covering = HostLine::Rect {
         slot: 1,
         rect: LEFT,

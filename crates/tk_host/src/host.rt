@@ -142,6 +142,7 @@ impl<M: AliasMeaning> Host<M> {
         requires { self.old.held.phase ≢ Phase.Adding }
         ensures lined { (first : List Rect) (earlier : List Line) → self.old.held.known ≡ values first earlier
             → OnOk result (self.new ≡ after_line M.answer first earlier (at moment line) self.old) }
+        ensures reached { OnOk result (self.new.held.phase ≡ Phase.Reached moment) }
         ensures unless { OnOk result (NoneApplies (RefusesLine self.old.held moment line) line_faults) }
         ensures refused { IfErr result (IsRefusal (RefusesLine self.old.held moment line) line_faults) }
         ensures left { IfErr result (λ fault. LeftBy fault self.old self.new) }

@@ -1,11 +1,12 @@
 //! Whole runs of a host, byte for byte, and the refusals in their order.
 
 ghost use Rattle.std.specs.Prelude.{◌≤◌, ◌≢◌};
+ghost use Rattle.tk_host.specs.declared.phase.Phase.TheVariants.{Adding};
 
 use std::alloc::Global;
 use std::test::Fail;
 use tcl_text::Text;
-use tk_host::{Alias, Aliases, Budget, Host, HostFault, HostLine, Phase, Rect};
+use tk_host::{Alias, Aliases, Budget, Host, HostFault, HostLine, Rect};
 use tk_services::{Service, ServiceKind};
 
 const LEFT: Rect = Rect {
@@ -100,7 +101,7 @@ fn host_of(alloc: Global, slice: u64, apps: &[App<'_>]) -> Result<Host<Service>,
 #[derive(Drop)]
 struct Started {
     host: Host<Service>,
-    ghost begun: { host.held.phase ≢ Phase.Adding },
+    ghost begun: { host.held.phase ≢ Adding },
 }
 
 /// A call of such a host.

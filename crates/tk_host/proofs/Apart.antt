@@ -1,5 +1,5 @@
 -- Rectangles that are apart, and one more; and whether names repeat.
-use Rattle.std.proofs.Common.{◌≡◌, ℕ, zero, suc, ◌+◌, ◌≤◌, ◌<◌, Bool, true, false, ◌&&◌, ◌||◌, not, List, [], ◌∷◌, ◌++◌, length, get_or, refl, sym, ap, ◌∙◌, subst, inl, inr, arith}
+use Rattle.std.proofs.Common.{◌≡◌, suc, ◌+◌, ◌<◌, Bool, true, false, ◌&&◌, ◌||◌, not, List, [], ◌∷◌, ◌++◌, length, refl, sym, ap, ◌∙◌, arith}
 use Rattle.std.specs.Prelude.{Any}
 use Rattle.std.specs.List.{list_any}
 use Rattle.tk_base.specs.declared.rect.Rect.{Rect}
@@ -7,10 +7,9 @@ use Rattle.tk_base.specs.Rect.{SharePixel}
 use Rattle.tk_route.specs.Screen.{are_apart, shares_pixel}
 use Rattle.tk_route.proofs.ScreenLemmas.{SharePixel-shares_pixel}
 use Rattle.tk_route.specs.Values.{Values}
-use Rattle.tk_app.specs.Part.{Part, added}
-use Rattle.tk_app.specs.Spec.{Spec}
+use Rattle.tk_app.specs.Part.{Part}
 use Rattle.tk_host.specs.declared.phase.Phase.{Phase}
-use Rattle.tk_host.specs.declared.phase.Phase.TheVariants.{Adding, Reached, Finished, Lost}
+use Rattle.tk_host.specs.declared.phase.Phase.TheVariants.{Adding, Reached}
 use Rattle.tk_host.specs.Ready.{IsRouted}
 
 any_first : {X : Type 0} (P : X → Type 0) (x : X) (xs : List X) → P x → Any P (x ∷ xs)

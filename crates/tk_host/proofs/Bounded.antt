@@ -1,5 +1,5 @@
 -- How many steps a stage takes at most.
-use Rattle.std.proofs.Common.{◌≡◌, ℕ, suc, ◌+◌, ◌-◌, ◌≤◌, Bool, true, false, ◌||◌, cond, List, [], ◌∷◌, length, map, refl, sym, ap, ◌∙◌, subst, arith, eq-eqb}
+use Rattle.std.proofs.Common.{◌≡◌, ℕ, ◌+◌, ◌≤◌, Bool, true, false, ◌||◌, cond, List, [], ◌∷◌, length, map, refl, sym, ◌∙◌, subst, arith, eq-eqb}
 use Rattle.std.specs.Prelude.{nat_eq, filter, ◌==◌, sum, sum_by, if◌then◌else◌}
 use Rattle.std.specs.List.{AllByRecursion, list_any}
 use Rattle.std.proofs.lemmas.Bool.{eqb-true}
@@ -7,14 +7,12 @@ use Rattle.std.proofs.lemmas.List.Sums.{sum_by-cons}
 use Rattle.tk_input.specs.declared.event.LocalEvent.{LocalEvent}
 use Rattle.tk_route.specs.declared.delivery.Delivery.{Delivery}
 use Rattle.tk_route.specs.Routes.{events_of}
-use Rattle.tk_turns.specs.Rounds.{turns_of}
 use Rattle.tk_turns.specs.Stages.{settled_at, used_at}
 use Rattle.tk_turns.proofs.Rounds.{sum-cons}
 use Rattle.tk_turns.proofs.Shares.{steps_in_turns, sum_used}
 use Rattle.tk_app.specs.Application.{Application, next_due}
-use Rattle.tk_app.specs.Part.{Part, delivered, needs, settled, stage_done}
+use Rattle.tk_app.specs.Part.{Part, needs, settled, stage_done}
 use Rattle.tk_app.specs.Seen.{Meaning}
-use Rattle.tk_host.specs.Alone.{after_event}
 use Rattle.tk_host.specs.Bounds.{BoundedStages, IsOneEach, granted_for, granted_in}
 use Rattle.tk_host.specs.Turns.{joined, stages_of, steps_for, steps_given, steps_left}
 

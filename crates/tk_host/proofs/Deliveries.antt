@@ -1,10 +1,9 @@
 -- What events make of a list of parts.
-use Rattle.std.proofs.Common.{◌≡◌, ◌≢◌, ◌+◌, ◌-◌, ◌<◌, ◌≤◌, ℕ, zero, suc, Bool, true, false, ◌||◌, cond, List, [], ◌∷◌, ◌++◌, length, set, map, Option, Some, None, refl, sym, ap, ◌∙◌, subst, append-nil, append_assoc, eq-eqb, arith}
-use Rattle.std.specs.Prelude.{nat_eq, slice_get, slice_set, filter, ◌==◌, if◌then◌else◌}
-use Rattle.std.proofs.lemmas.Bool.{eqb-true, eqb-false}
+use Rattle.std.proofs.Common.{◌≡◌, ◌≢◌, ◌+◌, ◌-◌, ◌<◌, ◌≤◌, ℕ, zero, suc, Bool, true, false, ◌||◌, cond, List, [], ◌∷◌, ◌++◌, length, set, map, Some, refl, sym, ap, ◌∙◌, append-nil, eq-eqb, arith}
+use Rattle.std.specs.Prelude.{nat_eq, slice_get, ◌==◌, if◌then◌else◌}
+use Rattle.std.proofs.lemmas.Bool.{eqb-true}
 use Rattle.tk_input.specs.declared.event.LocalEvent.{LocalEvent}
 use Rattle.tk_route.specs.declared.delivery.Delivery.{Delivery}
-use Rattle.tk_turns.specs.declared.turn.Turn.{Turn}
 use Rattle.tk_turns.specs.Rounds.{turns_of}
 use Rattle.tk_app.specs.Application.{Application}
 use Rattle.tk_app.specs.Part.{Part, Rests, delivered, needs, settling_begun, stage_done}
@@ -16,7 +15,7 @@ use Rattle.tk_host.specs.Held.{at_rest}
 use Rattle.tk_host.specs.Ready.{AllRest}
 use Rattle.tk_host.specs.Slots.{given_event, given_from}
 use Rattle.tk_host.specs.Turns.{after_each, after_given, applications, stages_of, steps_for, steps_given, turns_given}
-use Rattle.tk_host.proofs.Parts.{apps_at, done_at_rest, rests}
+use Rattle.tk_host.proofs.Parts.{done_at_rest, rests}
 
 -- the event of each delivery
 abbrev event_in : Delivery → LocalEvent

@@ -1,13 +1,12 @@
 -- One call more after a list of calls.
-use Rattle.std.proofs.Common.{◌≡◌, ◌≢◌, ℕ, zero, suc, ◌+◌, ◌≤◌, ◌<◌, ◌-◌, Bool, true, false, cond, List, [], ◌∷◌, ◌++◌, map, reverse, refl, sym, ap, ◌∙◌, subst, arith}
+use Rattle.std.proofs.Common.{◌≡◌, ◌≢◌, ℕ, zero, suc, ◌+◌, ◌≤◌, ◌<◌, ◌-◌, List, [], ◌∷◌, ◌++◌, map, reverse, refl, sym, ap, ◌∙◌, subst, arith}
 use Rattle.std.proofs.lemmas.List.{map-append, append-nil, append_assoc, reverse-append}
 use Rattle.std.proofs.lemmas.Option.{slice_get-map}
-use Rattle.std.specs.Prelude.{Option, Some, None, Result, Ok, Err, OnOk, option_map, slice_get, filter, nat_eq, ◌==◌}
+use Rattle.std.specs.Prelude.{Some, Result, Ok, Err, OnOk, option_map, slice_get}
 use Rattle.tk_base.specs.declared.rect.Rect.{Rect}
 use Rattle.tk_input.specs.declared.event.LocalEvent.{LocalEvent}
 use Rattle.tk_route.specs.Lines.{Line, at, values}
 use Rattle.tk_route.specs.Routes.{events_of, routed, routes}
-use Rattle.tk_route.specs.Values.{Values}
 use Rattle.tk_route.specs.declared.delivery.Delivery.{Delivery}
 use Rattle.tk_route.specs.declared.line.HostLine.{HostLine}
 use Rattle.tk_turns.specs.Stages.{IsPast}
@@ -24,10 +23,9 @@ use Rattle.tk_host.specs.declared.phase.Phase.{Phase}
 use Rattle.tk_host.specs.declared.phase.Phase.TheVariants.{Adding, Reached, Finished, Lost}
 use Rattle.tk_host.specs.Spec.{Given, rect_of}
 use Rattle.tk_host.specs.Alone.{after_events, alone, passed}
-use Rattle.tk_host.specs.Held.{Held, Hosted, Call, AddApp, Start, LineAt, AdvanceTo, End, after_line, at_rest, brought, with_app, after_start, before_line, gone_to, given_by, first_rects, known_by, phase_after, lines_after, lines_of, application_in, part_in, parts_in, reached, held_in, held_after, turns_after}
+use Rattle.tk_host.specs.Held.{Held, Hosted, Call, AddApp, Start, LineAt, AdvanceTo, End, after_line, at_rest, brought, with_app, after_start, gone_to, given_by, first_rects, phase_after, lines_after, lines_of, application_in, part_in, parts_in, reached, held_in, held_after, turns_after}
 use Rattle.tk_host.specs.Refusals.{PhaseRefuses}
 use Rattle.tk_host.specs.Sections.{EachByItself, sections_after}
-use Rattle.tk_host.specs.Slots.{AreAt}
 use Rattle.tk_host.specs.Turns.{after_each, after_given, applications, stages_of, steps_at_start, turns_at_start, turns_given, turns_on_the_way}
 use Rattle.tk_host.proofs.Kept.{AreOf, events_at}
 use Rattle.tk_host.proofs.Passing.{passed_passed, passed_past}

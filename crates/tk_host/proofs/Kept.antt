@@ -1,11 +1,10 @@
 -- What a host knows of its parts, after each call.
-use Rattle.std.proofs.Common.{◌≡◌, ◌≢◌, ℕ, ◌+◌, ◌≤◌, ◌<◌, min, Bool, true, false, cond, List, [], ◌∷◌, ◌++◌, map, length, Option, Some, None, refl, sym, ap, ◌∙◌, subst, arith}
+use Rattle.std.proofs.Common.{◌≡◌, ℕ, ◌+◌, ◌≤◌, Bool, true, false, cond, List, [], ◌∷◌, ◌++◌, map, refl, sym, ap, ◌∙◌, subst, arith}
 use Rattle.std.specs.Prelude.{filter, nat_eq, ◌==◌}
 use Rattle.tk_base.specs.declared.rect.Rect.{Rect}
 use Rattle.tk_input.specs.declared.event.LocalEvent.{LocalEvent}
 use Rattle.tk_route.specs.Lines.{Line, values}
 use Rattle.tk_route.specs.Routes.{events_of, routes}
-use Rattle.tk_route.specs.Screen.{are_apart}
 use Rattle.tk_route.specs.Values.{Values}
 use Rattle.tk_route.specs.declared.delivery.Delivery.{Delivery}
 use Rattle.tk_turns.specs.Rounds.{turns_of}
@@ -19,9 +18,9 @@ use Rattle.tk_app.specs.Turns.{Applications}
 use Rattle.tk_host.specs.declared.phase.Phase.{Phase}
 use Rattle.tk_host.specs.declared.phase.Phase.TheVariants.{Adding, Reached, Finished, Lost}
 use Rattle.tk_host.specs.Alone.{passed}
-use Rattle.tk_host.specs.Held.{Held, Hosted, after_line, after_start, at_rest, brought, gone_to, known_by, with_app}
+use Rattle.tk_host.specs.Held.{Hosted, after_line, after_start, at_rest, brought, gone_to, known_by, with_app}
 use Rattle.tk_host.specs.Spec.{Given, rect_of}
-use Rattle.tk_host.specs.Ready.{AllAdded, AllRest, IsAt, IsReady, IsRouted}
+use Rattle.tk_host.specs.Ready.{AllRest, IsAt, IsReady, IsRouted}
 use Rattle.tk_host.specs.Slots.{AreAt}
 use Rattle.tk_host.specs.Turns.{after_each, after_given, applications, stages_of, turns_given, turns_on_the_way}
 use Rattle.tk_host.proofs.Parts.{added_more, all_rest, apps_at, brought_all, rest_at, start_past, start_rest}

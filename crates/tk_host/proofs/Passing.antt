@@ -1,7 +1,6 @@
 -- Applications on their way to a moment.
-use Rattle.std.proofs.Common.{◌≡◌, ℕ, ◌≤◌, ◌<◌, ◌++◌, List, [], map, Some, refl}
+use Rattle.std.proofs.Common.{◌≡◌, ℕ, ◌≤◌, ◌<◌, ◌++◌, List, [], map, Some}
 use Rattle.std.specs.Prelude.{sum_by}
-use Rattle.tk_turns.specs.declared.turn.Turn.{Turn}
 use Rattle.tk_turns.specs.Stages.{IsPast, first_due, stage_at, turns_at}
 use Rattle.tk_turns.proofs.Passing.{brought_brought}
 use Rattle.tk_turns.proofs.Stages.{all_at, all_past, brought_past, stage_lighter, told_past, told_step}

@@ -1,8 +1,7 @@
 -- A list of parts, slot by slot.
-use Rattle.std.proofs.Common.{◌≡◌, ℕ, zero, suc, ◌+◌, ◌-◌, ◌≤◌, ◌<◌, ◌++◌, ◌||◌, min, Bool, true, false, List, [], ◌∷◌, length, get_or, set, map, take, drop, Option, Some, None, refl, sym, ap, ◌∙◌, subst, append-nil, arith}
-use Rattle.std.specs.Prelude.{slice_get, option_map, sum, sum_by}
+use Rattle.std.proofs.Common.{◌≡◌, ℕ, zero, suc, ◌+◌, ◌-◌, ◌≤◌, ◌<◌, ◌++◌, ◌||◌, min, Bool, true, false, List, [], ◌∷◌, length, get_or, set, map, drop, Option, Some, None, refl, sym, ap, ◌∙◌, subst, append-nil, arith}
+use Rattle.std.specs.Prelude.{slice_get, option_map, sum}
 use Rattle.std.proofs.Common.{length-set}
-use Rattle.tk_turns.specs.declared.turn.Turn.{Turn}
 use Rattle.tk_turns.specs.Rounds.{entry}
 use Rattle.tk_turns.specs.Stages.{earlier, first_due}
 use Rattle.tk_turns.proofs.Reached.{Reached, TookTurn, reached_more}
@@ -11,8 +10,8 @@ use Rattle.tk_app.specs.declared.state.AppEnd.{AppEnd}
 use Rattle.tk_app.specs.declared.state.AppEnd.TheVariants.{Settled, More, Stopped}
 use Rattle.tk_app.specs.declared.state.AppState.{AppState}
 use Rattle.tk_app.specs.declared.state.AppState.TheVariants.{Running, Exhausted, Closed}
-use Rattle.tk_app.specs.Application.{Application, next_due}
-use Rattle.tk_app.specs.Part.{Part, Work, Rests, Goes, done_as, is_under_way, needs, settled, settling_as, settling_begun, stage_done}
+use Rattle.tk_app.specs.Application.{next_due}
+use Rattle.tk_app.specs.Part.{Part, Work, Rests, done_as, is_under_way, needs, settled, settling_as, settling_begun, stage_done}
 use Rattle.tk_app.specs.Turns.{Applications, SettlesSlot}
 use Rattle.tk_host.specs.Slots.{TakesTurn}
 use Rattle.tk_host.specs.Turns.{applications}

@@ -92,10 +92,7 @@ fn begins_apart(text: &[u8]) -> bool
 pub fn is_command_name(text: &[u8]) -> bool
     ensures { result ≡ is_command_name text.now }
 {
-    1 <= text.len()
-        && text.len() <= MAX_COMMAND_NAME
-        && are_printing(text)
-        && !begins_apart(text)
+    1 <= text.len() && text.len() <= MAX_COMMAND_NAME && are_printing(text) && !begins_apart(text)
 }
 
 /// Whether each of the aliases has a name that a command may have.

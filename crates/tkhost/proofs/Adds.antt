@@ -1,26 +1,26 @@
 -- A host takes the applications that a session may have.
-use Rattle.std.proofs.Common.{◌≡◌, ℕ, zero, suc, ◌+◌, ◌<◌, ◌≤◌, Bool, true, false, List, [], ◌∷◌, ◌++◌, length, get_or, take, drop, map, ◌⊎◌, refl, sym, ◌∙◌, ap, subst, inl, inr, arith, append_assoc, append-nil}
-use Rattle.std.specs.Prelude.{Any, IsTrue}
-use Rattle.std.proofs.lemmas.List.{length-map, take_more}
+use Rattle.std.proofs.Common.{◌≡◌, ℕ, zero, suc, ◌+◌, ◌<◌, true, false, List, [], ◌∷◌, ◌++◌, length, get_or, take, drop, map, ◌⊎◌, refl, sym, ◌∙◌, ap, subst, inl, inr, arith, append_assoc, append-nil}
+use Rattle.std.specs.Prelude.{Any}
+use Rattle.std.proofs.lemmas.List.{take_more}
 use Rattle.std.proofs.Math.Seq.{drop-cons, drop-length, take-length}
 use Rattle.tk_base.specs.declared.rect.Rect.{Rect}
 use Rattle.tk_base.specs.Rect.{SharePixel}
-use Rattle.tk_route.specs.Lines.{Line, values}
+use Rattle.tk_route.specs.Lines.{Line}
 use Rattle.tk_app.specs.Part.{Part}
 use Rattle.tk_app.specs.Seen.{Meaning}
 use Rattle.tk_host.specs.declared.fault.HostFault.{HostFault}
 use Rattle.tk_host.specs.declared.fault.HostFault.TheVariants.{TimeBack, BadValue, NoApp, TooManyApps, NameTaken, RectOverlap, Started, Ended, Broken, NoMemory}
 use Rattle.tk_host.specs.declared.fault.HostFault.TheVariants as faults
 use Rattle.tk_host.specs.declared.phase.Phase.{Phase}
-use Rattle.tk_host.specs.declared.phase.Phase.TheVariants.{Adding, Reached, Finished}
-use Rattle.tk_host.specs.Held.{Call, AddApp, Start, Held, given_by, held_after, held_in, lines_after, lines_of, part_in, parts_in, phase_after}
+use Rattle.tk_host.specs.declared.phase.Phase.TheVariants.{Adding}
+use Rattle.tk_host.specs.Held.{Call, AddApp, Held, given_by, held_after, held_in, lines_after, lines_of, part_in, parts_in, phase_after}
 use Rattle.tk_host.specs.Refusals.{IsFirst, IsRefusal, NoneApplies, RefusesApp, add_faults}
 use Rattle.tk_host.specs.Spec.{Given, IsInRange, rect_of}
 use Rattle.tk_session.specs.Session.{AreAllowed, IsCovered, IsTaken, MayFollow, MayServe, rects_of}
 use Rattle.tk_session.specs.Session.{IsInRange as IsInRangeOfLine}
 use Rattle.tk_session.specs.declared.session.AppBlock.{AppBlock}
 use Rattle.tkhost.specs.Play.{Serve, adding, given_of}
-use Rattle.tkhost.proofs.Names.{line_names, may_be_aliases, no_name_twice}
+use Rattle.tkhost.proofs.Names.{may_be_aliases, no_name_twice}
 
 no_first : (Applies : HostFault → Type 0) (list : List HostFault) (found : HostFault) → NoneApplies Applies list → IsFirst Applies list found → ⊥
 no_first Applies [] found none first = first

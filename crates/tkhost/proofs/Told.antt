@@ -1,6 +1,6 @@
 -- The sections of what was played are those of the session.
-use Rattle.std.proofs.Common.{◌≡◌, ◌≢◌, ℕ, zero, suc, ◌+◌, ◌<◌, ◌≤◌, List, [], ◌∷◌, ◌++◌, length, take, map, Option, Some, None, refl, sym, ◌∙◌, ap, subst, arith, append_assoc, append-nil}
-use Rattle.std.specs.Prelude.{slice_get, flat_map, option_map}
+use Rattle.std.proofs.Common.{◌≡◌, ◌≢◌, ℕ, zero, suc, ◌+◌, ◌<◌, List, [], ◌∷◌, ◌++◌, length, take, map, Some, refl, sym, ◌∙◌, ap, arith, append_assoc, append-nil}
+use Rattle.std.specs.Prelude.{slice_get, flat_map}
 use Rattle.std.proofs.lemmas.Option.{none-some, same_Some}
 use Rattle.tk_base.specs.declared.rect.Rect.{Rect}
 use Rattle.tk_input.specs.declared.event.LocalEvent.{LocalEvent}
@@ -19,7 +19,7 @@ use Rattle.tk_host.specs.Refusals.{NoneApplies, RefusesSection, PhaseRefuses, se
 use Rattle.tk_host.specs.Spec.{rect_of}
 use Rattle.tk_session.specs.Session.{Plan, newest_first, rects_of}
 use Rattle.tk_session.specs.declared.session.AppBlock.{AppBlock}
-use Rattle.tkhost.specs.Play.{SameBytes, Serve, calls_of, sections_from, sections_in, sections_of, spec_of, specs_of}
+use Rattle.tkhost.specs.Play.{SameBytes, Serve, calls_of, sections_from, sections_of, spec_of, specs_of}
 use Rattle.tkhost.proofs.Adds.{givens, givens-rects}
 use Rattle.tkhost.proofs.Happens.{held-played}
 

@@ -74,9 +74,7 @@ fn add_with(
 ) -> Result<Option<u32>, Fail> {
     let name = Text::new(alloc, app.name)?;
     let script = Text::new(alloc, app.script)?;
-    Ok(number_of(host.add_app(
-        name, app.rect, script, app.budget, aliases,
-    )))
+    Ok(number_of(host.add_app(name, app.rect, script, app.budget, aliases)))
 }
 
 /// Adds an application, and answers the number of its refusal.
@@ -222,13 +220,7 @@ const RUNS: [(&str, u64, &str); 7] = [
 ];
 
 /// Whether a script comes to this section, after the start and at a later end, beside an application that says bye.
-fn comes_to(
-    alloc: Global,
-    slice: u64,
-    script: &str,
-    total: u64,
-    wanted: &str,
-) -> Result<bool, Fail>
+fn comes_to(alloc: Global, slice: u64, script: &str, total: u64, wanted: &str) -> Result<bool, Fail>
     requires { 1 ≤ slice }
 {
     let apps = [left(script, total), right("puts bye", 100)];
@@ -393,11 +385,17 @@ fn goes_on_to_moments(rt: HostRuntime) -> Result<(), Fail> {
     let mut started = begun(rt.alloc(), 3, &[left(script, 100)])?;
     assert_eq!(rt; started.advance_to(5), None);
     assert!(rt;
-        started.is_section(0, "app a running 90\nout 0 e\nout 5 a\nout 5 b\ntree\nwin . Tk 0 0 100 50 1\ntimers\ntimer after#1 8 puts c\ndone\n")
+        started.is_section(
+            0,
+            "app a running 90\nout 0 e\nout 5 a\nout 5 b\ntree\nwin . Tk 0 0 100 50 1\ntimers\ntimer after#1 8 puts c\ndone\n"
+        )
     );
     assert_eq!(rt; started.end(8), None);
     assert!(rt;
-        started.is_section(0, "app a running 88\nout 0 e\nout 5 a\nout 5 b\nout 8 c\ntree\nwin . Tk 0 0 100 50 1\ntimers\ndone\n")
+        started.is_section(
+            0,
+            "app a running 88\nout 0 e\nout 5 a\nout 5 b\nout 8 c\ntree\nwin . Tk 0 0 100 50 1\ntimers\ndone\n"
+        )
     );
     Ok(())
 }
@@ -430,7 +428,10 @@ fn takes_turns_at_each_moment(rt: HostRuntime) -> Result<(), Fail> {
     let mut started = begun(rt.alloc(), 2, &[first, second])?;
     assert!(rt; started.are_turns(&[(0, 2), (1, 1)]));
     let calls = [
-        (Call::Advance(6), [(0, 2), (1, 2), (0, 1), (1, 1)].as_slice()),
+        (
+            Call::Advance(6),
+            [(0, 2), (1, 2), (0, 1), (1, 1)].as_slice(),
+        ),
         (Call::End(8), [(0, 2)].as_slice()),
     ];
     for (call, wanted) in calls {
@@ -473,7 +474,10 @@ fn takes_lines(rt: HostRuntime) -> Result<(), Fail> {
     assert!(rt; started.are_turns(&[(0, 2)]));
     assert_eq!(rt; started.end(9), None);
     assert!(rt;
-        started.is_section(0, "app a running 0\ntree\nwin . Tk 0 0 100 60 1\ntimers\ndone\n")
+        started.is_section(
+            0,
+            "app a running 0\ntree\nwin . Tk 0 0 100 60 1\ntimers\ndone\n"
+        )
     );
     Ok(())
 }

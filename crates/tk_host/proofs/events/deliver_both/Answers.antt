@@ -1,9 +1,8 @@
-use Rattle.std.proofs.Common.{◌≡◌, ◌++◌, map, sym, ap, ◌∙◌, arith}
+use Rattle.std.proofs.Common.{◌++◌, map, sym, ap, ◌∙◌}
 use Rattle.std.proofs.lemmas.Result.{on_ok_weaker}
 use Rattle.tk_turns.specs.Rounds.{turns_of}
 use Rattle.tk_app.specs.Part.{needs, stage_done}
 use Rattle.tk_app.specs.Turns.{Applications}
-use Rattle.tk_host.specs.Slots.{given_from}
 use Rattle.tk_host.specs.Turns.{applications}
 use Rattle.tk_host.proofs.Deliveries.{done_two, given_twice, needs_two, rests_in, rests_other, turns_apart}
 use Rattle.tk_host.proofs.events.deliver_both.Goals as goal

@@ -1,4 +1,4 @@
-use Rattle.std.proofs.Common.{◌≡◌, List, length, length-set, ap, sym, arith}
+use Rattle.std.proofs.Common.{List, length, length-set, ap, sym, arith}
 use Rattle.std.proofs.lemmas.Result.{on_ok_weaker}
 use Rattle.tk_app.specs.Part.{Part, delivered}
 use Rattle.tk_app.specs.Turns.{Applications}

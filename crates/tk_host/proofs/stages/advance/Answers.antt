@@ -1,4 +1,4 @@
-use Rattle.std.proofs.Common.{◌≡◌, ◌≤◌, Some, refl, sym, subst, arith, ℕ}
+use Rattle.std.proofs.Common.{refl, sym, subst}
 use Rattle.tk_turns.specs.Stages.{IsPast, first_due}
 use Rattle.tk_app.specs.Application.{next_due}
 use Rattle.tk_app.specs.Part.{settled}

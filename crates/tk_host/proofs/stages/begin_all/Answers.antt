@@ -1,5 +1,4 @@
-use Rattle.std.proofs.Common.{◌≡◌, ◌++◌, [], map, take, drop, length, ap, ◌∙◌, arith, append-nil}
-use Rattle.std.proofs.Math.ListN.{drop_of_length-le}
+use Rattle.std.proofs.Common.{ap, ◌∙◌, arith}
 use Rattle.tk_app.specs.Turns.{Applications}
 use Rattle.tk_host.proofs.Ways.{begun_more}
 use Rattle.tk_host.proofs.stages.begin_all.Goals as goal

@@ -1,4 +1,4 @@
-use Rattle.std.proofs.Common.{◌≡◌, ◌++◌, ◌-◌, ℕ, List, [], map, sum, sym, ap, ◌∙◌, append-nil, subst, arith, Ok}
+use Rattle.std.proofs.Common.{◌≡◌, ◌++◌, ◌-◌, ℕ, List, [], map, sum, sym, ap, ◌∙◌, append-nil, arith, Ok}
 use Rattle.tk_turns.specs.Rounds.{round, turns_of}
 use Rattle.tk_turns.proofs.Rounds.{turns_more, turns_none}
 use Rattle.tk_app.specs.Part.{Part, needs, stage_done}

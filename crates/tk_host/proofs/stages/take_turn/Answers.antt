@@ -1,4 +1,4 @@
-use Rattle.tk_host.proofs.Slots.{turn_at_rest, turn_on, turn_settled, turn_stopped}
+use Rattle.tk_host.proofs.Slots.{turn_at_rest}
 use Rattle.tk_host.proofs.stages.take_turn.Goals as goal
 
 pub returns-then-not-is_under_way : goal.returns-then-not-is_under_way

@@ -1,4 +1,4 @@
-use Rattle.std.proofs.Common.{◌≡◌, take, refl}
+use Rattle.std.proofs.Common.{take, refl}
 use Rattle.std.proofs.lemmas.Result.{IfErr-weaker}
 use Rattle.tk_host.specs.Refusals.{RefusesLine, line_faults}
 use Rattle.tk_session.specs.Session.{newest_first, rects_of}

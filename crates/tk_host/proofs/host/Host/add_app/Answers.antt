@@ -5,12 +5,12 @@ use Rattle.tk_base.specs.Rect.{SharePixel}
 use Rattle.tk_host.specs.declared.phase.Phase.TheVariants.{Adding}
 use Rattle.tk_app.specs.Part.{added}
 use Rattle.tk_app.specs.Turns.{Applications}
-use Rattle.tk_host.specs.Held.{Hosted, known_by, with_app}
-use Rattle.tk_host.specs.Ready.{IsReady, IsRouted}
+use Rattle.tk_host.specs.Held.{Hosted, known_by}
+use Rattle.tk_host.specs.Ready.{IsReady}
 use Rattle.tk_host.specs.Spec.{given, rect_of}
 use Rattle.tk_host.proofs.Apart.{routed_more}
 use Rattle.tk_host.proofs.History.{history_of_add, adding_if_not_refused}
-use Rattle.tk_host.proofs.Kept.{added_is, ready_more, seen}
+use Rattle.tk_host.proofs.Kept.{added_is, ready_more}
 use Rattle.tk_host.proofs.host.Host.add_app.Goals as goal
 
 pub add-requires : goal.add-requires

@@ -1,13 +1,13 @@
-use Rattle.std.proofs.Common.{◌≡◌, ◌≤◌, ◌<◌, ◌∷◌, arith, sym, ap, ◌∙◌, subst}
+use Rattle.std.proofs.Common.{◌≡◌, ◌≤◌, ◌<◌, arith, sym, ap, ◌∙◌, subst}
 use Rattle.std.proofs.lemmas.Result.{err_from_is_err_and}
 use Rattle.tk_turns.specs.Stages.{IsPast, first_due}
 use Rattle.tk_route.specs.Lines.{at}
-use Rattle.tk_route.specs.Routes.{deliveries, routes}
+use Rattle.tk_route.specs.Routes.{deliveries}
 use Rattle.tk_app.specs.Application.{next_due}
 use Rattle.tk_app.specs.Part.{settled}
 use Rattle.tk_app.specs.Turns.{Applications}
 use Rattle.tk_host.specs.declared.phase.Phase.TheVariants.{Reached}
-use Rattle.tk_host.specs.Held.{Hosted, known_by}
+use Rattle.tk_host.specs.Held.{Hosted}
 use Rattle.tk_host.specs.Ready.{AllRest}
 use Rattle.tk_host.specs.Slots.{AreAt}
 use Rattle.tk_host.specs.Turns.{applications}
@@ -68,7 +68,7 @@ returns-in_err-routed-clause-refused g c =
     let known : held.known ≡ inside.router = sym (sym (known_reached inside.phase from.0 inside.rects.items inside.router there) ∙ ap (λ (h : Hosted _). h.held.known) c.self.view_is) in
     let p = err_from_is_err_and c.from_residual-in_err-routed.result c.from_residual-in_err-routed.ensures.1 in
     rw (p.1, p.2) (route_first held inside.router from.0 c.args.moment c.args.line from.1 (not_back held.phase from.0 c.args.moment from.1 none.1.1.1.0) (c.self.invariant.2.reached from.0 there).0 known none
-        c.in_err-routed.field-0.0 c.in_err-routed.ensures.refused)
+    c.in_err-routed.field-0.0 c.in_err-routed.ensures.refused)
 
 pub returns-in_err-advance-clause-refused : goal.returns-in_err-advance-clause-refused
 returns-in_err-advance-clause-refused g c =
@@ -80,7 +80,7 @@ returns-in_err-advance-clause-refused g c =
     let known : held.known ≡ inside.router = sym (sym (known_reached inside.phase from.0 inside.rects.items inside.router there) ∙ ap (λ (h : Hosted _). h.held.known) c.self.view_is) in
     let p = err_from_is_err_and c.from_residual-in_err-advance.result c.from_residual-in_err-advance.ensures.1 in
     rw (p.1, p.2) (route_none held inside.router from.0 c.args.moment c.args.line from.1 (not_back held.phase from.0 c.args.moment from.1 none.1.1.1.0) (c.self.invariant.2.reached from.0 there).0 known none
-        c.in_ok-routed.ensures.refused)
+    c.in_ok-routed.ensures.refused)
 
 pub returns-in_err-deliver_all-clause-refused : goal.returns-in_err-deliver_all-clause-refused
 returns-in_err-deliver_all-clause-refused g c =
@@ -92,7 +92,7 @@ returns-in_err-deliver_all-clause-refused g c =
     let known : held.known ≡ inside.router = sym (sym (known_reached inside.phase from.0 inside.rects.items inside.router there) ∙ ap (λ (h : Hosted _). h.held.known) c.self.view_is) in
     let p = err_from_is_err_and c.from_residual-in_err-deliver_all.result c.from_residual-in_err-deliver_all.ensures.1 in
     rw (p.1, p.2) (route_none held inside.router from.0 c.args.moment c.args.line from.1 (not_back held.phase from.0 c.args.moment from.1 none.1.1.1.0) (c.self.invariant.2.reached from.0 there).0 known none
-        c.in_ok-routed.ensures.refused)
+    c.in_ok-routed.ensures.refused)
 
 pub invariant_of-self-2 : goal.invariant_of-self-2
 invariant_of-self-2 g c =

@@ -4,7 +4,7 @@ use Rattle.tk_app.specs.Part.{stage_done}
 use Rattle.tk_app.specs.Turns.{Applications}
 use Rattle.tk_host.specs.declared.phase.Phase.TheVariants.{Adding}
 use Rattle.tk_host.specs.Held.{Hosted}
-use Rattle.tk_host.specs.Ready.{IsReady, IsRouted}
+use Rattle.tk_host.specs.Ready.{IsReady}
 use Rattle.tk_host.proofs.History.{history_of_start, turns_of_start}
 use Rattle.tk_host.proofs.Kept.{ready_started, routed_start, started_is}
 use Rattle.tk_host.proofs.host.Host.start.Goals as goal

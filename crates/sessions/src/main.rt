@@ -4,9 +4,6 @@
 //! status and its line on standard error.
 #![tactic(auto)]
 
-#[cfg(test)]
-mod tests;
-
 use anyhow::{Context, Result, bail};
 use std::alloc::Global;
 use std::rt::Files;

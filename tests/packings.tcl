@@ -1,8 +1,8 @@
 # Packs windows in cavities in many ways with the packer of this wish (8.6), and prints the table of where they come to lie:
 #
-#     xvfb-run -a wish tests/packings.tcl > crates/window_tables/data/packings/packings.table
+#     xvfb-run -a wish tests/packings.tcl > crates/packer_tables/data/packings.table
 #
-# The form of the table is told by the program window_tables, which reads it.
+# The form of the table is told by the program packer_tables, which reads it.
 
 frame .f
 place .f -x 0 -y 0

@@ -7,6 +7,7 @@ use tcl_control::texts::fixed;
 use tcl_interp::{Act, Code, ReturnCode, Tasks};
 use tcl_text::{Text, TextFault, TextList};
 use tcl_vars::Scopes;
+use tcl_words::{ParseFault, Script, parse};
 
 fn done(alloc: Global, code: Code, text: &str) -> Result<Act<u64>, AllocError>
     requires { length text.now ≤ 65536 }
@@ -92,6 +93,11 @@ impl Tasks for Panel {
     ghost Left = { Unit {0} };
 
     ghost left_alone = { λ _. tt };
+
+    #[tactic(auto, unfolding(tcl_table::specs::Source::script_of))]
+    fn parsed(&mut self, text: &Text) -> Result<Script, ParseFault> {
+        parse(self.alloc, text.as_str().as_bytes())
+    }
 
     fn call(&mut self, _scopes: &mut Scopes, words: &[Text]) -> Result<Act<u64>, AllocError> {
         act(self.alloc, words)

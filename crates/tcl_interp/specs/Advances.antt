@@ -6,10 +6,10 @@ use Rattle.tcl_interp.specs.declared.machine.Frame.{Frame}
 use Rattle.tcl_interp.specs.declared.moves.Move.{Move}
 use Rattle.tcl_interp.specs.declared.moves.Move.TheVariants.{On, Far, Due}
 use Rattle.tcl_interp.specs.Moves.{Standing}
-use Rattle.tcl_interp.specs.Quiet.{Moves, MovesOn, IsDue, IsQuiet}
+use Rattle.tcl_interp.specs.Quiet.{Moves, MovesOn, IsQuiet, Stops}
 use Rattle.tcl_interp.specs.Rests.{moved_of, standing_of}
 
 abbrev pub MoveGives : {K : Type 0} → Standing K → List (Frame K) → Store → Context → Move K → Type 0
 MoveGives before frames store context (On now) = IsQuiet before.moved × Moves before (standing_of now frames store context)
 MoveGives before frames store context (Far now) = MovesOn before (standing_of now frames store context)
-MoveGives before frames store context (Due now) = (standing_of now frames store context ≡ before) × IsDue (moved_of now frames)
+MoveGives before frames store context (Due now) = (standing_of now frames store context ≡ before) × Stops (moved_of now frames)

@@ -80,3 +80,11 @@ module _ {K : Type 0} where
 
   abbrev pub IsDue : Moved K → Type 0
   IsDue m = IsDueBy m.doing m.waits
+
+  -- one of these, or a script is to be read
+  abbrev pub StopsBy : Doing K → List (Waiting K) → Type 0
+  StopsBy (Begins room text) waits = Unit {0}
+  StopsBy doing waits = IsDueBy doing waits
+
+  abbrev pub Stops : Moved K → Type 0
+  Stops m = StopsBy m.doing m.waits

@@ -8,7 +8,7 @@ ghost use Rattle.tcl_interp.specs.Moves.{begin_move, parsed_move, end_move, next
 ghost use Rattle.tcl_interp.specs.Finish.{Waiting, Begins, Ends, Evaluates, ForCommand};
 ghost use Rattle.tcl_interp.specs.Rests.{waiting_of, moved_of, waits_of, doing_of, left_in, standing_of};
 ghost use Rattle.tcl_interp.specs.Advances.{MoveGives};
-ghost use Rattle.tcl_interp.specs.Quiet.{Leads, IsDue};
+ghost use Rattle.tcl_interp.specs.Quiet.{Leads, Stops};
 
 use crate::expressions::{chosen, evaluate, turn};
 use crate::machine::{Answered, Asking, Frame, Now, Place};
@@ -362,7 +362,7 @@ pub enum Move<K> {
     On(Now<K>),
     /// So there is, several moves on.
     Far(Now<K>),
-    /// A step is needed, a task is to be resumed, or all has ended.
+    /// A step is needed, a script is to be read, a task is to be resumed, or all has ended.
     Due(Now<K>),
 }
 
@@ -388,7 +388,7 @@ fn command_ended<K: Drop>(
     }
 }
 
-/// A script begins, and its first command with it.
+/// A script begins that has been read, or whose text is kept, and its first command with it. Another is to be read.
 fn script_begins<K: Drop>(
     alloc: Global,
     scopes: &Scopes,
@@ -399,6 +399,10 @@ fn script_begins<K: Drop>(
 ) -> Result<Move<K>, AllocError>
     ensures { IfOk result (MoveGives (standing (moved (Begins room script) (waits_of frames.old.items)) scopes.now context.old) frames.new.items scopes.now context.new) }
 {
+    let script = script.known(&context.commands)?;
+    if room > 0 && !script.is_read() {
+        return Ok(Move::Due(Now::Begins { room, script }));
+    }
     match begun(alloc, &mut context.commands, script, room)? {
         Now::GoesOn { place, result } => {
             let level = context.levels.here(scopes);
@@ -411,7 +415,7 @@ fn script_begins<K: Drop>(
 
 /// Whether a step is needed for what is to be done, or a task is to be resumed.
 fn needs_turn<K>(now: &Now<K>) -> bool
-    ensures { result ≡ true → (waits : List (Waiting K)) → IsDue (moved (doing_of now.now) waits) }
+    ensures { result ≡ true → (waits : List (Waiting K)) → Stops (moved (doing_of now.now) waits) }
 {
     match now {
         Now::Calls { .. } | Now::Tests { .. } | Now::Steps { .. } | Now::Resumes { .. } => true,
@@ -477,7 +481,7 @@ fn advance<K: Drop>(
     }
 }
 
-/// Moves on without a step, up to where a step is needed, a task is to be resumed, or all has ended.
+/// Moves on without a step, up to where a step is needed, a script is to be read, a task is to be resumed, or all has ended.
 #[inline(always)]
 pub fn quiet<K: Drop>(
     alloc: Global,
@@ -487,7 +491,7 @@ pub fn quiet<K: Drop>(
     now: Now<K>,
 ) -> Result<Now<K>, AllocError>
     ensures leads { IfOk result (λ due. Leads (standing_of now frames.old.items scopes.old context.old) (standing_of due frames.new.items scopes.new context.new)) }
-    ensures due { IfOk result (λ due. IsDue (moved_of due frames.new.items)) }
+    ensures due { IfOk result (λ due. Stops (moved_of due frames.new.items)) }
 {
     let mut doing = now;
     loop {

@@ -1,17 +1,78 @@
-ghost use Rattle.std.specs.Prelude.{◌≡◌, ◌≤◌, ◌+◌, IfOk};
+ghost use Rattle.std.specs.Prelude.{◌≡◌, ◌≤◌, ◌+◌, IfOk, List};
+ghost use Rattle.tcl_interp.specs.Finish.{Waiting};
+ghost use Rattle.tcl_interp.specs.Moves.{begin_move, moved};
+ghost use Rattle.tcl_interp.specs.Quiet.{IsDue, Leads};
 ghost use Rattle.tcl_interp.specs.Rests.{moved_of, doing_of, standing_of};
 ghost use Rattle.tcl_interp.specs.Runs.{Comes, IfPaused};
 ghost use Rattle.tcl_interp.specs.Steps.{NeedsStep, IsSettled, TakesStep, TakesNone, finish_from};
 
 use crate::machine::{Frame, Now};
-use crate::moves::quiet;
+use crate::moves::{begun, quiet};
 use crate::steps::{call, resume, test};
 use crate::tasks::Tasks;
 use std::alloc::{AllocError, Global};
 use tcl_control::texts::fixed;
-use tcl_control::{Code, Context};
+use tcl_control::{Code, Context, Source};
 use tcl_text::Text;
 use tcl_vars::Scopes;
+use tcl_words::ParseFault;
+
+/// A script by its text, which what serves the interpreter reads.
+fn source_of<T: Tasks>(tasks: &mut T, text: &Text) -> Result<Source, AllocError>
+    ensures source { IfOk result (λ source. source ≡ text.now) }
+    ensures shows { T.shows tasks.new ≡ T.shows tasks.old }
+    ensures left { T.left_alone tasks.new ≡ T.left_alone tasks.old }
+{
+    match tasks.parsed(text) {
+        Ok(script) => Ok(Source::of_script(script)),
+        Err(ParseFault::NoMemory) => Err(AllocError),
+        Err(fault) => Ok(Source::at_fault(fault, text.copy()?)),
+    }
+}
+
+/// A script that isn't known is read and begins.
+fn begin_unread<T: Tasks>(
+    alloc: Global,
+    tasks: &mut T,
+    context: &mut Context,
+    script: Source,
+    room: u64,
+) -> Result<Now<T::Task>, AllocError>
+    ensures context { context.new ≡ context.old }
+    ensures now { IfOk result (λ now. (waits : List (Waiting T.Task)) → moved (doing_of now) waits ≡ begin_move room script waits) }
+    ensures shows { T.shows tasks.new ≡ T.shows tasks.old }
+    ensures left { T.left_alone tasks.new ≡ T.left_alone tasks.old }
+{
+    let source = source_of(tasks, script.text())?;
+    source.keep(&mut context.commands)?;
+    let now = begun(alloc, &mut context.commands, source, room)?;
+    Ok(now)
+}
+
+/// Moves on without a step, and reads what is to be read, up to where a step is needed, a task is to be resumed, or all has ended.
+fn read_on<T: Tasks>(
+    alloc: Global,
+    tasks: &mut T,
+    scopes: &mut Scopes,
+    context: &mut Context,
+    frames: &mut Vec<Frame<T::Task>>,
+    now: Now<T::Task>,
+) -> Result<Now<T::Task>, AllocError>
+    ensures leads { IfOk result (λ due. Leads (standing_of now frames.old.items scopes.old context.old) (standing_of due frames.new.items scopes.new context.new)) }
+    ensures due { IfOk result (λ due. IsDue (moved_of due frames.new.items)) }
+    ensures shows { T.shows tasks.new ≡ T.shows tasks.old }
+    ensures left { T.left_alone tasks.new ≡ T.left_alone tasks.old }
+{
+    let mut doing = now;
+    loop {
+        match quiet(alloc, scopes, context, frames, doing)? {
+            Now::Begins { room, script } => {
+                doing = begin_unread(alloc, tasks, context, script, room)?;
+            }
+            due => return Ok(due),
+        }
+    }
+}
 
 /// Moves on without a step, through tasks too, up to where a step is needed or all has ended.
 #[inline]
@@ -29,7 +90,7 @@ fn settle<T: Tasks>(
 {
     let mut doing = now;
     'moves: loop {
-        match quiet(alloc, scopes, context, frames, doing)? {
+        match read_on(alloc, tasks, scopes, context, frames, doing)? {
             Now::Resumes {
                 room,
                 task,

@@ -1,9 +1,11 @@
-ghost use Rattle.std.specs.Prelude.{◌≡◌, IfOk};
+ghost use Rattle.std.specs.Prelude.{◌≡◌, ◌⊎◌, Err, IfErr, IfOk, IsOk};
+ghost use Rattle.tcl_control.specs.Source.{script_of};
 
 use std::alloc::AllocError;
 use tcl_control::Code;
 use tcl_text::Text;
 use tcl_vars::Scopes;
+use tcl_words::{ParseFault, Script};
 
 /// What an outside command, or a task that it began, does next.
 #[derive(Drop)]
@@ -33,14 +35,23 @@ pub trait Tasks {
     /// What scripts can learn of it.
     ghost shows: { Self → Shows };
 
-    /// What the two calls answer, show and leave, and the size of each task.
+    /// What `call` and `resume` answer, show and leave, and the size of each task.
     ghost outside: { Outside Shows Self.Task };
 
-    /// The type of what both calls leave alone.
+    /// The type of what all calls leave alone.
     ghost Left: { Type 0 };
 
-    /// What both calls leave alone, whatever they answer.
+    /// What all calls leave alone, whatever they answer.
     ghost left_alone: { Self → Left };
+
+    /// The commands of a script's text (Tcl(n)), or its fault (4 to 10), as `parse` answers: who serves several interpreters can keep what it
+    /// read for all of them. What scripts can learn stays.
+    fn parsed(&mut self, text: &Text) -> Result<Script, ParseFault>
+        ensures text { IfOk result (λ script. script ≡ text.now) }
+        ensures ok { IfOk result (λ _. IsOk (script_of text.now)) }
+        ensures fault { IfErr result (λ fault. (script_of text.now ≡ Err fault) ⊎ (fault ≡ ParseFault.NoMemory)) }
+        ensures shows { shows self.new ≡ shows self.old }
+        ensures left { left_alone self.new ≡ left_alone self.old };
 
     /// Calls a command, whose step is taken. The words begin with its first name, before any `rename` (rename(n)), without a leading `::`: one of the
     /// names that the interpreter was given, or what begins with a dot, as a window's path. Where no window has the path, the answer is `Unknown`.

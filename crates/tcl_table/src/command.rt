@@ -117,7 +117,7 @@ impl CommandTable {
         }
         match parse(self.alloc, text.as_str().as_bytes()) {
             Ok(script) => {
-                self.keep_script(place, &script)?;
+                self.keep_at(place, &script)?;
                 Ok(Ok(script))
             }
             Err(ParseFault::NoMemory) => Err(AllocError),
@@ -125,8 +125,23 @@ impl CommandTable {
         }
     }
 
+    /// The commands of a text as a script (Tcl(n)), if they are kept. Nothing is read.
+    pub fn kept_script(&self, text: &Text) -> Result<Option<Script>, AllocError>
+        ensures { IfOk result (λ kept. IfSome kept (λ script. (script ≡ text.now) × IsOk (script_of text.now))) }
+    {
+        let _ = &self.entries;
+        script_at(self.scripts.as_slice(), place_of(text), text)
+    }
+
+    /// Keeps a script that was read elsewhere by its text, at one of 256 places, in place of what is there.
+    pub fn keep_script(&mut self, script: &Script) -> Result<(), AllocError>
+        ensures { self.new ≡ self.old }
+    {
+        self.keep_at(place_of(script.text()), script)
+    }
+
     /// Keeps a script at a place, instead of what is there.
-    fn keep_script(&mut self, place: usize, script: &Script) -> Result<(), AllocError>
+    fn keep_at(&mut self, place: usize, script: &Script) -> Result<(), AllocError>
         ensures { self.new ≡ self.old }
     {
         if place < self.scripts.len() {

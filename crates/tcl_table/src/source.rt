@@ -54,6 +54,16 @@ impl Source {
         }
     }
 
+    /// A script with the fault (4 to 10) that its text has.
+    pub fn at_fault(fault: ParseFault, text: Text) -> Source
+        requires { script_of text ≡ Err fault }
+        ensures { result ≡ text }
+    {
+        Source {
+            form: SourceForm::Faulty(fault, text),
+        }
+    }
+
     /// A script by its text, read at once, so that its copies are. A fault (4 to 10) is kept, and told by `read`.
     #[tactic(auto, unfolding(crate::specs::Source::script_of))]
     pub fn read_of(alloc: Global, text: &Text) -> Result<Source, AllocError>
@@ -62,9 +72,7 @@ impl Source {
         match parse(alloc, text.as_str().as_bytes()) {
             Ok(script) => Ok(Source::of_script(script)),
             Err(ParseFault::NoMemory) => Err(AllocError),
-            Err(fault) => Ok(Source {
-                form: SourceForm::Faulty(fault, text.copy()?),
-            }),
+            Err(fault) => Ok(Source::at_fault(fault, text.copy()?)),
         }
     }
 
@@ -76,6 +84,47 @@ impl Source {
         match table.read(text)? {
             Ok(script) => Ok(Source::of_script(script)),
             Err(_) => Ok(Source::of_text(text.copy()?)),
+        }
+    }
+
+    /// The script's text.
+    pub fn text(&self) -> &Text
+        ensures { result.now ≡ self.now }
+    {
+        match &self.form {
+            SourceForm::Unread(text) => text,
+            SourceForm::Read(script) => script.text(),
+            SourceForm::Faulty(_, text) => text,
+        }
+    }
+
+    /// The same script, which has been read where a table keeps what was read of its text. It takes no memory.
+    pub fn known(self, table: &CommandTable) -> Result<Source, AllocError>
+        ensures { IfOk result (λ source. source ≡ self) }
+    {
+        let Source { form } = self;
+        match form {
+            SourceForm::Unread(text) => match table.kept_script(&text)? {
+                Some(script) => Ok(Source::of_script(script)),
+                None => Ok(Source::of_text(text)),
+            },
+            SourceForm::Read(script) => Ok(Source::of_script(script)),
+            SourceForm::Faulty(fault, text) => Ok(Source::at_fault(fault, text)),
+        }
+    }
+
+    /// Whether it has been read, up to a fault if it has one: `read` then reads nothing. It takes no memory.
+    pub fn is_read(&self) -> bool {
+        !matches!(self.form, SourceForm::Unread(_))
+    }
+
+    /// A table keeps what was read of it, if anything, for other scripts of the same text.
+    pub fn keep(&self, table: &mut CommandTable) -> Result<(), AllocError>
+        ensures { table.new ≡ table.old }
+    {
+        match &self.form {
+            SourceForm::Read(script) => table.keep_script(script),
+            SourceForm::Unread(_) | SourceForm::Faulty(..) => Ok(()),
         }
     }
 

@@ -10,6 +10,7 @@ use tcl_interp::{Act, Code, Tasks};
 use tcl_jobs::{Jobs, Looked, Started, Task};
 use tcl_text::Text;
 use tcl_vars::Scopes;
+use tcl_words::{ParseFault, Script};
 use tk_alias::{AliasMeaning, Aliases};
 use tk_panel::{Job, Tables};
 
@@ -112,6 +113,11 @@ impl<M: AliasMeaning> Tasks for AppTables<'_, M> {
     ghost Left = { LeftAlone × List (List ℕ × M) };
 
     ghost left_alone = { λ v. (left_of v.slot v.tables.ghost_name v.tables.now, v.aliases.now) };
+
+    fn parsed(&mut self, text: &Text) -> Result<Script, ParseFault> {
+        let script = tk_panel_jobs::parsed(self.tables, text)?;
+        Ok(script)
+    }
 
     fn call(&mut self, scopes: &mut Scopes, words: &[Text]) -> Result<Act<Task<Job>>, AllocError> {
         let act = call(self.tables, self.slot, self.aliases, scopes, words)?;

@@ -5,6 +5,7 @@ ghost use Rattle.tk_panel.specs.Panel.{panel_of};
 use crate::clock::Clock;
 use crate::transcript::Transcripts;
 use std::alloc::{AllocError, Global};
+use tcl_cache::ScriptCache;
 use tk_after::Timers;
 use tk_dispatch::Histories;
 use tk_inputs::Inputs;
@@ -12,6 +13,9 @@ use tk_patterns::BindTable;
 use tk_queue::EventQueue;
 use tk_screen::Screen;
 use tk_virtual::VirtualTable;
+
+/// How many scripts that were read are kept for all applications.
+const KEPT_SCRIPTS: usize = 256;
 
 /// The tables of all applications. What one application has in each is told apart by its slot.
 #[derive(Drop)]
@@ -26,6 +30,8 @@ pub struct Tables {
     pub inputs: Inputs,
     pub timers: Timers,
     pub transcripts: Transcripts,
+    /// What was read of scripts, which no application can tell.
+    pub scripts: ScriptCache,
 }
 
 impl Tables {
@@ -45,6 +51,7 @@ impl Tables {
             inputs: Inputs::new(alloc),
             timers: Timers::new(alloc),
             transcripts: Transcripts::new(alloc),
+            scripts: ScriptCache::new(alloc, KEPT_SCRIPTS)?,
         })
     }
 }

@@ -1,5 +1,6 @@
 //! The commands of an application, as its interpreter calls them.
-ghost use Rattle.std.specs.Prelude.{◌≡◌, IfOk};
+ghost use Rattle.std.specs.Prelude.{◌≡◌, ◌⊎◌, ℕ, Err, IfErr, IfOk, IsOk};
+ghost use Rattle.tcl_table.specs.Source.{script_of};
 ghost use Rattle.tk_panel.specs.Panel.{LeavesOthers, panel_of};
 ghost use Rattle.tk_panel_jobs.specs.Calls.{answer_act, calls, outcome_told};
 
@@ -9,6 +10,7 @@ use tcl_interp::{Act, Code};
 use tcl_jobs::Task;
 use tcl_text::Text;
 use tcl_vars::Scopes;
+use tcl_words::{ParseFault, Script};
 use tk_panel::{Answer, Job, Tables};
 use tk_panel_commands::{Outcome, panel_command};
 
@@ -63,4 +65,16 @@ pub fn call(
 {
     let outcome = panel_command(tables, slot, scopes, words)?;
     act_for(tables, slot, scopes, outcome)
+}
+
+/// The commands of a script's text (Tcl(n)), or its fault (4 to 10): what was read last for any application isn't read again.
+#[tactic(auto, unfolding(tcl_table::specs::Source::script_of))]
+pub fn parsed(tables: &mut Tables, text: &Text) -> Result<Script, ParseFault>
+    ensures text { IfOk result (λ script. script ≡ text.now) }
+    ensures ok { IfOk result (λ _. IsOk (script_of text.now)) }
+    ensures fault { IfErr result (λ fault. (script_of text.now ≡ Err fault) ⊎ (fault ≡ ParseFault.NoMemory)) }
+    ensures panels { (slot : ℕ) → panel_of slot tables.new ≡ panel_of slot tables.old }
+    ensures others { (slot : ℕ) → LeavesOthers slot tables.old tables.new }
+{
+    tables.scripts.parsed(text)
 }

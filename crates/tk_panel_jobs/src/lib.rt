@@ -6,6 +6,6 @@ mod jobs;
 pub mod laws;
 mod view;
 
-pub use calls::call;
+pub use calls::{call, parsed};
 pub use jobs::{begin, ended, look, settling, start};
 pub use view::{TablesView, view_of};

@@ -1,13 +1,14 @@
 //! The tables as the interpreter of one application sees them.
 ghost use Rattle.std.specs.Prelude.{◌≡◌};
 
-use crate::calls::call;
+use crate::calls::{call, parsed};
 use crate::jobs::{ended, look, start};
 use std::alloc::AllocError;
 use tcl_interp::{Act, Code, Tasks};
 use tcl_jobs::{Jobs, Looked, Started, Task};
 use tcl_text::Text;
 use tcl_vars::Scopes;
+use tcl_words::{ParseFault, Script};
 use tk_panel::{Job, Tables};
 
 /// The tables, as one application sees them.
@@ -76,6 +77,11 @@ impl Tasks for TablesView<'_> {
     ghost Left = { LeftAlone };
 
     ghost left_alone = { λ v. left_of v.slot v.tables.ghost_name v.tables.now };
+
+    fn parsed(&mut self, text: &Text) -> Result<Script, ParseFault> {
+        let script = parsed(self.tables, text)?;
+        Ok(script)
+    }
 
     fn call(&mut self, scopes: &mut Scopes, words: &[Text]) -> Result<Act<Task<Job>>, AllocError> {
         let act = call(self.tables, self.slot, scopes, words)?;

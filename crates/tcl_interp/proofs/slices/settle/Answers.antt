@@ -22,27 +22,27 @@ pub moves-smaller : goal.moves-smaller
 moves-smaller g c =
     let outside = g.T.Tasks.outside in
     let m = standing_of c.moves.doing c.moves.frames.items c.moves.scopes c.moves.context in
-    let waits = waits_of c.quiet.new.frames.items in
+    let waits = waits_of c.read_on.new.frames.items in
     let r = c.in-Resumes in
-    let due = standing (moved (Resumes r.room r.task.value r.code r.text) waits) c.quiet.new.scopes c.quiet.new.context in
+    let due = standing (moved (Resumes r.room r.task.value r.code r.text) waits) c.read_on.new.scopes c.read_on.new.context in
     let leads : Leads m due = rw r.is at c.in_ok-settled.ensures.leads in
     let after = standing_of c.in_ok-doing-in-Resumes.doing c.resume.new.frames.items c.resume.new.scopes c.resume.new.context in
-    let ok = in_box outside r.room c.into_inner-task.result r.task.value r.code r.text waits (g.T.Tasks.shows c.moves.tasks) c.quiet.new.scopes c.quiet.new.context after (g.T.Tasks.shows c.resume.new.tasks) c.into_inner-task.ensures c.in_ok-doing-in-Resumes.ensures.ok in
-    let less : tasks outside.size after.moved < suc (outside.size r.task.value) + waits_tasks outside.size waits = resumed_falls outside g.met.T.Tasks.falls r.room r.task.value r.code r.text waits (g.T.Tasks.shows c.moves.tasks) c.quiet.new.scopes c.quiet.new.context after (g.T.Tasks.shows c.resume.new.tasks) ok in
+    let ok = in_box outside r.room c.into_inner-task.result r.task.value r.code r.text waits (g.T.Tasks.shows c.moves.tasks) c.read_on.new.scopes c.read_on.new.context after (g.T.Tasks.shows c.resume.new.tasks) c.into_inner-task.ensures c.in_ok-doing-in-Resumes.ensures.ok in
+    let less : tasks outside.size after.moved < suc (outside.size r.task.value) + waits_tasks outside.size waits = resumed_falls outside g.met.T.Tasks.falls r.room r.task.value r.code r.text waits (g.T.Tasks.shows c.moves.tasks) c.read_on.new.scopes c.read_on.new.context after (g.T.Tasks.shows c.resume.new.tasks) ok in
     omega (arith, less, leads_tasks outside.size m due leads)
 
 pub moves-preserved : goal.moves-preserved
 moves-preserved g c =
     let outside = g.T.Tasks.outside in
     let m = standing_of c.moves.doing c.moves.frames.items c.moves.scopes c.moves.context in
-    let waits = waits_of c.quiet.new.frames.items in
+    let waits = waits_of c.read_on.new.frames.items in
     let r = c.in-Resumes in
-    let due = standing (moved (Resumes r.room r.task.value r.code r.text) waits) c.quiet.new.scopes c.quiet.new.context in
+    let due = standing (moved (Resumes r.room r.task.value r.code r.text) waits) c.read_on.new.scopes c.read_on.new.context in
     let leads : Leads m due = rw r.is at c.in_ok-settled.ensures.leads in
     let after = standing_of c.in_ok-doing-in-Resumes.doing c.resume.new.frames.items c.resume.new.scopes c.resume.new.context in
-    let ok = in_box outside r.room c.into_inner-task.result r.task.value r.code r.text waits (g.T.Tasks.shows c.moves.tasks) c.quiet.new.scopes c.quiet.new.context after (g.T.Tasks.shows c.resume.new.tasks) c.into_inner-task.ensures c.in_ok-doing-in-Resumes.ensures.ok in
+    let ok = in_box outside r.room c.into_inner-task.result r.task.value r.code r.text waits (g.T.Tasks.shows c.moves.tasks) c.read_on.new.scopes c.read_on.new.context after (g.T.Tasks.shows c.resume.new.tasks) c.into_inner-task.ensures c.in_ok-doing-in-Resumes.ensures.ok in
     record {
-      same = λ left. c.moves.invariant.same left ∙ settle_on outside g.met.T.Tasks.falls m (g.T.Tasks.shows c.moves.tasks) r.room r.task.value r.code r.text waits c.quiet.new.scopes c.quiet.new.context after (g.T.Tasks.shows c.resume.new.tasks) leads ok left;
+      same = λ left. c.moves.invariant.same left ∙ settle_on outside g.met.T.Tasks.falls m (g.T.Tasks.shows c.moves.tasks) r.room r.task.value r.code r.text waits c.read_on.new.scopes c.read_on.new.context after (g.T.Tasks.shows c.resume.new.tasks) leads ok left;
       left = c.in_ok-doing-in-Resumes.ensures.left ∙ c.moves.invariant.left;
     }
 
@@ -50,9 +50,9 @@ pub returns-in_default : goal.returns-in_default
 returns-in_default g c =
     let outside = g.T.Tasks.outside in
     let m = standing_of c.moves.doing c.moves.frames.items c.moves.scopes c.moves.context in
-    let n = standing_of c.in_ok-settled.settled c.quiet.new.frames.items c.quiet.new.scopes c.quiet.new.context in
+    let n = standing_of c.in_ok-settled.settled c.read_on.new.frames.items c.read_on.new.scopes c.read_on.new.context in
     record {
       ok = λ left. c.moves.invariant.same left ∙ leads_none outside m n (g.T.Tasks.shows c.moves.tasks) c.in_ok-settled.ensures.leads left;
-      settled = due_settled c.in_ok-settled.settled (waits_of c.quiet.new.frames.items) c.in_ok-settled.ensures.due c.in_default.not-Resumes;
+      settled = due_settled c.in_ok-settled.settled (waits_of c.read_on.new.frames.items) c.in_ok-settled.ensures.due c.in_default.not-Resumes;
       left = c.moves.invariant.left;
     }

@@ -1,12 +1,23 @@
--- What is due, other than a task, is a step or the end.
+-- What is due, other than a task, is a step or the end; where the moves stop otherwise, a script is to be read.
 use Rattle.std.proofs.Common.{◌≡◌, ℕ, List, Box, Global, refl}
 use Rattle.tcl_control.specs.declared.code.Code.{Code}
 use Rattle.tcl_interp.specs.declared.machine.Now.{Now}
 use Rattle.tcl_interp.specs.declared.machine.Now.TheVariants.{Begins, GoesOn, Indexes, Evaluates, Calls, Tests, Steps, Resumes, Ends}
 use Rattle.tcl_interp.specs.Finish.{Waiting}
-use Rattle.tcl_interp.specs.Quiet.{IsDueBy}
+use Rattle.tcl_interp.specs.Quiet.{IsDueBy, StopsBy}
 use Rattle.tcl_interp.specs.Rests.{doing_of}
 use Rattle.tcl_interp.specs.Steps.{IsSettledBy, NeedsStep}
+
+pub stops_due : {K : Type 0} (now : Now K) (waits : List (Waiting K)) → StopsBy (doing_of now) waits → ((room : ℕ) (script : List ℕ) → now ≡ Begins room script → ⊥) → IsDueBy (doing_of now) waits
+stops_due (Begins room script) waits stops none = absurd (none room script refl)
+stops_due (GoesOn place result) waits stops none = stops
+stops_due (Indexes part) waits stops none = stops
+stops_due (Evaluates room answered) waits stops none = stops
+stops_due (Calls room words) waits stops none = tt
+stops_due (Tests room turning) waits stops none = tt
+stops_due (Steps room task) waits stops none = tt
+stops_due (Resumes room task code text) waits stops none = tt
+stops_due (Ends code text) waits stops none = stops
 
 pub due_settled : {K : Type 0} (now : Now K) (waits : List (Waiting K)) → IsDueBy (doing_of now) waits → ((room : ℕ) (task : Box K Global) (code : Code) (text : List ℕ) → now ≡ Resumes room task code text → ⊥) → IsSettledBy (doing_of now) waits
 due_settled (Begins room script) waits due none = due

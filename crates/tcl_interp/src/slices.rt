@@ -64,7 +64,7 @@ fn read_on<T: Tasks>(
     ensures left { T.left_alone tasks.new ≡ T.left_alone tasks.old }
 {
     let mut doing = now;
-    loop {
+    'scripts: loop {
         match quiet(alloc, scopes, context, frames, doing)? {
             Now::Begins { room, script } => {
                 doing = begin_unread(alloc, tasks, context, script, room)?;

@@ -3,7 +3,7 @@ use Rattle.std.proofs.Common.{◌≡◌, ◌≢◌, ℕ, Bool, true, false, cond
 use Rattle.std.specs.Prelude.{◌==◌, nat_eq, insert, OnErr}
 use Rattle.std.proofs.lemmas.Bool.{eqb-false}
 use Rattle.tk_packer.specs.declared.packed.Packed.{Packed}
-use Rattle.tk_packer.specs.Packs.{slaves_of, without, packed_at, master_of, replaced}
+use Rattle.tk_packer.specs.Packs.{slaves_of, without, packed_at, master_of}
 use Rattle.tk_packer.specs.Tables.{Lists, slaves_at, gathered, taken_out, put_in, AreTied}
 use Rattle.tk_packer.proofs.Orders.{filter_swap, insert_kept, IsOrdered, same_from_having, ordered_filter, ordered_replaced, having_replaced, having_replaced_other}
 use Rattle.tk_packer.proofs.Ties.{slaves_twice, slaves_apart, slaves_of_gathered, ordered_gathered, slaves_are, taken_is, tied_without, tied_put}
@@ -89,7 +89,7 @@ module _ {Z : Type 0} where
       ((master : ℕ) → slaves_at master new ≡ taken_out (windows number) number master (slaves_at master old)) → Steps after new (without number (gathered old))
   forget_steps number windows after old new tied known lists =
       let rest : (master : ℕ) → slaves_at master new ≡ without number (slaves_at master old) =
-          λ master. lists master ∙ taken_is windows (λ m. slaves_at m old) tied number master in
+      λ master. lists master ∙ taken_is windows (λ m. slaves_at m old) tied number master in
       record {
         tied = tied_without windows after (λ master. slaves_at master old) (λ master. slaves_at master new) number tied known rest;
         packs_are = gathered_without number old new rest;
@@ -106,10 +106,10 @@ module _ {Z : Type 0} where
       let without_it : AreTied gone rest = tied_without windows gone (λ master. slaves_at master old) rest n before (λ other. refl) (λ master. refl) in
       let absent : gone n ≡ None = rw (eq-eqb n n refl) refl in
       let more : (master : ℕ) → slaves_at master new ≡ put_in place packed master (rest master) =
-          λ master. lists master ∙ ap (put_in place packed master) (taken_is windows (λ m. slaves_at m old) before n master) in
+      λ master. lists master ∙ ap (put_in place packed master) (taken_is windows (λ m. slaves_at m old) before n master) in
       let tied : AreTied after (λ master. slaves_at master new) =
-          tied_put gone after rest (λ master. slaves_at master new) place packed without_it absent
-          (λ other. known other ∙ split (nat_eq n other) (windows other)) more in
+      tied_put gone after rest (λ master. slaves_at master new) place packed without_it absent
+      (λ other. known other ∙ split (nat_eq n other) (windows other)) more in
       record { tied = tied; packs_are = gathered_put place packed windows after old new before tied more }
     where
       split : (b : Bool) (window : Option Packed) → cond b (Some packed) window ≡ cond b (Some packed) (cond b None window)

@@ -1,8 +1,8 @@
 -- Lists in the rising order of numbers that their elements have, which those that have each number decide.
-use Rattle.std.proofs.Common.{◌≡◌, ◌≢◌, ℕ, ◌<◌, ◌≤◌, zero, suc, Bool, true, false, cond, List, [], ◌∷◌, ◌++◌, not, ◌||◌, take, drop, refl, sym, ap, subst, ◌∙◌, ⊎_elim, true≢false, arith}
+use Rattle.std.proofs.Common.{◌≡◌, ◌≢◌, ℕ, ◌<◌, ◌≤◌, zero, suc, Bool, true, false, cond, List, [], ◌∷◌, ◌++◌, not, ◌||◌, refl, sym, ap, subst, ◌∙◌, ⊎_elim, true≢false, arith}
 use Rattle.std.specs.Prelude.{◌==◌, nat_lt, filter, insert}
 use Rattle.std.specs.List.{list_any}
-use Rattle.std.proofs.lemmas.Bool.{eq-eqb, ne_eqb, eqb-true, eqb-false, lt-ltb, le-ltb, ltb-true, cases_order}
+use Rattle.std.proofs.lemmas.Bool.{eq-eqb, ne_eqb, eqb-true, eqb-false, lt-ltb, ltb-true, cases_order}
 use Rattle.std.proofs.lemmas.List.{append-nil}
 use Rattle.std.proofs.lemmas.List.Elements.{filter-append}
 use Rattle.tk_packer.specs.Packs.{lesser, greater, replaced, without_number}
@@ -175,9 +175,9 @@ module _ {X : Type 0} (number : X → ℕ) where
   pub having_replaced : (n : ℕ) (new xs : List X) → having n (replaced number n new xs) ≡ having n new
   having_replaced n new xs =
       let front : having n (lesser number n xs) ≡ [] = none_kept (λ x. number x == n) (λ x. nat_lt (number x) n) xs
-          (λ x is. let lt = ltb-true (number x) n is in ne_eqb (number x) n (λ same. omega (arith, lt, same))) in
+      (λ x is. let lt = ltb-true (number x) n is in ne_eqb (number x) n (λ same. omega (arith, lt, same))) in
       let back : having n (greater number n xs) ≡ [] = none_kept (λ x. number x == n) (λ x. nat_lt n (number x)) xs
-          (λ x is. let lt = ltb-true n (number x) is in ne_eqb (number x) n (λ same. omega (arith, lt, same))) in
+      (λ x is. let lt = ltb-true n (number x) is in ne_eqb (number x) n (λ same. omega (arith, lt, same))) in
       parts_having n n new xs
       ∙ ap (λ ys. ys ++ (having n new ++ having n (greater number n xs))) front
       ∙ ap (λ ys. having n new ++ ys) back
@@ -193,14 +193,15 @@ module _ {X : Type 0} (number : X → ℕ) where
       below : m < n → having m (lesser number n xs) ++ having m (greater number n xs) ≡ having m xs
       below lt =
           let back : having m (greater number n xs) ≡ [] = none_kept (λ x. number x == m) (λ x. nat_lt n (number x)) xs
-              (λ x is. let more = ltb-true n (number x) is in ne_eqb (number x) m (λ same. omega (arith, lt, more, same))) in
+          (λ x is. let more = ltb-true n (number x) is in ne_eqb (number x) m (λ same. omega (arith, lt, more, same))) in
           ap (λ ys. having m (lesser number n xs) ++ ys) back ∙ append-nil (having m (lesser number n xs))
           ∙ all_kept (λ x. number x == m) (λ x. nat_lt (number x) n) xs
           (λ x is. let same = eqb-true (number x) m is in lt-ltb (number x) n (omega (arith, lt, same)))
+
       above : n < m → having m (lesser number n xs) ++ having m (greater number n xs) ≡ having m xs
       above lt =
           let front : having m (lesser number n xs) ≡ [] = none_kept (λ x. number x == m) (λ x. nat_lt (number x) n) xs
-              (λ x is. let less = ltb-true (number x) n is in ne_eqb (number x) m (λ same. omega (arith, lt, less, same))) in
+          (λ x is. let less = ltb-true (number x) n is in ne_eqb (number x) m (λ same. omega (arith, lt, less, same))) in
           ap (λ ys. ys ++ having m (greater number n xs)) front
           ∙ all_kept (λ x. number x == m) (λ x. nat_lt n (number x)) xs
           (λ x is. let same = eqb-true (number x) m is in lt-ltb n (number x) (omega (arith, lt, same)))
@@ -245,15 +246,17 @@ module _ {X : Type 0} (number : X → ℕ) where
       equal : (((n : ℕ) → having n xs ≡ having n ys) → xs ≡ ys) → number x ≡ number y → x ∷ xs ≡ y ∷ ys
       equal tails same =
           let first : x ∷ having (number x) xs ≡ y ∷ having (number y) ys =
-              sym (having_first x xs) ∙ alike (number x) ∙ ap (λ n. having n (y ∷ ys)) same ∙ having_first y ys in
+          sym (having_first x xs) ∙ alike (number x) ∙ ap (λ n. having n (y ∷ ys)) same ∙ having_first y ys in
           let head : x ≡ y = ap (first_or x) first in
           let rest : (n : ℕ) → having n xs ≡ having n ys =
-              λ n. same_rest (number x == n) x (having n xs) (having n ys) (subst (λ z. having n (x ∷ xs) ≡ having n (z ∷ ys)) (sym head) (alike n)) in
+          λ n. same_rest (number x == n) x (having n xs) (having n ys) (subst (λ z. having n (x ∷ xs) ≡ having n (z ∷ ys)) (sym head) (alike n)) in
           ap (λ z. z ∷ xs) head ∙ ap (λ zs. y ∷ zs) (tails rest)
+
       less : number x < number y → x ∷ xs ≡ y ∷ ys
       less lt =
           let from : AllFrom (number y) (y ∷ ys) = (omega arith, other.0) in
           absurd (nil_or_more x (having (number x) xs) (sym (none_below (number x) (number y) (y ∷ ys) lt from) ∙ sym (alike (number x)) ∙ having_first x xs))
+
       more : number y < number x → x ∷ xs ≡ y ∷ ys
       more lt =
           let from : AllFrom (number x) (x ∷ xs) = (omega arith, one.0) in

@@ -1,7 +1,6 @@
 -- What the tables of packed windows tell of their value, and what keeps them tied.
-use Rattle.std.proofs.Common.{◌≡◌, ◌≢◌, ℕ, zero, suc, Bool, true, false, cond, List, [], ◌∷◌, take, drop, Option, Some, None, not, refl, sym, ap, subst, ◌∙◌, arith}
+use Rattle.std.proofs.Common.{◌≡◌, ◌≢◌, ℕ, zero, suc, Bool, true, false, cond, List, [], ◌∷◌, Option, Some, None, not, refl, sym, ap, subst, ◌∙◌}
 use Rattle.std.specs.Prelude.{◌==◌, nat_eq, filter, find, insert}
-use Rattle.std.specs.Map.{lookup}
 use Rattle.std.proofs.lemmas.Bool.{eq-eqb, ne_eqb, eqb-true, eqb-false}
 use Rattle.std.proofs.lemmas.Option.{none-some, cond_some}
 use Rattle.tk_packer.specs.declared.packed.Packed.{Packed}
@@ -54,6 +53,7 @@ find_within test (packed ∷ packs) found is = at (test packed) refl is (find_wi
     past : (b : Bool) → test packed ≡ false → find test (slaves_of found.master packs) ≡ Some found → find test (cond b (packed ∷ slaves_of found.master packs) (slaves_of found.master packs)) ≡ Some found
     past true fails rest = rw fails rest
     past false fails rest = rest
+
     at : (b : Bool) → test packed ≡ b → cond (test packed) (Some packed) (find test packs) ≡ Some found → (find test packs ≡ Some found → find test (slaves_of found.master packs) ≡ Some found) →
         find test (cond (packed.master == found.master) (packed ∷ slaves_of found.master packs) (slaves_of found.master packs)) ≡ Some found
     at true passes is rest =
@@ -87,13 +87,14 @@ found_is windows slaves packs tied are number = by (find (is_number number) pack
     none nowhere None is = sym is
     none nowhere (Some packed) is =
         let here : find (is_number number) (slaves_of packed.master packs) ≡ Some packed =
-            ap (find (is_number number)) (are packed.master) ∙ tied.known number packed.master ∙ ap (if_in packed.master) is ∙ if_in_own packed in
+        ap (find (is_number number)) (are packed.master) ∙ tied.known number packed.master ∙ ap (if_in packed.master) is ∙ if_in_own packed in
         absurd (none-some packed (sym (find_nowhere (is_number number) (λ p. p.master == packed.master) packs nowhere) ∙ here))
+
     by : (found : Option Packed) → find (is_number number) packs ≡ found → find (is_number number) packs ≡ windows number
     by None is = is ∙ none is (windows number) refl
     by (Some packed) is =
         let here : if_in packed.master (windows number) ≡ Some packed =
-            sym (tied.known number packed.master) ∙ ap (find (is_number number)) (sym (are packed.master)) ∙ find_within (is_number number) packs packed is in
+        sym (tied.known number packed.master) ∙ ap (find (is_number number)) (sym (are packed.master)) ∙ find_within (is_number number) packs packed is in
         is ∙ sym (if_in_some packed.master (windows number) packed here)
 
 -- ---- a window taken out
@@ -144,15 +145,15 @@ taken_is windows slaves tied number master = by (windows number) refl
 pub tied_without : (windows after : ℕ → Option Packed) (slaves rest : ℕ → List Packed) (number : ℕ) → AreTied windows slaves →
     ((other : ℕ) → after other ≡ cond (nat_eq number other) None (windows other)) → ((master : ℕ) → rest master ≡ without number (slaves master)) → AreTied after rest
 tied_without windows after slaves rest number tied known lists = record {
-    own = λ master.
-        ap (slaves_of master) (lists master)
-        ∙ filter_swap (λ packed. packed.master == master) (λ packed. not (packed.number == number)) (slaves master)
-        ∙ ap (without number) (tied.own master) ∙ sym (lists master);
-    known = λ other master.
-        ap (find (is_number other)) (lists master) ∙ find_without number other (slaves master)
-        ∙ ap (cond (nat_eq number other) None) (tied.known other master)
-        ∙ split master (nat_eq number other) (windows other) ∙ ap (if_in master) (sym (known other));
-  }
+  own = λ master.
+      ap (slaves_of master) (lists master)
+      ∙ filter_swap (λ packed. packed.master == master) (λ packed. not (packed.number == number)) (slaves master)
+      ∙ ap (without number) (tied.own master) ∙ sym (lists master);
+  known = λ other master.
+      ap (find (is_number other)) (lists master) ∙ find_without number other (slaves master)
+      ∙ ap (cond (nat_eq number other) None) (tied.known other master)
+      ∙ split master (nat_eq number other) (windows other) ∙ ap (if_in master) (sym (known other));
+}
   where
     split : (master : ℕ) (b : Bool) (window : Option Packed) → cond b None (if_in master window) ≡ if_in master (cond b None window)
     split master true window = refl
@@ -178,19 +179,21 @@ find_past_inserted test (packed ∷ packs) (suc i) new fails = ap (cond (test pa
 pub tied_put : (windows after : ℕ → Option Packed) (slaves more : ℕ → List Packed) (place : ℕ) (new : Packed) → AreTied windows slaves → windows new.number ≡ None →
     ((other : ℕ) → after other ≡ cond (nat_eq new.number other) (Some new) (windows other)) → ((master : ℕ) → more master ≡ put_in place new master (slaves master)) → AreTied after more
 tied_put windows after slaves more place new tied absent known lists = record {
-    own = λ master. ap (slaves_of master) (lists master) ∙ own_by master (new.master == master) refl ∙ sym (lists master);
-    known = λ number master.
-        ap (find (is_number number)) (lists master)
-        ∙ known_by number master (new.master == master) (new.number == number) refl refl
-        ∙ ap (if_in master) (sym (known number));
-  }
+  own = λ master. ap (slaves_of master) (lists master) ∙ own_by master (new.master == master) refl ∙ sym (lists master);
+  known = λ number master.
+      ap (find (is_number number)) (lists master)
+      ∙ known_by number master (new.master == master) (new.number == number) refl refl
+      ∙ ap (if_in master) (sym (known number));
+}
   where
     own_by : (master : ℕ) (b : Bool) → (new.master == master) ≡ b → slaves_of master (put_in place new master (slaves master)) ≡ put_in place new master (slaves master)
     own_by master true is = rw is (insert_kept (λ packed. packed.master == master) (slaves master) place new is (tied.own master))
     own_by master false is = rw is (tied.own master)
+
     nowhere : (number master : ℕ) → (new.number == number) ≡ true → find (is_number number) (slaves master) ≡ None
     nowhere number master same =
         tied.known number master ∙ ap (λ n. if_in master (windows n)) (sym (eqb-true new.number number same)) ∙ ap (if_in master) absent
+
     known_by : (number master : ℕ) (b d : Bool) → (new.master == master) ≡ b → (new.number == number) ≡ d →
         find (is_number number) (put_in place new master (slaves master)) ≡ if_in master (cond (nat_eq new.number number) (Some new) (windows number))
     known_by number master true true is same = rw (is, same, is) (find_inserted (is_number number) (slaves master) place new same (nowhere number master same))

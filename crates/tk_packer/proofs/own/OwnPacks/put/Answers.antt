@@ -1,10 +1,10 @@
-use Rattle.std.proofs.Common.{◌≡◌, ℕ, List, sym, ap, ◌∙◌}
+use Rattle.std.proofs.Common.{List, ap, ◌∙◌}
 use Rattle.std.specs.Prelude.{nat_eq}
 use Rattle.std.specs.Map.{lookup}
 use Rattle.tk_packer.specs.declared.packed.Packed.{Packed}
-use Rattle.tk_packer.specs.Packs.{Own, packed_at, with_packed}
-use Rattle.tk_packer.specs.Tables.{slaves_at, taken_out, put_in, gathered, rising}
-use Rattle.tk_packer.proofs.Changes.{after_error, gathered_same, Steps, put_steps}
+use Rattle.tk_packer.specs.Packs.{Own, with_packed}
+use Rattle.tk_packer.specs.Tables.{slaves_at, taken_out, put_in, rising}
+use Rattle.tk_packer.proofs.Changes.{after_error, gathered_same, put_steps}
 use Rattle.tk_packer.proofs.own.OwnPacks.put.Goals as goal
 
 pub returns-in_err-open-clause-err : goal.returns-in_err-open-clause-err
@@ -30,9 +30,9 @@ pub returns-in-Ok-clause-ok : goal.returns-in-Ok-clause-ok
 returns-in-Ok-clause-ok c =
     let packed = c.args.packed in
     let steps = put_steps c.args.place packed (λ other. lookup (nat_eq other) c.self.inside.windows.entries) (λ other. lookup (nat_eq other) c.insert.new.self.entries)
-        c.self.inside.masters.entries c.move_slave.new.masters.entries c.self.invariant c.in-Ok.ensures.updates.0
-        (λ master. c.move_slave.ensures master
-        ∙ ap (λ slaves. put_in c.args.place packed master (taken_out c.in-Ok.before packed.number master slaves)) (c.open.ensures.same master)
-        ∙ ap (λ before. put_in c.args.place packed master (taken_out before packed.number master (slaves_at master c.self.inside.masters.entries))) c.in-Ok.ensures.old) in
+    c.self.inside.masters.entries c.move_slave.new.masters.entries c.self.invariant c.in-Ok.ensures.updates.0
+    (λ master. c.move_slave.ensures master
+    ∙ ap (λ slaves. put_in c.args.place packed master (taken_out c.in-Ok.before packed.number master slaves)) (c.open.ensures.same master)
+    ∙ ap (λ before. put_in c.args.place packed master (taken_out before packed.number master (slaves_at master c.self.inside.masters.entries))) c.in-Ok.ensures.old) in
     let own : List Packed → Own = λ packs. record { packs = packs; rigid = rising c.self.inside.rigid.keys } in
     ap own steps.packs_are ∙ ap (with_packed c.args.place packed) c.self.view_is

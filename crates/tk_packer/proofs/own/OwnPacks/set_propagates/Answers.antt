@@ -1,4 +1,4 @@
-use Rattle.std.proofs.Common.{List, ℕ, true, false, sym, ap, ◌∙◌}
+use Rattle.std.proofs.Common.{List, ℕ, true, false, ap, ◌∙◌}
 use Rattle.tk_packer.specs.Packs.{Own, with_propagation}
 use Rattle.tk_packer.specs.Tables.{gathered}
 use Rattle.tk_packer.proofs.Orders.{rising_less, rising_more}

@@ -186,7 +186,7 @@ impl Packing {
                 number: number + 1,
             });
         }
-        self.packs.packs(MASTER.owner).is_empty()
+        self.packs.packed_in(MASTER).is_empty()
     }
 }
 

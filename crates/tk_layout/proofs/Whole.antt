@@ -1,4 +1,4 @@
--- The layout by a map of slaves, and by what is packed.
+-- The layout by a function to the slaves of each master, and by what is packed.
 use Rattle.std.proofs.Common.{◌≡◌, ℕ, List, Option, ap, ◌∙◌}
 use Rattle.std.specs.Prelude.{nat_eq}
 use Rattle.std.specs.Map.{lookup}
@@ -10,7 +10,7 @@ use Rattle.tk_layout.proofs.Giving.{placed_sizes}
 use Rattle.tk_packer.specs.declared.packed.Packed.{Packed}
 use Rattle.tk_packer.specs.Packs.{slaves_of}
 
--- maps that give each master the same slaves are the same
+-- functions that give each master the same slaves are the same
 same_slaves : (one other : ℕ → List Packed) → ((master : ℕ) → one master ≡ other master) → one ≡ other
 same_slaves one other same = λ i master. same master i
 

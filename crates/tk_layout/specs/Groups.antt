@@ -1,15 +1,8 @@
 -- Packed windows by their masters.
-use Rattle.std.specs.Prelude.{ℕ, ◌==◌, nat_eq, if◌then◌else◌, List, [], ◌∷◌}
-use Rattle.std.specs.Option.{option_map_or}
-use Rattle.std.specs.HashMap.{get}
-use Rattle.std.specs.HashMap.{HashMap}
-use Rattle.std.specs.Prelude.{Vec}
+use Rattle.std.specs.Prelude.{ℕ, List}
 use Rattle.tk_packer.specs.declared.packed.Packed.{Packed}
+use Rattle.tk_packer.specs.Packs.{Held, own_of, slaves_of}
 
--- the slaves of a master in a map of them
-abbrev pub slaves_in : {Z S : Type 0} → HashMap ℕ (Vec Packed Z) S → ℕ → List Packed
-slaves_in groups master = option_map_or (λ slaves. slaves.items) (get nat_eq groups master) []
-
--- the window, if it is a slave of this master
-abbrev pub slave_of : ℕ → Packed → List Packed
-slave_of master packed = if packed.master == master then packed ∷ [] else []
+-- the slaves of a master among what an application has packed
+abbrev pub slaves_in : ℕ → Held → ℕ → List Packed
+slaves_in owner packs master = slaves_of master (own_of owner packs).packs

@@ -8,7 +8,7 @@ use crate::groups::slaves_in;
 use crate::shape::Shape;
 use std::alloc::{AllocError, Global};
 use std::collections::HashMap;
-use tk_packer::{Packed, Request, request_of};
+use tk_packer::{PackTable, Packed, Request, request_of};
 
 /// The greatest width or height that a window asks for, in pixels.
 const MOST_ASKED: u64 = 2_147_483_647;
@@ -16,16 +16,17 @@ const MOST_ASKED: u64 = 2_147_483_647;
 /// What each window asks for, by its number. Each window stands before its slaves, so that they are known when its turn comes.
 pub fn sizes_asked(
     alloc: Global,
-    groups: &HashMap<u64, Vec<Packed>>,
+    packs: &PackTable,
+    owner: usize,
     shapes: &[Shape],
 ) -> Result<HashMap<u64, (u32, u32)>, AllocError>
     ensures { IfOk result (λ sizes. (number : ℕ) → lookup (nat_eq number) sizes.entries
-        ≡ lookup (nat_eq number) (sizes_asked (slaves_in groups.now) shapes.now)) }
+        ≡ lookup (nat_eq number) (sizes_asked (slaves_in owner packs.now) shapes.now)) }
 {
     let mut sizes = HashMap::new(alloc);
     let mut rest = shapes;
     while let Some((shape, before)) = rest.split_last() {
-        let requests = requests_of(alloc, &sizes, slaves_in(groups, shape.number))?;
+        let requests = requests_of(alloc, &sizes, slaves_in(packs, owner, shape.number))?;
         sizes.insert(shape.number, size_asked(shape, requests.as_slice()))?;
         rest = before;
     }

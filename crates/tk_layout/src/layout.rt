@@ -8,7 +8,6 @@ ghost use Rattle.tk_packer.specs.Packs.{own_of, slaves_of};
 use crate::arrangements::Arrangements;
 use crate::asked::sizes_asked;
 use crate::changes::{Change, changes_of};
-use crate::groups::grouped;
 use crate::places::places_of;
 use crate::shape::Shape;
 use std::alloc::{AllocError, Global};
@@ -28,9 +27,8 @@ pub fn lay_out(
     ensures { IfOk result (λ changes. changes.items
         ≡ changes_of shapes.now (layout size (own_of owner packs.now).packs shapes.now)) }
 {
-    let groups = grouped(alloc, packs, owner)?;
-    let sizes = sizes_asked(alloc, &groups, shapes)?;
-    let places = places_of(alloc, size, &groups, &sizes, arrangements, shapes)?;
+    let sizes = sizes_asked(alloc, packs, owner, shapes)?;
+    let places = places_of(alloc, size, packs, owner, &sizes, arrangements, shapes)?;
     changes_of(alloc, shapes, places.as_slice())
 }
 
@@ -46,7 +44,6 @@ pub fn requested_size(
     ensures { IfOk result (λ size. size
         ≡ lookup (nat_eq number) (sizes_asked (λ master. slaves_of master (own_of owner packs.now).packs) shapes.now)) }
 {
-    let groups = grouped(alloc, packs, owner)?;
-    let sizes = sizes_asked(alloc, &groups, shapes)?;
+    let sizes = sizes_asked(alloc, packs, owner, shapes)?;
     Ok(sizes.get(&number).copied())
 }

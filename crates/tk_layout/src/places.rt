@@ -12,26 +12,36 @@ use crate::shape::Shape;
 use std::alloc::{AllocError, Global};
 use std::collections::HashMap;
 use tk_base::Rect;
-use tk_packer::Packed;
+use tk_packer::{PackTable, Packed};
 
 /// The rectangles of windows, each of which stands before its slaves; none for one that isn't mapped. The first fills the application's rectangle.
 pub fn places_of(
     alloc: Global,
     size: (u32, u32),
-    groups: &HashMap<u64, Vec<Packed>>,
+    packs: &PackTable,
+    owner: usize,
     sizes: &HashMap<u64, (u32, u32)>,
     arrangements: &mut Arrangements,
     shapes: &[Shape],
 ) -> Result<Vec<Option<Rect>>, AllocError>
     ensures { IfOk result (λ places. places.items
-        ≡ placed (slaves_in groups.now) sizes.now.entries (first_place size shapes.now) shapes.now) }
+        ≡ placed (slaves_in owner packs.now) sizes.now.entries (first_place size shapes.now) shapes.now) }
 {
     let mut given = first_place(alloc, size, shapes)?;
     let mut places = Vec::with_capacity(alloc, shapes.len())?;
     for shape in shapes {
         let place = given.get(&shape.number).copied();
         places.push(place)?;
-        give_slaves(alloc, groups, sizes, arrangements, shape, place, &mut given)?;
+        give_slaves(
+            alloc,
+            packs,
+            owner,
+            sizes,
+            arrangements,
+            shape,
+            place,
+            &mut given,
+        )?;
     }
     Ok(places)
 }
@@ -61,7 +71,8 @@ fn first_place(
 #[tactic(auto, unfolding(crate::specs::Layout::given_after))]
 fn give_slaves(
     alloc: Global,
-    groups: &HashMap<u64, Vec<Packed>>,
+    packs: &PackTable,
+    owner: usize,
     sizes: &HashMap<u64, (u32, u32)>,
     arrangements: &mut Arrangements,
     shape: &Shape,
@@ -69,18 +80,19 @@ fn give_slaves(
     given: &mut HashMap<u64, Rect>,
 ) -> Result<(), AllocError>
     ensures { OnOk result ((number : ℕ) → lookup (nat_eq number) given.new.entries
-        ≡ lookup (nat_eq number) (given_after (slaves_in groups.now) sizes.now.entries shape.now place given.old.entries)) }
+        ≡ lookup (nat_eq number) (given_after (slaves_in owner packs.now) sizes.now.entries shape.now place given.old.entries)) }
 {
     match place {
         None => Ok(()),
-        Some(rect) => arrange_slaves(alloc, groups, sizes, arrangements, shape, rect, given),
+        Some(rect) => arrange_slaves(alloc, packs, owner, sizes, arrangements, shape, rect, given),
     }
 }
 
 /// Gives the slaves of a window that is mapped their rectangles inside its border.
 fn arrange_slaves(
     alloc: Global,
-    groups: &HashMap<u64, Vec<Packed>>,
+    packs: &PackTable,
+    owner: usize,
     sizes: &HashMap<u64, (u32, u32)>,
     arrangements: &mut Arrangements,
     shape: &Shape,
@@ -88,9 +100,9 @@ fn arrange_slaves(
     given: &mut HashMap<u64, Rect>,
 ) -> Result<(), AllocError>
     ensures { OnOk result ((number : ℕ) → lookup (nat_eq number) given.new.entries
-        ≡ lookup (nat_eq number) (given_after (slaves_in groups.now) sizes.now.entries shape.now (Some rect) given.old.entries)) }
+        ≡ lookup (nat_eq number) (given_after (slaves_in owner packs.now) sizes.now.entries shape.now (Some rect) given.old.entries)) }
 {
-    let slaves = slaves_in(groups, shape.number);
+    let slaves = slaves_in(packs, owner, shape.number);
     if slaves.is_empty() {
         return Ok(());
     }

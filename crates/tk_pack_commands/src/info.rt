@@ -3,7 +3,6 @@ ghost use Rattle.std.specs.Prelude.{◌≡◌, ◌++◌, ◌∷◌, [], IfOk, On
 ghost use Rattle.std.specs.Fmt.{decimal};
 ghost use Rattle.tcl_text.specs.Answers.{Gives};
 ghost use Rattle.tk_pack_commands.specs.Info as spec;
-ghost use Rattle.tk_packer.specs.Packs.{slaves_of};
 ghost use Rattle.tk_tree.specs.Own.{own_of};
 
 use crate::errors::not_packed;
@@ -149,21 +148,18 @@ pub fn info_of(alloc: Global, path: &Text, request: Option<Request>) -> Result<T
     }
 }
 
-/// The paths of the slaves of a master, in order.
+/// The paths of slaves, in order.
 pub fn paths_of(
     alloc: Global,
     windows: &Windows,
     owner: usize,
-    master: u64,
-    packs: &[Packed],
+    slaves: &[Packed],
 ) -> Result<TextList, AllocError>
-    ensures { IfOk result (λ paths. paths ≡ spec.paths_of (own_of owner windows.now) (slaves_of master packs.now)) }
+    ensures { IfOk result (λ paths. paths ≡ spec.paths_of (own_of owner windows.now) slaves.now) }
 {
     let mut paths = TextList::new(alloc);
-    for packed in packs {
-        if packed.master == master {
-            push_path(&mut paths, windows, owner, packed.number)?;
-        }
+    for packed in slaves {
+        push_path(&mut paths, windows, owner, packed.number)?;
     }
     Ok(paths)
 }

@@ -145,7 +145,11 @@ fn slaves(
     match words {
         [path] => {
             let found = window_in(alloc, windows, owner, path)?;
-            let paths = paths_of(alloc, windows, owner, found.number, packs.packs(owner))?;
+            let master = Win {
+                owner,
+                number: found.number,
+            };
+            let paths = paths_of(alloc, windows, owner, packs.packed_in(master))?;
             list_answer(alloc, paths.as_slice())
         }
         _ => wrong_args(alloc, "pack slaves path"),

@@ -1,7 +1,7 @@
 //! Where windows come to stand among the slaves of their masters.
 ghost use Rattle.std.specs.Prelude.{◌≡◌, ◌≤◌, length, OnOk, IsOk};
 ghost use Rattle.tk_pack_commands.specs.Places as spec;
-ghost use Rattle.tk_packer.specs.Packs.{own_of, slaves_of, without, LeavesOthers};
+ghost use Rattle.tk_packer.specs.Packs.{own_of, without, LeavesOthers};
 
 use crate::asked::{Asked, Beside};
 use crate::targets::Target;
@@ -9,14 +9,29 @@ use std::alloc::AllocError;
 use tk_base::Win;
 use tk_packer::{PackTable, Packed, Request};
 
-/// The place of a window among the slaves of a master; the end where it is none of them.
-fn place_of(packs: &[Packed], master: u64, number: u64) -> usize
-    ensures place { result ≡ spec.place_of number (slaves_of master packs.now) }
-    ensures bound { result ≤ length packs.now }
+/// The place of a window among slaves; the end where it is none of them.
+fn place_of(slaves: &[Packed], number: u64) -> usize
+    ensures place { result ≡ spec.place_of number slaves.now }
+    ensures bound { result ≤ length slaves.now }
 {
     let mut place = 0;
-    for packed in packs {
-        if packed.master == master {
+    for packed in slaves {
+        if packed.number == number {
+            return place;
+        }
+        place += 1;
+    }
+    place
+}
+
+/// The place of another window among slaves once a window is taken out; the end where it is none of them.
+fn place_without(slaves: &[Packed], left_out: u64, number: u64) -> usize
+    ensures place { result ≡ spec.place_of number (without left_out slaves.now) }
+    ensures bound { result ≤ length slaves.now }
+{
+    let mut place = 0;
+    for packed in slaves {
+        if packed.number != left_out {
             if packed.number == number {
                 return place;
             }
@@ -26,36 +41,17 @@ fn place_of(packs: &[Packed], master: u64, number: u64) -> usize
     place
 }
 
-/// The place of another window among the slaves of a master once a window is taken out; the end where it is none of them.
-fn place_without(packs: &[Packed], master: u64, left_out: u64, number: u64) -> usize
-    ensures place { result ≡ spec.place_of number (without left_out (slaves_of master packs.now)) }
-    ensures bound { result ≤ length packs.now }
-{
-    let mut place = 0;
-    for packed in packs {
-        if packed.master == master {
-            if packed.number != left_out {
-                if packed.number == number {
-                    return place;
-                }
-                place += 1;
-            }
-        }
-    }
-    place
-}
-
-/// Where a window comes to stand.
-fn place_beside(packs: &[Packed], beside: Option<Beside>, target: Target) -> usize
-    ensures { result ≡ spec.place_beside beside target.number (slaves_of target.master packs.now) }
+/// Where a window comes to stand among the slaves of its master.
+fn place_beside(slaves: &[Packed], beside: Option<Beside>, number: u64) -> usize
+    ensures { result ≡ spec.place_beside beside number slaves.now }
 {
     let Some(beside) = beside else {
-        return place_of(packs, target.master, target.number);
+        return place_of(slaves, number);
     };
-    if beside.number == target.number {
-        return place_of(packs, target.master, target.number);
+    if beside.number == number {
+        return place_of(slaves, number);
     }
-    let place = place_without(packs, target.master, target.number, beside.number);
+    let place = place_without(slaves, number, beside.number);
     if beside.after { place + 1 } else { place }
 }
 
@@ -75,7 +71,11 @@ fn pack_one(
         owner,
         number: target.number,
     };
-    let place = place_beside(packs.packs(owner), beside, target);
+    let master = Win {
+        owner,
+        number: target.master,
+    };
+    let place = place_beside(packs.packed_in(master), beside, target.number);
     let request = packs.request(win).unwrap_or(Request::new(1, 1));
     packs.put(target.master, win, place, asked.request(request))
 }

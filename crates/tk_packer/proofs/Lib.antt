@@ -1,2 +1,3 @@
-pub mod Owners
-pub mod Slaves
+pub mod Orders
+pub mod Ties
+pub mod Changes

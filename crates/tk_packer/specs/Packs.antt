@@ -1,11 +1,30 @@
--- The packed windows: those of one application in one list, in which the slaves of each master stand in their order.
-use Rattle.std.specs.Prelude.{◌≡◌, ◌≢◌, ℕ, ◌+◌, ◌-◌, zero, suc, Bool, ◌==◌, not, if◌then◌else◌, List, [], ◌∷◌, ◌++◌, map, filter, find, insert, Option, option_map, AllPairs}
+-- The packed windows: those of one application in one list, master by master in the rising order of the masters' numbers, the slaves of each in
+-- their order.
+use Rattle.std.specs.Prelude.{◌≡◌, ◌≢◌, ℕ, Bool, ◌==◌, nat_eq, nat_lt, not, if◌then◌else◌, List, [], ◌∷◌, ◌++◌, map, filter, find, insert, Option, option_map}
 use Rattle.std.specs.List.{list_any}
+use Rattle.std.specs.Map.{lookup}
+use Rattle.std.specs.Option.{option_map_or}
 use Rattle.tk_base.specs.declared.win.Win.{Win}
 use Rattle.tk_packer.specs.declared.packed.Packed.{Packed}
 use Rattle.tk_parcels.specs.declared.request.Request.{Request}
 
+-- ---- lists in the rising order of numbers that their elements have
+
+-- what stands before, and what behind, all that has a number
+abbrev pub lesser : {X : Type 0} → (X → ℕ) → ℕ → List X → List X
+lesser number_of n xs = filter (λ x. nat_lt (number_of x) n) xs
+
+abbrev pub greater : {X : Type 0} → (X → ℕ) → ℕ → List X → List X
+greater number_of n xs = filter (λ x. nat_lt n (number_of x)) xs
+
+-- others in the place of those that have a number
+abbrev pub replaced : {X : Type 0} → (X → ℕ) → ℕ → List X → List X → List X
+replaced number_of n new xs = lesser number_of n xs ++ (new ++ greater number_of n xs)
+
 -- ---- one application
+
+abbrev pub master_of : Packed → ℕ
+master_of packed = packed.master
 
 -- those packed in a master, in order
 abbrev pub slaves_of : ℕ → List Packed → List Packed
@@ -23,20 +42,9 @@ without number packs = filter (λ packed. not (packed.number == number)) packs
 abbrev pub request_in : ℕ → List Packed → Option Request
 request_in number packs = option_map (λ packed. packed.request) (find (λ packed. packed.number == number) packs)
 
--- the index past a slave that has its master's place before it, or just there
-abbrev pub index_past : ℕ → ℕ → ℕ
-index_past zero later = 0
-index_past (suc place) later = later + 1
-
--- where the slave of a master stands that has so many of its slaves before it; the end where there is none
-abbrev pub index_of : ℕ → ℕ → List Packed → ℕ
-index_of master place [] = 0
-index_of master place (packed ∷ rest) =
-    if packed.master == master then index_past place (index_of master (place - 1) rest) else index_of master place rest + 1
-
 -- one more, at a place among the slaves of its master
 abbrev pub with_slave : ℕ → Packed → List Packed → List Packed
-with_slave place new packs = insert packs (index_of new.master place packs) new
+with_slave place new packs = replaced master_of new.master (insert (slaves_of new.master packs) place new) packs
 
 -- a window packed at a place, after it was taken out of where it was
 abbrev pub packed_at : ℕ → Packed → List Packed → List Packed
@@ -67,7 +75,7 @@ propagates_in number own = not (list_any (λ other. other == number) own.rigid)
 
 -- the windows that don't propagate, when one does or doesn't
 abbrev pub rigid_after : ℕ → Bool → List ℕ → List ℕ
-rigid_after number propagates numbers = if propagates then without_number number numbers else without_number number numbers ++ number ∷ []
+rigid_after number propagates numbers = if propagates then without_number number numbers else replaced (λ other. other) number (number ∷ []) numbers
 
 abbrev pub with_propagation : ℕ → Bool → Own → Own
 with_propagation number propagates own = record own { rigid = rigid_after number propagates own.rigid }
@@ -78,20 +86,14 @@ without_window number own = record { packs = without number own.packs; rigid = w
 
 -- ---- all applications
 
--- what one application has, beside the application's number
-pub record Row : Type 0 where
-  pub owner : ℕ
-  pub own : Own
+-- what each application has, by its number
+abbrev pub Held : Type 0
+Held = List (ℕ × Own)
 
 -- what one application has in a table
-abbrev pub own_of : ℕ → List Row → Own
-own_of owner [] = no_packs
-own_of owner (row ∷ rows) = if row.owner == owner then row.own else own_of owner rows
+abbrev pub own_of : ℕ → Held → Own
+own_of owner held = option_map_or (λ own. own) (lookup (nat_eq owner) held) no_packs
 
 -- every application but one has what it had
-abbrev pub LeavesOthers : ℕ → List Row → List Row → Type 0
+abbrev pub LeavesOthers : ℕ → Held → Held → Type 0
 LeavesOthers owner old new = (other : ℕ) → other ≢ owner → own_of other new ≡ own_of other old
-
--- each application stands once
-abbrev pub IsOncePerOwner : List Row → Type 0
-IsOncePerOwner rows = AllPairs (λ one other. one.owner ≢ other.owner) rows

@@ -2,6 +2,7 @@
 #![tactic(auto)]
 
 mod kept;
+mod lists;
 mod own;
 mod packed;
 mod same;

@@ -1,10 +1,10 @@
-ghost use Rattle.std.specs.Prelude.{◌≡◌, ◌≢◌, ℕ, ◌==◌, [], map, insert, min, length, IfOk, OnOk, OnErr, position};
-ghost use Rattle.std.specs.Option.{option_map_or};
-ghost use Rattle.tk_packer.specs.Packs.{own_of, no_packs, with_packed, without_packed, without_window, with_propagation, propagates_in, without, slaves_of, request_in, LeavesOthers, wins_of};
+ghost use Rattle.std.specs.Prelude.{◌≡◌, ◌≢◌, ℕ, [], insert, IfOk, OnOk, OnErr};
+ghost use Rattle.tk_packer.specs.Packs.{own_of, with_packed, without_packed, without_window, with_propagation, propagates_in, without, slaves_of, request_in, LeavesOthers, wins_of};
 
 use crate::own::OwnPacks;
 use crate::packed::Packed;
 use std::alloc::{AllocError, Global};
+use std::collections::HashMap;
 use std::marker::Model;
 use tk_base::Win;
 use tk_parcels::Request;
@@ -14,18 +14,16 @@ use tk_parcels::Request;
 /// A window is packed in one master at most, and masters and slaves are windows of one application.
 #[derive(Drop)]
 pub struct PackTable {
-    owners: Vec<OwnPacks>,
+    owners: HashMap<usize, OwnPacks>,
+    alloc: Global,
 }
 
 impl Model for PackTable {
-    ghost use Rattle.std.specs.Prelude.{List};
-    ghost use Rattle.tk_packer.specs.Packs.{Row, IsOncePerOwner};
+    ghost use Rattle.tk_packer.specs.Packs.{Held};
 
-    ghost Value = { List Row };
+    ghost Value = { Held };
 
-    ghost view = { λ t. t.owners.items };
-
-    ghost invariant = { λ t. IsOncePerOwner t.owners.items };
+    ghost view = { λ t. t.owners.entries };
 }
 
 impl PackTable {
@@ -34,7 +32,8 @@ impl PackTable {
         ensures { result ≡ [] }
     {
         PackTable {
-            owners: Vec::new(alloc),
+            owners: HashMap::new(alloc),
+            alloc,
         }
     }
 
@@ -82,8 +81,8 @@ impl PackTable {
         ensures own { own_of win.owner self.new ≡ without_window win.number (own_of win.owner self.old) }
         ensures others { LeavesOthers win.owner self.old self.new }
     {
-        if let Some(index) = place_of(&self.owners, win.owner) {
-            self.owners[index].remove(win.number);
+        if let Some(own) = self.owners.get_mut(&win.owner) {
+            own.remove(win.number);
         }
     }
 
@@ -91,7 +90,7 @@ impl PackTable {
     pub fn propagates(&self, win: Win) -> bool
         ensures { result ≡ propagates_in win.number (own_of win.owner self.now) }
     {
-        match self.own(win.owner) {
+        match self.owners.get(&win.owner) {
             Some(own) => own.propagates(win.number),
             None => true,
         }
@@ -104,23 +103,21 @@ impl PackTable {
         ensures others { LeavesOthers win.owner self.old self.new }
         ensures err { OnErr result (self.new ≡ self.old) }
     {
-        match place_of(&self.owners, win.owner) {
-            Some(index) => self.owners[index].set_propagates(win.number, propagates),
-            None => {
-                let mut own = OwnPacks::new(*self.owners.allocator(), win.owner);
-                own.set_propagates(win.number, propagates)?;
-                self.owners.push(own)?;
-                Ok(())
-            }
+        if let Some(own) = self.owners.get_mut(&win.owner) {
+            return own.set_propagates(win.number, propagates);
         }
+        let mut own = OwnPacks::new(self.alloc);
+        own.set_propagates(win.number, propagates)?;
+        self.owners.insert(win.owner, own)?;
+        Ok(())
     }
 
-    /// All that an application has packed: the slaves of each master in their order, not grouped by masters. It takes no memory.
-    pub fn packs(&self, owner: usize) -> &[Packed]
-        ensures { result.now ≡ (own_of owner self.now).packs }
+    /// The slaves of a master, in order, with what they are packed with. It takes no memory.
+    pub fn packed_in(&self, master: Win) -> &[Packed]
+        ensures { result.now ≡ slaves_of master.number (own_of master.owner self.now).packs }
     {
-        match self.own(owner) {
-            Some(own) => own.packs(),
+        match self.owners.get(&master.owner) {
+            Some(own) => own.slaves(master.number),
             None => &[],
         }
     }
@@ -130,14 +127,14 @@ impl PackTable {
         ensures { IfOk result (λ list. list.items
             ≡ wins_of master.owner (slaves_of master.number (own_of master.owner self.now).packs)) }
     {
-        slaves_of(alloc, self.packs(master.owner), master)
+        wins_of(alloc, master.owner, self.packed_in(master))
     }
 
     /// What a window is packed with; none where it isn't packed. It takes no memory.
     pub fn request(&self, win: Win) -> Option<Request>
         ensures { result ≡ request_in win.number (own_of win.owner self.now).packs }
     {
-        self.own(win.owner)?.request(win.number)
+        self.owners.get(&win.owner)?.request(win.number)
     }
 
     fn insert(&mut self, owner: usize, place: usize, packed: Packed) -> Result<(), AllocError>
@@ -145,49 +142,31 @@ impl PackTable {
         ensures others { LeavesOthers owner self.old self.new }
         ensures err { OnErr result (self.new ≡ self.old) }
     {
-        match place_of(&self.owners, owner) {
-            Some(index) => self.owners[index].put(place, packed),
-            None => {
-                let mut own = OwnPacks::new(*self.owners.allocator(), owner);
-                own.put(place, packed)?;
-                self.owners.push(own)?;
-                Ok(())
-            }
+        if let Some(own) = self.owners.get_mut(&owner) {
+            return own.put(place, packed);
         }
+        let mut own = OwnPacks::new(self.alloc);
+        own.put(place, packed)?;
+        self.owners.insert(owner, own)?;
+        Ok(())
     }
 
     fn take_out(&mut self, win: Win)
         ensures own { own_of win.owner self.new ≡ without_packed win.number (own_of win.owner self.old) }
         ensures others { LeavesOthers win.owner self.old self.new }
     {
-        if let Some(index) = place_of(&self.owners, win.owner) {
-            self.owners[index].forget(win.number);
+        if let Some(own) = self.owners.get_mut(&win.owner) {
+            own.forget(win.number);
         }
     }
-
-    fn own(&self, owner: usize) -> Option<&OwnPacks>
-        ensures { option_map_or (λ row. row.now.own) result no_packs ≡ own_of owner self.now }
-    {
-        let place = place_of(&self.owners, owner)?;
-        Some(&self.owners[place])
-    }
 }
 
-fn place_of(owners: &[OwnPacks], owner: usize) -> Option<usize>
-    ensures { result ≡ position (λ row. row.owner == owner) owners.now }
+fn wins_of(alloc: Global, owner: usize, packs: &[Packed]) -> Result<Vec<Win>, AllocError>
+    ensures { IfOk result (λ list. list.items ≡ wins_of owner packs.now) }
 {
-    owners.iter().position(|own| own.owner() == owner)
-}
-
-fn slaves_of(alloc: Global, packs: &[Packed], master: Win) -> Result<Vec<Win>, AllocError>
-    ensures { IfOk result (λ list. list.items
-        ≡ wins_of master.owner (slaves_of master.number packs.now)) }
-{
-    let slaves = packs.iter().filter(|packed| packed.master == master.number);
-    slaves
-        .map(|packed| Win {
-            owner: master.owner,
-            number: packed.number,
-        })
-        .collect(alloc)
+    let wins = packs.iter().map(|packed| Win {
+        owner,
+        number: packed.number,
+    });
+    wins.collect(alloc)
 }

@@ -7,7 +7,7 @@ use Rattle.tk_layout.proofs.asked.sizes_asked.Given as goal
 
 -- the sizes found so far, and those of the windows before
 abbrev pub invariant-loop-shape : goal.invariant-loop-shape
-invariant-loop-shape l = Same (sizes_onto (slaves_in l.groups) l.rest l.sizes.entries) (sizes_asked (slaves_in l.groups) l.shapes)
+invariant-loop-shape l = Same (sizes_onto (slaves_in l.owner l.packs) l.rest l.sizes.entries) (sizes_asked (slaves_in l.owner l.packs) l.shapes)
 
 abbrev pub decreases-loop-shape : goal.decreases-loop-shape
 decreases-loop-shape l = length l.rest

@@ -1,4 +1,4 @@
-use Rattle.std.proofs.Common.{ap, ◌∙◌}
+use Rattle.std.proofs.Common.{refl, ap, ◌∙◌}
 use Rattle.std.proofs.lemmas.Result.{IfOk-weaker}
 use Rattle.tk_layout.specs.Changes.{changes_of}
 use Rattle.tk_layout.specs.Groups.{slaves_in}
@@ -11,6 +11,6 @@ returns c =
     IfOk-weaker c.changes_of.result _ _
     (λ changes is. is ∙ ap (changes_of c.args.shapes.now)
     (c.as_slice.ensures.value
-    ∙ layout_is c.args.size (slaves_in c.in_ok-groups.groups) (own_of c.args.owner c.args.packs.now).packs c.args.shapes.now c.in_ok-sizes.sizes.entries c.in_ok-places.places.items
-    c.in_ok-groups.ensures c.in_ok-sizes.ensures c.in_ok-places.ensures))
+    ∙ layout_is c.args.size (slaves_in c.args.owner c.args.packs.now) (own_of c.args.owner c.args.packs.now).packs c.args.shapes.now c.in_ok-sizes.sizes.entries c.in_ok-places.places.items
+    (λ master. refl) c.in_ok-sizes.ensures c.in_ok-places.ensures))
     c.changes_of.ensures

@@ -13,7 +13,7 @@ use Rattle.tk_layout.proofs.places.arrange_slaves.Goals as goal
 pub returns-then-is_empty : goal.returns-then-is_empty
 returns-then-is_empty c = λ number.
     ap (λ (given : Places). lookup (nat_eq number) given)
-    (sym (given_none (slaves_in c.args.groups.now) c.args.sizes.now.entries c.args.shape.now c.args.rect c.args.given.now.entries c.slaves_in-slaves.result.now c.slaves_in-slaves.ensures
+    (sym (given_none (slaves_in c.args.owner c.args.packs.now) c.args.sizes.now.entries c.args.shape.now c.args.rect c.args.given.now.entries c.slaves_in-slaves.result.now c.slaves_in-slaves.ensures
     (eqb-true _ 0 (sym c.is_empty.ensures ∙ c.if-is_empty.true))))
 
 pub give-requires : goal.give-requires
@@ -26,7 +26,7 @@ give-requires c =
 pub returns : goal.returns
 returns c =
     on_ok_weaker c.give.result
-    (given_some (slaves_in c.args.groups.now) c.args.sizes.now.entries c.args.shape.now c.args.rect c.args.given.now.entries c.give.new.given.entries
+    (given_some (slaves_in c.args.owner c.args.packs.now) c.args.sizes.now.entries c.args.shape.now c.args.rect c.args.given.now.entries c.give.new.given.entries
     c.slaves_in-slaves.result.now c.places.result.now c.slaves_in-slaves.ensures
     (c.places.ensures (record { size = c.cavity_of.result; requests = c.as_slice.result.now }) c.in_ok-arrange.ensures
     ∙ ap (λ size. arrangement size c.as_slice.result.now) c.cavity_of.ensures

@@ -6,5 +6,5 @@ use Rattle.tk_layout.proofs.places.places_of.Given as goal
 -- the places so far, and those of the rest
 abbrev pub invariant-loop-shape : goal.invariant-loop-shape
 invariant-loop-shape l =
-    l.places.items ++ placed (slaves_in l.groups) l.sizes.entries l.given.entries (drop l.shape-index l.shapes)
-    ≡ placed (slaves_in l.groups) l.sizes.entries (first_place l.fn.size l.shapes) l.shapes
+    l.places.items ++ placed (slaves_in l.owner l.packs) l.sizes.entries l.given.entries (drop l.shape-index l.shapes)
+    ≡ placed (slaves_in l.owner l.packs) l.sizes.entries (first_place l.fn.size l.shapes) l.shapes

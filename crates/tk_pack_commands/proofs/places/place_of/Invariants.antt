@@ -1,9 +1,8 @@
 use Rattle.std.proofs.Common.{◌≡◌, ◌+◌, ◌≤◌, drop}
-use Rattle.tk_packer.specs.Packs.{slaves_of}
 use Rattle.tk_pack_commands.specs.Places.{place_of}
 use Rattle.tk_pack_commands.proofs.places.place_of.Given as goal
 
 -- the slaves passed, and its place in the rest
 abbrev pub invariant-loop-packed : goal.invariant-loop-packed
 invariant-loop-packed l =
-    (l.place ≤ l.packed-index) × (l.place + place_of l.number (slaves_of l.master (drop l.packed-index l.packs)) ≡ place_of l.number (slaves_of l.master l.packs))
+    (l.place ≤ l.packed-index) × (l.place + place_of l.number (drop l.packed-index l.slaves) ≡ place_of l.number l.slaves)

@@ -1,10 +1,9 @@
 use Rattle.std.proofs.Common.{ap, ◌∙◌}
-use Rattle.std.specs.Prelude.{◌==◌, not}
 use Rattle.tk_packer.specs.Packs.{own_of, slaves_of}
-use Rattle.tk_packer.proofs.Slaves.{filter_swap}
+use Rattle.tk_packer.proofs.Changes.{slaves_of-without}
 use Rattle.tk_packer.proofs.table.PackTable.forget.Goals as goal
 
 pub returns-clause-masters : goal.returns-clause-masters
 returns-clause-masters c = λ master.
     ap (λ own. slaves_of master own.packs) c.take_out.ensures.own
-    ∙ filter_swap (λ packed. packed.master == master) (λ packed. not (packed.number == c.args.win.number)) (own_of c.args.win.owner c.args.self.now).packs
+    ∙ slaves_of-without master c.args.win.number (own_of c.args.win.owner c.args.self.now).packs

@@ -1,48 +1,15 @@
-use Rattle.std.proofs.Common.{◌≡◌, sym, ap, ◌∙◌}
-use Rattle.tk_packer.specs.Packs.{Row, own_of, no_packs, with_propagation}
-use Rattle.tk_packer.proofs.Owners.{StandsAt, StandsNowhere, own_nowhere, owner_at, own_at, own_of-set, own_of_other-set, own_of-push, own_of_other-push, once-push}
+use Rattle.std.proofs.Common.{nat_eq, sym, ap, ◌∙◌}
+use Rattle.std.specs.Map.{set_value}
+use Rattle.std.proofs.lemmas.Map.Steps.{set_value_same}
+use Rattle.std.proofs.lemmas.Result.{on_err_weaker}
+use Rattle.tk_packer.specs.Packs.{Own}
 use Rattle.tk_packer.proofs.table.PackTable.set_propagates.Goals as goal
 
-pub invariant_of-self-in-None : goal.invariant_of-self-in-None
-invariant_of-self-in-None c =
-    let rows = c.self.inside.owners.items in
-    let owner = c.args.win.owner in
-    let nowhere : StandsNowhere owner rows = rw c.deref.ensures.value at (sym c.place_of.ensures ∙ c.in-None.is) in
-    let is : c.set_propagates-in-None.new.self.owner ≡ owner = c.set_propagates-in-None.ensures.owner ∙ ap (λ (row : Row). row.owner) c.new-own.ensures in
-    rw c.in_ok-push-in-None.ensures.items (once-push owner rows c.set_propagates-in-None.new.self nowhere is c.self.invariant)
-
-pub returns-in-Some-clause-own : goal.returns-in-Some-clause-own
-returns-in-Some-clause-own c =
-    let rows = c.self.inside.owners.items in
-    let owner = c.args.win.owner in
-    let at : StandsAt owner rows c.in-Some.index = rw c.deref.ensures.value at (sym c.place_of.ensures ∙ c.in-Some.is) in
-    let own : c.index_mut.result.now.own ≡ own_of owner c.args.self.now = own_at owner rows c.in-Some.index c.index_mut.result.now at c.index_mut.ensures.value ∙ ap (own_of owner) c.self.view_is in
-    let is : c.set_propagates.new.self.owner ≡ owner = c.set_propagates.ensures.owner ∙ owner_at owner rows c.in-Some.index c.index_mut.result.now at c.index_mut.ensures.value in
-    let set = own_of-set owner rows c.in-Some.index c.set_propagates.new.self at is in
-    rw (set, ← own) c.set_propagates.ensures.ok
-
-pub returns-in-Some-clause-others : goal.returns-in-Some-clause-others
-returns-in-Some-clause-others c =
-    let rows = c.self.inside.owners.items in
-    let owner = c.args.win.owner in
-    let at : StandsAt owner rows c.in-Some.index = rw c.deref.ensures.value at (sym c.place_of.ensures ∙ c.in-Some.is) in
-    let is : c.set_propagates.new.self.owner ≡ owner = c.set_propagates.ensures.owner ∙ owner_at owner rows c.in-Some.index c.index_mut.result.now at c.index_mut.ensures.value in
-    λ other differ. own_of_other-set owner rows c.in-Some.index c.set_propagates.new.self at is other differ ∙ ap (own_of other) c.self.view_is
-
-pub returns-in_ok-push-in-None-clause-own : goal.returns-in_ok-push-in-None-clause-own
-returns-in_ok-push-in-None-clause-own c =
-    let rows = c.self.inside.owners.items in
-    let owner = c.args.win.owner in
-    let nowhere : StandsNowhere owner rows = rw c.deref.ensures.value at (sym c.place_of.ensures ∙ c.in-None.is) in
-    let none : own_of owner c.args.self.now ≡ no_packs = ap (own_of owner) (sym c.self.view_is) ∙ own_nowhere owner rows nowhere in
-    let is : c.set_propagates-in-None.new.self.owner ≡ owner = c.set_propagates-in-None.ensures.owner ∙ ap (λ (row : Row). row.owner) c.new-own.ensures in
-    ap (own_of owner) c.in_ok-push-in-None.ensures.items ∙ own_of-push owner rows c.set_propagates-in-None.new.self nowhere is
-    ∙ c.in_ok-set_propagates-in-None.ensures.ok ∙ ap (with_propagation c.args.win.number c.args.propagates) (ap (λ (row : Row). row.own) c.new-own.ensures ∙ sym none)
-
-pub returns-in_ok-push-in-None-clause-others : goal.returns-in_ok-push-in-None-clause-others
-returns-in_ok-push-in-None-clause-others c =
-    let rows = c.self.inside.owners.items in
-    let owner = c.args.win.owner in
-    let is : c.set_propagates-in-None.new.self.owner ≡ owner = c.set_propagates-in-None.ensures.owner ∙ ap (λ (row : Row). row.owner) c.new-own.ensures in
-    λ other differ. ap (own_of other) c.in_ok-push-in-None.ensures.items ∙ own_of_other-push owner rows c.set_propagates-in-None.new.self is other differ
-    ∙ ap (own_of other) c.self.view_is
+-- nothing was written: what was found goes back
+pub returns-in-Some-clause-err : goal.returns-in-Some-clause-err
+returns-in-Some-clause-err c =
+    let entries = c.self.inside.owners.entries in
+    on_err_weaker c.set_propagates.result
+    (λ same. (c.get_mut.follows.holds c.set_propagates.new.self).0 ∙ ap (λ (own : Own). set_value (nat_eq c.args.win.owner) entries own) same
+    ∙ set_value_same (nat_eq c.args.win.owner) entries c.in-Some.own.now (sym c.in-Some.ensures.value) ∙ c.self.view_is)
+    c.set_propagates.ensures.err

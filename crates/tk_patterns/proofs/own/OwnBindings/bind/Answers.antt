@@ -25,13 +25,13 @@ returns-in-None-clause-answer c =
     let seen = c.as_slice.ensures.value ∙ c.self.view_is in
     let none = ap (λ tag. position (is_of tag c.args.sequence) c.args.self.now) (sym c.as_str.ensures.bytes) ∙ ap (λ own. position (is_of c.as_str.result.now c.args.sequence) own) (sym seen) ∙ sym c.in-None.ensures in
     subst (λ b. MatchBool b (c.add.result ≡ Err Full) (IsOkUnless c.add.result NoMemory))
-    (ap (λ own. nat_le 4096 (length own)) c.self.view_is ∙ sym (none_refuses c.args.tag c.args.sequence c.args.self.now none))
+    (sym (none_refuses c.args.tag c.args.sequence c.args.self.now none))
     c.add.ensures.answer
 
 pub returns-in-None-clause-ok : goal.returns-in-None-clause-ok
 returns-in-None-clause-ok c =
     let seen = c.as_slice.ensures.value ∙ c.self.view_is in
     let none = ap (λ tag. position (is_of tag c.args.sequence) c.args.self.now) (sym c.as_str.ensures.bytes) ∙ ap (λ own. position (is_of c.as_str.result.now c.args.sequence) own) (sym seen) ∙ sym c.in-None.ensures in
-    subst (λ own. OnOk c.add.result (c.add.new.bindings.items ≡ own))
-    (ap (λ own. own ++ record { tag = c.args.tag; sequence = c.args.sequence; script = c.args.script } ∷ []) c.self.view_is ∙ added_there c.args.tag c.args.sequence c.args.script c.args.self.now none)
+    subst (λ own. OnOk c.add.result (c.add.new.self ≡ own))
+    (added_there c.args.tag c.args.sequence c.args.script c.args.self.now none)
     c.add.ensures.ok

@@ -1,5 +1,5 @@
 -- What a search finds among stamps that rise.
-use Rattle.std.proofs.Common.{◌≡◌, ℕ, zero, suc, ◌+◌, ◌<◌, ◌≤◌, List, [], ◌∷◌, length, get_or, Option, Some, None, Result, Ok, Err, inl, inr, refl, sym, ap, ◌∙◌, arith}
+use Rattle.std.proofs.Common.{◌≡◌, ℕ, zero, suc, ◌<◌, List, [], ◌∷◌, length, get_or, Some, Result, Ok, Err, inl, inr, sym, ap, arith}
 use Rattle.std.specs.List.Sorted.{IsSearchInRange, IsBinarySearchResult, IsNonDecreasingBy}
 use Rattle.std.specs.Ordering.{nat_cmp, ordering_index}
 use Rattle.std.specs.Result.{result_ok}
@@ -55,6 +55,6 @@ module _ (list : List Filed) (rising : IsRising list) (stamp : ℕ) where
   found (Err at) in_range parted place there =
       let facts = stamp_there list place stamp there in
       elim (cases_lt place at) [
-        | inl less ↦ absurd (let before = ranked _ stamp _ (sym ((parted comparisons_rise).0 place nothing facts.0 less)) in omega (arith, before, facts.1))
+        | inl less ↦ absurd (let before = ranked _ stamp _ (sym ((parted comparisons_rise).0 place nothing (omega arith) less)) in omega (arith, before, facts.1))
         | inr le ↦ absurd (let after = ranked _ stamp _ (sym ((parted comparisons_rise).1 place nothing le facts.0)) in omega (arith, after, facts.1))
       ]

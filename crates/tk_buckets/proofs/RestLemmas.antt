@@ -39,7 +39,7 @@ earlier_is p q (filed ∷ list) rising =
     earlier_by (p filed.number) (q filed.number) filed.stamp _ _ _ (above_first filed.stamp p list rising.0) (above_first filed.stamp q list rising.0) (earlier_is p q list rising.1)
 
 -- ── one stamp more ──
-pub NoneSought : (ℕ → Bool) → ℕ → List ℕ → Type 0
+abbrev pub NoneSought : (ℕ → Bool) → ℕ → List ℕ → Type 0
 NoneSought sought zero numbers = Unit {0}
 NoneSought sought (suc place) [] = Unit {0}
 NoneSought sought (suc place) (number ∷ numbers) = (sought number ≡ false) × NoneSought sought place numbers
@@ -129,19 +129,19 @@ one_of None y stamp h f g = g h
 one_of (Some x) None stamp h f g = f h
 one_of (Some x) (Some y) stamp h f g = one_by (nat_le x y) x y stamp h f g
 
-module _ (stamp : ℕ) (as bs cs ds : List ℕ) where
+module _ (stamp : ℕ) (ws xs ys zs : List ℕ) where
   abbrev pub left_before : ℕ
-  left_before = length as + length bs + (length cs + length ds)
+  left_before = length ws + length xs + (length ys + length zs)
 
   abbrev pub left_after : ℕ
-  left_after = length (past stamp as) + length (past stamp bs) + (length (past stamp cs) + length (past stamp ds))
+  left_after = length (past stamp ws) + length (past stamp xs) + (length (past stamp ys) + length (past stamp zs))
 
-  pub fewer : earlier (earlier (first_of as) (first_of bs)) (earlier (first_of cs) (first_of ds)) ≡ Some stamp → left_after < left_before
+  pub fewer : earlier (earlier (first_of ws) (first_of xs)) (earlier (first_of ys) (first_of zs)) ≡ Some stamp → left_after < left_before
   fewer h =
-      let a = past_length stamp as in
-      let b = past_length stamp bs in
-      let c = past_length stamp cs in
-      let d = past_length stamp ds in
-      one_of (earlier (first_of as) (first_of bs)) (earlier (first_of cs) (first_of ds)) stamp h
-          (λ h. one_of (first_of as) (first_of bs) stamp h (λ h. omega (arith, a, b, c, d, past_shorter stamp as h)) (λ h. omega (arith, a, b, c, d, past_shorter stamp bs h)))
-          (λ h. one_of (first_of cs) (first_of ds) stamp h (λ h. omega (arith, a, b, c, d, past_shorter stamp cs h)) (λ h. omega (arith, a, b, c, d, past_shorter stamp ds h)))
+      let a = past_length stamp ws in
+      let b = past_length stamp xs in
+      let c = past_length stamp ys in
+      let d = past_length stamp zs in
+      one_of (earlier (first_of ws) (first_of xs)) (earlier (first_of ys) (first_of zs)) stamp h
+      (λ h. one_of (first_of ws) (first_of xs) stamp h (λ h. omega (arith, a, b, c, d, past_shorter stamp ws h)) (λ h. omega (arith, a, b, c, d, past_shorter stamp xs h)))
+      (λ h. one_of (first_of ys) (first_of zs) stamp h (λ h. omega (arith, a, b, c, d, past_shorter stamp ys h)) (λ h. omega (arith, a, b, c, d, past_shorter stamp zs h)))

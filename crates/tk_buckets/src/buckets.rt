@@ -85,7 +85,9 @@ impl Buckets {
     pub fn place(&self, stamp: u64) -> Option<usize>
         ensures { (place : ℕ) → HasStampAt place stamp self.now → result ≡ Some place }
     {
-        self.list.binary_search_by_key(&stamp, |filed| filed.stamp).ok()
+        self.list
+            .binary_search_by_key(&stamp, |filed| filed.stamp)
+            .ok()
     }
 }
 

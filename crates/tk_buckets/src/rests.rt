@@ -7,13 +7,7 @@ pub fn past(rest: &[u64], stamp: u64) -> &[u64]
     ensures { result.now ≡ past stamp rest.now }
 {
     match rest.split_first() {
-        Some((first, behind)) => {
-            if *first == stamp {
-                behind
-            } else {
-                rest
-            }
-        }
+        Some((first, behind)) => { if *first == stamp { behind } else { rest } }
         None => rest,
     }
 }

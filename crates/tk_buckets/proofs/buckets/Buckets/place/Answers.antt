@@ -11,5 +11,5 @@ returns c =
     let by_stamp = facts.position (λ filed. filed.stamp) (answers_always _ _ _ (λ f a r g called. search rules)) in
     let whole : c.deref.result.now ≡ c.args.self.now = c.deref.ensures.value ∙ c.self.view_is in
     λ place there.
-        c.ok.ensures.value
-        ∙ found c.deref.result.now (subst IsRising (sym c.deref.ensures.value) c.self.invariant.0) c.args.stamp c.binary_search_by_key.result facts.bound by_stamp place (subst (HasStampAt place c.args.stamp) (sym whole) there)
+    c.ok.ensures.value
+    ∙ found c.deref.result.now (subst IsRising (sym c.deref.ensures.value) c.self.invariant.0) c.args.stamp c.binary_search_by_key.result facts.bound by_stamp place (subst (HasStampAt place c.args.stamp) (sym whole) there)

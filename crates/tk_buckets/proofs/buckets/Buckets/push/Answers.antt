@@ -1,4 +1,4 @@
-use Rattle.std.proofs.Common.{◌≡◌, ◌+◌, ◌++◌, sym, ap, ◌∙◌, subst, arith}
+use Rattle.std.proofs.Common.{◌+◌, ◌++◌, sym, ap, ◌∙◌, subst, arith}
 use Rattle.tk_buckets.specs.declared.filed.Filed.{Filed}
 use Rattle.tk_buckets.specs.Filed.{stamps_under, stamp_under, IsRising, AllBelow}
 use Rattle.tk_buckets.proofs.FiledLemmas.{rising_more, below_more, under_more}
@@ -10,7 +10,8 @@ invariant_of-self-in-Ok c =
     let next = c.self.inside.next in
     let new : Filed = record { stamp = next; number = c.args.number } in
     let items = c.in_ok-push.ensures.items in
-    let was = c.self.invariant in
-    (subst IsRising (sym items) (rising_more list new was.0 was.1),
-    subst (AllBelow (next + 1)) (sym items) (below_more list new (next + 1) was.1 (omega arith)),
-    λ n. c.in-Ok.ensures.ok n ∙ ap (λ stamps. stamps ++ stamp_under n c.args.number next) (was.2 n) ∙ sym (under_more n list new) ∙ ap (stamps_under n) (sym items))
+    let was = c.self.invariant in (
+      subst IsRising (sym items) (rising_more list new was.0 was.1),
+      subst (AllBelow (next + 1)) (sym items) (below_more list new (next + 1) was.1 (omega arith)),
+      λ n. c.in-Ok.ensures.ok n ∙ ap (λ stamps. stamps ++ stamp_under n c.args.number next) (was.2 n) ∙ sym (under_more n list new) ∙ ap (stamps_under n) (sym items),
+    )

@@ -4,11 +4,13 @@ use Rattle.std.proofs.lemmas.Bool.Decides.{nat_tests}
 use Rattle.std.proofs.lemmas.Slice.Eq.{bytes_eq-Decides}
 use Rattle.std.specs.Option.{option_map_or}
 use Rattle.tk_buckets.proofs.RestLemmas.{NoneSought}
+use Rattle.tk_buckets.specs.declared.filed.Filed.{Filed}
+use Rattle.tk_buckets.specs.Filed.{stamps_of}
 use Rattle.tk_events.specs.declared.event.Event.{Event}
 use Rattle.tk_events.specs.declared.event.EventKind.{EventKind}
 use Rattle.tk_events.specs.declared.event.EventKind.TheVariants as kinds
 use Rattle.tk_history.specs.declared.step.Step.{Step}
-use Rattle.tk_history.specs.Fits.{fits, has_type, has_detail, is_about}
+use Rattle.tk_history.specs.Fits.{fits, has_type, has_detail, has_modifiers, is_about}
 use Rattle.tk_history.specs.Matches.{earlier_at}
 use Rattle.tk_history.specs.Steps.{steps_of, newest_copy, earlier_copies, copies_of}
 use Rattle.tk_history.specs.Walk.{matches, ends_at, walk}
@@ -25,7 +27,7 @@ use Rattle.tk_sequences.specs.declared.sequence.Sequence.TheVariants.{Physical, 
 use Rattle.tk_sequences.specs.Types.{type_number}
 
 -- ── the last pattern is the one of the event itself ──
-last_of : Pattern → List Pattern → Pattern
+abbrev last_of : Pattern → List Pattern → Pattern
 last_of pattern [] = pattern
 last_of pattern (next ∷ patterns) = last_of next patterns
 
@@ -51,15 +53,25 @@ both_first : (a b : Bool) → (a && b) ≡ true → a ≡ true
 both_first true b h = refl
 both_first false b h = absurd (cc)
 
-both_second : (a b : Bool) → (a && b) ≡ true → b ≡ true
-both_second true b h = h
-both_second false b h = absurd (cc)
+three_first : (a b c : Bool) → (a && b && c) ≡ true → a ≡ true
+three_first true b c h = refl
+three_first false b c h = absurd (cc)
+
+three_second : (a b c : Bool) → (a && b && c) ≡ true → b ≡ true
+three_second true true c h = refl
+three_second true false c h = absurd (cc)
+three_second false b c h = absurd (cc)
 
 last_fits : (event : Event) (history : List Event) (pattern : Pattern) (patterns : List Pattern) → matches (Physical (pattern ∷ patterns)) event history ≡ true → fits (last_of pattern patterns) event ≡ true
 last_fits event history pattern patterns h =
     let found = newest pattern patterns in
     both_first (fits (last_of pattern patterns) event) (walk found.rest (earlier_at event.number history) event)
     (ap (λ steps. ends_at steps (earlier_at event.number history) event) (sym found.is) ∙ h)
+
+-- ── nothing is sought ──
+pub none_stamps : (list : List Filed) → stamps_of (λ number. false) list ≡ []
+none_stamps [] = refl
+none_stamps (filed ∷ list) = none_stamps list
 
 -- ── a pattern that fits is of a class that is sought ──
 itself : (n : ℕ) → (n == n) ≡ true
@@ -107,18 +119,24 @@ module _ (tag : List ℕ) (type : EventType) where
   button_by (Some button) wanted h = button_number button wanted h
 
   detail_sought : (event : Event) (detail : Option Detail) → has_detail detail event ≡ true → is_sought tag type event (filing_number tag (class_number type detail)) ≡ true
-  detail_sought event None h = by_third _ _ _ _ (itself (filing_number tag (class_number type None)))
-  detail_sought event (Some (Key key)) h = by_first _ _ _ _ (key_by event.key key h)
-  detail_sought event (Some (Button button)) h = by_second _ _ _ _ (button_by event.button button h)
+  detail_sought event None h =
+      let number = filing_number tag (class_number type None) in
+      by_third (is_number_of_key tag type event.key number) (is_number_of_button tag type event.button number) (is_number tag type None number) (is_number_of_virtuals tag number) (itself number)
+  detail_sought event (Some (Key key)) h =
+      let number = filing_number tag (class_number type (Some (Key key))) in
+      by_first (is_number_of_key tag type event.key number) (is_number_of_button tag type event.button number) (is_number tag type None number) (is_number_of_virtuals tag number) (key_by event.key key h)
+  detail_sought event (Some (Button button)) h =
+      let number = filing_number tag (class_number type (Some (Button button))) in
+      by_second (is_number_of_key tag type event.key number) (is_number_of_button tag type event.button number) (is_number tag type None number) (is_number_of_virtuals tag number) (button_by event.button button h)
 
   class_by : (own : EventType) (detail : Option Detail) → (type_number own == type_number type) ≡ true → class_number own detail ≡ class_number type detail
   class_by own detail h = let same : type_number own ≡ type_number type = grind (arith, nat_tests, h) in ap (λ n. n * 1024 + detail_number detail) same
 
   fit_sought : (event : Event) (pattern : Pattern) → event.kind ≡ kinds.Physical type → fits pattern event ≡ true → is_sought tag type event (filing_number tag (class_number pattern.kind pattern.detail)) ≡ true
   fit_sought event pattern kind h =
-      let typed : has_type pattern.kind (kinds.Physical type) ≡ true = ap (has_type pattern.kind) (sym kind) ∙ both_first _ _ h in
+      let typed : has_type pattern.kind (kinds.Physical type) ≡ true = ap (has_type pattern.kind) (sym kind) ∙ three_first (has_type pattern.kind event.kind) (has_detail pattern.detail event) (has_modifiers pattern.modifiers event) h in
       ap (λ class. is_sought tag type event (filing_number tag class)) (class_by pattern.kind pattern.detail typed)
-      ∙ detail_sought event pattern.detail (both_first _ _ (both_second (has_type pattern.kind event.kind) _ h))
+      ∙ detail_sought event pattern.detail (three_second (has_type pattern.kind event.kind) (has_detail pattern.detail event) (has_modifiers pattern.modifiers event) h)
 
 -- ── what isn't filed where it is sought is no candidate ──
 module _ (event : Event) (history : List Event) (pairs : Pairs) (tag : List ℕ) (type : EventType) (kind : event.kind ≡ kinds.Physical type) where
@@ -138,7 +156,9 @@ module _ (event : Event) (history : List Event) (pairs : Pairs) (tag : List ℕ)
   no_sequence : (script : List ℕ) (sequence : Sequence) → sought (filing_number tag (sequence_class sequence)) ≡ false → of_sequence event history pairs script sequence ≡ []
   no_sequence script (Physical []) unsought = refl
   no_sequence script (Physical (pattern ∷ patterns)) unsought = unmatched_by pattern patterns script (matches (Physical (pattern ∷ patterns)) event history) refl unsought
-  no_sequence script (Virtual name) unsought = absurd (let found : sought (filing_number tag 0) ≡ true = by_fourth _ _ _ _ (itself (filing_number tag 0)) in cc)
+  no_sequence script (Virtual name) unsought =
+      let number = filing_number tag 0 in
+      absurd (let found : sought number ≡ true = by_fourth (is_number_of_key tag type event.key number) (is_number_of_button tag type event.button number) (is_number tag type None number) (is_number_of_virtuals tag number) (itself number) in cc (found, unsought))
 
   no_binding_by : (binding : Binding) (t : Bool) → has_tag tag binding ≡ t → sought (number_of binding) ≡ false → of_binding event history pairs tag binding ≡ []
   no_binding_by binding true is unsought =

@@ -54,3 +54,11 @@ module _ {X : Type 0} (test : X → Bool) where
   is_there [] place below = absurd (omega arith)
   is_there (y ∷ xs) zero below = omega arith
   is_there (y ∷ xs) (suc place) below = let rest = is_there xs place (omega arith) in omega (arith, rest)
+
+  -- where the binding at a place is taken out of what was left, and where it stays
+  pub took_out : (xs old new : List X) (place : ℕ) (x : X) → place < length xs → old ≡ out_from (suc place) xs → x ≡ get_or old place x → test x ≡ false → new ≡ remove old place → new ≡ out_from place xs
+  took_out xs old new place x below left is h taken =
+      taken ∙ ap (λ ys. remove ys place) left ∙ goes xs place x below (is ∙ ap (λ ys. get_or ys place x) left ∙ as_it_was xs place x below) h
+
+  pub kept_in : (xs old : List X) (place : ℕ) (x : X) → place < length xs → old ≡ out_from (suc place) xs → x ≡ get_or old place x → test x ≡ true → old ≡ out_from place xs
+  kept_in xs old place x below left is h = left ∙ stays xs place x below (is ∙ ap (λ ys. get_or ys place x) left ∙ as_it_was xs place x below) h

@@ -1,5 +1,5 @@
 -- How far the candidates of an event have been gone through: from a place on, all that is sought is still to come.
-use Rattle.std.proofs.Common.{◌≡◌, ℕ, zero, suc, ◌+◌, ◌<◌, ◌≤◌, ◌||◌, Bool, false, List, [], ◌∷◌, ◌++◌, length, drop, get_or, map, Option, Some, None, slice_get, refl, sym, ap, ◌∙◌, subst, arith}
+use Rattle.std.proofs.Common.{◌≡◌, ℕ, zero, suc, ◌+◌, ◌<◌, ◌≤◌, ◌||◌, Bool, true, false, List, [], ◌∷◌, ◌++◌, length, drop, get_or, map, Option, Some, None, slice_get, refl, sym, ap, ◌∙◌, subst, arith}
 use Rattle.std.proofs.lemmas.Bool.Decides.{nat_tests}
 use Rattle.std.proofs.lemmas.List.Sums.{fold-append}
 use Rattle.tk_buckets.proofs.RestLemmas.{Step, NoneSought, step, earlier_is, none_left}
@@ -28,15 +28,17 @@ numbers_drop (suc n) (filed ∷ list) [] h = absurd (cc)
 numbers_drop (suc n) (filed ∷ list) (binding ∷ own) h = let rest : numbers_of list ≡ map number_of own = cc in numbers_drop n list own rest
 
 there_drop : (n place stamp : ℕ) (list : List Filed) → HasStampAt place stamp (drop n list) → HasStampAt (n + place) stamp list
-there_drop zero place stamp list there = there
+there_drop zero place stamp list there = let same : place ≡ 0 + place = omega arith in subst (λ n. HasStampAt n stamp list) same there
 there_drop (suc n) place stamp [] there = absurd there
-there_drop (suc n) place stamp (filed ∷ list) there = there_drop n place stamp list there
+there_drop (suc n) place stamp (filed ∷ list) there =
+    let same : suc (n + place) ≡ suc n + place = omega arith in
+    subst (λ n. HasStampAt n stamp (filed ∷ list)) same (there_drop n place stamp list there)
 
 drop_drop : {X : Type 0} (n m : ℕ) (xs : List X) → drop m (drop n xs) ≡ drop (n + m) xs
-drop_drop zero m xs = refl
-drop_drop (suc n) zero [] = refl
-drop_drop (suc n) (suc m) [] = refl
-drop_drop (suc n) m (x ∷ xs) = drop_drop n m xs
+drop_drop zero m xs = let same : m ≡ 0 + m = omega arith in ap (λ k. drop k xs) same
+drop_drop (suc n) zero [] = let same : suc n ≡ suc n + 0 = omega arith in ap (λ k. drop k []) same
+drop_drop (suc n) (suc m) [] = let same : suc (n + suc m) ≡ suc n + suc m = omega arith in ap (λ k. drop k []) same
+drop_drop (suc n) m (x ∷ xs) = let same : suc (n + m) ≡ suc n + m = omega arith in drop_drop n m xs ∙ ap (λ k. drop k (x ∷ xs)) same
 
 same_length : (list : List Filed) (own : List Binding) → numbers_of list ≡ map number_of own → length list ≡ length own
 same_length [] [] h = refl
@@ -125,7 +127,7 @@ module _ (event : Event) (history : List Event) (pairs : Pairs) (tag : List ℕ)
         let place = from + found.place in
         let there : HasStampAt place stamp list = there_drop from found.place stamp list found.there in
         let at = at_stamp place stamp list own numbers there in
-        let behind : drop (suc found.place) left ≡ drop (suc place) list = drop_drop from (suc found.place) list ∙ ap (λ n. drop n list) (omega arith) in
+        let behind : drop (suc found.place) left ≡ drop (suc place) list = (let same : from + suc found.place ≡ suc place = omega arith in drop_drop from (suc found.place) list ∙ ap (λ n. drop n list) same) in
         let passed = passed_over event history pairs tag type kind found.place (drop from own) (subst (NoneSought sought found.place) (numbers_drop from list own numbers) found.before) in
         record {
           place = place;
@@ -134,10 +136,10 @@ module _ (event : Event) (history : List Event) (pairs : Pairs) (tag : List ℕ)
           is = at.is;
           after = record {
             from = suc place;
-            keys = ap (past stamp) reached.keys ∙ found.left (is_number_of_key tag type event.key) (λ n. not_first _ _ _ _) ∙ ap (stamps_of (is_number_of_key tag type event.key)) behind;
-            buttons = ap (past stamp) reached.buttons ∙ found.left (is_number_of_button tag type event.button) (λ n. not_second (is_number_of_key tag type event.key n) _ _ _) ∙ ap (stamps_of (is_number_of_button tag type event.button)) behind;
-            alls = ap (past stamp) reached.alls ∙ found.left (is_number tag type None) (λ n. not_third (is_number_of_key tag type event.key n) (is_number_of_button tag type event.button n) _ _) ∙ ap (stamps_of (is_number tag type None)) behind;
-            names = ap (past stamp) reached.names ∙ found.left (is_number_of_virtuals tag) (λ n. not_fourth (is_number_of_key tag type event.key n) (is_number_of_button tag type event.button n) (is_number tag type None n) _) ∙ ap (stamps_of (is_number_of_virtuals tag)) behind;
+            keys = ap (past stamp) reached.keys ∙ found.left (is_number_of_key tag type event.key) (λ n. not_first (is_number_of_key tag type event.key n) (is_number_of_button tag type event.button n) (is_number tag type None n) (is_number_of_virtuals tag n)) ∙ ap (stamps_of (is_number_of_key tag type event.key)) behind;
+            buttons = ap (past stamp) reached.buttons ∙ found.left (is_number_of_button tag type event.button) (λ n. not_second (is_number_of_key tag type event.key n) (is_number_of_button tag type event.button n) (is_number tag type None n) (is_number_of_virtuals tag n)) ∙ ap (stamps_of (is_number_of_button tag type event.button)) behind;
+            alls = ap (past stamp) reached.alls ∙ found.left (is_number tag type None) (λ n. not_third (is_number_of_key tag type event.key n) (is_number_of_button tag type event.button n) (is_number tag type None n) (is_number_of_virtuals tag n)) ∙ ap (stamps_of (is_number tag type None)) behind;
+            names = ap (past stamp) reached.names ∙ found.left (is_number_of_virtuals tag) (λ n. not_fourth (is_number_of_key tag type event.key n) (is_number_of_button tag type event.button n) (is_number tag type None n) (is_number_of_virtuals tag n)) ∙ ap (stamps_of (is_number_of_virtuals tag)) behind;
             held =
                 sym (ap (held_at_last holder) (passed ∙ ap (candidates event history pairs tag) (drop_drop from found.place own ∙ at.rest)) ∙ fold-append replaced holder (of_binding event history pairs tag at.binding) (candidates event history pairs tag (drop (suc place) own)))
                 ∙ reached.held;

@@ -19,9 +19,12 @@ abbrev pub filing_number : List ℕ → ℕ → ℕ
 filing_number tag class = fold mixed class tag
 
 -- the keys that type nothing are filed together
+abbrev pub key_number : ℕ → ℕ
+key_number key = option_map_or (λ character. 512 + character) (character_of key) 1
+
 abbrev pub detail_number : Option Detail → ℕ
 detail_number None = 0
-detail_number (Some (Key key)) = option_map_or (λ character. 512 + character) (character_of key) 1
+detail_number (Some (Key key)) = key_number key
 detail_number (Some (Button button)) = 256 + button
 
 abbrev pub class_number : EventType → Option Detail → ℕ

@@ -1,7 +1,7 @@
 //! Under which number a binding is filed, so that an event looks at few of them.
-ghost use Rattle.std.specs.Prelude.{◌≡◌, ◌<◌, ◌==◌, Some, None};
+ghost use Rattle.std.specs.Prelude.{◌≡◌, ◌<◌, ◌==◌, ◌^◌, Some, None};
 ghost use Rattle.tk_buckets.specs.Filed.{stamps_of, IsRising};
-ghost use Rattle.tk_patterns.specs.Filing.{mixed, filing_number, detail_number, class_number, sequence_class, number_of, is_number, is_number_of_key, is_number_of_button, is_number_of_virtuals};
+ghost use Rattle.tk_patterns.specs.Filing.{mixed, filing_number, key_number, detail_number, class_number, sequence_class, number_of, is_number, is_number_of_key, is_number_of_button, is_number_of_virtuals};
 
 use crate::binding::Binding;
 use tk_buckets::Buckets;
@@ -119,11 +119,27 @@ fn detail_number(detail: Option<Detail>) -> u64
     ensures bound { result < 2 ^ 32 }
 {
     match detail {
-        Some(Detail::Key(key)) => match key.character() {
-            Some(character) => 512 + u64::from(character as u32),
-            None => 1,
-        },
-        Some(Detail::Button(button)) => 256 + u64::from(button),
+        Some(detail) => some_number(detail),
         None => 0,
+    }
+}
+
+fn some_number(detail: Detail) -> u64
+    ensures value { result ≡ detail_number (Some detail) }
+    ensures bound { result < 2 ^ 32 }
+{
+    match detail {
+        Detail::Key(key) => key_number(key),
+        Detail::Button(button) => 256 + u64::from(button),
+    }
+}
+
+fn key_number(key: Keysym) -> u64
+    ensures value { result ≡ key_number key }
+    ensures bound { result < 2 ^ 32 }
+{
+    match key.character() {
+        Some(character) => 512 + u64::from(character as u32),
+        None => 1,
     }
 }

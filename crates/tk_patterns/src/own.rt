@@ -230,8 +230,8 @@ fn take_out(bindings: &mut Vec<Binding>, filed: &mut Buckets, place: usize)
     ensures bindings { bindings.new.items ≡ remove bindings.old.items place }
     ensures filed { numbers_of filed.new ≡ map number_of bindings.new.items }
 {
-    bindings.remove(place);
     filed.remove(place);
+    bindings.remove(place);
 }
 
 /// Adds a binding, the last.

@@ -32,6 +32,6 @@ returns-in_default-binding_at c =
     let it = next c.args.event.now c.args.history.now c.args.virtuals.now c.args.tag.now c.args.kind c.args.bindings.now c.args.filed.now c.requires.kind c.stamps_of_any-any.ensures.rising c.requires.filed _ _ _ _ _ c.in-Some.stamp c.loop-stamp.invariant (sym c.in-Some.ensures) in
     absurd (let is : None ≡ Some it.binding = c.in_default-binding_at.ensures it.place it.there ∙ it.is in cc)
 
--- nothing is left: all_done, with the clause of first_of_all
 pub returns : goal.returns
-returns c = ?
+returns c =
+    all_done c.args.event.now c.args.history.now c.args.virtuals.now c.args.tag.now c.args.kind c.args.bindings.now c.args.filed.now c.requires.kind c.stamps_of_any-any.ensures.rising c.requires.filed _ _ _ _ _ c.loop-stamp.invariant (sym c.first_of_all.ensures ∙ c.in_default.is)

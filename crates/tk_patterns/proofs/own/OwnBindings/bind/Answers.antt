@@ -1,7 +1,9 @@
-use Rattle.std.proofs.Common.{◌≡◌, ◌∷◌, [], ◌++◌, length, Some, None, Err, sym, ap, ◌∙◌, subst, MatchBool, OnOk, IsOkUnless}
+use Rattle.std.proofs.Common.{◌≡◌, ◌∷◌, [], ◌++◌, length, map, Some, None, Err, sym, ap, ◌∙◌, subst, MatchBool, OnOk, IsOkUnless}
 use Rattle.std.specs.Prelude.{position, nat_le}
 use Rattle.tk_patterns.specs.declared.fault.BindFault.TheVariants.{Full, NoMemory}
 use Rattle.tk_patterns.specs.Own.{is_of, refuses, with_binding, with_script_at}
+use Rattle.tk_patterns.specs.Filing.{number_of}
+use Rattle.tk_patterns.proofs.KeptLemmas.{numbers_again}
 use Rattle.tk_patterns.proofs.BindLemmas.{found_not_refused, again_there, none_refuses, added_there}
 use Rattle.tk_patterns.proofs.own.OwnBindings.bind.Goals as goal
 
@@ -35,3 +37,6 @@ returns-in-None-clause-ok c =
     subst (λ own. OnOk c.add.result (c.add.new.self ≡ own))
     (added_there c.args.tag c.args.sequence c.args.script c.args.self.now none)
     c.add.ensures.ok
+
+pub invariant_of-self : goal.invariant_of-self
+invariant_of-self c = c.self.invariant ∙ sym (ap (map number_of) c.set_script.ensures ∙ numbers_again c.self.inside.bindings.items c.in-Some.place c.script_in-script.result)

@@ -63,7 +63,14 @@ impl OwnBindings {
     ) -> Option<&'a Text>
         ensures { option_copied result ≡ winner virtuals.now tag.now event.now history.now self.now }
     {
-        winner(self.bindings.as_slice(), &self.filed, tag, event, history, virtuals)
+        winner(
+            self.bindings.as_slice(),
+            &self.filed,
+            tag,
+            event,
+            history,
+            virtuals,
+        )
     }
 
     /// Binds a script to a sequence for a tag.

@@ -1,5 +1,6 @@
 -- What the contracts cite.
 pub mod FaultTexts
+pub mod Filing
 pub mod Own
 pub mod Same
 pub mod Shown

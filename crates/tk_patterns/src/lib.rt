@@ -4,6 +4,7 @@
 mod binding;
 mod candidate;
 mod fault;
+mod filing;
 mod own;
 mod same;
 mod table;

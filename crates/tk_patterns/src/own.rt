@@ -1,30 +1,45 @@
-ghost use Rattle.std.specs.Prelude.{◌≡◌, [], ◌∷◌, ◌++◌, ◌<◌, nat_le, Err, IfOk, OnOk, OnErr, IsOkUnless, MatchBool, length, position};
+ghost use Rattle.std.specs.Prelude.{◌≡◌, [], ◌∷◌, ◌++◌, ◌<◌, nat_le, Err, IfOk, OnOk, OnErr, IsOkUnless, MatchBool, length, map, position};
+ghost use Rattle.std.specs.List.{remove};
 ghost use Rattle.std.specs.Option.{option_copied};
 ghost use Rattle.tk_patterns.specs.Own.{has_tag, is_of, binding_of, script_of, sequences_of, refuses, with_script_at, with_binding, without_binding, without_tag};
+ghost use Rattle.tk_buckets.specs.Filed.{numbers_of};
+ghost use Rattle.tk_patterns.specs.Filing.{number_of};
+ghost use Rattle.tk_patterns.specs.Winner.{winner};
 
 use crate::binding::{Binding, has_tag, is_of};
 use crate::fault::BindFault;
+use crate::filing::number_of;
+use crate::winning::winner;
 use std::alloc::{AllocError, Global};
 use std::marker::Model;
 use tcl_text::Text;
-use tk_sequences::Sequence;
+use tk_buckets::Buckets;
+use tk_events::Event;
+use tk_history::History;
+use tk_sequences::{Sequence, VirtualName};
 
 /// How many bindings an application has at most.
 const MAX_BINDINGS: usize = 4096;
 
-/// One application's bindings, in the order of registration.
+/// One application's bindings, in the order of registration, and by hashing where those of a tag, a type and a detail stand.
 #[derive(Drop)]
 pub(crate) struct OwnBindings {
     bindings: Vec<Binding>,
+    /// The numbers that they are filed under.
+    filed: Buckets,
 }
 
 impl Model for OwnBindings {
-    ghost use Rattle.std.specs.Prelude.{List};
+    ghost use Rattle.std.specs.Prelude.{◌≡◌, List, map};
+    ghost use Rattle.tk_buckets.specs.Filed.{numbers_of};
     ghost use Rattle.tk_patterns.specs.declared.binding.Binding.{Binding};
+    ghost use Rattle.tk_patterns.specs.Filing.{number_of};
 
     ghost Value = { List Binding };
 
     ghost view = { λ o. o.bindings.items };
+
+    ghost invariant = { λ o. numbers_of o.filed ≡ map number_of o.bindings.items };
 }
 
 impl OwnBindings {
@@ -34,14 +49,28 @@ impl OwnBindings {
     {
         OwnBindings {
             bindings: Vec::new(alloc),
+            filed: Buckets::new(alloc),
         }
     }
 
-    /// The bindings.
-    pub(crate) fn as_slice(&self) -> &[Binding]
-        ensures { result.now ≡ self.now }
+    /// The script that an event runs for a tag.
+    pub(crate) fn winner<'a>(
+        &'a self,
+        tag: &str,
+        event: &Event,
+        history: &History,
+        virtuals: &'a [(VirtualName, Sequence)],
+    ) -> Option<&'a Text>
+        ensures { option_copied result ≡ winner virtuals.now tag.now event.now history.now self.now }
     {
-        self.bindings.as_slice()
+        winner(
+            self.bindings.as_slice(),
+            &self.filed,
+            tag,
+            event,
+            history,
+            virtuals,
+        )
     }
 
     /// Binds a script to a sequence for a tag.
@@ -71,7 +100,25 @@ impl OwnBindings {
                 set_script(&mut self.bindings, place, script);
                 Ok(())
             }
-            None => add(&mut self.bindings, binding),
+            None => self.add(binding),
+        }
+    }
+
+    /// Adds a binding, the last.
+    fn add(&mut self, binding: Binding) -> Result<(), BindFault>
+        ensures answer { MatchBool (nat_le 4096 (length self.old)) (result ≡ Err BindFault.Full)
+            (IsOkUnless result BindFault.NoMemory) }
+        ensures ok { OnOk result (self.new ≡ self.old ++ binding ∷ []) }
+        ensures err { OnErr result (self.new ≡ self.old) }
+    {
+        let number = number_of(&binding);
+        add(&mut self.bindings, binding)?;
+        match self.filed.push(number) {
+            Ok(()) => Ok(()),
+            Err(_) => {
+                self.bindings.pop();
+                Err(BindFault::NoMemory)
+            }
         }
     }
 
@@ -79,15 +126,14 @@ impl OwnBindings {
     pub(crate) fn unbind(&mut self, tag: &str, sequence: &Sequence)
         ensures { self.new ≡ without_binding tag.now sequence.now self.old }
     {
-        self.bindings
-            .retain(|binding| !is_of(binding, tag, sequence));
+        leave_out_binding(&mut self.bindings, &mut self.filed, tag, sequence);
     }
 
     /// Takes out all bindings of a tag.
     pub(crate) fn unbind_all(&mut self, tag: &str)
         ensures { self.new ≡ without_tag tag.now self.old }
     {
-        self.bindings.retain(|binding| !has_tag(binding, tag));
+        leave_out_tag(&mut self.bindings, &mut self.filed, tag);
     }
 
     /// The script of a tag for a sequence.
@@ -147,6 +193,52 @@ fn set_script(bindings: &mut Vec<Binding>, place: usize, script: Text)
 {
     let binding = &mut bindings[place];
     binding.script = script;
+}
+
+/// Takes out the binding of a tag for a sequence, the last place first.
+fn leave_out_binding(
+    bindings: &mut Vec<Binding>,
+    filed: &mut Buckets,
+    tag: &str,
+    sequence: &Sequence,
+)
+    requires { numbers_of filed.old ≡ map number_of bindings.old.items }
+    ensures bindings { bindings.new.items ≡ without_binding tag.now sequence.now bindings.old.items }
+    ensures filed { numbers_of filed.new ≡ map number_of bindings.new.items }
+{
+    let mut place = bindings.len();
+    while place > 0 {
+        place -= 1;
+        if is_of(&bindings[place], tag, sequence) {
+            take_out(bindings, filed, place);
+        }
+    }
+}
+
+/// Takes out all bindings of a tag, the last place first.
+fn leave_out_tag(bindings: &mut Vec<Binding>, filed: &mut Buckets, tag: &str)
+    requires { numbers_of filed.old ≡ map number_of bindings.old.items }
+    ensures bindings { bindings.new.items ≡ without_tag tag.now bindings.old.items }
+    ensures filed { numbers_of filed.new ≡ map number_of bindings.new.items }
+{
+    let mut place = bindings.len();
+    while place > 0 {
+        place -= 1;
+        if has_tag(&bindings[place], tag) {
+            take_out(bindings, filed, place);
+        }
+    }
+}
+
+/// Takes out the binding at a place.
+fn take_out(bindings: &mut Vec<Binding>, filed: &mut Buckets, place: usize)
+    requires first { place < length bindings.old.items }
+    requires filed { numbers_of filed.old ≡ map number_of bindings.old.items }
+    ensures bindings { bindings.new.items ≡ remove bindings.old.items place }
+    ensures filed { numbers_of filed.new ≡ map number_of bindings.new.items }
+{
+    filed.remove(place);
+    bindings.remove(place);
 }
 
 /// Adds a binding, the last.

@@ -3,10 +3,8 @@ ghost use Rattle.std.specs.Option.{option_copied};
 ghost use Rattle.tk_patterns.specs.Own.{own_of, script_of, sequences_of, refuses, with_binding, without_binding, without_tag, LeavesOthers, LeavesAll};
 ghost use Rattle.tk_patterns.specs.Winner.{winner};
 
-use crate::binding::Binding;
 use crate::fault::BindFault;
 use crate::own::OwnBindings;
-use crate::winning::winner;
 use std::alloc::{AllocError, Global};
 use std::collections::HashMap;
 use std::marker::Model;
@@ -139,16 +137,7 @@ impl BindTable {
         ensures { option_copied result
             ≡ winner virtuals.now tag.now event.now history.now (own_of owner self.now) }
     {
-        winner(self.bindings(owner), tag, event, history, virtuals)
-    }
-
-    /// An application's bindings.
-    fn bindings(&self, owner: usize) -> &[Binding]
-        ensures { result.now ≡ own_of owner self.now }
-    {
-        match self.owners.get(&owner) {
-            Some(own) => own.as_slice(),
-            None => &[],
-        }
+        let own = self.owners.get(&owner)?;
+        own.winner(tag, event, history, virtuals)
     }
 }

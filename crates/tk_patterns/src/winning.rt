@@ -1,6 +1,9 @@
 //! Which binding of a tag an event runs.
-ghost use Rattle.std.specs.Prelude.{◌≡◌, Some, None, option_map};
+ghost use Rattle.std.specs.Prelude.{◌≡◌, ℕ, Some, None, map, option_map, slice_get};
 ghost use Rattle.std.specs.Option.{option_copied};
+ghost use Rattle.tk_buckets.specs.Filed.{numbers_of, HasStampAt};
+ghost use Rattle.tk_buckets.specs.Rests.{first_of, earlier};
+ghost use Rattle.tk_patterns.specs.Filing.{number_of};
 ghost use Rattle.tk_patterns.specs.Own.{is_of, script_of};
 ghost use Rattle.tk_patterns.specs.Same.{same_sequence};
 ghost use Rattle.tk_patterns.specs.Shown.{shown};
@@ -8,24 +11,28 @@ ghost use Rattle.tk_patterns.specs.Winner.{of_pair, through, of_sequence, of_bin
 
 use crate::binding::{Binding, has_tag};
 use crate::candidate::{Contender, beats};
+use crate::filing::{stamps_of_any, stamps_of_button, stamps_of_key, stamps_of_virtuals};
 use tcl_text::Text;
-use tk_events::{Event, EventKind};
+use tk_buckets::{Buckets, earlier, first_of, past};
+use tk_events::{Event, EventKind, EventType};
 use tk_history::History;
 use tk_sequences::{Sequence, VirtualName};
 
 /// The script of the binding that wins.
 pub(crate) fn winner<'a>(
     bindings: &'a [Binding],
+    filed: &Buckets,
     tag: &str,
     event: &Event,
     history: &History,
     virtuals: &'a [(VirtualName, Sequence)],
 ) -> Option<&'a Text>
+    requires { numbers_of filed.now ≡ map number_of bindings.now }
     ensures { option_copied result ≡ winner virtuals.now tag.now event.now history.now bindings.now }
 {
     match &event.kind {
-        EventKind::Physical(_) => {
-            Some(holder_of(bindings, tag, event, history, virtuals)?.script)
+        EventKind::Physical(kind) => {
+            Some(holder_of(bindings, filed, *kind, tag, event, history, virtuals)?.script)
         }
         EventKind::Virtual(name) => script_of(bindings, tag, name),
     }
@@ -57,22 +64,55 @@ fn is_name(sequence: &Sequence, name: &VirtualName) -> bool
     }
 }
 
-/// Who holds after all candidates of a tag.
+/// Who holds after all candidates of a tag. They are found where those for the event's key, for its button, for any, and for virtual events are
+/// filed, and gone through in the order of registration.
 fn holder_of<'a>(
     bindings: &'a [Binding],
+    filed: &Buckets,
+    kind: EventType,
     tag: &str,
     event: &Event,
     history: &History,
     virtuals: &'a [(VirtualName, Sequence)],
 ) -> Option<Contender<'a>>
+    requires filed { numbers_of filed.now ≡ map number_of bindings.now }
+    requires kind { event.now.kind ≡ EventKind.Physical kind }
     ensures { option_map shown result
         ≡ held_at_last None (candidates event.now history.now virtuals.now tag.now bindings.now) }
 {
+    let mut by_key = stamps_of_key(filed, tag, kind, event.key);
+    let mut by_button = stamps_of_button(filed, tag, kind, event.button);
+    let mut any = stamps_of_any(filed, tag, kind);
+    let mut named = stamps_of_virtuals(filed, tag);
     let mut holder = None;
-    for binding in bindings {
+    while let Some(stamp) = first_of_all(by_key, by_button, any, named) {
+        let Some(binding) = binding_at(bindings, filed, stamp) else {
+            return holder;
+        };
+        by_key = past(by_key, stamp);
+        by_button = past(by_button, stamp);
+        any = past(any, stamp);
+        named = past(named, stamp);
         holder = after_tagged(holder, binding, tag, event, history, virtuals);
     }
     holder
+}
+
+/// The stamp of four lists that comes first.
+fn first_of_all(by_key: &[u64], by_button: &[u64], any: &[u64], named: &[u64]) -> Option<u64>
+    ensures { result ≡ earlier (earlier (first_of by_key.now) (first_of by_button.now)) (earlier (first_of any.now) (first_of named.now)) }
+{
+    earlier(
+        earlier(first_of(by_key), first_of(by_button)),
+        earlier(first_of(any), first_of(named)),
+    )
+}
+
+/// The binding whose place has a stamp.
+fn binding_at<'a>(bindings: &'a [Binding], filed: &Buckets, stamp: u64) -> Option<&'a Binding>
+    ensures { (place : ℕ) → HasStampAt place stamp filed.now → option_copied result ≡ slice_get bindings.now place }
+{
+    bindings.get(filed.place(stamp)?)
 }
 
 /// Who holds after what a binding gives, if it has the tag.

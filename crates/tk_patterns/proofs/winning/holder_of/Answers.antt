@@ -1,11 +1,37 @@
-use Rattle.std.proofs.Common.{◌≡◌, ◌+◌, drop, option_map, sym, ap, ◌∙◌}
+use Rattle.std.proofs.Common.{◌≡◌, Some, None, refl, sym, ap, ◌∙◌, subst, option_map}
+use Rattle.tk_buckets.proofs.RestLemmas.{fewer}
+use Rattle.tk_buckets.specs.Rests.{past}
 use Rattle.tk_patterns.specs.Shown.{shown}
-use Rattle.tk_patterns.specs.Winner.{candidates, held_at_last}
-use Rattle.tk_patterns.proofs.WinnerLemmas.{binding_more}
+use Rattle.tk_patterns.specs.Winner.{of_binding, held_at_last}
+use Rattle.tk_patterns.proofs.Reached.{Reached, next, all_done}
 use Rattle.tk_patterns.proofs.winning.holder_of.Goals as goal
 
-pub loop-binding-preserved : goal.loop-binding-preserved
-loop-binding-preserved c =
-    ap (λ holder. held_at_last holder (candidates c.args.event.now c.args.history.now c.args.virtuals.now c.args.tag.now (drop (c.loop-binding.binding-index + 1) c.args.bindings.now))) c.after_tagged-holder.ensures
-    ∙ sym (binding_more c.args.event.now c.args.history.now c.args.virtuals.now c.args.tag.now (option_map shown c.loop-binding.holder) c.args.bindings.now c.loop-binding.binding-index c.binding-item.result c.loop-binding-test.true c.binding-item.is)
-    ∙ c.loop-binding.invariant
+pub loop-stamp-init : goal.loop-stamp-init
+loop-stamp-init c = record {
+  from = 0;
+  keys = c.stamps_of_key-by_key.ensures;
+  buttons = c.stamps_of_button-by_button.ensures;
+  alls = c.stamps_of_any-any.ensures.stamps;
+  names = c.stamps_of_virtuals-named.ensures;
+  held = refl;
+}
+
+pub loop-stamp-preserved : goal.loop-stamp-preserved
+loop-stamp-preserved c =
+    let it = next c.args.event.now c.args.history.now c.args.virtuals.now c.args.tag.now c.args.kind c.args.bindings.now c.args.filed.now c.requires.kind c.stamps_of_any-any.ensures.rising c.requires.filed _ _ _ _ _ c.in-Some.stamp c.loop-stamp.invariant (sym c.in-Some.ensures) in
+    let is : Some c.in-Some-binding_at.binding.now ≡ Some it.binding = c.in-Some-binding_at.ensures it.place it.there ∙ it.is in
+    let same : c.in-Some-binding_at.binding.now ≡ it.binding = cc in
+    rw (c.past-by_key.ensures, c.past-by_button.ensures, c.past-any.ensures, c.past-named.ensures, c.after_tagged-holder.ensures, same) it.after
+
+pub loop-stamp-smaller : goal.loop-stamp-smaller
+loop-stamp-smaller c =
+    rw (c.past-by_key.ensures, c.past-by_button.ensures, c.past-any.ensures, c.past-named.ensures) (fewer c.in-Some.stamp _ _ _ _ (sym c.in-Some.ensures))
+
+pub returns-in_default-binding_at : goal.returns-in_default-binding_at
+returns-in_default-binding_at c =
+    let it = next c.args.event.now c.args.history.now c.args.virtuals.now c.args.tag.now c.args.kind c.args.bindings.now c.args.filed.now c.requires.kind c.stamps_of_any-any.ensures.rising c.requires.filed _ _ _ _ _ c.in-Some.stamp c.loop-stamp.invariant (sym c.in-Some.ensures) in
+    absurd (let is : None ≡ Some it.binding = c.in_default-binding_at.ensures it.place it.there ∙ it.is in cc)
+
+pub returns : goal.returns
+returns c =
+    all_done c.args.event.now c.args.history.now c.args.virtuals.now c.args.tag.now c.args.kind c.args.bindings.now c.args.filed.now c.requires.kind c.stamps_of_any-any.ensures.rising c.requires.filed _ _ _ _ _ c.loop-stamp.invariant (sym c.first_of_all.ensures ∙ c.in_default.is)

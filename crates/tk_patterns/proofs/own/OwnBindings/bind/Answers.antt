@@ -1,7 +1,9 @@
-use Rattle.std.proofs.Common.{◌≡◌, ◌∷◌, [], ◌++◌, length, Some, None, Err, sym, ap, ◌∙◌, subst, MatchBool, OnOk, IsOkUnless}
+use Rattle.std.proofs.Common.{◌≡◌, ◌∷◌, [], ◌++◌, length, map, Some, None, Err, sym, ap, ◌∙◌, subst, MatchBool, OnOk, IsOkUnless}
 use Rattle.std.specs.Prelude.{position, nat_le}
 use Rattle.tk_patterns.specs.declared.fault.BindFault.TheVariants.{Full, NoMemory}
 use Rattle.tk_patterns.specs.Own.{is_of, refuses, with_binding, with_script_at}
+use Rattle.tk_patterns.specs.Filing.{number_of}
+use Rattle.tk_patterns.proofs.KeptLemmas.{numbers_again}
 use Rattle.tk_patterns.proofs.BindLemmas.{found_not_refused, again_there, none_refuses, added_there}
 use Rattle.tk_patterns.proofs.own.OwnBindings.bind.Goals as goal
 
@@ -25,13 +27,16 @@ returns-in-None-clause-answer c =
     let seen = c.as_slice.ensures.value ∙ c.self.view_is in
     let none = ap (λ tag. position (is_of tag c.args.sequence) c.args.self.now) (sym c.as_str.ensures.bytes) ∙ ap (λ own. position (is_of c.as_str.result.now c.args.sequence) own) (sym seen) ∙ sym c.in-None.ensures in
     subst (λ b. MatchBool b (c.add.result ≡ Err Full) (IsOkUnless c.add.result NoMemory))
-    (ap (λ own. nat_le 4096 (length own)) c.self.view_is ∙ sym (none_refuses c.args.tag c.args.sequence c.args.self.now none))
+    (sym (none_refuses c.args.tag c.args.sequence c.args.self.now none))
     c.add.ensures.answer
 
 pub returns-in-None-clause-ok : goal.returns-in-None-clause-ok
 returns-in-None-clause-ok c =
     let seen = c.as_slice.ensures.value ∙ c.self.view_is in
     let none = ap (λ tag. position (is_of tag c.args.sequence) c.args.self.now) (sym c.as_str.ensures.bytes) ∙ ap (λ own. position (is_of c.as_str.result.now c.args.sequence) own) (sym seen) ∙ sym c.in-None.ensures in
-    subst (λ own. OnOk c.add.result (c.add.new.bindings.items ≡ own))
-    (ap (λ own. own ++ record { tag = c.args.tag; sequence = c.args.sequence; script = c.args.script } ∷ []) c.self.view_is ∙ added_there c.args.tag c.args.sequence c.args.script c.args.self.now none)
+    subst (λ own. OnOk c.add.result (c.add.new.self ≡ own))
+    (added_there c.args.tag c.args.sequence c.args.script c.args.self.now none)
     c.add.ensures.ok
+
+pub invariant_of-self : goal.invariant_of-self
+invariant_of-self c = c.self.invariant ∙ sym (ap (map number_of) c.set_script.ensures ∙ numbers_again c.self.inside.bindings.items c.in-Some.place c.script_in-script.result)

@@ -1,0 +1,4 @@
+-- Lemmas of the proofs.
+pub mod FiledLemmas
+pub mod PlaceLemmas
+pub mod RestLemmas

@@ -1,5 +1,5 @@
 -- The canonical form of what was read is read as the same sequence.
-use Rattle.std.proofs.Common.{◌≡◌, ◌≢◌, ℕ, ◌≤◌, ◌==◌, ◌&&◌, ◌||◌, Bool, true, false, cond, not, List, [], ◌∷◌, ◌++◌, Option, Some, None, Ok, Err, refl, sym, ap, ◌∙◌, subst, arith}
+use Rattle.std.proofs.Common.{◌≡◌, ◌≢◌, ℕ, ◌≤◌, ◌==◌, ◌&&◌, ◌||◌, Bool, true, false, cond, not, List, [], ◌∷◌, ◌++◌, Option, Some, None, Ok, Err, refl, sym, ap, ◌∙◌, subst}
 use Rattle.std.specs.List.{list_all}
 use Rattle.std.specs.Str.{bytes_eq}
 use Rattle.std.proofs.lemmas.Slice.Eq.{bytes_eq-Decides}
@@ -72,8 +72,8 @@ unfolding name_in
 name_is_text text name h =
     if_by (is_name (middle text) && bytes_eq text (in_brackets (middle text))) (Some (middle text)) None (Some name) h
     (λ t h.
-        let same : middle text ≡ name = cc in
-        ap in_brackets (sym same) ∙ sym ((bytes_eq-Decides text (in_brackets (middle text))).0 (both_second (is_name (middle text)) (bytes_eq text (in_brackets (middle text))) t)))
+    let same : middle text ≡ name = cc in
+    ap in_brackets (sym same) ∙ sym ((bytes_eq-Decides text (in_brackets (middle text))).0 (both_second (is_name (middle text)) (bytes_eq text (in_brackets (middle text))) t)))
     (λ t h. absurd (cc))
 
 back_by : (text : List ℕ) (found : Option (List ℕ)) (sequence : Sequence) → name_in text ≡ found → parsed text ≡ Ok sequence → named_or_physical text found ≡ Ok sequence → parsed (canonical sequence) ≡ Ok sequence

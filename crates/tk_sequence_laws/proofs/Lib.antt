@@ -4,3 +4,8 @@ pub mod ReadLemmas
 pub mod WordLemmas
 pub mod WrittenLemmas
 pub mod ReadBack
+pub mod KnownWords
+pub mod FieldsCut
+pub mod EventsRead
+pub mod EventsCut
+pub mod PatternsRead

@@ -9,3 +9,5 @@ pub mod FieldsCut
 pub mod EventsRead
 pub mod EventsCut
 pub mod PatternsRead
+pub mod PatternsCut
+pub mod Grammars

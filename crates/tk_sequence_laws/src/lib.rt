@@ -1,6 +1,8 @@
-//! That a sequence in its canonical form is read as itself.
+//! Laws of event sequences: that they are read by their grammar, and that a sequence in its canonical form is read as itself.
 #![tactic(auto)]
 
 mod laws;
 
-pub use laws::canonical_form_is_read_back;
+pub use laws::{
+    canonical_form_is_read_back, faults_are_told, one_sequence_or_fault, sequences_are_read,
+};

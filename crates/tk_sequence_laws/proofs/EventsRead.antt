@@ -1,11 +1,11 @@
 -- The fields that are a pattern's are read as it, and those at fault give their fault.
-use Rattle.std.proofs.Common.{◌≡◌, ℕ, ◌||◌, Bool, true, false, cond, List, [], ◌∷◌, ◌++◌, append_assoc, Option, Some, None, Ok, Err, refl, sym, ap, ◌∙◌, subst}
+use Rattle.std.proofs.Common.{◌≡◌, inl, inr, ℕ, ◌||◌, Bool, true, false, cond, List, [], ◌∷◌, ◌++◌, append_assoc, Option, Some, None, Ok, Err, refl, sym, ap, ◌∙◌, subst}
 use Rattle.std.specs.Prelude.{bit_or}
 use Rattle.tk_sequence_laws.proofs.FieldsCut.{AreInside}
-use Rattle.tk_sequence_laws.proofs.KnownWords.{type_inside, type_no_prefix, button_inside, button_no_prefix, button_no_type, modifier_inside, modifier_prefix, repetition_inside, repetition_prefix, IsKeyWord, key_word, is_inside_word}
+use Rattle.tk_sequence_laws.proofs.KnownWords.{type_inside, type_no_prefix, button_inside, button_no_prefix, button_no_type, modifier_inside, modifier_prefix, repetition_inside, repetition_prefix, key_word, is_inside_word, none_prefix, key_is, none_meant, single_isnt, may_come_is, may_repeat_isnt}
 use Rattle.tk_sequence_laws.proofs.ReadLemmas.{always}
 use Rattle.tk_sequence_laws.proofs.WrittenLemmas.{typed_is}
-use Rattle.tk_sequence_laws.specs.Grammar.{ArePrefixes, IsDetail, IsAlone, IsEvent, AreOf, IsFaultyEvent, AreFaulty}
+use Rattle.tk_sequence_laws.specs.Grammar.{ArePrefixes, IsCounted, IsDetail, IsAlone, IsEvent, AreOf, IsFaultyEvent, AreFaulty}
 use Rattle.tk_sequence_laws.specs.Grammar.ArePrefixes.{none as no_prefixes, modifier as with_modifier, repetition as with_repetition}
 use Rattle.tk_sequence_laws.specs.Grammar.IsDetail.{a_key as key_of_type, a_button as button_of_type}
 use Rattle.tk_sequence_laws.specs.Grammar.IsAlone.{a_key as key_alone, a_button as button_alone}
@@ -15,12 +15,10 @@ use Rattle.tk_sequences.specs.Modifiers.{modifier_bit}
 use Rattle.tk_sequences.specs.Reading.{Outcome, ◌>>=◌, prefix_named, button_named, key_meant, is_single, key_or_fault, button_or_fault, detail_of, detail_behind, may_repeat, typed, button_or_key, alone, untyped, typed_or_not, headed, with_prefix, pattern_behind}
 use Rattle.tk_sequences.specs.Types.{type_named, is_key_type, is_button_type}
 use Rattle.tk_sequences.specs.declared.detail.Detail.{Detail}
-use Rattle.tk_sequences.specs.declared.detail.Detail.TheVariants as details
 use Rattle.tk_sequences.specs.declared.event_type.EventType.{EventType}
 use Rattle.tk_sequences.specs.declared.event_type.EventType.TheVariants.{Key, KeyRelease, Button, ButtonRelease, Motion, Enter, Leave, FocusIn, FocusOut, Configure, Map, Unmap, Destroy}
 use Rattle.tk_sequences.specs.declared.fault.SequenceFault.{SequenceFault}
 use Rattle.tk_sequences.specs.declared.fault.SequenceFault.TheVariants.{BadSequence, BadKeysym}
-use Rattle.tk_sequences.specs.declared.modifier.Modifier.{Modifier}
 use Rattle.tk_sequences.specs.declared.pattern.Pattern.{Pattern}
 use Rattle.tk_sequences.specs.declared.pattern.Repetition.{Repetition}
 use Rattle.tk_sequences.specs.declared.pattern.Repetition.TheVariants.{Single}
@@ -102,8 +100,8 @@ no_detail whole kind word false false is isnt h =
     ∙ ap (λ (t : Bool). cond t (button_or_fault whole (button_named word)) (Err (BadSequence whole))) isnt
 
 detail_read : {kind : EventType} {word : List ℕ} {detail : Detail} → IsDetail kind word detail → (whole : List ℕ) → detail_of whole kind word ≡ Ok detail
-detail_read (key_of_type {kind} {word} key is meant) whole = key_detail whole kind word (Some key) is meant
-detail_read (button_of_type {kind} {word} button is named) whole = button_detail whole kind word (Some button) is named
+detail_read (key_of_type {kind} {word} {key} is is_key) whole = key_detail whole kind word (Some key) is (key_is is_key)
+detail_read (button_of_type {kind} {word} {button} is named) whole = button_detail whole kind word (Some button) is named
 
 -- what stands behind a type
 behind_read : (whole : List ℕ) (kind : EventType) (word : List ℕ) (detail : Detail) → detail_of whole kind word ≡ Ok detail → detail_behind whole kind (word ∷ []) ≡ Ok (Some detail)
@@ -131,10 +129,11 @@ typed_fault whole held times kind words fault false may same is =
 -- ── details without a type ──
 alone_words : {word : List ℕ} {kind : EventType} {detail : Detail} → IsAlone word kind detail → (whole : List ℕ) (held : ℕ) (times : Repetition) (words : List (List ℕ))
     → pattern_behind whole held times (word ∷ words) ≡ alone whole held times detail words
-alone_words (button_alone {word} button named) whole held times words =
+alone_words (button_alone {word} {button} named) whole held times words =
     other_read whole held times word words (button_no_prefix word button named) (button_no_type word button named)
     ∙ ap (λ found. button_or_key word found >>= (λ detail. alone whole held times detail words)) named
-alone_words (key_alone {word} key no_button meant) whole held times words =
+alone_words (key_alone {word} {key} no_button is) whole held times words =
+    let meant = key_is is in
     let known = key_word word key meant in
     other_read whole held times word words known.no_prefix known.no_type
     ∙ ap (λ found. button_or_key word found >>= (λ detail. alone whole held times detail words)) no_button
@@ -142,12 +141,12 @@ alone_words (key_alone {word} key no_button meant) whole held times words =
 
 alone_read : {word : List ℕ} {kind : EventType} {detail : Detail} → IsAlone word kind detail → (whole : List ℕ) (held : ℕ) (times : Repetition)
     → alone whole held times detail [] ≡ Ok (record { modifiers = held; times = times; kind = kind; detail = Some detail })
-alone_read (button_alone button named) whole held times = refl
-alone_read (key_alone key no_button meant) whole held times = refl
+alone_read (button_alone named) whole held times = refl
+alone_read (key_alone no_button is) whole held times = refl
 
-pub alone_may : {word : List ℕ} {kind : EventType} {detail : Detail} → IsAlone word kind detail → (t : Bool) → (t || may_repeat kind) ≡ true
-alone_may (button_alone button named) t = always t
-alone_may (key_alone key no_button meant) t = always t
+pub alone_counted : {word : List ℕ} {kind : EventType} {detail : Detail} → IsAlone word kind detail → IsCounted kind
+alone_counted (button_alone named) = inr refl
+alone_counted (key_alone no_button is) = inl refl
 
 -- ── events ──
 event_read : {words : List (List ℕ)} {kind : EventType} {detail : Option Detail} → IsEvent words kind detail → (whole : List ℕ) (held : ℕ) (times : Repetition) → (is_single times || may_repeat kind) ≡ true
@@ -162,23 +161,23 @@ faulty_read : {whole : List ℕ} {times : Repetition} {words : List (List ℕ)} 
 faulty_read missing held = refl
 faulty_read {whole} {times} (repeated {word} {again} {words} more named) held =
     by_prefix whole held times word words (Some (prefixes.Repetition again)) (repetition_prefix word again named)
-    ∙ ap (λ (t : Bool). cond t (pattern_behind whole held again words) (Err (BadSequence whole))) more
-faulty_read {whole} {times} (unknown {word} {words} no_prefix no_type no_button no_key) held =
-    other_read whole held times word words no_prefix no_type
+    ∙ ap (λ (t : Bool). cond t (pattern_behind whole held again words) (Err (BadSequence whole))) (single_isnt times more)
+faulty_read {whole} {times} (unknown {word} {words} no_modifier no_repetition no_type no_button no_key) held =
+    other_read whole held times word words (none_prefix word no_modifier no_repetition) no_type
     ∙ ap (λ found. button_or_key word found >>= (λ detail. alone whole held times detail words)) no_button
-    ∙ ap (λ found. key_or_fault word found >>= (λ detail. alone whole held times detail words)) no_key
+    ∙ ap (λ found. key_or_fault word found >>= (λ detail. alone whole held times detail words)) (none_meant word no_key)
 faulty_read {whole} {times} (behind_alone {word} {other} {words = words} is) held = alone_words is whole held times (other ∷ words)
-faulty_read {whole} {times} (uncounted {word} {kind} {words} is may_not) held =
+faulty_read {whole} {times} (uncounted {word} {kind} {words} is more none) held =
     kind_read whole held times word words kind is
-    ∙ ap (λ (t : Bool). cond t (detail_behind whole kind words >>= (λ detail. Ok (record { modifiers = held; times = times; kind = kind; detail = detail }))) (Err (BadSequence whole))) may_not
-faulty_read {whole} {times} (bad_detail {word} {other} {kind} {words} is may_not) held =
+    ∙ ap (λ (t : Bool). cond t (detail_behind whole kind words >>= (λ detail. Ok (record { modifiers = held; times = times; kind = kind; detail = detail }))) (Err (BadSequence whole))) (ap (λ (t : Bool). t || may_repeat kind) (single_isnt times more) ∙ may_repeat_isnt kind none)
+faulty_read {whole} {times} (bad_detail {word} {other} {kind} {words} is none) held =
     kind_read whole held times word (other ∷ words) kind is
     ∙ typed_fault whole held times kind (other ∷ words) (BadSequence whole) (is_single times || may_repeat kind) refl (λ t. refl)
-    (behind_fault whole kind other words (BadSequence whole) (no_detail whole kind other (is_key_type kind) (is_button_type kind) refl refl may_not))
+    (behind_fault whole kind other words (BadSequence whole) (no_detail whole kind other (is_key_type kind) (is_button_type kind) refl refl (may_repeat_isnt kind none)))
 faulty_read {whole} {times} (bad_key {word} {other} {kind} {words} is is_key none) held =
     kind_read whole held times word (other ∷ words) kind is
     ∙ typed_fault whole held times kind (other ∷ words) (BadKeysym other) true (ap (λ (t : Bool). is_single times || (t || is_button_type kind)) is_key ∙ always (is_single times)) (λ t. absurd (cc))
-    (behind_fault whole kind other words (BadKeysym other) (key_detail whole kind other None is_key none))
+    (behind_fault whole kind other words (BadKeysym other) (key_detail whole kind other None is_key (none_meant other none)))
 faulty_read {whole} {times} (bad_button {word} {other} {kind} {words} is is_button none) held =
     kind_read whole held times word (other ∷ words) kind is
     ∙ typed_fault whole held times kind (other ∷ words) (BadSequence whole) (is_single times || may_repeat kind) refl (λ t. refl)
@@ -193,7 +192,7 @@ pub fields_read : (whole : List ℕ) (words : List (List ℕ)) (pattern : Patter
 fields_read whole words pattern is =
     ap (λ (ws : List (List ℕ)). pattern_behind whole 0 Single ws) is.cut
     ∙ prefixes_read is.are_prefixes whole is.event
-    ∙ event_read is.is_event whole pattern.modifiers pattern.times is.may_come
+    ∙ event_read is.is_event whole pattern.modifiers pattern.times (may_come_is pattern.times pattern.kind is.may_come)
 
 pub fields_faulty : (whole : List ℕ) (words : List (List ℕ)) (fault : SequenceFault) → AreFaulty whole words fault → pattern_behind whole 0 Single words ≡ Err fault
 fields_faulty whole words fault is =
@@ -210,12 +209,12 @@ prefixes_inside (with_modifier {front} word modifier is named) = inside_more fro
 prefixes_inside (with_repetition {front} word {times = times} is named) = inside_more front (word ∷ []) (prefixes_inside is) (repetition_inside word times named, tt)
 
 detail_inside : {kind : EventType} {word : List ℕ} {detail : Detail} → IsDetail kind word detail → is_inside_word word ≡ true
-detail_inside (key_of_type {word = word} key is meant) = (key_word word key meant).inside
-detail_inside (button_of_type {word = word} button is named) = button_inside word button named
+detail_inside (key_of_type {word = word} {key} is is_key) = (key_word word key (key_is is_key)).inside
+detail_inside (button_of_type {word = word} {button} is named) = button_inside word button named
 
 alone_inside : {word : List ℕ} {kind : EventType} {detail : Detail} → IsAlone word kind detail → is_inside_word word ≡ true
-alone_inside (button_alone {word} button named) = button_inside word button named
-alone_inside (key_alone {word} key no_button meant) = (key_word word key meant).inside
+alone_inside (button_alone {word} {button} named) = button_inside word button named
+alone_inside (key_alone {word} {key} no_button is) = (key_word word key (key_is is)).inside
 
 event_inside : {words : List (List ℕ)} {kind : EventType} {detail : Option Detail} → IsEvent words kind detail → AreInside words
 event_inside (type_alone {word} {kind} is) = (type_inside word kind is, tt)

@@ -1,19 +1,16 @@
 -- The sequences that are read are those of the grammar, and so are the faults.
-use Rattle.std.proofs.Common.{◌≡◌, ◌≢◌, ◌↔◌, ◌⊎◌, inl, inr, ℕ, ◌+◌, ◌<◌, ◌≤◌, ◌==◌, ◌&&◌, ◌||◌, Bool, true, false, cond, not, List, [], ◌∷◌, ◌++◌, append-nil, Option, Some, None, Ok, Err, eqb-true, refl, sym, ap, ◌∙◌, subst, arith}
-use Rattle.std.specs.Prelude.{codes}
-use Rattle.std.specs.List.{list_all}
+use Rattle.std.proofs.Common.{◌≡◌, ◌≢◌, ◌⊎◌, inl, inr, ℕ, ◌≤◌, ◌==◌, ◌&&◌, ◌||◌, Bool, true, false, cond, not, List, [], ◌∷◌, ◌++◌, append-nil, Option, Some, None, Ok, Err, eqb-true, refl, sym, ap, ◌∙◌, subst, arith}
 use Rattle.std.specs.Str.{bytes_eq}
 use Rattle.std.proofs.lemmas.Bool.{cases_lt, ne_eqb, eqb-false}
 use Rattle.std.proofs.lemmas.Bool.Decides.{nat_tests}
 use Rattle.tk_sequence_laws.proofs.PatternsCut.{Ends, ends, fails, TextCut, text_cut}
-use Rattle.tk_sequence_laws.proofs.PatternsRead.{IsRead, begins_read, many_read, gap_ends, fault_behind, gap_black, begins_black}
+use Rattle.tk_sequence_laws.proofs.PatternsRead.{begins_read, many_read, gap_ends, fault_behind, gap_black, begins_black}
 use Rattle.tk_sequence_laws.proofs.ReadBack.{name_is_text}
 use Rattle.tk_sequence_laws.proofs.ReadLemmas.{if_by}
 use Rattle.tk_sequence_laws.proofs.WordLemmas.{both_first, both_second, isnt}
-use Rattle.tk_sequence_laws.specs.Grammar.{Each, IsGap, HasNoClosing, BeginsWith, IsVirtual, IsSequence, virtual, physical as a_physical, IsFaulty, HasOpening, HasFault, opening, empty, faulty, many}
+use Rattle.tk_sequence_laws.specs.Grammar.{IsGap, HasNoClosing, BeginsWith, IsVirtual, IsSequence, virtual, physical as a_physical, HasOpening, HasFault, opening, empty, faulty, many}
 use Rattle.tk_sequence_laws.specs.Laws.{SequencesAreRead, FaultsAreTold, IsOneOrOther, IsOneSequence, IsOneFault, IsNotBoth}
 use Rattle.tk_sequences.proofs.NameLemmas.{name_in_some, name_in_none}
-use Rattle.tk_sequences.proofs.PieceLemmas.{patterns_behind}
 use Rattle.tk_sequences.specs.Patterns.{count_of}
 use Rattle.tk_sequences.specs.Reading.{Outcome, ◌>>=◌, Between, patterns_from, some_patterns, physical, in_brackets, is_some_text, has_no_closing, is_name, middle, name_in, begins_with_bracket, has_brackets, named_or_physical, parsed}
 use Rattle.tk_sequences.specs.declared.fault.SequenceFault.{SequenceFault}

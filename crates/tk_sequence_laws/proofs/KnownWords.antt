@@ -1,23 +1,26 @@
 -- What the words of the tables are: none of one table is in another that is asked before it, and none has a bracket.
-use Rattle.std.proofs.Common.{◌≡◌, ℕ, ◌<◌, ◌==◌, ◌&&◌, ◌||◌, Bool, true, false, cond, not, List, [], ◌∷◌, length, get_or, Option, Some, None, refl, sym, ap, ◌∙◌, subst, arith}
+use Rattle.std.proofs.Common.{◌≡◌, ◌≢◌, ◌⊎◌, inl, inr, ℕ, zero, suc, ◌+◌, ◌-◌, ◌<◌, ◌==◌, ◌&&◌, ◌||◌, nat_le, Bool, true, false, cond, not, List, [], ◌∷◌, length, get_or, Option, Some, None, eqb-true, refl, sym, ap, ◌∙◌, subst, arith}
 use Rattle.std.specs.List.{list_all}
 use Rattle.std.specs.Option.{is_some, option_map, option_or}
 use Rattle.std.specs.Str.{bytes_eq}
+use Rattle.std.proofs.lemmas.Bool.{ne_eqb, eqb-false}
 use Rattle.std.proofs.lemmas.List.Quantifiers.{position-Some}
 use Rattle.std.proofs.lemmas.List.Sums.{AllPass-from_list_all}
 use Rattle.std.proofs.lemmas.Slice.Eq.{bytes_eq-Decides}
 use Rattle.tk_keys.specs.Names.{key_names, key_named, key_of_character}
-use Rattle.tk_sequence_laws.proofs.ReadLemmas.{if_by}
+use Rattle.tk_sequence_laws.proofs.ReadLemmas.{if_by, always}
 use Rattle.tk_sequence_laws.proofs.WordLemmas.{is_inside, both_first, both_second}
+use Rattle.tk_sequence_laws.specs.Grammar.{IsKey, IsCounted}
+use Rattle.tk_sequence_laws.specs.Grammar.IsKey.{by_name, by_character}
 use Rattle.tk_sequences.specs.Lookup.{looked_up}
 use Rattle.tk_sequences.specs.Modifiers.{modifier_words, modifier_named}
 use Rattle.tk_sequences.specs.Patterns.{repetition_words, repetition_named}
-use Rattle.tk_sequences.specs.Reading.{prefix_named, button_words, button_named, key_of_one, key_meant}
-use Rattle.tk_sequences.specs.Types.{type_words, type_named}
+use Rattle.tk_sequences.specs.Reading.{prefix_named, button_words, button_named, key_of_one, key_meant, is_single, may_repeat}
+use Rattle.tk_sequences.specs.Types.{type_words, type_named, is_key_type, is_button_type}
 use Rattle.tk_sequences.specs.declared.event_type.EventType.{EventType}
 use Rattle.tk_sequences.specs.declared.modifier.Modifier.{Modifier}
 use Rattle.tk_sequences.specs.declared.pattern.Repetition.{Repetition}
-use Rattle.tk_sequences.specs.declared.reading.Prefix.{Prefix}
+use Rattle.tk_sequences.specs.declared.pattern.Repetition.TheVariants.{Single, Double, Triple, Quadruple}
 use Rattle.tk_sequences.specs.declared.reading.Prefix.TheVariants as prefixes
 
 abbrev pub is_inside_word : List ℕ → Bool
@@ -152,3 +155,126 @@ key_word_by word key (Some place) is h = record {
 pub key_word : (word : List ℕ) (key : ℕ) → key_meant word ≡ Some key → IsKeyWord word
 unfolding key_meant
 key_word word key h = key_word_by word key (key_named word) refl h
+
+-- ── keys, by name or character ──
+-- the names of one character are those of printing characters
+abbrev ones_at : ℕ → List (List ℕ) → Bool
+ones_at place [] = true
+ones_at place ([] ∷ names) = ones_at (suc place) names
+ones_at place ((byte ∷ []) ∷ names) = (byte == place + 32) && ones_at (suc place) names
+ones_at place ((byte ∷ other ∷ bytes) ∷ names) = ones_at (suc place) names
+
+names_ones : ones_at 0 key_names ≡ true
+unfolding key_names
+names_ones = refl
+
+ones_first : (place byte : ℕ) (name : List ℕ) (names : List (List ℕ)) → ones_at place (name ∷ names) ≡ true → name ≡ byte ∷ [] → (byte == place + 32) ≡ true
+ones_first place byte [] names all same = absurd (cc)
+ones_first place byte (first ∷ []) names all same =
+    let e : first ≡ byte = cc in subst (λ b. (b == place + 32) ≡ true) e (both_first (first == place + 32) (ones_at (suc place) names) all)
+ones_first place byte (first ∷ other ∷ bytes) names all same = absurd (cc)
+
+ones_rest : (place : ℕ) (name : List ℕ) (names : List (List ℕ)) → ones_at place (name ∷ names) ≡ true → ones_at (suc place) names ≡ true
+ones_rest place [] names all = all
+ones_rest place (byte ∷ []) names all = both_second (byte == place + 32) (ones_at (suc place) names) all
+ones_rest place (byte ∷ other ∷ bytes) names all = all
+
+one_at : (place byte : ℕ) (names : List (List ℕ)) (at : ℕ) → ones_at place names ≡ true → at < length names → get_or names at [] ≡ byte ∷ [] → byte ≡ place + at + 32
+one_at place byte [] at all less same = absurd (omega arith)
+one_at place byte (name ∷ names) zero all less same = let e = eqb-true byte (place + 32) (ones_first place byte name names all same) in omega arith
+one_at place byte (name ∷ names) (suc at) all less same = let e = one_at (suc place) byte names at (ones_rest place name names all) (omega arith) same in omega arith
+
+-- a name of one character is the key of that character
+named_character : (byte place key : ℕ) → key_named (byte ∷ []) ≡ Some place → key_of_character byte ≡ Some key → place ≡ key
+named_character byte place key named keyed =
+    let found = position-Some (λ known. bytes_eq known (byte ∷ [])) key_names place [] named in
+    let same : get_or key_names place [] ≡ byte ∷ [] = (bytes_eq-Decides (get_or key_names place []) (byte ∷ [])).0 found.1 in
+    let at : byte ≡ 0 + place + 32 = one_at 0 byte key_names place names_ones found.0 same in
+    if_by (nat_le 32 byte && nat_le byte 126) (Some (byte - 32)) None (Some key) keyed
+    (λ t h. let is : byte - 32 ≡ key = cc in omega (arith, at, is)) (λ t h. absurd (cc))
+
+character_by : (byte key : ℕ) (found : Option ℕ) → key_named (byte ∷ []) ≡ found → byte ≢ 45 → byte ≢ 60 → byte ≢ 62 → key_of_character byte ≡ Some key → option_or found (key_of_one (byte ∷ [])) ≡ Some key
+character_by byte key None named no_minus no_opening no_closing keyed =
+    ap (λ (t : Bool). cond (t || (byte == 60 || byte == 62)) None (key_of_character byte)) (ne_eqb byte 45 no_minus)
+    ∙ ap (λ (t : Bool). cond (t || byte == 62) None (key_of_character byte)) (ne_eqb byte 60 no_opening)
+    ∙ ap (λ (t : Bool). cond t None (key_of_character byte)) (ne_eqb byte 62 no_closing)
+    ∙ keyed
+character_by byte key (Some place) named no_minus no_opening no_closing keyed = ap (λ k. Some k) (named_character byte place key named keyed)
+
+pub key_is : {word : List ℕ} {key : ℕ} → IsKey word key → key_meant word ≡ Some key
+unfolding key_meant
+key_is (by_name {word} {key} named) = ap (λ found. option_or found (key_of_one word)) named
+key_is (by_character byte {key} no_minus no_opening no_closing keyed) = character_by byte key (key_named (byte ∷ [])) refl no_minus no_opening no_closing keyed
+
+no_byte : (a b c : Bool) → (a || (b || c)) ≡ false → (a ≡ false) × (b ≡ false) × (c ≡ false)
+no_byte true b c h = absurd (cc)
+no_byte false true c h = absurd (cc)
+no_byte false false true h = absurd (cc)
+no_byte false false false h = (refl, refl, refl)
+
+one_is_key : (word : List ℕ) (key : ℕ) → key_of_one word ≡ Some key → IsKey word key
+one_is_key [] key h = absurd (cc)
+one_is_key (byte ∷ []) key h =
+    if_by (byte == 45 || (byte == 60 || byte == 62)) None (key_of_character byte) (Some key) h (λ t h. absurd (cc))
+    (λ t h. let none = no_byte (byte == 45) (byte == 60) (byte == 62) t in by_character byte (eqb-false byte 45 none.0) (eqb-false byte 60 none.1) (eqb-false byte 62 none.2) h)
+one_is_key (byte ∷ other ∷ bytes) key h = absurd (cc)
+
+is_key_by : (word : List ℕ) (key : ℕ) (found : Option ℕ) → key_named word ≡ found → option_or found (key_of_one word) ≡ Some key → IsKey word key
+is_key_by word key None named h = one_is_key word key h
+is_key_by word key (Some place) named h = by_name (named ∙ h)
+
+pub is_key : (word : List ℕ) (key : ℕ) → key_meant word ≡ Some key → IsKey word key
+unfolding key_meant
+is_key word key h = is_key_by word key (key_named word) refl h
+
+pub none_is_key : (word : List ℕ) → key_meant word ≡ None → (key : ℕ) → IsKey word key → ⊥
+none_is_key word none key is = let f : Some key ≡ None = sym (key_is is) ∙ none in cc
+
+none_meant_by : (word : List ℕ) (found : Option ℕ) → key_meant word ≡ found → ((key : ℕ) → IsKey word key → ⊥) → found ≡ None
+none_meant_by word None meant none = refl
+none_meant_by word (Some key) meant none = absurd (none key (is_key word key meant))
+
+pub none_meant : (word : List ℕ) → ((key : ℕ) → IsKey word key → ⊥) → key_meant word ≡ None
+none_meant word none = none_meant_by word (key_meant word) refl none
+
+-- ── how often events may come ──
+pub single_is : (times : Repetition) → is_single times ≡ true → times ≡ Single
+single_is Single h = refl
+single_is Double h = absurd (cc)
+single_is Triple h = absurd (cc)
+single_is Quadruple h = absurd (cc)
+
+pub isnt_single : (times : Repetition) → is_single times ≡ false → times ≢ Single
+isnt_single times h same = let f : is_single Single ≡ false = subst (λ t. is_single t ≡ false) same h in absurd (cc)
+
+pub single_isnt : (times : Repetition) → times ≢ Single → is_single times ≡ false
+single_isnt Single h = absurd (h refl)
+single_isnt Double h = refl
+single_isnt Triple h = refl
+single_isnt Quadruple h = refl
+
+pub may_repeat_is : (kind : EventType) → IsCounted kind → may_repeat kind ≡ true
+may_repeat_is kind (inl is) = ap (λ (t : Bool). t || is_button_type kind) is
+may_repeat_is kind (inr is) = ap (λ (t : Bool). is_key_type kind || t) is ∙ always (is_key_type kind)
+
+pub may_come_is : (times : Repetition) (kind : EventType) → (times ≡ Single) ⊎ IsCounted kind → (is_single times || may_repeat kind) ≡ true
+may_come_is times kind (inl is) = ap (λ t. is_single t || may_repeat kind) is
+may_come_is times kind (inr is) = ap (λ (t : Bool). is_single times || t) (may_repeat_is kind is) ∙ always (is_single times)
+
+counted_by : (kind : EventType) (k b : Bool) → is_key_type kind ≡ k → is_button_type kind ≡ b → (k || b) ≡ true → IsCounted kind
+counted_by kind true b is_key is_button h = inl is_key
+counted_by kind false true is_key is_button h = inr is_button
+counted_by kind false false is_key is_button h = absurd (cc)
+
+pub is_counted : (kind : EventType) → may_repeat kind ≡ true → IsCounted kind
+is_counted kind h = counted_by kind (is_key_type kind) (is_button_type kind) refl refl h
+
+pub may_repeat_isnt : (kind : EventType) → (IsCounted kind → ⊥) → may_repeat kind ≡ false
+may_repeat_isnt kind none = by (may_repeat kind) refl
+  where
+    by : (t : Bool) → may_repeat kind ≡ t → t ≡ false
+    by true h = absurd (none (is_counted kind h))
+    by false h = refl
+
+pub isnt_counted : (kind : EventType) → may_repeat kind ≡ false → IsCounted kind → ⊥
+isnt_counted kind h is = let f : true ≡ false = sym (may_repeat_is kind is) ∙ h in cc

@@ -11,3 +11,4 @@ pub mod EventsCut
 pub mod PatternsRead
 pub mod PatternsCut
 pub mod Grammars
+pub mod GrammarExamples

@@ -1,11 +1,11 @@
 -- Each text begins with patterns, and behind them it ends or is at fault.
-use Rattle.std.proofs.Common.{◌≡◌, ◌≢◌, ◌⊎◌, inl, inr, ℕ, ◌==◌, Bool, true, false, List, [], ◌∷◌, ◌++◌, append_assoc, eqb-true, Option, Some, None, refl, sym, ap, ◌∙◌, subst}
+use Rattle.std.proofs.Common.{◌≡◌, ◌≢◌, inl, inr, ℕ, ◌==◌, Bool, true, false, List, [], ◌∷◌, ◌++◌, append_assoc, eqb-true, Option, Some, None, refl, sym, ap, subst}
 use Rattle.std.proofs.lemmas.Bool.{eqb-false}
 use Rattle.tcl_text.specs.Backslash.{is_white}
 use Rattle.tk_keys.specs.Names.{key_of_character}
 use Rattle.tk_sequence_laws.proofs.EventsCut.{AreCut, fields_are_cut}
-use Rattle.tk_sequence_laws.proofs.FieldsCut.{FieldsCut, fields_cut}
-use Rattle.tk_sequence_laws.specs.Grammar.{IsGap, HasNoClosing, AreFields, key_pattern, IsPattern, BeginsWith, IsFaulty}
+use Rattle.tk_sequence_laws.proofs.FieldsCut.{fields_cut}
+use Rattle.tk_sequence_laws.specs.Grammar.{IsGap, HasNoClosing, AreFields, key_pattern, BeginsWith, IsFaulty}
 use Rattle.tk_sequence_laws.specs.Grammar.IsPattern.{character, brackets}
 use Rattle.tk_sequence_laws.specs.Grammar.IsFaulty.{character as bad_character, unclosed as never_closed, brackets as bad_brackets}
 use Rattle.tk_sequences.specs.declared.fault.SequenceFault.{SequenceFault}

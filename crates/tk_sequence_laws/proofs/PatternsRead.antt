@@ -1,5 +1,5 @@
 -- The patterns that a text begins with are read, and so is a fault behind them.
-use Rattle.std.proofs.Common.{◌≡◌, ◌≢◌, ℕ, ◌+◌, ◌-◌, ◌<◌, ◌≤◌, ◌==◌, ◌&&◌, ◌||◌, Bool, true, false, cond, nat_le, List, [], ◌∷◌, ◌++◌, append_assoc, append-nil, get_or, length, All, Option, Some, None, Ok, Err, refl, sym, ap, ◌∙◌, subst, inl, inr, arith}
+use Rattle.std.proofs.Common.{◌≡◌, ◌≢◌, ℕ, ◌-◌, ◌<◌, ◌≤◌, ◌==◌, ◌&&◌, ◌||◌, Bool, true, false, cond, nat_le, List, [], ◌∷◌, ◌++◌, append_assoc, append-nil, All, Option, Some, None, Ok, Err, refl, sym, ap, ◌∙◌, subst, inl, inr, arith}
 use Rattle.std.specs.List.{list_all}
 use Rattle.std.proofs.lemmas.Bool.{cases_lt, le-leb, lt-leb, ne_eqb}
 use Rattle.std.proofs.lemmas.Bool.Decides.{nat_tests}
@@ -11,12 +11,12 @@ use Rattle.tk_sequence_laws.proofs.FieldsCut.{each_all, fields_are, fields_insid
 use Rattle.tk_sequence_laws.proofs.ReadBack.{begins_within, brackets_within}
 use Rattle.tk_sequence_laws.proofs.ReadLemmas.{if_by}
 use Rattle.tk_sequence_laws.proofs.WordLemmas.{is_inside, not_closing}
-use Rattle.tk_sequence_laws.specs.Grammar.{IsGap, HasNoClosing, AreFields, AreOf, AreFaulty, key_pattern, IsPattern, BeginsWith, IsFaulty}
+use Rattle.tk_sequence_laws.specs.Grammar.{IsGap, AreFields, AreOf, key_pattern, IsPattern, BeginsWith, IsFaulty}
 use Rattle.tk_sequence_laws.specs.Grammar.IsPattern.{character, brackets}
 use Rattle.tk_sequence_laws.specs.Grammar.IsFaulty.{character as bad_character, unclosed as never_closed, brackets as bad_brackets}
 use Rattle.tk_sequences.proofs.PieceLemmas.{patterns_behind, unclosed, closed, plain_first, plain_refused}
 use Rattle.tk_sequences.specs.Patterns.{count_of, times_of}
-use Rattle.tk_sequences.specs.Reading.{Outcome, pattern_behind, pattern_of, plain_key, plain_pattern, Place, Between, Within, onto, counted, patterns_from, begins_with_bracket, has_brackets}
+use Rattle.tk_sequences.specs.Reading.{Outcome, pattern_behind, pattern_of, plain_key, plain_pattern, Between, Within, onto, counted, patterns_from, begins_with_bracket, has_brackets}
 use Rattle.tk_sequences.specs.declared.fault.SequenceFault.{SequenceFault}
 use Rattle.tk_sequences.specs.declared.fault.SequenceFault.TheVariants.{BadSequence}
 use Rattle.tk_sequences.specs.declared.pattern.Pattern.{Pattern}

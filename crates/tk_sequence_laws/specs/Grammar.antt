@@ -1,11 +1,11 @@
 -- The grammar of event sequences (bind(n), EVENT PATTERNS), as a relation between a whole text and the sequence that it is, or its fault. It cuts texts
 -- into white space, patterns and fields, and says nothing of how a text is read. The words are those of the tables of `tk_sequences` and `tk_keys`.
-use Rattle.std.specs.Prelude.{◌≡◌, ◌≢◌, ◌⊎◌, ℕ, ◌+◌, ◌<◌, ◌≤◌, Bool, true, false, ◌||◌, bit_or, List, [], ◌∷◌, ◌++◌, Option, Some, None, codes}
+use Rattle.std.specs.Prelude.{◌≡◌, ◌≢◌, ◌⊎◌, ℕ, ◌<◌, ◌≤◌, true, false, bit_or, List, [], ◌∷◌, ◌++◌, Option, Some, None, codes}
 use Rattle.tcl_text.specs.Backslash.{is_white}
-use Rattle.tk_keys.specs.Names.{key_of_character}
+use Rattle.tk_keys.specs.Names.{key_named, key_of_character}
 use Rattle.tk_sequences.specs.Modifiers.{modifier_named, modifier_bit}
 use Rattle.tk_sequences.specs.Patterns.{repetition_named, count_of}
-use Rattle.tk_sequences.specs.Reading.{is_separator, prefix_named, button_named, key_meant, is_single, may_repeat}
+use Rattle.tk_sequences.specs.Reading.{is_separator, button_named}
 use Rattle.tk_sequences.specs.Types.{type_named, is_key_type, is_button_type}
 use Rattle.tk_sequences.specs.declared.detail.Detail.{Detail}
 use Rattle.tk_sequences.specs.declared.detail.Detail.TheVariants as details
@@ -66,15 +66,20 @@ pub data ArePrefixes : List (List ℕ) → ℕ → Repetition → Type 0 where
   repetition : {front : List (List ℕ)} (word : List ℕ) {held : ℕ} {times : Repetition} → ArePrefixes front held Single → repetition_named word ≡ Some times →
       ArePrefixes (front ++ word ∷ []) held times
 
--- The detail of a type: a key by its name or its character, or a button from 1 to 5.
+-- A key by its name, or by its character, which is a printing ASCII character other than `-`, `<` and `>`.
+pub data IsKey : List ℕ → ℕ → Type 0 where
+  by_name : {word : List ℕ} {key : ℕ} → key_named word ≡ Some key → IsKey word key
+  by_character : (byte : ℕ) {key : ℕ} → byte ≢ 45 → byte ≢ 60 → byte ≢ 62 → key_of_character byte ≡ Some key → IsKey (byte ∷ []) key
+
+-- The detail of a type: a key, or a button from 1 to 5.
 pub data IsDetail : EventType → List ℕ → Detail → Type 0 where
-  a_key : {kind : EventType} {word : List ℕ} (key : ℕ) → is_key_type kind ≡ true → key_meant word ≡ Some key → IsDetail kind word (details.Key key)
-  a_button : {kind : EventType} {word : List ℕ} (button : ℕ) → is_button_type kind ≡ true → button_named word ≡ Some button → IsDetail kind word (details.Button button)
+  a_key : {kind : EventType} {word : List ℕ} {key : ℕ} → is_key_type kind ≡ true → IsKey word key → IsDetail kind word (details.Key key)
+  a_button : {kind : EventType} {word : List ℕ} {button : ℕ} → is_button_type kind ≡ true → button_named word ≡ Some button → IsDetail kind word (details.Button button)
 
 -- A detail without a type: a button where it is 1 to 5, and else a key.
 pub data IsAlone : List ℕ → EventType → Detail → Type 0 where
-  a_button : {word : List ℕ} (button : ℕ) → button_named word ≡ Some button → IsAlone word types.Button (details.Button button)
-  a_key : {word : List ℕ} (key : ℕ) → button_named word ≡ None → key_meant word ≡ Some key → IsAlone word types.Key (details.Key key)
+  a_button : {word : List ℕ} {button : ℕ} → button_named word ≡ Some button → IsAlone word types.Button (details.Button button)
+  a_key : {word : List ℕ} {key : ℕ} → button_named word ≡ None → IsKey word key → IsAlone word types.Key (details.Key key)
 
 -- What stands behind modifiers and repetition: a type, a type and its detail, or a detail.
 pub data IsEvent : List (List ℕ) → EventType → Option Detail → Type 0 where
@@ -83,14 +88,18 @@ pub data IsEvent : List (List ℕ) → EventType → Option Detail → Type 0 wh
       IsEvent (word ∷ detail_word ∷ []) kind (Some detail)
   detail_alone : {word : List ℕ} {kind : EventType} {detail : Detail} → IsAlone word kind detail → IsEvent (word ∷ []) kind (Some detail)
 
--- The fields are those of this pattern. Only events of keys and buttons are counted.
+-- events that may be counted: those of keys and buttons
+abbrev pub IsCounted : EventType → Type 0
+IsCounted kind = (is_key_type kind ≡ true) ⊎ (is_button_type kind ≡ true)
+
+-- The fields are those of this pattern.
 pub record AreOf (fields : List (List ℕ)) (pattern : Pattern) : Type 0 where
   pub prefixes : List (List ℕ)
   pub event : List (List ℕ)
   pub cut : fields ≡ prefixes ++ event
   pub are_prefixes : ArePrefixes prefixes pattern.modifiers pattern.times
   pub is_event : IsEvent event pattern.kind pattern.detail
-  pub may_come : (is_single pattern.times || may_repeat pattern.kind) ≡ true
+  pub may_come : (pattern.times ≡ Single) ⊎ IsCounted pattern.kind
 
 -- ---- patterns
 
@@ -102,7 +111,7 @@ key_pattern key = record { modifiers = 0; times = Single; kind = types.Key; deta
 pub data IsPattern : List ℕ → Pattern → Type 0 where
   -- a printing ASCII character other than blank and `<`, for its key
   character : (byte key : ℕ) → byte ≢ 32 → byte ≢ 60 → key_of_character byte ≡ Some key → IsPattern (byte ∷ []) (key_pattern key)
-  -- fields in `<` and `>`
+  -- fields in `<` and `>`, neither of which is in a word of the tables: so the first `>` closes them
   brackets : (inner : List ℕ) {fields : List (List ℕ)} {pattern : Pattern} → AreFields inner fields → AreOf fields pattern → IsPattern (60 ∷ (inner ++ 62 ∷ [])) pattern
 
 -- The text begins with these patterns, with white space in front of each, and goes on with the rest.
@@ -129,20 +138,20 @@ pub data IsFaultyEvent (whole : List ℕ) (times : Repetition) : List (List ℕ)
   -- nothing stands there
   missing : IsFaultyEvent whole times [] (BadSequence whole)
   -- a second repetition
-  repeated : {word : List ℕ} {again : Repetition} {words : List (List ℕ)} → is_single times ≡ false → repetition_named word ≡ Some again → IsFaultyEvent whole times (word ∷ words) (BadSequence whole)
-  -- a word that is neither a type nor a detail
-  unknown : {word : List ℕ} {words : List (List ℕ)} → prefix_named word ≡ None → type_named word ≡ None → button_named word ≡ None → key_meant word ≡ None →
+  repeated : {word : List ℕ} {again : Repetition} {words : List (List ℕ)} → times ≢ Single → repetition_named word ≡ Some again → IsFaultyEvent whole times (word ∷ words) (BadSequence whole)
+  -- a word of no kind
+  unknown : {word : List ℕ} {words : List (List ℕ)} → modifier_named word ≡ None → repetition_named word ≡ None → type_named word ≡ None → button_named word ≡ None → ((key : ℕ) → ¬ IsKey word key) →
       IsFaultyEvent whole times (word ∷ words) (BadKeysym word)
   -- something behind a detail without a type
   behind_alone : {word other : List ℕ} {kind : EventType} {detail : Detail} {words : List (List ℕ)} → IsAlone word kind detail → IsFaultyEvent whole times (word ∷ other ∷ words) (BadSequence whole)
   -- events that aren't counted
-  uncounted : {word : List ℕ} {kind : EventType} {words : List (List ℕ)} → type_named word ≡ Some kind → (is_single times || may_repeat kind) ≡ false →
+  uncounted : {word : List ℕ} {kind : EventType} {words : List (List ℕ)} → type_named word ≡ Some kind → times ≢ Single → ¬ IsCounted kind →
       IsFaultyEvent whole times (word ∷ words) (BadSequence whole)
   -- a detail of a type that has none
-  no_detail : {word other : List ℕ} {kind : EventType} {words : List (List ℕ)} → type_named word ≡ Some kind → may_repeat kind ≡ false →
+  no_detail : {word other : List ℕ} {kind : EventType} {words : List (List ℕ)} → type_named word ≡ Some kind → ¬ IsCounted kind →
       IsFaultyEvent whole times (word ∷ other ∷ words) (BadSequence whole)
   -- no key where one is wanted
-  no_key : {word other : List ℕ} {kind : EventType} {words : List (List ℕ)} → type_named word ≡ Some kind → is_key_type kind ≡ true → key_meant other ≡ None →
+  no_key : {word other : List ℕ} {kind : EventType} {words : List (List ℕ)} → type_named word ≡ Some kind → is_key_type kind ≡ true → ((key : ℕ) → ¬ IsKey other key) →
       IsFaultyEvent whole times (word ∷ other ∷ words) (BadKeysym other)
   -- no button where one is wanted
   no_button : {word other : List ℕ} {kind : EventType} {words : List (List ℕ)} → type_named word ≡ Some kind → is_button_type kind ≡ true → button_named other ≡ None →

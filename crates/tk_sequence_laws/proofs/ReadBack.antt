@@ -87,3 +87,8 @@ back_by text None sequence is read h =
 pub read_back : (text : List ℕ) (sequence : Sequence) → parsed text ≡ Ok sequence → parsed (canonical sequence) ≡ Ok sequence
 unfolding parsed
 read_back text sequence h = back_by text (name_in text) sequence refl h h
+
+pub forms_differ : (text other : List ℕ) (sequence another : Sequence) → parsed text ≡ Ok sequence → parsed other ≡ Ok another → canonical sequence ≡ canonical another → sequence ≡ another
+forms_differ text other sequence another read read_too same =
+    let k : Ok sequence ≡ Ok another = sym (read_back text sequence read) ∙ ap parsed same ∙ read_back other another read_too in
+    cc

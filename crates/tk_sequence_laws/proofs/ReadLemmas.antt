@@ -8,8 +8,8 @@ use Rattle.std.proofs.lemmas.Bool.Decides.{nat_tests}
 use Rattle.std.proofs.lemmas.List.Quantifiers.{position-Some}
 use Rattle.std.proofs.lemmas.List.Sums.{sum_by-cons}
 use Rattle.tcl_text.specs.Backslash.{is_white}
-use Rattle.tk_canonical.proofs.HeldLemmas.{IsHeld, held_more}
-use Rattle.tk_canonical.proofs.WordLemmas.{is_word}
+use Rattle.tk_sequence_laws.proofs.HeldLemmas.{IsHeld, held_more}
+use Rattle.tk_sequence_laws.proofs.WordLemmas.{is_word}
 use Rattle.tk_keys.proofs.NamesLemmas.{length_key_names}
 use Rattle.tk_keys.specs.Names.{key_names, key_named, key_of_character}
 use Rattle.tk_sequences.specs.Modifiers.{modifier_bit}
@@ -139,7 +139,7 @@ typed_read whole held times kind words pattern is h =
     subst Reads same (record { held = is; times = may; detail = behind_type whole kind words detail found })))
     (λ t h. absurd (cc))
 
-always : (t : Bool) → (t || true) ≡ true
+pub always : (t : Bool) → (t || true) ≡ true
 always true = refl
 always false = refl
 

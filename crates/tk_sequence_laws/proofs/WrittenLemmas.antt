@@ -5,9 +5,9 @@ use Rattle.std.specs.List.{flat_map, list_all}
 use Rattle.std.proofs.lemmas.Bool.{le-leb}
 use Rattle.std.proofs.lemmas.List.Folds.{list_all-append}
 use Rattle.std.proofs.lemmas.List.Sums.{AllPass-from_list_all, sum_by-cons}
-use Rattle.tk_canonical.proofs.HeldLemmas.{read_held}
-use Rattle.tk_canonical.proofs.ReadLemmas.{DetailReads, Reads, AllRead}
-use Rattle.tk_canonical.proofs.WordLemmas.{is_inside, is_in_word, is_word, both_second, not_closing, inside_word, word_field, name_is_word}
+use Rattle.tk_sequence_laws.proofs.HeldLemmas.{read_held}
+use Rattle.tk_sequence_laws.proofs.ReadLemmas.{DetailReads, Reads, AllRead}
+use Rattle.tk_sequence_laws.proofs.WordLemmas.{is_inside, is_in_word, is_word, both_second, not_closing, inside_word, word_field, name_is_word}
 use Rattle.tk_keys.proofs.NamesLemmas.{named-name}
 use Rattle.tk_sequences.proofs.PieceLemmas.{closed}
 use Rattle.tk_sequences.specs.Modifiers.{all_modifiers, has_modifier, modifier_name}
@@ -76,7 +76,7 @@ read_kind_of whole held times Map rest = refl
 read_kind_of whole held times Unmap rest = refl
 read_kind_of whole held times Destroy rest = refl
 
-typed_is : (whole : List ℕ) (held : ℕ) (times : Repetition) (kind : EventType) (words : List (List ℕ)) (detail : Option Detail) → (is_single times || may_repeat kind) ≡ true → detail_behind whole kind words ≡ Ok detail
+pub typed_is : (whole : List ℕ) (held : ℕ) (times : Repetition) (kind : EventType) (words : List (List ℕ)) (detail : Option Detail) → (is_single times || may_repeat kind) ≡ true → detail_behind whole kind words ≡ Ok detail
     → typed whole held times kind words ≡ Ok (record { modifiers = held; times = times; kind = kind; detail = detail })
 typed_is whole held times kind words detail may found = rw (may, found) refl
 

@@ -2,10 +2,10 @@
 use Rattle.std.proofs.Common.{◌≡◌, ◌≢◌, ℕ, zero, suc, ◌<◌, ◌&&◌, Bool, true, false, cond, filter, List, [], ◌∷◌, ◌++◌, append-nil, length, get_or, All, refl, sym, ap, ◌∙◌, subst, arith}
 use Rattle.std.specs.List.{list_all, slice_split}
 use Rattle.std.proofs.lemmas.Bool.Decides.{nat_tests}
-use Rattle.std.proofs.lemmas.List.Folds.{list_all-append}
 use Rattle.std.proofs.lemmas.List.Splits.{slice_split-cons_yes, slice_split_none, slice_split_at}
 use Rattle.tk_sequence_laws.proofs.KnownWords.{is_inside_word}
 use Rattle.tk_sequence_laws.proofs.WordLemmas.{is_inside}
+use Rattle.tk_sequence_laws.proofs.WrittenLemmas.{both_inside}
 use Rattle.tk_sequence_laws.specs.Grammar.{Each, AreSeparators, IsField, EndsField, AreFields}
 use Rattle.tk_sequences.specs.Reading.{fields, is_separator, is_some_text}
 
@@ -101,9 +101,6 @@ separator_inside byte is = grind (arith, nat_tests)
 gap_inside : (gap : List ℕ) → AreSeparators gap → list_all is_inside gap ≡ true
 gap_inside [] are = refl
 gap_inside (byte ∷ gap) are = ap (λ (t : Bool). t && list_all is_inside gap) (separator_inside byte are.0) ∙ gap_inside gap are.1
-
-both_inside : (front behind : List ℕ) → list_all is_inside front ≡ true → list_all is_inside behind ≡ true → list_all is_inside (front ++ behind) ≡ true
-both_inside front behind f b = list_all-append is_inside front behind ∙ ap (λ (t : Bool). t && list_all is_inside behind) f ∙ b
 
 pub fields_inside : (text : List ℕ) (words : List (List ℕ)) → AreFields text words → AreInside words → list_all is_inside text ≡ true
 fields_inside text [] are inside = gap_inside text are

@@ -124,7 +124,7 @@ modifier_inside true B3 = refl
 modifier_inside true B4 = refl
 modifier_inside true B5 = refl
 
-both_inside : (front behind : List ℕ) → list_all is_inside front ≡ true → list_all is_inside behind ≡ true → list_all is_inside (front ++ behind) ≡ true
+pub both_inside : (front behind : List ℕ) → list_all is_inside front ≡ true → list_all is_inside behind ≡ true → list_all is_inside (front ++ behind) ≡ true
 both_inside front behind f b = list_all-append is_inside front behind ∙ ap (λ (t : Bool). t && list_all is_inside behind) f ∙ b
 
 modifiers_inside : (held : ℕ) (modifiers : List Modifier) → list_all is_inside (flat_map (modifier_written held) modifiers) ≡ true

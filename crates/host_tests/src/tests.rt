@@ -1,7 +1,3 @@
-//! What no contract says: worked sessions, readers and writers that fail, and that calls succeed.
+//! What no contract says: whole runs of a host, and the refusals of its calls.
 
-mod fakes;
 mod hosts;
-mod plays;
-mod reading;
-mod streams;

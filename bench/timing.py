@@ -76,11 +76,11 @@ class Wish:
             return None
         lines = ["wm withdraw ."]
         for number in range(count):
-            lines += ["interp create p%d" % number, "load {} Tk p%d" % number, "p%d eval {wm geometry . %dx%d; pack propagate . 0; update; focus -force .; update}" % (number, *size)]
+            lines += ["interp create p%d" % number, "load {} Tk p%d" % number, "p%d eval {wm geometry . %dx%d; pack propagate . 0; update}" % (number, *size)]
         with tempfile.TemporaryDirectory() as folder:
             own, all_of_them = pathlib.Path(folder, "own.tcl"), pathlib.Path(folder, "all.tcl")
             own.write_text(script)
-            all_of_them.write_text("\n".join([*lines, *("p%d eval {source {%s}}" % (number, own) for number in range(count)), "exit", ""]))
+            all_of_them.write_text("\n".join([*lines, *("p%d eval {focus -force .; update; source {%s}}" % (number, own) for number in range(count)), "exit", ""]))
             return timed(["wish", str(all_of_them)], b"", self.environment)
 
 

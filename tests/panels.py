@@ -121,9 +121,9 @@ class Panels:
 
 def block(name, rectangle, budget, aliases, script):
     """An application's lines of a session."""
-    return ["app %s %d %d %d %d %d" % (name, *rectangle, budget), *("alias " + alias for alias in aliases), "script %d" % (script.count("\n") + 1 if script else 0)] + ([script] if script else [])
+    return ["app %s %d %d %d %d %s" % (name, *rectangle, budget), *("alias " + alias for alias in aliases), "script %d" % (script.count("\n") + 1 if script else 0)] + ([script] if script else [])
 
 
-def session(blocks, lines, end):
-    """The text of a session."""
-    return "\n".join(["tkhost 1", *(line for one in blocks for line in one), "events", *("%d %s" % line for line in lines), "%d end" % end, ""]).encode()
+def session(blocks, lines, end, version=1):
+    """The text of a session; version 2 has lines of rectangles, and budgets that are refilled."""
+    return "\n".join(["tkhost %d" % version, *(line for one in blocks for line in one), "events", *("%d %s" % line for line in lines), "%d end" % end, ""]).encode()

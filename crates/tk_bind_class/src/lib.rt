@@ -2,9 +2,7 @@
 #![tactic(auto)]
 
 mod classes;
-mod laws;
 mod rows;
 
 pub use classes::{bind_classes, unbind_classes};
-pub use laws::each_row_is_bound;
 pub use rows::Row;

@@ -1,5 +1,5 @@
 -- Which bindings can be candidates of an event: those that are filed under the numbers that are sought for it.
-use Rattle.std.proofs.Common.{◌≡◌, ℕ, zero, suc, ◌+◌, ◌*◌, ◌-◌, ◌==◌, ◌&&◌, ◌||◌, Bool, true, false, cond, List, [], ◌∷◌, ◌++◌, length, drop, map, Option, Some, None, slice_get, refl, sym, ap, ◌∙◌, subst, arith}
+use Rattle.std.proofs.Common.{◌≡◌, ℕ, zero, suc, ◌+◌, ◌*◌, ◌-◌, ◌==◌, ◌&&◌, ◌||◌, Bool, true, false, List, [], ◌∷◌, ◌++◌, length, drop, map, Option, Some, None, slice_get, refl, sym, ap, ◌∙◌, subst, arith}
 use Rattle.std.proofs.lemmas.Bool.Decides.{nat_tests}
 use Rattle.std.proofs.lemmas.Slice.Eq.{bytes_eq-Decides}
 use Rattle.std.specs.Option.{option_map_or}
@@ -7,10 +7,9 @@ use Rattle.tk_buckets.proofs.RestLemmas.{NoneSought}
 use Rattle.tk_buckets.specs.declared.filed.Filed.{Filed}
 use Rattle.tk_buckets.specs.Filed.{stamps_of}
 use Rattle.tk_events.specs.declared.event.Event.{Event}
-use Rattle.tk_events.specs.declared.event.EventKind.{EventKind}
 use Rattle.tk_events.specs.declared.event.EventKind.TheVariants as kinds
 use Rattle.tk_history.specs.declared.step.Step.{Step}
-use Rattle.tk_history.specs.Fits.{fits, has_type, has_detail, has_modifiers, is_about}
+use Rattle.tk_history.specs.Fits.{fits, has_type, has_detail, has_modifiers}
 use Rattle.tk_history.specs.Matches.{earlier_at}
 use Rattle.tk_history.specs.Steps.{steps_of, newest_copy, earlier_copies, copies_of}
 use Rattle.tk_history.specs.Walk.{matches, ends_at, walk}

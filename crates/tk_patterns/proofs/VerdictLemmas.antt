@@ -1,5 +1,5 @@
 -- One place of the comparison of modifiers.
-use Rattle.std.proofs.Common.{◌≡◌, ℕ, zero, suc, ◌+◌, Bool, true, false, List, [], ◌∷◌, drop, length, Option, Some, None, slice_get, refl, sym, ap, ◌∙◌}
+use Rattle.std.proofs.Common.{◌≡◌, ℕ, zero, suc, ◌+◌, true, false, List, [], ◌∷◌, drop, Some, None, slice_get, refl, ap, ◌∙◌}
 use Rattle.tk_history.proofs.StepLemmas.{rest_at}
 use Rattle.tk_history.specs.declared.step.Step.{Step}
 use Rattle.tk_patterns.specs.declared.verdict.Verdict.{Verdict}

@@ -1,5 +1,5 @@
 -- Under which number a binding is filed, and under which numbers the candidates of an event are.
-use Rattle.std.specs.Prelude.{ℕ, ◌+◌, ◌*◌, ◌-◌, ◌%◌, ◌^◌, Bool, false, ◌||◌, ◌==◌, List, [], ◌∷◌, length, fold, map, slice_get, Option, Some, None}
+use Rattle.std.specs.Prelude.{ℕ, ◌+◌, ◌*◌, ◌-◌, ◌%◌, ◌^◌, Bool, false, ◌||◌, ◌==◌, List, length, fold, slice_get, Option, Some, None}
 use Rattle.std.specs.Option.{option_map_or}
 use Rattle.tk_events.specs.declared.event.Event.{Event}
 use Rattle.tk_keys.specs.Names.{character_of}

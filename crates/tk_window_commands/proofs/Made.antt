@@ -1,4 +1,4 @@
--- A window that isn't made, since its variable can't be set.
+-- A window that is made, and one that isn't, since its variable can't be set.
 use Rattle.std.proofs.Common.{◌≡◌, ℕ, List, Option, refl, sym, ap, ◌∙◌, subst}
 use Rattle.std.specs.Prelude.{Result, Ok, Err}
 use Rattle.tcl_commands.specs.Done.{Steps}
@@ -9,13 +9,14 @@ use Rattle.tk_base.specs.declared.kind.Kind.{Kind}
 use Rattle.tk_base.specs.declared.kind.Kind.TheVariants.{Frame, Label, Button, Entry, Listbox}
 use Rattle.tk_options.specs.declared.fault.OptionFault.{OptionFault}
 use Rattle.tk_options.specs.declared.settings.Setting.{Setting}
-use Rattle.tk_options.specs.Options.{settings}
+use Rattle.tk_options.specs.Options.{settings, with_settings}
 use Rattle.tk_options.specs.Rows.{options_of}
 use Rattle.tk_screen.specs.Changes.{wrote}
-use Rattle.tk_screen.specs.Own.{Own}
-use Rattle.tk_widgets.specs.Commands.{options_in, variable_write}
+use Rattle.tk_screen.specs.Own.{Own, with_made}
+use Rattle.tk_widgets.specs.Commands.{Told, made, options_in, variable_write, with_options}
 use Rattle.tk_widgets.specs.declared.outcome.Change.TheVariants.{Configure}
 use Rattle.tk_widgets.specs.declared.outcome.VariableWrite.{VariableWrite}
+use Rattle.tk_widgets.specs.declared.outcome.WidgetAct.{WidgetAct}
 use Rattle.tk_widgets.specs.declared.widget.Widget.{Widget}
 use Rattle.tk_widgets.specs.Outcomes.{or_fault}
 use Rattle.tk_widgets.specs.Sizes.{new_widget}
@@ -50,3 +51,16 @@ pub write_refused : (refusal : Refusal) (own : Own) (kind : Kind) (path : List �
 write_refused refusal own kind path store new all write given given_is write_is steps =
     let after = not_written refusal own kind path all store new (wrote (variable_write (Configure all) (new_widget kind)) store) (subst (λ w. Steps {U = Unit {0}} (Err refusal) store new (wrote w store)) write_is steps) in
     subst (λ g. Does (Err refusal) own new (made_with kind path own store g)) (sym given_is) after
+
+-- the window is made with its options set, and its variable was
+pub window_made : (own own' : Own) (kind : Kind) (path answer : List ℕ) (all : List Setting) (store new : Store) (write : Option VariableWrite) (given : Result (List Setting) OptionFault) (widget widget' : Widget) (act : WidgetAct)
+    → given ≡ Ok all → widget ≡ new_widget kind → write ≡ variable_write (Configure all) widget → wrote write store ≡ Ok new
+    → made (Configure all) widget ≡ record { widget = widget'; act = act } → own' ≡ with_made path kind widget' own → answer ≡ path
+    → made_with kind path own store given ≡ record { own = own'; store = new; answer = Ok answer }
+window_made own own' kind path answer all store new write given widget widget' act given_is widget_is write_is wrote_is made_is own_is answer_is =
+    let set : Widget → Widget = with_options (with_settings all) in
+    let wrote_new : wrote (variable_write (Configure all) (new_widget kind)) store ≡ Ok new = ap (λ w. wrote w store) (sym (write_is ∙ ap (variable_write (Configure all)) widget_is)) ∙ wrote_is in
+    let set_is : set (new_widget kind) ≡ widget' = ap set (sym widget_is) ∙ ap (λ (t : Told). t.widget) made_is in
+    let own_made : with_made path kind (set (new_widget kind)) own ≡ own' = ap (λ w. with_made path kind w own) set_is ∙ sym own_is in
+    ap (made_with kind path own store) given_is ∙ ap (made_after kind path all own store) wrote_new
+    ∙ ap (λ o. record { own = o; store = new; answer = Ok path }) own_made ∙ ap (λ a. record { own = own'; store = new; answer = Ok a }) (sym answer_is)

@@ -1,4 +1,4 @@
-use Rattle.std.proofs.Common.{◌≡◌, ◌+◌, ◌∷◌, [], ◌++◌, drop, sym, ap, ◌∙◌, append_assoc, append-nil}
+use Rattle.std.proofs.Common.{◌+◌, ◌∷◌, [], ◌++◌, drop, sym, ap, ◌∙◌, append_assoc}
 use Rattle.tk_patterns.specs.Own.{sequences_of}
 use Rattle.tk_patterns.proofs.BindLemmas.{sequences_here, sequences_past}
 use Rattle.tk_patterns.proofs.own.sequences_of.Goals as goal

@@ -1,4 +1,4 @@
-use Rattle.std.proofs.Common.{◌≡◌, ◌+◌, drop, option_map, sym, ap, ◌∙◌}
+use Rattle.std.proofs.Common.{◌+◌, drop, option_map, sym, ap, ◌∙◌}
 use Rattle.tk_patterns.specs.Shown.{shown}
 use Rattle.tk_patterns.specs.Winner.{through, held_at_last}
 use Rattle.tk_patterns.proofs.WinnerLemmas.{pair_more}

@@ -1,9 +1,6 @@
-use Rattle.std.proofs.Common.{◌≡◌, Some, None, refl, sym, ap, ◌∙◌, subst, option_map}
+use Rattle.std.proofs.Common.{◌≡◌, Some, None, refl, sym, ◌∙◌}
 use Rattle.tk_buckets.proofs.RestLemmas.{fewer}
-use Rattle.tk_buckets.specs.Rests.{past}
-use Rattle.tk_patterns.specs.Shown.{shown}
-use Rattle.tk_patterns.specs.Winner.{of_binding, held_at_last}
-use Rattle.tk_patterns.proofs.Reached.{Reached, next, all_done}
+use Rattle.tk_patterns.proofs.Reached.{next, all_done}
 use Rattle.tk_patterns.proofs.winning.holder_of.Goals as goal
 
 pub loop-stamp-init : goal.loop-stamp-init

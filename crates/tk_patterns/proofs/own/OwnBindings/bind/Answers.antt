@@ -1,7 +1,7 @@
-use Rattle.std.proofs.Common.{◌≡◌, ◌∷◌, [], ◌++◌, length, map, Some, None, Err, sym, ap, ◌∙◌, subst, MatchBool, OnOk, IsOkUnless}
-use Rattle.std.specs.Prelude.{position, nat_le}
+use Rattle.std.proofs.Common.{◌≡◌, map, Err, sym, ap, ◌∙◌, subst, MatchBool, OnOk, IsOkUnless}
+use Rattle.std.specs.Prelude.{position}
 use Rattle.tk_patterns.specs.declared.fault.BindFault.TheVariants.{Full, NoMemory}
-use Rattle.tk_patterns.specs.Own.{is_of, refuses, with_binding, with_script_at}
+use Rattle.tk_patterns.specs.Own.{is_of, with_script_at}
 use Rattle.tk_patterns.specs.Filing.{number_of}
 use Rattle.tk_patterns.proofs.KeptLemmas.{numbers_again}
 use Rattle.tk_patterns.proofs.BindLemmas.{found_not_refused, again_there, none_refuses, added_there}

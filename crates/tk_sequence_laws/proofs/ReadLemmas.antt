@@ -1,6 +1,6 @@
 -- What a pattern has that was read.
-use Rattle.std.proofs.Common.{◌≡◌, ℕ, ◌+◌, ◌-◌, ◌<◌, ◌≤◌, ◌==◌, ◌&&◌, ◌||◌, Bool, true, false, cond, nat_le, List, [], ◌∷◌, ◌++◌, length, Option, Some, None, Ok, Err, refl, sym, ap, ◌∙◌, subst, arith}
-use Rattle.std.specs.Prelude.{bit_and, bit_or, codes}
+use Rattle.std.proofs.Common.{◌≡◌, ℕ, ◌-◌, ◌<◌, ◌≤◌, ◌==◌, ◌&&◌, ◌||◌, Bool, true, false, cond, nat_le, List, [], ◌∷◌, ◌++◌, Option, Some, None, Ok, Err, refl, subst, arith}
+use Rattle.std.specs.Prelude.{bit_or, codes}
 use Rattle.std.specs.Fmt.{decimal, digits}
 use Rattle.std.specs.Option.{option_or}
 use Rattle.std.specs.Str.{bytes_eq}
@@ -8,8 +8,8 @@ use Rattle.std.proofs.lemmas.Bool.Decides.{nat_tests}
 use Rattle.std.proofs.lemmas.List.Quantifiers.{position-Some}
 use Rattle.std.proofs.lemmas.List.Sums.{sum_by-cons}
 use Rattle.tcl_text.specs.Backslash.{is_white}
-use Rattle.tk_canonical.proofs.HeldLemmas.{IsHeld, held_more}
-use Rattle.tk_canonical.proofs.WordLemmas.{is_word}
+use Rattle.tk_sequence_laws.proofs.HeldLemmas.{IsHeld, held_more}
+use Rattle.tk_sequence_laws.proofs.WordLemmas.{is_word}
 use Rattle.tk_keys.proofs.NamesLemmas.{length_key_names}
 use Rattle.tk_keys.specs.Names.{key_names, key_named, key_of_character}
 use Rattle.tk_sequences.specs.Modifiers.{modifier_bit}
@@ -20,8 +20,7 @@ use Rattle.tk_sequences.specs.declared.detail.Detail.{Detail}
 use Rattle.tk_sequences.specs.declared.detail.Detail.TheVariants.{Key, Button}
 use Rattle.tk_sequences.specs.declared.event_type.EventType.{EventType}
 use Rattle.tk_sequences.specs.declared.event_type.EventType.TheVariants as types
-use Rattle.tk_sequences.specs.declared.fault.SequenceFault.{SequenceFault}
-use Rattle.tk_sequences.specs.declared.fault.SequenceFault.TheVariants.{BadSequence, BadKeysym}
+use Rattle.tk_sequences.specs.declared.fault.SequenceFault.TheVariants.{BadSequence}
 use Rattle.tk_sequences.specs.declared.modifier.Modifier.{Modifier}
 use Rattle.tk_sequences.specs.declared.pattern.Pattern.{Pattern}
 use Rattle.tk_sequences.specs.declared.pattern.Repetition.{Repetition}
@@ -115,8 +114,8 @@ detail_read whole word kind detail h =
     if_by (is_key_type kind) (key_or_fault word (key_meant word)) (cond (is_button_type kind) (button_or_fault whole (button_named word)) (Err (BadSequence whole))) (Ok detail) h
     (λ is h. key_read kind word (key_meant word) detail refl is h)
     (λ no_key h. if_by (is_button_type kind) (button_or_fault whole (button_named word)) (Err (BadSequence whole)) (Ok detail) h
-        (λ is h. button_detail kind whole word (button_named word) detail refl no_key is h)
-        (λ t h. absurd (cc)))
+    (λ is h. button_detail kind whole word (button_named word) detail refl no_key is h)
+    (λ t h. absurd (cc)))
 
 behind_type : (whole : List ℕ) (kind : EventType) (words : List (List ℕ)) (detail : Option Detail) → detail_behind whole kind words ≡ Ok detail → DetailReads kind detail
 behind_type whole kind [] detail h = let same : None ≡ detail = cc in subst (DetailReads kind) same tt
@@ -135,12 +134,12 @@ typed_read : (whole : List ℕ) (held : ℕ) (times : Repetition) (kind : EventT
 typed_read whole held times kind words pattern is h =
     if_by (is_single times || may_repeat kind) (detail_behind whole kind words >>= (λ detail. Ok (record { modifiers = held; times = times; kind = kind; detail = detail }))) (Err (BadSequence whole)) (Ok pattern) h
     (λ may h. then_by (detail_behind whole kind words) (λ detail. Ok (record { modifiers = held; times = times; kind = kind; detail = detail })) pattern h (λ detail found h.
-        let made : Pattern = record { modifiers = held; times = times; kind = kind; detail = detail } in
-        let same : made ≡ pattern = cc in
-        subst Reads same (record { held = is; times = may; detail = behind_type whole kind words detail found })))
+    let made : Pattern = record { modifiers = held; times = times; kind = kind; detail = detail } in
+    let same : made ≡ pattern = cc in
+    subst Reads same (record { held = is; times = may; detail = behind_type whole kind words detail found })))
     (λ t h. absurd (cc))
 
-always : (t : Bool) → (t || true) ≡ true
+pub always : (t : Bool) → (t || true) ≡ true
 always true = refl
 always false = refl
 
@@ -167,8 +166,8 @@ untyped_detail word (Some button) detail is h = let same : Button button ≡ det
 untyped_read : (whole : List ℕ) (held : ℕ) (times : Repetition) (word : List ℕ) (words : List (List ℕ)) (pattern : Pattern) → IsHeld held → untyped whole held times word words ≡ Ok pattern → Reads pattern
 untyped_read whole held times word words pattern is h =
     then_by (button_or_key word (button_named word)) (λ detail. alone whole held times detail words) pattern h (λ detail found h.
-        let facts = untyped_detail word (button_named word) detail refl found in
-        alone_read whole held times detail words pattern is (facts.may (is_single times)) facts.reads h)
+    let facts = untyped_detail word (button_named word) detail refl found in
+    alone_read whole held times detail words pattern is (facts.may (is_single times)) facts.reads h)
 
 headed_by : (whole : List ℕ) (held : ℕ) (times : Repetition) (word : List ℕ) (words : List (List ℕ)) (found : Option EventType) (pattern : Pattern) → IsHeld held
     → typed_or_not whole held times word words found ≡ Ok pattern → Reads pattern
@@ -243,8 +242,8 @@ patterns_read whole Between room (byte ∷ rest) patterns h =
     (cond (byte == 60) (patterns_from whole (Within []) room rest) (counted whole room (plain_pattern whole byte) (λ left. patterns_from whole Between left rest))) (Ok patterns) h
     (λ t h. patterns_read whole Between room rest patterns h)
     (λ t h. if_by (byte == 60) (patterns_from whole (Within []) room rest) (counted whole room (plain_pattern whole byte) (λ left. patterns_from whole Between left rest)) (Ok patterns) h
-        (λ t h. patterns_read whole (Within []) room rest patterns h)
-        (λ t h. counted_read whole room (plain_pattern whole byte) (λ left. patterns_from whole Between left rest) patterns h (plain_read whole byte) (λ left more h. patterns_read whole Between left rest more h)))
+    (λ t h. patterns_read whole (Within []) room rest patterns h)
+    (λ t h. counted_read whole room (plain_pattern whole byte) (λ left. patterns_from whole Between left rest) patterns h (plain_read whole byte) (λ left more h. patterns_read whole Between left rest more h)))
 patterns_read whole (Within inner) room (byte ∷ rest) patterns h =
     if_by (byte == 62) (counted whole room (pattern_of whole inner) (λ left. patterns_from whole Between left rest)) (patterns_from whole (Within (inner ++ byte ∷ [])) room rest) (Ok patterns) h
     (λ t h. counted_read whole room (pattern_of whole inner) (λ left. patterns_from whole Between left rest) patterns h (bracket_read whole inner) (λ left more h. patterns_read whole Between left rest more h))

@@ -1,11 +1,11 @@
 -- The canonical form of what was read is read as the same sequence.
-use Rattle.std.proofs.Common.{◌≡◌, ◌≢◌, ℕ, ◌≤◌, ◌==◌, ◌&&◌, ◌||◌, Bool, true, false, cond, not, List, [], ◌∷◌, ◌++◌, Option, Some, None, Ok, Err, refl, sym, ap, ◌∙◌, subst, arith}
+use Rattle.std.proofs.Common.{◌≡◌, ◌≢◌, ℕ, ◌≤◌, ◌==◌, ◌&&◌, ◌||◌, Bool, true, false, cond, not, List, [], ◌∷◌, ◌++◌, Option, Some, None, Ok, Err, refl, sym, ap, ◌∙◌, subst}
 use Rattle.std.specs.List.{list_all}
 use Rattle.std.specs.Str.{bytes_eq}
 use Rattle.std.proofs.lemmas.Slice.Eq.{bytes_eq-Decides}
-use Rattle.tk_canonical.proofs.ReadLemmas.{if_by, then_by, AllRead, AreRead, patterns_read}
-use Rattle.tk_canonical.proofs.WordLemmas.{is_inside, both_first, both_second, isnt}
-use Rattle.tk_canonical.proofs.WrittenLemmas.{inner_of, pattern_is, inner_inside, patterns_back}
+use Rattle.tk_sequence_laws.proofs.ReadLemmas.{if_by, then_by, AllRead, AreRead, patterns_read}
+use Rattle.tk_sequence_laws.proofs.WordLemmas.{is_inside, both_first, both_second, isnt}
+use Rattle.tk_sequence_laws.proofs.WrittenLemmas.{inner_of, pattern_is, inner_inside, patterns_back}
 use Rattle.tk_sequences.proofs.NameLemmas.{name_in_none}
 use Rattle.tk_sequences.specs.Patterns.{count_of}
 use Rattle.tk_sequences.specs.Reading.{Outcome, ◌>>=◌, Between, patterns_from, some_patterns, physical, in_brackets, is_name, middle, name_in, begins_with_bracket, has_brackets, named_or_physical, parsed}
@@ -19,11 +19,11 @@ use Rattle.tk_sequences.specs.declared.sequence.Sequence.TheVariants.{Virtual, P
 no_opening : (byte : ℕ) → is_inside byte ≡ true → (byte == 60) ≡ false
 no_opening byte h = isnt (byte == 60) (both_first (not (byte == 60)) (not (byte == 62)) h)
 
-begins_within : (inner rest : List ℕ) → list_all is_inside inner ≡ true → begins_with_bracket (inner ++ 62 ∷ rest) ≡ false
+pub begins_within : (inner rest : List ℕ) → list_all is_inside inner ≡ true → begins_with_bracket (inner ++ 62 ∷ rest) ≡ false
 begins_within [] rest h = refl
 begins_within (byte ∷ bytes) rest h = no_opening byte (both_first (is_inside byte) (list_all is_inside bytes) h)
 
-brackets_within : (inner rest : List ℕ) → list_all is_inside inner ≡ true → has_brackets (inner ++ 62 ∷ rest) ≡ has_brackets rest
+pub brackets_within : (inner rest : List ℕ) → list_all is_inside inner ≡ true → has_brackets (inner ++ 62 ∷ rest) ≡ has_brackets rest
 brackets_within [] rest h = refl
 brackets_within (byte ∷ bytes) rest h =
     ap (λ (t : Bool). (t && begins_with_bracket (bytes ++ 62 ∷ rest)) || has_brackets (bytes ++ 62 ∷ rest)) (no_opening byte (both_first (is_inside byte) (list_all is_inside bytes) h))
@@ -67,13 +67,13 @@ physical_back text sequence h =
     then_by (patterns_from text Between 32 text) (some_patterns text) sequence h (λ patterns read h. some_back text patterns sequence (patterns_read text Between 32 text patterns read) h)
 
 -- ── virtual events ──
-name_is_text : (text name : List ℕ) → name_in text ≡ Some name → in_brackets name ≡ text
+pub name_is_text : (text name : List ℕ) → name_in text ≡ Some name → in_brackets name ≡ text
 unfolding name_in
 name_is_text text name h =
     if_by (is_name (middle text) && bytes_eq text (in_brackets (middle text))) (Some (middle text)) None (Some name) h
     (λ t h.
-        let same : middle text ≡ name = cc in
-        ap in_brackets (sym same) ∙ sym ((bytes_eq-Decides text (in_brackets (middle text))).0 (both_second (is_name (middle text)) (bytes_eq text (in_brackets (middle text))) t)))
+    let same : middle text ≡ name = cc in
+    ap in_brackets (sym same) ∙ sym ((bytes_eq-Decides text (in_brackets (middle text))).0 (both_second (is_name (middle text)) (bytes_eq text (in_brackets (middle text))) t)))
     (λ t h. absurd (cc))
 
 back_by : (text : List ℕ) (found : Option (List ℕ)) (sequence : Sequence) → name_in text ≡ found → parsed text ≡ Ok sequence → named_or_physical text found ≡ Ok sequence → parsed (canonical sequence) ≡ Ok sequence
@@ -87,3 +87,8 @@ back_by text None sequence is read h =
 pub read_back : (text : List ℕ) (sequence : Sequence) → parsed text ≡ Ok sequence → parsed (canonical sequence) ≡ Ok sequence
 unfolding parsed
 read_back text sequence h = back_by text (name_in text) sequence refl h h
+
+pub forms_differ : (text other : List ℕ) (sequence another : Sequence) → parsed text ≡ Ok sequence → parsed other ≡ Ok another → canonical sequence ≡ canonical another → sequence ≡ another
+forms_differ text other sequence another read read_too same =
+    let k : Ok sequence ≡ Ok another = sym (read_back text sequence read) ∙ ap parsed same ∙ read_back other another read_too in
+    cc

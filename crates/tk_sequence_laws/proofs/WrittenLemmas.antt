@@ -1,27 +1,24 @@
 -- A pattern in its canonical form is read as itself.
-use Rattle.std.proofs.Common.{◌≡◌, ℕ, ◌+◌, ◌-◌, ◌≤◌, ◌<◌, ◌==◌, ◌&&◌, ◌||◌, Bool, true, false, cond, nat_le, List, [], ◌∷◌, ◌++◌, append_assoc, length, Option, Some, None, Ok, Err, refl, sym, ap, ◌∙◌, arith}
-use Rattle.std.specs.Prelude.{bit_and, codes}
+use Rattle.std.proofs.Common.{◌≡◌, ℕ, ◌-◌, ◌≤◌, ◌&&◌, ◌||◌, Bool, true, false, cond, List, [], ◌∷◌, ◌++◌, append_assoc, Option, Some, None, Ok, refl, ap, ◌∙◌, arith}
+use Rattle.std.specs.Prelude.{codes}
 use Rattle.std.specs.List.{flat_map, list_all}
-use Rattle.std.specs.Option.{option_or}
 use Rattle.std.proofs.lemmas.Bool.{le-leb}
 use Rattle.std.proofs.lemmas.List.Folds.{list_all-append}
 use Rattle.std.proofs.lemmas.List.Sums.{AllPass-from_list_all, sum_by-cons}
-use Rattle.tk_canonical.proofs.HeldLemmas.{read_held}
-use Rattle.tk_canonical.proofs.ReadLemmas.{DetailReads, Reads, AllRead}
-use Rattle.tk_canonical.proofs.WordLemmas.{is_inside, is_in_word, is_word, both_second, not_closing, inside_word, word_field, name_is_word}
+use Rattle.tk_sequence_laws.proofs.HeldLemmas.{read_held}
+use Rattle.tk_sequence_laws.proofs.ReadLemmas.{DetailReads, Reads, AllRead}
+use Rattle.tk_sequence_laws.proofs.WordLemmas.{is_inside, is_in_word, is_word, both_second, not_closing, inside_word, word_field, name_is_word}
 use Rattle.tk_keys.proofs.NamesLemmas.{named-name}
-use Rattle.tk_keys.specs.Names.{key_named, name_of}
 use Rattle.tk_sequences.proofs.PieceLemmas.{closed}
 use Rattle.tk_sequences.specs.Modifiers.{all_modifiers, has_modifier, modifier_name}
 use Rattle.tk_sequences.specs.Patterns.{count_of, times_of}
-use Rattle.tk_sequences.specs.Reading.{Outcome, fields, is_some_text, button_named, key_of_one, key_meant, is_single, key_or_fault, button_or_fault, detail_of, detail_behind, may_repeat, typed, headed, pattern_behind, pattern_of, Place, Between, Within, onto, counted, patterns_from}
-use Rattle.tk_sequences.specs.Types.{type_name, is_key_type, is_button_type}
+use Rattle.tk_sequences.specs.Reading.{Outcome, fields, is_some_text, key_meant, is_single, detail_of, detail_behind, may_repeat, typed, headed, pattern_behind, pattern_of, Between, counted, patterns_from}
+use Rattle.tk_sequences.specs.Types.{type_name}
 use Rattle.tk_sequences.specs.Writing.{modifier_written, held_written, repetition_written, detail_written, some_detail_written, pattern_written, patterns_written}
 use Rattle.tk_sequences.specs.declared.detail.Detail.{Detail}
 use Rattle.tk_sequences.specs.declared.detail.Detail.TheVariants as details
 use Rattle.tk_sequences.specs.declared.event_type.EventType.{EventType}
 use Rattle.tk_sequences.specs.declared.event_type.EventType.TheVariants.{Key, KeyRelease, Button, ButtonRelease, Motion, Enter, Leave, FocusIn, FocusOut, Configure, Map, Unmap, Destroy}
-use Rattle.tk_sequences.specs.declared.fault.SequenceFault.TheVariants.{BadSequence}
 use Rattle.tk_sequences.specs.declared.modifier.Modifier.{Modifier}
 use Rattle.tk_sequences.specs.declared.modifier.Modifier.TheVariants.{Control, Shift, Lock, Mod1, Mod2, Mod3, Mod4, Mod5, B1, B2, B3, B4, B5}
 use Rattle.tk_sequences.specs.declared.pattern.Pattern.{Pattern}
@@ -79,7 +76,7 @@ read_kind_of whole held times Map rest = refl
 read_kind_of whole held times Unmap rest = refl
 read_kind_of whole held times Destroy rest = refl
 
-typed_is : (whole : List ℕ) (held : ℕ) (times : Repetition) (kind : EventType) (words : List (List ℕ)) (detail : Option Detail) → (is_single times || may_repeat kind) ≡ true → detail_behind whole kind words ≡ Ok detail
+pub typed_is : (whole : List ℕ) (held : ℕ) (times : Repetition) (kind : EventType) (words : List (List ℕ)) (detail : Option Detail) → (is_single times || may_repeat kind) ≡ true → detail_behind whole kind words ≡ Ok detail
     → typed whole held times kind words ≡ Ok (record { modifiers = held; times = times; kind = kind; detail = detail })
 typed_is whole held times kind words detail may found = rw (may, found) refl
 

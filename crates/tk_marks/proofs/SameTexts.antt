@@ -1,9 +1,8 @@
 -- Where the variables that windows show have the texts that they had, the layout sees the windows that it saw.
-use Rattle.std.proofs.Common.{◌≡◌, ℕ, Bool, true, false, List, [], ◌∷◌, Option, None, Some, refl, sym, ap, ◌∙◌}
+use Rattle.std.proofs.Common.{◌≡◌, ℕ, Bool, true, false, List, [], ◌∷◌, Option, None, Some, refl, ap, ◌∙◌}
 use Rattle.std.specs.Prelude.{◌&&◌, option_map, option_and_then}
 use Rattle.std.specs.List.{filter_map, cons_option}
 use Rattle.std.specs.Result.{result_ok}
-use Rattle.std.specs.Str.{bytes_eq}
 use Rattle.std.proofs.lemmas.Slice.Eq.{bytes_eq-Decides}
 use Rattle.tcl_vars.specs.Store.{Store, variable_in}
 use Rattle.tk_layout.specs.Changes.{changes_of}
@@ -11,7 +10,7 @@ use Rattle.tk_layout.specs.declared.shape.Shape.{Shape}
 use Rattle.tk_layout.specs.Layout.{layout}
 use Rattle.tk_screen.specs.Layout.{changes_due, size_of}
 use Rattle.tk_screen.specs.Own.{Own}
-use Rattle.tk_screen.specs.Shapes.{shape_at, shape_by, shape_of, shapes, pre_order, variable_text}
+use Rattle.tk_screen.specs.Shapes.{shape_at, shape_by, shape_of, shapes, pre_order}
 use Rattle.tk_screen.specs.Widgets.{widget_at}
 use Rattle.tk_tree.specs.declared.window.Window.{Window}
 use Rattle.tk_tree.specs.Own.{window_at}

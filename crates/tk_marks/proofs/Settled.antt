@@ -1,5 +1,5 @@
 -- Marks that stay, and marks that are put.
-use Rattle.std.proofs.Common.{◌≡◌, ◌≢◌, ◌⊎◌, inl, inr, ℕ, Bool, true, false, List, [], ◌∷◌, Option, None, Some, nat_eq, length, arith, refl, sym, ap, ◌∙◌, subst}
+use Rattle.std.proofs.Common.{◌≡◌, ◌≢◌, ◌⊎◌, inl, inr, ℕ, true, false, List, [], ◌∷◌, Option, None, Some, nat_eq, length, arith, refl, sym, ap, ◌∙◌, subst}
 use Rattle.std.proofs.lemmas.Bool.Decides.{eqb_tells}
 use Rattle.std.specs.Prelude.{Result, Ok, Err, OnOk, OnErr}
 use Rattle.tcl_vars.specs.Store.{Store}
@@ -10,7 +10,6 @@ use Rattle.tk_screen.specs.Layout.{changes_due, laid_out}
 use Rattle.tk_screen.specs.Own.{Own, own_of, LeavesOthers}
 use Rattle.tk_marks.specs.declared.marks.Mark.{Mark}
 use Rattle.tk_marks.specs.declared.marks.Marks.{Marks}
-use Rattle.tk_marks.specs.declared.reads.TextRead.{TextRead}
 use Rattle.tk_marks.specs.Marks.{mark_of, LeavesOtherMarks}
 use Rattle.tk_marks.specs.Reads.{hold, reads}
 use Rattle.tk_marks.specs.Settled.{AllSettled, IsSettled}
@@ -44,7 +43,7 @@ marked : (slot : ℕ) (old new : Marks) (screen : Screen) (store : Store) (mark 
     → changes_due (own_of slot screen) store ≡ [] → mark.reads.items ≡ reads (own_of slot screen) store → AllSettled new screen
 marked slot old new screen store mark settled others put laid is =
     all_settled slot old new screen screen settled others (λ other differ. refl)
-        (λ found told. subst (λ m. IsSettled m (own_of slot screen)) (mark_is found mark (mark_of slot new) put told) (settled_by (own_of slot screen) store mark laid is))
+    (λ found told. subst (λ m. IsSettled m (own_of slot screen)) (mark_is found mark (mark_of slot new) put told) (settled_by (own_of slot screen) store mark laid is))
 
 -- the mark is what it was
 still : (slot : ℕ) (old new : Marks) (screen : Screen) → AllSettled old screen → LeavesOtherMarks slot old new → mark_of slot new ≡ mark_of slot old → AllSettled new screen

@@ -26,14 +26,7 @@ pub fn path_command(
         ≡ spec.path_told path.now words.now (panel_of slot tables.old) scopes.old) }
     ensures others { LeavesOthers slot tables.old tables.new }
 {
-    let act = act_of(
-        tables.alloc,
-        &mut tables.screen,
-        scopes,
-        slot,
-        path,
-        words,
-    )?;
+    let act = act_of(tables.alloc, &mut tables.screen, scopes, slot, path, words)?;
     Ok(outcome_of(act))
 }
 

@@ -12,9 +12,7 @@ use tcl_text::Text;
 use tcl_vars::Scopes;
 use tk_marks::MarkedScreen;
 use tk_panel::{Answer, Tables};
-use tk_window_commands::{
-    WindowCommand, window_command_done, window_command_named, winfo_command,
-};
+use tk_window_commands::{WindowCommand, window_command_done, window_command_named, winfo_command};
 
 /// A command on what is on the screen.
 #[derive(Clone, Copy, Debug, PartialEq, Eq)]

@@ -10,6 +10,7 @@ use std::alloc::{AllocError, Global};
 use tcl_text::Text;
 use tk_base::Kind;
 use tk_bind_class::{bind_classes, unbind_classes};
+use tk_marks::MarkedScreen;
 use tk_screen::{Screen, Toplevel};
 use tk_widgets::Widget;
 
@@ -28,13 +29,30 @@ pub fn add(
     ensures err { OnErr result (panel_of slot tables.new ≡ panel_of slot tables.old) }
 {
     bind_classes(tables.alloc, &mut tables.bindings, slot)?;
-    match show_main(tables.alloc, &mut tables.screen, slot, name, size) {
+    match show(tables.alloc, &mut tables.screen, slot, name, size) {
         Ok(()) => Ok(()),
         Err(refused) => {
             unbind_classes(&mut tables.bindings, slot);
             Err(refused)
         }
     }
+}
+
+/// An application of which nothing is on the screen is shown.
+fn show(
+    alloc: Global,
+    marked: &mut MarkedScreen,
+    slot: usize,
+    name: &Text,
+    size: (u32, u32),
+) -> Result<(), AllocError>
+    requires { screens.own_of slot marked.old ≡ screens.nothing }
+    ensures own { OnOk result (screens.own_of slot marked.new ≡ screens.added name.now size) }
+    ensures others { screens.LeavesOthers slot marked.old marked.new }
+    ensures err { OnErr result (screens.own_of slot marked.new ≡ screens.own_of slot marked.old) }
+{
+    marked.marks.forget(slot);
+    show_main(alloc, &mut marked.screen, slot, name, size)
 }
 
 /// The main window of an application of which nothing is on the screen.

@@ -2,7 +2,9 @@
 ghost use Rattle.std.specs.Prelude.{◌≡◌, IfOk, OnErr, OnOk, codes};
 ghost use Rattle.tk_panel.specs.Fresh.{fresh, nothing};
 ghost use Rattle.tk_panel.specs.Panel.{LeavesOthers, panel_of};
+ghost use Rattle.tk_base.specs.declared.kind.Kind.TheVariants.{Frame};
 ghost use Rattle.tk_screen.specs.Own as screens;
+ghost use Rattle.tk_widgets.specs.Sizes.{new_widget};
 
 use crate::message::short_text;
 use crate::tables::Tables;
@@ -55,7 +57,7 @@ fn show(
     show_main(alloc, &mut marked.screen, slot, name, size)
 }
 
-/// The main window of an application of which nothing is on the screen.
+/// The main window of an application of which nothing is on the screen, with its rectangle and its title.
 fn show_main(
     alloc: Global,
     screen: &mut Screen,
@@ -68,19 +70,32 @@ fn show_main(
     ensures others { screens.LeavesOthers slot screen.old screen.new }
     ensures err { OnErr result (screens.own_of slot screen.new ≡ screens.own_of slot screen.old) }
 {
-    let main = short_text(alloc, ".")?;
-    let widget = Widget::new(alloc, Kind::Frame)?;
     let toplevel = Toplevel {
         name: name.copy()?,
         title: name.copy()?,
         size,
     };
     screen.toplevels.insert(slot, toplevel)?;
+    match make_main(alloc, screen, slot) {
+        Ok(()) => Ok(()),
+        Err(refused) => {
+            screen.toplevels.remove(&slot);
+            Err(refused)
+        }
+    }
+}
+
+/// The window `.` of an application that has none.
+fn make_main(alloc: Global, screen: &mut Screen, slot: usize) -> Result<(), AllocError>
+    requires { (screens.own_of slot screen.old).tree ≡ screens.no_windows }
+    ensures own { OnOk result (screens.own_of slot screen.new ≡ screens.with_made (codes ".") Frame (new_widget Frame) (screens.own_of slot screen.old)) }
+    ensures others { screens.LeavesOthers slot screen.old screen.new }
+    ensures err { OnErr result (screens.own_of slot screen.new ≡ screens.own_of slot screen.old) }
+{
+    let main = short_text(alloc, ".")?;
+    let widget = Widget::new(alloc, Kind::Frame)?;
     match screen.create(slot, &main, Kind::Frame, widget) {
         Ok(_) => Ok(()),
-        Err(_) => {
-            screen.toplevels.remove(&slot);
-            Err(AllocError)
-        }
+        Err(_) => Err(AllocError),
     }
 }

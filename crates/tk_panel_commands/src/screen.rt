@@ -12,6 +12,7 @@ use tcl_text::Text;
 use tcl_vars::Scopes;
 use tk_marks::MarkedScreen;
 use tk_panel::{Answer, Tables};
+use tk_screen::Screen;
 use tk_window_commands::{WindowCommand, window_command_done, window_command_named, winfo_command};
 
 /// A command on what is on the screen.
@@ -117,11 +118,17 @@ fn pack(
     ensures others { screens.LeavesOthers slot marked.old marked.new }
 {
     marked.marks.forget(slot);
-    tk_pack_commands::pack_command(
-        alloc,
-        &marked.screen.windows,
-        &mut marked.screen.packs,
-        slot,
-        words,
-    )
+    pack_windows(alloc, &mut marked.screen, slot, words)
+}
+
+fn pack_windows(
+    alloc: Global,
+    screen: &mut Screen,
+    slot: usize,
+    words: &[Text],
+) -> Result<Answer, AllocError>
+    ensures own { IfOk result (λ answer. (screens.own_of slot screen.new, answer) ≡ spec.pack_told words.now (screens.own_of slot screen.old)) }
+    ensures others { screens.LeavesOthers slot screen.old screen.new }
+{
+    tk_pack_commands::pack_command(alloc, &screen.windows, &mut screen.packs, slot, words)
 }

@@ -12,3 +12,4 @@ pub mod PatternsRead
 pub mod PatternsCut
 pub mod Grammars
 pub mod GrammarExamples
+pub mod ClassSequences

@@ -1,5 +1,8 @@
 -- What the laws of the grammar say.
-use Rattle.std.specs.Prelude.{◌≡◌, ◌↔◌, ◌⊎◌, ℕ, List, Ok, Err}
+use Rattle.std.specs.Prelude.{◌≡◌, ◌↔◌, ◌⊎◌, ℕ, true, List, Ok, Err, is_ok}
+use Rattle.std.specs.List.{list_all}
+use Rattle.tk_base.specs.declared.kind.Kind.{Kind}
+use Rattle.tk_bind_class.specs.ClassBindings.{rows_of}
 use Rattle.tk_sequence_laws.specs.Grammar.{IsSequence, HasFault}
 use Rattle.tk_sequences.specs.Reading.{parsed}
 use Rattle.tk_sequences.specs.declared.fault.SequenceFault.{SequenceFault}
@@ -26,3 +29,7 @@ IsOneFault = (text : List ℕ) (fault other : SequenceFault) → HasFault text f
 
 abbrev pub IsNotBoth : Type 0
 IsNotBoth = (text : List ℕ) (sequence : Sequence) (fault : SequenceFault) → IsSequence text sequence → ¬ HasFault text fault
+
+-- each text that a class binds is a sequence
+abbrev pub ClassesBindSequences : Type 0
+ClassesBindSequences = (kind : Kind) → list_all (λ row. is_ok (parsed row.sequence)) (rows_of kind) ≡ true

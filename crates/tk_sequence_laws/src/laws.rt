@@ -1,6 +1,6 @@
 //! Laws of sequences, as contracts of functions that do nothing.
 ghost use Rattle.std.specs.Prelude.{◌≡◌, ℕ, List, Ok};
-ghost use Rattle.tk_sequence_laws.specs.Laws.{SequencesAreRead, FaultsAreTold, IsOneOrOther, IsOneSequence, IsOneFault, IsNotBoth};
+ghost use Rattle.tk_sequence_laws.specs.Laws.{ClassesBindSequences, SequencesAreRead, FaultsAreTold, IsOneOrOther, IsOneSequence, IsOneFault, IsNotBoth};
 ghost use Rattle.tk_sequences.specs.Reading.{parsed};
 ghost use Rattle.tk_sequences.specs.Writing.{canonical};
 ghost use Rattle.tk_sequences.specs.declared.sequence.Sequence.{Sequence};
@@ -31,4 +31,9 @@ pub fn one_sequence_or_fault()
     ensures one_sequence { IsOneSequence }
     ensures one_fault { IsOneFault }
     ensures not_both { IsNotBoth }
+{}
+
+/// What the classes of widgets bind are sequences, all 20 of them (bind(n)).
+pub fn classes_bind_sequences()
+    ensures { ClassesBindSequences }
 {}

@@ -4,6 +4,6 @@
 mod laws;
 
 pub use laws::{
-    canonical_form_is_read_back, canonical_forms_differ, faults_are_told, one_sequence_or_fault,
-    sequences_are_read,
+    canonical_form_is_read_back, canonical_forms_differ, classes_bind_sequences, faults_are_told,
+    one_sequence_or_fault, sequences_are_read,
 };

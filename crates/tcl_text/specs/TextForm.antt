@@ -1,5 +1,6 @@
 -- The bytes of a text, however it keeps them.
-use Rattle.std.specs.Prelude.{ℕ, List, take, string_bytes}
+use Rattle.std.specs.Prelude.{ℕ, List, take}
+use Rattle.tcl_text.specs.Readings.{list_form}
 use Rattle.tcl_text.specs.declared.short.ShortText.{ShortText}
 use Rattle.tcl_text.specs.declared.text.TextForm.{TextForm}
 use Rattle.tcl_text.specs.declared.text.TextForm.TheVariants.{Short, Shared, Listed}
@@ -9,5 +10,5 @@ short_bytes s = take s.length s.bytes
 
 abbrev pub form_bytes : TextForm → List ℕ
 form_bytes (Short s) = short_bytes s
-form_bytes (Shared r) = string_bytes r.value
-form_bytes (Listed r) = r.value
+form_bytes (Shared r) = r.value
+form_bytes (Listed r) = list_form r.value

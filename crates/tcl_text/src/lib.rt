@@ -13,6 +13,7 @@ pub mod laws;
 mod list;
 mod list_form;
 mod list_string;
+mod shared;
 mod short;
 mod splitting;
 mod text;

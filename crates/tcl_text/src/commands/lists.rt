@@ -1,19 +1,20 @@
 //! The commands of list(n), llength(n), lindex(n), lrange(n), linsert(n), lreplace(n), lsearch(n)
 //! and join(n).
-ghost use Rattle.std.specs.Prelude.{◌≡◌, ◌++◌, ◌≤◌, length, position, IfOk, OnOk, string_bytes};
-ghost use Rattle.tcl_text.specs.Answers.{Gives, answers};
+ghost use Rattle.std.specs.Prelude.{◌≡◌, [], ◌∷◌, ◌++◌, ◌≤◌, length, position, Ok, IfOk, OnOk, string_bytes};
+ghost use Rattle.tcl_text.specs.Answers.{Gives, ◌>>=◌, answers, items_in as items_of};
 ghost use Rattle.tcl_text.specs.Indices.{part};
 ghost use Rattle.tcl_text.specs.Readings.{list_form};
 ghost use Rattle.tcl_text.specs.ListCommands as spec;
 ghost use Rattle.tcl_text.specs.ListSteps.{behind};
 
 use crate::commands::answers::{
-    Refusal, bad_option, copy_answer, decimal_answer, place_answer, string_answer, text_answer,
-    wrong_args,
+    Refusal, bad_option, copy_answer, decimal_answer, limit_reached, place_answer, string_answer,
+    text_answer, wrong_args,
 };
 use crate::commands::indices::{Index, index_in};
 use crate::commands::items::{items_in, list_answer};
-use crate::text::Text;
+use crate::list_string::ListString;
+use crate::text::{Text, TextFault};
 use std::alloc::{AllocError, Global};
 
 /// `list ?value ..?`: the list of the words.
@@ -29,11 +30,22 @@ pub fn llength_words(alloc: Global, words: &[Text]) -> Result<Text, Refusal>
 {
     match words {
         [list] => {
-            let items = items_in(alloc, list)?;
-            decimal_answer(alloc, items.len())
+            let count = item_count(alloc, list)?;
+            decimal_answer(alloc, count)
         }
         _ => wrong_args(alloc, "llength list"),
     }
+}
+
+/// How many items the list has that a word is.
+fn item_count(alloc: Global, list: &Text) -> Result<usize, Refusal>
+    ensures { Gives result (items_of list.now >>= λ items. Ok (length items)) }
+{
+    if let Some(kept) = list.as_list(alloc) {
+        return Ok(kept.len());
+    }
+    let items = items_in(alloc, list)?;
+    Ok(items.len())
 }
 
 /// `lindex list ?index?`: the item at the index, or the empty text where there is none. Without an
@@ -43,12 +55,34 @@ pub fn lindex_words(alloc: Global, words: &[Text]) -> Result<Text, Refusal>
 {
     match words {
         [list] => copy_answer(list),
-        [list, index] => {
-            let items = items_in(alloc, list)?;
-            let index = index_in(alloc, index)?;
-            item_answer(alloc, items.as_slice(), index)
-        }
+        [list, index] => item_at(alloc, list, index),
         _ => wrong_args(alloc, "lindex list ?index?"),
+    }
+}
+
+/// The item at the index that a word is, or the empty text where there is none.
+fn item_at(alloc: Global, list: &Text, index: &Text) -> Result<Text, Refusal>
+    ensures { Gives result (spec.lindex_words (list.now ∷ index.now ∷ [])) }
+{
+    if let Some(kept) = list.as_list(alloc) {
+        let index = index_in(alloc, index)?;
+        return kept_item(alloc, kept, index);
+    }
+    let items = items_in(alloc, list)?;
+    let index = index_in(alloc, index)?;
+    item_answer(alloc, items.as_slice(), index)
+}
+
+/// The same of a list that is kept.
+fn kept_item(alloc: Global, list: &ListString, index: Index) -> Result<Text, Refusal>
+    ensures { Gives result (answers (spec.item_or_empty (part index index list.now))) }
+{
+    let number = index.before(list.len());
+    if number < index.through(list.len()) {
+        let item = list.item(alloc, number)?;
+        copy_answer(&item)
+    } else {
+        text_answer(alloc, "")
     }
 }
 
@@ -76,14 +110,35 @@ pub fn lrange_words(alloc: Global, words: &[Text]) -> Result<Text, Refusal>
     ensures { Gives result (spec.lrange_words words.now) }
 {
     match words {
-        [list, first, last] => {
-            let items = items_in(alloc, list)?;
-            let first = index_in(alloc, first)?;
-            let last = index_in(alloc, last)?;
-            list_answer(alloc, items_between(items.as_slice(), first, last))
-        }
+        [list, first, last] => range_of(alloc, list, first, last),
         _ => wrong_args(alloc, "lrange list first last"),
     }
+}
+
+/// The list of the items from the index that a word is to that of another.
+fn range_of(alloc: Global, list: &Text, first: &Text, last: &Text) -> Result<Text, Refusal>
+    ensures { Gives result (spec.lrange_words (list.now ∷ first.now ∷ last.now ∷ [])) }
+{
+    if let Some(kept) = list.as_list(alloc) {
+        let first = index_in(alloc, first)?;
+        let last = index_in(alloc, last)?;
+        return kept_range(alloc, kept, first, last);
+    }
+    let items = items_in(alloc, list)?;
+    let first = index_in(alloc, first)?;
+    let last = index_in(alloc, last)?;
+    list_answer(alloc, items_between(items.as_slice(), first, last))
+}
+
+/// The same of a list that is kept.
+fn kept_range(alloc: Global, list: &ListString, first: Index, last: Index) -> Result<Text, Refusal>
+    ensures { Gives result (answers (list_form (part first last list.now))) }
+{
+    let end = last.through(list.len());
+    let start = first.before(list.len()).min(end);
+    let part = list.part(alloc, start, end)?;
+    let text = Text::of_list(alloc, part)?;
+    copy_answer(&text)
 }
 
 /// `linsert list index ?value ..?`: the list with the values put in before the item at the index;
@@ -92,14 +147,23 @@ pub fn linsert_words(alloc: Global, words: &[Text]) -> Result<Text, Refusal>
     ensures { Gives result (spec.linsert_words words.now) }
 {
     match words {
-        [list, index, values @ ..] => {
-            let items = items_in(alloc, list)?;
-            let index = index_in(alloc, index)?;
-            let place = index.before_inserted(items.len());
-            splice_answer(alloc, items.as_slice(), place, place, values)
-        }
+        [list, index, values @ ..] => inserted(alloc, list, index, values),
         _ => wrong_args(alloc, "linsert list index ?value ..?"),
     }
+}
+
+fn inserted(alloc: Global, list: &Text, index: &Text, values: &[Text]) -> Result<Text, Refusal>
+    ensures { Gives result (spec.linsert_words (list.now ∷ index.now ∷ values.now)) }
+{
+    if let Some(kept) = list.as_list(alloc) {
+        let index = index_in(alloc, index)?;
+        let place = index.before_inserted(kept.len());
+        return kept_splice(alloc, kept, place, place, values);
+    }
+    let items = items_in(alloc, list)?;
+    let index = index_in(alloc, index)?;
+    let place = index.before_inserted(items.len());
+    splice_answer(alloc, items.as_slice(), place, place, values)
 }
 
 /// `lreplace list first last ?value ..?`: the list with the values in place of the items from one
@@ -108,15 +172,52 @@ pub fn lreplace_words(alloc: Global, words: &[Text]) -> Result<Text, Refusal>
     ensures { Gives result (spec.lreplace_words words.now) }
 {
     match words {
-        [list, first, last, values @ ..] => {
-            let items = items_in(alloc, list)?;
-            let first = index_in(alloc, first)?;
-            let last = index_in(alloc, last)?;
-            let from = first.before(items.len());
-            let to = from.max(last.through(items.len()));
-            splice_answer(alloc, items.as_slice(), from, to, values)
-        }
+        [list, first, last, values @ ..] => replaced(alloc, list, first, last, values),
         _ => wrong_args(alloc, "lreplace list first last ?value ..?"),
+    }
+}
+
+fn replaced(
+    alloc: Global,
+    list: &Text,
+    first: &Text,
+    last: &Text,
+    values: &[Text],
+) -> Result<Text, Refusal>
+    ensures { Gives result (spec.lreplace_words (list.now ∷ first.now ∷ last.now ∷ values.now)) }
+{
+    if let Some(kept) = list.as_list(alloc) {
+        let first = index_in(alloc, first)?;
+        let last = index_in(alloc, last)?;
+        let from = first.before(kept.len());
+        let to = from.max(last.through(kept.len()));
+        return kept_splice(alloc, kept, from, to, values);
+    }
+    let items = items_in(alloc, list)?;
+    let first = index_in(alloc, first)?;
+    let last = index_in(alloc, last)?;
+    let from = first.before(items.len());
+    let to = from.max(last.through(items.len()));
+    splice_answer(alloc, items.as_slice(), from, to, values)
+}
+
+/// The list with the values in place of the items between two places.
+#[tactic(auto, using(crate::proofs::AnswerLemmas::bounds))]
+fn kept_splice(
+    alloc: Global,
+    list: &ListString,
+    from: usize,
+    to: usize,
+    values: &[Text],
+) -> Result<Text, Refusal>
+    requires in_order { from ≤ to }
+    requires within { to ≤ length list.now }
+    ensures { Gives result (answers (list_form (spec.spliced list.now from to values.now))) }
+{
+    match list.spliced(alloc, from, to, values) {
+        Ok(list) => Ok(Text::of_list(alloc, list)?),
+        Err(TextFault::TooLong) => Err(limit_reached(alloc)),
+        Err(TextFault::NoMemory) => Err(Refusal::NoMemory),
     }
 }
 

@@ -20,6 +20,7 @@ pub mod Utf8Lemmas
 pub mod ElementLemmas
 pub mod ListFormLemmas
 pub mod KeptLists
+pub mod KeptViews
 pub mod KeptSteps
 pub mod KeptItems
 pub mod SortLemmas

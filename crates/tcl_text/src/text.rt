@@ -1,9 +1,11 @@
 ghost use Rattle.std.specs.Prelude.{◌≡◌, ◌≢◌, ◌<◌, ◌≤◌, ◌↔◌, ◌++◌, length, Ok, Err, IfOk, IfErr, IfSome, OnOk, OnErr, IsErrOf, IsUtf8, MatchBool, string_bytes, string_len};
+ghost use Rattle.std.specs.Fmt.{signed_decimal};
 ghost use Rattle.tcl_text.specs.Edit.{with_more, written_anew};
 ghost use Rattle.tcl_text.specs.Readings.{list_form, list_of};
 
 use crate::edit::EditFault;
 use crate::list_string::ListString;
+use crate::number::NumberText;
 use crate::shared::SharedText;
 use crate::short::{SHORT_BYTES, ShortText};
 use std::alloc::{AllocError, AllocFailed, Global};
@@ -52,6 +54,8 @@ impl<T: Drop> From<AllocFailed<T>> for TextFault {
 enum TextForm {
     /// In place, where they are few.
     Short(ShortText),
+    /// In place with the number that they spell, where they are those of an integer and fewer.
+    Number(NumberText),
     /// In memory that copies share.
     Shared(Rc<SharedText>),
     /// In memory that copies share, as the list that it was made as.
@@ -108,6 +112,7 @@ impl TextForm {
     {
         match self {
             TextForm::Short(short) => short.as_str(),
+            TextForm::Number(number) => number.as_str(),
             TextForm::Shared(text) => text.as_ref().as_str(),
             TextForm::Listed(list) => list.as_ref().as_str(),
         }
@@ -119,6 +124,7 @@ impl TextForm {
     {
         match self {
             TextForm::Short(_) => None,
+            TextForm::Number(_) => None,
             TextForm::Shared(text) => text.as_ref().as_list(alloc),
             TextForm::Listed(list) => Some(list.as_ref()),
         }
@@ -151,9 +157,12 @@ impl TextForm {
         match self {
             TextForm::Listed(list) => {
                 ListString::push_items(list, alloc, items)?;
+                let _form = list.as_ref().as_str();
                 Ok(true)
             }
-            TextForm::Short(_) | TextForm::Shared(_) => Ok(false),
+            TextForm::Short(_) => Ok(false),
+            TextForm::Number(_) => Ok(false),
+            TextForm::Shared(_) => Ok(false),
         }
     }
 
@@ -161,7 +170,11 @@ impl TextForm {
     fn longer(&self, alloc: Global, characters: &str) -> Result<TextForm, AllocError>
         ensures { IfOk result (λ longer. form_bytes longer ≡ form_bytes self.now ++ characters.now) }
     {
-        let mut string = String::from_str(alloc, self.as_str())?;
+        let held = self.as_str();
+        if held.len() + characters.len() <= SHORT_BYTES {
+            return Ok(TextForm::Short(ShortText::joined(held, characters)));
+        }
+        let mut string = String::from_str(alloc, held)?;
         string.push_str(characters)?;
         TextForm::of(alloc, string)
     }
@@ -234,6 +247,25 @@ impl Text {
         })
     }
 
+    /// The decimal text of an integer, whose digits are few.
+    pub(crate) fn of_number(number: NumberText) -> Text
+        ensures { result ≡ signed_decimal number.number }
+    {
+        Text {
+            form: TextForm::Number(number),
+        }
+    }
+
+    /// The integer of which the text is known to be the decimal text, if it is known to be one.
+    pub(crate) fn number(&self) -> Option<i64>
+        ensures { IfSome result (λ number. self.now ≡ signed_decimal number) }
+    {
+        match &self.form {
+            TextForm::Number(number) => Some(number.number()),
+            _ => None,
+        }
+    }
+
     /// The list that the text is, where it is kept: of a text past 22 bytes that was made as a list, or is read as one a second time. So
     /// none says nothing.
     pub(crate) fn as_list(&self, alloc: Global) -> Option<&ListString>
@@ -284,6 +316,7 @@ impl Text {
     {
         let form = match &self.form {
             TextForm::Short(short) => TextForm::Short(*short),
+            TextForm::Number(number) => TextForm::Number(*number),
             TextForm::Shared(text) => TextForm::Shared(text.clone()?),
             TextForm::Listed(list) => TextForm::Listed(list.clone()?),
         };

@@ -12,7 +12,7 @@ use Rattle.tcl_text.specs.ListForm.{others_form}
 use Rattle.tcl_text.specs.ListString.{ends_behind}
 use Rattle.tcl_text.specs.Readings.{begins_comment, can_be_bare, can_be_braced, element_form, is_special, letter_of, list_form, list_of, with_backslashes}
 use Rattle.tcl_text.specs.Splitting.{GivesElement, items_before}
-use Rattle.tcl_text.proofs.KeptLists.{ends-append, ends-take, forms-cut, front_length}
+use Rattle.tcl_text.proofs.KeptLists.{ends-append, ends-append_first, ends-take, forms-cut, front_length}
 use Rattle.tcl_text.proofs.KeptSteps.{part_forms, place_between}
 use Rattle.tcl_text.proofs.ListFormLemmas.{others_form-append}
 use Rattle.tcl_text.proofs.RoundTrip.{list_of-list_form}
@@ -70,14 +70,14 @@ item_form string items k inside is =
     ap (λ (n : ℕ). take n (drop (from + 1) string)) less ∙ ap (λ (t : List ℕ). take ((to - from) - 1) t) behind
     ∙ take_less (to - from) (drop from string) ∙ ap (λ (t : List ℕ). drop 1 t) with_blank ∙ append-nil (element_form x)
   where
+    take-none : (n : ℕ) → take n [] ≡ []
+    take-none zero = refl
+    take-none (suc n) = refl
+
     take_less : (n : ℕ) (xs : List ℕ) → take (n - 1) (drop 1 xs) ≡ drop 1 (take n xs)
     take_less zero xs = refl
     take_less (suc n) [] = let e : suc n - 1 ≡ n = omega arith in rw e (take-none n)
     take_less (suc n) (x ∷ xs) = let e : suc n - 1 ≡ n = omega arith in rw e refl
-
-    take-none : (n : ℕ) → take n [] ≡ []
-    take-none zero = refl
-    take-none (suc n) = refl
 
 -- so it is as long as what lies between, and begins with a byte that isn't white space
 pub item_requires : (string : List ℕ) (items : List (List ℕ)) (k : ℕ) → k < length items → string ≡ others_form items → length string ≤ 65537
@@ -94,6 +94,7 @@ item_requires string items k inside is short form e =
 
 -- and is read as the item
 pub item_told : (form item told : List ℕ) (behind : Bor (List ℕ)) → form ≡ element_form item → GivesElement form (Ok (told, behind)) → told ≡ item
+unfolding list_form
 item_told form item told behind is gives =
     alone (list_of behind.now) (sym gives.1 ∙ ap list_of is ∙ list_of-list_form (item ∷ []))
   where
@@ -120,7 +121,7 @@ spliced_places ends items values from to is =
     let front : take from ends ≡ ends_behind 0 (take from items) = ap (λ (t : List ℕ). take from t) is ∙ ends-take 0 from items in
     rw front (append_assoc (ends_behind 0 (take from items)) (ends_behind place values) (ends_behind (place + length (others_form values)) (drop to items))
         ∙ ap (λ (t : List ℕ). ends_behind 0 (take from items) ++ t) (sym (ends-append place values (drop to items)))
-        ∙ sym (ends-append 0 (take from items) (values ++ drop to items)))
+        ∙ sym (ends-append_first (take from items) (values ++ drop to items)))
 
 -- how long its string is
 pub spliced_length : (items values : List (List ℕ)) (from to : ℕ)

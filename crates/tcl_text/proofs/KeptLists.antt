@@ -76,6 +76,19 @@ ends-drop place (suc k) [] = refl
 ends-drop place (suc k) (x ∷ xs) =
     ends-drop (place + 1 + length (element_form x)) k xs ∙ ap (λ (p : ℕ). ends_behind p (drop k xs)) (sym (one_more place x (take k xs)))
 
+-- behind the place 0
+from_nothing : (n : ℕ) → 0 + n ≡ n
+from_nothing n = omega arith
+
+pub ends-at_first : (items : List (List ℕ)) (k d : ℕ) → k < length items → get_or (ends_behind 0 items) k d ≡ length (others_form (take (suc k) items))
+ends-at_first items k d inside = ends-at 0 items k d inside ∙ from_nothing (length (others_form (take (suc k) items)))
+
+pub ends-drop_first : (k : ℕ) (items : List (List ℕ)) → drop k (ends_behind 0 items) ≡ ends_behind (length (others_form (take k items))) (drop k items)
+ends-drop_first k items = ends-drop 0 k items ∙ ap (λ (p : ℕ). ends_behind p (drop k items)) (from_nothing (length (others_form (take k items))))
+
+pub ends-append_first : (xs ys : List (List ℕ)) → ends_behind 0 (xs ++ ys) ≡ ends_behind 0 xs ++ ends_behind (length (others_form xs)) ys
+ends-append_first xs ys = ends-append 0 xs ys ∙ ap (λ (p : ℕ). ends_behind 0 xs ++ ends_behind p ys) (from_nothing (length (others_form xs)))
+
 -- each lies between the place that they are behind and the end of the string
 pub ends_reach : (from to : ℕ) (ends : List ℕ) (k d : ℕ) → AreEnds from to ends → k < length ends → (from ≤ get_or ends k d) × (get_or ends k d - from + to ≤ 65537)
 ends_reach from to ends k d h inside =

@@ -9,7 +9,7 @@ use Rattle.tcl_text.specs.ListCommands.{spliced}
 use Rattle.tcl_text.specs.ListForm.{others_form}
 use Rattle.tcl_text.specs.ListString.{KeepsList, ends_behind, items_kept}
 use Rattle.tcl_text.specs.Readings.{element_form, list_form}
-use Rattle.tcl_text.proofs.KeptLists.{ends-append, ends-drop, ends-length, ends-take, ends_moved, form_behind_blank, forms-cut, forms-part, front_length, kept_items}
+use Rattle.tcl_text.proofs.KeptLists.{ends-drop_first, ends-take, form_behind_blank, forms-cut, forms-part, front_length, kept_items}
 use Rattle.tcl_text.proofs.ListFormLemmas.{others_form-append}
 
 -- ── the items are written one after another ──
@@ -100,5 +100,5 @@ pub part_places : (ends : List ℕ) (items : List (List ℕ)) (from to : ℕ) �
 part_places ends items from to order is =
     let n : from + (to - from) ≡ to = omega arith in
     ap (λ (t : List ℕ). slice_range t from to) is ∙ sym (drop-take from (to - from) (ends_behind 0 items)) ∙ ap (λ (k : ℕ). drop from (take k (ends_behind 0 items))) n
-    ∙ ap (λ (t : List ℕ). drop from t) (ends-take 0 to items) ∙ ends-drop 0 from (take to items)
+    ∙ ap (λ (t : List ℕ). drop from t) (ends-take 0 to items) ∙ ends-drop_first from (take to items)
     ∙ ap (λ (xs : List (List ℕ)). ends_behind (length (others_form xs)) (drop from (take to items))) (take-take from to items order)

@@ -5,7 +5,7 @@ use Rattle.std.proofs.lemmas.Str.{IsCharBoundary-after_ascii}
 use Rattle.tcl_text.specs.ListForm.{others_form}
 use Rattle.tcl_text.specs.ListString.{KeepsList, ends_behind}
 use Rattle.tcl_text.specs.Readings.{element_form, list_form}
-use Rattle.tcl_text.proofs.KeptLists.{ends-at, ends-length, form_behind_blank, front_length}
+use Rattle.tcl_text.proofs.KeptLists.{ends-at_first, ends-length, form_behind_blank, front_length}
 
 -- what is known of the fields, by the value that is seen
 pub kept : (string ends : List ℕ) (items seen : List (List ℕ)) → KeepsList string ends items → items ≡ seen → KeepsList string ends seen
@@ -38,7 +38,7 @@ pub place_behind : (string ends : List ℕ) (seen : List (List ℕ)) (number d :
 place_behind string ends seen zero d h some within = absurd (omega (arith, some))
 place_behind string ends seen (suc k) d h some within =
     let one : suc k - 1 ≡ k = omega arith in
-    rw one (ap (λ (es : List ℕ). get_or es k d) h.places ∙ ends-at 0 seen k d (omega (arith, within)))
+    rw one (ap (λ (es : List ℕ). get_or es k d) h.places ∙ ends-at_first seen k d (omega (arith, within)))
 
 -- a place is within the string
 pub place_within : (string ends : List ℕ) (seen : List (List ℕ)) (number : ℕ) → KeepsList string ends seen → length (others_form (take number seen)) ≤ length string

@@ -22,7 +22,7 @@ struct ReadList {
 pub struct SharedText {
     string: String,
     was_read: Cell<bool>,
-    read: OnceCell<ReadList>,
+    read: OnceCell<Box<ReadList>>,
 }
 
 impl Model for SharedText {
@@ -35,7 +35,7 @@ impl Model for SharedText {
 
 impl ReadList {
     /// The list that a text is; none where it is no list, or one whose form is longer than a text.
-    fn of(alloc: Global, text: &str) -> Result<ReadList, AllocError> {
+    fn of(alloc: Global, text: &str) -> Result<Box<ReadList>, AllocError> {
         if text.len() > MAX_BYTES {
             return Err(AllocError);
         }
@@ -46,7 +46,7 @@ impl ReadList {
             return Err(AllocError);
         };
         let text = String::from_str(alloc, text)?;
-        Ok(ReadList { text, list })
+        Ok(Box::new(alloc, ReadList { text, list })?)
     }
 }
 

@@ -6,7 +6,8 @@ use Rattle.tcl_expr.specs.declared.state.State.TheVariants.{Ready}
 use Rattle.tcl_expr.specs.declared.step.Step.{Step}
 use Rattle.tcl_expr.specs.Evaluation.{Evaluation}
 use Rattle.tcl_expr.specs.Messages.{parse_message}
-use Rattle.tcl_expr.specs.Reading.{tree_of, compiled}
+use Rattle.tcl_expr.specs.Reading.{compiled}
+use Rattle.tcl_expr.proofs.GrammarLaws.{one_expr_parse}
 use Rattle.tcl_expr.specs.Trees.{Tree}
 use Rattle.tcl_control.specs.declared.expression.ExpressionForm.{ExpressionForm}
 use Rattle.tcl_control.specs.declared.expression.ExpressionForm.TheVariants.{Read, Faulty}
@@ -17,8 +18,10 @@ abbrev pub tree_or_text : List ℕ → Result Tree ExprFault → Result Tree (Li
 tree_or_text text (Ok tree) = Ok tree
 tree_or_text text (Err fault) = Err (parse_message text fault)
 
+-- What a text is as an expression: its tree, or the text of its fault. Tree and fault are what the grammar of expressions relates to the
+-- text (`IsExprParse` in tcl_expr), which is one thing, as the type of `one_expr_parse` says.
 unfoldable pub expression_of : List ℕ → Result Tree (List ℕ)
-expression_of text = tree_or_text text (tree_of text)
+expression_of text = tree_or_text text (one_expr_parse text).it
 
 -- the evaluation of an expression from its beginning, or the text of its fault
 abbrev pub begun : List ℕ → Result (List Step) ExprFault → Result Evaluation (List ℕ)

@@ -11,7 +11,7 @@ use Rattle.tcl_expr.specs.declared.tokens.Link.TheVariants as link
 use Rattle.tcl_expr.specs.Tokens.{mark_of, link_at}
 use Rattle.tcl_expr.specs.Trees.{Tree, Unary, Choice}
 use Rattle.tcl_expr.specs.Reading.{Opened, Before, After as Pending, Paren, Question, Otherwise, parens, ends_at, Closed, close, ended, level_of, between, AtOperand, AtOperator, move, at_colon, at_close, at_paren, room_in, on_move, reading, whole}
-use Rattle.tcl_expr.specs.Grammar.{blank_mark, past_blanks, After, at_end, linked, nothing, after_link, after_blanks, after, Ending, leaves, fails, goes_on, stops, with_tree, operand_of, operand_ending, First, sign, paren, operand, first_of, closed_by, closed, colon_fault, unchosen, IsExpr, whole_by, Gives}
+use Rattle.tcl_expr.specs.Grammar.{blank_mark, past_blanks, After, at_end, linked, nothing, after_link, after_blanks, after, Ending, leaves, fails, goes_on, stops, with_tree, operand_of, operand_ending, First, sign, paren, operand, first_of, closed_by, closed, colon_fault, unchosen, IsExpr, whole_by, IsWholeExpr}
 use Rattle.tcl_expr.specs.Grammar.IsExpr.{lacks, operand_read, signed, deep, parens as in_parens, tighter, operated, choice, no_choice}
 use Rattle.tcl_expr.proofs.StandLemmas.{reading_skip}
 use Rattle.tcl_expr.proofs.GrammarRead.{levels, decide, not_blank, moved, operand_moves, sign_moves, paren_moves, on_next, goes, reading_goes, first_byte, lacks_read}
@@ -477,9 +477,9 @@ cuts : (n : ℕ) (text : List ℕ) → length text ≤ n → Cuts text
 cuts zero text h = let below : Below text = λ other l. absurd (omega (arith, h, l)) in record { operands = operand_cut text below; operators = operator_cut text below }
 cuts (suc n) text h = let below : Below text = λ other l. cuts n other (omega (arith, h, l)) in record { operands = operand_cut text below; operators = operator_cut text below }
 
-gives : (text : List ℕ) (given : Result Tree ExprFault) → Started [] text given → Gives text given
+gives : (text : List ℕ) (given : Result Tree ExprFault) → Started [] text given → IsWholeExpr text given
 gives text given (leaves tree left, is, (stop, e)) = (leaves tree left, is, stops_by tree left stop, sym e)
 gives text given (fails fault, is, e) = (fails fault, is, refl, sym e)
 
-pub whole_cut : (text : List ℕ) → Gives text (reading 0 AtOperand [] text)
+pub whole_cut : (text : List ℕ) → IsWholeExpr text (reading 0 AtOperand [] text)
 whole_cut text = gives text (reading 0 AtOperand [] text) ((cuts (length text) text (omega arith)).operands [] tt)

@@ -8,7 +8,7 @@ use Rattle.tcl_words.specs.declared.script.Piece.{Piece}
 use Rattle.tcl_words.specs.declared.fault.ParseFault.{ParseFault}
 use Rattle.tcl_expr.specs.declared.braces.BracePlace.TheVariants.{Plain as Unescaped}
 use Rattle.tcl_expr.specs.declared.fault.ExprFault.{ExprFault}
-use Rattle.tcl_expr.specs.declared.fault.ExprFault.TheVariants.{TooLong, MissingParen, Syntax, NoMemory}
+use Rattle.tcl_expr.specs.declared.fault.ExprFault.TheVariants.{TooLong, MissingParen, Syntax}
 use Rattle.tcl_expr.specs.declared.operators.UnaryOperator.{UnaryOperator}
 use Rattle.tcl_expr.specs.declared.operators.UnaryOperator.TheVariants.{Negate, Keep, Complement, Not}
 use Rattle.tcl_expr.specs.declared.operators.Infix.{Infix}
@@ -201,27 +201,32 @@ whole_of (fails fault) = Err fault
 abbrev pub IsText : List ℕ → Type 0
 IsText text = (length text ≤ 65536) × IsUtf8 text
 
--- a text of an expression with what it gives
-abbrev pub Gives : List ℕ → Result Tree ExprFault → Type 0
-Gives text given = (ending : Ending) × IsExpr 200 0 text ending × (stops ending ≡ true) × (whole_of ending ≡ given)
+-- The text as a whole is of this tree, or has this fault, as the levels of operators cut it. At most 200 parentheses, brackets and
+-- indices stand in one another.
+abbrev pub IsWholeExpr : List ℕ → Result Tree ExprFault → Type 0
+IsWholeExpr text whole = (ending : Ending) × IsExpr 200 0 text ending × (stops ending ≡ true) × (whole_of ending ≡ whole)
 
--- The text is an expression with this tree. At most 200 parentheses, brackets and indices stand in one another.
-abbrev pub IsTreeOf : List ℕ → Tree → Type 0
-IsTreeOf text tree = IsText text × Gives text (Ok tree)
+-- The text is an expression with this tree.
+pub record IsTreeOf (text : List ℕ) (tree : Tree) : Type 0 where
+  pub is_text : IsText text
+  pub cut : IsWholeExpr text (Ok tree)
 
--- The text is no expression, and this is its first fault from the left. That it is no text counts before all else.
-abbrev pub IsFaultOf : List ℕ → ExprFault → Type 0
-IsFaultOf text fault = ((fault ≡ TooLong) × (¬ IsText text)) ⊎ (IsText text × Gives text (Err fault))
+-- The text is no expression, and this is its first fault from the left.
+pub data IsExprFault (text : List ℕ) : ExprFault → Type 0 where
+  -- that it is no text counts before all else
+  no_text : ¬ IsText text → IsExprFault text TooLong
+  faulty_text : {fault : ExprFault} → IsText text → IsWholeExpr text (Err fault) → IsExprFault text fault
+
+-- What the text is: an expression with this tree, or none, with this fault. Each text is one of both, and in one way alone.
+abbrev pub IsExprParse : List ℕ → Result Tree ExprFault → Type 0
+IsExprParse text (Ok tree) = IsTreeOf text tree
+IsExprParse text (Err fault) = IsExprFault text fault
 
 abbrev pub IsExpression : List ℕ → Type 0
 IsExpression text = (tree : Tree) × IsTreeOf text tree
 
--- what may be answered of a text that isn't read: its fault, or want of memory
-abbrev pub IsFaultOfOrMemory : List ℕ → ExprFault → Type 0
-IsFaultOfOrMemory text fault = IsFaultOf text fault ⊎ (fault ≡ NoMemory)
-
 -- a text has at most one tree, at most one fault, and never both
 pub record OneTreeOrFault : Type 0 where
   pub one_tree : (text : List ℕ) (tree other : Tree) → IsTreeOf text tree → IsTreeOf text other → tree ≡ other
-  pub one_fault : (text : List ℕ) (fault other : ExprFault) → IsFaultOf text fault → IsFaultOf text other → fault ≡ other
-  pub never_both : (text : List ℕ) (tree : Tree) (fault : ExprFault) → IsTreeOf text tree → ¬ IsFaultOf text fault
+  pub one_fault : (text : List ℕ) (fault other : ExprFault) → IsExprFault text fault → IsExprFault text other → fault ≡ other
+  pub never_both : (text : List ℕ) (tree : Tree) (fault : ExprFault) → IsTreeOf text tree → ¬ IsExprFault text fault

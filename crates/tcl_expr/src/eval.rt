@@ -83,14 +83,15 @@ impl Eval {
     ghost use Rattle.tcl_expr.specs.declared.fault.EvalFault.TheVariants.{NoMemory};
     ghost use Rattle.tcl_expr.specs.Evaluation.{Tells, evaluation_at, told, is_waiting, to_come, with_given};
     ghost use Rattle.tcl_expr.specs.Machine.{AsksBy};
-    ghost use Rattle.tcl_expr.specs.Reading.{tree_of, compiled};
+    ghost use Rattle.tcl_expr.specs.Grammar.{IsTreeOf};
+    ghost use Rattle.tcl_expr.specs.Reading.{compiled};
     ghost use Rattle.tcl_expr.specs.Trees.{Tree, evaluation};
 
     /// The evaluation of an expression, from its beginning. It takes no memory.
     pub fn new(alloc: Global, expr: Expr) -> Eval
-        ensures value { (tree : Tree) → tree_of expr ≡ Ok tree → told result None ≡ evaluation tree }
+        ensures value { (tree : Tree) → IsTreeOf expr tree → told result None ≡ evaluation tree }
         ensures ready { result.state ≡ Ready }
-        ensures whole { result ≡ evaluation_at 0 (compiled expr) [] Ready }
+        ensures walk { result ≡ evaluation_at 0 (compiled expr) [] Ready }
     {
         Eval {
             alloc,

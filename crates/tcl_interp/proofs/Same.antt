@@ -12,7 +12,7 @@ use Rattle.tcl_control.specs.declared.code.Code.{Code}
 use Rattle.tcl_control.specs.declared.code.Code.TheVariants.{Normal, Error, Return, Break, Continue}
 use Rattle.tcl_control.specs.declared.context.Context.{Context}
 use Rattle.tcl_control.specs.declared.turns.Turning.{Turning}
-use Rattle.tcl_control.specs.Expressions.{tree_or_text, expression_of, begun, evaluation_begins, truth_of}
+use Rattle.tcl_control.specs.Expressions.{tree_or_text, begun, evaluation_begins, truth_of}
 use Rattle.tcl_shapes.specs.declared.branches.Branch.{Branch}
 use Rattle.tcl_expr.specs.declared.ask.Ask.{Ask}
 use Rattle.tcl_expr.specs.declared.ask.Ask.TheVariants as ask
@@ -22,6 +22,7 @@ use Rattle.tcl_expr.specs.Evaluation.{Evaluation, answered}
 use Rattle.tcl_expr.specs.Reading.{tree_of, compiled_by}
 use Rattle.tcl_expr.specs.Trees.{Tree}
 use Rattle.tcl_control.specs.Source.{script_of}
+use Rattle.tcl_control.proofs.ExpressionLemmas.{expression_walk}
 use Rattle.tcl_control.specs.Texts.{limit_text, element_name}
 use Rattle.tcl_expr.proofs.CompileLemmas.{execute_whole}
 use Rattle.tcl_interp.specs.Outside.{Outside}
@@ -207,8 +208,9 @@ module _ {S K : Type 0} (outside : Outside S K) where
   begun_same room text waits state (Err fault) = refl
 
   pub expression_same : (room : ℕ) (text : List ℕ) (waits : List (Waiting K)) (state : State S) → and_then (expression_meaning (run_in room) text state) (waits_meaning outside waits) ≡ finish_moved (moved (expression_begins room text) waits) state
-  unfolding expression_of evaluation_begins tree_of
-  expression_same room text waits state = begun_same room text waits state (tree_of text)
+  unfolding evaluation_begins tree_of
+  expression_same room text waits state =
+      ap (λ tree. and_then (tree_meaning (run_in room) state tree) (waits_meaning outside waits)) (expression_walk text) ∙ begun_same room text waits state (tree_of text)
 
   given_same : (room : ℕ) (next : Evaluation) (name : List ℕ) (waits : List (Waiting K)) (state : State S) (value : Result (List ℕ) ReadFault)
       → and_then (on_read name state (λ state' text. run_meaning (run_in room) (answered next text) state') value) (waits_meaning outside waits) ≡ finish_moved (moved (value_given room next name value) waits) state

@@ -40,7 +40,7 @@ pub fn out_of_global(code: Code) -> Code
 }
 
 /// A script that has been read begins.
-#[tactic(auto, unfolding(tcl_table::specs::Source::script_of))]
+#[tactic(auto, using(tcl_table::proofs::SourceLemmas::script_walk))]
 fn first_command<K>(alloc: Global, script: Script, room: u64) -> Result<Now<K>, AllocError>
     ensures { IfOk result (λ now. (waits : List (Waiting K)) → moved (doing_of now) waits ≡ parsed_move room waits (script_of script)) }
 {

@@ -119,7 +119,7 @@ fn put_pieces(
 }
 
 /// The commands of a script.
-#[tactic(auto, unfolding(tcl_table::specs::Source::script_of))]
+#[tactic(auto, using(tcl_table::proofs::SourceLemmas::script_walk))]
 fn commands(script: &Script) -> &[Command]
     ensures { result.now ≡ commands_in script.now }
 {
@@ -346,7 +346,7 @@ fn put_words_past<K: Drop>(
 }
 
 /// The element of this array is to be read, with indices at most so deep in its index.
-#[tactic(auto, unfolding(crate::specs::Evaluation::index_pieces))]
+#[tactic(auto, using(crate::proofs::IndexLemmas::index_walk))]
 fn element_begins<K: Drop>(
     alloc: Global,
     room: u64,
@@ -419,7 +419,7 @@ fn word_part<K: Drop>(
 }
 
 /// The pieces of an index.
-#[tactic(auto, unfolding(crate::specs::Evaluation::index_pieces))]
+#[tactic(auto, using(crate::proofs::IndexLemmas::index_walk))]
 fn pieces_of(index: &Index) -> &[Piece]
     ensures { result.now ≡ pieces_in index.now }
 {

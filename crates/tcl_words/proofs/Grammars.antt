@@ -5,7 +5,8 @@ use Rattle.std.specs.Str.{is_utf8}
 use Rattle.std.proofs.lemmas.Str.{is_utf8-from_IsUtf8, IsUtf8-from_is_utf8}
 use Rattle.tcl_words.specs.Changes.{Read}
 use Rattle.tcl_words.specs.Reading.{rest_of, commands_in, commands_of, outermost}
-use Rattle.tcl_words.specs.Grammar.{Ending, leaves, fails, IsText, IsInnerOf, IsScript, IsScriptOf, IsFaultOf}
+use Rattle.tcl_words.specs.Grammar.{Ending, leaves, fails, IsText, IsInnerOf, IsScript, IsScriptOf, IsScriptFault}
+use Rattle.tcl_words.specs.Grammar.IsScriptFault.{no_text, faulty_text}
 use Rattle.tcl_words.specs.declared.kind.Place.TheVariants.{Start}
 use Rattle.tcl_words.specs.declared.script.Command.{Command}
 use Rattle.tcl_words.specs.declared.fault.ParseFault.{ParseFault}
@@ -88,14 +89,14 @@ read_at text commands (inr (fits, e)) h =
 pub script-commands_of : (text : List ℕ) (commands : List Command) → commands_of text ≡ Ok commands → IsScriptOf text commands
 script-commands_of text commands h = read_at text commands (text_case text) h
 
-fault_at : (text : List ℕ) (fault : ParseFault) → IsNoText text ⊎ IsReadable text → IsFaultOf text fault → commands_of text ≡ Err fault
-fault_at text fault (inl (bad, e)) (inl (is, h)) = e ∙ ap (λ f. Err f) (sym is)
-fault_at text fault (inl (bad, e)) (inr (fits, found, h)) = absurd (bad fits)
-fault_at text fault (inr (fits, e)) (inl (is, h)) = absurd (h fits)
-fault_at text fault (inr (fits, e)) (inr (same, commands, cut)) = e ∙ cut_read text commands (fails fault) cut
+fault_at : (text : List ℕ) (fault : ParseFault) → IsNoText text ⊎ IsReadable text → IsScriptFault text fault → commands_of text ≡ Err fault
+fault_at text fault (inl (bad, e)) (no_text h) = e
+fault_at text fault (inl (bad, e)) (faulty_text found fits h) = absurd (bad fits)
+fault_at text fault (inr (fits, e)) (no_text h) = absurd (h fits)
+fault_at text fault (inr (fits, e)) (faulty_text commands same cut) = e ∙ cut_read text commands (fails fault) cut
 
 -- a fault is told
-pub commands_of-fault : (text : List ℕ) (fault : ParseFault) → IsFaultOf text fault → commands_of text ≡ Err fault
+pub commands_of-fault : (text : List ℕ) (fault : ParseFault) → IsScriptFault text fault → commands_of text ≡ Err fault
 commands_of-fault text fault is = fault_at text fault (text_case text) is
 
 found_fault : (text : List ℕ) (fault : ParseFault) (found : List Command) (ending : Ending) → IsCut text found ending → given found ending ≡ Err fault → IsCut text found (fails fault)
@@ -109,24 +110,24 @@ found_fault text fault found (fails other) cut e =
 pub told_is_cut : (text : List ℕ) (fault : ParseFault) → commands_in (rest_of text outermost 0 Start 0) ≡ Err fault → (commands : List Command) × IsScript (IsInnerOf 200) false 0 text commands (fails fault)
 told_is_cut text fault h = let found = all_cut text in (found.0, found_fault text fault found.0 found.1 found.2 (sym (cut_read text found.0 found.1 found.2) ∙ h))
 
-told_at : (text : List ℕ) (fault : ParseFault) → IsNoText text ⊎ IsReadable text → commands_of text ≡ Err fault → IsFaultOf text fault
-told_at text fault (inl (bad, e)) h = let k : Err fault ≡ Err TooLong = sym h ∙ e in let same : fault ≡ TooLong = cc in inl (same, bad)
+told_at : (text : List ℕ) (fault : ParseFault) → IsNoText text ⊎ IsReadable text → commands_of text ≡ Err fault → IsScriptFault text fault
+told_at text fault (inl (bad, e)) h = let k : Err TooLong ≡ Err fault = sym e ∙ h in let same : TooLong ≡ fault = cc in subst (IsScriptFault text) same (no_text bad)
 told_at text fault (inr (fits, e)) h =
     let found = all_cut text in
-    inr (fits, found.0, found_fault text fault found.0 found.1 found.2 (sym (cut_read text found.0 found.1 found.2) ∙ sym e ∙ h))
+    faulty_text found.0 fits (found_fault text fault found.0 found.1 found.2 (sym (cut_read text found.0 found.1 found.2) ∙ sym e ∙ h))
 
 -- a fault that is told is the text's
-pub fault-commands_of : (text : List ℕ) (fault : ParseFault) → commands_of text ≡ Err fault → IsFaultOf text fault
+pub fault-commands_of : (text : List ℕ) (fault : ParseFault) → commands_of text ≡ Err fault → IsScriptFault text fault
 fault-commands_of text fault h = told_at text fault (text_case text) h
 
 -- a text is a script of one list of commands alone
 pub one_script : (text : List ℕ) (commands others : List Command) → IsScriptOf text commands → IsScriptOf text others → commands ≡ others
 one_script text commands others is too = let k : Ok commands ≡ Ok others = sym (commands_of-script text commands is) ∙ commands_of-script text others too in cc
 
-pub one_fault : (text : List ℕ) (fault other : ParseFault) → IsFaultOf text fault → IsFaultOf text other → fault ≡ other
+pub one_fault : (text : List ℕ) (fault other : ParseFault) → IsScriptFault text fault → IsScriptFault text other → fault ≡ other
 one_fault text fault other is too = let k : Err fault ≡ Err other = sym (commands_of-fault text fault is) ∙ commands_of-fault text other too in cc
 
-pub not_both : (text : List ℕ) (commands : List Command) (fault : ParseFault) → IsScriptOf text commands → IsFaultOf text fault → ⊥
+pub not_both : (text : List ℕ) (commands : List Command) (fault : ParseFault) → IsScriptOf text commands → IsScriptFault text fault → ⊥
 not_both text commands fault is too = let k : Ok commands ≡ Err fault = sym (commands_of-script text commands is) ∙ commands_of-fault text fault too in cc
 
 ok_commands : (text : List ℕ) (r : Result (List Command) ParseFault) → commands_of text ≡ r → IsOk r → (commands : List Command) × IsScriptOf text commands
@@ -136,6 +137,6 @@ ok_commands text (Err fault) e h = cc
 pub read_is_script : (text : List ℕ) → IsOk (commands_of text) → (commands : List Command) × IsScriptOf text commands
 read_is_script text h = ok_commands text (commands_of text) refl h
 
-pub told_is_fault : (text : List ℕ) (fault : ParseFault) → (commands_of text ≡ Err fault) ⊎ (fault ≡ NoMemory) → IsFaultOf text fault ⊎ (fault ≡ NoMemory)
+pub told_is_fault : (text : List ℕ) (fault : ParseFault) → (commands_of text ≡ Err fault) ⊎ (fault ≡ NoMemory) → IsScriptFault text fault ⊎ (fault ≡ NoMemory)
 told_is_fault text fault (inl e) = inl (fault-commands_of text fault e)
 told_is_fault text fault (inr e) = inr e

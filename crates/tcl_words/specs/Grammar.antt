@@ -1,7 +1,7 @@
 -- The grammar of scripts, as a relation between a text and its commands. It cuts texts into gaps, commands, words and
 -- pieces, and says nothing of how a text is read. What stands at the front of a text is read with how that goes on: with
 -- a text that is left behind it, or with the fault of the text.
-use Rattle.std.specs.Prelude.{ℕ, zero, suc, ◌+◌, ◌≡◌, ◌≢◌, ◌≤◌, ◌⊎◌, Bool, true, false, not, ◌&&◌, ◌||◌, ◌==◌, nat_eq, List, [], ◌∷◌, ◌++◌, length, drop}
+use Rattle.std.specs.Prelude.{ℕ, zero, suc, ◌+◌, ◌≡◌, ◌≢◌, ◌≤◌, ◌⊎◌, Bool, true, false, not, ◌&&◌, ◌||◌, ◌==◌, nat_eq, List, [], ◌∷◌, ◌++◌, length, drop, Result, Ok, Err}
 use Rattle.std.specs.List.{starts_with}
 use Rattle.std.specs.Str.{IsUtf8}
 use Rattle.tcl_text.specs.Backslash.{escape}
@@ -312,16 +312,30 @@ pub record IsScriptOf (text : List ℕ) (commands : List Command) : Type 0 where
   pub is_text : IsText text
   pub cut : IsScript (IsInnerOf 200) false 0 text commands (leaves [])
 
--- The text is no script, and this is its first fault from the left. That it is no text of a script counts before all else.
-abbrev pub IsFaultOf : List ℕ → ParseFault → Type 0
-IsFaultOf text fault = ((fault ≡ TooLong) × (¬ IsText text)) ⊎ (IsText text × (commands : List Command) × IsScript (IsInnerOf 200) false 0 text commands (fails fault))
+-- The text is no script, and this is its first fault from the left.
+pub data IsScriptFault (text : List ℕ) : ParseFault → Type 0 where
+  -- that it is no text of a script counts before all else
+  no_text : ¬ IsText text → IsScriptFault text TooLong
+  faulty_text : {fault : ParseFault} (commands : List Command) → IsText text → IsScript (IsInnerOf 200) false 0 text commands (fails fault) → IsScriptFault text fault
 
--- The text, read by itself, is an index of these pieces, or has this fault.
-abbrev pub IsIndexOf : List ℕ → List Piece → Type 0
-IsIndexOf text pieces = ArePieces (IsInnerOf 200) false Parens text pieces (leaves [])
+-- What the text is: a script of these commands, or none, with this fault. Each text is one of both, and in one way alone.
+abbrev pub IsScriptParse : List ℕ → Result (List Command) ParseFault → Type 0
+IsScriptParse text (Ok commands) = IsScriptOf text commands
+IsScriptParse text (Err fault) = IsScriptFault text fault
 
-abbrev pub IsIndexFaultOf : List ℕ → ParseFault → Type 0
-IsIndexFaultOf text fault = (pieces : List Piece) × ArePieces (IsInnerOf 200) false Parens text pieces (fails fault)
+-- The text, read by itself, is an index of these pieces.
+pub record IsIndexOf (text : List ℕ) (pieces : List Piece) : Type 0 where
+  pub cut : ArePieces (IsInnerOf 200) false Parens text pieces (leaves [])
+
+-- The text, read by itself, is no index, and this is its first fault from the left.
+pub record IsIndexFault (text : List ℕ) (fault : ParseFault) : Type 0 where
+  pub pieces : List Piece
+  pub cut : ArePieces (IsInnerOf 200) false Parens text pieces (fails fault)
+
+-- What the text is as an index, likewise.
+abbrev pub IsIndexParse : List ℕ → Result (List Piece) ParseFault → Type 0
+IsIndexParse text (Ok pieces) = IsIndexOf text pieces
+IsIndexParse text (Err fault) = IsIndexFault text fault
 
 -- the span is where this part stands in the text
 abbrev pub IsSlice : List ℕ → Span → List ℕ → Type 0

@@ -11,4 +11,5 @@ pub mod Falls
 pub mod Parts
 pub mod Room
 pub mod Grammar
+pub mod One
 pub mod Joining

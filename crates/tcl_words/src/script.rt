@@ -130,12 +130,12 @@ impl Model for Index {
 
     ghost view = { λ i. i.parsed.value.text };
 
-    ghost use Rattle.std.specs.Prelude.{◌≡◌, ◌<◌, Ok};
-    ghost use Rattle.tcl_words.specs.Reading.{index_pieces_of};
+    ghost use Rattle.std.specs.Prelude.{◌<◌};
+    ghost use Rattle.tcl_words.specs.Grammar.{IsIndexOf};
     ghost use Rattle.tcl_words.specs.Room.{text_room, pieces_room};
 
     ghost invariant = { λ i.
-        (index_pieces_of i.parsed.value.text ≡ Ok i.parsed.value.pieces) × (pieces_room i.parsed.value.pieces < text_room i.parsed.value.text) };
+        IsIndexOf i.parsed.value.text i.parsed.value.pieces × (pieces_room i.parsed.value.pieces < text_room i.parsed.value.text) };
 
     ghost size = { text_room };
 
@@ -166,12 +166,12 @@ impl Model for Script {
 
     ghost view = { λ s. s.parsed.value.text };
 
-    ghost use Rattle.std.specs.Prelude.{◌≡◌, ◌≤◌, Ok};
-    ghost use Rattle.tcl_words.specs.Reading.{commands_of};
+    ghost use Rattle.std.specs.Prelude.{◌≤◌};
+    ghost use Rattle.tcl_words.specs.Grammar.{IsScriptOf};
     ghost use Rattle.tcl_words.specs.Room.{text_room, commands_room};
 
     ghost invariant = { λ s.
-        (commands_of s.parsed.value.text ≡ Ok s.parsed.value.commands.items) × (commands_room s.parsed.value.commands.items ≤ text_room s.parsed.value.text) };
+        IsScriptOf s.parsed.value.text s.parsed.value.commands.items × (commands_room s.parsed.value.commands.items ≤ text_room s.parsed.value.text) };
 
     ghost size = { text_room };
 
@@ -213,13 +213,17 @@ impl Pieces {
 }
 
 impl Script {
-    ghost use Rattle.std.specs.Prelude.{◌≡◌, ◌≤◌, Ok, IfOk};
-    ghost use Rattle.tcl_words.specs.Room.{text_room, commands_room};
+    ghost use Rattle.std.specs.Prelude.{◌≡◌, List, Ok, IfOk};
+    ghost use Rattle.tcl_words.specs.Grammar.{IsScriptOf};
     ghost use Rattle.tcl_words.specs.Reading.{commands_of};
+    ghost use Rattle.tcl_words.specs.declared.script.Command.{Command};
 
     /// The commands, in order.
+    #[tactic(auto, using(crate::proofs::Grammars::one_script, crate::proofs::Parses::script_walked))]
     pub fn commands(&self) -> &[Command]
-        ensures { commands_of self.now ≡ Ok result.now }
+        ensures script { IsScriptOf self.now result.now }
+        ensures only { (commands : List Command) → IsScriptOf self.now commands → commands ≡ result.now }
+        ensures walk { commands_of self.now ≡ Ok result.now }
     {
         self.parsed.commands.as_slice()
     }
@@ -232,13 +236,13 @@ impl Script {
     }
 
     /// A script of this text, of which these are the commands.
-    #[tactic(auto, using(crate::proofs::Texts::commands_of_fit))]
+    #[tactic(auto, using(crate::proofs::Parses::script_fits))]
     pub(crate) fn new(
         alloc: Global,
         text: Text,
         commands: Vec<Command>,
     ) -> Result<Script, AllocError>
-        requires { commands_of text ≡ Ok commands.items }
+        requires { IsScriptOf text commands.items }
         ensures { IfOk result (λ script. script ≡ text) }
     {
         Ok(Script {
@@ -257,8 +261,10 @@ impl Script {
 }
 
 impl Index {
-    ghost use Rattle.std.specs.Prelude.{◌≡◌, Ok, IfOk};
+    ghost use Rattle.std.specs.Prelude.{◌≡◌, List, Ok, IfOk};
+    ghost use Rattle.tcl_words.specs.Grammar.{IsIndexOf};
     ghost use Rattle.tcl_words.specs.Reading.{index_pieces_of};
+    ghost use Rattle.tcl_words.specs.declared.script.Piece.{Piece};
 
     /// The source, that is what stands between the parentheses.
     pub fn text(&self) -> &Text
@@ -268,16 +274,19 @@ impl Index {
     }
 
     /// Its pieces, in order.
+    #[tactic(auto, using(crate::proofs::Parses::one_index, crate::proofs::Parses::index_walked))]
     pub fn pieces(&self) -> &[Piece]
-        ensures { index_pieces_of self.now ≡ Ok result.now }
+        ensures index { IsIndexOf self.now result.now }
+        ensures only { (pieces : List Piece) → IsIndexOf self.now pieces → pieces ≡ result.now }
+        ensures walk { index_pieces_of self.now ≡ Ok result.now }
     {
         Pieces::as_slice(&self.parsed.pieces)
     }
 
     /// An index of this text, of which these are the pieces.
-    #[tactic(auto, using(crate::proofs::Rooms::pieces_fit))]
+    #[tactic(auto, using(crate::proofs::Parses::index_fits))]
     pub(crate) fn new(alloc: Global, text: Text, pieces: Pieces) -> Result<Index, AllocError>
-        requires { index_pieces_of text ≡ Ok pieces }
+        requires { IsIndexOf text pieces }
         ensures { IfOk result (λ index. index ≡ text) }
     {
         Ok(Index {

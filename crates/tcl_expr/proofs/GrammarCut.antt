@@ -10,9 +10,11 @@ use Rattle.tcl_expr.specs.declared.tokens.Link.{Link}
 use Rattle.tcl_expr.specs.declared.tokens.Link.TheVariants as link
 use Rattle.tcl_expr.specs.Tokens.{mark_of, link_at}
 use Rattle.tcl_expr.specs.Trees.{Tree, Unary, Choice}
-use Rattle.tcl_expr.specs.Reading.{Opened, Before, After as Pending, Paren, Question, Otherwise, parens, ends_at, Closed, close, ended, level_of, between, AtOperand, AtOperator, move, at_colon, at_close, at_paren, room_in, on_move, reading, whole}
-use Rattle.tcl_expr.specs.Grammar.{blank_mark, past_blanks, After, at_end, linked, nothing, after_link, after_blanks, after, Ending, leaves, fails, goes_on, stops, with_tree, operand_of, operand_ending, First, sign, paren, operand, first_of, closed_by, closed, colon_fault, unchosen, IsExpr, whole_by, IsWholeExpr}
+use Rattle.tcl_expr.specs.Reading.{Opened, Before, After as Pending, Paren, Question, Otherwise, parens, ends_at, Closed, close, ended, AtOperand, AtOperator, move, at_colon, at_close, at_paren, room_in, on_move, reading, whole}
+use Rattle.tcl_expr.specs.Operators.{level_of, between}
+use Rattle.tcl_expr.specs.Grammar.{blank_mark, past_blanks, After, at_end, linked, nothing, after_link, after_blanks, after, Ending, leaves, fails, goes_on, stops, with_tree, First, sign, paren, operand, first_of, closed_by, closed, colon_fault, unchosen, IsExpr, whole_by, IsWholeExpr}
 use Rattle.tcl_expr.specs.Grammar.IsExpr.{lacks, operand_read, signed, deep, parens as in_parens, tighter, operated, choice, no_choice}
+use Rattle.tcl_expr.proofs.OperandsFound.{operand_of, operand_ending, operand_is}
 use Rattle.tcl_expr.proofs.StandLemmas.{reading_skip}
 use Rattle.tcl_expr.proofs.GrammarRead.{levels, decide, not_blank, moved, operand_moves, sign_moves, paren_moves, on_next, goes, reading_goes, first_byte, lacks_read}
 
@@ -453,10 +455,11 @@ module _ (text : List ℕ) (below : Below text) where
   first_cut : (opened : List Opened) (b : ℕ) (behind : List ℕ) → Nests opened → past_blanks text ≡ b ∷ behind → (first : First) → first_of (mark_of b) ≡ first →
       Started opened text (reading 0 AtOperand opened text)
   first_cut opened b behind w e operand f =
+      let small : room_in opened ≤ 200 = omega arith in
       let found : Result (Tree × ℕ) ExprFault = operand_of (room_in opened) (mark_of b) (b ∷ behind) behind in
       started_as opened (reading 0 AtOperand opened text) (on_move (moved opened found) (λ further place left. reading further place left behind))
       (first_byte opened text b behind (moved opened found) e (operand_moves opened (b ∷ behind) behind (mark_of b) f (not_blank text b behind e)))
-      (starts_past opened (operand_ending behind found) (on_move (moved opened found) (λ further place left. reading further place left behind)) (operand_read b behind e f)
+      (starts_past opened (operand_ending behind found) (on_move (moved opened found) (λ further place left. reading further place left behind)) (operand_read b behind e f (operand_is (room_in opened) small b behind))
       (operand_past opened behind found (first_shorter text b behind e) w))
   first_cut opened b behind w e (sign operator) f =
       let s = (below behind (first_shorter text b behind e)).operands (Before operator ∷ opened) w in

@@ -1,7 +1,6 @@
 -- What the grammar relates is read.
 use Rattle.std.proofs.Common.{◌≡◌, ℕ, zero, suc, ◌-◌, ◌≤◌, ◌⊎◌, inl, inr, nat_lt, nat_le, ◌==◌, Bool, true, false, not, List, [], ◌∷◌, drop, take, Option, Some, None, Result, Ok, Err, refl, sym, ap, subst, ◌∙◌, eqb-true, arith}
 use Rattle.std.proofs.lemmas.Bool.Decides.{nat_tests}
-use Rattle.std.specs.Str.{is_utf8}
 use Rattle.tcl_text.specs.Readings.{boolean_of}
 use Rattle.tcl_words.specs.Operands.{bracket_of, substitution_of, quoted_of}
 use Rattle.tcl_words.specs.declared.script.Piece.{Piece}
@@ -26,9 +25,11 @@ use Rattle.tcl_expr.specs.Braces.{braced}
 use Rattle.tcl_expr.specs.Substitution.{piece_tree, text_tree}
 use Rattle.tcl_expr.specs.Tokens.{mark_of, begins_newline, link_at, number_length, ends_number, name_bytes}
 use Rattle.tcl_expr.specs.Trees.{Tree, Integer, Plain, Unary, Choice}
-use Rattle.tcl_expr.specs.Reading.{Opened, Before, After as Pending, Paren, Question, Otherwise, parens, ends_at, Closed, close, level_of, arithmetic_level, comparison_level, between, Place, AtOperand, AtOperator, Move, move, Next, link_next, link_move, at_infix, at_question, at_colon, at_close, at_paren, at_number, at_word, at_brace, with_text, word_or_fault, with_piece, with_pieces, with_substitution, with_operand, room_in, with_skip, operand_move, operator_move, on_move, reading, whole}
-use Rattle.tcl_expr.specs.Grammar.{blank_mark, past_blanks, After, at_end, linked, nothing, after_link, after_blanks, after, Ending, leaves, fails, goes_on, stops, with_tree, found_text, number_at, word_by, word_at, brace_at, with_count, piece_at, pieces_at, variable_at, operand_of, operand_ending, sign, paren, operand, first_of, closed_by, closed, colon_fault, unchosen, IsExpr, whole_by, whole_of}
+use Rattle.tcl_expr.specs.Reading.{Opened, Before, After as Pending, Paren, Question, Otherwise, parens, ends_at, Closed, close, Place, AtOperand, AtOperator, Move, move, Next, link_next, link_move, at_infix, at_question, at_colon, at_close, at_paren, at_number, at_word, at_brace, word_or_fault, with_piece, with_pieces, with_substitution, with_operand, room_in, with_skip, operand_move, operator_move, on_move, reading, whole}
+use Rattle.tcl_expr.specs.Operators.{level_of, arithmetic_level, comparison_level, between}
+use Rattle.tcl_expr.specs.Grammar.{blank_mark, past_blanks, After, at_end, linked, nothing, after_link, after_blanks, after, Ending, leaves, fails, goes_on, stops, with_tree, sign, paren, operand, first_of, closed_by, closed, colon_fault, unchosen, IsExpr, whole_by, whole_of}
 use Rattle.tcl_expr.specs.Grammar.IsExpr.{lacks, operand_read, signed, deep, parens as in_parens, tighter, operated, choice, no_choice}
+use Rattle.tcl_expr.proofs.OperandsFound.{number_at, word_by, brace_at, with_count, piece_at, pieces_at, variable_at, operand_of, operand_ending, operand_found}
 use Rattle.tcl_expr.proofs.StandLemmas.{reading_skip}
 
 -- ── blanks ──
@@ -155,24 +156,16 @@ abbrev pub moved : List Opened → Result (Tree × ℕ) ExprFault → Result Mov
 moved opened (Ok found) = move found.1 (AtOperator found.0) opened
 moved opened (Err fault) = Err fault
 
-text_moves : (opened : List Opened) (bytes : List ℕ) (tree : Tree) (n : ℕ) (utf8 : Bool) → is_utf8 bytes ≡ utf8 → with_text bytes (move n (AtOperator tree) opened) ≡ moved opened (found_text bytes tree n)
-text_moves opened bytes tree n true e = rw e refl
-text_moves opened bytes tree n false e = rw e refl
-
 number_moves : (opened : List Opened) (n : ℕ) (text : List ℕ) (ends : Bool) → ends_number (drop n text) ≡ ends → at_number n opened text ≡ moved opened (number_at n text)
-number_moves opened n text true e = rw e (text_moves opened (take n text) (Integer (take n text)) (n - 1) (is_utf8 (take n text)) refl)
+number_moves opened n text true e = rw e refl
 number_moves opened n text false e = rw e refl
 
 word_moves_by : (opened : List Opened) (n : ℕ) (word : List ℕ) (read : Option Bool) → word_or_fault n opened word read ≡ moved opened (word_by word n read)
 word_moves_by opened n word (Some truth) = refl
 word_moves_by opened n word None = refl
 
-word_moves : (opened : List Opened) (n : ℕ) (text : List ℕ) (utf8 : Bool) → is_utf8 (take n text) ≡ utf8 → at_word n opened text ≡ moved opened (word_at n text)
-word_moves opened n text true e = rw e (word_moves_by opened n (take n text) (boolean_of (take n text)))
-word_moves opened n text false e = rw e refl
-
 brace_moves : (opened : List Opened) (found : Result (List ℕ × ℕ) ExprFault) → at_brace opened found ≡ moved opened (brace_at found)
-brace_moves opened (Ok found) = text_moves opened found.0 (Plain found.0) (suc found.1) (is_utf8 found.0) refl
+brace_moves opened (Ok found) = refl
 brace_moves opened (Err fault) = refl
 
 operand_moves_by : (opened : List Opened) (n : ℕ) (tree : Result Tree ExprFault) → with_operand n opened tree ≡ moved opened (with_count n tree)
@@ -202,7 +195,7 @@ operand_moves opened text behind mark.Tilde f h = absurd (cc)
 operand_moves opened text behind mark.Bang f h = absurd (cc)
 operand_moves opened text behind mark.OpenParen f h = absurd (cc)
 operand_moves opened text behind mark.Digit f h = number_moves opened (number_length text) text (ends_number (drop (number_length text) text)) refl
-operand_moves opened text behind mark.Letter f h = word_moves opened (name_bytes text) text (is_utf8 (take (name_bytes text) text)) refl
+operand_moves opened text behind mark.Letter f h = word_moves_by opened (name_bytes text) (take (name_bytes text) text) (boolean_of (take (name_bytes text) text))
 operand_moves opened text behind mark.OpenBrace f h = brace_moves opened (braced Unescaped 0 behind)
 operand_moves opened text behind mark.Quote f h = pieces_moves opened (quoted_of (room_in opened) behind)
 operand_moves opened text behind mark.OpenBracket f h = piece_moves opened (bracket_of (room_in opened) behind)
@@ -453,10 +446,12 @@ less_room opened room e = omega (arith, e)
 
 pub read : {room n : ℕ} {text : List ℕ} {ending : Ending} → IsExpr room n text ending → (opened : List Opened) → room ≡ room_in opened → Guards n opened → Comes n opened text ending
 read (lacks {room} {text} e) opened r g = lacks_read opened text e
-read (operand_read {room} {text} b behind e f) opened r g =
-    operand_comes opened text behind (operand_of room (mark_of b) (b ∷ behind) behind)
+read (operand_read {room} {text} {ending} b behind e f is) opened r g =
+    let small : room ≤ 200 = omega (arith, r) in
+    subst (Comes 11 opened text) (operand_found room small is)
+    (operand_comes opened text behind (operand_of room (mark_of b) (b ∷ behind) behind)
     (first_byte opened text b behind (moved opened (operand_of room (mark_of b) (b ∷ behind) behind)) e
-    (operand_moves opened (b ∷ behind) behind (mark_of b) f (not_blank text b behind e) ∙ ap (λ k. moved opened (operand_of k (mark_of b) (b ∷ behind) behind)) (sym r)))
+    (operand_moves opened (b ∷ behind) behind (mark_of b) f (not_blank text b behind e) ∙ ap (λ k. moved opened (operand_of k (mark_of b) (b ∷ behind) behind)) (sym r))))
 read (signed {room} {text} b behind operator {ending} e f is) opened r g =
     signed_comes opened text behind operator ending
     (first_byte opened text b behind (move 0 AtOperand (Before operator ∷ opened)) e (sign_moves opened (b ∷ behind) behind operator (mark_of b) f))

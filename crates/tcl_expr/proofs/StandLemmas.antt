@@ -10,7 +10,8 @@ use Rattle.tcl_expr.specs.declared.open.Open.TheVariants as open_form
 use Rattle.tcl_expr.specs.declared.parser.Parser.{Parser}
 use Rattle.tcl_expr.specs.Trees.{Tree}
 use Rattle.tcl_expr.specs.Steps.{steps_of}
-use Rattle.tcl_expr.specs.Reading.{Opened, Before, After, Paren, Question, Otherwise, level_of, ended, close, parens, Place, AtOperand, AtOperator, Move, at_colon, at_close, on_move, reading}
+use Rattle.tcl_expr.specs.Reading.{Opened, Before, After, Paren, Question, Otherwise, ended, close, parens, Place, AtOperand, AtOperator, Move, at_colon, at_close, on_move, reading}
+use Rattle.tcl_expr.specs.Operators.{level_of}
 use Rattle.tcl_expr.specs.Parsing.{infix_hole, written, Closes}
 use Rattle.tcl_expr.specs.Standing.{Stands, StandsNext, Follows}
 use Rattle.tcl_expr.proofs.CloseLemmas.{append_nil, infix_opens, question_opens, colon_opens, paren_ends}

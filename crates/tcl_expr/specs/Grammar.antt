@@ -1,14 +1,17 @@
 -- The grammar of expressions, as a relation between a text and its tree or fault, by the levels of the operators. It says nothing of what
 -- stands open while a text is read. What stands at the front of a text is read with how that goes on: with what is left, or with a fault.
-use Rattle.std.specs.Prelude.{ℕ, zero, suc, ◌-◌, ◌≡◌, ◌≤◌, ◌⊎◌, Bool, true, false, not, if◌then◌else◌, List, [], ◌∷◌, length, take, drop, Option, Some, None, Result, Ok, Err}
-use Rattle.std.specs.Str.{IsUtf8, is_utf8}
-use Rattle.tcl_text.specs.Readings.{boolean_of}
-use Rattle.tcl_words.specs.Operands.{bracket_of, substitution_of, quoted_of}
+use Rattle.std.specs.Prelude.{ℕ, zero, suc, ◌-◌, ◌≡◌, ◌≢◌, ◌≤◌, nat_lt, Bool, true, false, not, if◌then◌else◌, List, [], ◌∷◌, ◌++◌, length, drop, Option, Some, None, Result, Ok, Err}
+use Rattle.std.specs.Char.{digit_value}
+use Rattle.std.specs.Str.{IsUtf8}
+use Rattle.tcl_text.specs.Readings.{boolean_of, base_named}
+use Rattle.tcl_words.specs.Grammar.{leaves as leaves_text, fails as text_fails, script, begins, begins_name, ArePieces, IsBraced, IsUnclosed, IsInnerOf, IsIndexOf}
+use Rattle.tcl_words.specs.OperandGrammar.{IsSubstitution, IsFaultySubstitution}
+use Rattle.tcl_words.specs.declared.kind.Mode.TheVariants.{Quotes}
 use Rattle.tcl_words.specs.declared.script.Piece.{Piece}
+use Rattle.tcl_words.specs.declared.script.Piece.TheVariants as piece
 use Rattle.tcl_words.specs.declared.fault.ParseFault.{ParseFault}
-use Rattle.tcl_expr.specs.declared.braces.BracePlace.TheVariants.{Plain as Unescaped}
 use Rattle.tcl_expr.specs.declared.fault.ExprFault.{ExprFault}
-use Rattle.tcl_expr.specs.declared.fault.ExprFault.TheVariants.{TooLong, MissingParen, Syntax}
+use Rattle.tcl_expr.specs.declared.fault.ExprFault.TheVariants.{TooLong, MissingBrace, MissingParen, Syntax}
 use Rattle.tcl_expr.specs.declared.operators.UnaryOperator.{UnaryOperator}
 use Rattle.tcl_expr.specs.declared.operators.UnaryOperator.TheVariants.{Negate, Keep, Complement, Not}
 use Rattle.tcl_expr.specs.declared.operators.Infix.{Infix}
@@ -16,12 +19,10 @@ use Rattle.tcl_expr.specs.declared.tokens.Mark.{Mark}
 use Rattle.tcl_expr.specs.declared.tokens.Mark.TheVariants as mark
 use Rattle.tcl_expr.specs.declared.tokens.Link.{Link}
 use Rattle.tcl_expr.specs.declared.tokens.Link.TheVariants as link
-use Rattle.tcl_expr.specs.Braces.{braced}
 use Rattle.tcl_expr.specs.Faults.{script_fault}
-use Rattle.tcl_expr.specs.Reading.{level_of, between}
-use Rattle.tcl_expr.specs.Substitution.{piece_tree, text_tree}
-use Rattle.tcl_expr.specs.Tokens.{mark_of, begins_newline, link_at, number_length, ends_number, name_bytes}
-use Rattle.tcl_expr.specs.Trees.{Tree, Integer, Plain, Unary, Choice}
+use Rattle.tcl_expr.specs.Operators.{level_of, between}
+use Rattle.tcl_expr.specs.Tokens.{mark_of, begins_newline, link_at, is_name_byte, begins_name_byte, ends_number}
+use Rattle.tcl_expr.specs.Trees.{Tree, Integer, Plain, Variable, Element, Command, Joined, Unary, Choice}
 
 -- ── what stands between operands and operators ──
 
@@ -77,54 +78,86 @@ with_tree of (fails fault) = fails fault
 
 -- ── operands ──
 
--- what is there, and how many of the bytes behind the first are its own
-abbrev pub found_text : List ℕ → Tree → ℕ → Result (Tree × ℕ) ExprFault
-found_text bytes tree n = if is_utf8 bytes then Ok (tree, n) else Err TooLong
+-- digits of a base
+abbrev pub AreDigits : ℕ → List ℕ → Type 0
+AreDigits base [] = Unit {0}
+AreDigits base (b ∷ digits) = (nat_lt (digit_value b) base ≡ true) × AreDigits base digits
 
-abbrev pub number_at : ℕ → List ℕ → Result (Tree × ℕ) ExprFault
-number_at n text = if ends_number (drop n text) then found_text (take n text) (Integer (take n text)) (n - 1) else Err Syntax
+abbrev pub begins_digit : ℕ → List ℕ → Bool
+begins_digit base [] = false
+begins_digit base (b ∷ text) = nat_lt (digit_value b) base
 
-abbrev pub word_by : List ℕ → ℕ → Option Bool → Result (Tree × ℕ) ExprFault
-word_by word n (Some truth) = Ok (Plain word, n - 1)
-word_by word n None = Err Syntax
+-- a digit of the base, if one is named, is first
+abbrev pub begins_digit_of : Option ℕ → List ℕ → Bool
+begins_digit_of (Some base) text = begins_digit base text
+begins_digit_of None text = false
 
-abbrev pub word_at : ℕ → List ℕ → Result (Tree × ℕ) ExprFault
-word_at n text = if is_utf8 (take n text) then word_by (take n text) n (boolean_of (take n text)) else Err TooLong
+-- the letter of a base is first, with a digit of that base behind it
+abbrev pub begins_base : List ℕ → Bool
+begins_base [] = false
+begins_base (letter ∷ behind) = begins_digit_of (base_named letter) behind
 
-abbrev pub brace_at : Result (List ℕ × ℕ) ExprFault → Result (Tree × ℕ) ExprFault
-brace_at (Ok found) = found_text found.0 (Plain found.0) (suc found.1)
-brace_at (Err fault) = Err fault
+-- The number in front of this text, as long as can be: `0` and the letter of a base with digits of it, octal digits behind a `0`, or decimal ones.
+pub data IsNumber (rest : List ℕ) : List ℕ → Type 0 where
+  based : (letter base digit : ℕ) (digits : List ℕ) → base_named letter ≡ Some base → AreDigits base (digit ∷ digits) → begins_digit base rest ≡ false →
+      IsNumber rest (48 ∷ letter ∷ digit ∷ digits)
+  octal : (digits : List ℕ) → AreDigits 8 digits → begins_digit 8 rest ≡ false → begins_base (digits ++ rest) ≡ false → IsNumber rest (48 ∷ digits)
+  decimal : (digit : ℕ) (digits : List ℕ) → digit ≢ 48 → AreDigits 10 (digit ∷ digits) → begins_digit 10 rest ≡ false → IsNumber rest (digit ∷ digits)
 
-abbrev pub with_count : ℕ → Result Tree ExprFault → Result (Tree × ℕ) ExprFault
-with_count n (Ok tree) = Ok (tree, n)
-with_count n (Err fault) = Err fault
+-- letters, digits and `_`
+abbrev pub AreNameBytes : List ℕ → Type 0
+AreNameBytes [] = Unit {0}
+AreNameBytes (b ∷ word) = (is_name_byte b ≡ true) × AreNameBytes word
 
-abbrev pub piece_at : ℕ → Result (Piece × ℕ) ParseFault → Result (Tree × ℕ) ExprFault
-piece_at room (Ok found) = with_count found.1 (piece_tree room found.0)
-piece_at room (Err fault) = Err (script_fault fault)
+-- What pieces of a script are as trees: one of them, and several that are joined from the left.
+mutual
+  pub data IsPieceTree : Piece → Tree → Type 0 where
+    literal : (text : List ℕ) → IsPieceTree (piece.Literal text) (Plain text)
+    variable : (name : List ℕ) → IsPieceTree (piece.Variable name) (Variable name)
+    bracket : (script : List ℕ) → IsPieceTree (piece.Bracket script) (Command script)
+    element : (name index : List ℕ) (pieces : List Piece) (tree : Tree) → IsIndexOf index pieces → IsTextTree pieces tree → IsPieceTree (piece.Element name index) (Element name tree)
 
-abbrev pub pieces_at : ℕ → Result (List Piece × ℕ) ParseFault → Result (Tree × ℕ) ExprFault
-pieces_at room (Ok found) = with_count found.1 (text_tree room found.0)
-pieces_at room (Err fault) = Err (script_fault fault)
+  pub data IsTextTree : List Piece → Tree → Type 0 where
+    none : IsTextTree [] (Plain [])
+    some : (own : Piece) (pieces : List Piece) (first tree : Tree) → IsPieceTree own first → IsJoinedTree first pieces tree → IsTextTree (own ∷ pieces) tree
 
-abbrev pub variable_at : ℕ → Result (Option (Piece × ℕ)) ParseFault → Result (Tree × ℕ) ExprFault
-variable_at room (Ok (Some found)) = with_count found.1 (piece_tree room found.0)
-variable_at room (Ok None) = Err Syntax
-variable_at room (Err fault) = Err (script_fault fault)
+  pub data IsJoinedTree : Tree → List Piece → Tree → Type 0 where
+    all : (tree : Tree) → IsJoinedTree tree [] tree
+    more : (own : Piece) (pieces : List Piece) (first next tree : Tree) → IsPieceTree own next → IsJoinedTree (Joined first next) pieces tree → IsJoinedTree first (own ∷ pieces) tree
 
--- an operand that begins with a byte of this kind, where so many brackets and indices may stand in one another
-abbrev pub operand_of : ℕ → Mark → List ℕ → List ℕ → Result (Tree × ℕ) ExprFault
-operand_of room mark.Digit text behind = number_at (number_length text) text
-operand_of room mark.Letter text behind = word_at (name_bytes text) text
-operand_of room mark.OpenBrace text behind = brace_at (braced Unescaped 0 behind)
-operand_of room mark.Quote text behind = pieces_at room (quoted_of room behind)
-operand_of room mark.OpenBracket text behind = piece_at room (bracket_of room behind)
-operand_of room mark.Dollar text behind = variable_at room (substitution_of room behind)
-operand_of room _ text behind = Err Syntax
+-- what can begin an operand that is no operator and no parenthesis
+abbrev pub begins_operand : Mark → Bool
+begins_operand mark.Digit = true
+begins_operand mark.Letter = true
+begins_operand mark.OpenBrace = true
+begins_operand mark.Quote = true
+begins_operand mark.OpenBracket = true
+begins_operand mark.Dollar = true
+begins_operand _ = false
 
-abbrev pub operand_ending : List ℕ → Result (Tree × ℕ) ExprFault → Ending
-operand_ending behind (Ok found) = leaves found.0 (drop found.1 behind)
-operand_ending behind (Err fault) = fails fault
+-- An operand at the front of a text, without an operator or a parenthesis before it, where so many brackets and indices may stand in one
+-- another. What a bracket, a `$`, a quote or a brace begins is as the grammar of scripts has it.
+pub data IsOperand (room : ℕ) : List ℕ → Ending → Type 0 where
+  number : (b : ℕ) (own rest : List ℕ) → mark_of b ≡ mark.Digit → IsNumber rest (b ∷ own) → ends_number rest ≡ true → IsOperand room (b ∷ (own ++ rest)) (leaves (Integer (b ∷ own)) rest)
+  unended_number : (b : ℕ) (own rest : List ℕ) → mark_of b ≡ mark.Digit → IsNumber rest (b ∷ own) → ends_number rest ≡ false → IsOperand room (b ∷ (own ++ rest)) (fails Syntax)
+  -- a word that spells a boolean
+  word : (b : ℕ) (own rest : List ℕ) (truth : Bool) → mark_of b ≡ mark.Letter → AreNameBytes (b ∷ own) → begins_name_byte rest ≡ false → boolean_of (b ∷ own) ≡ Some truth →
+      IsOperand room (b ∷ (own ++ rest)) (leaves (Plain (b ∷ own)) rest)
+  other_word : (b : ℕ) (own rest : List ℕ) → mark_of b ≡ mark.Letter → AreNameBytes (b ∷ own) → begins_name_byte rest ≡ false → boolean_of (b ∷ own) ≡ None →
+      IsOperand room (b ∷ (own ++ rest)) (fails Syntax)
+  braces : (own value rest : List ℕ) → IsBraced own value → IsOperand room (123 ∷ (own ++ 125 ∷ rest)) (leaves (Plain value) rest)
+  unclosed_braces : (text : List ℕ) → IsUnclosed text → IsOperand room (123 ∷ text) (fails MissingBrace)
+  quotes : (own rest : List ℕ) (pieces : List Piece) (tree : Tree) → ArePieces (IsInnerOf room) true Quotes (own ++ 34 ∷ rest) pieces (leaves_text (34 ∷ rest)) → IsTextTree pieces tree →
+      IsOperand room (34 ∷ (own ++ 34 ∷ rest)) (leaves tree rest)
+  faulty_quotes : (text : List ℕ) (pieces : List Piece) (fault : ParseFault) → ArePieces (IsInnerOf room) true Quotes text pieces (text_fails fault) → IsOperand room (34 ∷ text) (fails (script_fault fault))
+  bracket : (own rest : List ℕ) → IsInnerOf room script (own ++ 93 ∷ rest) (leaves_text (93 ∷ rest)) → IsOperand room (91 ∷ (own ++ 93 ∷ rest)) (leaves (Command own) rest)
+  faulty_bracket : (text : List ℕ) (fault : ParseFault) → IsInnerOf room script text (text_fails fault) → IsOperand room (91 ∷ text) (fails (script_fault fault))
+  -- a variable or an element
+  variable : (text rest : List ℕ) (own : Piece) (tree : Tree) → IsSubstitution room text own rest → IsPieceTree own tree → IsOperand room (36 ∷ text) (leaves tree rest)
+  faulty_variable : (text : List ℕ) (fault : ParseFault) → IsFaultySubstitution room text fault → IsOperand room (36 ∷ text) (fails (script_fault fault))
+  -- a `$` with nothing that it could begin
+  no_variable : (text : List ℕ) → begins_name text ≡ false → begins 123 text ≡ false → IsOperand room (36 ∷ text) (fails Syntax)
+  none : (b : ℕ) (behind : List ℕ) → begins_operand (mark_of b) ≡ false → IsOperand room (b ∷ behind) (fails Syntax)
 
 -- what a byte of this kind begins where an operand is due
 pub data First : Type 0 where
@@ -166,8 +199,8 @@ unchosen (fails fault) = Some fault
 pub data IsExpr : ℕ → ℕ → List ℕ → Ending → Type 0 where
   -- no operand
   lacks : {room : ℕ} {text : List ℕ} → past_blanks text ≡ [] → IsExpr room 11 text (fails Syntax)
-  operand_read : {room : ℕ} {text : List ℕ} (b : ℕ) (behind : List ℕ) → past_blanks text ≡ b ∷ behind → first_of (mark_of b) ≡ operand →
-      IsExpr room 11 text (operand_ending behind (operand_of room (mark_of b) (b ∷ behind) behind))
+  operand_read : {room : ℕ} {text : List ℕ} {ending : Ending} (b : ℕ) (behind : List ℕ) → past_blanks text ≡ b ∷ behind → first_of (mark_of b) ≡ operand →
+      IsOperand room (b ∷ behind) ending → IsExpr room 11 text ending
   -- an operator before its operand
   signed : {room : ℕ} {text : List ℕ} (b : ℕ) (behind : List ℕ) (operator : UnaryOperator) {ending : Ending} → past_blanks text ≡ b ∷ behind → first_of (mark_of b) ≡ sign operator →
       IsExpr room 11 behind ending → IsExpr room 11 text (with_tree (Unary operator) ending)

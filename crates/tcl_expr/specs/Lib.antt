@@ -7,6 +7,7 @@ pub mod Faults
 pub mod Grammar
 pub mod Machine
 pub mod Messages
+pub mod Operators
 pub mod Parsing
 pub mod Reading
 pub mod Run

@@ -9,7 +9,8 @@ use Rattle.tcl_expr.specs.declared.open.Open.{Open}
 use Rattle.tcl_expr.specs.declared.open.Open.TheVariants as open_form
 use Rattle.tcl_expr.specs.Trees.{Tree}
 use Rattle.tcl_expr.specs.Steps.{steps_of}
-use Rattle.tcl_expr.specs.Reading.{Opened, Before, After, Paren, Question, Otherwise, level_of, close}
+use Rattle.tcl_expr.specs.Reading.{Opened, Before, After, Paren, Question, Otherwise, close}
+use Rattle.tcl_expr.specs.Operators.{level_of}
 
 -- ── what the code does to the steps ──
 

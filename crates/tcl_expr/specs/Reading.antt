@@ -6,21 +6,15 @@ use Rattle.tcl_expr.specs.declared.fault.ExprFault.{ExprFault}
 use Rattle.tcl_expr.specs.declared.fault.ExprFault.TheVariants.{TooLong, MissingParen, Syntax}
 use Rattle.tcl_expr.specs.declared.operators.UnaryOperator.{UnaryOperator}
 use Rattle.tcl_expr.specs.declared.operators.UnaryOperator.TheVariants.{Negate, Keep, Complement, Not}
-use Rattle.tcl_expr.specs.declared.operators.ArithmeticOperator.{ArithmeticOperator}
-use Rattle.tcl_expr.specs.declared.operators.ArithmeticOperator.TheVariants.{Multiply, Divide, Remainder, Add, Subtract, ShiftLeft, ShiftRight, BitAnd, BitXor, BitOr}
-use Rattle.tcl_expr.specs.declared.operators.Comparison.{Comparison}
-use Rattle.tcl_expr.specs.declared.operators.Comparison.TheVariants as comparison
-use Rattle.tcl_expr.specs.declared.operators.BinaryOperator.{BinaryOperator}
-use Rattle.tcl_expr.specs.declared.operators.BinaryOperator.TheVariants as binary
 use Rattle.tcl_expr.specs.declared.operators.Infix.{Infix}
-use Rattle.tcl_expr.specs.declared.operators.Infix.TheVariants as infixed
 use Rattle.tcl_expr.specs.declared.tokens.Mark.{Mark}
 use Rattle.tcl_expr.specs.declared.tokens.Mark.TheVariants as mark
 use Rattle.tcl_expr.specs.declared.tokens.Link.{Link}
 use Rattle.tcl_expr.specs.declared.tokens.Link.TheVariants as link
 use Rattle.tcl_expr.specs.declared.step.Step.{Step}
 use Rattle.tcl_expr.specs.Tokens.{mark_of, begins_newline, link_at, number_length, ends_number, name_bytes}
-use Rattle.tcl_expr.specs.Trees.{Tree, Integer, Plain, Unary, Binary, And, Or, Choice}
+use Rattle.tcl_expr.specs.Operators.{level_of, between}
+use Rattle.tcl_expr.specs.Trees.{Tree, Integer, Plain, Unary, Choice}
 use Rattle.tcl_expr.specs.Steps.{steps_of}
 use Rattle.tcl_expr.specs.Faults.{script_fault}
 use Rattle.tcl_expr.specs.Braces.{braced}
@@ -29,41 +23,6 @@ use Rattle.tcl_expr.specs.Substitution.{piece_tree, text_tree}
 use Rattle.tcl_words.specs.Operands.{bracket_of, substitution_of, quoted_of}
 use Rattle.tcl_words.specs.declared.script.Piece.{Piece}
 use Rattle.tcl_words.specs.declared.fault.ParseFault.{ParseFault}
-
--- ── levels: an operator binds tighter than those of a lower level ──
-
-abbrev pub arithmetic_level : ArithmeticOperator → ℕ
-arithmetic_level Multiply = 10
-arithmetic_level Divide = 10
-arithmetic_level Remainder = 10
-arithmetic_level Add = 9
-arithmetic_level Subtract = 9
-arithmetic_level ShiftLeft = 8
-arithmetic_level ShiftRight = 8
-arithmetic_level BitAnd = 5
-arithmetic_level BitXor = 4
-arithmetic_level BitOr = 3
-
-abbrev pub comparison_level : Comparison → ℕ
-comparison_level comparison.Same = 6
-comparison_level comparison.Different = 6
-comparison_level _ = 7
-
-abbrev pub binary_level : BinaryOperator → ℕ
-binary_level (binary.Arithmetic operator) = arithmetic_level operator
-binary_level (binary.Comparison operator) = comparison_level operator
-binary_level (binary.Text operator) = 6
-
-abbrev pub level_of : Infix → ℕ
-level_of infixed.Or = 1
-level_of infixed.And = 2
-level_of (infixed.Binary operator) = binary_level operator
-
--- two trees with an operator between them
-abbrev pub between : Infix → Tree → Tree → Tree
-between infixed.Or a b = Or a b
-between infixed.And a b = And a b
-between (infixed.Binary operator) a b = Binary operator a b
 
 -- ── what stands open ──
 
@@ -139,20 +98,15 @@ at_sign operator opened = move 0 AtOperand (Before operator ∷ opened)
 abbrev pub at_paren : List Opened → Result Move ExprFault
 at_paren opened = if nat_lt (parens opened) 200 then move 0 AtOperand (Paren ∷ opened) else Err TooLong
 
--- A part of a text that is cut at ASCII bytes is UTF-8 where the text is, so that this never fails.
-abbrev pub with_text : List ℕ → Result Move ExprFault → Result Move ExprFault
-with_text bytes next = if is_utf8 bytes then next else Err TooLong
-
 abbrev pub at_number : ℕ → List Opened → List ℕ → Result Move ExprFault
-at_number n opened text =
-    if ends_number (drop n text) then with_text (take n text) (move (n - 1) (AtOperator (Integer (take n text))) opened) else Err Syntax
+at_number n opened text = if ends_number (drop n text) then move (n - 1) (AtOperator (Integer (take n text))) opened else Err Syntax
 
 abbrev pub word_or_fault : ℕ → List Opened → List ℕ → Option Bool → Result Move ExprFault
 word_or_fault n opened word (Some truth) = move (n - 1) (AtOperator (Plain word)) opened
 word_or_fault n opened word None = Err Syntax
 
 abbrev pub at_word : ℕ → List Opened → List ℕ → Result Move ExprFault
-at_word n opened text = with_text (take n text) (word_or_fault n opened (take n text) (boolean_of (take n text)))
+at_word n opened text = word_or_fault n opened (take n text) (boolean_of (take n text))
 
 -- how many parentheses, brackets and indices may still be opened in one another
 abbrev pub room_in : List Opened → ℕ
@@ -188,7 +142,7 @@ at_quote opened behind = with_pieces opened (quoted_of (room_in opened) behind)
 
 -- what stands in braces is a text
 abbrev pub at_brace : List Opened → Result (List ℕ × ℕ) ExprFault → Result Move ExprFault
-at_brace opened (Ok found) = with_text found.0 (move (suc found.1) (AtOperator (Plain found.0)) opened)
+at_brace opened (Ok found) = move (suc found.1) (AtOperator (Plain found.0)) opened
 at_brace opened (Err fault) = Err fault
 
 -- a byte of this kind where an operand is due

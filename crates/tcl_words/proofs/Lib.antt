@@ -16,6 +16,7 @@ pub mod ScriptsCut
 pub mod Grammars
 mod GrammarExamples
 pub mod Indices
+pub mod IndicesAlone
 pub mod Parses
 pub mod Slices
 pub mod Tails

@@ -2,7 +2,7 @@
 use Rattle.std.proofs.Common.{◌≡◌, ℕ, List, [], Result, Ok, Err, IsOk, refl, ap}
 use Rattle.tcl_expr.specs.declared.fault.ExprFault.{ExprFault}
 use Rattle.tcl_expr.specs.declared.state.State.TheVariants.{Ready}
-use Rattle.tcl_expr.specs.Evaluation.{evaluation_at}
+use Rattle.tcl_expr.specs.Resuming.{evaluation_at}
 use Rattle.tcl_expr.specs.Reading.{tree_of, compiled, compiled_by}
 use Rattle.tcl_expr.specs.Trees.{Tree}
 use Rattle.tcl_expr.proofs.GrammarLaws.{expr_parse_is_read, one_expr_parse}

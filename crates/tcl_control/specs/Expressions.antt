@@ -4,7 +4,7 @@ use Rattle.tcl_text.specs.Readings.{boolean_of}
 use Rattle.tcl_expr.specs.declared.fault.ExprFault.{ExprFault}
 use Rattle.tcl_expr.specs.declared.state.State.TheVariants.{Ready}
 use Rattle.tcl_expr.specs.declared.step.Step.{Step}
-use Rattle.tcl_expr.specs.Evaluation.{Evaluation}
+use Rattle.tcl_expr.specs.Resuming.{Resumption}
 use Rattle.tcl_expr.specs.Messages.{parse_message}
 use Rattle.tcl_expr.specs.Reading.{compiled}
 use Rattle.tcl_expr.proofs.GrammarLaws.{one_expr_parse}
@@ -24,11 +24,11 @@ unfoldable pub expression_of : List ℕ → Result Tree (List ℕ)
 expression_of text = tree_or_text text (one_expr_parse text).it
 
 -- the evaluation of an expression from its beginning, or the text of its fault
-abbrev pub begun : List ℕ → Result (List Step) ExprFault → Result Evaluation (List ℕ)
+abbrev pub begun : List ℕ → Result (List Step) ExprFault → Result Resumption (List ℕ)
 begun text (Ok steps) = Ok (record { steps = steps; stack = []; state = Ready })
 begun text (Err fault) = Err (parse_message text fault)
 
-unfoldable pub evaluation_begins : List ℕ → Result Evaluation (List ℕ)
+unfoldable pub evaluation_begins : List ℕ → Result Resumption (List ℕ)
 evaluation_begins text = begun text (compiled text)
 
 -- ── how it is kept ──

@@ -24,7 +24,7 @@ use Rattle.tcl_expr.specs.Faults.{script_fault}
 use Rattle.tcl_expr.specs.Substitution.{piece_tree, text_tree}
 use Rattle.tcl_expr.specs.Tokens.{mark_of, is_digit, is_alphabetic, is_name_byte, begins_name_byte, name_bytes, digits, based_or, past_zero_by, past_zero, number_length, ends_number}
 use Rattle.tcl_expr.specs.Trees.{Tree, Integer, Plain, Command}
-use Rattle.tcl_expr.specs.Grammar.{Ending, leaves, fails, AreDigits, begins_digit, begins_digit_of, begins_base, IsNumber, AreNameBytes, IsPieceTree, IsTextTree, begins_operand, IsOperand}
+use Rattle.tcl_expr.specs.Grammar.{ExprEnding, leaves, fails, AreDigits, begins_digit, begins_digit_of, begins_base, IsNumber, AreNameBytes, IsPieceTree, IsTextTree, begins_operand, IsOperand}
 use Rattle.tcl_expr.specs.Grammar.IsNumber.{based, octal, decimal}
 use Rattle.tcl_expr.specs.Grammar.IsOperand.{number, unended_number, word, other_word, braces, unclosed_braces, quotes, faulty_quotes, bracket, faulty_bracket, variable, faulty_variable, no_variable, none}
 use Rattle.tcl_expr.proofs.BracesOfScripts.{braces_read, unclosed_read}
@@ -79,11 +79,11 @@ operand_of room mark.OpenBracket text behind = piece_at room (bracket_of room be
 operand_of room mark.Dollar text behind = variable_at room (substitution_of room behind)
 operand_of room _ text behind = Err Syntax
 
-abbrev pub operand_ending : List ℕ → Found → Ending
+abbrev pub operand_ending : List ℕ → Found → ExprEnding
 operand_ending behind (Ok found) = leaves found.0 (drop found.1 behind)
 operand_ending behind (Err fault) = fails fault
 
-abbrev pub found_ending : ℕ → List ℕ → Ending
+abbrev pub found_ending : ℕ → List ℕ → ExprEnding
 found_ending room [] = fails Syntax
 found_ending room (b ∷ behind) = operand_ending behind (operand_of room (mark_of b) (b ∷ behind) behind)
 
@@ -172,7 +172,7 @@ substitution_front (element_behind name own {rest} is h) =
 
 -- ── what the grammar relates is found ──
 
-at_mark : (room b : ℕ) (behind : List ℕ) (m : Mark) (ending : Ending) → mark_of b ≡ m → operand_ending behind (operand_of room m (b ∷ behind) behind) ≡ ending → found_ending room (b ∷ behind) ≡ ending
+at_mark : (room b : ℕ) (behind : List ℕ) (m : Mark) (ending : ExprEnding) → mark_of b ≡ m → operand_ending behind (operand_of room m (b ∷ behind) behind) ≡ ending → found_ending room (b ∷ behind) ≡ ending
 at_mark room b behind m ending same e = ap (λ k. operand_ending behind (operand_of room k (b ∷ behind) behind)) same ∙ e
 
 brace_mark : mark_of 123 ≡ mark.OpenBrace
@@ -230,7 +230,7 @@ variable_found_in room text rest own tree (front, cut) is f =
     subst (λ t. operand_ending t (variable_at room (substitution_of room t)) ≡ leaves tree rest) (sym cut)
     (variable_found room front rest own tree (substitution_read room (front ++ rest) (Ok (Some (own, length front))) (rest, there, count)) f)
 
-pub operand_found : (room : ℕ) → room ≤ 200 → {text : List ℕ} {ending : Ending} → IsOperand room text ending → found_ending room text ≡ ending
+pub operand_found : (room : ℕ) → room ≤ 200 → {text : List ℕ} {ending : ExprEnding} → IsOperand room text ending → found_ending room text ≡ ending
 operand_found room small (number b own rest same is ends) =
     at_mark room b (own ++ rest) mark.Digit (leaves (Integer (b ∷ own)) rest) same (number_found b own rest true is ends ∙ ap (leaves (Integer (b ∷ own))) (drop_front own rest))
 operand_found room small (unended_number b own rest same is goes) = at_mark room b (own ++ rest) mark.Digit (fails Syntax) same (number_found b own rest false is goes)
@@ -386,7 +386,7 @@ letter_names b h = rw h refl
 
 -- the text has an ending
 abbrev HasEnding : ℕ → List ℕ → Type 0
-HasEnding room text = (ending : Ending) × IsOperand room text ending
+HasEnding room text = (ending : ExprEnding) × IsOperand room text ending
 
 number_ending : (room b : ℕ) (behind : List ℕ) → mark_of b ≡ mark.Digit → NumberCut b behind → HasEnding room (b ∷ behind)
 number_ending room b behind same (own, rest, cut, is) = subst (λ t. HasEnding room (b ∷ t)) (sym cut) (at (decide (ends_number rest)))

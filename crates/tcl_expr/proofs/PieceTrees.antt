@@ -1,7 +1,7 @@
 -- What is read of a script's pieces is a tree, which is the one that the grammar relates.
 use Rattle.std.proofs.Common.{◌≡◌, ℕ, zero, suc, ◌≤◌, Bool, List, [], ◌∷◌, ◌++◌, Result, Ok, Err, refl, sym, ap, ◌∙◌, arith}
 use Rattle.tcl_text.specs.Backslash.{escape}
-use Rattle.tcl_words.specs.Grammar.{Ending as TextEnding, leaves as leaves_text, fails as text_fails, index, with_bytes, ArePieces, IsInnerOf, IsIndexOf}
+use Rattle.tcl_words.specs.Grammar.{TextEnding, leaves as leaves_text, fails as text_fails, index, with_bytes, ArePieces, IsInnerOf, IsIndexOf}
 use Rattle.tcl_words.specs.Grammar.ArePieces.{stop, unended, byte, backslash, dollar, variable as body_variable, braced_name as body_braced_name, unclosed_name, element as body_element, faulty_index, bracket as body_bracket, faulty_script}
 use Rattle.tcl_words.specs.OperandGrammar.{IsSubstitution}
 use Rattle.tcl_words.specs.OperandGrammar.IsSubstitution.{variable as name_behind, braced_name as braced_behind, element as element_behind}

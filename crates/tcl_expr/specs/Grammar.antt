@@ -55,11 +55,11 @@ after text = after_blanks (past_blanks text)
 
 -- ── how what stands at the front of a text goes on ──
 
-pub data Ending : Type 0 where
+pub data ExprEnding : Type 0 where
   -- it is this tree, and this is left
-  leaves : Tree → List ℕ → Ending
+  leaves : Tree → List ℕ → ExprEnding
   -- it has this fault
-  fails : ExprFault → Ending
+  fails : ExprFault → ExprEnding
 
 -- an operator that an expression can always go on with
 abbrev pub goes_on : After → Bool
@@ -68,11 +68,11 @@ goes_on (linked link.Question behind) = true
 goes_on _ = false
 
 -- the expression is as long as can be
-abbrev pub stops : Ending → Bool
+abbrev pub stops : ExprEnding → Bool
 stops (leaves tree left) = not (goes_on (after left))
 stops (fails fault) = true
 
-abbrev pub with_tree : (Tree → Tree) → Ending → Ending
+abbrev pub with_tree : (Tree → Tree) → ExprEnding → ExprEnding
 with_tree of (leaves tree left) = leaves (of tree) left
 with_tree of (fails fault) = fails fault
 
@@ -137,7 +137,7 @@ begins_operand _ = false
 
 -- An operand at the front of a text, without an operator or a parenthesis before it, where so many brackets and indices may stand in one
 -- another. What a bracket, a `$`, a quote or a brace begins is as the grammar of scripts has it.
-pub data IsOperand (room : ℕ) : List ℕ → Ending → Type 0 where
+pub data IsOperand (room : ℕ) : List ℕ → ExprEnding → Type 0 where
   number : (b : ℕ) (own rest : List ℕ) → mark_of b ≡ mark.Digit → IsNumber rest (b ∷ own) → ends_number rest ≡ true → IsOperand room (b ∷ (own ++ rest)) (leaves (Integer (b ∷ own)) rest)
   unended_number : (b : ℕ) (own rest : List ℕ) → mark_of b ≡ mark.Digit → IsNumber rest (b ∷ own) → ends_number rest ≡ false → IsOperand room (b ∷ (own ++ rest)) (fails Syntax)
   -- a word that spells a boolean
@@ -176,12 +176,12 @@ first_of _ = operand
 -- ── expressions ──
 
 -- what stands in parentheses, with what comes behind it
-abbrev pub closed_by : Tree → After → Ending
+abbrev pub closed_by : Tree → After → ExprEnding
 closed_by tree (linked link.Close behind) = leaves tree behind
 closed_by tree at_end = fails MissingParen
 closed_by tree _ = fails Syntax
 
-abbrev pub closed : Ending → Ending
+abbrev pub closed : ExprEnding → ExprEnding
 closed (leaves tree left) = closed_by tree (after left)
 closed (fails fault) = fails fault
 
@@ -190,34 +190,34 @@ abbrev pub colon_fault : After → Option ExprFault
 colon_fault (linked link.Colon behind) = None
 colon_fault _ = Some Syntax
 
-abbrev pub unchosen : Ending → Option ExprFault
+abbrev pub unchosen : ExprEnding → Option ExprFault
 unchosen (leaves tree left) = colon_fault (after left)
 unchosen (fails fault) = Some fault
 
 -- What stands at the front of a text at this level or a tighter one, where so many parentheses, brackets and indices may be opened in one
 -- another. Level 0 is that of a choice, 11 that of operands.
-pub data IsExpr : ℕ → ℕ → List ℕ → Ending → Type 0 where
+pub data IsExpr : ℕ → ℕ → List ℕ → ExprEnding → Type 0 where
   -- no operand
   lacks : {room : ℕ} {text : List ℕ} → past_blanks text ≡ [] → IsExpr room 11 text (fails Syntax)
-  operand_read : {room : ℕ} {text : List ℕ} {ending : Ending} (b : ℕ) (behind : List ℕ) → past_blanks text ≡ b ∷ behind → first_of (mark_of b) ≡ operand →
+  operand_read : {room : ℕ} {text : List ℕ} {ending : ExprEnding} (b : ℕ) (behind : List ℕ) → past_blanks text ≡ b ∷ behind → first_of (mark_of b) ≡ operand →
       IsOperand room (b ∷ behind) ending → IsExpr room 11 text ending
   -- an operator before its operand
-  signed : {room : ℕ} {text : List ℕ} (b : ℕ) (behind : List ℕ) (operator : UnaryOperator) {ending : Ending} → past_blanks text ≡ b ∷ behind → first_of (mark_of b) ≡ sign operator →
+  signed : {room : ℕ} {text : List ℕ} (b : ℕ) (behind : List ℕ) (operator : UnaryOperator) {ending : ExprEnding} → past_blanks text ≡ b ∷ behind → first_of (mark_of b) ≡ sign operator →
       IsExpr room 11 behind ending → IsExpr room 11 text (with_tree (Unary operator) ending)
   -- parentheses
   deep : {text : List ℕ} (b : ℕ) (behind : List ℕ) → past_blanks text ≡ b ∷ behind → first_of (mark_of b) ≡ paren → IsExpr zero 11 text (fails TooLong)
-  parens : {room : ℕ} {text : List ℕ} (b : ℕ) (behind : List ℕ) {inner : Ending} → past_blanks text ≡ b ∷ behind → first_of (mark_of b) ≡ paren →
+  parens : {room : ℕ} {text : List ℕ} (b : ℕ) (behind : List ℕ) {inner : ExprEnding} → past_blanks text ≡ b ∷ behind → first_of (mark_of b) ≡ paren →
       IsExpr room 0 behind inner → stops inner ≡ true → IsExpr (suc room) 11 text (closed inner)
   -- what binds tighter
-  tighter : {room level : ℕ} {text : List ℕ} {ending : Ending} → IsExpr room (suc level) text ending → IsExpr room level text ending
+  tighter : {room level : ℕ} {text : List ℕ} {ending : ExprEnding} → IsExpr room (suc level) text ending → IsExpr room level text ending
   -- an operator between operands: the left one may have operators of its level, the right one only tighter ones
-  operated : {room : ℕ} {text : List ℕ} (operator : Infix) (a : Tree) (left behind : List ℕ) {ending : Ending} → IsExpr room (level_of operator) text (leaves a left) →
+  operated : {room : ℕ} {text : List ℕ} (operator : Infix) (a : Tree) (left behind : List ℕ) {ending : ExprEnding} → IsExpr room (level_of operator) text (leaves a left) →
       after left ≡ linked (link.Infix operator) behind → IsExpr room (suc (level_of operator)) behind ending → IsExpr room (level_of operator) text (with_tree (between operator a) ending)
   -- a choice: its condition is no choice, its last part may be one
-  choice : {room : ℕ} {text : List ℕ} (a b : Tree) (left behind left' behind' : List ℕ) {ending : Ending} → IsExpr room 1 text (leaves a left) →
+  choice : {room : ℕ} {text : List ℕ} (a b : Tree) (left behind left' behind' : List ℕ) {ending : ExprEnding} → IsExpr room 1 text (leaves a left) →
       after left ≡ linked link.Question behind → IsExpr room 0 behind (leaves b left') → after left' ≡ linked link.Colon behind' → IsExpr room 0 behind' ending →
       IsExpr room 0 text (with_tree (Choice a b) ending)
-  no_choice : {room : ℕ} {text : List ℕ} (a : Tree) (left behind : List ℕ) (fault : ExprFault) {ending : Ending} → IsExpr room 1 text (leaves a left) →
+  no_choice : {room : ℕ} {text : List ℕ} (a : Tree) (left behind : List ℕ) (fault : ExprFault) {ending : ExprEnding} → IsExpr room 1 text (leaves a left) →
       after left ≡ linked link.Question behind → IsExpr room 0 behind ending → stops ending ≡ true → unchosen ending ≡ Some fault → IsExpr room 0 text (fails fault)
 
 -- ── whole texts ──
@@ -226,7 +226,7 @@ abbrev pub whole_by : Tree → After → Result Tree ExprFault
 whole_by tree at_end = Ok tree
 whole_by tree _ = Err Syntax
 
-abbrev pub whole_of : Ending → Result Tree ExprFault
+abbrev pub whole_of : ExprEnding → Result Tree ExprFault
 whole_of (leaves tree left) = whole_by tree (after left)
 whole_of (fails fault) = Err fault
 
@@ -237,7 +237,7 @@ IsText text = (length text ≤ 65536) × IsUtf8 text
 -- The text as a whole is of this tree, or has this fault, as the levels of operators cut it. At most 200 parentheses, brackets and
 -- indices stand in one another.
 abbrev pub IsWholeExpr : List ℕ → Result Tree ExprFault → Type 0
-IsWholeExpr text whole = (ending : Ending) × IsExpr 200 0 text ending × (stops ending ≡ true) × (whole_of ending ≡ whole)
+IsWholeExpr text whole = (ending : ExprEnding) × IsExpr 200 0 text ending × (stops ending ≡ true) × (whole_of ending ≡ whole)
 
 -- The text is an expression with this tree.
 pub record IsTreeOf (text : List ℕ) (tree : Tree) : Type 0 where

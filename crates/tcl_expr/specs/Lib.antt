@@ -2,7 +2,6 @@
 pub mod Arithmetic
 pub mod Braces
 pub mod Dues
-pub mod Evaluation
 pub mod Faults
 pub mod Grammar
 pub mod Machine
@@ -10,6 +9,7 @@ pub mod Messages
 pub mod Operators
 pub mod Parsing
 pub mod Reading
+pub mod Resuming
 pub mod Run
 pub mod Standing
 pub mod Steps

@@ -75,21 +75,21 @@ close level (own ∷ opened) tree = if ends_at level own then close level opened
 -- ── bytes ──
 
 -- an operand is due, or stands before
-pub data Place : Type 0 where
-  AtOperand : Place
-  AtOperator : Tree → Place
+pub data OperandPlace : Type 0 where
+  AtOperand : OperandPlace
+  AtOperator : Tree → OperandPlace
 
 -- how reading goes on: so many further bytes are taken
 pub record Move : Type 0 where
   pub skip : ℕ
-  pub place : Place
+  pub place : OperandPlace
   pub opened : List Opened
 
-abbrev pub move : ℕ → Place → List Opened → Result Move ExprFault
+abbrev pub move : ℕ → OperandPlace → List Opened → Result Move ExprFault
 move skip place opened = Ok (record { skip = skip; place = place; opened = opened })
 
 -- white space of one byte, or a newline behind a backslash
-abbrev pub at_backslash : Place → List Opened → List ℕ → Result Move ExprFault
+abbrev pub at_backslash : OperandPlace → List Opened → List ℕ → Result Move ExprFault
 at_backslash place opened behind = if begins_newline behind then move 1 place opened else Err Syntax
 
 abbrev pub at_sign : UnaryOperator → List Opened → Result Move ExprFault
@@ -164,10 +164,10 @@ operand_move _ opened text behind = Err Syntax
 
 -- how reading goes on behind an operator
 pub record Next : Type 0 where
-  pub place : Place
+  pub place : OperandPlace
   pub opened : List Opened
 
-abbrev pub next : Place → List Opened → Result Next ExprFault
+abbrev pub next : OperandPlace → List Opened → Result Next ExprFault
 next place opened = Ok (record { place = place; opened = opened })
 
 abbrev pub at_colon : List Opened → Tree → Result Next ExprFault
@@ -205,7 +205,7 @@ operator_move mark.White opened tree text behind = move 0 (AtOperator tree) open
 operator_move mark.Backslash opened tree text behind = at_backslash (AtOperator tree) opened behind
 operator_move _ opened tree text behind = link_move opened tree (link_at text)
 
-abbrev pub move_of : Place → List Opened → List ℕ → List ℕ → Mark → Result Move ExprFault
+abbrev pub move_of : OperandPlace → List Opened → List ℕ → List ℕ → Mark → Result Move ExprFault
 move_of AtOperand opened text behind m = operand_move m opened text behind
 move_of (AtOperator tree) opened text behind m = operator_move m opened tree text behind
 
@@ -215,16 +215,16 @@ whole [] tree = Ok tree
 whole (Paren ∷ opened) tree = Err MissingParen
 whole _ tree = Err Syntax
 
-abbrev pub at_end : Place → List Opened → Result Tree ExprFault
+abbrev pub at_end : OperandPlace → List Opened → Result Tree ExprFault
 at_end AtOperand opened = Err Syntax
 at_end (AtOperator tree) opened = whole (close 0 opened tree).opened (close 0 opened tree).tree
 
-abbrev pub on_move : Result Move ExprFault → (ℕ → Place → List Opened → Result Tree ExprFault) → Result Tree ExprFault
+abbrev pub on_move : Result Move ExprFault → (ℕ → OperandPlace → List Opened → Result Tree ExprFault) → Result Tree ExprFault
 on_move (Ok next) go = go next.skip next.place next.opened
 on_move (Err fault) go = Err fault
 
 -- what a text gives past so many bytes of it
-abbrev pub reading : ℕ → Place → List Opened → List ℕ → Result Tree ExprFault
+abbrev pub reading : ℕ → OperandPlace → List Opened → List ℕ → Result Tree ExprFault
 reading skip place opened [] = at_end place opened
 reading (suc skip) place opened (b ∷ text) = reading skip place opened text
 reading zero place opened (b ∷ text) = on_move (move_of place opened (b ∷ text) text (mark_of b)) (λ further next left. reading further next left text)

@@ -5,13 +5,13 @@ use Rattle.std.specs.Str.{is_utf8}
 use Rattle.std.proofs.lemmas.Str.{is_utf8-from_IsUtf8, IsUtf8-from_is_utf8}
 use Rattle.tcl_words.specs.Changes.{Read}
 use Rattle.tcl_words.specs.Reading.{rest_of, commands_in, commands_of, outermost}
-use Rattle.tcl_words.specs.Grammar.{Ending, leaves, fails, IsText, IsInnerOf, IsScript, IsScriptOf, IsScriptFault}
+use Rattle.tcl_words.specs.Grammar.{TextEnding, leaves, fails, IsText, IsInnerOf, IsScript, IsScriptOf, IsScriptFault}
 use Rattle.tcl_words.specs.Grammar.IsScriptFault.{no_text, faulty_text}
-use Rattle.tcl_words.specs.declared.kind.Place.TheVariants.{Start}
+use Rattle.tcl_words.specs.declared.kind.BytePlace.TheVariants.{Start}
 use Rattle.tcl_words.specs.declared.script.Command.{Command}
 use Rattle.tcl_words.specs.declared.fault.ParseFault.{ParseFault}
 use Rattle.tcl_words.specs.declared.fault.ParseFault.TheVariants.{TooLong, NoMemory}
-use Rattle.tcl_words.proofs.ScriptsRead.{Gives, script_read, inner_reads}
+use Rattle.tcl_words.proofs.ScriptsRead.{GivesCommands, script_read, inner_reads}
 use Rattle.tcl_words.proofs.ScriptsCut.{IsScriptCut, script_found, inner_cuts}
 
 -- what a text can be
@@ -32,32 +32,32 @@ length_case false text e = let short : length text ≤ 65536 = grind (arith, nat
 text_case : (text : List ℕ) → IsNoText text ⊎ IsReadable text
 text_case text = length_case (nat_lt 65536 (length text)) text refl
 
-abbrev IsCut : List ℕ → List Command → Ending → Type 0
+abbrev IsCut : List ℕ → List Command → TextEnding → Type 0
 IsCut text commands ending = IsScript (IsInnerOf 200) false 0 text commands ending
 
 -- what a cut text gives
-abbrev given : List Command → Ending → Result (List Command) ParseFault
+abbrev given : List Command → TextEnding → Result (List Command) ParseFault
 given commands (leaves left) = Ok commands
 given commands (fails fault) = Err fault
 
-read_given : (r : Read) (stop : ℕ) (commands : List Command) (ending : Ending) → Gives r stop [] commands ending → commands_in r ≡ given commands ending
+read_given : (r : Read) (stop : ℕ) (commands : List Command) (ending : TextEnding) → GivesCommands r stop [] commands ending → commands_in r ≡ given commands ending
 read_given r stop commands (leaves left) g = ap commands_in g.is ∙ ap (λ t. Ok t) g.commands_are
 read_given r stop commands (fails fault) g = ap commands_in g
 
-cut_read : (text : List ℕ) (commands : List Command) (ending : Ending) → IsCut text commands ending → commands_in (rest_of text outermost 0 Start 0) ≡ given commands ending
+cut_read : (text : List ℕ) (commands : List Command) (ending : TextEnding) → IsCut text commands ending → commands_in (rest_of text outermost 0 Start 0) ≡ given commands ending
 cut_read text commands ending cut =
     read_given (rest_of text outermost 0 Start 0) (0 + length text) commands ending (script_read false 200 (inner_reads 200) commands ending 0 text cut)
 
 -- each text is cut, up to its end or a fault
-abbrev EndsThere : Ending → Type 0
+abbrev EndsThere : TextEnding → Type 0
 EndsThere (leaves left) = left ≡ []
 EndsThere (fails fault) = Unit {0}
 
-ends_there : (text : List ℕ) (ending : Ending) → IsScriptCut false text ending → EndsThere ending
+ends_there : (text : List ℕ) (ending : TextEnding) → IsScriptCut false text ending → EndsThere ending
 ends_there text (leaves left) (own, e, h) = h
 ends_there text (fails fault) h = tt
 
-all_cut : (text : List ℕ) → (commands : List Command) × (ending : Ending) × IsCut text commands ending × EndsThere ending
+all_cut : (text : List ℕ) → (commands : List Command) × (ending : TextEnding) × IsCut text commands ending × EndsThere ending
 all_cut text = let found = script_found 200 false (inner_cuts 200) 0 text in (found.commands, found.ending, found.is, ends_there text found.ending found.cut)
 
 script_at : (text : List ℕ) (commands : List Command) → IsNoText text ⊎ IsReadable text → IsScriptOf text commands → commands_of text ≡ Ok commands
@@ -68,7 +68,7 @@ script_at text commands (inr (fits, e)) is = e ∙ cut_read text commands (leave
 pub commands_of-script : (text : List ℕ) (commands : List Command) → IsScriptOf text commands → commands_of text ≡ Ok commands
 commands_of-script text commands is = script_at text commands (text_case text) is
 
-found_script : (text : List ℕ) (commands found : List Command) (ending : Ending) → IsCut text found ending → EndsThere ending → given found ending ≡ Ok commands → IsCut text commands (leaves [])
+found_script : (text : List ℕ) (commands found : List Command) (ending : TextEnding) → IsCut text found ending → EndsThere ending → given found ending ≡ Ok commands → IsCut text commands (leaves [])
 found_script text commands found (leaves left) cut h e =
     let k : Ok found ≡ Ok commands = e in
     let same : found ≡ commands = cc in
@@ -99,7 +99,7 @@ fault_at text fault (inr (fits, e)) (faulty_text commands same cut) = e ∙ cut_
 pub commands_of-fault : (text : List ℕ) (fault : ParseFault) → IsScriptFault text fault → commands_of text ≡ Err fault
 commands_of-fault text fault is = fault_at text fault (text_case text) is
 
-found_fault : (text : List ℕ) (fault : ParseFault) (found : List Command) (ending : Ending) → IsCut text found ending → given found ending ≡ Err fault → IsCut text found (fails fault)
+found_fault : (text : List ℕ) (fault : ParseFault) (found : List Command) (ending : TextEnding) → IsCut text found ending → given found ending ≡ Err fault → IsCut text found (fails fault)
 found_fault text fault found (leaves left) cut e = let k : Ok found ≡ Err fault = e in cc
 found_fault text fault found (fails other) cut e =
     let k : Err other ≡ Err fault = e in

@@ -1,7 +1,7 @@
 -- The pieces that are read of an index are those of the grammar.
 use Rattle.std.proofs.Common.{◌⊎◌, inl, inr, true, ◌∷◌, ◌≡◌, ℕ, false, List, [], refl, sym, ap, subst, ◌∙◌, Ok, Err}
 use Rattle.tcl_words.specs.Reading.{pieces_in, index_pieces_of, outermost}
-use Rattle.tcl_words.specs.Grammar.{Ending, leaves, fails, stops, ArePieces, IsInnerOf, IsIndexOf, IsIndexFault}
+use Rattle.tcl_words.specs.Grammar.{TextEnding, leaves, fails, stops, ArePieces, IsInnerOf, IsIndexOf, IsIndexFault}
 use Rattle.tcl_words.specs.declared.kind.Mode.TheVariants.{Parens}
 use Rattle.tcl_words.specs.declared.script.Piece.{Piece}
 use Rattle.tcl_words.specs.declared.fault.ParseFault.{ParseFault}
@@ -10,7 +10,7 @@ use Rattle.tcl_words.proofs.ScriptsRead.{inner_reads}
 use Rattle.tcl_words.proofs.PiecesCut.{IsPiecesCut, pieces_found}
 use Rattle.tcl_words.proofs.ScriptsCut.{inner_cuts}
 
-abbrev IsCut : List ℕ → List Piece → Ending → Type 0
+abbrev IsCut : List ℕ → List Piece → TextEnding → Type 0
 IsCut text pieces ending = ArePieces (IsInnerOf 200) false Parens text pieces ending
 
 pub index_pieces_of-index : (text : List ℕ) (pieces : List Piece) → IsIndexOf text pieces → index_pieces_of text ≡ Ok pieces
@@ -28,7 +28,7 @@ ends_there : (left : List ℕ) → stops false Parens left ≡ true → left ≡
 ends_there [] h = refl
 ends_there (b ∷ left) h = cc
 
-index_cut : (text : List ℕ) (found : List Piece) (ending : Ending) → IsCut text found ending → IsPiecesCut false Parens text ending → IsIndexOf text found ⊎ ((fault : ParseFault) × IsIndexFault text fault)
+index_cut : (text : List ℕ) (found : List Piece) (ending : TextEnding) → IsCut text found ending → IsPiecesCut false Parens text ending → IsIndexOf text found ⊎ ((fault : ParseFault) × IsIndexFault text fault)
 index_cut text found (leaves left) are (own, e, h) = inl (record { cut = subst (λ l. IsCut text found (leaves l)) (ends_there left h) are })
 index_cut text found (fails fault) are cut = inr (fault, record { pieces = found; cut = are })
 

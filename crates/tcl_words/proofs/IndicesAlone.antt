@@ -6,7 +6,7 @@ use Rattle.tcl_words.specs.Reading.{within, rest_of, index_pieces_of}
 use Rattle.tcl_words.specs.Parts.{Whole, joined, no_parts, with_rest}
 use Rattle.tcl_words.specs.Grammar.{leaves, ArePieces, IsInnerOf, IsIndexOf}
 use Rattle.tcl_words.specs.declared.kind.Mode.TheVariants.{Parens}
-use Rattle.tcl_words.specs.declared.kind.Place.TheVariants.{Text}
+use Rattle.tcl_words.specs.declared.kind.BytePlace.TheVariants.{Text}
 use Rattle.tcl_words.specs.declared.script.Piece.{Piece}
 use Rattle.tcl_words.proofs.Indices.{index-index_pieces_of}
 use Rattle.tcl_words.proofs.Inners.{index_alone}

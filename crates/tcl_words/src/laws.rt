@@ -2,7 +2,7 @@
 
 ghost use Rattle.std.specs.Prelude.{◌≡◌, ◌↔◌, ◌⊎◌, ℕ, Bool, List, [], ◌∷◌, ◌++◌, Option, Result, Ok, Err};
 ghost use Rattle.tcl_words.specs.Reading.{commands_of, index_pieces_of};
-ghost use Rattle.tcl_words.specs.Grammar.{IsScriptOf, IsScriptFault, IsIndexOf, IsIndexFault, CommandsAreSlices, IsBraced, IsUnclosed, Ending, fails, ArePieces, IsInnerOf};
+ghost use Rattle.tcl_words.specs.Grammar.{IsScriptOf, IsScriptFault, IsIndexOf, IsIndexFault, CommandsAreSlices, IsBraced, IsUnclosed, TextEnding, fails, ArePieces, IsInnerOf};
 ghost use Rattle.tcl_words.specs.Operands.{bracket_of, substitution_of, quoted_of};
 ghost use Rattle.tcl_words.specs.OperandGrammar.{IsBehindBracket, IsSubstitution, IsFaultySubstitution, IsBehindDollar, IsBehindQuote};
 ghost use Rattle.tcl_words.specs.Joining.{lines_of, CommandsAlike};
@@ -59,7 +59,7 @@ pub fn operands_are_read()
     ensures bracket { (room : ℕ) (text : List ℕ) (result : Result (Piece × ℕ) ParseFault) → IsBehindBracket room text result ↔ (bracket_of room text ≡ result) }
     ensures substitution { (room : ℕ) (text : List ℕ) (result : Result (Option (Piece × ℕ)) ParseFault) → IsBehindDollar room text result ↔ (substitution_of room text ≡ result) }
     ensures quotes { (room : ℕ) (text : List ℕ) (result : Result (List Piece × ℕ) ParseFault) → IsBehindQuote room text result ↔ (quoted_of room text ≡ result) }
-    ensures begun { (room : ℕ) (inside : Bool) (mode : Mode) (text rest : List ℕ) (piece : Piece) (pieces : List Piece) (ending : Ending) → IsSubstitution room text piece rest
+    ensures begun { (room : ℕ) (inside : Bool) (mode : Mode) (text rest : List ℕ) (piece : Piece) (pieces : List Piece) (ending : TextEnding) → IsSubstitution room text piece rest
         → ArePieces (IsInnerOf room) inside mode rest pieces ending → ArePieces (IsInnerOf room) inside mode (36 ∷ text) (piece ∷ pieces) ending }
     ensures faulty { (room : ℕ) (inside : Bool) (mode : Mode) (text : List ℕ) (fault : ParseFault) → IsFaultySubstitution room text fault → ArePieces (IsInnerOf room) inside mode (36 ∷ text) [] (fails fault) }
 {}

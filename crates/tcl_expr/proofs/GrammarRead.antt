@@ -23,7 +23,8 @@ use Rattle.tcl_expr.specs.declared.tokens.Link.{Link}
 use Rattle.tcl_expr.specs.declared.tokens.Link.TheVariants as link
 use Rattle.tcl_expr.specs.Braces.{braced}
 use Rattle.tcl_expr.specs.Substitution.{piece_tree, text_tree}
-use Rattle.tcl_expr.specs.Tokens.{mark_of, begins_newline, link_at, number_length, ends_number, name_bytes}
+use Rattle.tcl_expr.specs.Tokens.{mark_of, begins_newline, link_at, ends_number}
+use Rattle.tcl_expr.specs.Counts.{number_length, name_bytes}
 use Rattle.tcl_expr.specs.Trees.{Tree, Integer, Plain, Unary, Choice}
 use Rattle.tcl_expr.specs.Reading.{Opened, Before, After as Pending, Paren, Question, Otherwise, parens, ends_at, Closed, close, OperandPlace, AtOperand, AtOperator, Move, move, Next, link_next, link_move, at_infix, at_question, at_colon, at_close, at_paren, at_number, at_word, at_brace, word_or_fault, with_piece, with_pieces, with_substitution, with_operand, room_in, with_skip, operand_move, operator_move, on_move, reading, whole}
 use Rattle.tcl_expr.specs.Operators.{level_of, arithmetic_level, comparison_level, between}

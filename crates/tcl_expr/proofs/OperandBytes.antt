@@ -9,7 +9,8 @@ use Rattle.std.proofs.lemmas.Str.Ascii.{IsAscii-nil}
 use Rattle.tcl_text.specs.Readings.{base_named}
 use Rattle.tcl_words.specs.Grammar.{begins_space, AreSpaces, IsBraced}
 use Rattle.tcl_words.specs.Grammar.IsBraced.{none, byte, pair, continuation, braces}
-use Rattle.tcl_expr.specs.Tokens.{is_name_byte, name_bytes, digits, based_or, past_zero_by, past_zero, number_length}
+use Rattle.tcl_expr.specs.Tokens.{is_name_byte}
+use Rattle.tcl_expr.specs.Counts.{name_bytes, digits, based_or, past_zero_by, past_zero, number_length}
 
 -- ── ASCII ──
 

@@ -22,7 +22,8 @@ use Rattle.tcl_expr.specs.declared.tokens.Mark.TheVariants as mark
 use Rattle.tcl_expr.specs.Braces.{braced}
 use Rattle.tcl_expr.specs.Faults.{script_fault}
 use Rattle.tcl_expr.specs.Substitution.{piece_tree, text_tree}
-use Rattle.tcl_expr.specs.Tokens.{mark_of, is_digit, is_alphabetic, is_name_byte, begins_name_byte, name_bytes, digits, based_or, past_zero_by, past_zero, number_length, ends_number}
+use Rattle.tcl_expr.specs.Tokens.{mark_of, is_digit, is_alphabetic, is_name_byte, begins_name_byte, ends_number}
+use Rattle.tcl_expr.specs.Counts.{name_bytes, digits, based_or, past_zero_by, past_zero, number_length}
 use Rattle.tcl_expr.specs.Trees.{Tree, Integer, Plain, Command}
 use Rattle.tcl_expr.specs.Grammar.{ExprEnding, leaves, fails, AreDigits, begins_digit, begins_digit_of, begins_base, IsNumber, AreNameBytes, IsPieceTree, IsTextTree, begins_operand, IsOperand}
 use Rattle.tcl_expr.specs.Grammar.IsNumber.{based, octal, decimal}

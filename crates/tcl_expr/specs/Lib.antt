@@ -1,6 +1,7 @@
 -- What the contracts cite.
 pub mod Arithmetic
 pub mod Braces
+pub mod Counts
 pub mod Dues
 pub mod Faults
 pub mod Grammar

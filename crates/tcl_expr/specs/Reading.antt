@@ -12,7 +12,8 @@ use Rattle.tcl_expr.specs.declared.tokens.Mark.TheVariants as mark
 use Rattle.tcl_expr.specs.declared.tokens.Link.{Link}
 use Rattle.tcl_expr.specs.declared.tokens.Link.TheVariants as link
 use Rattle.tcl_expr.specs.declared.step.Step.{Step}
-use Rattle.tcl_expr.specs.Tokens.{mark_of, begins_newline, link_at, number_length, ends_number, name_bytes}
+use Rattle.tcl_expr.specs.Tokens.{mark_of, begins_newline, link_at, ends_number}
+use Rattle.tcl_expr.specs.Counts.{number_length, name_bytes}
 use Rattle.tcl_expr.specs.Operators.{level_of, between}
 use Rattle.tcl_expr.specs.Trees.{Tree, Integer, Plain, Unary, Choice}
 use Rattle.tcl_expr.specs.Steps.{steps_of}

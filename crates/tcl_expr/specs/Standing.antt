@@ -1,7 +1,7 @@
 -- How the code stands where it has read some of an expression, and what it makes of what comes next.
 use Rattle.std.specs.Prelude.{◌≡◌, ◌≢◌, ◌⊎◌, ℕ, Bool, true, false, List, [], ◌∷◌, ◌++◌, Option, Some, None, Result, Ok, Err}
 use Rattle.tcl_expr.specs.declared.fault.ExprFault.{ExprFault}
-use Rattle.tcl_expr.specs.declared.fault.ExprFault.TheVariants.{TooLong, Syntax, NoMemory}
+use Rattle.tcl_expr.specs.declared.fault.ExprFault.TheVariants.{Syntax, NoMemory}
 use Rattle.tcl_expr.specs.declared.step.Step.{Step}
 use Rattle.tcl_expr.specs.declared.open.Open.{Open}
 use Rattle.tcl_expr.specs.declared.open.Open.TheVariants as open_form
@@ -11,7 +11,6 @@ use Rattle.tcl_expr.specs.Trees.{Tree}
 use Rattle.tcl_expr.specs.Steps.{steps_of}
 use Rattle.tcl_expr.specs.Reading.{Opened, OperandPlace, AtOperand, AtOperator, parens, Next, Move, link_next, link_move, operand_move, operator_move, whole, at_end}
 use Rattle.tcl_expr.specs.Tokens.{mark_of}
-use Rattle.std.specs.Str.{is_utf8}
 use Rattle.tcl_expr.specs.Parsing.{Holds, all_kept}
 
 abbrev pub PopsQuestion : List Open → Option ℕ → List Open → Type 0
@@ -62,11 +61,6 @@ pub record HasOperand (old new : Parser) (own : List Step) : Type 0 where
   pub opened : new.opened.items ≡ old.opened.items
   pub parens_are : new.parens ≡ old.parens
   pub due : new.is_due ≡ false
-
--- the text of bytes that are one
-abbrev pub TextOf : List ℕ → Result (List ℕ) ExprFault → Type 0
-TextOf bytes (Ok text) = (text ≡ bytes) × (is_utf8 bytes ≡ true)
-TextOf bytes (Err fault) = (fault ≡ NoMemory) ⊎ ((fault ≡ TooLong) × (is_utf8 bytes ≡ false))
 
 -- what the bytes in front are where an operand is due, and behind one
 abbrev pub operand_at : List ℕ → List Opened → Result Move ExprFault

@@ -11,7 +11,8 @@ use Rattle.tcl_control.specs.declared.code.Code.{Code}
 use Rattle.tcl_control.specs.declared.code.Code.TheVariants.{Normal, Error, Return, Break, Continue}
 use Rattle.tcl_control.specs.declared.context.Context.{Context}
 use Rattle.tcl_control.specs.declared.turns.Turning.{Turning}
-use Rattle.tcl_control.specs.Expressions.{evaluation_begins, truth_of}
+use Rattle.tcl_control.specs.Expressions.{truth_of}
+use Rattle.tcl_control.specs.ExpressionForms.{evaluation_begins}
 use Rattle.tcl_shapes.specs.declared.branches.Branch.{Branch}
 use Rattle.tcl_expr.specs.declared.ask.Ask.{Ask}
 use Rattle.tcl_expr.specs.declared.ask.Ask.TheVariants as ask

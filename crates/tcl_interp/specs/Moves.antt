@@ -23,7 +23,8 @@ use Rattle.tcl_control.specs.declared.plan.Plan.TheVariants as plan
 use Rattle.tcl_control.specs.declared.turns.Test.{Test}
 use Rattle.tcl_control.specs.declared.turns.Test.TheVariants.{Holds, Items}
 use Rattle.tcl_control.specs.declared.turns.Turning.{Turning}
-use Rattle.tcl_control.specs.Expressions.{evaluation_begins, truth_of}
+use Rattle.tcl_control.specs.Expressions.{truth_of}
+use Rattle.tcl_control.specs.ExpressionForms.{evaluation_begins}
 use Rattle.tcl_control.specs.Commands.{Ending, caught_ending}
 use Rattle.tcl_control.specs.Levels.{here, popped}
 use Rattle.tcl_control.specs.Source.{script_of}

@@ -26,7 +26,7 @@ pub struct Source {
 
 impl Model for Source {
     ghost use Rattle.std.specs.Prelude.{ℕ, List};
-    ghost use Rattle.tcl_table.specs.Source.{source_text, HasFault};
+    ghost use Rattle.tcl_table.specs.SourceForms.{source_text, HasFault};
 
     ghost Value = { List ℕ };
 

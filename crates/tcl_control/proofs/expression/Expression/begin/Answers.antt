@@ -2,7 +2,7 @@ use Rattle.std.proofs.Common.{Ok, [], ap, sym, ◌∙◌}
 use Rattle.tcl_expr.specs.declared.state.State.TheVariants.{Ready}
 use Rattle.tcl_expr.specs.Resuming.{evaluation_at}
 use Rattle.tcl_expr.specs.Reading.{compiled}
-use Rattle.tcl_control.specs.Expressions.{expression_text, evaluation_begins}
+use Rattle.tcl_control.specs.ExpressionForms.{expression_text, evaluation_begins}
 use Rattle.tcl_control.proofs.ExpressionLemmas.{begins}
 use Rattle.tcl_control.proofs.expression.Expression.begin.Goals as goal
 

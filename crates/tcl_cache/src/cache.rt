@@ -20,7 +20,8 @@ pub struct ScriptCache {
 
 impl Model for ScriptCache {
     ghost use Rattle.std.specs.Prelude.{◌<◌};
-    ghost use Rattle.tcl_cache.specs.Kept.{Kept, AreTheirs, texts_of};
+    ghost use Rattle.tcl_cache.specs.Kept.{Kept};
+    ghost use Rattle.tcl_cache.specs.Entries.{AreTheirs, texts_of};
 
     ghost Value = { Kept };
 

@@ -1,4 +1,4 @@
--- How an expression that was read is kept, and begins.
+-- Steps. How an expression that was read is kept, and begins.
 use Rattle.std.specs.Prelude.{◌≡◌, ℕ, List, [], Result, Ok, Err}
 use Rattle.tcl_expr.specs.declared.fault.ExprFault.{ExprFault}
 use Rattle.tcl_expr.specs.declared.state.State.TheVariants.{Ready}

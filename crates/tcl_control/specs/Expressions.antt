@@ -1,4 +1,4 @@
--- What an expression is that a command was given, and what its value says where a test is wanted.
+-- Meaning. What an expression is that a command was given, and what its value says where a test is wanted.
 use Rattle.std.specs.Prelude.{ℕ, Bool, List, Option, Some, None, Result, Ok, Err}
 use Rattle.tcl_text.specs.Readings.{boolean_of}
 use Rattle.tcl_expr.specs.declared.fault.ExprFault.{ExprFault}

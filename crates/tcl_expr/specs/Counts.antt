@@ -1,4 +1,4 @@
--- How many bytes in front of a text are those of a word or of a number.
+-- Steps. How many bytes in front of a text are those of a word or of a number.
 use Rattle.std.specs.Prelude.{ℕ, zero, suc, ◌+◌, ◌==◌, nat_lt, if◌then◌else◌, List, [], ◌∷◌, Option, Some, None}
 use Rattle.std.specs.Char.{digit_value}
 use Rattle.tcl_text.specs.Readings.{base_named}

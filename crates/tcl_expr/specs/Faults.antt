@@ -1,4 +1,4 @@
--- Why an expression has no value, and how an answer that may want memory stands to what it should be.
+-- Meaning. Why an expression has no value, and how an answer that may want memory stands to what it should be.
 use Rattle.std.specs.Prelude.{◌≡◌, ◌⊎◌, ℕ, Option, Some, None, Result, Ok, Err}
 use Rattle.tcl_text.specs.declared.splitting.SplitFault.{SplitFault}
 use Rattle.tcl_text.specs.declared.splitting.SplitFault.TheVariants.{BadList as SplitBadList, NoMemory as SplitNoMemory}

@@ -1,4 +1,4 @@
--- The grammar of expressions, as a relation between a text and its tree or fault, by the levels of the operators. It says nothing of what
+-- Meaning. The grammar of expressions, as a relation between a text and its tree or fault, by the levels of the operators. It says nothing of what
 -- stands open while a text is read. What stands at the front of a text is read with how that goes on: with what is left, or with a fault.
 use Rattle.std.specs.Prelude.{ℕ, zero, suc, ◌-◌, ◌≡◌, ◌≢◌, ◌≤◌, nat_lt, Bool, true, false, not, if◌then◌else◌, List, [], ◌∷◌, ◌++◌, length, drop, Option, Some, None, Result, Ok, Err}
 use Rattle.std.specs.Char.{digit_value}

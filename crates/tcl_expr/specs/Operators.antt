@@ -1,4 +1,4 @@
--- Operators between operands: how tight each binds, and the tree that it makes.
+-- Meaning. Operators between operands: how tight each binds, and the tree that it makes.
 use Rattle.std.specs.Prelude.{ℕ}
 use Rattle.tcl_expr.specs.declared.operators.ArithmeticOperator.{ArithmeticOperator}
 use Rattle.tcl_expr.specs.declared.operators.ArithmeticOperator.TheVariants.{Multiply, Divide, Remainder, Add, Subtract, ShiftLeft, ShiftRight, BitAnd, BitXor, BitOr}

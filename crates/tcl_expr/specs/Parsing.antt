@@ -1,4 +1,4 @@
--- What the code keeps while it reads an expression, and how that stands to the trees that stand open.
+-- Steps. What the code keeps while it reads an expression, and how that stands to the trees that stand open.
 use Rattle.std.specs.Prelude.{◌≡◌, ◌⊎◌, ℕ, suc, ◌+◌, ◌-◌, Bool, true, false, ◌==◌, nat_le, List, [], ◌∷◌, ◌++◌, length, set, Result, Ok, Err}
 use Rattle.std.specs.declared.alloc.AllocError.{AllocError}
 use Rattle.tcl_expr.specs.declared.operators.Infix.{Infix}

@@ -1,4 +1,4 @@
--- The tree of a text, by recursion on its bytes: what stands open before a byte, and what the byte makes of it.
+-- Steps. The tree of a text, by recursion on its bytes: what stands open before a byte, and what the byte makes of it.
 use Rattle.std.specs.Prelude.{ℕ, zero, suc, ◌-◌, Bool, true, false, not, ◌==◌, nat_lt, nat_le, if◌then◌else◌, List, [], ◌∷◌, length, take, drop, Option, Some, None, Result, Ok, Err}
 use Rattle.std.specs.Str.{is_utf8}
 use Rattle.tcl_text.specs.Readings.{boolean_of}

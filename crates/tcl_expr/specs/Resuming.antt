@@ -1,4 +1,4 @@
--- An evaluation that is resumed: what is still to come of it, and what an answer says of that.
+-- Steps. An evaluation that is resumed: what is still to come of it, and what an answer says of that.
 use Rattle.std.specs.Prelude.{◌≡◌, ◌⊎◌, ℕ, Bool, true, false, List, [], ◌∷◌, drop, Option, Some, None, Result, Ok, Err}
 use Rattle.tcl_expr.specs.declared.ask.Ask.{Ask}
 use Rattle.tcl_expr.specs.declared.ask.Ask.TheVariants.{Value as ValueOf}

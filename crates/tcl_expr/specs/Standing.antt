@@ -1,4 +1,4 @@
--- How the code stands where it has read some of an expression, and what it makes of what comes next.
+-- Steps. How the code stands where it has read some of an expression, and what it makes of what comes next.
 use Rattle.std.specs.Prelude.{◌≡◌, ◌≢◌, ◌⊎◌, ℕ, Bool, true, false, List, [], ◌∷◌, ◌++◌, Option, Some, None, Result, Ok, Err}
 use Rattle.tcl_expr.specs.declared.fault.ExprFault.{ExprFault}
 use Rattle.tcl_expr.specs.declared.fault.ExprFault.TheVariants.{Syntax, NoMemory}

@@ -1,4 +1,4 @@
--- What stands in front of a text where an operand or an operator is due.
+-- Meaning. What stands in front of a text where an operand or an operator is due.
 use Rattle.std.specs.Prelude.{ℕ, Bool, true, false, not, ◌==◌, nat_eq, nat_le, ◌&&◌, ◌||◌, if◌then◌else◌, List, [], ◌∷◌, drop, Option, Some, None, codes}
 use Rattle.std.specs.List.{starts_with}
 use Rattle.tcl_expr.specs.declared.operators.ArithmeticOperator.TheVariants.{Multiply, Divide, Remainder, Add, Subtract, ShiftLeft, ShiftRight, BitAnd, BitXor, BitOr}

@@ -1,4 +1,4 @@
--- The evaluation of words and of commands in order, where it is given how a script and how a command is run.
+-- Meaning. The evaluation of words and of commands in order, where it is given how a script and how a command is run.
 use Rattle.std.specs.Prelude.{ℕ, zero, suc, Bool, List, [], ◌∷◌, ◌++◌, length, nat_le, if◌then◌else◌, Result, Ok, Err}
 use Rattle.tcl_text.specs.Readings.{list_of}
 use Rattle.tcl_text.specs.Splitting.{fault_text as list_text}

@@ -1,4 +1,4 @@
--- What an interpreter still has to do, and the outcome of doing it, innermost first.
+-- Steps. What an interpreter still has to do, and the outcome of doing it, innermost first.
 use Rattle.std.specs.Prelude.{ℕ, Bool, List, [], ◌∷◌, ◌++◌, Option, Some, codes}
 use Rattle.tcl_words.specs.declared.script.Command.{Command}
 use Rattle.tcl_words.specs.declared.script.Word.{Word}

@@ -1,4 +1,4 @@
--- The moves of the interpreter: what is done, what waits, the variables and the context after each.
+-- Steps. The moves of the interpreter: what is done, what waits, the variables and the context after each.
 use Rattle.std.specs.Prelude.{ℕ, ◌-◌, ◌==◌, Bool, true, false, List, [], ◌∷◌, ◌++◌, length, nat_le, if◌then◌else◌, Option, Some, None, Result, Ok, Err, codes}
 use Rattle.tcl_words.specs.declared.script.Command.{Command}
 use Rattle.tcl_words.specs.declared.script.Word.{Word}

@@ -1,4 +1,4 @@
--- Moves in a row, up to where a step, a task or the end is due.
+-- Steps. Moves in a row, up to where a step, a task or the end is due.
 use Rattle.std.specs.Prelude.{◌≡◌, ◌≢◌, ℕ, zero, suc, List, [], ◌∷◌, Option, Result, Ok, Err, IfOk}
 use Rattle.tcl_vars.specs.Store.{Store}
 use Rattle.tcl_expr.specs.declared.ask.Ask.{Ask}

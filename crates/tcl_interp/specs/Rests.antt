@@ -1,4 +1,4 @@
--- What the parts of the interpreter stand for.
+-- Steps. What the parts of the interpreter stand for.
 use Rattle.std.specs.Prelude.{◌≡◌, ℕ, ◌+◌, Bool, false, List, [], ◌∷◌, map, reverse, drop, Result, Ok, Err}
 use Rattle.tcl_words.specs.declared.script.Command.{Command}
 use Rattle.tcl_words.specs.declared.script.Word.{Word}

@@ -1,4 +1,4 @@
--- What a text is as a script.
+-- Meaning. What a text is as a script.
 use Rattle.std.specs.Prelude.{ℕ, List, Result}
 use Rattle.tcl_words.proofs.Parses.{one_script_parse}
 use Rattle.tcl_words.specs.declared.script.Command.{Command}

@@ -1,4 +1,4 @@
--- A script that is to be run, however far it has been read.
+-- Steps. A script that is to be run, however far it has been read.
 use Rattle.std.specs.Prelude.{◌≡◌, ℕ, List, Err}
 use Rattle.tcl_table.specs.Source.{script_of}
 use Rattle.tcl_table.specs.declared.source.SourceForm.{SourceForm}

@@ -1,7 +1,6 @@
 -- Parts of a text that are UTF-8 as the text is.
-use Rattle.std.proofs.Common.{◌≡◌, ℕ, zero, suc, ◌+◌, ◌-◌, ◌≤◌, ◌<◌, ◌⊎◌, inl, inr, Bool, true, false, nat_lt, ◌==◌, ◌||◌, List, [], ◌∷◌, ◌++◌, length, take, drop, slice_index, Option, Some, None, Ok, refl, sym, ap, subst, ◌∙◌, append_assoc, length-append, eqb-true, arith}
-use Rattle.std.proofs.lemmas.Bool.{or_cases}
-use Rattle.std.proofs.lemmas.Bool.Decides.{nat_tests}
+use Rattle.std.proofs.Common.{◌≡◌, ℕ, zero, suc, ◌+◌, ◌-◌, ◌≤◌, ◌<◌, ◌⊎◌, inl, inr, Bool, true, false, nat_lt, nat_le, ◌==◌, ◌&&◌, ◌||◌, List, [], ◌∷◌, ◌++◌, length, take, drop, slice_index, Option, Some, None, Ok, refl, sym, ap, subst, ◌∙◌, append_assoc, length-append, eqb-true, arith}
+use Rattle.std.proofs.lemmas.Bool.{or_cases, and_parts, cases_lt, ltb-true, leb-true, le-ltb}
 use Rattle.std.specs.Char.{digit_value}
 use Rattle.std.specs.Str.{IsUtf8, IsAscii, IsCharBoundary}
 use Rattle.std.proofs.lemmas.Str.{IsUtf8-append, IsUtf8-take, IsUtf8-drop, IsUtf8-from_ascii, IsCharBoundary-at_seam, IsCharBoundary-after_ascii}
@@ -9,35 +8,41 @@ use Rattle.std.proofs.lemmas.Str.Ascii.{IsAscii-nil}
 use Rattle.tcl_text.specs.Readings.{base_named}
 use Rattle.tcl_words.specs.Grammar.{begins_space, AreSpaces, IsBraced}
 use Rattle.tcl_words.specs.Grammar.IsBraced.{none, byte, pair, continuation, braces}
-use Rattle.tcl_expr.specs.Tokens.{is_name_byte}
+use Rattle.tcl_expr.specs.Tokens.{is_digit, is_alphabetic, is_name_byte}
 use Rattle.tcl_expr.specs.Counts.{name_bytes, digits, based_or, past_zero_by, past_zero, number_length}
 
 -- ── ASCII ──
 
 ascii_front : (b : ℕ) (text : List ℕ) → b < 128 → IsAscii text → IsAscii (b ∷ text)
-ascii_front b text h rest zero = h
-ascii_front b text h rest (suc i) = rest i
+ascii_front b text h rest = λ i. at i
+  where
+    at : (i : ℕ) → slice_index (b ∷ text) i < 128
+    at zero = h
+    at (suc i) = rest i
 
 decide : (b : Bool) → (b ≡ true) ⊎ (b ≡ false)
 decide true = inl refl
 decide false = inr refl
 
 large_digit : (b : ℕ) → 128 ≤ b → digit_value b ≡ 36
-large_digit b h = rw (not_below 48 (omega (arith, h)), not_below 58 (omega (arith, h)), not_below 65 (omega (arith, h)), not_below 91 (omega (arith, h)), not_below 97 (omega (arith, h)), not_below 123 (omega (arith, h))) refl
-  where
-    not_below : (n : ℕ) → n ≤ b → nat_lt b n ≡ false
-    not_below n k = grind (arith, nat_tests)
+large_digit b h =
+    let a : nat_lt b 48 ≡ false = le-ltb b 48 (omega (arith, h)) in
+    let c : nat_lt b 58 ≡ false = le-ltb b 58 (omega (arith, h)) in
+    let d : nat_lt b 65 ≡ false = le-ltb b 65 (omega (arith, h)) in
+    let e : nat_lt b 91 ≡ false = le-ltb b 91 (omega (arith, h)) in
+    let f : nat_lt b 97 ≡ false = le-ltb b 97 (omega (arith, h)) in
+    let g : nat_lt b 123 ≡ false = le-ltb b 123 (omega (arith, h)) in
+    rw (a, c, d, e, f, g) refl
 
 digit_ascii : (base b : ℕ) → base ≤ 36 → nat_lt (digit_value b) base ≡ true → b < 128
-digit_ascii base b small h = at (decide (nat_lt b 128))
+digit_ascii base b small h = at (cases_lt b 128)
   where
-    at : (nat_lt b 128 ≡ true) ⊎ (nat_lt b 128 ≡ false) → b < 128
-    at (inl k) = grind (arith, nat_tests)
-    at (inr k) =
-        let large : 128 ≤ b = grind (arith, nat_tests) in
-        let value : digit_value b < base = grind (arith, nat_tests) in
-        let is : digit_value b ≡ 36 = large_digit b large in
-        omega (arith, value, is, small)
+    at : (b < 128) ⊎ (128 ≤ b) → b < 128
+    at (inl k) = k
+    at (inr large) =
+        let below : nat_lt 36 base ≡ true = subst (λ n. nat_lt n base ≡ true) (large_digit b large) h in
+        let value : 36 < base = ltb-true 36 base below in
+        omega (arith, value, small)
 
 digits_ascii : (base : ℕ) → base ≤ 36 → (text : List ℕ) → IsAscii (take (digits base text) text)
 digits_ascii base small [] = IsAscii-nil
@@ -52,7 +57,7 @@ record Named (letter base : ℕ) : Type 0 where
   ascii : letter < 128
   small : base ≤ 36
 
-one_of : (x y letter : ℕ) → x < 128 → y < 128 → letter == x || letter == y ≡ true → letter < 128
+one_of : (x y letter : ℕ) → x < 128 → y < 128 → (letter == x || letter == y) ≡ true → letter < 128
 one_of x y letter h k e = at (or_cases (letter == x) (letter == y) e)
   where
     at : (letter == x ≡ true) ⊎ (letter == y ≡ true) → letter < 128
@@ -65,16 +70,16 @@ named letter base e = sixteen (decide (letter == 120 || letter == 88))
     is : (n : ℕ) → n ≤ 36 → letter < 128 → Some n ≡ Some base → Named letter base
     is n small ascii f = let same : n ≡ base = cc in record { ascii = ascii; small = subst (λ m. m ≤ 36) same small }
 
-    two : (letter == 120 || letter == 88 ≡ false) → (letter == 111 || letter == 79 ≡ false) → (letter == 98 || letter == 66 ≡ true) ⊎ (letter == 98 || letter == 66 ≡ false) → Named letter base
-    two p q (inl h) = is 2 (omega arith) (one_of 98 66 letter (omega arith) (omega arith) h) (sym (rw (p, q, h) refl) ∙ e)
-    two p q (inr h) = let f : None ≡ Some base = sym (rw (p, q, h) refl) ∙ e in absurd (cc)
+    two : ((letter == 120 || letter == 88) ≡ false) → ((letter == 111 || letter == 79) ≡ false) → ((letter == 98 || letter == 66) ≡ true) ⊎ ((letter == 98 || letter == 66) ≡ false) → Named letter base
+    two p q (inl h) = let f : base_named letter ≡ Some 2 = rw (p, q, h) refl in is 2 (omega arith) (one_of 98 66 letter (omega arith) (omega arith) h) (sym f ∙ e)
+    two p q (inr h) = let f : base_named letter ≡ None = rw (p, q, h) refl in let g : None ≡ Some base = sym f ∙ e in absurd (cc)
 
-    eight : (letter == 120 || letter == 88 ≡ false) → (letter == 111 || letter == 79 ≡ true) ⊎ (letter == 111 || letter == 79 ≡ false) → Named letter base
-    eight p (inl h) = is 8 (omega arith) (one_of 111 79 letter (omega arith) (omega arith) h) (sym (rw (p, h) refl) ∙ e)
+    eight : ((letter == 120 || letter == 88) ≡ false) → ((letter == 111 || letter == 79) ≡ true) ⊎ ((letter == 111 || letter == 79) ≡ false) → Named letter base
+    eight p (inl h) = let f : base_named letter ≡ Some 8 = rw (p, h) refl in is 8 (omega arith) (one_of 111 79 letter (omega arith) (omega arith) h) (sym f ∙ e)
     eight p (inr h) = two p h (decide (letter == 98 || letter == 66))
 
-    sixteen : (letter == 120 || letter == 88 ≡ true) ⊎ (letter == 120 || letter == 88 ≡ false) → Named letter base
-    sixteen (inl h) = is 16 (omega arith) (one_of 120 88 letter (omega arith) (omega arith) h) (sym (rw h refl) ∙ e)
+    sixteen : ((letter == 120 || letter == 88) ≡ true) ⊎ ((letter == 120 || letter == 88) ≡ false) → Named letter base
+    sixteen (inl h) = let f : base_named letter ≡ Some 16 = rw h refl in is 16 (omega arith) (one_of 120 88 letter (omega arith) (omega arith) h) (sym f ∙ e)
     sixteen (inr h) = eight h (decide (letter == 111 || letter == 79))
 
 octal_ascii : (b : ℕ) (text : List ℕ) → b < 128 → IsAscii (take (suc (digits 8 text)) (b ∷ text))
@@ -99,7 +104,7 @@ number_ascii : (text : List ℕ) → IsAscii (take (number_length text) text)
 number_ascii [] = IsAscii-nil
 number_ascii (b ∷ text) = at (decide (b == 48))
   where
-    at : (b == 48 ≡ true) ⊎ (b == 48 ≡ false) → IsAscii (take (number_length (b ∷ text)) (b ∷ text))
+    at : ((b == 48) ≡ true) ⊎ ((b == 48) ≡ false) → IsAscii (take (number_length (b ∷ text)) (b ∷ text))
     at (inl h) = let e : b ≡ 48 = eqb-true b 48 h in rw h (zero_ascii b text (omega (arith, e)))
     at (inr h) = rw h (digits_ascii 10 (omega arith) (b ∷ text))
 
@@ -108,7 +113,22 @@ pub number_utf8 : (text bytes : List ℕ) → bytes ≡ take (number_length text
 number_utf8 text bytes e = subst IsUtf8 (sym e) (IsUtf8-from_ascii (take (number_length text) text) (number_ascii text))
 
 name_ascii : (b : ℕ) → is_name_byte b ≡ true → b < 128
-name_ascii b h = grind (arith, nat_tests)
+name_ascii b h = at (or_cases (is_alphabetic b || is_digit b) (b == 95) h)
+  where
+    below : (low high : ℕ) → high < 128 → (nat_le low b && nat_le b high) ≡ true → b < 128
+    below low high k e = let parts = and_parts (nat_le low b) (nat_le b high) e in let f : b ≤ high = leb-true b high parts.1 in omega (arith, f, k)
+
+    letter : ((nat_le 97 b && nat_le b 122) ≡ true) ⊎ ((nat_le 65 b && nat_le b 90) ≡ true) → b < 128
+    letter (inl e) = below 97 122 (omega arith) e
+    letter (inr e) = below 65 90 (omega arith) e
+
+    first : (is_alphabetic b ≡ true) ⊎ (is_digit b ≡ true) → b < 128
+    first (inl e) = letter (or_cases (nat_le 97 b && nat_le b 122) (nat_le 65 b && nat_le b 90) e)
+    first (inr e) = below 48 57 (omega arith) e
+
+    at : ((is_alphabetic b || is_digit b) ≡ true) ⊎ ((b == 95) ≡ true) → b < 128
+    at (inl e) = first (or_cases (is_alphabetic b) (is_digit b) e)
+    at (inr e) = let f : b ≡ 95 = eqb-true b 95 e in omega (arith, f)
 
 names_ascii : (text : List ℕ) → IsAscii (take (name_bytes text) text)
 names_ascii [] = IsAscii-nil
@@ -163,7 +183,7 @@ in_place front b c behind h k utf8 =
 left_out : (front : List ℕ) (b : ℕ) (behind : List ℕ) → b < 128 → IsUtf8 (front ++ b ∷ behind) → IsUtf8 (front ++ behind)
 left_out front b behind h utf8 = IsUtf8-append front behind (before_ascii front b behind h utf8) (behind_ascii front b behind h utf8)
 
-space_ascii : (b : ℕ) → b == 32 || b == 9 ≡ true → b < 128
+space_ascii : (b : ℕ) → (b == 32 || b == 9) ≡ true → b < 128
 space_ascii b e = one_of 32 9 b (omega arith) (omega arith) e
 
 spaces_out : (front spaces behind : List ℕ) → AreSpaces spaces → IsUtf8 (front ++ (spaces ++ behind)) → IsUtf8 (front ++ behind)

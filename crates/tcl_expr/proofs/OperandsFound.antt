@@ -1,7 +1,7 @@
 -- Of each text with an operand in front, what is found is what the grammar relates.
-use Rattle.std.proofs.Common.{◌≡◌, ◌≢◌, ℕ, zero, suc, ◌+◌, ◌-◌, ◌≤◌, ◌<◌, ◌⊎◌, inl, inr, Bool, true, false, nat_lt, ◌==◌, List, [], ◌∷◌, ◌++◌, length, take, drop, Option, Some, None, Result, Ok, Err, refl, sym, ap, subst, ◌∙◌, append_assoc, length-append, eqb-true, arith, if◌then◌else◌}
-use Rattle.std.proofs.lemmas.Bool.{ne_eqb}
-use Rattle.std.proofs.lemmas.Bool.Decides.{nat_tests}
+use Rattle.std.proofs.Common.{◌≡◌, ◌≢◌, ℕ, zero, suc, ◌+◌, ◌-◌, ◌≤◌, ◌<◌, ◌⊎◌, inl, inr, Bool, true, false, nat_lt, nat_le, ◌==◌, List, [], ◌∷◌, ◌++◌, length, take, drop, Option, Some, None, Result, Ok, Err, refl, sym, ap, subst, ◌∙◌, append_assoc, length-append, eqb-true, arith, if◌then◌else◌}
+use Rattle.std.proofs.lemmas.Bool.{ne_eqb, and_parts, leb-true, lt-ltb}
+use Rattle.std.proofs.lemmas.Str.{digit_value_digit}
 use Rattle.std.specs.Char.{digit_value}
 use Rattle.tcl_text.specs.Readings.{boolean_of, base_named}
 use Rattle.tcl_words.specs.Grammar.{begins, begins_name, IsBraced, IsUnclosed}
@@ -355,7 +355,7 @@ decimal_cut b behind other digit = at (digits_cut 10 behind)
     at : DigitsCut 10 behind → NumberCut b behind
     at (own, rest, cut, are, stop) = (own, rest, cut, decimal b own (not_zero b other) (digit, are) stop)
 
-number_cut : (b : ℕ) (behind : List ℕ) → nat_lt (digit_value b) 10 ≡ true → (b == 48 ≡ true) ⊎ (b == 48 ≡ false) → NumberCut b behind
+number_cut : (b : ℕ) (behind : List ℕ) → nat_lt (digit_value b) 10 ≡ true → ((b == 48) ≡ true) ⊎ ((b == 48) ≡ false) → NumberCut b behind
 number_cut b behind digit (inl h) = subst (λ c. NumberCut c behind) (sym (eqb-true b 48 h)) (zero_cut behind (decide (begins_base behind)))
 number_cut b behind digit (inr h) = decimal_cut b behind h digit
 
@@ -371,16 +371,13 @@ names_cut (b ∷ text) = at (decide (is_name_byte b)) (names_cut text)
     at (inr h) more = ([], b ∷ text, refl, tt, h)
 
 digit_counts : (b : ℕ) → is_digit b ≡ true → nat_lt (digit_value b) 10 ≡ true
-digit_counts b h = let low : 48 ≤ b = grind (arith, nat_tests) in let high : b ≤ 57 = grind (arith, nat_tests) in below b (not_below b 48 low) (above b 57 high)
-  where
-    not_below : (n m : ℕ) → m ≤ n → nat_lt n m ≡ false
-    not_below n m k = grind (arith, nat_tests)
-
-    above : (n m : ℕ) → n ≤ m → nat_lt n (m + 1) ≡ true
-    above n m k = grind (arith, nat_tests)
-
-    below : (n : ℕ) → nat_lt n 48 ≡ false → nat_lt n 58 ≡ true → nat_lt (digit_value n) 10 ≡ true
-    below n p q = rw (p, q) (let k : n < 58 = grind (arith, nat_tests) in let g : n - 48 < 10 = omega (arith, k) in grind (arith, nat_tests))
+digit_counts b h =
+    let parts = and_parts (nat_le 48 b) (nat_le b 57) h in
+    let low : 48 ≤ b = leb-true 48 b parts.0 in
+    let high : b ≤ 57 = leb-true b 57 parts.1 in
+    let e : digit_value b + 48 ≡ b = digit_value_digit b (low, high) in
+    let k : digit_value b < 10 = omega (arith, e, high) in
+    lt-ltb (digit_value b) 10 k
 
 letter_names : (b : ℕ) → is_alphabetic b ≡ true → is_name_byte b ≡ true
 letter_names b h = rw h refl

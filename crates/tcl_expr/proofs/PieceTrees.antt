@@ -100,7 +100,7 @@ body_have room elements (faulty_index name is h) = tt
 body_have room elements (body_bracket own h rest) = ((Command own, refl, bracket own), body_have room elements rest)
 body_have room elements (faulty_script h) = tt
 
-elements_have : (room : ℕ) → room ≤ 200 → ElementsHave room
+elements_have : (room : ℕ) → room ≤ 200 → (name own text : List ℕ) → IsInnerOf room index (own ++ 41 ∷ text) (leaves_text (41 ∷ text)) → HasTree room (piece.Element name own)
 elements_have zero small name own text h = let k : leaves_text (41 ∷ text) ≡ text_fails TextTooLong = h in absurd (cc)
 elements_have (suc room) small name own text (pieces, are) =
     let less : room ≤ 200 = omega (arith, small) in

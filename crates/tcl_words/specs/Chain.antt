@@ -1,4 +1,4 @@
--- Scripts and indices within one another: what each gives by itself, and what waits for it.
+-- Steps. Scripts and indices within one another: what each gives by itself, and what waits for it.
 use Rattle.std.specs.Prelude.{ℕ, suc, ◌+◌, ◌-◌, ◌≡◌, ◌<◌, ◌≤◌, Bool, true, false, List, [], ◌∷◌, length, drop, take, Result, Ok, Err}
 use Rattle.std.specs.List.{slice_range}
 use Rattle.std.specs.Str.{IsCharBoundary}

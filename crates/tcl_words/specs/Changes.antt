@@ -1,4 +1,4 @@
--- What the rest of a text gives to the parts of a script that are open before it, and what a byte puts in front of that.
+-- Steps. What the rest of a text gives to the parts of a script that are open before it, and what a byte puts in front of that.
 use Rattle.std.specs.Prelude.{ℕ, Bool, List, [], ◌∷◌, ◌++◌, Result, Ok, Err}
 use Rattle.tcl_words.specs.Spans.{word_of, command_of}
 use Rattle.tcl_words.specs.declared.script.WordForm.{WordForm}

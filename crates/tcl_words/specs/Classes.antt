@@ -1,4 +1,4 @@
--- What bytes are by themselves.
+-- Meaning. What bytes are by themselves.
 use Rattle.std.specs.Prelude.{ℕ, Bool, ◌==◌, nat_eq, nat_le, ◌&&◌, ◌||◌, if◌then◌else◌, List, [], ◌∷◌}
 use Rattle.std.specs.List.{starts_with}
 use Rattle.tcl_words.specs.declared.kind.Kind.{Kind}

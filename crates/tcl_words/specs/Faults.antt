@@ -1,4 +1,4 @@
--- The faults of a script, and of a text that is to be one.
+-- Meaning. The faults of a script, and of a text that is to be one.
 use Rattle.std.specs.Prelude.{ℕ, List, [], Option, Some, None, codes}
 use Rattle.tcl_text.specs.declared.text.TextFault.{TextFault}
 use Rattle.tcl_text.specs.declared.text.TextFault.TheVariants.{TooLong as TextTooLong, NoMemory as TextNoMemory}

@@ -1,4 +1,4 @@
--- The grammar of scripts, as a relation between a text and its commands. It cuts texts into gaps, commands, words and
+-- Meaning. The grammar of scripts, as a relation between a text and its commands. It cuts texts into gaps, commands, words and
 -- pieces, and says nothing of how a text is read. What stands at the front of a text is read with how that goes on: with
 -- a text that is left behind it, or with the fault of the text.
 use Rattle.std.specs.Prelude.{ℕ, zero, suc, ◌+◌, ◌≡◌, ◌≢◌, ◌≤◌, ◌⊎◌, Bool, true, false, not, ◌&&◌, ◌||◌, ◌==◌, nat_eq, List, [], ◌∷◌, ◌++◌, length, drop, Result, Ok, Err}

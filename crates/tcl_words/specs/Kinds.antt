@@ -1,4 +1,4 @@
--- What a byte can mean in a script by what stands behind it.
+-- Steps. What a byte can mean in a script by what stands behind it.
 use Rattle.std.specs.Prelude.{ℕ, zero, suc, ◌+◌, Bool, ◌==◌, nat_eq, if◌then◌else◌, List, [], ◌∷◌, drop, Option, Some, None}
 use Rattle.std.specs.List.{starts_with}
 use Rattle.tcl_words.specs.Classes.{is_letter, class_of, begins_newline, begins_expansion}

@@ -1,4 +1,4 @@
--- What a byte means in each place: what it puts in front of the rest, and how reading goes on.
+-- Steps. What a byte means in each place: what it puts in front of the rest, and how reading goes on.
 use Rattle.std.specs.Prelude.{ℕ, zero, suc, ◌+◌, ◌-◌, Bool, true, false, List, [], ◌∷◌, ◌++◌, length, take, drop, slice_index, Result, Ok, Err}
 use Rattle.std.specs.List.{slice_range}
 use Rattle.tcl_text.specs.Backslash.{escape}

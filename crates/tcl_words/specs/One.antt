@@ -1,4 +1,4 @@
--- Things that there are once.
+-- Meaning. Things that there are once.
 use Rattle.std.specs.Prelude.{◌≡◌}
 
 -- The only thing of which this holds.

@@ -1,4 +1,4 @@
--- What a `$`, a bracket or a quote begins in a text that is no script, as an expression: it is read as in a script, where so many
+-- Steps. What a `$`, a bracket or a quote begins in a text that is no script, as an expression: it is read as in a script, where so many
 -- brackets and indices may be opened in one another. What it gives, and how many of the bytes behind its opener are its own.
 use Rattle.std.specs.Prelude.{ℕ, zero, suc, ◌+◌, ◌≡◌, ◌≤◌, ◌<◌, ◌⊎◌, true, false, List, [], ◌∷◌, length, take, drop, Option, Some, None, Result, Ok, Err}
 use Rattle.std.specs.List.{slice_range}

@@ -1,4 +1,4 @@
--- The commands of a script, by recursion on its bytes: what a byte means where it stands, and what it puts
+-- Steps. The commands of a script, by recursion on its bytes: what a byte means where it stands, and what it puts
 -- in front of what the rest of the text gives. The first fault from the left is thereby the one that counts.
 use Rattle.std.specs.Prelude.{ℕ, suc, zero, ◌+◌, Bool, true, false, not, nat_lt, if◌then◌else◌, List, [], ◌∷◌, length, take, Result, Ok, Err}
 use Rattle.std.specs.List.{slice_range}

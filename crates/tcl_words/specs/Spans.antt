@@ -1,4 +1,4 @@
--- Words and commands, with where they stand.
+-- Meaning. Words and commands, with where they stand.
 use Rattle.std.specs.Prelude.{ℕ, Bool, List, [], ◌∷◌}
 use Rattle.tcl_words.specs.declared.script.WordForm.{WordForm}
 use Rattle.tcl_words.specs.declared.script.Piece.{Piece}

@@ -58,8 +58,21 @@ impl ScriptCache {
         ensures text { IfOk result (λ script. script ≡ text.now) }
         ensures script { IfOk result (λ _. (commands : List Command) × IsScriptOf text.now commands) }
         ensures fault { IfErr result (λ fault. IsScriptFault text.now fault ⊎ (fault ≡ ParseFault.NoMemory)) }
+        ensures read { (commands : List Command) → IsScriptOf text.now commands → IfErr result (λ fault. fault ≡ ParseFault.NoMemory) }
+        ensures told { (fault : ParseFault) → IsScriptFault text.now fault → (result ≡ Err fault) ⊎ (result ≡ Err ParseFault.NoMemory) }
         ensures walk { IfOk result (λ _. IsOk (commands_of text.now)) }
         ensures walk_fault { IfErr result (λ fault. (commands_of text.now ≡ Err fault) ⊎ (fault ≡ ParseFault.NoMemory)) }
+        ensures kept { OnOk result (self.new ≡ put_first text.now self.old) }
+        ensures stays { OnErr result (self.new ≡ self.old) }
+    {
+        self.kept_or_read(text)
+    }
+
+    /// The script of a text that is asked for, by the function that reads its commands.
+    fn kept_or_read(&mut self, text: &Text) -> Result<Script, ParseFault>
+        ensures text { IfOk result (λ script. script ≡ text.now) }
+        ensures ok { IfOk result (λ _. IsOk (commands_of text.now)) }
+        ensures fault { IfErr result (λ fault. (commands_of text.now ≡ Err fault) ⊎ (fault ≡ ParseFault.NoMemory)) }
         ensures kept { OnOk result (self.new ≡ put_first text.now self.old) }
         ensures stays { OnErr result (self.new ≡ self.old) }
     {

@@ -112,11 +112,12 @@ tree_answered text (Ok expr) read tree is = tt
 tree_answered text (Err fault) (ok, inl e) tree is = absurd (not_both (tree_of text) tree fault (tree_read text tree is) e)
 tree_answered text (Err fault) (ok, inr e) tree is = e
 
-not_read : (text : List ℕ) (fault : ExprFault) → IsExprFault text fault → IsOk (tree_of text) → ⊥
-not_read text fault is ok = let k : IsOk (Err fault) = subst IsOk (fault_read text fault (text_or_none text) is) ok in cc
+not_ok : (read : Result Tree ExprFault) (fault : ExprFault) → read ≡ Err fault → IsOk read → ⊥
+not_ok (Ok tree) fault e ok = cc
+not_ok (Err other) fault e ok = cc
 
 pub fault_answered : (text : List ℕ) (answer : Result (List ℕ) ExprFault) → IsRead text answer → (fault : ExprFault) → IsExprFault text fault → (answer ≡ Err fault) ⊎ (answer ≡ Err NoMemory)
-fault_answered text (Ok expr) (ok, err) fault is = absurd (not_read text fault is ok)
+fault_answered text (Ok expr) (ok, err) fault is = absurd (not_ok (tree_of text) fault (fault_read text fault (text_or_none text) is) ok)
 fault_answered text (Err told) (ok, inl e) fault is = inl (ap Err (same_fault (tree_of text) told fault e (fault_read text fault (text_or_none text) is)))
 fault_answered text (Err told) (ok, inr e) fault is = inr (ap Err e)
 

@@ -9,7 +9,7 @@ use Rattle.tcl_words.specs.Changes.{Read, put, last_rest, changed, piece_before,
 use Rattle.tcl_words.specs.Moves.{Move, in_text, at_dollar}
 use Rattle.tcl_words.specs.Reading.{Level, within, rest_of, past, past_opened, at_end, first_place, first_skip, opened_piece}
 use Rattle.tcl_words.specs.Parts.{Parts, Whole, joined, no_parts, with_piece, with_literal, index_whole, is_index, ended, Does, IsFine, IsOpenerCut}
-use Rattle.tcl_words.specs.Chain.{level_of, own, opened, IsChain, IsReading, IsEnding, AreItsParts, Goes}
+use Rattle.tcl_words.specs.Chain.{level_of, own, opened, IsChain, IsReading, IsEnding, IsParse, Goes}
 use Rattle.tcl_words.specs.Operands.{piece_found, opened_of, at_quote, quoted_rest, pieces_found, quoted_of, outer, EndsAt, quoted_whole, GoesOn}
 use Rattle.tcl_words.specs.declared.kind.Kind.{Kind}
 use Rattle.tcl_words.specs.declared.kind.Kind.TheVariants.{Blank, Newline, Semicolon, Hash, Dollar, Quote, OpenBracket, CloseBracket, OpenBrace, Expansion, CloseBrace, CloseParen, Backslash, Continuation, Other}
@@ -109,7 +109,7 @@ behind_is s at = let e : 0 + (at + 1) ≡ at + 1 = omega arith in ap (λ n. drop
 pub record Found (s : List ℕ) (at room : ℕ) (opener : Opener) (p : Parts) (n : ℕ) : Type 0 where
   pub found : opened_of room opener (drop (at + 1) s) ≡ Ok (opened_piece opener (drop (at + 1) s) n, n + 1)
   pub ends : IsCharBoundary s (at + 1 + n)
-  pub parse : AreItsParts opener (drop (at + 1) s) n p
+  pub parse : IsParse opener (drop (at + 1) s) n p
   pub past : IsCharBoundary s (at + 1 + (n + 1))
 
 pub found_there : (s : List ℕ) (at room : ℕ) (opener : Opener) (p : Parts) (n : ℕ) → IsUtf8 s → length s ≤ 65536 → 0 < room → room ≤ 200 → IsOpenerCut s at opener → EndsAt (opened (outer room) at opener) s p n → Found s at room opener p n
@@ -133,7 +133,7 @@ found_there s at room opener p n utf8 short some most cut (place, r) =
           ∙ ap (λ k. Ok (opened_piece opener (drop (at + 1) s) k, suc k)) close
           ∙ ap (λ k. Ok (opened_piece opener (drop (at + 1) s) n, k)) g;
       ends = moved_cut s _ _ h r.here;
-      parse = subst (λ t. AreItsParts opener t n p) (behind_is s at) parsed.0;
+      parse = subst (λ t. IsParse opener t n p) (behind_is s at) parsed.0;
       past = (let k : 0 + (at + 1) + n + 1 ≡ at + 1 + (n + 1) = omega arith in moved_cut s _ _ k r.past);
     }
 

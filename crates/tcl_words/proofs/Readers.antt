@@ -10,7 +10,7 @@ use Rattle.tcl_words.specs.declared.script.Command.{Command}
 use Rattle.tcl_words.specs.Moves.{move_at}
 use Rattle.tcl_words.specs.Reading.{Level, rest_of, at_end, within, first_place, first_skip, opened_piece, commands_in, index_pieces_of, outermost}
 use Rattle.tcl_words.specs.Parts.{Parts, joined, no_parts, with_piece, script_whole, is_index, ended, Does, IsFine, IsOpenerCut, name_before}
-use Rattle.tcl_words.specs.Chain.{outset, level_of, own, opened, waits_for, IsWaiting, IsChain, IsReading, IsOpening, IsEnding, AreItsParts}
+use Rattle.tcl_words.specs.Chain.{outset, level_of, own, opened, waits_for, IsWaiting, IsChain, IsReading, IsOpening, IsEnding, IsParse}
 use Rattle.tcl_words.specs.declared.kind.BytePlace.{BytePlace}
 use Rattle.tcl_words.specs.declared.kind.BytePlace.TheVariants.{Start, Comment, Between, Expanded, Text, PastQuotes, InBraces, PastBraces}
 use Rattle.tcl_words.specs.declared.kind.Mode.{Mode}
@@ -27,8 +27,6 @@ use Rattle.tcl_words.specs.declared.fault.ParseFault.TheVariants.{NoMemory}
 use Rattle.tcl_words.proofs.Closers.{none_outside}
 use Rattle.tcl_words.proofs.Inners.{script_alone, index_alone}
 use Rattle.tcl_words.proofs.Texts.{commands_of-read}
-use Rattle.tcl_words.proofs.Grammars.{script-commands_of}
-use Rattle.tcl_words.proofs.Indices.{index-index_pieces_of}
 use Rattle.tcl_words.proofs.Nests.{chain_push, chain_pop, chain_fault, rest_skip, on_read, fault_read, end_read, full_read, link_made, resume_read}
 
 -- a place of a text, counted from its start and from a base
@@ -180,15 +178,14 @@ ended_index (InBraces depth) p n e = absurd (let h : false ≡ true = e in cc)
 ended_index PastBraces p n e = absurd (let h : false ≡ true = e in cc)
 
 pub parse_found : (opener : Opener) (s : List ℕ) (o : Origin) (at n : ℕ) (place : BytePlace) (p : Parts) → IsUtf8 s → length s ≤ 65536 → o.room ≤ 200 → own s (opened o at opener) ≡ Ok (ended place p n) → is_index place ≡ is_index (first_place opener) →
-    IsCharBoundary s (o.base + (at + 1)) → IsCharBoundary s (o.base + (at + 1) + n) → AreItsParts opener (drop (o.base + (at + 1)) s) n p × (suc n ≤ length (drop (o.base + (at + 1)) s))
+    IsCharBoundary s (o.base + (at + 1)) → IsCharBoundary s (o.base + (at + 1) + n) → IsParse opener (drop (o.base + (at + 1)) s) n p × (suc n ≤ length (drop (o.base + (at + 1)) s))
 parse_found Bracket s o at n place p utf8 short room e index base here =
     let text : List ℕ = drop (o.base + (at + 1)) s in
     let found = script_alone text (o.room - 1) (ended place p n) (omega (arith, room)) e in
     let close : (ended place p n).close ≡ n = ended_close place p n in
     let inner_utf8 : IsUtf8 (take n text) = IsUtf8-take text n (IsUtf8-drop s (o.base + (at + 1)) utf8 base) (to_base s (o.base + (at + 1)) n base.0 here) in
     let inner_short : length (take n text) ≤ 65536 = omega (arith, short, length-take n text, length-drop (o.base + (at + 1)) s) in (
-      script-commands_of (take n text) p.commands
-      (commands_of-read (take n text) inner_short inner_utf8 ∙ ap (λ k. commands_in (rest_of (take k text) outermost 0 Start 0)) (sym close) ∙ found.0 ∙ ap (λ c. Ok c) (ended_script place p n index)),
+      commands_of-read (take n text) inner_short inner_utf8 ∙ ap (λ k. commands_in (rest_of (take k text) outermost 0 Start 0)) (sym close) ∙ found.0 ∙ ap (λ c. Ok c) (ended_script place p n index),
       (let h : suc (ended place p n).close ≤ length text = found.1 in omega (arith, h, close)),
     )
 parse_found (Index m) s o at n place p utf8 short room e index base here =
@@ -196,7 +193,7 @@ parse_found (Index m) s o at n place p utf8 short room e index base here =
     let found = index_alone text m (o.room - 1) (ended place p n) (omega (arith, room)) e in
     let close : (ended place p n).close ≡ n = ended_close place p n in (
       (
-        index-index_pieces_of (slice_range text (suc m) n) p.pieces (ap (λ k. index_pieces_of (slice_range text (suc m) k)) (sym close) ∙ found.0 ∙ ap (λ c. Ok c) (ended_index place p n index)),
+        ap (λ k. index_pieces_of (slice_range text (suc m) k)) (sym close) ∙ found.0 ∙ ap (λ c. Ok c) (ended_index place p n index),
         (let h : suc m ≤ (ended place p n).close = found.1 in omega (arith, h, close)),
       ),
       (let h : suc (ended place p n).close ≤ length text = found.2 in omega (arith, h, close)),
@@ -206,7 +203,7 @@ parse_found (Index m) s o at n place p utf8 short room e index base here =
 pub record Popped (first : Origin) (s : List ℕ) (ws : List Waiting) (w : Waiting) (p : Parts) (n : ℕ) : Type 0 where
   pub chain : IsChain s first ws w.origin
   pub waits : IsWaiting s w
-  pub parse : AreItsParts w.opener (drop (w.origin.base + w.at + 1) s) n p
+  pub parse : IsParse w.opener (drop (w.origin.base + w.at + 1) s) n p
   pub ends : IsCharBoundary s (w.origin.base + w.at + 1 + n)
   pub past : IsCharBoundary s (w.origin.base + w.at + 1 + n + 1)
 
@@ -227,7 +224,7 @@ popped {first} s ws w o p place n utf8 short r =
     record {
       chain = q.0;
       waits = waiting;
-      parse = subst (λ x. AreItsParts w.opener (drop x s) n p) (sym e) found.0;
+      parse = subst (λ x. IsParse w.opener (drop x s) n p) (sym e) found.0;
       ends = moved_cut s _ _ g here;
       past = moved_cut s _ _ k r.past;
     }

@@ -2,8 +2,7 @@
 use Rattle.std.specs.Prelude.{ℕ, suc, ◌+◌, ◌-◌, ◌≡◌, ◌<◌, ◌≤◌, Bool, true, false, List, [], ◌∷◌, length, drop, take, Result, Ok, Err}
 use Rattle.std.specs.List.{slice_range}
 use Rattle.std.specs.Str.{IsCharBoundary}
-use Rattle.tcl_words.specs.Grammar.{IsScriptOf, IsIndexOf}
-use Rattle.tcl_words.specs.Reading.{Level, rest_of, first_place, first_skip, opened_piece}
+use Rattle.tcl_words.specs.Reading.{Level, rest_of, first_place, first_skip, opened_piece, commands_of, index_pieces_of}
 use Rattle.tcl_words.specs.Parts.{Parts, Whole, joined, no_parts, with_piece, is_index, ended, IsFine, IsOpenerCut}
 use Rattle.tcl_words.specs.declared.kind.BytePlace.{BytePlace}
 use Rattle.tcl_words.specs.declared.kind.BytePlace.TheVariants.{Start, Text}
@@ -91,6 +90,6 @@ Goes false first source others origin parts place next before = IsReading first 
 Goes true first source others origin parts place next before = (others ≡ []) × IsEnding first source others origin parts place next
 
 -- the parts of what was opened are those of its text, which ends so many bytes behind its base
-abbrev pub AreItsParts : Opener → List ℕ → ℕ → Parts → Type 0
-AreItsParts Bracket behind close parts = IsScriptOf (take close behind) parts.commands
-AreItsParts (Index n) behind close parts = IsIndexOf (slice_range behind (suc n) close) parts.pieces × (suc n ≤ close)
+abbrev pub IsParse : Opener → List ℕ → ℕ → Parts → Type 0
+IsParse Bracket behind close parts = commands_of (take close behind) ≡ Ok parts.commands
+IsParse (Index n) behind close parts = (index_pieces_of (slice_range behind (suc n) close) ≡ Ok parts.pieces) × (suc n ≤ close)

@@ -4,7 +4,7 @@ ghost use Rattle.std.specs.Prelude.{◌≡◌, ◌<◌, ◌≤◌, ◌+◌, ◌-
 ghost use Rattle.std.specs.Str.{IsCharBoundary};
 ghost use Rattle.tcl_words.specs.Reading.{commands_in, rest_of, outermost as outermost_level, opened_piece, first_skip};
 ghost use Rattle.tcl_words.specs.Parts.{IsOpenerCut, no_parts};
-ghost use Rattle.tcl_words.specs.Chain.{outset, own, opened as opened_origin, IsReading, IsOpening, IsEnding, AreItsParts, Goes};
+ghost use Rattle.tcl_words.specs.Chain.{outset, own, opened as opened_origin, IsReading, IsOpening, IsEnding, IsParse, Goes};
 
 use crate::fault::ParseFault;
 use crate::kind::{Mode, Opener, BytePlace, Step};
@@ -63,7 +63,7 @@ pub fn piece_of(
     requires short { length source.now ≤ 65536 }
     requires cut { IsOpenerCut source.now at opener }
     requires ends { IsCharBoundary source.now (at + 1 + close) }
-    requires parse { AreItsParts opener (drop (at + 1) source.now) close parts }
+    requires parse { IsParse opener (drop (at + 1) source.now) close parts }
     ensures ok { IfOk result (λ piece. piece ≡ opened_piece opener (drop (at + 1) source.now) close) }
     ensures fault { IfErr result (λ fault. fault ≡ ParseFault.NoMemory) }
 {

@@ -130,12 +130,12 @@ impl Model for Index {
 
     ghost view = { λ i. i.parsed.value.text };
 
-    ghost use Rattle.std.specs.Prelude.{◌<◌};
-    ghost use Rattle.tcl_words.specs.Grammar.{IsIndexOf};
+    ghost use Rattle.std.specs.Prelude.{◌≡◌, ◌<◌, Ok};
+    ghost use Rattle.tcl_words.specs.Reading.{index_pieces_of};
     ghost use Rattle.tcl_words.specs.Room.{text_room, pieces_room};
 
     ghost invariant = { λ i.
-        IsIndexOf i.parsed.value.text i.parsed.value.pieces × (pieces_room i.parsed.value.pieces < text_room i.parsed.value.text) };
+        (index_pieces_of i.parsed.value.text ≡ Ok i.parsed.value.pieces) × (pieces_room i.parsed.value.pieces < text_room i.parsed.value.text) };
 
     ghost size = { text_room };
 
@@ -166,12 +166,12 @@ impl Model for Script {
 
     ghost view = { λ s. s.parsed.value.text };
 
-    ghost use Rattle.std.specs.Prelude.{◌≤◌};
-    ghost use Rattle.tcl_words.specs.Grammar.{IsScriptOf};
+    ghost use Rattle.std.specs.Prelude.{◌≡◌, ◌≤◌, Ok};
+    ghost use Rattle.tcl_words.specs.Reading.{commands_of};
     ghost use Rattle.tcl_words.specs.Room.{text_room, commands_room};
 
     ghost invariant = { λ s.
-        IsScriptOf s.parsed.value.text s.parsed.value.commands.items × (commands_room s.parsed.value.commands.items ≤ text_room s.parsed.value.text) };
+        (commands_of s.parsed.value.text ≡ Ok s.parsed.value.commands.items) × (commands_room s.parsed.value.commands.items ≤ text_room s.parsed.value.text) };
 
     ghost size = { text_room };
 
@@ -219,7 +219,7 @@ impl Script {
     ghost use Rattle.tcl_words.specs.declared.script.Command.{Command};
 
     /// The commands, in order.
-    #[tactic(auto, using(crate::proofs::Grammars::one_script, crate::proofs::Parses::script_walked))]
+    #[tactic(auto, using(crate::proofs::Parses::walk_is_script, crate::proofs::Parses::script_is_walk))]
     pub fn commands(&self) -> &[Command]
         ensures script { IsScriptOf self.now result.now }
         ensures only { (commands : List Command) → IsScriptOf self.now commands → commands ≡ result.now }
@@ -236,13 +236,13 @@ impl Script {
     }
 
     /// A script of this text, of which these are the commands.
-    #[tactic(auto, using(crate::proofs::Parses::script_fits))]
+    #[tactic(auto, using(crate::proofs::Texts::commands_of_fit))]
     pub(crate) fn new(
         alloc: Global,
         text: Text,
         commands: Vec<Command>,
     ) -> Result<Script, AllocError>
-        requires { IsScriptOf text commands.items }
+        requires { commands_of text ≡ Ok commands.items }
         ensures { IfOk result (λ script. script ≡ text) }
     {
         Ok(Script {
@@ -274,7 +274,7 @@ impl Index {
     }
 
     /// Its pieces, in order.
-    #[tactic(auto, using(crate::proofs::Parses::one_index, crate::proofs::Parses::index_walked))]
+    #[tactic(auto, using(crate::proofs::Parses::walk_is_index, crate::proofs::Parses::index_is_walk))]
     pub fn pieces(&self) -> &[Piece]
         ensures index { IsIndexOf self.now result.now }
         ensures only { (pieces : List Piece) → IsIndexOf self.now pieces → pieces ≡ result.now }
@@ -284,9 +284,9 @@ impl Index {
     }
 
     /// An index of this text, of which these are the pieces.
-    #[tactic(auto, using(crate::proofs::Parses::index_fits))]
+    #[tactic(auto, using(crate::proofs::Rooms::pieces_fit))]
     pub(crate) fn new(alloc: Global, text: Text, pieces: Pieces) -> Result<Index, AllocError>
-        requires { IsIndexOf text pieces }
+        requires { index_pieces_of text ≡ Ok pieces }
         ensures { IfOk result (λ index. index ≡ text) }
     {
         Ok(Index {

@@ -1,7 +1,6 @@
 use Rattle.std.proofs.Common.{◌∙◌, ap, inl}
 use Rattle.std.proofs.lemmas.Result.{err_from_is_err_and}
 use Rattle.tcl_words.specs.Reading.{commands_of}
-use Rattle.tcl_words.proofs.Grammars.{script-commands_of}
 use Rattle.tcl_words.proofs.Texts.{commands_of-not_utf8, commands_of-parsed, commands_of-faulty}
 use Rattle.tcl_words.proofs.parser.read_script.Goals as goal
 
@@ -15,6 +14,5 @@ returns-in_err-commands-clause-fault c =
 
 pub new-requires-2 : goal.new-requires-2
 new-requires-2 c =
-    script-commands_of _ _
-    (ap commands_of (c.in_ok-text.ensures.ok ∙ c.in-Ok.ensures.cases.0)
-    ∙ commands_of-parsed c.in-Ok.text.now c.args.source.now _ c.in-Ok.ensures.cases.0 c.if-source-gt-MAX_BYTES.false c.in-Ok.ensures.cases.1 c.in_ok-commands.ensures.commands)
+    ap commands_of (c.in_ok-text.ensures.ok ∙ c.in-Ok.ensures.cases.0)
+    ∙ commands_of-parsed c.in-Ok.text.now c.args.source.now _ c.in-Ok.ensures.cases.0 c.if-source-gt-MAX_BYTES.false c.in-Ok.ensures.cases.1 c.in_ok-commands.ensures.commands

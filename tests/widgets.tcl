@@ -2,9 +2,9 @@
 #
 #     xvfb-run -a wish tests/widgets.tcl crates/widget_tables/data/*.table > tests/widgets.otherwise
 #
-# The form of a table is told by the library tables, that of the questions by the program widget_tables. Behind each `new` they are asked up to the
-# first of a key or the pointer; sizes, which hang on the font, scripts that are to be run, and what a label or a button shows aren't asked. Two refusals are alike,
-# whatever their texts. The last line counts.
+# The form of a table is told by the library tables, that of the questions by the program widget_tables. Behind each `new` they are asked up
+# to the first of a key or the pointer; sizes, which hang on the font, scripts that are to be run, and what a label or a button shows aren't asked.
+# Two refusals are alike, whatever their texts. The last line counts.
 
 # Control characters by their pictures.
 set pictures {}

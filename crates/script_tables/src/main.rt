@@ -19,13 +19,13 @@ use std::{env, fs};
 use tables::{Fixture, ask_tables};
 use tcl_words::parse;
 
-/// The reader of scripts.
+/// What reads scripts.
 #[derive(Drop)]
-struct Reader;
+struct Scripts;
 
-impl Fixture for Reader {
-    fn new(_alloc: Global) -> Result<Reader> {
-        Ok(Reader)
+impl Fixture for Scripts {
+    fn new(_alloc: Global) -> Result<Scripts> {
+        Ok(Scripts)
     }
 
     fn answer(&mut self, alloc: Global, question: &str) -> Result<String> {
@@ -55,6 +55,6 @@ fn main(rt: HostRuntime) -> Result<()> {
         [mode, count, path] if mode.as_str() == "repeat" => {
             repeat(&rt, count.as_str(), path.as_str())
         }
-        _ => ask_tables::<Reader, _>(&rt),
+        _ => ask_tables::<Scripts, _>(&rt),
     }
 }

@@ -90,11 +90,12 @@ fn told_commands(alloc: Global, script: &Script) -> Result<String> {
     let mut told = String::new(alloc);
     for command in script.commands() {
         for (place, word) in words_of(alloc, MAX_DEPTH, command)?.iter().enumerate() {
-            told.push_str(match place {
+            let before = match place {
                 0 if told.is_empty() => "=",
                 0 => "\u{1e}",
                 _ => "|",
-            })?;
+            };
+            told.push_str(before)?;
             told.push_str(word.as_str())?;
         }
     }

@@ -26,13 +26,13 @@ fn fault_told(alloc: Global, fault: &SequenceFault) -> Result<String> {
     Ok(format!(in alloc; "!{number} {}", message.as_str())?)
 }
 
-/// The reader of sequences.
+/// What reads sequences.
 #[derive(Drop)]
-struct Reader;
+struct Sequences;
 
-impl Fixture for Reader {
-    fn new(_alloc: Global) -> Result<Reader> {
-        Ok(Reader)
+impl Fixture for Sequences {
+    fn new(_alloc: Global) -> Result<Sequences> {
+        Ok(Sequences)
     }
 
     /// A canonical form that isn't read as itself is an error.
@@ -56,5 +56,5 @@ impl Fixture for Reader {
 }
 
 fn main(rt: HostRuntime) -> Result<()> {
-    ask_tables::<Reader, _>(&rt)
+    ask_tables::<Sequences, _>(&rt)
 }

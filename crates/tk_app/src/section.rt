@@ -66,7 +66,8 @@ pub fn section<M: AliasMeaning>(
     )?;
     push_transcript(&mut out, tables.transcripts.log(), slot)?;
     out.extend_from_slice(b"tree\n")?;
-    push_tree(alloc, &mut out, &tables.screen, runner.scopes(), slot)?;
+    let screen = tables.screen.shown();
+    push_tree(alloc, &mut out, screen, runner.scopes(), slot)?;
     out.extend_from_slice(b"timers\n")?;
     push_timers(&mut out, &tables.timers, slot)?;
     out.extend_from_slice(b"done\n")?;

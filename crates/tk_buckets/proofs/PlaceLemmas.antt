@@ -1,5 +1,5 @@
 -- What a search finds among stamps that rise.
-use Rattle.std.proofs.Common.{◌≡◌, ℕ, zero, suc, ◌<◌, List, [], ◌∷◌, length, get_or, Some, Result, Ok, Err, inl, inr, sym, ap, arith}
+use Rattle.std.proofs.Common.{◌≡◌, ℕ, zero, suc, ◌<◌, List, [], ◌∷◌, length, get_or, Some, Result, Ok, Err, inl, inr, sym, ap, IfSome, arith}
 use Rattle.std.specs.List.Sorted.{IsSearchInRange, IsBinarySearchResult, IsNonDecreasingBy}
 use Rattle.std.specs.Ordering.{nat_cmp, ordering_index}
 use Rattle.std.specs.Result.{result_ok}
@@ -18,6 +18,12 @@ pub stamp_there : (list : List Filed) (place stamp : ℕ) → HasStampAt place s
 stamp_there [] place stamp there = absurd there
 stamp_there (filed ∷ list) zero stamp there = (omega arith, there)
 stamp_there (filed ∷ list) (suc place) stamp there = let rest = stamp_there list place stamp there in (omega (arith, rest.0), rest.1)
+
+-- and the other way round
+pub is_there : (list : List Filed) (place stamp : ℕ) → place < length list → (get_or list place nothing).stamp ≡ stamp → HasStampAt place stamp list
+is_there [] place stamp below is = absurd (omega arith)
+is_there (filed ∷ list) zero stamp below is = is
+is_there (filed ∷ list) (suc place) stamp below is = is_there list place stamp (omega arith) is
 
 above_there : (stamp : ℕ) (list : List Filed) (place : ℕ) → AllAbove stamp list → place < length list → stamp < (get_or list place nothing).stamp
 above_there stamp [] place above below = absurd (omega arith)
@@ -58,3 +64,9 @@ module _ (list : List Filed) (rising : IsRising list) (stamp : ℕ) where
         | inl less ↦ absurd (let before = ranked _ stamp _ (sym ((parted comparisons_rise).0 place nothing (omega arith) less)) in omega (arith, before, facts.1))
         | inr le ↦ absurd (let after = ranked _ stamp _ (sym ((parted comparisons_rise).1 place nothing le facts.0)) in omega (arith, after, facts.1))
       ]
+
+-- what a search finds is there
+pub stands : (list : List Filed) (stamp : ℕ) (r : Result ℕ ℕ) → IsSearchInRange r (length list) → IsBinarySearchResult (λ filed. nat_cmp filed.stamp stamp) list r
+    → IfSome (result_ok r) (λ place. HasStampAt place stamp list)
+stands list stamp (Ok at) in_range equal = is_there list at stamp in_range (ranked _ stamp _ (sym (equal nothing)))
+stands list stamp (Err at) in_range parted = tt

@@ -1,4 +1,4 @@
-ghost use Rattle.std.specs.Prelude.{◌≡◌, ◌≢◌, ◌<◌, ℕ, [], ◌∷◌, ◌++◌, length, Some, OnOk, OnErr};
+ghost use Rattle.std.specs.Prelude.{◌≡◌, ◌≢◌, ◌<◌, ℕ, [], ◌∷◌, ◌++◌, length, Some, IfSome, OnOk, OnErr};
 ghost use Rattle.std.specs.List.{remove};
 ghost use Rattle.tk_buckets.specs.Filed.{numbers_of, stamps_under, HasStampAt, bucket_in, stamp_under, without, IsRising};
 
@@ -81,9 +81,10 @@ impl Buckets {
         }
     }
 
-    /// The place of a stamp.
+    /// The place of a stamp; none where it stands nowhere.
     pub fn place(&self, stamp: u64) -> Option<usize>
-        ensures { (place : ℕ) → HasStampAt place stamp self.now → result ≡ Some place }
+        ensures found { (place : ℕ) → HasStampAt place stamp self.now → result ≡ Some place }
+        ensures there { IfSome result (λ place. HasStampAt place stamp self.now) }
     {
         self.list
             .binary_search_by_key(&stamp, |filed| filed.stamp)

@@ -1,4 +1,5 @@
 -- Lemmas.
+pub mod Entries
 pub mod Only
 pub mod Places
 pub mod SettingLemmas

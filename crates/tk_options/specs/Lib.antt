@@ -1,4 +1,5 @@
 -- What the contracts cite.
+pub mod Entries
 pub mod FaultTexts
 pub mod Forms
 pub mod Names

@@ -3,12 +3,14 @@ ghost use Rattle.std.specs.Option.{option_copied};
 ghost use Rattle.tk_options.specs.Rows.{options_of, row as row_of};
 ghost use Rattle.tk_options.specs.Names.{name_of, long_name};
 ghost use Rattle.tk_options.specs.Options.{is_named, is_begun, only, or_only, meant, tested, or_bad, settings, with_value, with_settings, configured, value_meant, value_of, amount_of, description, IsTooLong};
+ghost use Rattle.tk_options.specs.Entries.{with_option};
 
 use crate::fault::OptionFault;
 use crate::form::amount_in;
 use crate::option::{OptionEntry, OptionName};
 use crate::rows::{Row, rows_of};
 use crate::settings::{Setting, Settings};
+use indexmap::IndexMap;
 use std::alloc::{AllocError, Global};
 use std::marker::Model;
 use tcl_text::{Text, TextFault, TextList};
@@ -17,16 +19,20 @@ use tk_base::Kind;
 /// The options of one widget, with their values (options(n)).
 #[derive(Drop)]
 pub struct OptionTable {
-    entries: Vec<OptionEntry>,
+    /// By name, in the order in which they are told.
+    entries: IndexMap<&'static str, OptionEntry>,
 }
 
 impl Model for OptionTable {
     ghost use Rattle.std.specs.Prelude.{List};
     ghost use Rattle.tk_options.specs.declared.option.OptionEntry.{OptionEntry};
+    ghost use Rattle.tk_options.specs.Entries.{options_in, AreUnderTheirNames};
 
     ghost Value = { List OptionEntry };
 
-    ghost view = { λ t. t.entries.items };
+    ghost view = { λ t. options_in t.entries.entries };
+
+    ghost invariant = { λ t. AreUnderTheirNames t.entries.entries };
 }
 
 impl OptionTable {
@@ -34,18 +40,58 @@ impl OptionTable {
     pub fn new(alloc: Global, kind: Kind) -> Result<OptionTable, AllocError>
         ensures { IfOk result (λ table. table ≡ options_of kind) }
     {
+        let rows = rows_of(kind);
+        let mut table = OptionTable::with_capacity(alloc, rows.len())?;
+        for row in rows {
+            table.add(new_entry(alloc, *row)?)?;
+        }
+        Ok(table)
+    }
+
+    /// No options, with room for so many.
+    fn with_capacity(alloc: Global, count: usize) -> Result<OptionTable, AllocError>
+        ensures { IfOk result (λ table. table ≡ []) }
+    {
         Ok(OptionTable {
-            entries: entries_of(alloc, rows_of(kind))?,
+            entries: IndexMap::with_capacity(alloc, count)?,
         })
+    }
+
+    /// Puts an option last, or in the place of the one of its name.
+    fn add(&mut self, entry: OptionEntry) -> Result<(), AllocError>
+        ensures { OnOk result (self.new ≡ with_option entry self.old) }
+    {
+        match self.entries.insert(entry.option.name(), entry) {
+            Ok(_) => Ok(()),
+            Err(_) => Err(AllocError),
+        }
     }
 
     /// The option that a word means: by its name, by one of the short names `-bd`, `-bg` and `-fg`, or by the beginning of its name
     /// alone. `UnknownOption` (20) where none is meant, `AmbiguousOption` (21) where the word is the beginning of several.
+    #[tactic(auto, unfolding(crate::specs::Options::meant))]
     pub fn entry(&self, word: &Text) -> Result<&OptionEntry, OptionFault>
         ensures ok { IfOk result (λ entry. meant word.now self.now ≡ Ok entry.now) }
         ensures refused { IfErr result (λ fault. fault ≢ OptionFault.NoMemory → meant word.now self.now ≡ Err fault) }
     {
-        entry_meant(&self.entries, word)
+        match self.named(long_name(word.as_str())) {
+            Some(entry) => Ok(entry),
+            None => only_begun(self.all(), word),
+        }
+    }
+
+    /// The option of this very name, looked up by hashing.
+    fn named(&self, name: &str) -> Option<&OptionEntry>
+        ensures { option_copied result ≡ find (is_named name.now) self.now }
+    {
+        self.entries.get(name)
+    }
+
+    /// All options in their order.
+    fn all(&self) -> &[OptionEntry]
+        ensures { result.now ≡ self.now }
+    {
+        self.entries.values().as_slice()
     }
 
     /// The value of an option (`cget` of options(n)), which is not copied. `UnknownOption` (20) or `AmbiguousOption` (21) where the
@@ -76,7 +122,7 @@ impl OptionTable {
         ensures ok { IfOk result (λ all. settings words.now self.now ≡ Ok all) }
         ensures refused { IfErr result (λ fault. fault ≢ OptionFault.NoMemory → settings words.now self.now ≡ Err fault) }
     {
-        let all = settings_in(alloc, &self.entries, words)?;
+        let all = settings_in(alloc, self, words)?;
         Ok(Settings::of(all))
     }
 
@@ -87,7 +133,7 @@ impl OptionTable {
         ensures too_long { IfErr result (λ fault. fault ≢ TextFault.NoMemory → Any IsTooLong self.now) }
     {
         let mut list = TextList::with_capacity(alloc, self.entries.len())?;
-        for entry in &self.entries {
+        for entry in self.all() {
             list.push(entry.description(alloc)?)?;
         }
         Ok(list)
@@ -97,7 +143,7 @@ impl OptionTable {
     pub fn value(&self, option: OptionName) -> Option<&Text>
         ensures { option_copied result ≡ value_of option self.now }
     {
-        let entry = entry_named(&self.entries, option.name())?;
+        let entry = self.named(option.name())?;
         Some(&entry.value)
     }
 
@@ -118,9 +164,10 @@ impl OptionTable {
     pub fn put(&mut self, option: OptionName, value: Text)
         ensures { self.new ≡ with_value option value self.old }
     {
-        if let Some(place) = place_named(&self.entries, option.name()) {
-            set_value(&mut self.entries[place], value);
-        }
+        let Some(entry) = self.entries.get_mut(option.name()) else {
+            return;
+        };
+        set_value(entry, value);
     }
 
     /// Sets options in their turn. It takes no memory.
@@ -131,17 +178,6 @@ impl OptionTable {
             self.put(option, value);
         }
     }
-}
-
-/// The options of these rows, each with its default.
-fn entries_of(alloc: Global, rows: &[Row]) -> Result<Vec<OptionEntry>, AllocError>
-    ensures { IfOk result (λ entries. entries.items ≡ map (λ row. row_of row.0 row.1 row.2.now) rows.now) }
-{
-    let mut entries = Vec::with_capacity(alloc, rows.len())?;
-    for row in rows {
-        entries.push(new_entry(alloc, *row)?)?;
-    }
-    Ok(entries)
 }
 
 /// The option of a row, with its default.
@@ -167,18 +203,6 @@ fn short_text(alloc: Global, characters: &str) -> Result<Text, AllocError>
     }
 }
 
-/// The option that a word means.
-#[tactic(auto, unfolding(crate::specs::Options::meant))]
-fn entry_meant<'a>(entries: &'a [OptionEntry], word: &Text) -> Result<&'a OptionEntry, OptionFault>
-    ensures ok { IfOk result (λ entry. meant word.now entries.now ≡ Ok entry.now) }
-    ensures refused { IfErr result (λ fault. fault ≢ OptionFault.NoMemory → meant word.now entries.now ≡ Err fault) }
-{
-    match entry_named(entries, long_name(word.as_str())) {
-        Some(entry) => Ok(entry),
-        None => only_begun(entries, word),
-    }
-}
-
 /// The name that a short name stands for, or the word itself.
 fn long_name(word: &str) -> &str
     ensures { result.now ≡ long_name word.now }
@@ -189,13 +213,6 @@ fn long_name(word: &str) -> &str
         "-fg" => "-foreground",
         _ => word,
     }
-}
-
-/// The option of this very name.
-fn entry_named<'a>(entries: &'a [OptionEntry], name: &str) -> Option<&'a OptionEntry>
-    ensures { option_copied result ≡ find (is_named name.now) entries.now }
-{
-    entries.iter().find(|entry| entry.option.name() == name)
 }
 
 /// The only option whose name begins with these characters.
@@ -220,13 +237,6 @@ fn place_begun(entries: &[OptionEntry], word: &str) -> Option<usize>
     entries.iter().position(|entry| entry.option.name().as_bytes().starts_with(word.as_bytes()))
 }
 
-/// The place of the option of this very name.
-fn place_named(entries: &[OptionEntry], name: &str) -> Option<usize>
-    ensures { result ≡ position (is_named name.now) entries.now }
-{
-    entries.iter().position(|entry| entry.option.name() == name)
-}
-
 /// Sets an option to a value.
 fn set_value(entry: &mut OptionEntry, value: Text)
     ensures { entry.new ≡ record entry.old { value = value } }
@@ -237,30 +247,30 @@ fn set_value(entry: &mut OptionEntry, value: Text)
 /// What words in pairs set, tested from the left.
 fn settings_in(
     alloc: Global,
-    entries: &[OptionEntry],
+    table: &OptionTable,
     words: &[Text],
 ) -> Result<Vec<Setting>, OptionFault>
-    ensures ok { IfOk result (λ all. settings words.now entries.now ≡ Ok all.items) }
-    ensures refused { IfErr result (λ fault. fault ≢ OptionFault.NoMemory → settings words.now entries.now ≡ Err fault) }
+    ensures ok { IfOk result (λ all. settings words.now table.now ≡ Ok all.items) }
+    ensures refused { IfErr result (λ fault. fault ≢ OptionFault.NoMemory → settings words.now table.now ≡ Err fault) }
 {
     let mut all = Vec::with_capacity(alloc, words.len() / 2)?;
     let mut rest = words;
     while let Some((word, others)) = rest.split_first() {
         let Some((value, others)) = others.split_first() else {
-            return Err(without_value(entries, word)?);
+            return Err(without_value(table, word)?);
         };
-        all.push(tested(alloc, entries, word, value)?)?;
+        all.push(tested(alloc, table, word, value)?)?;
         rest = others;
     }
     Ok(all)
 }
 
 /// The fault of an option without a value, unless its name is at fault.
-fn without_value(entries: &[OptionEntry], word: &Text) -> Result<OptionFault, OptionFault>
-    ensures ok { IfOk result (λ fault. settings (word.now ∷ []) entries.now ≡ Err fault) }
-    ensures refused { IfErr result (λ fault. fault ≢ OptionFault.NoMemory → settings (word.now ∷ []) entries.now ≡ Err fault) }
+fn without_value(table: &OptionTable, word: &Text) -> Result<OptionFault, OptionFault>
+    ensures ok { IfOk result (λ fault. settings (word.now ∷ []) table.now ≡ Err fault) }
+    ensures refused { IfErr result (λ fault. fault ≢ OptionFault.NoMemory → settings (word.now ∷ []) table.now ≡ Err fault) }
 {
-    let _entry = entry_meant(entries, word)?;
+    let _entry = table.entry(word)?;
     Ok(OptionFault::NoValue(word.copy()?))
 }
 
@@ -268,14 +278,14 @@ fn without_value(entries: &[OptionEntry], word: &Text) -> Result<OptionFault, Op
 #[tactic(auto, unfolding(crate::specs::Options::tested))]
 fn tested(
     alloc: Global,
-    entries: &[OptionEntry],
+    table: &OptionTable,
     word: &Text,
     value: &Text,
 ) -> Result<Setting, OptionFault>
-    ensures ok { IfOk result (λ setting. tested word.now value.now entries.now ≡ Ok setting) }
-    ensures refused { IfErr result (λ fault. fault ≢ OptionFault.NoMemory → tested word.now value.now entries.now ≡ Err fault) }
+    ensures ok { IfOk result (λ setting. tested word.now value.now table.now ≡ Ok setting) }
+    ensures refused { IfErr result (λ fault. fault ≢ OptionFault.NoMemory → tested word.now value.now table.now ≡ Err fault) }
 {
-    let entry = entry_meant(entries, word)?;
+    let entry = table.entry(word)?;
     match entry.form.value_in(alloc, value)? {
         Some(kept) => Ok(Setting {
             option: entry.option,

@@ -1,11 +1,12 @@
 -- What the tables of packed windows tell of their value, and what keeps them tied.
-use Rattle.std.proofs.Common.{◌≡◌, ◌≢◌, ℕ, zero, suc, Bool, true, false, cond, List, [], ◌∷◌, Option, Some, None, not, refl, sym, ap, subst, ◌∙◌}
-use Rattle.std.specs.Prelude.{◌==◌, nat_eq, filter, find, insert}
+use Rattle.std.proofs.Common.{◌≡◌, ◌≢◌, ℕ, ◌<◌, zero, suc, Bool, true, false, cond, List, [], ◌∷◌, Option, Some, None, not, refl, sym, ap, subst, ◌∙◌, arith}
+use Rattle.std.specs.Prelude.{◌==◌, nat_eq, length, filter, find, insert}
+use Rattle.std.specs.List.{remove, AllWithin, HoldsAt}
 use Rattle.std.proofs.lemmas.Bool.{eq-eqb, ne_eqb, eqb-true, eqb-false}
 use Rattle.std.proofs.lemmas.Option.{none-some, cond_some}
 use Rattle.tk_packer.specs.declared.packed.Packed.{Packed}
 use Rattle.tk_packer.specs.Packs.{slaves_of, without, master_of, replaced}
-use Rattle.tk_packer.specs.Tables.{Lists, slaves_at, gathered, taken_out, put_in, if_in, AreTied}
+use Rattle.tk_packer.specs.Tables.{Lists, slaves_at, gathered, taken_out, put_in, if_in, AreApart, AreTied}
 use Rattle.tk_packer.proofs.Orders.{filter_swap, none_kept, all_kept, insert_kept, IsOrdered, ordered_replaced, having_replaced, having_replaced_other}
 
 -- ---- the value of the tables
@@ -17,29 +18,28 @@ pub slaves_apart : (one other : ℕ) (packs : List Packed) → one ≢ other →
 slaves_apart one other packs differ = none_kept (λ packed. packed.master == one) (λ packed. packed.master == other) packs
     (λ packed is. ne_eqb packed.master one (λ same. differ (sym same ∙ eqb-true packed.master other is)))
 
-module _ {Z : Type 0} where
-  pub ordered_gathered : (lists : Lists Z) → IsOrdered master_of (gathered lists)
-  ordered_gathered [] = tt
-  ordered_gathered (entry ∷ lists) =
-      ordered_replaced master_of entry.0 (slaves_of entry.0 entry.1.items) (gathered lists) (slaves_twice entry.0 entry.1.items) (ordered_gathered lists)
+pub ordered_gathered : (lists : Lists) → IsOrdered master_of (gathered lists)
+ordered_gathered [] = tt
+ordered_gathered (entry ∷ lists) =
+    ordered_replaced master_of entry.0 (slaves_of entry.0 entry.1.items) (gathered lists) (slaves_twice entry.0 entry.1.items) (ordered_gathered lists)
 
-  pub slaves_of_gathered : (master : ℕ) (lists : Lists Z) → slaves_of master (gathered lists) ≡ slaves_of master (slaves_at master lists)
-  slaves_of_gathered master [] = refl
-  slaves_of_gathered master (entry ∷ lists) = at (nat_eq master entry.0) refl (slaves_of_gathered master lists)
-    where
-      at : (b : Bool) → nat_eq master entry.0 ≡ b → slaves_of master (gathered lists) ≡ slaves_of master (slaves_at master lists) →
-          slaves_of master (replaced master_of entry.0 (slaves_of entry.0 entry.1.items) (gathered lists)) ≡ slaves_of master (slaves_at master (entry ∷ lists))
-      at true is rest =
-          let same : entry.0 ≡ master = sym (eqb-true master entry.0 is) in
-          rw is (subst (λ m. slaves_of master (replaced master_of m (slaves_of m entry.1.items) (gathered lists)) ≡ slaves_of master entry.1.items) (sym same)
-          (having_replaced master_of master (slaves_of master entry.1.items) (gathered lists) ∙ slaves_twice master entry.1.items))
-      at false is rest =
-          let differ : master ≢ entry.0 = eqb-false master entry.0 is in
-          rw is (having_replaced_other master_of master entry.0 (slaves_of entry.0 entry.1.items) (gathered lists) differ (slaves_apart master entry.0 entry.1.items differ) ∙ rest)
+pub slaves_of_gathered : (master : ℕ) (lists : Lists) → slaves_of master (gathered lists) ≡ slaves_of master (slaves_at master lists)
+slaves_of_gathered master [] = refl
+slaves_of_gathered master (entry ∷ lists) = at (nat_eq master entry.0) refl (slaves_of_gathered master lists)
+  where
+    at : (b : Bool) → nat_eq master entry.0 ≡ b → slaves_of master (gathered lists) ≡ slaves_of master (slaves_at master lists) →
+        slaves_of master (replaced master_of entry.0 (slaves_of entry.0 entry.1.items) (gathered lists)) ≡ slaves_of master (slaves_at master (entry ∷ lists))
+    at true is rest =
+        let same : entry.0 ≡ master = sym (eqb-true master entry.0 is) in
+        rw is (subst (λ m. slaves_of master (replaced master_of m (slaves_of m entry.1.items) (gathered lists)) ≡ slaves_of master entry.1.items) (sym same)
+        (having_replaced master_of master (slaves_of master entry.1.items) (gathered lists) ∙ slaves_twice master entry.1.items))
+    at false is rest =
+        let differ : master ≢ entry.0 = eqb-false master entry.0 is in
+        rw is (having_replaced_other master_of master entry.0 (slaves_of entry.0 entry.1.items) (gathered lists) differ (slaves_apart master entry.0 entry.1.items differ) ∙ rest)
 
-  -- a master's slaves in the value are those in its list
-  pub slaves_are : (windows : ℕ → Option Packed) (lists : Lists Z) → AreTied windows (λ master. slaves_at master lists) → (master : ℕ) → slaves_of master (gathered lists) ≡ slaves_at master lists
-  slaves_are windows lists tied master = slaves_of_gathered master lists ∙ tied.own master
+-- a master's slaves in the value are those in its list
+pub slaves_are : (windows : ℕ → Option Packed) (lists : Lists) → AreTied windows (λ master. slaves_at master lists) → (master : ℕ) → slaves_of master (gathered lists) ≡ slaves_at master lists
+slaves_are windows lists tied master = slaves_of_gathered master lists ∙ tied.own master
 
 -- ---- a window by its number
 
@@ -108,6 +108,46 @@ without_absent number (packed ∷ packs) none = at (packed.number == number) ref
     at true is none rest = absurd (none-some packed (sym (rw is at none)))
     at false is none rest = rw is (ap (λ (ps : List Packed). packed ∷ ps) (rest (rw is at none)))
 
+-- ---- a number stands once
+
+apart_without : (number : ℕ) (packs : List Packed) → AreApart packs → AreApart (without number packs)
+apart_without number [] apart = tt
+apart_without number (packed ∷ packs) apart = at (packed.number == number) refl (apart_without number packs apart.1)
+  where
+    at : (b : Bool) → (packed.number == number) ≡ b → AreApart (without number packs) → AreApart (cond (not (packed.number == number)) (packed ∷ without number packs) (without number packs))
+    at true is rest = rw is rest
+    at false is rest = rw is (find_nowhere (is_number packed.number) (λ p. not (p.number == number)) packs apart.0, rest)
+
+none_at : (number : ℕ) (packs : List Packed) (place : ℕ) → find (is_number number) packs ≡ None → place < length packs → HoldsAt (λ packed. packed.number ≡ number) packs place → ⊥
+none_at number [] place none within here = omega (arith, within)
+none_at number (packed ∷ packs) zero none within here = none-some packed (sym (rw (eq-eqb packed.number number (here packed)) at none))
+none_at number (packed ∷ packs) (suc place) none within here = at (packed.number == number) refl none (λ nowhere. none_at number packs place nowhere (omega (arith, within)) here)
+  where
+    at : (b : Bool) → (packed.number == number) ≡ b → cond (packed.number == number) (Some packed) (find (is_number number) packs) ≡ None → (find (is_number number) packs ≡ None → ⊥) → ⊥
+    at true is none rest = none-some packed (sym (rw is at none))
+    at false is none rest = rest (rw is at none)
+
+-- the window that stands at a place taken out is its number taken out
+pub removed_is : (number : ℕ) (packs : List Packed) (place : ℕ) → AreApart packs → place < length packs → HoldsAt (λ packed. packed.number ≡ number) packs place → remove packs place ≡ without number packs
+removed_is number [] place apart within here = absurd (omega (arith, within))
+removed_is number (packed ∷ packs) zero apart within here =
+    let same : packed.number ≡ number = here packed in
+    rw (eq-eqb packed.number number same) (sym (without_absent number packs (subst (λ n. find (is_number n) packs ≡ None) same apart.0)))
+removed_is number (packed ∷ packs) (suc place) apart within here = at (packed.number == number) refl (removed_is number packs place apart.1 (omega (arith, within)) here)
+  where
+    at : (b : Bool) → (packed.number == number) ≡ b → remove packs place ≡ without number packs → packed ∷ remove packs place ≡ cond (not (packed.number == number)) (packed ∷ without number packs) (without number packs)
+    at true is rest =
+        let same : packed.number ≡ number = eqb-true packed.number number is in
+        absurd (none_at number packs place (subst (λ n. find (is_number n) packs ≡ None) same apart.0) (omega (arith, within)) here)
+    at false is rest = rw is (ap (λ (ps : List Packed). packed ∷ ps) rest)
+
+-- a number that stands nowhere
+pub all_stay : (number : ℕ) (packs : List Packed) → AllWithin (λ packed. packed.number ≢ number) packs 0 (length packs) → without number packs ≡ packs
+all_stay number [] differ = refl
+all_stay number (packed ∷ packs) differ =
+    rw (ne_eqb packed.number number (differ zero packed (omega arith) (omega arith)))
+    (ap (λ (ps : List Packed). packed ∷ ps) (all_stay number packs (λ k d low high. differ (suc k) d (omega arith) (omega (arith, high)))))
+
 pub find_without : (number other : ℕ) (packs : List Packed) → find (is_number other) (without number packs) ≡ cond (nat_eq number other) None (find (is_number other) packs)
 find_without number other [] = none (nat_eq number other)
   where
@@ -153,6 +193,7 @@ tied_without windows after slaves rest number tied known lists = record {
       ap (find (is_number other)) (lists master) ∙ find_without number other (slaves master)
       ∙ ap (cond (nat_eq number other) None) (tied.known other master)
       ∙ split master (nat_eq number other) (windows other) ∙ ap (if_in master) (sym (known other));
+  once = λ master. subst AreApart (sym (lists master)) (apart_without number (slaves master) (tied.once master));
 }
   where
     split : (master : ℕ) (b : Bool) (window : Option Packed) → cond b None (if_in master window) ≡ if_in master (cond b None window)
@@ -176,6 +217,18 @@ find_past_inserted test packs zero new fails = rw fails refl
 find_past_inserted test [] (suc i) new fails = rw fails refl
 find_past_inserted test (packed ∷ packs) (suc i) new fails = ap (cond (test packed) (Some packed)) (find_past_inserted test packs i new fails)
 
+apart_inserted : (packs : List Packed) (place : ℕ) (new : Packed) → AreApart packs → find (is_number new.number) packs ≡ None → AreApart (insert packs place new)
+apart_inserted packs zero new apart none = (none, apart)
+apart_inserted [] (suc place) new apart none = (none, tt)
+apart_inserted (packed ∷ packs) (suc place) new apart none = at (packed.number == new.number) refl none (apart_inserted packs place new apart.1)
+  where
+    at : (b : Bool) → (packed.number == new.number) ≡ b → cond (packed.number == new.number) (Some packed) (find (is_number new.number) packs) ≡ None →
+        (find (is_number new.number) packs ≡ None → AreApart (insert packs place new)) → AreApart (packed ∷ insert packs place new)
+    at true is none rest = absurd (none-some packed (sym (rw is at none)))
+    at false is none rest =
+        let differ : (new.number == packed.number) ≡ false = ne_eqb new.number packed.number (λ same. eqb-false packed.number new.number is (sym same)) in
+        (find_past_inserted (is_number packed.number) packs place new differ ∙ apart.0, rest (rw is at none))
+
 pub tied_put : (windows after : ℕ → Option Packed) (slaves more : ℕ → List Packed) (place : ℕ) (new : Packed) → AreTied windows slaves → windows new.number ≡ None →
     ((other : ℕ) → after other ≡ cond (nat_eq new.number other) (Some new) (windows other)) → ((master : ℕ) → more master ≡ put_in place new master (slaves master)) → AreTied after more
 tied_put windows after slaves more place new tied absent known lists = record {
@@ -184,8 +237,13 @@ tied_put windows after slaves more place new tied absent known lists = record {
       ap (find (is_number number)) (lists master)
       ∙ known_by number master (new.master == master) (new.number == number) refl refl
       ∙ ap (if_in master) (sym (known number));
+  once = λ master. subst AreApart (sym (lists master)) (apart_by master (new.master == master) refl);
 }
   where
+    apart_by : (master : ℕ) (b : Bool) → (new.master == master) ≡ b → AreApart (put_in place new master (slaves master))
+    apart_by master true is = rw is (apart_inserted (slaves master) place new (tied.once master) (tied.known new.number master ∙ ap (if_in master) absent))
+    apart_by master false is = rw is (tied.once master)
+
     own_by : (master : ℕ) (b : Bool) → (new.master == master) ≡ b → slaves_of master (put_in place new master (slaves master)) ≡ put_in place new master (slaves master)
     own_by master true is = rw is (insert_kept (λ packed. packed.master == master) (slaves master) place new is (tied.own master))
     own_by master false is = rw is (tied.own master)

@@ -1,15 +1,16 @@
 //! The slaves of each master, in a list of their own.
-ghost use Rattle.std.specs.Prelude.{◌≡◌, ◌≤◌, ◌<◌, ℕ, insert, OnOk};
-ghost use Rattle.std.specs.Vec.{vec_len, vec_capacity};
+ghost use Rattle.std.specs.Prelude.{◌≡◌, ◌≢◌, ◌≤◌, ◌<◌, ℕ, length, insert, OnOk, MatchOption};
+ghost use Rattle.std.specs.List.{AllWithin, HoldsAt};
 ghost use Rattle.tk_packer.specs.Packs.{without};
-ghost use Rattle.tk_packer.specs.Tables.{slaves_at, HasRoom, taken_out, put_in};
+ghost use Rattle.tk_packer.specs.Tables.{slaves_at, HasRoom, AreApart, taken_out, put_in};
 
 use crate::packed::Packed;
 use std::alloc::{AllocError, Global};
 use std::collections::HashMap;
+use tk_siblings::Siblings;
 
 /// The slaves of a master.
-pub fn slaves_at(masters: &HashMap<u64, Vec<Packed>>, master: u64) -> &[Packed]
+pub fn slaves_at(masters: &HashMap<u64, Siblings<Packed>>, master: u64) -> &[Packed]
     ensures { result.now ≡ slaves_at master masters.now.entries }
 {
     match masters.get(&master) {
@@ -21,22 +22,23 @@ pub fn slaves_at(masters: &HashMap<u64, Vec<Packed>>, master: u64) -> &[Packed]
 /// Gives a master a list with room for one more.
 pub fn open(
     alloc: Global,
-    masters: &mut HashMap<u64, Vec<Packed>>,
+    masters: &mut HashMap<u64, Siblings<Packed>>,
     master: u64,
 ) -> Result<(), AllocError>
     ensures same { (other : ℕ) → slaves_at other masters.new.entries ≡ slaves_at other masters.old.entries }
     ensures room { OnOk result (HasRoom master masters.new.entries) }
 {
     if let Some(slaves) = masters.get_mut(&master) {
-        return slaves.reserve(1);
+        return slaves.reserve();
     }
-    let slaves = Vec::with_capacity(alloc, 1)?;
+    let mut slaves = Siblings::new(alloc);
+    slaves.reserve()?;
     masters.insert(master, slaves)?;
     Ok(())
 }
 
 /// Forgets the list of a master that has no slaves.
-pub fn close(masters: &mut HashMap<u64, Vec<Packed>>, master: u64)
+pub fn close(masters: &mut HashMap<u64, Siblings<Packed>>, master: u64)
     ensures { (other : ℕ) → slaves_at other masters.new.entries ≡ slaves_at other masters.old.entries }
 {
     if slaves_at(masters, master).is_empty() {
@@ -46,12 +48,13 @@ pub fn close(masters: &mut HashMap<u64, Vec<Packed>>, master: u64)
 
 /// Moves a window from the master that it had to the one that it gets.
 pub fn move_slave(
-    masters: &mut HashMap<u64, Vec<Packed>>,
+    masters: &mut HashMap<u64, Siblings<Packed>>,
     before: Option<Packed>,
     place: usize,
     packed: Packed,
 )
-    requires { HasRoom packed.master masters.old.entries }
+    requires room { HasRoom packed.master masters.old.entries }
+    requires apart { (other : ℕ) → AreApart (slaves_at other masters.old.entries) }
     ensures { (other : ℕ) → slaves_at other masters.new.entries
         ≡ put_in place packed other (taken_out before packed.number other (slaves_at other masters.old.entries)) }
 {
@@ -61,7 +64,8 @@ pub fn move_slave(
 }
 
 /// Takes a window out, and forgets the list of its master if that was its last.
-pub fn drop_slave(masters: &mut HashMap<u64, Vec<Packed>>, before: Option<Packed>, number: u64)
+pub fn drop_slave(masters: &mut HashMap<u64, Siblings<Packed>>, before: Option<Packed>, number: u64)
+    requires { (other : ℕ) → AreApart (slaves_at other masters.old.entries) }
     ensures { (other : ℕ) → slaves_at other masters.new.entries
         ≡ taken_out before number other (slaves_at other masters.old.entries) }
 {
@@ -69,7 +73,7 @@ pub fn drop_slave(masters: &mut HashMap<u64, Vec<Packed>>, before: Option<Packed
     close_old(masters, before);
 }
 
-fn close_old(masters: &mut HashMap<u64, Vec<Packed>>, before: Option<Packed>)
+fn close_old(masters: &mut HashMap<u64, Siblings<Packed>>, before: Option<Packed>)
     ensures { (other : ℕ) → slaves_at other masters.new.entries ≡ slaves_at other masters.old.entries }
 {
     if let Some(packed) = before {
@@ -78,7 +82,8 @@ fn close_old(masters: &mut HashMap<u64, Vec<Packed>>, before: Option<Packed>)
 }
 
 /// Takes a window out of the list of the master that it had.
-fn take_slave(masters: &mut HashMap<u64, Vec<Packed>>, before: Option<Packed>, number: u64)
+fn take_slave(masters: &mut HashMap<u64, Siblings<Packed>>, before: Option<Packed>, number: u64)
+    requires { (other : ℕ) → AreApart (slaves_at other masters.old.entries) }
     ensures rest { (other : ℕ) → slaves_at other masters.new.entries
         ≡ taken_out before number other (slaves_at other masters.old.entries) }
     ensures room { (other : ℕ) → HasRoom other masters.old.entries → HasRoom other masters.new.entries }
@@ -90,29 +95,43 @@ fn take_slave(masters: &mut HashMap<u64, Vec<Packed>>, before: Option<Packed>, n
     }
 }
 
-fn take_out(slaves: &mut Vec<Packed>, number: u64)
+fn take_out(slaves: &mut Siblings<Packed>, number: u64)
+    requires { AreApart slaves.old.items }
     ensures items { slaves.new.items ≡ without number slaves.old.items }
-    ensures length { vec_len slaves.new ≤ vec_len slaves.old }
-    ensures capacity { vec_capacity slaves.new ≡ vec_capacity slaves.old }
+    ensures room { slaves.old.room ≤ slaves.new.room }
 {
-    slaves.retain(|packed| packed.number != number);
+    if let Some(place) = place_of(slaves.as_slice(), number) {
+        slaves.remove(place);
+    }
+}
+
+/// The place of a window, looked for from both ends.
+fn place_of(slaves: &[Packed], number: u64) -> Option<usize>
+    ensures { MatchOption result (AllWithin (λ packed. packed.number ≢ number) slaves.now 0 (length slaves.now))
+        (λ place. (place < length slaves.now) × HoldsAt (λ packed. packed.number ≡ number) slaves.now place) }
+{
+    let mut front = 0;
+    let mut back = slaves.len();
+    while front < back {
+        if slaves[front].number == number {
+            return Some(front);
+        }
+        back -= 1;
+        if slaves[back].number == number {
+            return Some(back);
+        }
+        front += 1;
+    }
+    None
 }
 
 /// Puts a window at a place among the slaves of its master, whose list has room.
-fn insert_slave(masters: &mut HashMap<u64, Vec<Packed>>, place: usize, packed: Packed)
+fn insert_slave(masters: &mut HashMap<u64, Siblings<Packed>>, place: usize, packed: Packed)
     requires { HasRoom packed.master masters.old.entries }
     ensures { (other : ℕ) → slaves_at other masters.new.entries
         ≡ put_in place packed other (slaves_at other masters.old.entries) }
 {
     if let Some(slaves) = masters.get_mut(&packed.master) {
-        insert_at(slaves, place, packed);
+        slaves.insert(place, packed);
     }
-}
-
-fn insert_at(slaves: &mut Vec<Packed>, place: usize, packed: Packed)
-    requires { vec_len slaves.old < vec_capacity slaves.old }
-    ensures { slaves.new.items ≡ insert slaves.old.items place packed }
-{
-    let index = place.min(slaves.len());
-    let _ = slaves.insert(index, packed);
 }

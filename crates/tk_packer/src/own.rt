@@ -6,6 +6,7 @@ use std::alloc::{AllocError, Global};
 use std::collections::{HashMap, HashSet};
 use std::marker::Model;
 use tk_parcels::Request;
+use tk_siblings::Siblings;
 
 /// What one application has packed, found by hashing.
 #[derive(Drop)]
@@ -13,7 +14,7 @@ pub struct OwnPacks {
     /// Each packed window, by its number.
     windows: HashMap<u64, Packed>,
     /// The same windows in order, by their masters.
-    masters: HashMap<u64, Vec<Packed>>,
+    masters: HashMap<u64, Siblings<Packed>>,
     /// The windows that don't propagate.
     rigid: HashSet<u64>,
     alloc: Global,

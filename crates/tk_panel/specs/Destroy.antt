@@ -7,7 +7,7 @@ use Rattle.tk_events.specs.Event.{bare_event}
 use Rattle.tk_inputs.specs.Inputs.{without_window}
 use Rattle.tk_patterns.specs.Own.{without_tag}
 use Rattle.tk_sequences.specs.declared.event_type.EventType.TheVariants.{Destroy}
-use Rattle.tk_screen.specs.Own.{without}
+use Rattle.tk_screen.specs.Own.{Own as Screen, without}
 use Rattle.tk_tree.specs.declared.window.Window.{Window}
 use Rattle.tk_tree.specs.Change.{dying}
 use Rattle.tk_tree.specs.Orders.{post_order}
@@ -37,8 +37,11 @@ unfoldable pub all_dying : List ℕ → Own → Own
 all_dying [] own = own
 all_dying (number ∷ numbers) own = all_dying numbers (with_change number dying own)
 
+abbrev pub all_dying_in : List ℕ → Screen → Screen
+all_dying_in numbers screen = record screen { tree = all_dying numbers screen.tree }
+
 abbrev pub marked : List ℕ → Panel → Panel
-marked numbers panel = record panel { screen = record panel.screen { tree = all_dying numbers panel.screen.tree } }
+marked numbers panel = record panel { screen = all_dying_in numbers panel.screen }
 
 -- ── removal ──
 

@@ -2,7 +2,9 @@
 ghost use Rattle.std.specs.Prelude.{◌≡◌, IfOk, OnErr, OnOk, codes};
 ghost use Rattle.tk_panel.specs.Fresh.{fresh, nothing};
 ghost use Rattle.tk_panel.specs.Panel.{LeavesOthers, panel_of};
+ghost use Rattle.tk_base.specs.declared.kind.Kind.TheVariants.{Frame};
 ghost use Rattle.tk_screen.specs.Own as screens;
+ghost use Rattle.tk_widgets.specs.Sizes.{new_widget};
 
 use crate::message::short_text;
 use crate::tables::Tables;
@@ -10,6 +12,7 @@ use std::alloc::{AllocError, Global};
 use tcl_text::Text;
 use tk_base::Kind;
 use tk_bind_class::{bind_classes, unbind_classes};
+use tk_marks::MarkedScreen;
 use tk_screen::{Screen, Toplevel};
 use tk_widgets::Widget;
 
@@ -28,7 +31,7 @@ pub fn add(
     ensures err { OnErr result (panel_of slot tables.new ≡ panel_of slot tables.old) }
 {
     bind_classes(tables.alloc, &mut tables.bindings, slot)?;
-    match show_main(tables.alloc, &mut tables.screen, slot, name, size) {
+    match show(tables.alloc, &mut tables.screen, slot, name, size) {
         Ok(()) => Ok(()),
         Err(refused) => {
             unbind_classes(&mut tables.bindings, slot);
@@ -37,7 +40,24 @@ pub fn add(
     }
 }
 
-/// The main window of an application of which nothing is on the screen.
+/// An application of which nothing is on the screen is shown.
+fn show(
+    alloc: Global,
+    marked: &mut MarkedScreen,
+    slot: usize,
+    name: &Text,
+    size: (u32, u32),
+) -> Result<(), AllocError>
+    requires { screens.own_of slot marked.old ≡ screens.nothing }
+    ensures own { OnOk result (screens.own_of slot marked.new ≡ screens.added name.now size) }
+    ensures others { screens.LeavesOthers slot marked.old marked.new }
+    ensures err { OnErr result (screens.own_of slot marked.new ≡ screens.own_of slot marked.old) }
+{
+    marked.marks.forget(slot);
+    show_main(alloc, &mut marked.screen, slot, name, size)
+}
+
+/// The main window of an application of which nothing is on the screen, with its rectangle and its title.
 fn show_main(
     alloc: Global,
     screen: &mut Screen,
@@ -50,19 +70,32 @@ fn show_main(
     ensures others { screens.LeavesOthers slot screen.old screen.new }
     ensures err { OnErr result (screens.own_of slot screen.new ≡ screens.own_of slot screen.old) }
 {
-    let main = short_text(alloc, ".")?;
-    let widget = Widget::new(alloc, Kind::Frame)?;
     let toplevel = Toplevel {
         name: name.copy()?,
         title: name.copy()?,
         size,
     };
     screen.toplevels.insert(slot, toplevel)?;
+    match make_main(alloc, screen, slot) {
+        Ok(()) => Ok(()),
+        Err(refused) => {
+            screen.toplevels.remove(&slot);
+            Err(refused)
+        }
+    }
+}
+
+/// The window `.` of an application that has none.
+fn make_main(alloc: Global, screen: &mut Screen, slot: usize) -> Result<(), AllocError>
+    requires { (screens.own_of slot screen.old).tree ≡ screens.no_windows }
+    ensures own { OnOk result (screens.own_of slot screen.new ≡ screens.with_made (codes ".") Frame (new_widget Frame) (screens.own_of slot screen.old)) }
+    ensures others { screens.LeavesOthers slot screen.old screen.new }
+    ensures err { OnErr result (screens.own_of slot screen.new ≡ screens.own_of slot screen.old) }
+{
+    let main = short_text(alloc, ".")?;
+    let widget = Widget::new(alloc, Kind::Frame)?;
     match screen.create(slot, &main, Kind::Frame, widget) {
         Ok(_) => Ok(()),
-        Err(_) => {
-            screen.toplevels.remove(&slot);
-            Err(AllocError)
-        }
+        Err(_) => Err(AllocError),
     }
 }

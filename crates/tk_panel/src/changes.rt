@@ -70,7 +70,7 @@ fn queue_change(tables: &mut Tables, slot: usize, change: Change) -> Result<(), 
         owner: slot,
         number: number_of(change),
     };
-    match tables.screen.windows.window(win) {
+    match tables.screen.shown().windows.window(win) {
         None => Ok(()),
         Some(window) => {
             let event = event_of(change, window, tables.clock.moment())?;
@@ -99,6 +99,6 @@ pub fn lay_out(tables: &mut Tables, slot: usize, scopes: &Scopes) -> Result<(), 
     ensures own { OnOk result (panel_of slot tables.new ≡ laid_out scopes.now (panel_of slot tables.old)) }
     ensures others { LeavesOthers slot tables.old tables.new }
 {
-    let changes = tk_screen::lay_out(tables.alloc, &mut tables.screen, slot, scopes)?;
+    let changes = tables.screen.lay_out(tables.alloc, slot, scopes)?;
     queue_changes(tables, slot, changes.as_slice())
 }

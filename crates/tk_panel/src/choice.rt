@@ -24,7 +24,7 @@ fn scripts_of(
 {
     scripts_for(
         tables.alloc,
-        &tables.screen.windows,
+        &tables.screen.shown().windows,
         &tables.bindings,
         &tables.virtuals,
         win,
@@ -44,7 +44,7 @@ pub fn choose(tables: &mut Tables, slot: usize, event: Event) -> Result<Scripts,
         owner: slot,
         number: event.number,
     };
-    if !tables.screen.windows.holds(win) {
+    if !tables.screen.shown().windows.holds(win) {
         return Ok(Scripts::none(tables.alloc));
     }
     match scripts_of(tables, win, &event)? {

@@ -17,7 +17,7 @@ pub fn deliver(tables: &mut Tables, slot: usize, event: LocalEvent) -> Result<()
     let kind = event.kind;
     tk_inputs::deliver(
         tables.alloc,
-        &tables.screen.windows,
+        &tables.screen.shown().windows,
         &mut tables.inputs,
         &mut tables.queue,
         slot,

@@ -1,7 +1,8 @@
 //! Windows that are destroyed (destroy(n)).
 ghost use Rattle.std.specs.Prelude.{◌≡◌, IfOk, OnOk};
-ghost use Rattle.tk_panel.specs.Destroy.{all_dying, destroy_chosen, destroy_event, destroy_next, destroys, doomed_by, marked, next_doomed, removed, without_last};
+ghost use Rattle.tk_panel.specs.Destroy.{all_dying, all_dying_in, destroy_chosen, destroy_event, destroy_next, destroys, doomed_by, marked, next_doomed, removed, without_last};
 ghost use Rattle.tk_panel.specs.Panel.{LeavesOthers, panel_of};
+ghost use Rattle.tk_screen.specs.Own as screens;
 ghost use Rattle.tk_tree.specs.Change.{dying};
 ghost use Rattle.tk_tree.specs.Own.{own_of, window_at, with_change, LeavesOthers as LeavesWindows};
 
@@ -12,6 +13,7 @@ use std::alloc::AllocError;
 use tcl_text::Text;
 use tk_base::Win;
 use tk_events::{Event, EventKind, EventType};
+use tk_marks::MarkedScreen;
 use tk_tree::{Window, Windows};
 use tk_upcoming::{Numbers, Scripts};
 
@@ -44,11 +46,20 @@ fn mark_all(windows: &mut Windows, slot: usize, numbers: &[u64])
     }
 }
 
+/// So are these, on the screen.
+fn mark_shown(marked: &mut MarkedScreen, slot: usize, numbers: &[u64])
+    ensures own { screens.own_of slot marked.new ≡ all_dying_in numbers.now (screens.own_of slot marked.old) }
+    ensures others { screens.LeavesOthers slot marked.old marked.new }
+{
+    marked.marks.forget(slot);
+    mark_all(&mut marked.screen.windows, slot, numbers);
+}
+
 /// The windows that a path means to destroy: a window that isn't being destroyed already, and all below it, each behind its children.
 fn doomed_by(tables: &Tables, slot: usize, path: &Text) -> Result<Vec<u64>, AllocError>
     ensures { IfOk result (λ numbers. numbers.items ≡ doomed_by path.now (panel_of slot tables.now)) }
 {
-    let windows = &tables.screen.windows;
+    let windows = &tables.screen.shown().windows;
     let Some(win) = windows.find(slot, path.as_str()) else {
         return Ok(Vec::new(tables.alloc));
     };
@@ -65,7 +76,7 @@ fn doom(tables: &mut Tables, slot: usize, path: &Text) -> Result<Numbers, AllocE
     ensures others { LeavesOthers slot tables.old tables.new }
 {
     let numbers = doomed_by(tables, slot, path)?;
-    mark_all(&mut tables.screen.windows, slot, numbers.as_slice());
+    mark_shown(&mut tables.screen, slot, numbers.as_slice());
     Ok(Numbers::of(numbers))
 }
 
@@ -79,11 +90,11 @@ fn remove(tables: &mut Tables, slot: usize, number: u64) -> Result<(), AllocErro
         owner: slot,
         number,
     };
-    let Some(window) = tables.screen.windows.window(win) else {
+    let Some(window) = tables.screen.shown().windows.window(win) else {
         return Ok(());
     };
     let path = window.path.copy()?;
-    if tables.screen.windows.children(win).is_empty() {
+    if tables.screen.shown().windows.children(win).is_empty() {
         tables.screen.remove(win);
         tables.bindings.unbind_all(slot, path.as_str());
         tables.inputs.forget(slot, number);
@@ -110,7 +121,7 @@ fn choose_destroy(tables: &mut Tables, slot: usize, number: u64) -> Result<Scrip
     ensures others { LeavesOthers slot tables.old tables.new }
 {
     let moment = tables.clock.moment();
-    match tables.screen.windows.window(Win {
+    match tables.screen.shown().windows.window(Win {
         owner: slot,
         number,
     }) {

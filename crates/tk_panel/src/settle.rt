@@ -134,7 +134,7 @@ fn turn(
 pub fn is_closed(tables: &Tables, slot: usize) -> bool
     ensures { result ≡ is_closed (panel_of slot tables.now) }
 {
-    tables.screen.windows.find(slot, ".").is_none()
+    tables.screen.shown().windows.find(slot, ".").is_none()
 }
 
 /// The round of `update idletasks`, or layout where no idle script waits.

@@ -9,9 +9,9 @@ use tcl_cache::ScriptCache;
 use tk_after::Timers;
 use tk_dispatch::Histories;
 use tk_inputs::Inputs;
+use tk_marks::MarkedScreen;
 use tk_patterns::BindTable;
 use tk_queue::EventQueue;
-use tk_screen::Screen;
 use tk_virtual::VirtualTable;
 
 /// How many scripts that were read are kept for all applications.
@@ -22,7 +22,7 @@ const KEPT_SCRIPTS: usize = 256;
 pub struct Tables {
     pub alloc: Global,
     pub clock: Clock,
-    pub screen: Screen,
+    pub screen: MarkedScreen,
     pub bindings: BindTable,
     pub virtuals: VirtualTable,
     pub histories: Histories,
@@ -43,7 +43,7 @@ impl Tables {
         Ok(Tables {
             alloc,
             clock: Clock::new(),
-            screen: Screen::new(alloc),
+            screen: MarkedScreen::new(alloc),
             bindings: BindTable::new(alloc),
             virtuals: VirtualTable::new(alloc),
             histories: Histories::new(alloc)?,

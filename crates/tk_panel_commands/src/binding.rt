@@ -9,8 +9,8 @@ use crate::dispatch::generate;
 use crate::outcome::Outcome;
 use std::alloc::{AllocError, Global};
 use tcl_text::Text;
+use tk_marks::MarkedScreen;
 use tk_panel::{Answer, Tables};
-use tk_screen::Screen;
 
 /// A command on what events do.
 #[derive(Clone, Copy, Debug, PartialEq, Eq)]
@@ -71,7 +71,7 @@ fn bind(tables: &mut Tables, slot: usize, words: &[Text]) -> Result<Answer, Allo
 {
     tk_bind_commands::bind_command(
         tables.alloc,
-        &tables.screen.windows,
+        &tables.screen.shown().windows,
         &mut tables.bindings,
         slot,
         words,
@@ -81,14 +81,15 @@ fn bind(tables: &mut Tables, slot: usize, words: &[Text]) -> Result<Answer, Allo
 /// The command `bindtags` (bindtags(n)).
 fn bindtags(
     alloc: Global,
-    screen: &mut Screen,
+    marked: &mut MarkedScreen,
     slot: usize,
     words: &[Text],
 ) -> Result<Answer, AllocError>
-    ensures own { IfOk result (λ answer. (screens.own_of slot screen.new, answer) ≡ spec.tags_told words.now (screens.own_of slot screen.old)) }
-    ensures others { screens.LeavesOthers slot screen.old screen.new }
+    ensures own { IfOk result (λ answer. (screens.own_of slot marked.new, answer) ≡ spec.tags_told words.now (screens.own_of slot marked.old)) }
+    ensures others { screens.LeavesOthers slot marked.old marked.new }
 {
-    tk_bind_commands::bindtags_command(alloc, &mut screen.windows, slot, words)
+    marked.marks.forget(slot);
+    tk_bind_commands::bindtags_command(alloc, &mut marked.screen.windows, slot, words)
 }
 
 /// The command `event` (event(n)).
@@ -122,7 +123,7 @@ fn focus(tables: &mut Tables, slot: usize, words: &[Text]) -> Result<Answer, All
     let moment = tables.clock.moment();
     tk_inputs::focus_command(
         tables.alloc,
-        &tables.screen.windows,
+        &tables.screen.shown().windows,
         &mut tables.inputs,
         &mut tables.queue,
         slot,

@@ -1,17 +1,25 @@
 //! The commands that class bindings run.
 ghost use Rattle.std.specs.Prelude.{◌≡◌, IfOk};
 ghost use Rattle.tk_class_commands.specs.Commands as class_of;
+ghost use Rattle.tk_class_commands.specs.Outcomes as outcomes_of;
+ghost use Rattle.tk_inputs.specs.Deliver.{arrivals_of};
+ghost use Rattle.tk_inputs.specs.Inputs as inputs_of;
 ghost use Rattle.tk_panel.specs.Panel.{LeavesOthers, panel_of};
 ghost use Rattle.tk_panel_commands.specs.Class as spec;
 ghost use Rattle.tk_panel_commands.specs.Outcomes.{done, told};
+ghost use Rattle.tk_queue.specs.Queue as queue_of;
+ghost use Rattle.tk_screen.specs.Own as screens;
 
 use crate::dispatch::dispatch_selection;
 use crate::outcome::Outcome;
-use std::alloc::AllocError;
+use std::alloc::{AllocError, Global};
 use tcl_text::Text;
 use tcl_vars::Scopes;
 use tk_class_commands::{ClassCommand, ClassOutcome};
+use tk_inputs::Inputs;
+use tk_marks::MarkedScreen;
 use tk_panel::Tables;
+use tk_queue::EventQueue;
 
 /// What one does, from the words behind its name, at the moment.
 #[tactic(auto, unfolding(crate::specs::Class::class_told))]
@@ -43,11 +51,43 @@ fn class_command(
     ensures others { LeavesOthers slot tables.old tables.new }
 {
     let moment = tables.clock.moment();
-    tk_class_commands::class_command_done(
+    shown_command(
         tables.alloc,
         &mut tables.screen,
         &mut tables.inputs,
         &mut tables.queue,
+        scopes,
+        slot,
+        moment,
+        command,
+        words,
+    )
+}
+
+/// The same, on the screen with marks.
+fn shown_command(
+    alloc: Global,
+    marked: &mut MarkedScreen,
+    inputs: &mut Inputs,
+    queue: &mut EventQueue,
+    scopes: &mut Scopes,
+    slot: usize,
+    moment: u64,
+    command: ClassCommand,
+    words: &[Text],
+) -> Result<ClassOutcome, AllocError>
+    ensures own { IfOk result (λ outcome. outcomes_of.done (screens.own_of slot marked.new) (arrivals_of slot inputs.new queue.new) scopes.new outcome
+        ≡ class_of.class_command_done command words.now moment (screens.own_of slot marked.old) (arrivals_of slot inputs.old queue.old) scopes.old) }
+    ensures screen { screens.LeavesOthers slot marked.old marked.new }
+    ensures inputs { inputs_of.LeavesOthers slot inputs.old inputs.new }
+    ensures queue { queue_of.LeavesOthers slot queue.old queue.new }
+{
+    marked.marks.forget(slot);
+    tk_class_commands::class_command_done(
+        alloc,
+        &mut marked.screen,
+        inputs,
+        queue,
         scopes,
         slot,
         moment,

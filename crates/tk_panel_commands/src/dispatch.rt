@@ -35,7 +35,7 @@ pub fn generate(tables: &mut Tables, slot: usize, words: &[Text]) -> Result<Outc
 {
     let answer = generate_command(
         tables.alloc,
-        &tables.screen.windows,
+        &tables.screen.shown().windows,
         slot,
         tables.inputs.focus(slot),
         tables.queue.count(slot),
@@ -79,7 +79,13 @@ pub fn dispatch_selection(
     ensures others { LeavesOthers slot tables.old tables.new }
 {
     let moment = tables.clock.moment();
-    match selection_event(tables.alloc, &tables.screen.windows, slot, number, moment)? {
+    match selection_event(
+        tables.alloc,
+        &tables.screen.shown().windows,
+        slot,
+        number,
+        moment,
+    )? {
         Some(event) => dispatch(tables, slot, event),
         None => Ok(Outcome::Answers(Ok(short_text(tables.alloc, "")?))),
     }

@@ -3,11 +3,14 @@ ghost use Rattle.std.specs.Prelude.{◌≡◌, IfOk};
 ghost use Rattle.tk_panel.specs.Panel.{LeavesOthers, panel_of};
 ghost use Rattle.tk_panel_commands.specs.Outcomes.{done};
 ghost use Rattle.tk_panel_commands.specs.Path as spec;
+ghost use Rattle.tk_screen.specs.Own as screens;
+ghost use Rattle.tk_window_commands.specs.Path as path_of;
 
 use crate::outcome::Outcome;
-use std::alloc::AllocError;
+use std::alloc::{AllocError, Global};
 use tcl_text::Text;
 use tcl_vars::Scopes;
+use tk_marks::MarkedScreen;
 use tk_panel::Tables;
 use tk_widgets::WidgetAct;
 
@@ -23,15 +26,25 @@ pub fn path_command(
         ≡ spec.path_told path.now words.now (panel_of slot tables.old) scopes.old) }
     ensures others { LeavesOthers slot tables.old tables.new }
 {
-    let act = tk_window_commands::path_command(
-        tables.alloc,
-        &mut tables.screen,
-        scopes,
-        slot,
-        path,
-        words,
-    )?;
+    let act = act_of(tables.alloc, &mut tables.screen, scopes, slot, path, words)?;
     Ok(outcome_of(act))
+}
+
+/// What the window's widget tells.
+fn act_of(
+    alloc: Global,
+    marked: &mut MarkedScreen,
+    scopes: &mut Scopes,
+    slot: usize,
+    path: &Text,
+    words: &[Text],
+) -> Result<Option<WidgetAct>, AllocError>
+    ensures own { IfOk result (λ act. record { own = screens.own_of slot marked.new; store = scopes.new; act = act }
+        ≡ path_of.path_words path.now words.now (screens.own_of slot marked.old) scopes.old) }
+    ensures others { screens.LeavesOthers slot marked.old marked.new }
+{
+    marked.marks.forget(slot);
+    tk_window_commands::path_command(alloc, &mut marked.screen, scopes, slot, path, words)
 }
 
 /// What comes of it.

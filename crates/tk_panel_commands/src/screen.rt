@@ -4,14 +4,16 @@ ghost use Rattle.tk_panel.specs.Panel.{LeavesOthers, panel_of};
 ghost use Rattle.tk_panel_commands.specs.Outcomes.{done};
 ghost use Rattle.tk_panel_commands.specs.Screen as spec;
 ghost use Rattle.tk_screen.specs.Own as screens;
+ghost use Rattle.tk_window_commands.specs.Commands as windows_of;
 
 use crate::outcome::Outcome;
 use std::alloc::{AllocError, Global};
 use tcl_text::Text;
 use tcl_vars::Scopes;
+use tk_marks::MarkedScreen;
 use tk_panel::{Answer, Tables};
 use tk_screen::Screen;
-use tk_window_commands::{WindowCommand, window_command_done, window_command_named};
+use tk_window_commands::{WindowCommand, window_command_done, window_command_named, winfo_command};
 
 /// A command on what is on the screen.
 #[derive(Clone, Copy, Debug, PartialEq, Eq)]
@@ -49,7 +51,7 @@ pub fn screen_command_done(
 {
     match command {
         ScreenCommand::Window(command) => {
-            let answer = window_command_done(
+            let answer = window_command(
                 tables.alloc,
                 &mut tables.screen,
                 scopes,
@@ -66,8 +68,60 @@ pub fn screen_command_done(
     }
 }
 
+/// A command that makes a window, or `winfo` or `wm`; `winfo` changes nothing.
+#[tactic(auto, unfolding(tk_window_commands::specs::Commands::window_command_done))]
+fn window_command(
+    alloc: Global,
+    marked: &mut MarkedScreen,
+    scopes: &mut Scopes,
+    slot: usize,
+    command: WindowCommand,
+    words: &[Text],
+) -> Result<Answer, AllocError>
+    ensures own { IfOk result (λ answer. record { own = screens.own_of slot marked.new; store = scopes.new; answer = answer }
+        ≡ windows_of.window_command_done command words.now (screens.own_of slot marked.old) scopes.old) }
+    ensures others { screens.LeavesOthers slot marked.old marked.new }
+{
+    match command {
+        WindowCommand::Winfo => winfo_command(alloc, marked.shown(), scopes, slot, words),
+        WindowCommand::Make(_) | WindowCommand::Wm => {
+            changing_command(alloc, marked, scopes, slot, command, words)
+        }
+    }
+}
+
+/// One that may change something.
+fn changing_command(
+    alloc: Global,
+    marked: &mut MarkedScreen,
+    scopes: &mut Scopes,
+    slot: usize,
+    command: WindowCommand,
+    words: &[Text],
+) -> Result<Answer, AllocError>
+    ensures own { IfOk result (λ answer. record { own = screens.own_of slot marked.new; store = scopes.new; answer = answer }
+        ≡ windows_of.window_command_done command words.now (screens.own_of slot marked.old) scopes.old) }
+    ensures others { screens.LeavesOthers slot marked.old marked.new }
+{
+    marked.marks.forget(slot);
+    window_command_done(alloc, &mut marked.screen, scopes, slot, command, words)
+}
+
 /// The command `pack` (pack(n)).
 fn pack(
+    alloc: Global,
+    marked: &mut MarkedScreen,
+    slot: usize,
+    words: &[Text],
+) -> Result<Answer, AllocError>
+    ensures own { IfOk result (λ answer. (screens.own_of slot marked.new, answer) ≡ spec.pack_told words.now (screens.own_of slot marked.old)) }
+    ensures others { screens.LeavesOthers slot marked.old marked.new }
+{
+    marked.marks.forget(slot);
+    pack_windows(alloc, &mut marked.screen, slot, words)
+}
+
+fn pack_windows(
     alloc: Global,
     screen: &mut Screen,
     slot: usize,

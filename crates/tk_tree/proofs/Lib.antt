@@ -7,6 +7,7 @@ pub mod Looks
 pub mod Orders
 pub mod PathLemmas
 pub mod Points
+pub mod Rising
 pub mod Slots
 pub mod Ways
 mod IndexLemmas

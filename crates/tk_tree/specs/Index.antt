@@ -2,6 +2,7 @@
 use Rattle.std.specs.Prelude.{◌≡◌, ◌≢◌, ℕ, List, [], ◌∷◌, ◌++◌, ◌==◌, not, filter, Option, None, Some, nat_eq, option_and_then, if◌then◌else◌}
 use Rattle.std.specs.Option.{option_map_or}
 use Rattle.std.specs.HashMap.{get, get_by_text}
+use Rattle.tk_bag.specs.Bag.{IsRising}
 use Rattle.tk_tree.specs.declared.index.Row.{Row}
 use Rattle.tk_tree.specs.declared.index.Index.{Index}
 
@@ -15,6 +16,10 @@ row_number row path = get_by_text row.numbers path
 -- the numbers of the children of the window with a number
 abbrev pub row_children : Row → ℕ → List ℕ
 row_children row number = option_map_or (λ list. list.items) (get nat_eq row.children number) []
+
+-- each number is above the one before it
+abbrev pub AreRising : List ℕ → Type 0
+AreRising numbers = IsRising (λ n. n) numbers
 
 -- what a new child adds to the children of each number
 abbrev pub added_child : Option ℕ → ℕ → ℕ → List ℕ

@@ -1,9 +1,11 @@
 //! Where the windows stand in the arena, by application and number, and which number a path has.
 ghost use Rattle.std.specs.Prelude.{◌≡◌, ◌≢◌, ◌==◌, not, filter, ℕ, List, None, Some, IsSome, nat_eq, OnOk, OnErr};
 ghost use Rattle.std.specs.HashMap.{get};
+ghost use Rattle.tk_tree.specs.Index.{AreRising};
 
 use std::alloc::{AllocError, Global};
 use std::collections::HashMap;
+use tk_siblings::Siblings;
 
 /// The windows of one application: the arena's key of each number, the number of each path, and the children
 /// of each window in the order of creation.
@@ -11,7 +13,7 @@ use std::collections::HashMap;
 pub struct Row {
     keys: HashMap<u64, usize>,
     numbers: HashMap<String, u64>,
-    children: HashMap<u64, Vec<u64>>,
+    children: HashMap<u64, Siblings<u64>>,
     alloc: Global,
 }
 
@@ -23,7 +25,7 @@ pub struct Index {
 }
 
 impl Row {
-    ghost use Rattle.tk_tree.specs.Index.{row_key, row_number, RowNames, RowForgets, RowChild, RowChildless, RowAdds, RowRemoves, SameRow, IsEmptyRow};
+    ghost use Rattle.tk_tree.specs.Index.{row_key, row_number, row_children, RowNames, RowForgets, RowChild, RowChildless, RowAdds, RowRemoves, SameRow, IsEmptyRow};
 
     fn new(alloc: Global) -> Row
         ensures { IsEmptyRow result }
@@ -61,6 +63,7 @@ impl Row {
 
     /// Takes a window out.
     fn remove(&mut self, path: &str, number: u64, parent: Option<u64>)
+        requires { (n : ℕ) → AreRising (row_children self.old n) }
         ensures { RowRemoves self.old self.new path.now number parent }
     {
         self.forget_names(path, number);
@@ -99,13 +102,15 @@ impl Row {
         ensures err { OnErr result (SameRow self.old self.new) }
     {
         if let Some(parent) = parent {
-            self.children.entry(parent)?.or_default().push(number)?;
+            let fresh = Siblings::new(self.alloc);
+            self.children.entry(parent)?.or_insert(fresh).push(number)?;
         }
         Ok(())
     }
 
     /// Takes a child from its parent, and forgets the child's own children.
     fn remove_child(&mut self, number: u64, parent: Option<u64>)
+        requires { (n : ℕ) → AreRising (row_children self.old n) }
         ensures { RowChildless self.old self.new number parent }
     {
         self.children.remove(&number);
@@ -117,11 +122,14 @@ impl Row {
     }
 }
 
-/// Takes a number out of a list.
-fn take_out(list: &mut Vec<u64>, number: u64)
+/// Takes a number out of a rising list.
+fn take_out(list: &mut Siblings<u64>, number: u64)
+    requires { AreRising list.old.items }
     ensures { list.new.items ≡ filter (λ other. not (other == number)) list.old.items }
 {
-    list.retain(|other| *other != number);
+    if let Ok(place) = list.as_slice().binary_search(&number) {
+        list.remove(place);
+    }
 }
 
 impl Index {
@@ -200,6 +208,7 @@ impl Index {
 
     /// Takes a window out that has no children.
     pub fn remove(&mut self, owner: usize, path: &str, number: u64, parent: Option<u64>)
+        requires { (n : ℕ) → AreRising (children_at self.old owner n) }
         ensures { Removes self.old self.new owner path.now number parent }
     {
         if let Some(row) = self.rows.get_mut(&owner) {

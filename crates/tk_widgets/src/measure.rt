@@ -2,6 +2,7 @@
 ghost use Rattle.std.specs.Prelude.{◌≡◌, ◌+◌, ◌*◌, ◌<◌, ◌≤◌, [], ◌∷◌, length, MatchOption, IfSome};
 ghost use Rattle.tk_widgets.specs.Lines.{lines_in, columns_in, widest};
 
+use memchr::memchr;
 use unicode_width::UnicodeWidthStr;
 
 /// The columns of the widest line, and how many lines there are. The empty text is one line without columns.
@@ -29,7 +30,8 @@ fn cut_line(text: &str) -> Option<(&str, &str)>
         (λ parts. lines_in text.now ≡ parts.0.now ∷ lines_in parts.1.now) }
     ensures shorter { IfSome result (λ parts. length parts.0.now + length parts.1.now < length text.now) }
 {
-    text.split_once('\n')
+    let place = memchr(b'\n', text.as_bytes())?;
+    Some((&text[..place], &text[place + 1..]))
 }
 
 /// The columns of a line.

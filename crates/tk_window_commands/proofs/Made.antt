@@ -2,11 +2,13 @@
 use Rattle.std.proofs.Common.{◌≡◌, ℕ, List, Option, refl, sym, ap, ◌∙◌, subst}
 use Rattle.std.specs.Prelude.{Result, Ok, Err}
 use Rattle.tcl_commands.specs.Done.{Steps}
+use Rattle.tcl_text.specs.Answers.{Gives, bounded}
 use Rattle.tcl_text.specs.declared.commands.answers.Refusal.{Refusal}
 use Rattle.tcl_text.specs.declared.commands.answers.Refusal.TheVariants.{Error, NoMemory}
 use Rattle.tcl_vars.specs.Store.{Store}
 use Rattle.tk_base.specs.declared.kind.Kind.{Kind}
 use Rattle.tk_base.specs.declared.kind.Kind.TheVariants.{Frame, Label, Button, Entry, Listbox}
+use Rattle.tk_options.specs.FaultTexts.{fault_text}
 use Rattle.tk_options.specs.declared.fault.OptionFault.{OptionFault}
 use Rattle.tk_options.specs.declared.settings.Setting.{Setting}
 use Rattle.tk_options.specs.Options.{settings, with_settings}
@@ -20,7 +22,7 @@ use Rattle.tk_widgets.specs.declared.outcome.WidgetAct.{WidgetAct}
 use Rattle.tk_widgets.specs.declared.widget.Widget.{Widget}
 use Rattle.tk_widgets.specs.Outcomes.{or_fault}
 use Rattle.tk_widgets.specs.Sizes.{new_widget}
-use Rattle.tk_window_commands.specs.Answers.{Done, Does}
+use Rattle.tk_window_commands.specs.Answers.{Done, Does, keeps}
 use Rattle.tk_window_commands.specs.Create.{made_after, made_with}
 
 options_new : (kind : Kind) → options_in (new_widget kind) ≡ options_of kind
@@ -37,6 +39,21 @@ ok_settings (Err fault) all is = absurd (cc)
 pub given_ok : (kind : Kind) (widget : Widget) (options : List (List ℕ)) (all : List Setting) → widget ≡ new_widget kind → or_fault (settings options (options_in widget)) ≡ Ok all → settings options (options_of kind) ≡ Ok all
 given_ok kind widget options all new is =
     ap (settings options) (sym (options_new kind) ∙ ap options_in (sym new)) ∙ ok_settings (settings options (options_in widget)) all is
+
+fault_told : (refusal : Refusal) (own : Own) (kind : Kind) (path : List ℕ) (store : Store) (given : Result (List Setting) OptionFault)
+    → Gives {T = List Setting} (Err refusal) (or_fault given) → Does (Err refusal) own store (made_with kind path own store given)
+fault_told NoMemory own kind path store given gives = tt
+fault_told (Error message) own kind path store (Ok all) gives = absurd (cc)
+fault_told (Error message) own kind path store (Err fault) gives =
+    let told : bounded (fault_text fault) ≡ message = cc in
+    ap (λ text. keeps own store (Err text)) told
+
+-- options that are refused leave all as it was
+pub given_refused : (refusal : Refusal) (own : Own) (kind : Kind) (path : List ℕ) (store : Store) (widget : Widget) (options : List (List ℕ)) → widget ≡ new_widget kind
+    → Gives {T = List Setting} (Err refusal) (or_fault (settings options (options_in widget))) → Does (Err refusal) own store (made_with kind path own store (settings options (options_of kind)))
+given_refused refusal own kind path store widget options new gives =
+    let same : settings options (options_in widget) ≡ settings options (options_of kind) = ap (settings options) (ap options_in new ∙ options_new kind) in
+    fault_told refusal own kind path store (settings options (options_of kind)) (subst (λ given. Gives {T = List Setting} (Err refusal) (or_fault given)) same gives)
 
 not_written : (refusal : Refusal) (own : Own) (kind : Kind) (path : List ℕ) (all : List Setting) (store new : Store) (wanted : Result Store (List ℕ)) → Steps {U = Unit {0}} (Err refusal) store new wanted
     → Does (Err refusal) own new (made_after kind path all own store wanted)

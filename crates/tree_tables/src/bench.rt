@@ -139,10 +139,97 @@ fn round(rt: &(impl Print + AllocGlobal + Clock), count: usize) -> Result<()> {
     Ok(())
 }
 
+/// How the slaves of one master stand, which are destroyed in the order of creation.
+#[derive(Clone, Copy, PartialEq, Eq)]
+enum Order {
+    /// The first to go is the first.
+    Forward,
+    /// The first to go is the last.
+    Reverse,
+    /// The first to go stands in the middle, and so does the next one then.
+    Middle,
+}
+
+impl Order {
+    fn name(self) -> &'static str {
+        match self {
+            Order::Forward => "in order",
+            Order::Reverse => "in reverse",
+            Order::Middle => "from the middle",
+        }
+    }
+
+    /// At which place a window is put behind those that were put before it.
+    fn place(self, number: u64) -> usize {
+        if self == Order::Middle && number % 2 == 0 {
+            0
+        } else {
+            usize::MAX
+        }
+    }
+}
+
+/// Makes the main window of an application and windows in it, and packs these in an order.
+fn make_slaves(
+    alloc: Global,
+    tables: &mut Tables,
+    owner: usize,
+    count: usize,
+    order: Order,
+) -> Result<()> {
+    let main = create(alloc, tables, owner, None, ".")?;
+    let mut numbers = Vec::new(alloc);
+    for index in 1..count {
+        let path = format!(in alloc; ".w{index}")?;
+        numbers.push(create(alloc, tables, owner, None, path.as_str())?)?;
+    }
+    if order == Order::Reverse {
+        numbers.reverse();
+    }
+    for number in &numbers {
+        let win = Win {
+            owner,
+            number: *number,
+        };
+        tables
+            .packs
+            .put(main, win, order.place(*number), Request::new(10, 10))?;
+    }
+    Ok(())
+}
+
+/// Makes as many slaves of one master in each application, and destroys them.
+fn slaves_round(rt: &(impl Print + AllocGlobal + Clock), count: usize, order: Order) -> Result<()> {
+    let alloc = rt.alloc();
+    let mut tables = Tables {
+        windows: Windows::new(alloc),
+        packs: PackTable::new(alloc),
+    };
+    for owner in 0..APPLICATIONS {
+        make_slaves(alloc, &mut tables, owner, count, order)?;
+    }
+    let start = Instant::now(rt)?;
+    for owner in 0..APPLICATIONS {
+        destroy(&mut tables, owner)?;
+    }
+    let gone = start.elapsed(rt)?;
+    println!(rt;
+        "{count} windows in each of {APPLICATIONS}, slaves of one master {}: destroyed in {} us",
+        order.name(),
+        gone.as_micros()
+    )?;
+    Ok(())
+}
+
 /// Tells how long it takes as the number of windows grows.
 pub fn run(rt: &(impl Print + AllocGlobal + Clock)) -> Result<()> {
     for count in [8, 64, 512] {
         round(rt, count)?;
+    }
+    for order in [Order::Forward, Order::Reverse, Order::Middle] {
+        for count in [8, 64, 512] {
+            slaves_round(rt, count, order)?;
+        }
     }
     Ok(())
 }

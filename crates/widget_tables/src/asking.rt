@@ -7,7 +7,7 @@ use tcl_text::{Text, TextList};
 use tcl_vars::{ReadFault, Scopes};
 use tk_base::Kind;
 use tk_entry::Move;
-use tk_widgets::{Asked, Step, VariableWrite, Widget, WidgetAct};
+use tk_widgets::{Asked, Button, Step, VariableWrite, Widget, WidgetAct};
 
 /// A widget, the variables, and the relief of a pressed button.
 #[derive(Drop)]
@@ -186,25 +186,33 @@ fn size_told(alloc: Global, session: &Session) -> Result<WidgetAct> {
     told(alloc, size.as_str())
 }
 
+/// The widget, where it is a button.
+fn button_of(widget: &mut Widget) -> Result<&mut Button> {
+    match widget {
+        Widget::Button(button) => Ok(button),
+        _ => bail!("no button"),
+    }
+}
+
 /// What the pointer does to a button.
 fn button_told(alloc: Global, session: &mut Session, what: &str) -> Result<WidgetAct> {
-    let Widget::Button(button) = &mut session.widget else {
-        bail!("no button");
-    };
     match what {
         "down" => {
-            session.saved = button.press(alloc)?;
-            let saved = session.saved.as_ref().map_or("", |relief| relief.as_str());
-            told(alloc, saved)
+            session.saved = button_of(&mut session.widget)?.press(alloc)?;
+            match &session.saved {
+                Some(relief) => told(alloc, relief.as_str()),
+                None => told(alloc, ""),
+            }
         }
         "up" => {
-            if let Some(relief) = session.saved.take() {
-                button.put_relief(relief);
+            let saved = session.saved.take();
+            if let Some(relief) = saved {
+                button_of(&mut session.widget)?.put_relief(relief);
             }
             told(alloc, "")
         }
         _ => {
-            button.sink(alloc)?;
+            button_of(&mut session.widget)?.sink(alloc)?;
             told(alloc, "")
         }
     }

@@ -6,7 +6,7 @@ use Rattle.tk_options.proofs.table.settings_in.Goals as goal
 
 pub loop-word-preserved : goal.loop-word-preserved
 loop-word-preserved c =
-    let table = c.args.entries.now in
+    let table = c.args.table.now in
     let cut : c.loop-word.rest.now ≡ c.in-Some.word.now ∷ c.in-Some.others.now = c.in-Some.ensures.cases.0 in
     let cut_again : c.in-Some.others.now ≡ c.in-Some-split_first.value.now ∷ c.in-Some-split_first.others.now = c.in-Some-split_first.ensures.cases.0 in
     let first : tested c.in-Some.word.now c.in-Some-split_first.value.now table ≡ Ok c.in_ok-tested.field-0 = c.in_ok-tested.ensures.ok in

@@ -5,8 +5,14 @@ use Rattle.tk_options.specs.Rows.{options_of}
 use Rattle.tk_screen.specs.Own.{own_of}
 use Rattle.tk_widgets.specs.Commands.{variable_write}
 use Rattle.tk_widgets.specs.declared.outcome.Change.TheVariants.{Configure}
-use Rattle.tk_window_commands.proofs.Made.{given_ok, window_made, write_refused}
+use Rattle.tk_window_commands.proofs.Made.{given_ok, given_refused, window_made, write_refused}
 use Rattle.tk_window_commands.proofs.create.make.Goals as goal
+
+pub returns-in_err-all-clause-own : goal.returns-in_err-all-clause-own
+returns-in_err-all-clause-own c =
+    let p = err_from_is_err_and c.from_residual-in_err-all.result c.from_residual-in_err-all.ensures.1 in
+    rw (p.1, p.2) (given_refused c.in_err-all.field-0.0 (own_of c.args.slot c.args.screen.now) c.args.kind c.args.path.now c.args.scopes.now c.in_ok-widget.widget c.args.options.now
+    c.in_ok-widget.ensures c.in_err-all.ensures)
 
 pub returns-in_err-write_variable-clause-own : goal.returns-in_err-write_variable-clause-own
 returns-in_err-write_variable-clause-own c =

@@ -1,25 +1,32 @@
-use Rattle.std.proofs.Common.{◌≡◌, ℕ, List, set, Some, None, sym, ap, ◌∙◌}
-use Rattle.std.specs.Prelude.{position}
+use Rattle.std.proofs.Common.{ℕ, List, bytes_eq, Bor, Bool, sym, ap, subst, ◌∙◌}
+use Rattle.std.specs.Map.{set_value}
+use Rattle.tk_options.specs.Entries.{options_in, AreUnderTheirNames}
 use Rattle.tk_options.specs.Names.{name_of}
 use Rattle.tk_options.specs.Options.{is_named, first_set}
-use Rattle.tk_options.proofs.SettingLemmas.{set_at, set_nowhere}
+use Rattle.tk_options.proofs.Entries.{Named, named-written, not-found}
 use Rattle.tk_options.proofs.table.OptionTable.put.Goals as goal
 
-pub returns-in-Some : goal.returns-in-Some
-returns-in-Some c =
-    let items = c.self.inside.entries.items in
-    let test = is_named (name_of c.args.option) in
-    let at : position test items ≡ Some c.in-Some.place =
-    ap (λ (w : List ℕ). position (is_named w) items) (sym c.name.ensures) ∙ ap (position (is_named c.name.result.now)) (sym c.deref.ensures.value)
-    ∙ sym c.place_named.ensures ∙ c.in-Some.is in
-    ap (set items c.in-Some.place) c.set_value.ensures ∙ set_at test c.args.value items c.in-Some.place c.index_mut.result.now at c.index_mut.ensures.value
-    ∙ ap (first_set test c.args.value) c.self.view_is
+pub invariant_of-self-2 : goal.invariant_of-self-2
+invariant_of-self-2 c =
+    let es : Named = c.self.inside.entries.entries in
+    let test : Bor (List ℕ) → Bool = λ k. bytes_eq c.name.result.now k.now in
+    let written = (c.get_mut.follows.holds c.set_value.new.entry).0 ∙ ap (set_value test es) c.set_value.ensures in
+    subst AreUnderTheirNames (sym written) (named-written c.name.result.now c.args.value c.in-Some.entry.now es c.self.invariant (sym c.in-Some.ensures.value)).0
+
+pub returns : goal.returns
+returns c =
+    let es : Named = c.self.inside.entries.entries in
+    let test : Bor (List ℕ) → Bool = λ k. bytes_eq c.name.result.now k.now in
+    let written = (c.get_mut.follows.holds c.set_value.new.entry).0 ∙ ap (set_value test es) c.set_value.ensures in
+    ap options_in written
+    ∙ (named-written c.name.result.now c.args.value c.in-Some.entry.now es c.self.invariant (sym c.in-Some.ensures.value)).1
+    ∙ ap (λ (name : List ℕ). first_set (is_named name) c.args.value (options_in es)) c.name.ensures
+    ∙ ap (first_set (is_named (name_of c.args.option)) c.args.value) c.self.view_is
 
 pub returns-in_default : goal.returns-in_default
 returns-in_default c =
-    let items = c.self.inside.entries.items in
-    let test = is_named (name_of c.args.option) in
-    let none : position test items ≡ None =
-    ap (λ (w : List ℕ). position (is_named w) items) (sym c.name.ensures) ∙ ap (position (is_named c.name.result.now)) (sym c.deref.ensures.value)
-    ∙ sym c.place_named.ensures ∙ c.in_default.is in
-    sym c.self.view_is ∙ set_nowhere test c.args.value items none ∙ ap (first_set test c.args.value) c.self.view_is
+    let es : Named = c.self.inside.entries.entries in
+    ap (λ m. options_in m.entries) c.get_mut.follows.holds-at-none
+    ∙ not-found c.name.result.now c.args.value es c.self.invariant (sym c.in_default.ensures.value)
+    ∙ ap (λ (name : List ℕ). first_set (is_named name) c.args.value (options_in es)) c.name.ensures
+    ∙ ap (first_set (is_named (name_of c.args.option)) c.args.value) c.self.view_is

@@ -5,7 +5,13 @@ use Rattle.tk_tree.specs.Own.{own_of, at_path, is_full}
 use Rattle.tk_tree.specs.Window.{number_of}
 use Rattle.tk_tree.proofs.Added.{inserted, undone}
 use Rattle.tk_tree.proofs.Looks.{number_is, next_unused}
+use Rattle.tk_tree.proofs.Rising.{adds_rising}
 use Rattle.tk_tree.proofs.windows.Windows.insert.Goals as goal
+
+pub remove-requires : goal.remove-requires
+remove-requires c =
+    adds_rising c.self.inside.index c.self.inside.slab.slots c.self.inside.counters.entries c.args.owner c.self.invariant
+    c.add.new.self c.vacant_key-key.result c.counter_of-number.result.next c.as_str.result.now c.args.parent c.in_ok-add.ensures.ok c.counter_of-number.ensures.next
 
 pub add-requires-clause-number : goal.add-requires-clause-number
 add-requires-clause-number c = next_unused c.self.inside.index c.self.inside.slab.slots c.self.inside.counters.entries c.self.invariant c.args.owner c.counter_of-number.result.next c.counter_of-number.ensures.next

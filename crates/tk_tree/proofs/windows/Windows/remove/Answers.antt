@@ -2,7 +2,11 @@ use Rattle.std.proofs.Common.{◌≡◌, IsSome, sym, ap, ◌∙◌, subst, []}
 use Rattle.tk_tree.specs.Own.{own_of, window_at, without_window, child_numbers}
 use Rattle.tk_tree.proofs.Changed.{gone}
 use Rattle.tk_tree.proofs.Looks.{key_held, key_there}
+use Rattle.tk_tree.proofs.Rising.{kept_rising}
 use Rattle.tk_tree.proofs.windows.Windows.remove.Goals as goal
+
+pub remove-requires : goal.remove-requires
+remove-requires c = kept_rising c.self.inside.index c.self.inside.slab.slots c.self.inside.counters.entries c.args.win.owner c.self.invariant
 
 pub unreachable-requires : goal.unreachable-requires
 unreachable-requires c =

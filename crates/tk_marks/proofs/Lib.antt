@@ -1,0 +1,3 @@
+-- Lemmas.
+pub mod SameTexts
+pub mod Settled

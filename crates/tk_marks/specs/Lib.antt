@@ -1,0 +1,4 @@
+-- What the contracts cite.
+pub mod Marks
+pub mod Reads
+pub mod Settled

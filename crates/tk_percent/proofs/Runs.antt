@@ -56,8 +56,8 @@ pub parts_cut : (event : Event) (text : List ℕ) (place : ℕ) (run behind : Li
     → run ≡ take place text → behind ≡ drop (place + 1) text → substituted_from event false text ≡ run ++ substituted_from event true behind
 parts_cut event text place run behind found front rest =
     let before : (k : ℕ) → k < length (take place text) → get_or (take place text) k 0 ≢ 37 = λ k lt.
-        let below : k < place = omega (arith, length-take place text, lt) in
-        rw (get_or-take place text k 0 below) (another (get_or text k 0) (found.0.before k (omega arith) below)) in
+    let below : k < place = omega (arith, length-take place text, lt) in
+    rw (get_or-take place text k 0 below) (another (get_or text k 0) (found.0.before k (omega arith) below)) in
     let cut : drop place text ≡ 37 ∷ drop (place + 1) text = drop_more text place 0 found.0.high ∙ ap (λ (byte : ℕ). byte ∷ drop (place + 1) text) (found_here text place found) in
     rw (front, rest)
     (ap (substituted_from event false) (sym (take-append-drop place text) ∙ ap (λ (bytes : List ℕ). take place text ++ bytes) cut) ∙ run_first event (take place text) (drop (place + 1) text) before)

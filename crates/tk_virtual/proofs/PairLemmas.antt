@@ -1,7 +1,8 @@
 -- Lists of pairs, of which some are added and some taken out.
-use Rattle.std.proofs.Common.{◌≡◌, ℕ, suc, ◌+◌, ◌-◌, ◌<◌, ◌≤◌, Bool, true, false, cond, ◌||◌, not, nat_le, Ok, Err, List, [], ◌∷◌, ◌++◌, length, length-append, take, drop, get_or, refl, sym, ap, ◌∙◌, arith, inl, inr}
+use Rattle.std.proofs.Common.{◌≡◌, ℕ, suc, ◌+◌, ◌-◌, ◌<◌, ◌≤◌, Bool, true, false, cond, ◌||◌, not, nat_le, Ok, Err, Option, Some, None, IsSome, List, [], ◌∷◌, ◌++◌, append-nil, length, length-append, take, drop, get_or, refl, sym, ap, ◌∙◌, arith, inl, inr}
 use Rattle.std.specs.Prelude.{filter}
 use Rattle.std.specs.List.{list_any}
+use Rattle.std.specs.Option.{option_to_list}
 use Rattle.std.specs.Set.{remove_key}
 use Rattle.std.proofs.lemmas.Bool.{cases_Bool}
 use Rattle.std.proofs.lemmas.Bool.Decides.{nat_tests}
@@ -47,6 +48,16 @@ pub but_last : (pair : Pair) (old new : List Pair) → old ≡ new ++ pair ∷ [
 but_last pair old new is =
     let count : length old - 1 ≡ length new = omega (arith, ap length is, length-append new (pair ∷ [])) in
     sym (ap (λ n. take n old) count ∙ ap (take (length new)) is ∙ take-append_seam new (pair ∷ []))
+
+-- the last is taken out again
+pub popped : (pair : Pair) (old whole new : List Pair) (last : Option Pair) → whole ≡ old ++ pair ∷ [] → whole ≡ new ++ option_to_list last → IsSome last → new ≡ old
+popped pair old whole new None is cut some = absurd some
+popped pair old whole new (Some other) is cut some = but_last other whole new cut ∙ sym (but_last pair whole old is)
+
+-- there is no last
+pub none_last : (old new : List Pair) → old ≡ new ++ [] → (0 < length old → ⊥) → new ≡ take (length old - 1) old
+none_last [] new is none = sym (append-nil new) ∙ sym is
+none_last (pair ∷ old) new is none = absurd (none (omega arith))
 
 -- ---- one more pair
 

@@ -1,6 +1,5 @@
--- When two pairs are the same, and what of it is hashed.
-use Rattle.std.proofs.Common.{◌≡◌, Bool, true, false, ◌&&◌, ◌++◌, refl, sym, ap, ◌∙◌}
-use Rattle.std.specs.Hash as fed
+-- When two pairs are the same.
+use Rattle.std.proofs.Common.{◌≡◌, Bool, true, false, ◌&&◌, refl}
 use Rattle.std.specs.Str.{bytes_eq}
 use Rattle.std.proofs.lemmas.Slice.Eq.{bytes_eq-Decides}
 use Rattle.tk_virtual.specs.Virtual.{is_same}
@@ -17,7 +16,3 @@ same_parts wanted pair same = by (bytes_eq pair.name wanted.name) (bytes_eq pair
 -- a pair is the same as itself
 pub same_itself : (pair : Pair) → is_same pair pair ≡ true
 same_itself pair = rw ((bytes_eq-Decides pair.name pair.name).1 refl, (bytes_eq-Decides pair.written pair.written).1 refl) refl
-
--- the same pairs are hashed alike
-pub same_input : (x y : Pair) → is_same x y ≡ true → fed.str x.name ++ fed.str x.written ≡ fed.str y.name ++ fed.str y.written
-same_input x y same = let parts = same_parts x y same in rw (parts.0, parts.1) refl

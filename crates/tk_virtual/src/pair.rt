@@ -123,12 +123,17 @@ impl Eq for Pair {
 
 impl Hash for Pair {
     ghost use Rattle.std.specs.Prelude.{◌++◌};
+    ghost use Rattle.std.specs.Cmp.{first_so, second_so};
+    ghost use Rattle.std.specs.Cmp.Lexicographic.{bytes_decides};
     ghost use Rattle.std.specs.Hash as fed;
-    ghost use Rattle.tk_virtual.proofs.SameLemmas.{same_input};
+    ghost use Rattle.std.specs.Str.{bytes_eq};
+    ghost use Rattle.std.proofs.Common.{sym};
 
     ghost hash_input = { λ x. fed.str x.name ++ fed.str x.written };
 
-    ghost respects_eq = { same_input };
+    ghost respects_eq = { λ x y h i.
+        fed.str (sym ((bytes_decides y.name x.name).0 (first_so (bytes_eq y.name x.name) (bytes_eq y.written x.written) h)) i)
+        ++ fed.str (sym ((bytes_decides y.written x.written).0 (second_so (bytes_eq y.name x.name) (bytes_eq y.written x.written) h)) i) };
 
     fn hash<H: Hasher>(&self, state: &mut H) {
         self.name.as_str().hash(state);

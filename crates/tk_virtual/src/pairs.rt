@@ -1,8 +1,7 @@
 //! The pairs of one application.
-ghost use Rattle.std.specs.Prelude.{◌≡◌, ◌≢◌, ◌-◌, not, [], length, take, map, filter, fold, IfOk, IfErr, OnOk, OnErr, Ok, Err};
+ghost use Rattle.std.specs.Prelude.{◌≡◌, ◌≢◌, ◌-◌, false, [], ◌∷◌, ◌++◌, length, take, map, filter, IfOk, IfErr, OnOk, OnErr, Ok, Err};
 ghost use Rattle.std.specs.List.{list_any};
 ghost use Rattle.std.specs.Str.{bytes_eq};
-ghost use Rattle.tk_sequences.specs.Reading.{in_brackets};
 ghost use Rattle.tk_virtual.specs.Virtual.{added, all_added, has_name, is_same, names_of, with_name, with_pair, without_name, without_pair, written_names, written_of};
 
 use crate::fault::VirtualFault;

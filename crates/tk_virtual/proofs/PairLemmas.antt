@@ -3,7 +3,7 @@ use Rattle.std.proofs.Common.{◌≡◌, ℕ, suc, ◌+◌, ◌-◌, ◌<◌, �
 use Rattle.std.specs.Prelude.{filter}
 use Rattle.std.specs.List.{list_any}
 use Rattle.std.specs.Option.{option_to_list}
-use Rattle.std.specs.Set.{remove_key}
+use Rattle.indexmap.specs.IndexSet.{insert_key, remove_key}
 use Rattle.std.proofs.lemmas.Bool.{cases_Bool}
 use Rattle.std.proofs.lemmas.Bool.Decides.{nat_tests}
 use Rattle.std.proofs.lemmas.List.{at_drop_more, take-append-le, take-append-drop, length-take}
@@ -14,6 +14,16 @@ use Rattle.tk_virtual.specs.declared.pair.Pair.{Pair}
 use Rattle.tk_virtual.proofs.SameLemmas.{same_itself}
 
 -- ---- one that is taken out
+
+-- none passes, so all stay
+pub untouched : (test : Pair → Bool) (pairs : List Pair) → list_any test pairs ≡ false → filter (λ pair. not (test pair)) pairs ≡ pairs
+untouched test [] none = refl
+untouched test (pair ∷ pairs) none = by (test pair) none (untouched test pairs)
+  where
+    by : (t : Bool) → (t || list_any test pairs) ≡ false → (list_any test pairs ≡ false → filter (λ pair. not (test pair)) pairs ≡ pairs)
+        → cond (not t) (pair ∷ filter (λ pair. not (test pair)) pairs) (filter (λ pair. not (test pair)) pairs) ≡ pair ∷ pairs
+    by true none rest = absurd (cc)
+    by false none rest = ap (λ (l : List Pair). pair ∷ l) (rest none)
 
 -- where no other passes, the first that does is all that does
 pub removed : (test : Pair → Bool) (pairs : List Pair) → list_any test (remove_key test pairs) ≡ false → remove_key test pairs ≡ filter (λ pair. not (test pair)) pairs
@@ -26,23 +36,15 @@ removed test (pair ∷ pairs) none = by (test pair) refl none (removed test pair
     by true is none rest = sym (untouched test pairs none)
     by false is none rest = ap (λ (l : List Pair). pair ∷ l) (rest (sym (ap (λ t. t || list_any test (remove_key test pairs)) is) ∙ none))
 
--- none passes, so all stay
-pub untouched : (test : Pair → Bool) (pairs : List Pair) → list_any test pairs ≡ false → filter (λ pair. not (test pair)) pairs ≡ pairs
-untouched test [] none = refl
-untouched test (pair ∷ pairs) none = by (test pair) refl none
-  where
-    by : (t : Bool) → test pair ≡ t → (t || list_any test pairs) ≡ false → cond (not t) (pair ∷ filter (λ pair. not (test pair)) pairs) (filter (λ pair. not (test pair)) pairs) ≡ pair ∷ pairs
-    by true is none = absurd (cc)
-    by false is none = ap (λ (l : List Pair). pair ∷ l) (untouched test pairs none)
-
 -- the last of them, which stands nowhere else
 pub without_last : (pair : Pair) (pairs : List Pair) → list_any (is_same pair) pairs ≡ false → without_pair pair (pairs ++ pair ∷ []) ≡ pairs
-without_last pair [] none = rw (same_itself pair) refl
-without_last pair (other ∷ pairs) none = by (is_same pair other) refl none
+without_last pair [] none = ap (λ t. cond (not t) (pair ∷ []) []) (same_itself pair)
+without_last pair (other ∷ pairs) none = by (is_same pair other) none (without_last pair pairs)
   where
-    by : (t : Bool) → is_same pair other ≡ t → (t || list_any (is_same pair) pairs) ≡ false → cond (not t) (other ∷ without_pair pair (pairs ++ pair ∷ [])) (without_pair pair (pairs ++ pair ∷ [])) ≡ other ∷ pairs
-    by true is none = absurd (cc)
-    by false is none = ap (λ (l : List Pair). other ∷ l) (without_last pair pairs none)
+    by : (t : Bool) → (t || list_any (is_same pair) pairs) ≡ false → (list_any (is_same pair) pairs ≡ false → without_pair pair (pairs ++ pair ∷ []) ≡ pairs)
+        → cond (not t) (other ∷ without_pair pair (pairs ++ pair ∷ [])) (without_pair pair (pairs ++ pair ∷ [])) ≡ other ∷ pairs
+    by true none rest = absurd (cc)
+    by false none rest = ap (λ (l : List Pair). other ∷ l) (rest none)
 
 pub but_last : (pair : Pair) (old new : List Pair) → old ≡ new ++ pair ∷ [] → new ≡ take (length old - 1) old
 but_last pair old new is =
@@ -51,7 +53,7 @@ but_last pair old new is =
 
 -- the last is taken out again
 pub popped : (pair : Pair) (old whole new : List Pair) (last : Option Pair) → whole ≡ old ++ pair ∷ [] → whole ≡ new ++ option_to_list last → IsSome last → new ≡ old
-popped pair old whole new None is cut some = absurd some
+popped pair old whole new None is cut some = absurd (cc)
 popped pair old whole new (Some other) is cut some = but_last other whole new cut ∙ sym (but_last pair whole old is)
 
 -- there is no last
@@ -60,6 +62,11 @@ none_last [] new is none = sym (append-nil new) ∙ sym is
 none_last (pair ∷ old) new is none = absurd (none (omega arith))
 
 -- ---- one more pair
+
+-- a pair that isn't there is added as the last
+pub added_last : (pair copied : Pair) (pairs new : List Pair) → new ≡ insert_key is_same pairs copied → copied ≡ pair → list_any (is_same pair) pairs ≡ false → new ≡ pairs ++ pair ∷ []
+added_last pair copied pairs new is copy absent =
+    is ∙ ap (insert_key is_same pairs) copy ∙ ap (λ (t : Bool). cond t pairs (pairs ++ pair ∷ [])) absent
 
 pub inserted : (pair : Pair) (pairs : List Pair) → list_any (is_same pair) pairs ≡ false → length pairs < 4096 → with_pair pair pairs ≡ Ok (pairs ++ pair ∷ [])
 inserted pair pairs absent few =

@@ -162,9 +162,10 @@ impl VirtualPairs {
     fn take_last(&mut self)
         ensures { self.new ≡ take (length self.old - 1) self.old }
     {
-        if let Some(pair) = self.pairs.pop() {
-            take_out(&mut self.named, &pair);
-        }
+        let Some(pair) = self.pairs.pop() else {
+            return;
+        };
+        take_out(&mut self.named, &pair);
     }
 
     /// Takes out all pairs of a name (`event delete` of event(n)). It takes no memory.

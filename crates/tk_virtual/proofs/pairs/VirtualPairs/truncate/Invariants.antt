@@ -1,8 +1,8 @@
 use Rattle.std.proofs.Common.{◌≡◌, take, length}
 use Rattle.tk_virtual.proofs.pairs.VirtualPairs.truncate.Given as goal
 
-abbrev pub invariant-loop : goal.invariant-loop
-invariant-loop l = take l.count l.self ≡ take l.count l.initial.self
+abbrev pub invariant-loop-self : goal.invariant-loop-self
+invariant-loop-self l = take l.count l.self ≡ take l.count l.initial.self
 
-abbrev pub decreases-loop : goal.decreases-loop
-decreases-loop l = length l.self
+abbrev pub decreases-loop-self : goal.decreases-loop-self
+decreases-loop-self l = length l.self

@@ -1,14 +1,14 @@
-use crate::read::{event_of, name_of, number_of, sequence_of, text_of};
-use anyhow::Result;
+use crate::read::{event_of, number_of, sequence_of, text_of};
+use anyhow::{Result, bail};
 use std::alloc::Global;
-use tk_patterns::{BindFault, BindTable, History, Sequence, VirtualName};
+use tk_patterns::{BindFault, BindTable, History, VirtualPairs};
 
 /// What a table's lines have made so far.
 #[derive(Drop)]
 pub struct State {
     bindings: BindTable,
     history: History,
-    virtuals: Vec<(VirtualName, Sequence)>,
+    virtuals: VirtualPairs,
     alloc: Global,
 }
 
@@ -17,7 +17,7 @@ impl State {
         Ok(State {
             bindings: BindTable::new(alloc),
             history: History::new(alloc)?,
-            virtuals: Vec::new(alloc),
+            virtuals: VirtualPairs::new(alloc),
             alloc,
         })
     }
@@ -68,12 +68,12 @@ impl State {
     }
 
     pub fn add_virtual(&mut self, name: &str, sequence: &str) -> Result<String> {
-        let pair = (
-            name_of(self.alloc, name)?,
-            sequence_of(self.alloc, sequence)?,
-        );
-        self.virtuals.push(pair)?;
-        self.told("")
+        let name = text_of(self.alloc, name)?;
+        let sequence = text_of(self.alloc, sequence)?;
+        match self.virtuals.add(self.alloc, &name, &sequence) {
+            Ok(()) => self.told(""),
+            Err(_) => bail!("a pair that was refused"),
+        }
     }
 
     pub fn push(&mut self, event: &[&str]) -> Result<String> {
@@ -94,10 +94,9 @@ impl State {
     pub fn winner(&self, owner: &str, tag: &str, event: &[&str]) -> Result<String> {
         let event = event_of(self.alloc, event)?;
         let owner = number_of(owner)?;
-        let virtuals = self.virtuals.as_slice();
         match self
             .bindings
-            .winner(owner, tag, &event, &self.history, virtuals)?
+            .winner(owner, tag, &event, &self.history, &self.virtuals)?
         {
             Some(script) => self.told(script.as_str()),
             None => self.told("-"),

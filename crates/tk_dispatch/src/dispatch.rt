@@ -12,10 +12,10 @@ use tcl_text::{Text, TextFault, TextList};
 use tk_base::Win;
 use tk_events::Event;
 use tk_history::History;
-use tk_patterns::{BindTable, Sequence, VirtualName};
+use tk_patterns::BindTable;
 use tk_percent::substitute;
 use tk_tree::Windows;
-use tk_virtual::VirtualTable;
+use tk_virtual::{VirtualPairs, VirtualTable};
 
 /// What the choice for an event looks at.
 #[derive(Clone, Copy)]
@@ -23,7 +23,7 @@ struct Choice<'a> {
     windows: &'a Windows,
     bindings: &'a BindTable,
     owner: usize,
-    virtuals: &'a [(VirtualName, Sequence)],
+    virtuals: &'a VirtualPairs,
     event: &'a Event,
     history: &'a History,
 }
@@ -48,12 +48,11 @@ pub fn scripts_for(
     let Some(window) = windows.window(win) else {
         return Ok(Ok(TextList::new(alloc)));
     };
-    let virtuals = virtuals.pairs(alloc, win.owner)?;
     let choice = Choice {
         windows,
         bindings,
         owner: win.owner,
-        virtuals: virtuals.as_slice(),
+        virtuals: virtuals.of(win.owner),
         event,
         history,
     };
@@ -66,7 +65,7 @@ fn scripts_of(
     choice: &Choice<'_>,
     tags: &[Text],
 ) -> Result<Result<TextList, Text>, AllocError>
-    ensures { IfOk result (λ chosen. chosen ≡ scripts_of (windows_of.own_of choice.now.owner choice.now.windows.now) choice.now.virtuals.now
+    ensures { IfOk result (λ chosen. chosen ≡ scripts_of (windows_of.own_of choice.now.owner choice.now.windows.now) (virtuals_of.meanings_of choice.now.virtuals.now)
         (bindings_of.own_of choice.now.owner choice.now.bindings.now) choice.now.history.now choice.now.event.now tags.now) }
 {
     let mut scripts = TextList::new(alloc);
@@ -86,7 +85,7 @@ fn script_of(
     choice: &Choice<'_>,
     tag: &str,
 ) -> Result<Option<Result<Text, Text>>, AllocError>
-    ensures { IfOk result (λ script. script ≡ script_of (windows_of.own_of choice.now.owner choice.now.windows.now) choice.now.virtuals.now
+    ensures { IfOk result (λ script. script ≡ script_of (windows_of.own_of choice.now.owner choice.now.windows.now) (virtuals_of.meanings_of choice.now.virtuals.now)
         (bindings_of.own_of choice.now.owner choice.now.bindings.now) choice.now.history.now choice.now.event.now tag.now) }
 {
     if !is_live(choice.windows, choice.owner, tag) {

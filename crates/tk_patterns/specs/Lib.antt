@@ -1,6 +1,7 @@
 -- What the contracts cite.
 pub mod FaultTexts
 pub mod Filing
+pub mod Named
 pub mod Own
 pub mod Same
 pub mod Shown

@@ -18,3 +18,4 @@ pub use tk_events::{Event, EventKind, EventType};
 pub use tk_history::History;
 pub use tk_keys::Keysym;
 pub use tk_sequences::{Sequence, VirtualName};
+pub use tk_virtual::VirtualPairs;

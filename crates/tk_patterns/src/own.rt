@@ -5,6 +5,7 @@ ghost use Rattle.tk_patterns.specs.Own.{has_tag, is_of, binding_of, script_of, s
 ghost use Rattle.tk_buckets.specs.Filed.{numbers_of};
 ghost use Rattle.tk_patterns.specs.Filing.{number_of};
 ghost use Rattle.tk_patterns.specs.Winner.{winner};
+ghost use Rattle.tk_virtual.specs.Virtual.{meanings_of};
 
 use crate::binding::{Binding, has_tag, is_of};
 use crate::fault::BindFault;
@@ -16,7 +17,8 @@ use tcl_text::Text;
 use tk_buckets::Buckets;
 use tk_events::Event;
 use tk_history::History;
-use tk_sequences::{Sequence, VirtualName};
+use tk_sequences::Sequence;
+use tk_virtual::VirtualPairs;
 
 /// How many bindings an application has at most.
 const MAX_BINDINGS: usize = 4096;
@@ -59,9 +61,9 @@ impl OwnBindings {
         tag: &str,
         event: &Event,
         history: &History,
-        virtuals: &'a [(VirtualName, Sequence)],
+        virtuals: &'a VirtualPairs,
     ) -> Option<&'a Text>
-        ensures { option_copied result ≡ winner virtuals.now tag.now event.now history.now self.now }
+        ensures { option_copied result ≡ winner (meanings_of virtuals.now) tag.now event.now history.now self.now }
     {
         winner(
             self.bindings.as_slice(),

@@ -2,6 +2,7 @@ ghost use Rattle.std.specs.Prelude.{◌≡◌, [], Err, IfOk, OnOk, OnErr, IsOkU
 ghost use Rattle.std.specs.Option.{option_copied};
 ghost use Rattle.tk_patterns.specs.Own.{own_of, script_of, sequences_of, refuses, with_binding, without_binding, without_tag, LeavesOthers, LeavesAll};
 ghost use Rattle.tk_patterns.specs.Winner.{winner};
+ghost use Rattle.tk_virtual.specs.Virtual.{meanings_of};
 
 use crate::fault::BindFault;
 use crate::own::OwnBindings;
@@ -11,7 +12,8 @@ use std::marker::Model;
 use tcl_text::Text;
 use tk_events::Event;
 use tk_history::History;
-use tk_sequences::{Sequence, VirtualName};
+use tk_sequences::Sequence;
+use tk_virtual::VirtualPairs;
 
 /// The bindings of applications, each application's apart from the others' (bind(n)).
 ///
@@ -105,8 +107,8 @@ impl BindTable {
         }
     }
 
-    /// The script that an event runs for a tag, of a window that the history's events may have come to before. `virtuals` are the sequences of the
-    /// application's virtual events, in the order of addition (event(n)). Of the bindings that match, a more specific one wins, and of two that are
+    /// The script that an event runs for a tag, of a window that the history's events may have come to before. `virtuals` are the pairs of
+    /// the application's virtual events (event(n)). Of the bindings that match, a more specific one wins, and of two that are
     /// alike the one that was registered later (bind(n), MULTIPLE MATCHES).
     pub fn winner(
         &self,
@@ -114,10 +116,10 @@ impl BindTable {
         tag: &str,
         event: &Event,
         history: &History,
-        virtuals: &[(VirtualName, Sequence)],
+        virtuals: &VirtualPairs,
     ) -> Result<Option<Text>, AllocError>
         ensures { IfOk result (λ script. script
-            ≡ winner virtuals.now tag.now event.now history.now (own_of owner self.now)) }
+            ≡ winner (meanings_of virtuals.now) tag.now event.now history.now (own_of owner self.now)) }
     {
         match self.chosen(owner, tag, event, history, virtuals) {
             Some(script) => Ok(Some(script.copy()?)),
@@ -132,10 +134,10 @@ impl BindTable {
         tag: &str,
         event: &Event,
         history: &History,
-        virtuals: &'a [(VirtualName, Sequence)],
+        virtuals: &'a VirtualPairs,
     ) -> Option<&'a Text>
         ensures { option_copied result
-            ≡ winner virtuals.now tag.now event.now history.now (own_of owner self.now) }
+            ≡ winner (meanings_of virtuals.now) tag.now event.now history.now (own_of owner self.now) }
     {
         let own = self.owners.get(&owner)?;
         own.winner(tag, event, history, virtuals)

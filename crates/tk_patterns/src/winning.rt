@@ -7,7 +7,9 @@ ghost use Rattle.tk_patterns.specs.Filing.{number_of};
 ghost use Rattle.tk_patterns.specs.Own.{is_of, script_of};
 ghost use Rattle.tk_patterns.specs.Same.{same_sequence};
 ghost use Rattle.tk_patterns.specs.Shown.{shown};
-ghost use Rattle.tk_patterns.specs.Winner.{of_pair, through, of_sequence, of_binding, candidates, replaced, held_at_last, winner};
+ghost use Rattle.tk_patterns.specs.Named.{of_matching, of_pairs};
+ghost use Rattle.tk_patterns.specs.Winner.{through, of_sequence, of_binding, candidates, replaced, held_at_last, winner};
+ghost use Rattle.tk_virtual.specs.Virtual.{meanings_of};
 
 use crate::binding::{Binding, has_tag};
 use crate::candidate::{Contender, beats};
@@ -17,6 +19,7 @@ use tk_buckets::{Buckets, earlier, first_of, past};
 use tk_events::{Event, EventKind, EventType};
 use tk_history::History;
 use tk_sequences::{Sequence, VirtualName};
+use tk_virtual::{Pair, VirtualPairs};
 
 /// The script of the binding that wins.
 pub(crate) fn winner<'a>(
@@ -25,10 +28,10 @@ pub(crate) fn winner<'a>(
     tag: &str,
     event: &Event,
     history: &History,
-    virtuals: &'a [(VirtualName, Sequence)],
+    virtuals: &'a VirtualPairs,
 ) -> Option<&'a Text>
     requires { numbers_of filed.now ≡ map number_of bindings.now }
-    ensures { option_copied result ≡ winner virtuals.now tag.now event.now history.now bindings.now }
+    ensures { option_copied result ≡ winner (meanings_of virtuals.now) tag.now event.now history.now bindings.now }
 {
     match &event.kind {
         EventKind::Physical(kind) => {
@@ -73,12 +76,12 @@ fn holder_of<'a>(
     tag: &str,
     event: &Event,
     history: &History,
-    virtuals: &'a [(VirtualName, Sequence)],
+    virtuals: &'a VirtualPairs,
 ) -> Option<Contender<'a>>
     requires filed { numbers_of filed.now ≡ map number_of bindings.now }
     requires kind { event.now.kind ≡ EventKind.Physical kind }
     ensures { option_map shown result
-        ≡ held_at_last None (candidates event.now history.now virtuals.now tag.now bindings.now) }
+        ≡ held_at_last None (candidates event.now history.now (meanings_of virtuals.now) tag.now bindings.now) }
 {
     let mut by_key = stamps_of_key(filed, tag, kind, event.key);
     let mut by_button = stamps_of_button(filed, tag, kind, event.button);
@@ -122,10 +125,10 @@ fn after_tagged<'a>(
     tag: &str,
     event: &Event,
     history: &History,
-    virtuals: &'a [(VirtualName, Sequence)],
+    virtuals: &'a VirtualPairs,
 ) -> Option<Contender<'a>>
     ensures { option_map shown result ≡ held_at_last (option_map shown holder.entry)
-        (of_binding event.now history.now virtuals.now tag.now binding.now) }
+        (of_binding event.now history.now (meanings_of virtuals.now) tag.now binding.now) }
 {
     if has_tag(binding, tag) {
         after_binding(holder, binding, event, history, virtuals)
@@ -140,10 +143,10 @@ fn after_binding<'a>(
     binding: &'a Binding,
     event: &Event,
     history: &History,
-    virtuals: &'a [(VirtualName, Sequence)],
+    virtuals: &'a VirtualPairs,
 ) -> Option<Contender<'a>>
     ensures { option_map shown result ≡ held_at_last (option_map shown holder.entry)
-        (of_sequence event.now history.now virtuals.now binding.now.script binding.now.sequence) }
+        (of_sequence event.now history.now (meanings_of virtuals.now) binding.now.script binding.now.sequence) }
 {
     match &binding.sequence {
         Sequence::Virtual(name) => {
@@ -165,45 +168,58 @@ fn after_binding<'a>(
 }
 
 /// Who holds after the sequences of a virtual event that match.
+#[tactic(auto, using(crate::proofs::WinnerLemmas::through_named))]
 fn after_pairs<'a>(
     holder: Option<Contender<'a>>,
     name: &VirtualName,
     script: &'a Text,
     event: &Event,
     history: &History,
-    virtuals: &'a [(VirtualName, Sequence)],
+    virtuals: &'a VirtualPairs,
 ) -> Option<Contender<'a>>
     ensures { option_map shown result ≡ held_at_last (option_map shown holder.entry)
-        (through event.now history.now name.now script.now virtuals.now) }
+        (through event.now history.now name.now script.now (meanings_of virtuals.now)) }
+{
+    after_named(holder, script, event, history, virtuals.named(name))
+}
+
+/// Who holds after the pairs of one name whose sequences match.
+fn after_named<'a>(
+    holder: Option<Contender<'a>>,
+    script: &'a Text,
+    event: &Event,
+    history: &History,
+    pairs: &'a [Pair],
+) -> Option<Contender<'a>>
+    ensures { option_map shown result ≡ held_at_last (option_map shown holder.entry)
+        (of_pairs event.now history.now script.now pairs.now) }
 {
     let mut holder = holder;
-    for pair in virtuals {
-        holder = after_pair(holder, name, script, event, history, pair);
+    for pair in pairs {
+        holder = after_pair(holder, script, event, history, pair);
     }
     holder
 }
 
-/// Who holds after a sequence of a virtual event.
+/// Who holds after a pair, if its sequence matches.
 fn after_pair<'a>(
     holder: Option<Contender<'a>>,
-    name: &VirtualName,
     script: &'a Text,
     event: &Event,
     history: &History,
-    pair: &'a (VirtualName, Sequence),
+    pair: &'a Pair,
 ) -> Option<Contender<'a>>
     ensures { option_map shown result ≡ held_at_last (option_map shown holder.entry)
-        (of_pair event.now history.now name.now script.now pair.now) }
+        (of_matching event.now history.now script.now pair.now) }
 {
-    let (other, sequence) = pair;
-    if other.as_str() != name.as_str() || !history.matches(sequence, event) {
+    if !history.matches(&pair.sequence, event) {
         return holder;
     }
-    match sequence {
+    match &pair.sequence {
         Sequence::Physical(patterns) => {
             let next = Contender {
                 patterns,
-                name: Some(other),
+                name: Some(&pair.name),
                 script,
             };
             Some(replaced(holder, next))

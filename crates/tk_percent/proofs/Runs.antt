@@ -1,7 +1,12 @@
 -- A script as runs of characters with a `%` behind each.
-use Rattle.std.proofs.Common.{◌≡◌, ◌≢◌, ℕ, suc, ◌+◌, ◌<◌, ◌≤◌, Bool, true, false, cond, nat_eq, List, [], ◌∷◌, ◌++◌, append_assoc, append-nil, length, length-append, drop, get_or, Option, None, lit<, refl, sym, ap, ◌∙◌, subst, arith}
+use Rattle.std.proofs.Common.{◌≡◌, ◌≢◌, ℕ, suc, ◌+◌, ◌<◌, ◌≤◌, Bool, true, false, cond, nat_eq, List, [], ◌∷◌, ◌++◌, append_assoc, append-nil, length, length-append, take, drop, get_or, Option, Some, None, lit<, refl, sym, ap, ◌∙◌, subst, arith}
 use Rattle.std.specs.Prelude.{◌==◌}
+use Rattle.std.specs.Str.{IsUtf8, IsCharBoundary}
+use Rattle.std.proofs.lemmas.Bool.{eqb-true}
 use Rattle.std.proofs.lemmas.Bool.Decides.{nat_tests}
+use Rattle.std.proofs.lemmas.List.{drop_more, get_or-take, length-take, take-append-drop}
+use Rattle.std.proofs.lemmas.Str.{IsCharBoundary-after_ascii}
+use Rattle.memchr.specs.Find.{IsFirstByte, is_byte}
 use Rattle.tk_events.specs.declared.event.Event.{Event}
 use Rattle.tk_percent.specs.Percent.{field_named, replacement, shown_or_itself, substituted_from}
 use Rattle.tk_percent.specs.declared.field.Field.{Field}
@@ -32,32 +37,61 @@ run_last event (byte ∷ run) none =
     let first : substituted_from event false (byte ∷ run) ≡ byte ∷ substituted_from event false run = rw other refl in
     first ∙ ap (λ (rest : List ℕ). byte ∷ rest) (run_last event run (λ k lt. none (suc k) (omega arith)))
 
+-- ---- where the first `%` is found
+
+found_here : (text : List ℕ) (place : ℕ) → IsFirstByte (is_byte 37) text (Some place) → get_or text place 0 ≡ 37
+found_here text place found = eqb-true (get_or text place 0) 37 found.1
+
+-- a text can be cut behind a `%`
+pub behind_percent : (text : List ℕ) (place : ℕ) → IsUtf8 text → IsFirstByte (is_byte 37) text (Some place) → IsCharBoundary text (place + 1)
+behind_percent text place utf8 found =
+    let here = found_here text place found in
+    IsCharBoundary-after_ascii text place utf8 found.0.high (omega arith)
+
+another : (byte : ℕ) → ¬ (is_byte 37 byte ≡ true) → byte ≢ 37
+another byte away = λ is. away (grind (arith, nat_tests))
+
+-- a text is the run in front of its first `%`, the `%` and what is behind it
+pub parts_cut : (event : Event) (text : List ℕ) (place : ℕ) (run behind : List ℕ) → IsFirstByte (is_byte 37) text (Some place)
+    → run ≡ take place text → behind ≡ drop (place + 1) text → substituted_from event false text ≡ run ++ substituted_from event true behind
+parts_cut event text place run behind found front rest =
+    let before : (k : ℕ) → k < length (take place text) → get_or (take place text) k 0 ≢ 37 = λ k lt.
+    let below : k < place = omega (arith, length-take place text, lt) in
+    rw (get_or-take place text k 0 below) (another (get_or text k 0) (found.0.before k (omega arith) below)) in
+    let cut : drop place text ≡ 37 ∷ drop (place + 1) text = drop_more text place 0 found.0.high ∙ ap (λ (byte : ℕ). byte ∷ drop (place + 1) text) (found_here text place found) in
+    rw (front, rest)
+    (ap (substituted_from event false) (sym (take-append-drop place text) ∙ ap (λ (bytes : List ℕ). take place text ++ bytes) cut) ∙ run_first event (take place text) (drop (place + 1) text) before)
+
+-- a text without a `%` stays
+pub whole_stays : (event : Event) (text : List ℕ) → IsFirstByte (is_byte 37) text None → substituted_from event false text ≡ text
+whole_stays event text away = run_last event text (λ k lt. another (get_or text k 0) (away k (omega arith) lt))
+
 -- ---- the loop
 
 -- a run and what stands behind it are added
 pub step : (event : Event) (old now new script rest run behind left : List ℕ) → old ++ substituted_from event false rest ≡ substituted_from event false script
-    → rest ≡ run ++ 37 ∷ behind → ((k : ℕ) → k < length run → get_or run k 0 ≢ 37) → now ≡ old ++ run
+    → substituted_from event false rest ≡ run ++ substituted_from event true behind → now ≡ old ++ run
     → new ++ substituted_from event false left ≡ now ++ substituted_from event true behind
     → new ++ substituted_from event false left ≡ substituted_from event false script
-step event old now new script rest run behind left so_far is none pushed put =
+step event old now new script rest run behind left so_far is pushed put =
     put ∙ ap (λ (text : List ℕ). text ++ substituted_from event true behind) pushed ∙ append_assoc old run (substituted_from event true behind)
-    ∙ ap (λ (text : List ℕ). old ++ text) (sym (run_first event run behind none) ∙ ap (substituted_from event false) (sym is)) ∙ so_far
+    ∙ ap (λ (text : List ℕ). old ++ text) (sym is) ∙ so_far
 
 -- with a run it would be too long
 pub run_long : (event : Event) (old script rest run behind : List ℕ) → old ++ substituted_from event false rest ≡ substituted_from event false script
-    → rest ≡ run ++ 37 ∷ behind → ((k : ℕ) → k < length run → get_or run k 0 ≢ 37) → 65536 < length (old ++ run) → 65536 < length (substituted_from event false script)
-run_long event old script rest run behind so_far is none long =
+    → substituted_from event false rest ≡ run ++ substituted_from event true behind → 65536 < length (old ++ run) → 65536 < length (substituted_from event false script)
+run_long event old script rest run behind so_far is long =
     let whole : (old ++ run) ++ substituted_from event true behind ≡ substituted_from event false script =
-    append_assoc old run (substituted_from event true behind) ∙ ap (λ (text : List ℕ). old ++ text) (sym (run_first event run behind none) ∙ ap (substituted_from event false) (sym is)) ∙ so_far in
+    append_assoc old run (substituted_from event true behind) ∙ ap (λ (text : List ℕ). old ++ text) (sym is) ∙ so_far in
     subst (λ (text : List ℕ). 65536 < length text) whole (longer_front (old ++ run) (substituted_from event true behind) long)
 
 pub behind_long : (event : Event) (old now script rest run behind : List ℕ) → old ++ substituted_from event false rest ≡ substituted_from event false script
-    → rest ≡ run ++ 37 ∷ behind → ((k : ℕ) → k < length run → get_or run k 0 ≢ 37) → now ≡ old ++ run
+    → substituted_from event false rest ≡ run ++ substituted_from event true behind → now ≡ old ++ run
     → 65536 < length (now ++ substituted_from event true behind) → 65536 < length (substituted_from event false script)
-behind_long event old now script rest run behind so_far is none pushed long =
+behind_long event old now script rest run behind so_far is pushed long =
     let whole : now ++ substituted_from event true behind ≡ substituted_from event false script =
     ap (λ (text : List ℕ). text ++ substituted_from event true behind) pushed ∙ append_assoc old run (substituted_from event true behind)
-    ∙ ap (λ (text : List ℕ). old ++ text) (sym (run_first event run behind none) ∙ ap (substituted_from event false) (sym is)) ∙ so_far in
+    ∙ ap (λ (text : List ℕ). old ++ text) (sym is) ∙ so_far in
     subst (λ (text : List ℕ). 65536 < length text) whole long
 
 -- ---- a character that isn't ASCII

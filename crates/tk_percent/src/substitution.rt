@@ -1,10 +1,11 @@
 //! Substitutes in whole scripts.
-ghost use Rattle.std.specs.Prelude.{◌≡◌, ◌≢◌, ◌<◌, ◌++◌, ◌≤◌, true, false, length, drop, IfOk, IfErr};
+ghost use Rattle.std.specs.Prelude.{◌≡◌, ◌≢◌, ◌+◌, ◌<◌, ◌++◌, ◌≤◌, true, false, length, drop, IfOk, IfErr, IfSome, MatchOption};
 ghost use Rattle.std.specs.Str.{IsCharBoundary};
 ghost use Rattle.tk_percent.specs.Percent.{substituted, substituted_from};
 
 use crate::field::push_replacement;
 use crate::push::short_text;
+use memchr::memchr;
 use std::alloc::Global;
 use tcl_text::{Text, TextFault};
 use tk_events::Event;
@@ -45,11 +46,22 @@ pub fn substitute(alloc: Global, script: &Text, event: &Event) -> Result<Text, T
 {
     let mut text = short_text(alloc, "")?;
     let mut rest = script.as_str();
-    while let Some((run, behind)) = rest.split_once('%') {
+    while let Some((run, behind)) = cut_percent(rest) {
         text.push_str(alloc, run)?;
         let taken = push_behind_percent(alloc, &mut text, event, behind)?;
         rest = &behind[taken..];
     }
     text.push_str(alloc, rest)?;
     Ok(text)
+}
+
+/// The characters in front of the first `%`, and those behind it; nothing where there is none.
+fn cut_percent(text: &str) -> Option<(&str, &str)>
+    ensures cut { (event : Event) → MatchOption result
+        (substituted_from event false text.now ≡ text.now)
+        (λ parts. substituted_from event false text.now ≡ parts.0.now ++ substituted_from event true parts.1.now) }
+    ensures shorter { IfSome result (λ parts. length parts.0.now + length parts.1.now < length text.now) }
+{
+    let place = memchr(b'%', text.as_bytes())?;
+    Some((&text[..place], &text[place + 1..]))
 }

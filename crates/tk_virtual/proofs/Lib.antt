@@ -1,1 +1,3 @@
-pub mod OwnLemmas
+pub mod NamedLemmas
+pub mod PairLemmas
+pub mod SameLemmas

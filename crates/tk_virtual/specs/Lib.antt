@@ -1,3 +1,4 @@
 -- What the contracts cite.
 pub mod FaultTexts
+pub mod Named
 pub mod Virtual

@@ -1,6 +1,8 @@
 -- Pairs of a virtual event's name and a sequence that stands for it.
-use Rattle.std.specs.Prelude.{◌≡◌, ◌≢◌, ℕ, Bool, ◌==◌, ◌&&◌, not, nat_le, if◌then◌else◌, List, [], ◌∷◌, ◌++◌, length, map, filter, fold, Option, Some, None, Result, Ok, Err}
+use Rattle.std.specs.Prelude.{◌≡◌, ◌≢◌, ℕ, Bool, ◌&&◌, not, nat_eq, nat_le, if◌then◌else◌, List, [], ◌∷◌, ◌++◌, length, map, filter, fold, Option, Some, None, Result, Ok, Err}
 use Rattle.std.specs.List.{list_any}
+use Rattle.std.specs.Map.{lookup}
+use Rattle.std.specs.Option.{option_map_or}
 use Rattle.std.specs.Str.{bytes_eq}
 use Rattle.tk_sequences.specs.Reading.{in_brackets, name_in, parsed}
 use Rattle.tk_sequences.specs.Writing.{canonical}
@@ -11,7 +13,6 @@ use Rattle.tk_sequences.specs.declared.sequence.Sequence.TheVariants as sequence
 use Rattle.tk_virtual.specs.declared.fault.VirtualFault.{VirtualFault}
 use Rattle.tk_virtual.specs.declared.fault.VirtualFault.TheVariants.{BadName, BadSequence, BadKeysym, VirtualInVirtual, Full, NoMemory}
 use Rattle.tk_virtual.specs.declared.pair.Pair.{Pair}
-use Rattle.tk_virtual.specs.declared.table.Row.{Row}
 
 abbrev pub Outcome : Type 0 → Type 0
 Outcome T = Result T VirtualFault
@@ -134,10 +135,13 @@ written_names pairs = map in_brackets (names_of pairs)
 
 -- ---- all applications
 
-abbrev pub own_of : ℕ → List Row → List Pair
-own_of owner [] = []
-own_of owner (row ∷ rows) = if row.owner == owner then row.pair ∷ own_of owner rows else own_of owner rows
+abbrev pub Held : Type 0
+Held = List (ℕ × List Pair)
+
+-- an application's; one that hasn't been named has none
+abbrev pub own_of : ℕ → Held → List Pair
+own_of owner held = option_map_or (λ own. own) (lookup (nat_eq owner) held) []
 
 -- every application but one has what it had
-abbrev pub LeavesOthers : ℕ → List Row → List Row → Type 0
+abbrev pub LeavesOthers : ℕ → Held → Held → Type 0
 LeavesOthers owner old new = (other : ℕ) → other ≢ owner → own_of other new ≡ own_of other old

@@ -5,6 +5,7 @@ ghost use Rattle.tk_virtual.specs.Virtual.{has_name, is_same, name_or_fault, not
 
 use crate::fault::VirtualFault;
 use std::alloc::{AllocError, Global};
+use std::hash::{Hash, Hasher};
 use tcl_text::Text;
 use tk_sequences::{Sequence, VirtualName};
 
@@ -93,5 +94,49 @@ impl Pair {
             sequence: self.sequence.copy(alloc)?,
             written: self.written.copy()?,
         })
+    }
+}
+
+/// Pairs are equal where they are the same pair: one name, and sequences of one canonical form.
+impl PartialEq for Pair {
+    ghost use Rattle.std.specs.Prelude.{nat_eq};
+    ghost use Rattle.std.specs.Cmp.Lexicographic.{pointwise};
+    ghost use Rattle.std.specs.Cmp.Rules.{comparing};
+    ghost use Rattle.std.specs.Ordering.{on, eq_of_both, flip_args};
+    ghost use Rattle.std.proofs.Common.{rules};
+
+    ghost eq = { eq_of_both (flip_args (on (λ x. x.name) (pointwise nat_eq))) (flip_args (on (λ x. x.written) (pointwise nat_eq))) };
+
+    ghost laws = { Prim.search (comparing, rules) };
+
+    fn eq(&self, other: &Pair) -> bool {
+        other.is_same(self)
+    }
+}
+
+impl Eq for Pair {
+    ghost use Rattle.std.specs.Cmp.Rules.{comparing};
+    ghost use Rattle.std.proofs.Common.{rules};
+
+    ghost laws = { Prim.search (comparing, rules) };
+}
+
+impl Hash for Pair {
+    ghost use Rattle.std.specs.Prelude.{◌++◌};
+    ghost use Rattle.std.specs.Cmp.{first_so, second_so};
+    ghost use Rattle.std.specs.Cmp.Lexicographic.{bytes_decides};
+    ghost use Rattle.std.specs.Hash as fed;
+    ghost use Rattle.std.specs.Str.{bytes_eq};
+    ghost use Rattle.std.proofs.Common.{sym};
+
+    ghost hash_input = { λ x. fed.str x.name ++ fed.str x.written };
+
+    ghost respects_eq = { λ x y h i.
+        fed.str (sym ((bytes_decides y.name x.name).0 (first_so (bytes_eq y.name x.name) (bytes_eq y.written x.written) h)) i)
+        ++ fed.str (sym ((bytes_decides y.written x.written).0 (second_so (bytes_eq y.name x.name) (bytes_eq y.written x.written) h)) i) };
+
+    fn hash<H: Hasher>(&self, state: &mut H) {
+        self.name.as_str().hash(state);
+        self.written.as_str().hash(state);
     }
 }

@@ -1,134 +1,38 @@
 //! The table of all applications.
-ghost use Rattle.std.specs.Prelude.{◌≡◌, ◌≢◌, ◌==◌, ◌&&◌, not, ℕ, [], ◌∷◌, ◌++◌, length, take, map, filter, fold, IfOk, IfErr, OnOk, OnErr, Ok, Err};
-ghost use Rattle.std.specs.List.{count_by, list_any};
-ghost use Rattle.std.specs.Str.{bytes_eq};
-ghost use Rattle.tk_sequences.specs.Reading.{in_brackets, name_in};
-ghost use Rattle.tk_virtual.specs.Virtual.{LeavesOthers, added, all_added, deleted, has_name, is_same, meanings_of, name_or_fault, names_of, own_of, pairs_meant, with_name, with_pair, without_name, without_pair, without_pairs, written_names, written_of};
+ghost use Rattle.std.specs.Prelude.{◌≡◌, ◌≢◌, [], length, take, filter, IfOk, IfErr, OnOk, OnErr, Ok, Err};
+ghost use Rattle.tk_sequences.specs.Reading.{name_in};
+ghost use Rattle.tk_virtual.specs.Virtual.{LeavesOthers, added, all_added, deleted, name_or_fault, own_of, pairs_meant, without_name, without_pair, without_pairs, written_names, written_of};
 
 use crate::fault::VirtualFault;
 use crate::pair::{Pair, name_meant, pair_meant};
+use crate::pairs::VirtualPairs;
 use std::alloc::{AllocError, Global};
+use std::collections::HashMap;
 use std::marker::Model;
 use tcl_text::{Text, TextList};
-use tk_sequences::{Sequence, VirtualName};
-
-/// How many pairs an application has at most.
-pub const MOST_PAIRS: usize = 4_096;
-
-/// A pair, and the number of its application.
-#[derive(Drop)]
-pub(crate) struct Row {
-    owner: usize,
-    pair: Pair,
-}
+use tk_sequences::VirtualName;
 
 /// The virtual events of all applications, each application's apart from the others': pairs of a name and a sequence, in the order in which
 /// they were added (event(n)).
+///
+/// `owner` is an application's number everywhere. An application that hasn't been named yet has no pairs.
 #[derive(Drop)]
 pub struct VirtualTable {
-    rows: Vec<Row>,
+    owners: HashMap<usize, VirtualPairs>,
+    /// What an application has that hasn't been named.
+    none: VirtualPairs,
+    alloc: Global,
 }
 
 impl Model for VirtualTable {
-    ghost use Rattle.std.specs.Prelude.{List};
-    ghost use Rattle.tk_virtual.specs.declared.table.Row.{Row};
+    ghost use Rattle.std.specs.Prelude.{◌≡◌, []};
+    ghost use Rattle.tk_virtual.specs.Virtual.{Held};
 
-    ghost Value = { List Row };
+    ghost Value = { Held };
 
-    ghost view = { λ t. t.rows.items };
-}
+    ghost view = { λ t. t.owners.entries };
 
-/// Whether one of the rows is an application's with this pair.
-fn has_row(rows: &[Row], owner: usize, wanted: &Pair) -> bool
-    ensures { result ≡ list_any (λ row. row.owner == owner && is_same wanted.now row.pair) rows.now }
-{
-    rows.iter()
-        .any(|row| row.owner == owner && row.pair.is_same(wanted))
-}
-
-/// Whether an application has a pair.
-fn has(rows: &[Row], owner: usize, wanted: &Pair) -> bool
-    ensures { result ≡ list_any (is_same wanted.now) (own_of owner rows.now) }
-{
-    let is_there = has_row(rows, owner, wanted);
-    is_there
-}
-
-/// How many of the rows are an application's.
-fn count_rows(rows: &[Row], owner: usize) -> usize
-    ensures { result ≡ count_by (λ row. row.owner == owner) rows.now }
-{
-    rows.iter().filter(|row| row.owner == owner).count()
-}
-
-/// How many pairs an application has.
-fn count(rows: &[Row], owner: usize) -> usize
-    ensures { result ≡ length (own_of owner rows.now) }
-{
-    let count = count_rows(rows, owner);
-    count
-}
-
-/// Whether a row isn't an application's with this name.
-fn is_beside_name(row: &Row, owner: usize, name: &VirtualName) -> bool
-    ensures { result ≡ not (row.now.owner == owner && has_name name.now row.now.pair) }
-{
-    !(row.owner == owner && row.pair.has_name(name.as_str()))
-}
-
-/// Takes out the rows of an application with this name.
-fn drop_name(rows: &mut Vec<Row>, owner: usize, name: &VirtualName)
-    ensures { rows.new.items ≡ filter (λ row. not (row.owner == owner && has_name name.now row.pair)) rows.old.items }
-{
-    rows.retain(|row| is_beside_name(row, owner, name));
-}
-
-/// Whether a row isn't an application's with this pair.
-fn is_beside_pair(row: &Row, owner: usize, wanted: &Pair) -> bool
-    ensures { result ≡ not (row.now.owner == owner && is_same wanted.now row.now.pair) }
-{
-    !(row.owner == owner && row.pair.is_same(wanted))
-}
-
-/// Takes out the rows of an application with this pair.
-fn drop_pair(rows: &mut Vec<Row>, owner: usize, wanted: &Pair)
-    ensures { rows.new.items ≡ filter (λ row. not (row.owner == owner && is_same wanted.now row.pair)) rows.old.items }
-{
-    rows.retain(|row| is_beside_pair(row, owner, wanted));
-}
-
-/// Adds the name and the sequence of a row, where it is an application's.
-fn push_meaning(
-    alloc: Global,
-    meanings: &mut Vec<(VirtualName, Sequence)>,
-    row: &Row,
-    owner: usize,
-) -> Result<(), AllocError>
-    ensures { OnOk result (meanings.new.items ≡ meanings.old.items ++ meanings_of (own_of owner (row.now ∷ []))) }
-{
-    if row.owner == owner {
-        let name = row.pair.name.copy()?;
-        let sequence = row.pair.sequence.copy(alloc)?;
-        meanings.push((name, sequence))?;
-    }
-    Ok(())
-}
-
-/// Whether a name is among some.
-fn has_among(names: &[VirtualName], name: &VirtualName) -> bool
-    ensures { result ≡ list_any (λ other. bytes_eq other name.now) names.now }
-{
-    names.iter().any(|other| other.as_str() == name.as_str())
-}
-
-/// Adds the name of a row, where it is an application's and isn't there yet.
-fn push_name(names: &mut Vec<VirtualName>, row: &Row, owner: usize) -> Result<(), AllocError>
-    ensures { OnOk result (names.new.items ≡ fold with_name names.old.items (own_of owner (row.now ∷ []))) }
-{
-    if row.owner == owner && !has_among(names, &row.pair.name) {
-        names.push(row.pair.name.copy()?)?;
-    }
-    Ok(())
+    ghost invariant = { λ t. t.none ≡ [] };
 }
 
 /// The pairs that a name and several sequences spell.
@@ -144,34 +48,30 @@ fn pairs_meant(alloc: Global, name: &Text, sequences: &[Text]) -> Result<Vec<Pai
     Ok(pairs)
 }
 
-/// Adds the sequence of a row, where it is an application's and has this name.
-fn push_written(
-    list: &mut TextList,
-    row: &Row,
-    owner: usize,
-    name: &VirtualName,
-) -> Result<(), AllocError>
-    ensures { OnOk result (list.new ≡ list.old ++ written_of name.now (own_of owner (row.now ∷ []))) }
-{
-    if row.owner == owner && row.pair.has_name(name.as_str()) {
-        list.push(row.pair.written.copy()?)?;
-    }
-    Ok(())
-}
-
 impl VirtualTable {
-    /// A table in which no application has a pair.
+    /// A table in which no application has a pair. It takes no memory.
     pub fn new(alloc: Global) -> VirtualTable
         ensures { result ≡ [] }
     {
         VirtualTable {
-            rows: Vec::new(alloc),
+            owners: HashMap::new(alloc),
+            none: VirtualPairs::new(alloc),
+            alloc,
+        }
+    }
+
+    /// An application's pairs. It takes no memory.
+    pub fn of(&self, owner: usize) -> &VirtualPairs
+        ensures { result.now ≡ own_of owner self.now }
+    {
+        match self.owners.get(&owner) {
+            Some(own) => own,
+            None => &self.none,
         }
     }
 
     /// Adds a pair of a name, in its `<<` and `>>`, and a sequence (`event add` of event(n)); one that is there is not added again.
     /// `BadName` (33), `BadSequence` (29), `BadKeysym` (30), `VirtualInVirtual` (32), and `Full` (31) where the application has 4,096 others.
-    #[tactic(auto, unfolding(crate::specs::Virtual::added))]
     pub fn add(
         &mut self,
         alloc: Global,
@@ -182,11 +82,15 @@ impl VirtualTable {
         ensures ok { OnOk result (added name.now sequence.now (own_of owner self.old) ≡ Ok (own_of owner self.new)) }
         ensures refused { IfErr result (λ fault. fault ≢ VirtualFault.NoMemory → added name.now sequence.now (own_of owner self.old) ≡ Err fault) }
         ensures others { LeavesOthers owner self.old self.new }
-        ensures kept { take (length self.old) self.new ≡ self.old }
+        ensures kept { take (length (own_of owner self.old)) (own_of owner self.new) ≡ own_of owner self.old }
         ensures err { OnErr result (self.new ≡ self.old) }
     {
-        let pair = pair_meant(alloc, name, sequence)?;
-        self.insert(owner, pair)?;
+        if let Some(own) = self.owners.get_mut(&owner) {
+            return own.add(alloc, name, sequence);
+        }
+        let mut own = VirtualPairs::new(self.alloc);
+        own.add(alloc, name, sequence)?;
+        self.owners.insert(owner, own)?;
         Ok(())
     }
 
@@ -204,50 +108,12 @@ impl VirtualTable {
         ensures others { LeavesOthers owner self.old self.new }
         ensures err { OnErr result (self.new ≡ self.old) }
     {
-        let before = self.rows.len();
-        match self.add_each(alloc, owner, name, sequences) {
-            Ok(()) => Ok(()),
-            Err(fault) => {
-                self.rows.truncate(before);
-                Err(fault)
-            }
+        if let Some(own) = self.owners.get_mut(&owner) {
+            return own.add_all(alloc, name, sequences);
         }
-    }
-
-    /// The same, but that those before the one that is refused are added.
-    fn add_each(
-        &mut self,
-        alloc: Global,
-        owner: usize,
-        name: &Text,
-        sequences: &[Text],
-    ) -> Result<(), VirtualFault>
-        ensures ok { OnOk result (all_added name.now sequences.now (own_of owner self.old) ≡ Ok (own_of owner self.new)) }
-        ensures refused { IfErr result (λ fault. fault ≢ VirtualFault.NoMemory → all_added name.now sequences.now (own_of owner self.old) ≡ Err fault) }
-        ensures others { LeavesOthers owner self.old self.new }
-        ensures kept { take (length self.old) self.new ≡ self.old }
-    {
-        for sequence in sequences {
-            self.add(alloc, owner, name, sequence)?;
-        }
-        Ok(())
-    }
-
-    /// Adds a pair, unless it is there.
-    fn insert(&mut self, owner: usize, pair: Pair) -> Result<(), VirtualFault>
-        ensures ok { OnOk result (with_pair pair (own_of owner self.old) ≡ Ok (own_of owner self.new)) }
-        ensures refused { IfErr result (λ fault. fault ≢ VirtualFault.NoMemory → with_pair pair (own_of owner self.old) ≡ Err fault) }
-        ensures others { LeavesOthers owner self.old self.new }
-        ensures kept { take (length self.old) self.new ≡ self.old }
-        ensures err { OnErr result (self.new ≡ self.old) }
-    {
-        if has(&self.rows, owner, &pair) {
-            return Ok(());
-        }
-        if count(&self.rows, owner) >= MOST_PAIRS {
-            return Err(VirtualFault::Full);
-        }
-        self.rows.push(Row { owner, pair })?;
+        let mut own = VirtualPairs::new(self.alloc);
+        own.add_all(alloc, name, sequences)?;
+        self.owners.insert(owner, own)?;
         Ok(())
     }
 
@@ -256,7 +122,9 @@ impl VirtualTable {
         ensures own { own_of owner self.new ≡ without_name name.now (own_of owner self.old) }
         ensures others { LeavesOthers owner self.old self.new }
     {
-        drop_name(&mut self.rows, owner, name);
+        if let Some(own) = self.owners.get_mut(&owner) {
+            own.delete_name(name);
+        }
     }
 
     /// Takes out a pair, if it is there. It takes no memory.
@@ -264,7 +132,9 @@ impl VirtualTable {
         ensures own { own_of owner self.new ≡ without_pair wanted.now (own_of owner self.old) }
         ensures others { LeavesOthers owner self.old self.new }
     {
-        drop_pair(&mut self.rows, owner, wanted);
+        if let Some(own) = self.owners.get_mut(&owner) {
+            own.delete_pair(wanted);
+        }
     }
 
     /// Takes out all pairs of a name, or those with some sequences (`event delete` of event(n)). `BadName` (33), and for a sequence
@@ -306,47 +176,21 @@ impl VirtualTable {
         }
     }
 
-    /// The names and sequences of an application's pairs, in the order in which they were added.
-    pub fn pairs(
-        &self,
-        alloc: Global,
-        owner: usize,
-    ) -> Result<Vec<(VirtualName, Sequence)>, AllocError>
-        ensures { IfOk result (λ pairs. pairs.items ≡ meanings_of (own_of owner self.now)) }
+    /// An application's pairs, in the order in which they were added. It takes no memory.
+    pub fn pairs(&self, owner: usize) -> &[Pair]
+        ensures { result.now ≡ own_of owner self.now }
     {
-        let mut pairs = Vec::new(alloc);
-        for row in &self.rows {
-            push_meaning(alloc, &mut pairs, row, owner)?;
-        }
-        Ok(pairs)
+        self.of(owner).all()
     }
 
     /// The names that an application has pairs of, in their brackets, each where it first stands (`event info` of event(n)).
     pub fn names(&self, alloc: Global, owner: usize) -> Result<TextList, AllocError>
         ensures { IfOk result (λ list. list ≡ written_names (own_of owner self.now)) }
     {
-        let names = self.own_names(alloc, owner)?;
-        let mut list = TextList::new(alloc);
-        for name in &names {
-            list.push(name.canonical(alloc)?)?;
-        }
-        Ok(list)
-    }
-
-    /// The names that an application has pairs of, each where it first stands.
-    #[tactic(auto, using(crate::proofs::OwnLemmas::names_taken))]
-    fn own_names(&self, alloc: Global, owner: usize) -> Result<Vec<VirtualName>, AllocError>
-        ensures { IfOk result (λ names. names.items ≡ names_of (own_of owner self.now)) }
-    {
-        let mut names = Vec::new(alloc);
-        for row in &self.rows {
-            push_name(&mut names, row, owner)?;
-        }
-        Ok(names)
+        self.of(owner).names(alloc)
     }
 
     /// The sequences of a name in their canonical form, in the order in which they were added (`event info <<name>>` of event(n)).
-    #[tactic(auto, using(crate::proofs::OwnLemmas::written_taken))]
     pub fn sequences_of(
         &self,
         alloc: Global,
@@ -355,10 +199,6 @@ impl VirtualTable {
     ) -> Result<TextList, AllocError>
         ensures { IfOk result (λ list. list ≡ written_of name.now (own_of owner self.now)) }
     {
-        let mut list = TextList::new(alloc);
-        for row in &self.rows {
-            push_written(&mut list, row, owner, name)?;
-        }
-        Ok(list)
+        self.of(owner).sequences_of(alloc, name)
     }
 }

@@ -1,8 +1,7 @@
-use Rattle.std.proofs.Common.{◌≡◌, ◌<◌, ◌++◌, ℕ, List, Some, None, false, length, lit<, sym, ap, ◌∙◌, subst}
+use Rattle.std.proofs.Common.{◌≡◌, ◌<◌, ◌++◌, ℕ, List, false, length, sym, ap, ◌∙◌, subst}
 use Rattle.std.proofs.lemmas.Result.{err_from_is_err_and}
-use Rattle.std.proofs.lemmas.Str.Pattern.{split_parts}
 use Rattle.tk_percent.specs.Percent.{substituted, substituted_from}
-use Rattle.tk_percent.proofs.Runs.{step, run_long, behind_long, run_last}
+use Rattle.tk_percent.proofs.Runs.{step, run_long, behind_long}
 use Rattle.tk_percent.proofs.substitution.substitute.Goals as goal
 
 pub returns-in_err-push_str-clause-too_long : goal.returns-in_err-push_str-clause-too_long
@@ -10,8 +9,7 @@ unfolding substituted
 returns-in_err-push_str-clause-too_long c =
     let p = err_from_is_err_and c.from_residual-in_err-push_str.result c.from_residual-in_err-push_str.ensures.1 in
     let rest = c.loop-run.rest.now in
-    let parts = split_parts 37 rest (Some (c.in-Some.run', c.in-Some.behind)) c.in-Some.ensures.cases (lit< tt) in
-    rw (p.1, p.2) (λ differs. run_long c.args.event.now c.loop-run.text c.args.script.now rest c.in-Some.run'.now c.in-Some.behind.now c.loop-run.invariant.same parts.0 parts.1
+    rw (p.1, p.2) (λ differs. run_long c.args.event.now c.loop-run.text c.args.script.now rest c.in-Some.run'.now c.in-Some.behind.now c.loop-run.invariant.same (c.in-Some.ensures.cut c.args.event.now)
     (c.in_err-push_str.ensures.too_long differs))
 
 pub returns-in_err-taken-clause-too_long : goal.returns-in_err-taken-clause-too_long
@@ -19,18 +17,16 @@ unfolding substituted
 returns-in_err-taken-clause-too_long c =
     let p = err_from_is_err_and c.from_residual-in_err-taken.result c.from_residual-in_err-taken.ensures.1 in
     let rest = c.loop-run.rest.now in
-    let parts = split_parts 37 rest (Some (c.in-Some.run', c.in-Some.behind)) c.in-Some.ensures.cases (lit< tt) in
-    rw (p.1, p.2) (λ differs. behind_long c.args.event.now c.loop-run.text c.push_str.new.self c.args.script.now rest c.in-Some.run'.now c.in-Some.behind.now c.loop-run.invariant.same parts.0 parts.1
-    c.in_ok-push_str.ensures.ok (c.in_err-taken.ensures.too_long differs))
+    rw (p.1, p.2) (λ differs. behind_long c.args.event.now c.loop-run.text c.push_str.new.self c.args.script.now rest c.in-Some.run'.now c.in-Some.behind.now c.loop-run.invariant.same
+    (c.in-Some.ensures.cut c.args.event.now) c.in_ok-push_str.ensures.ok (c.in_err-taken.ensures.too_long differs))
 
 pub loop-run-preserved : goal.loop-run-preserved
 loop-run-preserved c =
     let event = c.args.event.now in
     let rest = c.loop-run.rest.now in
-    let parts = split_parts 37 rest (Some (c.in-Some.run', c.in-Some.behind)) c.in-Some.ensures.cases (lit< tt) in
     record {
       same = step event c.loop-run.text c.push_str.new.self c.push_behind_percent.new.text c.args.script.now rest c.in-Some.run'.now c.in-Some.behind.now c.range_from-rest.result.now
-          c.loop-run.invariant.same parts.0 parts.1 c.in_ok-push_str.ensures.ok
+          c.loop-run.invariant.same (c.in-Some.ensures.cut event) c.in_ok-push_str.ensures.ok
           (ap (λ (left : List ℕ). c.push_behind_percent.new.text ++ substituted_from event false left) c.range_from-rest.ensures.value ∙ c.in_ok-taken.ensures.ok);
       utf8 = c.range_from-rest.utf8;
     }
@@ -39,15 +35,11 @@ pub returns-in_err-push_str-2-clause-too_long : goal.returns-in_err-push_str-2-c
 unfolding substituted
 returns-in_err-push_str-2-clause-too_long c =
     let p = err_from_is_err_and c.from_residual-in_err-push_str-2.result c.from_residual-in_err-push_str-2.ensures.1 in
-    let rest = c.loop-run.rest.now in
-    let none = split_parts 37 rest None c.in_default.ensures.cases (lit< tt) in
-    let whole : c.loop-run.text ++ rest ≡ substituted_from c.args.event.now false c.args.script.now =
-    ap (λ (text : List ℕ). c.loop-run.text ++ text) (sym (run_last c.args.event.now rest none)) ∙ c.loop-run.invariant.same in
+    let whole : c.loop-run.text ++ c.loop-run.rest.now ≡ substituted_from c.args.event.now false c.args.script.now =
+    ap (λ (text : List ℕ). c.loop-run.text ++ text) (sym (c.in_default.ensures.cut c.args.event.now)) ∙ c.loop-run.invariant.same in
     rw (p.1, p.2) (λ differs. subst (λ (text : List ℕ). 65536 < length text) whole (c.in_err-push_str-2.ensures.too_long differs))
 
 pub returns-clause-ok : goal.returns-clause-ok
 unfolding substituted
 returns-clause-ok c =
-    let rest = c.loop-run.rest.now in
-    let none = split_parts 37 rest None c.in_default.ensures.cases (lit< tt) in
-    c.in_ok-push_str-2.ensures.ok ∙ ap (λ (text : List ℕ). c.loop-run.text ++ text) (sym (run_last c.args.event.now rest none)) ∙ c.loop-run.invariant.same
+    c.in_ok-push_str-2.ensures.ok ∙ ap (λ (text : List ℕ). c.loop-run.text ++ text) (sym (c.in_default.ensures.cut c.args.event.now)) ∙ c.loop-run.invariant.same

@@ -1,0 +1,5 @@
+use Rattle.std.proofs.Common.{◌≡◌, take, map}
+use Rattle.tk_virtual.proofs.pairs.written_forms.Given as goal
+
+abbrev pub invariant-loop-pair : goal.invariant-loop-pair
+invariant-loop-pair l = l.list ≡ map (λ pair. pair.written) (take l.pair-index l.pairs)

@@ -1,6 +1,0 @@
-use Rattle.std.proofs.Common.{◌≡◌, take, map}
-use Rattle.tk_sequences.specs.Reading.{in_brackets}
-use Rattle.tk_virtual.proofs.table.VirtualTable.names.Given as goal
-
-abbrev pub invariant-loop-name : goal.invariant-loop-name
-invariant-loop-name l = l.list ≡ map in_brackets (take l.name-index l.name-items)

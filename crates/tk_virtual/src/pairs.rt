@@ -1,0 +1,251 @@
+//! The pairs of one application.
+ghost use Rattle.std.specs.Prelude.{◌≡◌, ◌≢◌, ◌-◌, false, [], ◌∷◌, ◌++◌, length, take, map, filter, IfOk, IfErr, OnOk, OnErr, Ok, Err};
+ghost use Rattle.std.specs.List.{list_any};
+ghost use Rattle.std.specs.Str.{bytes_eq};
+ghost use Rattle.tk_virtual.specs.Virtual.{added, all_added, has_name, is_same, names_of, with_name, with_pair, without_name, without_pair, written_names, written_of};
+
+use crate::fault::VirtualFault;
+use crate::named::{file, pairs_of, take_out, take_out_name};
+use crate::pair::{Pair, pair_meant};
+use indexmap::IndexSet;
+use std::alloc::{AllocError, Global};
+use std::collections::HashMap;
+use std::marker::Model;
+use tcl_text::{Text, TextList};
+use tk_sequences::VirtualName;
+
+/// How many pairs an application has at most.
+pub const MOST_PAIRS: usize = 4_096;
+
+/// The virtual events of one application: pairs of a name and a sequence, in the order in which they were added (event(n)).
+#[derive(Drop)]
+pub struct VirtualPairs {
+    pairs: IndexSet<Pair>,
+    /// The same by their names.
+    named: HashMap<String, Vec<Pair>>,
+}
+
+impl Model for VirtualPairs {
+    ghost use Rattle.std.specs.Prelude.{◌≡◌, ℕ, List, filter};
+    ghost use Rattle.tk_virtual.specs.declared.pair.Pair.{Pair};
+    ghost use Rattle.tk_virtual.specs.Named.{listed};
+    ghost use Rattle.tk_virtual.specs.Virtual.{has_name};
+
+    ghost Value = { List Pair };
+
+    ghost view = { λ p. p.pairs.keys };
+
+    ghost invariant = { λ p. (name : List ℕ) → listed name p.named ≡ filter (has_name name) p.pairs.keys };
+}
+
+impl VirtualPairs {
+    /// No pairs. It takes no memory.
+    pub fn new(alloc: Global) -> VirtualPairs
+        ensures { result ≡ [] }
+    {
+        VirtualPairs {
+            pairs: IndexSet::new(alloc),
+            named: HashMap::new(alloc),
+        }
+    }
+
+    /// All pairs, in the order in which they were added.
+    pub fn all(&self) -> &[Pair]
+        ensures { result.now ≡ self.now }
+    {
+        self.pairs.as_slice()
+    }
+
+    /// The pairs of a name, in the order in which they were added; they are found by hashing.
+    pub fn named(&self, name: &VirtualName) -> &[Pair]
+        ensures { result.now ≡ filter (has_name name.now) self.now }
+    {
+        pairs_of(&self.named, name.as_str())
+    }
+
+    /// Adds a pair of a name, in its `<<` and `>>`, and a sequence (`event add` of event(n)); one that is there is not added again.
+    /// `BadName` (33), `BadSequence` (29), `BadKeysym` (30), `VirtualInVirtual` (32), and `Full` (31) where there are 4,096 others.
+    #[tactic(auto, unfolding(crate::specs::Virtual::added))]
+    pub fn add(&mut self, alloc: Global, name: &Text, sequence: &Text) -> Result<(), VirtualFault>
+        ensures ok { OnOk result (added name.now sequence.now self.old ≡ Ok self.new) }
+        ensures refused { IfErr result (λ fault. fault ≢ VirtualFault.NoMemory → added name.now sequence.now self.old ≡ Err fault) }
+        ensures kept { take (length self.old) self.new ≡ self.old }
+        ensures err { OnErr result (self.new ≡ self.old) }
+    {
+        let pair = pair_meant(alloc, name, sequence)?;
+        self.insert(alloc, pair)?;
+        Ok(())
+    }
+
+    /// Adds the pairs of a name and several sequences, one after another (`event add` of event(n)). Each is tested whole, as by `add`, before
+    /// the next; where one is refused, none is added.
+    pub fn add_all(
+        &mut self,
+        alloc: Global,
+        name: &Text,
+        sequences: &[Text],
+    ) -> Result<(), VirtualFault>
+        ensures ok { OnOk result (all_added name.now sequences.now self.old ≡ Ok self.new) }
+        ensures refused { IfErr result (λ fault. fault ≢ VirtualFault.NoMemory → all_added name.now sequences.now self.old ≡ Err fault) }
+        ensures err { OnErr result (self.new ≡ self.old) }
+    {
+        let before = self.pairs.len();
+        match self.add_each(alloc, name, sequences) {
+            Ok(()) => Ok(()),
+            Err(fault) => {
+                self.truncate(before);
+                Err(fault)
+            }
+        }
+    }
+
+    /// The same, but that those before the one that is refused are added.
+    fn add_each(
+        &mut self,
+        alloc: Global,
+        name: &Text,
+        sequences: &[Text],
+    ) -> Result<(), VirtualFault>
+        ensures ok { OnOk result (all_added name.now sequences.now self.old ≡ Ok self.new) }
+        ensures refused { IfErr result (λ fault. fault ≢ VirtualFault.NoMemory → all_added name.now sequences.now self.old ≡ Err fault) }
+        ensures kept { take (length self.old) self.new ≡ self.old }
+    {
+        for sequence in sequences {
+            self.add(alloc, name, sequence)?;
+        }
+        Ok(())
+    }
+
+    /// Adds a pair, unless it is there.
+    fn insert(&mut self, alloc: Global, pair: Pair) -> Result<(), VirtualFault>
+        ensures ok { OnOk result (with_pair pair self.old ≡ Ok self.new) }
+        ensures refused { IfErr result (λ fault. fault ≢ VirtualFault.NoMemory → with_pair pair self.old ≡ Err fault) }
+        ensures kept { take (length self.old) self.new ≡ self.old }
+        ensures err { OnErr result (self.new ≡ self.old) }
+    {
+        if self.pairs.contains(&pair) {
+            return Ok(());
+        }
+        if self.pairs.len() >= MOST_PAIRS {
+            return Err(VirtualFault::Full);
+        }
+        self.push(alloc, pair)?;
+        Ok(())
+    }
+
+    /// Adds a pair that isn't there.
+    fn push(&mut self, alloc: Global, pair: Pair) -> Result<(), AllocError>
+        requires { list_any (is_same pair) self.old ≡ false }
+        ensures ok { OnOk result (self.new ≡ self.old ++ pair ∷ []) }
+        ensures err { OnErr result (self.new ≡ self.old) }
+    {
+        self.pairs.insert(pair.copy(alloc)?)?;
+        match file(alloc, &mut self.named, pair) {
+            Ok(()) => Ok(()),
+            Err(refused) => {
+                self.pairs.pop();
+                Err(refused)
+            }
+        }
+    }
+
+    /// Takes out the pairs behind the first so many.
+    fn truncate(&mut self, count: usize)
+        ensures { self.new ≡ take count self.old }
+    {
+        while self.pairs.len() > count {
+            self.take_last();
+        }
+    }
+
+    /// Takes out the last pair.
+    fn take_last(&mut self)
+        ensures { self.new ≡ take (length self.old - 1) self.old }
+    {
+        let Some(pair) = self.pairs.pop() else {
+            return;
+        };
+        take_out(&mut self.named, &pair);
+    }
+
+    /// Takes out all pairs of a name (`event delete` of event(n)). It takes no memory.
+    pub fn delete_name(&mut self, name: &VirtualName)
+        ensures { self.new ≡ without_name name.now self.old }
+    {
+        leave_out_name(&mut self.pairs, name.as_str());
+        take_out_name(&mut self.named, name.as_str());
+    }
+
+    /// Takes out a pair, if it is there. It takes no memory.
+    pub fn delete_pair(&mut self, wanted: &Pair)
+        ensures { self.new ≡ without_pair wanted.now self.old }
+    {
+        self.pairs.shift_remove(wanted);
+        take_out(&mut self.named, wanted);
+    }
+
+    /// The names that have pairs, in their brackets, each where it first stands (`event info` of event(n)).
+    pub fn names(&self, alloc: Global) -> Result<TextList, AllocError>
+        ensures { IfOk result (λ list. list ≡ written_names self.now) }
+    {
+        let names = names_of(alloc, self.all())?;
+        let mut list = TextList::new(alloc);
+        for name in &names {
+            list.push(name.canonical(alloc)?)?;
+        }
+        Ok(list)
+    }
+
+    /// The sequences of a name in their canonical form, in the order in which they were added (`event info <<name>>` of event(n)).
+    pub fn sequences_of(&self, alloc: Global, name: &VirtualName) -> Result<TextList, AllocError>
+        ensures { IfOk result (λ list. list ≡ written_of name.now self.now) }
+    {
+        written_forms(alloc, self.named(name))
+    }
+}
+
+/// Leaves the pairs that haven't a name.
+fn leave_out_name(pairs: &mut IndexSet<Pair>, name: &str)
+    ensures { pairs.new.keys ≡ without_name name.now pairs.old.keys }
+{
+    pairs.retain(|pair| !pair.has_name(name));
+}
+
+/// The canonical forms of the sequences.
+fn written_forms(alloc: Global, pairs: &[Pair]) -> Result<TextList, AllocError>
+    ensures { IfOk result (λ list. list ≡ map (λ pair. pair.written) pairs.now) }
+{
+    let mut list = TextList::new(alloc);
+    for pair in pairs {
+        list.push(pair.written.copy()?)?;
+    }
+    Ok(list)
+}
+
+/// The names, each where it first stands.
+fn names_of(alloc: Global, pairs: &[Pair]) -> Result<Vec<VirtualName>, AllocError>
+    ensures { IfOk result (λ names. names.items ≡ names_of pairs.now) }
+{
+    let mut names = Vec::new(alloc);
+    for pair in pairs {
+        push_name(&mut names, pair)?;
+    }
+    Ok(names)
+}
+
+/// Adds the name of a pair, unless it is there.
+fn push_name(names: &mut Vec<VirtualName>, pair: &Pair) -> Result<(), AllocError>
+    ensures { OnOk result (names.new.items ≡ with_name names.old.items pair.now) }
+{
+    if !has_among(names, &pair.name) {
+        names.push(pair.name.copy()?)?;
+    }
+    Ok(())
+}
+
+/// Whether a name is among some.
+fn has_among(names: &[VirtualName], name: &VirtualName) -> bool
+    ensures { result ≡ list_any (λ other. bytes_eq other name.now) names.now }
+{
+    names.iter().any(|other| other.as_str() == name.as_str())
+}

@@ -65,8 +65,9 @@ fn scripts_of(
     choice: &Choice<'_>,
     tags: &[Text],
 ) -> Result<Result<TextList, Text>, AllocError>
-    ensures { IfOk result (λ chosen. chosen ≡ scripts_of (windows_of.own_of choice.now.owner choice.now.windows.now) (virtuals_of.meanings_of choice.now.virtuals.now)
-        (bindings_of.own_of choice.now.owner choice.now.bindings.now) choice.now.history.now choice.now.event.now tags.now) }
+    ensures { IfOk result (λ chosen. chosen ≡ scripts_of (windows_of.own_of choice.now.owner choice.now.windows.now)
+        (virtuals_of.meanings_of choice.now.virtuals.now) (bindings_of.own_of choice.now.owner choice.now.bindings.now)
+        choice.now.history.now choice.now.event.now tags.now) }
 {
     let mut scripts = TextList::new(alloc);
     for tag in tags {
@@ -85,8 +86,9 @@ fn script_of(
     choice: &Choice<'_>,
     tag: &str,
 ) -> Result<Option<Result<Text, Text>>, AllocError>
-    ensures { IfOk result (λ script. script ≡ script_of (windows_of.own_of choice.now.owner choice.now.windows.now) (virtuals_of.meanings_of choice.now.virtuals.now)
-        (bindings_of.own_of choice.now.owner choice.now.bindings.now) choice.now.history.now choice.now.event.now tag.now) }
+    ensures { IfOk result (λ script. script ≡ script_of (windows_of.own_of choice.now.owner choice.now.windows.now)
+        (virtuals_of.meanings_of choice.now.virtuals.now) (bindings_of.own_of choice.now.owner choice.now.bindings.now)
+        choice.now.history.now choice.now.event.now tag.now) }
 {
     if !is_live(choice.windows, choice.owner, tag) {
         return Ok(None);

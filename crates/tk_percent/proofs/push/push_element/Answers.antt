@@ -1,4 +1,3 @@
-use Rattle.std.proofs.Common.{◌++◌}
 use Rattle.tk_percent.specs.Percent.{element}
 use Rattle.tk_percent.proofs.Runs.{longer}
 use Rattle.tk_percent.proofs.push.push_element.Goals as goal

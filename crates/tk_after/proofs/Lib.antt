@@ -2,4 +2,3 @@ pub mod Dues
 pub mod Earliest
 pub mod Names
 pub mod Numbers
-pub mod Owners

@@ -1,4 +1,10 @@
+mod Bags
 pub mod Dues
-pub mod Earliest
-pub mod Names
+mod Earliest
+mod Firsts
+mod Keys
+mod Lists
+mod Marks
+mod Names
 pub mod Numbers
+mod Splits

@@ -1,9 +1,9 @@
 -- The entries of all applications in the order of their keys, and what one application has among them.
 use Rattle.std.specs.Prelude.{◌≡◌, ℕ, ◌^◌, ◌<◌, Bool, false, ◌==◌, List, [], ◌∷◌, ◌++◌, length, map, Option, Some, None, IfSome}
-use Rattle.std.specs.BTreeMap.{is_at}
+use Rattle.std.specs.BTreeMap.{insert_entry, is_at}
 use Rattle.std.specs.List.{AllByRecursion}
 use Rattle.std.specs.List.Sorted.{IsStrictlySortedBy}
-use Rattle.std.specs.Map.{keys_of, remove_entry}
+use Rattle.std.specs.Map.{keys_of, lookup, remove_entry}
 use Rattle.std.specs.Option.{option_map_or}
 use Rattle.std.specs.Ordering.{Ordering, nat_cmp, ordering_then}
 use Rattle.tk_bag.specs.Bag.{Item, listed, values_of}
@@ -66,6 +66,16 @@ AreKeyed stored = AllByRecursion IsTimer stored.timers × AllByRecursion IsIdle 
 -- the entry with this number, if it is listed, is due then
 abbrev pub IsMarked : ℕ → Option ℕ → List Entry → Type 0
 IsMarked id due entries = IfSome (entry_with id entries) (λ entry. entry.due ≡ due)
+
+-- the entry under the key of this number and moment
+abbrev pub stored_at : ℕ → ℕ → Option ℕ → Stored → Option Entry
+stored_at owner id (Some due) stored = lookup (is_at (due_cmp (due_key due owner id))) stored.timers
+stored_at owner id None stored = lookup (is_at (name_cmp (name owner id))) stored.idle
+
+-- an entry more, under its key
+abbrev pub given : ℕ → ℕ → Option ℕ → Entry → Stored → Stored
+given owner id (Some due) entry stored = record stored { timers = insert_entry due_cmp stored.timers (due_key due owner id) entry }
+given owner id None entry stored = record stored { idle = insert_entry name_cmp stored.idle (name owner id) entry }
 
 -- all but the entry under this key
 abbrev pub taken : ℕ → ℕ → Option ℕ → Stored → Stored

@@ -15,7 +15,7 @@ use Rattle.tk_after.specs.declared.keys.DueKey.{DueKey}
 use Rattle.tk_after.specs.declared.keys.Name.{Name}
 use Rattle.tk_after.specs.Keys.{Stored, due_cmp, name_cmp, due_key, name, number_of, timer_item, idle_item, bag_of, entries_in, IsTimer, IsIdle, AreKeyed, IsMarked, stored_at, given, taken}
 use Rattle.tk_after.specs.Timers.{entry_with}
-use Rattle.tk_after.proofs.Keys.{same_name, same_due, name_itself, due_itself, names_total, dues_total}
+use Rattle.tk_after.proofs.KeyOrders.{same_name, same_due, name_itself, due_itself, names_total, dues_total}
 use Rattle.tk_after.proofs.Lists.{Has, found_has, bag_has, listed_has, not_below, without_absent}
 use Rattle.tk_after.proofs.Splits.{Stands, there, nowhere, Comes, comes, undone, all_at, all_with, all_without}
 

@@ -13,7 +13,7 @@ use Rattle.tk_after.specs.declared.keys.DueKey.{DueKey}
 use Rattle.tk_after.specs.Keys.{Stored, due_cmp, number_of, timer_item, idle_item, bag_of, entries_in, IsTimer, AreKeyed}
 use Rattle.tk_after.specs.Timers.{due_moments, IsNextDue}
 use Rattle.tk_after.proofs.Bags.{has_timers, idle_due}
-use Rattle.tk_after.proofs.Keys.{less_due}
+use Rattle.tk_after.proofs.KeyOrders.{less_due}
 use Rattle.tk_after.proofs.Lists.{Has, bag_has, listed_has}
 
 -- no entry's moment is before this one

@@ -2,7 +2,8 @@ mod Bags
 pub mod Dues
 mod Earliest
 mod Firsts
-mod Keys
+mod Kept
+mod KeyOrders
 mod Lists
 mod Marks
 mod Names

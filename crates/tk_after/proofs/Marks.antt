@@ -6,7 +6,7 @@ use Rattle.std.specs.BTreeMap.Range.{entries_between, range_contains}
 use Rattle.std.specs.List.{AllByRecursion, cons_option, filter_map}
 use Rattle.std.specs.List.Sorted.{IsStrictlySortedBy}
 use Rattle.std.specs.Map.{keys_of, lookup, remove_entry}
-use Rattle.std.specs.Ordering.{Less}
+use Rattle.std.specs.declared.cmp.Ordering.TheVariants.{Less}
 use Rattle.std.specs.declared.ops.Bound.TheVariants.{Included}
 use Rattle.std.proofs.lemmas.Bool.{eqb-true, eq-eqb, ne_eqb}
 use Rattle.std.proofs.lemmas.List.{map-append}
@@ -17,7 +17,7 @@ use Rattle.tk_bag.proofs.Owners.{item, values_of-append, listed_new, listed_othe
 use Rattle.tk_after.specs.declared.entry.Entry.{Entry}
 use Rattle.tk_after.specs.declared.keys.Name.{Name}
 use Rattle.tk_after.specs.Keys.{name_cmp, name, Mark, mark_number, mark_of, mark_in, marks_in, mark_item, marks_of, lies_due_at, AreMarks}
-use Rattle.tk_after.proofs.Keys.{at_name, other_owner, other_id, same_name, less_id, in_range}
+use Rattle.tk_after.proofs.KeyOrders.{at_name, other_owner, other_id, same_name, less_id, in_range}
 use Rattle.tk_after.proofs.Lists.{in_order-rising, without_absent}
 use Rattle.tk_after.proofs.Splits.{Stands, there, nowhere, Comes, comes, all_with, all_without}
 

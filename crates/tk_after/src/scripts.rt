@@ -79,7 +79,7 @@ impl Scripts {
     }
 
     /// Takes the entry of a number out, which is due at this moment, or an idle script where none is given.
-    pub fn remove(&mut self, owner: usize, id: u64, due: Option<u64>) -> Option<Entry>
+    pub fn take(&mut self, owner: usize, id: u64, due: Option<u64>) -> Option<Entry>
         ensures exact { self.new ≡ taken owner id due self.old }
         ensures entry { IsRising number_of (entries_in owner self.old)
             → IsMarked id due (entries_in owner self.old)

@@ -107,13 +107,14 @@ impl Timers {
         ensures others { LeavesOthers owner self.old self.new }
     {
         let due = self.index.due_of(owner, id)?;
+        let entry = self.scripts.take(owner, id, due)?;
+        self.index.remove(owner, id);
+        count_less(&mut self.counters, owner);
         let Entry {
             id: _,
             due: _,
             script,
-        } = self.scripts.remove(owner, id, due)?;
-        self.index.remove(owner, id);
-        count_less(&mut self.counters, owner);
+        } = entry;
         Some(script)
     }
 
@@ -173,7 +174,7 @@ impl Timers {
             ≡ option_map (λ entry. entry.id) (first_due moment (entries_of owner self.now)) }
         ensures kept { IsKept (own_of owner self.now) }
     {
-        let due = self.index.next_due(owner)?;
+        let due = self.next_due_of(owner)?;
         if due > moment {
             return None;
         }
@@ -249,7 +250,7 @@ impl Timers {
         match list_number(&mut self.index, &mut self.counters, owner, due) {
             Ok(()) => Ok(id),
             Err(refused) => {
-                let _entry = self.scripts.remove(owner, id, due);
+                let _entry = self.scripts.take(owner, id, due);
                 Err(refused)
             }
         }

@@ -1,10 +1,10 @@
 -- The bag of all entries, where one comes in or goes.
 use Rattle.std.proofs.Common.{◌≡◌, ◌≢◌, ℕ, Bool, true, false, List, [], ◌∷◌, ◌++◌, map, Option, Some, None, refl, sym, ap, ◌∙◌, subst, ◌⊎◌, inl, inr, append_assoc}
-use Rattle.std.specs.Prelude.{◌==◌, IfSome}
+use Rattle.std.specs.Prelude.{◌==◌, IfSome, Result, Ok, Err, OnOk, OnErr}
 use Rattle.std.specs.BTreeMap.{insert_entry, is_at}
 use Rattle.std.specs.List.{AllByRecursion}
 use Rattle.std.specs.Map.{lookup, remove_entry}
-use Rattle.std.proofs.lemmas.Bool.{eqb-true}
+use Rattle.std.proofs.lemmas.Bool.{eqb-true, false≢true}
 use Rattle.std.proofs.lemmas.Cmp.{tied_itself}
 use Rattle.std.proofs.lemmas.List.{map-append}
 use Rattle.std.proofs.lemmas.Option.{none-some, same_Some}
@@ -49,7 +49,7 @@ module _ (stored rest : Stored) (owner : ℕ) (entry : Entry) (s : Split stored 
   pub split_has : Has entry (entries_in owner stored)
   split_has = subst (λ bag. Has entry (listed number_of owner bag)) (sym s.with_is) (listed_has number_of owner entry s.front s.back)
 
-abbrev stored_of : List (DueKey × Entry) → List (Name × Entry) → Stored
+abbrev pub stored_of : List (DueKey × Entry) → List (Name × Entry) → Stored
 stored_of timers idle = record { timers = timers; idle = idle }
 
 timer_split : (timers rest : List (DueKey × Entry)) (idle : List (Name × Entry)) (k : DueKey) (e : Entry) (front back : List (DueKey × Entry)) → timers ≡ front ++ (k, e) ∷ back → rest ≡ front ++ back
@@ -84,9 +84,9 @@ found stored keyed owner id (Some due) entry is =
     let all = subst (AllByRecursion IsTimer) s.es_is keyed.0 in
     let kept = all_at IsTimer s.front (s.key, entry) s.back all in
     record {
-      its_number = sym kept.0 ∙ ap (λ k. k.id) (sym same);
-      its_due = kept.1 ∙ ap (λ k. Some k.due) (sym same);
-      split = timer_split stored.timers (remove_entry (is_at (due_cmp (due_key due owner id))) stored.timers) stored.idle (due_key due owner id) entry s.front s.back (s.es_is ∙ ap (λ k. s.front ++ (k, entry) ∷ s.back) (sym same)) s.rest_is;
+      its_number = sym kept.0 ∙ ap (λ (k : DueKey). k.id) (sym same);
+      its_due = kept.1 ∙ ap (λ (k : DueKey). Some k.due) (sym same);
+      split = timer_split stored.timers (remove_entry (is_at (due_cmp (due_key due owner id))) stored.timers) stored.idle (due_key due owner id) entry s.front s.back (s.es_is ∙ ap (λ (k : DueKey). s.front ++ (k, entry) ∷ s.back) (sym same)) s.rest_is;
       rest = (subst (AllByRecursion IsTimer) (sym s.rest_is) (all_without IsTimer s.front (s.key, entry) s.back all), keyed.1);
     }
 found stored keyed owner id None entry is =
@@ -95,9 +95,9 @@ found stored keyed owner id None entry is =
     let all = subst (AllByRecursion IsIdle) s.es_is keyed.1 in
     let kept = all_at IsIdle s.front (s.key, entry) s.back all in
     record {
-      its_number = sym kept.0 ∙ ap (λ k. k.id) (sym same);
+      its_number = sym kept.0 ∙ ap (λ (k : Name). k.id) (sym same);
       its_due = kept.1;
-      split = idle_split stored.timers stored.idle (remove_entry (is_at (name_cmp (name owner id))) stored.idle) (name owner id) entry s.front s.back (s.es_is ∙ ap (λ k. s.front ++ (k, entry) ∷ s.back) (sym same)) s.rest_is;
+      split = idle_split stored.timers stored.idle (remove_entry (is_at (name_cmp (name owner id))) stored.idle) (name owner id) entry s.front s.back (s.es_is ∙ ap (λ (k : Name). s.front ++ (k, entry) ∷ s.back) (sym same)) s.rest_is;
       rest = (keyed.0, subst (AllByRecursion IsIdle) (sym s.rest_is) (all_without IsIdle s.front (s.key, entry) s.back all));
     }
 
@@ -158,24 +158,24 @@ none_rest test e es false is none = (refl, rw is at none)
 no_timer : (owner id due : ℕ) (e : Entry) (ts : List (DueKey × Entry)) → AllByRecursion IsTimer ts → e.id ≡ id → e.due ≡ Some due → lookup (is_at (due_cmp (due_key due owner id))) ts ≡ None → Has (item owner e) (map timer_item ts) → ⊥
 no_timer owner id due e [] keyed its_id its_due none has = has
 no_timer owner id due e (t ∷ ts) keyed its_id its_due none (inl same) =
-    let its = ap (λ i. i.value) same in
-    let due_is : t.0.due ≡ due = same_Some _ _ (sym keyed.0.1 ∙ ap (λ v. v.due) its ∙ its_due) in
-    let owner_is : t.0.owner ≡ owner = ap (λ i. i.owner) same in
-    let id_is : t.0.id ≡ id = keyed.0.0 ∙ ap (λ v. v.id) its ∙ its_id in
+    let its = ap (λ (i : Item Entry). i.value) same in
+    let due_is : t.0.due ≡ due = same_Some _ _ (sym keyed.0.1 ∙ ap (λ (v : Entry). v.due) its ∙ its_due) in
+    let owner_is : t.0.owner ≡ owner = ap (λ (i : Item Entry). i.owner) same in
+    let id_is : t.0.id ≡ id = keyed.0.0 ∙ ap (λ (v : Entry). v.id) its ∙ its_id in
     let key : due_key due owner id ≡ t.0 = ap (λ d. due_key d owner id) (sym due_is) ∙ ap (λ o. due_key t.0.due o id) (sym owner_is) ∙ ap (λ n. due_key t.0.due t.0.owner n) (sym id_is) in
     let passes = ap (λ k. is_at (due_cmp (due_key due owner id)) k) (sym key) ∙ due_itself due owner id in
-    absurd (cc ((none_rest (is_at (due_cmp (due_key due owner id))) t ts true passes none).0))
+    false≢true (sym (none_rest (is_at (due_cmp (due_key due owner id))) t ts true passes none).0)
 no_timer owner id due e (t ∷ ts) keyed its_id its_due none (inr there) =
     no_timer owner id due e ts keyed.1 its_id its_due (none_rest (is_at (due_cmp (due_key due owner id))) t ts (is_at (due_cmp (due_key due owner id)) t.0) refl none).1 there
 
 no_idle : (owner id : ℕ) (e : Entry) (ts : List (Name × Entry)) → AllByRecursion IsIdle ts → e.id ≡ id → lookup (is_at (name_cmp (name owner id))) ts ≡ None → Has (item owner e) (map idle_item ts) → ⊥
 no_idle owner id e [] keyed its_id none has = has
 no_idle owner id e (t ∷ ts) keyed its_id none (inl same) =
-    let owner_is : t.0.owner ≡ owner = ap (λ i. i.owner) same in
-    let id_is : t.0.id ≡ id = keyed.0.0 ∙ ap (λ i. i.value.id) same ∙ its_id in
+    let owner_is : t.0.owner ≡ owner = ap (λ (i : Item Entry). i.owner) same in
+    let id_is : t.0.id ≡ id = keyed.0.0 ∙ ap (λ (i : Item Entry). i.value.id) same ∙ its_id in
     let key : name owner id ≡ t.0 = ap (λ o. name o id) (sym owner_is) ∙ ap (λ n. name t.0.owner n) (sym id_is) in
     let passes = ap (λ k. is_at (name_cmp (name owner id)) k) (sym key) ∙ name_itself owner id in
-    absurd (cc ((none_rest (is_at (name_cmp (name owner id))) t ts true passes none).0))
+    false≢true (sym (none_rest (is_at (name_cmp (name owner id))) t ts true passes none).0)
 no_idle owner id e (t ∷ ts) keyed its_id none (inr there) =
     no_idle owner id e ts keyed.1 its_id (none_rest (is_at (name_cmp (name owner id))) t ts (is_at (name_cmp (name owner id)) t.0) refl none).1 there
 
@@ -191,12 +191,12 @@ has_timers owner e (t ∷ ts) more (inr there) = by (has_timers owner e ts more 
 -- a timer isn't idle, and what is idle isn't due
 pub timer_due : (owner : ℕ) (e : Entry) (ts : List (DueKey × Entry)) → AllByRecursion IsTimer ts → e.due ≡ None → Has (item owner e) (map timer_item ts) → ⊥
 timer_due owner e [] keyed idle has = has
-timer_due owner e (t ∷ ts) keyed idle (inl same) = none-some _ (sym idle ∙ ap (λ i. i.value.due) (sym same) ∙ keyed.0.1)
+timer_due owner e (t ∷ ts) keyed idle (inl same) = none-some _ (sym idle ∙ ap (λ (i : Item Entry). i.value.due) (sym same) ∙ keyed.0.1)
 timer_due owner e (t ∷ ts) keyed idle (inr there) = timer_due owner e ts keyed.1 idle there
 
 pub idle_due : (owner : ℕ) (e : Entry) (ts : List (Name × Entry)) → AllByRecursion IsIdle ts → Has (item owner e) (map idle_item ts) → e.due ≡ None
 idle_due owner e [] keyed has = absurd has
-idle_due owner e (t ∷ ts) keyed (inl same) = ap (λ i. i.value.due) (sym same) ∙ keyed.0.1
+idle_due owner e (t ∷ ts) keyed (inl same) = ap (λ (i : Item Entry). i.value.due) (sym same) ∙ keyed.0.1
 idle_due owner e (t ∷ ts) keyed (inr there) = idle_due owner e ts keyed.1 there
 
 unmarked : (stored : Stored) → AreKeyed stored → (owner id : ℕ) (due : Option ℕ) (e : Entry) → e.id ≡ id → e.due ≡ due → stored_at owner id due stored ≡ None
@@ -209,7 +209,7 @@ unmarked stored keyed owner id None e its_id its_due none (inr back) = no_idle o
 marked_none : (stored : Stored) → AreKeyed stored → (owner id : ℕ) (due : Option ℕ) → stored_at owner id due stored ≡ None → (o : Option Entry) → entry_with id (entries_in owner stored) ≡ o → IfSome o (λ entry. entry.due ≡ due) → entry_with id (entries_in owner stored) ≡ None
 marked_none stored keyed owner id due none None is marked = is
 marked_none stored keyed owner id due none (Some e) is marked =
-    let has = found_has (λ entry. entry.id == id) e (entries_in owner stored) is in
+    let has = found_has (λ (entry : Entry). entry.id == id) e (entries_in owner stored) is in
     absurd (unmarked stored keyed owner id due e (eqb-true e.id id has.1) marked none (has_timers owner e stored.timers (map idle_item stored.idle) (bag_has number_of owner e (bag_of stored) has.0)))
 
 -- what is looked up is what the application has under the number
@@ -228,3 +228,27 @@ taken_own stored keyed owner id due rising marked None is =
 taken_own stored keyed owner id due rising marked (Some entry) is =
     let f = found stored keyed owner id due entry is in
     split_gone stored (taken owner id due stored) owner entry f.split rising ∙ ap (λ n. without number_of n (entries_in owner stored)) f.its_number
+
+-- ── as calls tell it ──
+pub record Put (now new : Stored) (owner : ℕ) (entry : Entry) : Type 0 where
+  pub own : entries_in owner new ≡ entries_in owner now ++ entry ∷ []
+  pub others : (other : ℕ) → other ≢ owner → entries_in other new ≡ entries_in other now
+  pub back : taken owner entry.id entry.due new ≡ now
+
+module _ (stored now : Stored) (is : stored ≡ now) (keyed : AreKeyed stored) (owner : ℕ) (entry : Entry) (below : AllBelow number_of entry.id (entries_in owner now)) (due : Option ℕ) (its_due : entry.due ≡ due) where
+  pub put_given : Given stored (given owner entry.id due entry stored) owner entry
+  put_given = given_is stored keyed owner entry (subst (λ s. AllBelow number_of entry.id (entries_in owner s)) (sym is) below) due its_due
+
+  pub put : (new : Stored) → new ≡ given owner entry.id due entry stored → Put now new owner entry
+  put new new_is =
+      let whole = given owner entry.id due entry stored in
+      record {
+        own = ap (entries_in owner) new_is ∙ split_new whole stored owner entry put_given.split (subst (λ s. AllBelow number_of entry.id (entries_in owner s)) (sym is) below) ∙ ap (λ s. entries_in owner s ++ entry ∷ []) is;
+        others = λ other differ. ap (entries_in other) new_is ∙ split_other whole stored owner entry put_given.split other differ ∙ ap (entries_in other) is;
+        back = ap (taken owner entry.id entry.due) new_is ∙ put_given.back ∙ is;
+      }
+
+-- what holds of the entries before and after holds whether or not there was memory
+pub either_way : {A E X : Type 0} (P : List X → Type 0) (r : Result A E) (old whole new : List X) → OnOk r (new ≡ whole) → OnErr r (new ≡ old) → P old → P whole → P new
+either_way P (Ok a) old whole new ok err was is = subst P (sym ok) is
+either_way P (Err e) old whole new ok err was is = subst P (sym err) was

@@ -6,6 +6,7 @@ use Rattle.std.specs.List.{AllByRecursion, cons_option}
 use Rattle.std.specs.Map.{keys_of}
 use Rattle.std.proofs.lemmas.List.Elements.{All-from_recursion}
 use Rattle.std.proofs.lemmas.Option.{none-some, same_Some}
+use Rattle.tk_bag.specs.Bag.{Item}
 use Rattle.tk_bag.proofs.Owners.{item}
 use Rattle.tk_after.specs.declared.counter.Counter.{Counter}
 use Rattle.tk_after.specs.declared.entry.Entry.{Entry}
@@ -43,7 +44,7 @@ no_moments (x ∷ xs) none = ap (λ o. cons_option o (due_moments xs)) (none x (
 
 among_moments : (due : ℕ) (e : Entry) (xs : List Entry) → e.due ≡ Some due → Has e xs → Contains (due_moments xs) due
 among_moments due e [] is has = absurd has
-among_moments due e (x ∷ xs) is (inl same) = subst (λ o. Contains (cons_option o (due_moments xs)) due) (sym (ap (λ v. v.due) same ∙ is)) (0, omega arith, refl)
+among_moments due e (x ∷ xs) is (inl same) = subst (λ o. Contains (cons_option o (due_moments xs)) due) (sym (ap (λ (v : Entry). v.due) same ∙ is)) (0, omega arith, refl)
 among_moments due e (x ∷ xs) is (inr there) = behind x.due (among_moments due e xs is there)
   where
     behind : (o : Option ℕ) → Contains (due_moments xs) due → Contains (cons_option o (due_moments xs)) due
@@ -53,7 +54,7 @@ among_moments due e (x ∷ xs) is (inr there) = behind x.due (among_moments due 
 -- the timers of a map whose first is this one
 from_first : (k : DueKey) (owner : ℕ) (e : Entry) (ts : List (DueKey × Entry)) → AllByRecursion IsTimer ts → AllByRecursion (IsLeBy due_cmp k) (keys_of ts) → Has (item owner e) (map timer_item ts) → IsFrom k.due e
 from_first k owner e [] keyed later has = absurd has
-from_first k owner e (t ∷ ts) keyed later (inl same) = from_timer k.due t.0.due e.due (ap (λ i. i.value.due) (sym same) ∙ keyed.0.1) (less_due k t.0 later.0)
+from_first k owner e (t ∷ ts) keyed later (inl same) = from_timer k.due t.0.due e.due (ap (λ (i : Item Entry). i.value.due) (sym same) ∙ keyed.0.1) (less_due k t.0 later.0)
 from_first k owner e (t ∷ ts) keyed later (inr there) = from_first k owner e ts keyed.1 later.1 there
 
 module _ (stored : Stored) (keyed : AreKeyed stored) where

@@ -2,7 +2,7 @@
 use Rattle.std.proofs.Common.{◌≡◌, ◌≢◌, ℕ, ◌+◌, ◌-◌, ◌^◌, ◌<◌, ◌≤◌, suc, leb, Bool, true, false, List, [], ◌∷◌, ◌++◌, length, map, Option, Some, None, refl, sym, ap, ◌∙◌, subst, length-append, arith}
 use Rattle.std.specs.Prelude.{◌==◌, ◌||◌, find, filter, not, option_map, is_none, IfSome}
 use Rattle.std.specs.List.{cons_option, filter_map}
-use Rattle.std.proofs.lemmas.Bool.{eqb-true, eq-eqb, false≢true, leb-false}
+use Rattle.std.proofs.lemmas.Bool.{eqb-true, eq-eqb, ne_eqb, false≢true, leb-false}
 use Rattle.std.proofs.lemmas.Option.{none-some, same_Some}
 use Rattle.tk_bag.specs.Bag.{numbered, without, AllBelow, AllAbove, IsRising}
 use Rattle.tk_after.specs.declared.counter.Counter.{Counter}
@@ -59,11 +59,7 @@ fewer id (e ∷ entries) = fewer_by id e entries (e.id == id) refl (fewer id ent
 
 above_without : (id : ℕ) (entries : List Entry) → AllAbove number_of id entries → without number_of id entries ≡ entries
 above_without id [] above = refl
-above_without id (e ∷ entries) above = by (e.id == id) refl
-  where
-    by : (b : Bool) → (e.id == id) ≡ b → without number_of id (e ∷ entries) ≡ e ∷ entries
-    by true is = let same = eqb-true e.id id is in absurd (omega (arith, above.0, same))
-    by false is = rw is (ap (λ zs. e ∷ zs) (above_without id entries above.1))
+above_without id (e ∷ entries) above = rw (ne_eqb e.id id (λ same. omega (arith, above.0, same))) (ap (λ zs. e ∷ zs) (above_without id entries above.1))
 
 one_less_by : (id : ℕ) (x e : Entry) (entries : List Entry) (b : Bool) → (x.id == id) ≡ b → AllAbove number_of x.id entries → (entry_with id entries ≡ Some e → length (without number_of id entries) + 1 ≡ length entries)
     → entry_with id (x ∷ entries) ≡ Some e → length (without number_of id (x ∷ entries)) + 1 ≡ length (x ∷ entries)
@@ -87,21 +83,21 @@ find_marks : (p : Mark → Bool) (xs : List Entry) → find p (map mark_of xs) �
 find_marks p [] = refl
 find_marks p (x ∷ xs) = find_by p x xs (p (mark_of x)) refl (find_marks p xs)
 
-id_of_mark : (o : Option Entry) → option_map mark_number (option_map mark_of o) ≡ option_map (λ e. e.id) o
+id_of_mark : (o : Option Entry) → option_map mark_number (option_map mark_of o) ≡ option_map (λ (e : Entry). e.id) o
 id_of_mark None = refl
 id_of_mark (Some e) = refl
 
-due_of_mark : (o : Option Entry) → option_map (λ mark. mark.due) (option_map mark_of o) ≡ option_map (λ e. e.due) o
+due_of_mark : (o : Option Entry) → option_map (λ (mark : Mark). mark.due) (option_map mark_of o) ≡ option_map (λ (e : Entry). e.due) o
 due_of_mark None = refl
 due_of_mark (Some e) = refl
 
-pub find_id_marks : (p : Mark → Bool) (xs : List Entry) → option_map mark_number (find p (map mark_of xs)) ≡ option_map (λ e. e.id) (find (λ e. p (mark_of e)) xs)
+pub find_id_marks : (p : Mark → Bool) (xs : List Entry) → option_map mark_number (find p (map mark_of xs)) ≡ option_map (λ (e : Entry). e.id) (find (λ e. p (mark_of e)) xs)
 find_id_marks p xs = ap (option_map mark_number) (find_marks p xs) ∙ id_of_mark (find (λ e. p (mark_of e)) xs)
 
-pub due_marks : (id : ℕ) (xs : List Entry) → option_map (λ mark. mark.due) (numbered mark_number id (map mark_of xs)) ≡ option_map (λ e. e.due) (entry_with id xs)
-due_marks id xs = ap (option_map (λ mark. mark.due)) (find_marks (λ mark. mark.id == id) xs) ∙ due_of_mark (entry_with id xs)
+pub due_marks : (id : ℕ) (xs : List Entry) → option_map (λ (mark : Mark). mark.due) (numbered mark_number id (map mark_of xs)) ≡ option_map (λ (e : Entry). e.due) (entry_with id xs)
+due_marks id xs = ap (option_map (λ (mark : Mark). mark.due)) (find_marks (λ (mark : Mark). mark.id == id) xs) ∙ due_of_mark (entry_with id xs)
 
-pub moments_marks : (xs : List Entry) → filter_map (λ mark. mark.due) (map mark_of xs) ≡ due_moments xs
+pub moments_marks : (xs : List Entry) → filter_map (λ (mark : Mark). mark.due) (map mark_of xs) ≡ due_moments xs
 moments_marks [] = refl
 moments_marks (x ∷ xs) = ap (cons_option x.due) (moments_marks xs)
 
@@ -109,11 +105,11 @@ pub ids_marks : (xs : List Entry) → map mark_number (map mark_of xs) ≡ ids x
 ids_marks [] = refl
 ids_marks (x ∷ xs) = ap (λ ns. x.id ∷ ns) (ids_marks xs)
 
-idle_by : (x : Entry) (xs : List Entry) (b : Bool) → is_none x.due ≡ b → map mark_number (filter (λ mark. is_none mark.due) (map mark_of xs)) ≡ idle_ids xs → map mark_number (filter (λ mark. is_none mark.due) (map mark_of (x ∷ xs))) ≡ idle_ids (x ∷ xs)
+idle_by : (x : Entry) (xs : List Entry) (b : Bool) → is_none x.due ≡ b → map mark_number (filter (λ (mark : Mark). is_none mark.due) (map mark_of xs)) ≡ idle_ids xs → map mark_number (filter (λ (mark : Mark). is_none mark.due) (map mark_of (x ∷ xs))) ≡ idle_ids (x ∷ xs)
 idle_by x xs true is rest = rw is (ap (λ ns. x.id ∷ ns) rest)
 idle_by x xs false is rest = rw is rest
 
-pub idle_marks : (xs : List Entry) → map mark_number (filter (λ mark. is_none mark.due) (map mark_of xs)) ≡ idle_ids xs
+pub idle_marks : (xs : List Entry) → map mark_number (filter (λ (mark : Mark). is_none mark.due) (map mark_of xs)) ≡ idle_ids xs
 idle_marks [] = refl
 idle_marks (x ∷ xs) = idle_by x xs (is_none x.due) refl (idle_marks xs)
 
@@ -134,13 +130,19 @@ without_marks id [] = refl
 without_marks id (x ∷ xs) = without_by id x xs (x.id == id) refl (without_marks id xs)
 
 -- ── a number's moment as the index tells it ──
-pub marked_by : (due : Option ℕ) (o : Option Entry) → option_map (λ e. e.due) o ≡ Some due → IfSome o (λ e. e.due ≡ due)
+pub marked_by : (due : Option ℕ) (o : Option Entry) → option_map (λ (e : Entry). e.due) o ≡ Some due → IfSome o (λ e. e.due ≡ due)
 marked_by due None is = tt
 marked_by due (Some e) is = same_Some _ _ is
 
-pub unlisted_by : (o : Option Entry) → option_map (λ e. e.due) o ≡ None → o ≡ None
+pub unlisted_by : (o : Option Entry) → option_map (λ (e : Entry). e.due) o ≡ None → o ≡ None
 unlisted_by None is = refl
 unlisted_by (Some e) is = absurd (none-some _ (sym is))
+
+abbrev entry_of : ℕ → Option ℕ → List ℕ → Entry
+entry_of id due script = record { id = id; due = due; script = script }
+
+abbrev own_with : ℕ → List Entry → Own
+own_with next entries = record { next_number = next; entries = entries }
 
 -- ── all applications ──
 module _ (stored new : Stored) (rows rows' : List (Name × Option ℕ)) (counters counters' : List (ℕ × Counter)) (owner : ℕ) where
@@ -153,8 +155,8 @@ module _ (stored new : Stored) (rows rows' : List (Name × Option ℕ)) (counter
 
   pub own_left : Leaves → (other : ℕ) → other ≢ owner → own_of other (held_by new counters') ≡ own_of other (held_by stored counters)
   own_left leaves other differ =
-      ap (λ n. record { next_number = n; entries = entries_in other new }) (leaves.nexts other differ)
-      ∙ ap (λ es. record { next_number = next_of other counters; entries = es }) (leaves.entries other differ)
+      ap (λ n. own_with n (entries_in other new)) (leaves.nexts other differ)
+      ∙ ap (λ es. own_with (next_of other counters) es) (leaves.entries other differ)
 
   -- all is kept where it is of the one that changes
   pub kept_by : AreKept stored rows counters → Leaves → IsKept (own_of owner (held_by new counters')) → count_of owner counters' ≡ length (entries_in owner new) → marks_of owner rows' ≡ map mark_of (entries_in owner new)
@@ -220,9 +222,9 @@ module _ (stored new : Stored) (rows rows' : List (Name × Option ℕ)) (counter
       → Done stored new rows' counters counters' owner (with_entry due script (own_of owner (held_by stored counters)))
   inserted id due script id_is room own others marks other_marks counts =
       let entry : Entry = record { id = next_of owner counters; due = due; script = script } in
-      let entries_are : entries_in owner new ≡ entries_in owner stored ++ entry ∷ [] = own ∙ ap (λ n. entries_in owner stored ++ record { id = n; due = due; script = script } ∷ []) id_is in
+      let entries_are : entries_in owner new ≡ entries_in owner stored ++ entry ∷ [] = own ∙ ap (λ n. entries_in owner stored ++ entry_of n due script ∷ []) id_is in
       let own_is : own_of owner (held_by new counters') ≡ with_entry due script (own_of owner (held_by stored counters)) =
-      ap (λ n. record { next_number = n; entries = entries_in owner new }) counts.next_is ∙ ap (λ es. record { next_number = next_of owner counters + 1; entries = es }) entries_are in
+      ap (λ n. own_with n (entries_in owner new)) counts.next_is ∙ ap (λ es. own_with (next_of owner counters + 1) es) entries_are in
       let leaves : Leaves stored new rows rows' counters counters' owner = record { entries = others; marks = other_marks; nexts = counts.nexts; counts = counts.counts } in
       record {
         kept = kept_by stored new rows rows' counters counters' owner kept leaves
@@ -243,7 +245,7 @@ module _ (stored new : Stored) (rows rows' : List (Name × Option ℕ)) (counter
       → Done stored new rows' counters counters' owner (own_without id (own_of owner (held_by stored counters)))
   removed id e there own others marks other_marks counts =
       let own_is : own_of owner (held_by new counters') ≡ own_without id (own_of owner (held_by stored counters)) =
-      ap (λ n. record { next_number = n; entries = entries_in owner new }) counts.next_is ∙ ap (λ es. record { next_number = next_of owner counters; entries = es }) own in
+      ap (λ n. own_with n (entries_in owner new)) counts.next_is ∙ ap (λ es. own_with (next_of owner counters) es) own in
       let leaves : Leaves stored new rows rows' counters counters' owner = record { entries = others; marks = other_marks; nexts = counts.nexts; counts = counts.counts } in
       let fewer = one_less id e (entries_in owner stored) (kept_rising (own_of owner (held_by stored counters)) (kept.sound owner)) there in
       let count : count_of owner counters - 1 ≡ length (without number_of id (entries_in owner stored)) = omega (arith, fewer, kept.counted owner) in

@@ -28,10 +28,10 @@ pub exact_dues : CmpEqualImpliesEq due_cmp
 exact_dues a b h = ap (λ (p : ℕ × (ℕ × ℕ)). due_key p.0 p.1.0 p.1.1) (exact_pairs nat_cmp pair_cmp exact_unsigned exact_two (a.due, (a.owner, a.id)) (b.due, (b.owner, b.id)) h)
 
 pub names_total : IsTotalOrder name_cmp
-names_total = then_total (on_total (λ n. n.owner) nat_cmp_total) (on_total (λ n. n.id) nat_cmp_total)
+names_total = then_total (on_total (λ (n : Name). n.owner) nat_cmp_total) (on_total (λ (n : Name). n.id) nat_cmp_total)
 
 pub dues_total : IsTotalOrder due_cmp
-dues_total = then_total (on_total (λ k. k.due) nat_cmp_total) (then_total (on_total (λ k. k.owner) nat_cmp_total) (on_total (λ k. k.id) nat_cmp_total))
+dues_total = then_total (on_total (λ (k : DueKey). k.due) nat_cmp_total) (then_total (on_total (λ (k : DueKey). k.owner) nat_cmp_total) (on_total (λ (k : DueKey). k.id) nat_cmp_total))
 
 -- ── a name that is looked for ──
 equal_from : (o : Ordering) → is_eq o ≡ true → o ≡ Equal
@@ -63,11 +63,11 @@ at_name owner id k its_owner its_id =
 
 pub other_owner : (owner id : ℕ) (k : Name) → (k.owner == owner) ≡ false → is_at (name_cmp (name owner id)) k ≡ false
 other_owner owner id k differs =
-    not_true (is_at (name_cmp (name owner id)) k) (λ passes. false≢true (sym differs ∙ eq-eqb k.owner owner (ap (λ n. n.owner) (sym (same_name owner id k passes)))))
+    not_true (is_at (name_cmp (name owner id)) k) (λ passes. false≢true (sym differs ∙ eq-eqb k.owner owner (ap (λ (n : Name). n.owner) (sym (same_name owner id k passes)))))
 
 pub other_id : (owner id : ℕ) (k : Name) → (k.id == id) ≡ false → is_at (name_cmp (name owner id)) k ≡ false
 other_id owner id k differs =
-    not_true (is_at (name_cmp (name owner id)) k) (λ passes. false≢true (sym differs ∙ eq-eqb k.id id (ap (λ n. n.id) (sym (same_name owner id k passes)))))
+    not_true (is_at (name_cmp (name owner id)) k) (λ passes. false≢true (sym differs ∙ eq-eqb k.id id (ap (λ (n : Name). n.id) (sym (same_name owner id k passes)))))
 
 -- ── the order of one application's names ──
 pub less_id : (a b : Name) → a.owner ≡ b.owner → name_cmp a b ≡ Less → a.id < b.id
@@ -108,3 +108,6 @@ in_range_by owner k Greater small is =
 -- from an application's first number to its last, of the names with numbers of the machine, are its own
 pub in_range : (owner : ℕ) (k : Name) → k.id < 2 ^ 64 → range_contains name_cmp (Included (name owner 0)) (Included (name owner 18446744073709551615)) k ≡ (k.owner == owner)
 in_range owner k small = in_range_by owner k (nat_cmp owner k.owner) small refl
+
+pub forward : (owner : ℕ) → is_gt (name_cmp (name owner 0) (name owner 18446744073709551615)) ≡ false
+forward owner = rw (tied_itself nat_cmp_total owner) refl

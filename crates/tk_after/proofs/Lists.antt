@@ -9,11 +9,11 @@ use Rattle.tk_bag.specs.Bag.{Item, values_of, insert_in, in_order, listed, numbe
 use Rattle.tk_bag.proofs.Owners.{item, own_stands}
 use Rattle.tk_bag.proofs.Orders.{Stands}
 
-module _ {X : Type 0} where
-  abbrev pub Has : X → List X → Type 0
-  Has x [] = ⊥
-  Has x (y ∷ ys) = (y ≡ x) ⊎ Has x ys
+abbrev pub Has : {X : Type 0} → X → List X → Type 0
+Has x [] = ⊥
+Has x (y ∷ ys) = (y ≡ x) ⊎ Has x ys
 
+module _ {X : Type 0} where
   pub has_part : (x : X) (front back : List X) → Has x (front ++ x ∷ back)
   has_part x [] back = inl refl
   has_part x (y ∷ front) back = inr (has_part x front back)
@@ -24,7 +24,7 @@ module _ {X : Type 0} where
 
   -- what is found stands there and passes
   pub found_has : (test : X → Bool) (x : X) (xs : List X) → find test xs ≡ Some x → Has x xs × (test x ≡ true)
-  found_has test x [] found = absurd (cc found)
+  found_has test x [] found = absurd (none-some _ found)
   found_has test x (y ∷ ys) found = found_by test x y ys (test y) refl (found_has test x ys) found
 
   module _ (number : X → ℕ) where

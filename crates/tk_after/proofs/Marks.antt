@@ -16,7 +16,7 @@ use Rattle.tk_bag.proofs.Orders.{gone_there}
 use Rattle.tk_bag.proofs.Owners.{item, values_of-append, listed_new, listed_other}
 use Rattle.tk_after.specs.declared.entry.Entry.{Entry}
 use Rattle.tk_after.specs.declared.keys.Name.{Name}
-use Rattle.tk_after.specs.Keys.{name_cmp, name, Mark, mark_number, mark_of, mark_in, marks_in, mark_item, marks_of, lies_due_at, AreMarks}
+use Rattle.tk_after.specs.Keys.{name_cmp, name, Mark, mark_number, mark_of, mark_in, marks_in, mark_item, marks_of, lies_due_at, IsNumber, AreMarks}
 use Rattle.tk_after.proofs.KeyOrders.{at_name, other_owner, other_id, same_name, less_id, in_range}
 use Rattle.tk_after.proofs.Lists.{in_order-rising, without_absent}
 use Rattle.tk_after.proofs.Splits.{Stands, there, nowhere, Comes, comes, all_with, all_without}
@@ -26,17 +26,17 @@ Rows = List (Name × Option ℕ)
 
 -- ── a number that is looked for ──
 look_by : (owner id : ℕ) (r : Name × Option ℕ) (rows : Rows) (b t : Bool) → (r.0.owner == owner) ≡ b → (r.0.id == id) ≡ t
-    → lookup (is_at (name_cmp (name owner id))) rows ≡ option_map (λ mark. mark.due) (numbered mark_number id (marks_of owner rows))
-    → lookup (is_at (name_cmp (name owner id))) (r ∷ rows) ≡ option_map (λ mark. mark.due) (numbered mark_number id (marks_of owner (r ∷ rows)))
+    → lookup (is_at (name_cmp (name owner id))) rows ≡ option_map (λ (mark : Mark). mark.due) (numbered mark_number id (marks_of owner rows))
+    → lookup (is_at (name_cmp (name owner id))) (r ∷ rows) ≡ option_map (λ (mark : Mark). mark.due) (numbered mark_number id (marks_of owner (r ∷ rows)))
 look_by owner id r rows true true its_owner its_id rest = rw (at_name owner id r.0 its_owner its_id, its_owner, its_id) refl
 look_by owner id r rows true false its_owner its_id rest = rw (other_id owner id r.0 its_id, its_owner, its_id) rest
 look_by owner id r rows false t its_owner its_id rest = rw (other_owner owner id r.0 its_owner, its_owner) rest
 
-pub look : (owner id : ℕ) (rows : Rows) → lookup (is_at (name_cmp (name owner id))) rows ≡ option_map (λ mark. mark.due) (numbered mark_number id (marks_of owner rows))
+pub look : (owner id : ℕ) (rows : Rows) → lookup (is_at (name_cmp (name owner id))) rows ≡ option_map (λ (mark : Mark). mark.due) (numbered mark_number id (marks_of owner rows))
 look owner id [] = refl
 look owner id (r ∷ rows) = look_by owner id r rows (r.0.owner == owner) (r.0.id == id) refl refl (look owner id rows)
 
-no_mark : (o : Option Mark) → option_map (λ mark. mark.due) o ≡ None → o ≡ None
+no_mark : (o : Option Mark) → option_map (λ (mark : Mark). mark.due) o ≡ None → o ≡ None
 no_mark None is = refl
 no_mark (Some mark) is = absurd (none-some _ (sym is))
 
@@ -65,21 +65,21 @@ between_by : (owner : ℕ) (r : Name × Option ℕ) (rows : Rows) (b : Bool) →
 between_by owner r rows true is small rest = rw (in_range owner r.0 small, is) (ap (λ ms. mark_in r ∷ ms) rest)
 between_by owner r rows false is small rest = rw (in_range owner r.0 small, is) rest
 
-pub between : (owner : ℕ) (rows : Rows) → AllByRecursion (λ row. row.0.id < 2 ^ 64) rows → marks_in (entries_between name_cmp (Included (name owner 0)) (Included (name owner 18446744073709551615)) rows) ≡ marks_of owner rows
+pub between : (owner : ℕ) (rows : Rows) → AllByRecursion IsNumber rows → marks_in (entries_between name_cmp (Included (name owner 0)) (Included (name owner 18446744073709551615)) rows) ≡ marks_of owner rows
 between owner [] small = refl
 between owner (r ∷ rows) small = between_by owner r rows (r.0.owner == owner) refl small.0 (between owner rows small.1)
 
 -- ── a number that comes, and one that goes ──
-pub small_given : (n : Name) (due : Option ℕ) (rows : Rows) → n.id < 2 ^ 64 → AllByRecursion (λ row. row.0.id < 2 ^ 64) rows → lookup (is_at (name_cmp n)) rows ≡ None → AllByRecursion (λ row. row.0.id < 2 ^ 64) (insert_entry name_cmp rows n due)
+pub small_given : (n : Name) (due : Option ℕ) (rows : Rows) → n.id < 2 ^ 64 → AllByRecursion IsNumber rows → lookup (is_at (name_cmp n)) rows ≡ None → AllByRecursion IsNumber (insert_entry name_cmp rows n due)
 small_given n due rows small all none =
     let s = comes name_cmp rows n due none in
-    subst (AllByRecursion (λ row. row.0.id < 2 ^ 64)) (sym s.new_is) (all_with (λ row. row.0.id < 2 ^ 64) s.front (n, due) s.back (subst (AllByRecursion (λ row. row.0.id < 2 ^ 64)) s.es_is all) small)
+    subst (AllByRecursion IsNumber) (sym s.new_is) (all_with IsNumber s.front (n, due) s.back (subst (AllByRecursion IsNumber) s.es_is all) small)
 
 marks_with : (owner id : ℕ) (due : Option ℕ) (front back : Rows) → map mark_item (front ++ (name owner id, due) ∷ back) ≡ map mark_item front ++ item owner (record { id = id; due = due }) ∷ map mark_item back
 marks_with owner id due front back = map-append mark_item front ((name owner id, due) ∷ back)
 
 pub absent_row : (owner id : ℕ) (rows : Rows) → AllBelow mark_number id (marks_of owner rows) → lookup (is_at (name_cmp (name owner id))) rows ≡ None
-absent_row owner id rows below = look owner id rows ∙ ap (option_map (λ mark. mark.due)) (not_there (marks_of owner rows) below)
+absent_row owner id rows below = look owner id rows ∙ ap (option_map (λ (mark : Mark). mark.due)) (not_there (marks_of owner rows) below)
   where
     not_there : (ms : List Mark) → AllBelow mark_number id ms → numbered mark_number id ms ≡ None
     not_there [] below = refl
@@ -150,8 +150,8 @@ taken_others rows owner id (Some due) is other differ =
     anothers : (due : Option ℕ) (back : Rows) → marks_of other ((name owner id, due) ∷ back) ≡ marks_of other back
     anothers due back = rw (ne_eqb owner other (λ e. differ (sym e))) refl
 
-pub small_taken : (rows : Rows) (owner id : ℕ) (o : Option (Option ℕ)) → lookup (is_at (name_cmp (name owner id))) rows ≡ o → AllByRecursion (λ row. row.0.id < 2 ^ 64) rows → AllByRecursion (λ row. row.0.id < 2 ^ 64) (remove_entry (is_at (name_cmp (name owner id))) rows)
-small_taken rows owner id None is all = subst (AllByRecursion (λ row. row.0.id < 2 ^ 64)) (sym (nowhere (is_at (name_cmp (name owner id))) rows is)) all
+pub small_taken : (rows : Rows) (owner id : ℕ) (o : Option (Option ℕ)) → lookup (is_at (name_cmp (name owner id))) rows ≡ o → AllByRecursion IsNumber rows → AllByRecursion IsNumber (remove_entry (is_at (name_cmp (name owner id))) rows)
+small_taken rows owner id None is all = subst (AllByRecursion IsNumber) (sym (nowhere (is_at (name_cmp (name owner id))) rows is)) all
 small_taken rows owner id (Some due) is all =
     let s = goes rows owner id due is in
-    subst (AllByRecursion (λ row. row.0.id < 2 ^ 64)) (sym s.rest_is) (all_without (λ row. row.0.id < 2 ^ 64) s.front (name owner id, s.due) s.back (subst (AllByRecursion (λ row. row.0.id < 2 ^ 64)) s.rows_is all))
+    subst (AllByRecursion IsNumber) (sym s.rest_is) (all_without IsNumber s.front (name owner id, s.due) s.back (subst (AllByRecursion IsNumber) s.rows_is all))

@@ -5,7 +5,7 @@ use Rattle.std.specs.List.{AllByRecursion}
 use Rattle.std.specs.Map.{lookup, remove_entry}
 use Rattle.std.specs.declared.cmp.Ordering.{Ordering}
 use Rattle.std.specs.declared.cmp.Ordering.TheVariants.{Less, Equal, Greater}
-use Rattle.std.proofs.lemmas.Option.{same_Some}
+use Rattle.std.proofs.lemmas.Option.{none-some, same_Some}
 
 module _ {X : Type 0} (P : X → Type 0) where
   pub all_at : (front : List X) (x : X) (back : List X) → AllByRecursion P (front ++ x ∷ back) → P x
@@ -39,7 +39,7 @@ module _ {K X : Type 0} (test : K → Bool) where
       record { front = e ∷ s.front; key = s.key; back = s.back; passes = s.passes; es_is = ap (λ zs. e ∷ zs) s.es_is; rest_is = rw is (ap (λ zs. e ∷ zs) s.rest_is) }
 
   pub there : (es : List (K × X)) (x : X) → lookup test es ≡ Some x → Stands es x
-  there [] x found = absurd (cc found)
+  there [] x found = absurd (none-some _ found)
   there (e ∷ es) x found = there_by e es x (test e.0) refl (there es x) found
 
   nowhere_by : (e : K × X) (es : List (K × X)) (b : Bool) → test e.0 ≡ b → (lookup test es ≡ None → remove_entry test es ≡ es) → lookup test (e ∷ es) ≡ None → remove_entry test (e ∷ es) ≡ e ∷ es

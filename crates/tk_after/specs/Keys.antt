@@ -113,9 +113,13 @@ mark_item row = record { owner = row.0.owner; value = mark_in row }
 abbrev pub marks_of : ℕ → List (Name × Option ℕ) → List Mark
 marks_of owner rows = values_of owner (map mark_item rows)
 
--- they stand by application and number, and numbers are those of the machine
+-- its number is one of the machine
+abbrev pub IsNumber : Name × Option ℕ → Type 0
+IsNumber row = row.0.id < 2 ^ 64
+
+-- they stand by application and number
 abbrev pub AreMarks : List (Name × Option ℕ) → Type 0
-AreMarks rows = IsStrictlySortedBy name_cmp (keys_of rows) × AllByRecursion (λ row. row.0.id < 2 ^ 64) rows
+AreMarks rows = IsStrictlySortedBy name_cmp (keys_of rows) × AllByRecursion IsNumber rows
 
 -- ---- all together
 

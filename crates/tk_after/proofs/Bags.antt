@@ -252,3 +252,24 @@ module _ (stored now : Stored) (is : stored ≡ now) (keyed : AreKeyed stored) (
 pub either_way : {A E X : Type 0} (P : List X → Type 0) (r : Result A E) (old whole new : List X) → OnOk r (new ≡ whole) → OnErr r (new ≡ old) → P old → P whole → P new
 either_way P (Ok a) old whole new ok err was is = subst P (sym ok) is
 either_way P (Err e) old whole new ok err was is = subst P (sym err) was
+
+module _ (stored now : Stored) (is : stored ≡ now) (keyed : AreKeyed stored) (owner id : ℕ) (asked due : Option ℕ) (asked_is : asked ≡ due) where
+  rising_there : IsRising number_of (entries_in owner now) → IsRising number_of (entries_in owner stored)
+  rising_there rising = subst (λ s. IsRising number_of (entries_in owner s)) (sym is) rising
+
+  marked_there : IsMarked id asked (entries_in owner now) → IsMarked id due (entries_in owner stored)
+  marked_there marked = subst (λ d. IsMarked id d (entries_in owner stored)) asked_is (subst (λ s. IsMarked id asked (entries_in owner s)) (sym is) marked)
+
+  pub got : (o : Option Entry) → o ≡ stored_at owner id due stored → IsRising number_of (entries_in owner now) → IsMarked id asked (entries_in owner now) → o ≡ entry_with id (entries_in owner now)
+  got o o_is rising marked =
+      o_is ∙ looked_up stored keyed owner id due (rising_there rising) (marked_there marked) (stored_at owner id due stored) refl ∙ ap (λ s. entry_with id (entries_in owner s)) is
+
+  pub taken_from : (new : Stored) → new ≡ taken owner id due stored → IsRising number_of (entries_in owner now) → IsMarked id asked (entries_in owner now) → entries_in owner new ≡ without number_of id (entries_in owner now)
+  taken_from new new_is rising marked =
+      ap (entries_in owner) new_is ∙ taken_own stored keyed owner id due (rising_there rising) (marked_there marked) (stored_at owner id due stored) refl ∙ ap (λ s. without number_of id (entries_in owner s)) is
+
+  pub left_others : (new : Stored) → new ≡ taken owner id due stored → (other : ℕ) → other ≢ owner → entries_in other new ≡ entries_in other now
+  left_others new new_is other differ = ap (entries_in other) new_is ∙ taken_other stored keyed owner id due (stored_at owner id due stored) refl other differ ∙ ap (entries_in other) is
+
+  pub still_keyed : AreKeyed (taken owner id due stored)
+  still_keyed = taken_keyed stored keyed owner id due (stored_at owner id due stored) refl

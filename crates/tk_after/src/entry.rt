@@ -17,14 +17,6 @@ pub struct Entry {
 impl Entry {
     ghost use Rattle.std.specs.Str.{bytes_eq};
     ghost use Rattle.tk_after.specs.After.{name_of};
-    ghost use Rattle.tk_after.specs.Timers.{is_due_at};
-
-    /// Whether it is a timer that is due at this very moment.
-    pub(crate) fn is_due_at(&self, moment: u64) -> bool
-        ensures { result ≡ is_due_at moment self.now }
-    {
-        self.due == Some(moment)
-    }
 
     /// Whether scripts have these characters as its name.
     pub(crate) fn is_named(&self, characters: &str) -> bool

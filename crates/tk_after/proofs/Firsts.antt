@@ -87,3 +87,7 @@ module _ (stored : Stored) (keyed : AreKeyed stored) where
 pub begins : {X : Type 0} (xs : List X) (x : X) → slice_get xs 0 ≡ Some x → (rest : List X) × (xs ≡ x ∷ rest)
 begins [] x is = absurd (none-some _ is)
 begins (y ∷ ys) x is = (ys, ap (λ v. v ∷ ys) (same_Some _ _ is))
+
+pub nothing_first : {X : Type 0} (xs : List X) → (0 < length xs → ⊥) → xs ≡ []
+nothing_first [] none = refl
+nothing_first (x ∷ xs) none = absurd (none (omega arith))

@@ -141,7 +141,7 @@ unlisted_by (Some e) is = absurd (none-some _ (sym is))
 abbrev entry_of : ℕ → Option ℕ → List ℕ → Entry
 entry_of id due script = record { id = id; due = due; script = script }
 
-abbrev own_with : ℕ → List Entry → Own
+abbrev pub own_with : ℕ → List Entry → Own
 own_with next entries = record { next_number = next; entries = entries }
 
 -- ── all applications ──

@@ -9,3 +9,4 @@ mod Marks
 mod Names
 pub mod Numbers
 mod Splits
+mod Told

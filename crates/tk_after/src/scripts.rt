@@ -104,7 +104,9 @@ impl Scripts {
         ensures least { (counters : List (ℕ × Counter))
             → IfSome result (IsNextDue (record { counters = counters; bag = bag_of self.now })) }
     {
-        let (key, _) = self.timers.first_key_value()?;
-        Some(key.due)
+        match self.timers.first_key_value() {
+            Some((key, _)) => Some(key.due),
+            None => None,
+        }
     }
 }

@@ -174,6 +174,7 @@ impl Timers {
             ≡ option_map (λ entry. entry.id) (first_due moment (entries_of owner self.now)) }
         ensures kept { IsKept (own_of owner self.now) }
     {
+        let _ = &self.index;
         let due = self.next_due_of(owner)?;
         if due > moment {
             return None;
@@ -303,9 +304,8 @@ fn entry_with_script<'a>(
         ≡ find (λ entry. bytes_eq entry.script script.now) (entries_in owner scripts.now) }
 {
     for (name, due) in index.own(owner) {
-        if let Some(entry) = scripts.get(owner, name.id, *due)
-            && entry.has_script(script)
-        {
+        let entry = scripts.get(owner, name.id, *due)?;
+        if entry.has_script(script) {
             return Some(entry);
         }
     }

@@ -17,7 +17,7 @@ use Rattle.tk_after.specs.Keys.{Stored, due_cmp, name_cmp, due_key, name, number
 use Rattle.tk_after.specs.Timers.{entry_with}
 use Rattle.tk_after.proofs.KeyOrders.{same_name, same_due, name_itself, due_itself, names_total, dues_total}
 use Rattle.tk_after.proofs.Lists.{Has, found_has, bag_has, listed_has, not_below, without_absent}
-use Rattle.tk_after.proofs.Splits.{Stands, there, nowhere, Comes, comes, undone, all_at, all_with, all_without}
+use Rattle.tk_after.proofs.Splits.{there, nowhere, comes, undone, all_at, all_with, all_without}
 
 -- what is stored with an entry, and without it
 pub record Split (stored rest : Stored) (owner : ℕ) (entry : Entry) : Type 0 where

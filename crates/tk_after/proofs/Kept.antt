@@ -1,17 +1,16 @@
 -- What holds of all applications' entries, their numbers and their counters, as entries come and go.
-use Rattle.std.proofs.Common.{◌≡◌, ◌≢◌, ℕ, ◌+◌, ◌-◌, ◌^◌, ◌<◌, ◌≤◌, suc, leb, Bool, true, false, List, [], ◌∷◌, ◌++◌, length, map, Option, Some, None, refl, sym, ap, ◌∙◌, subst, length-append, arith}
-use Rattle.std.specs.Prelude.{◌==◌, ◌||◌, find, filter, not, option_map, is_none, IfSome}
+use Rattle.std.proofs.Common.{◌≡◌, ◌≢◌, ℕ, ◌+◌, ◌-◌, ◌<◌, ◌≤◌, Bool, true, false, List, [], ◌∷◌, ◌++◌, length, map, Option, Some, None, refl, sym, ap, ◌∙◌, subst, arith}
+use Rattle.std.specs.Prelude.{◌==◌, find, filter, option_map, is_none, IfSome}
 use Rattle.std.specs.List.{cons_option, filter_map}
-use Rattle.std.proofs.lemmas.Bool.{eqb-true, eq-eqb, ne_eqb, false≢true, leb-false}
+use Rattle.std.proofs.lemmas.Bool.{eqb-true, eq-eqb, ne_eqb, false≢true}
 use Rattle.std.proofs.lemmas.Option.{none-some, same_Some}
 use Rattle.tk_bag.specs.Bag.{numbered, without, AllBelow, AllAbove, IsRising}
 use Rattle.tk_after.specs.declared.counter.Counter.{Counter}
 use Rattle.tk_after.specs.declared.entry.Entry.{Entry}
 use Rattle.tk_after.specs.declared.keys.Name.{Name}
-use Rattle.tk_after.specs.Keys.{Stored, number_of, entries_in, IsMarked, Mark, mark_number, mark_of, marks_of, held_by, AreKept}
+use Rattle.tk_after.specs.Keys.{Stored, number_of, entries_in, Mark, mark_number, mark_of, marks_of, held_by, AreKept}
 use Rattle.tk_after.specs.Timers.{Own, own_of, next_of, count_of, Counts, with_entry, without as own_without, entry_with, ids, idle_ids, due_moments, is_full, IsNumbered, IsKept}
-use Rattle.tk_after.proofs.Lists.{Has, found_has}
-use Rattle.tk_after.proofs.Numbers.{IsNumbered-push, room_from_is_full}
+use Rattle.tk_after.proofs.Numbers.{IsNumbered-lower, IsNumbered-push, room_from_is_full}
 
 -- ── numbers that rise ──
 low_at_most : (low : ℕ) (entries : List Entry) (next : ℕ) → IsNumbered low entries next → low ≤ next
@@ -36,13 +35,8 @@ kept_rising own kept = numbered_rising 0 own.entries own.next_number kept.number
 pub kept_below : (own : Own) → IsKept own → AllBelow number_of own.next_number own.entries
 kept_below own kept = numbered_below 0 own.entries own.next_number kept.numbered
 
--- without a number they still rise, and there are fewer
-lower : (low lesser : ℕ) (entries : List Entry) (next : ℕ) → lesser ≤ low → IsNumbered low entries next → IsNumbered lesser entries next
-lower low lesser [] next le numbered = omega (arith, le, numbered)
-lower low lesser (e ∷ entries) next le numbered = (omega (arith, le, numbered.0), numbered.1)
-
 gone_by : (id low : ℕ) (e : Entry) (entries : List Entry) (next : ℕ) (b : Bool) → (e.id == id) ≡ b → low ≤ e.id → IsNumbered (e.id + 1) (without number_of id entries) next → IsNumbered low (without number_of id (e ∷ entries)) next
-gone_by id low e entries next true is le rest = rw is (lower (e.id + 1) low (without number_of id entries) next (omega (arith, le)) rest)
+gone_by id low e entries next true is le rest = rw is (IsNumbered-lower (e.id + 1) low (without number_of id entries) next (omega (arith, le)) rest)
 gone_by id low e entries next false is le rest = rw is (le, rest)
 
 numbered_without : (id low : ℕ) (entries : List Entry) (next : ℕ) → IsNumbered low entries next → IsNumbered low (without number_of id entries) next
@@ -187,14 +181,6 @@ push_length : (xs : List Entry) (e : Entry) → length (xs ++ e ∷ []) ≡ leng
 push_length [] e = refl
 push_length (x ∷ xs) e = let h = push_length xs e in omega (arith, h)
 
--- what is not full has a number more
-pub next_room : (own : Own) → is_full own ≡ false → own.next_number + 1 < 2 ^ 64
-next_room own room = let lt = leb-false (2 ^ 64 - 1) own.next_number (or_false (leb 256 (length own.entries)) (leb (2 ^ 64 - 1) own.next_number) room) in omega (arith, lt)
-  where
-    or_false : (a b : Bool) → (a || b) ≡ false → b ≡ false
-    or_false true b e = absurd (false≢true (sym e))
-    or_false false b e = e
-
 with_kept : (due : Option ℕ) (script : List ℕ) (own : Own) → IsKept own → is_full own ≡ false → IsKept (with_entry due script own)
 with_kept due script own kept room =
     let fits = room_from_is_full own room in
@@ -257,21 +243,6 @@ module _ (stored new : Stored) (rows rows' : List (Name × Option ℕ)) (counter
         own_is = own_is;
         others = own_left stored new rows rows' counters counters' owner leaves;
       }
-
--- ── an index that tells the same ──
-pub same_marks : (rows rows' : List (Name × Option ℕ)) (owner : ℕ) → marks_of owner rows' ≡ marks_of owner rows → ((other : ℕ) → other ≢ owner → marks_of other rows' ≡ marks_of other rows) → (o : ℕ) → marks_of o rows' ≡ marks_of o rows
-same_marks rows rows' owner own others o = by (o == owner) refl
-  where
-    by : (b : Bool) → (o == owner) ≡ b → marks_of o rows' ≡ marks_of o rows
-    by true is = subst (λ n. marks_of n rows' ≡ marks_of n rows) (sym (eqb-true o owner is)) own
-    by false is = others o (λ same. false≢true (sym is ∙ eq-eqb o owner same))
-
-pub kept_again : (stored new : Stored) (rows rows' : List (Name × Option ℕ)) (counters counters' : List (ℕ × Counter)) → AreKept stored rows counters → new ≡ stored → counters' ≡ counters → ((o : ℕ) → marks_of o rows' ≡ marks_of o rows) → AreKept new rows' counters'
-kept_again stored new rows rows' counters counters' kept stored_is counters_are marks =
-    subst (λ s. AreKept s rows' counters') (sym stored_is) (subst (λ cs. AreKept stored rows' cs) (sym counters_are) (record { sound = kept.sound; counted = kept.counted; listed = λ o. marks o ∙ kept.listed o }))
-
-pub none_kept : AreKept (record { timers = []; idle = [] }) [] []
-none_kept = record { sound = λ o. record { numbered = omega arith; few = omega arith }; counted = λ o. refl; listed = λ o. refl }
 
 -- what the index tells of the next number
 pub next_unmarked : (stored : Stored) (rows : List (Name × Option ℕ)) (counters : List (ℕ × Counter)) (owner : ℕ) → AreKept stored rows counters → AllBelow mark_number (next_of owner counters) (marks_of owner rows)

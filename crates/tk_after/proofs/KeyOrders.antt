@@ -1,6 +1,6 @@
 -- Keys that compare alike are one, and what a key tells of its number.
-use Rattle.std.proofs.Common.{◌≡◌, ℕ, ◌+◌, ◌^◌, ◌<◌, ◌≤◌, Bool, true, false, refl, sym, ap, ◌∙◌, subst, arith}
-use Rattle.std.specs.Prelude.{◌==◌, ◌&&◌, not}
+use Rattle.std.proofs.Common.{◌≡◌, ℕ, ◌^◌, ◌<◌, ◌≤◌, Bool, true, false, refl, sym, ap, ◌∙◌, arith}
+use Rattle.std.specs.Prelude.{◌==◌, not}
 use Rattle.std.specs.BTreeMap.{is_at}
 use Rattle.std.specs.BTreeMap.Range.{range_contains}
 use Rattle.std.specs.Cmp.{IsTotalOrder}
@@ -108,6 +108,3 @@ in_range_by owner k Greater small is =
 -- from an application's first number to its last, of the names with numbers of the machine, are its own
 pub in_range : (owner : ℕ) (k : Name) → k.id < 2 ^ 64 → range_contains name_cmp (Included (name owner 0)) (Included (name owner 18446744073709551615)) k ≡ (k.owner == owner)
 in_range owner k small = in_range_by owner k (nat_cmp owner k.owner) small refl
-
-pub forward : (owner : ℕ) → is_gt (name_cmp (name owner 0) (name owner 18446744073709551615)) ≡ false
-forward owner = rw (tied_itself nat_cmp_total owner) refl

@@ -1,13 +1,10 @@
 -- Lists of entries by what stands in them, and by their numbers.
-use Rattle.std.proofs.Common.{◌≡◌, ◌≢◌, ℕ, ◌+◌, ◌<◌, ◌≤◌, Bool, true, false, List, [], ◌∷◌, ◌++◌, length, map, Option, Some, None, refl, sym, ap, ◌∙◌, subst, ◌⊎◌, inl, inr, cond, arith}
-use Rattle.std.specs.Prelude.{◌==◌, nat_le, find, filter, not, option_map, All, Contains, IfSome, is_none}
-use Rattle.std.specs.List.{AllByRecursion, cons_option, filter_map}
-use Rattle.std.proofs.lemmas.Bool.{eqb-true, eq-eqb, ne_eqb, le-leb, false≢true}
-use Rattle.std.proofs.lemmas.List.Elements.{All-from_recursion}
+use Rattle.std.proofs.Common.{◌≡◌, ℕ, ◌<◌, Bool, true, false, List, [], ◌∷◌, ◌++◌, Some, None, refl, sym, ap, ◌∙◌, subst, ◌⊎◌, inl, inr, arith}
+use Rattle.std.specs.Prelude.{◌==◌, nat_le, find}
+use Rattle.std.proofs.lemmas.Bool.{eqb-true, eq-eqb, ne_eqb, le-leb}
 use Rattle.std.proofs.lemmas.Option.{none-some, same_Some}
-use Rattle.tk_bag.specs.Bag.{Item, values_of, insert_in, in_order, listed, numbered, without, AllBelow, AllAbove, IsRising}
+use Rattle.tk_bag.specs.Bag.{Item, insert_in, in_order, listed, numbered, without, AllBelow, AllAbove, IsRising}
 use Rattle.tk_bag.proofs.Owners.{item, own_stands}
-use Rattle.tk_bag.proofs.Orders.{Stands}
 
 abbrev pub Has : {X : Type 0} → X → List X → Type 0
 Has x [] = ⊥
@@ -74,7 +71,6 @@ module _ {X : Type 0} where
     pub in_order-rising : (xs : List X) → IsRising number xs → in_order number xs ≡ xs
     in_order-rising [] rising = refl
     in_order-rising (x ∷ xs) rising = ap (insert_in number x) (in_order-rising xs rising.1) ∙ insert_first x xs rising.0
-
 
     absent_by : (id : ℕ) (x : X) (xs : List X) (b : Bool) → (number x == id) ≡ b → (numbered number id xs ≡ None → without number id xs ≡ xs) → numbered number id (x ∷ xs) ≡ None → without number id (x ∷ xs) ≡ x ∷ xs
     absent_by id x xs true is rest none = absurd (cc (rw is at none))

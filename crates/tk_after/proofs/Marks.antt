@@ -1,25 +1,24 @@
 -- What one application has among the numbers of all.
-use Rattle.std.proofs.Common.{◌≡◌, ◌≢◌, ℕ, ◌+◌, ◌^◌, ◌<◌, ◌≤◌, Bool, true, false, List, [], ◌∷◌, ◌++◌, length, map, Option, Some, None, refl, sym, ap, ◌∙◌, subst, cond, arith}
-use Rattle.std.specs.Prelude.{◌==◌, find, filter, not, option_map, is_none}
+use Rattle.std.proofs.Common.{◌≡◌, ◌≢◌, ℕ, ◌^◌, ◌<◌, Bool, true, false, List, [], ◌∷◌, ◌++◌, map, Option, Some, None, refl, sym, ap, ◌∙◌, subst, arith}
+use Rattle.std.specs.Prelude.{◌==◌, option_map}
 use Rattle.std.specs.BTreeMap.{insert_entry, is_at}
-use Rattle.std.specs.BTreeMap.Range.{entries_between, range_contains}
-use Rattle.std.specs.List.{AllByRecursion, cons_option, filter_map}
+use Rattle.std.specs.BTreeMap.Range.{entries_between}
+use Rattle.std.specs.List.{AllByRecursion}
 use Rattle.std.specs.List.Sorted.{IsStrictlySortedBy}
 use Rattle.std.specs.Map.{keys_of, lookup, remove_entry}
 use Rattle.std.specs.declared.cmp.Ordering.TheVariants.{Less}
 use Rattle.std.specs.declared.ops.Bound.TheVariants.{Included}
 use Rattle.std.proofs.lemmas.Bool.{eqb-true, eq-eqb, ne_eqb}
 use Rattle.std.proofs.lemmas.List.{map-append}
-use Rattle.std.proofs.lemmas.Option.{none-some, same_Some}
-use Rattle.tk_bag.specs.Bag.{Item, values_of, in_order, listed, numbered, without, AllBelow, AllAbove, IsRising}
+use Rattle.std.proofs.lemmas.Option.{none-some}
+use Rattle.tk_bag.specs.Bag.{values_of, listed, numbered, without, AllBelow, AllAbove, IsRising}
 use Rattle.tk_bag.proofs.Orders.{gone_there}
-use Rattle.tk_bag.proofs.Owners.{item, values_of-append, listed_new, listed_other}
-use Rattle.tk_after.specs.declared.entry.Entry.{Entry}
+use Rattle.tk_bag.proofs.Owners.{item, values_of-append, listed_new}
 use Rattle.tk_after.specs.declared.keys.Name.{Name}
-use Rattle.tk_after.specs.Keys.{name_cmp, name, Mark, mark_number, mark_of, mark_in, marks_in, mark_item, marks_of, lies_due_at, IsNumber, AreMarks}
+use Rattle.tk_after.specs.Keys.{name_cmp, name, Mark, mark_number, mark_in, marks_in, mark_item, marks_of, IsNumber}
 use Rattle.tk_after.proofs.KeyOrders.{at_name, other_owner, other_id, same_name, less_id, in_range}
 use Rattle.tk_after.proofs.Lists.{in_order-rising, without_absent}
-use Rattle.tk_after.proofs.Splits.{Stands, there, nowhere, Comes, comes, all_with, all_without}
+use Rattle.tk_after.proofs.Splits.{there, nowhere, comes, all_with, all_without}
 
 abbrev Rows : Type 0
 Rows = List (Name × Option ℕ)

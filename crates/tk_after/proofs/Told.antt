@@ -1,16 +1,16 @@
 -- What the index tells of one application's entries, as calls on all of them cite it.
-use Rattle.std.proofs.Common.{◌≡◌, ◌≢◌, ℕ, ◌+◌, ◌^◌, ◌<◌, ◌≤◌, Bool, true, false, List, [], ◌∷◌, ◌++◌, length, map, Option, Some, None, refl, sym, ap, ◌∙◌, subst, append_assoc, arith}
-use Rattle.std.specs.Prelude.{◌==◌, find, filter, not, option_map, option_and_then, is_none, nat_le, if◌then◌else◌, IfSome}
+use Rattle.std.proofs.Common.{◌≡◌, ℕ, ◌≤◌, Bool, true, false, List, [], ◌∷◌, ◌++◌, map, Option, Some, None, refl, sym, ap, ◌∙◌, subst, append_assoc, arith}
+use Rattle.std.specs.Prelude.{find, filter, option_map, is_none, nat_le, if◌then◌else◌, IfSome}
 use Rattle.std.specs.List.{filter_map}
 use Rattle.std.specs.Str.{bytes_eq}
-use Rattle.std.proofs.lemmas.Bool.{eqb-true, eq-eqb, ne_eqb}
+use Rattle.std.proofs.lemmas.Bool.{eq-eqb, ne_eqb}
 use Rattle.std.proofs.lemmas.Option.{none-some, same_Some, option_and_then_some}
 use Rattle.tk_bag.specs.Bag.{numbered, without, AllBelow, IsRising}
 use Rattle.tk_after.specs.declared.counter.Counter.{Counter}
 use Rattle.tk_after.specs.declared.entry.Entry.{Entry}
 use Rattle.tk_after.specs.declared.keys.Name.{Name}
 use Rattle.tk_after.specs.Keys.{Stored, number_of, entries_in, IsMarked, Mark, mark_number, mark_of, marks_of, lies_due_at, held_by, AreKept}
-use Rattle.tk_after.specs.Timers.{Own, Held, own_of, entries_of, entry_with, without as own_without, ids, idle_ids, due_moments, is_due_at, least, first_due, IsKept, IsFirstDue}
+use Rattle.tk_after.specs.Timers.{Own, own_of, entry_with, without as own_without, ids, idle_ids, due_moments, is_due_at, least, first_due, IsKept, IsFirstDue}
 use Rattle.tk_after.proofs.Dues.{first_due-at, first_due-is}
 use Rattle.tk_after.proofs.Kept.{kept_rising, find_id_marks, due_marks, moments_marks, ids_marks, idle_marks, marked_by, unlisted_by, own_with}
 use Rattle.tk_after.proofs.Lists.{Has, found_has, has_part, numbered_has, without_absent}

@@ -1,5 +1,5 @@
 -- Timers and idle scripts: what one application has waiting, among those of all applications.
-use Rattle.std.specs.Prelude.{◌≡◌, ◌≢◌, ℕ, ◌+◌, ◌-◌, ◌^◌, ◌<◌, ◌≤◌, Bool, false, ◌||◌, ◌==◌, not, nat_le, nat_eq, if◌then◌else◌, List, [], ◌∷◌, ◌++◌, length, map, filter, find, min, All, Contains, Option, Some, None, is_none, option_and_then, IfSome, slice_get}
+use Rattle.std.specs.Prelude.{◌≡◌, ◌≢◌, ℕ, ◌+◌, ◌-◌, ◌^◌, ◌<◌, ◌≤◌, Bool, false, ◌||◌, ◌==◌, not, nat_le, nat_eq, if◌then◌else◌, List, [], ◌∷◌, ◌++◌, length, map, filter, find, min, All, Contains, Option, Some, None, is_none, option_and_then, IfSome}
 use Rattle.std.specs.List.{filter_map}
 use Rattle.std.specs.Map.{lookup}
 use Rattle.std.specs.Option.{option_map_or}
@@ -77,10 +77,6 @@ least (x ∷ xs) = lesser (Some x) (least xs)
 pub record IsLeastOf (xs : List ℕ) (m : ℕ) : Type 0 where
   pub among : Contains xs m
   pub least : All (λ x. m ≤ x) xs
-
--- the place at which something stands
-abbrev pub IsPlaceOf : Option Entry → List Entry → ℕ → Type 0
-IsPlaceOf wanted entries place = (place < length entries) × (slice_get entries place ≡ wanted)
 
 -- whether it is a timer that is due at this very moment
 abbrev pub is_due_at : ℕ → Entry → Bool

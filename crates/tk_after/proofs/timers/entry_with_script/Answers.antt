@@ -1,7 +1,6 @@
-use Rattle.std.proofs.Common.{◌≡◌, true, false, Some, refl, sym, ap, ◌∙◌, subst}
+use Rattle.std.proofs.Common.{◌≡◌, Some, sym, ap, ◌∙◌, subst}
 use Rattle.std.specs.Option.{option_copied}
 use Rattle.std.proofs.lemmas.Option.{none-some, same_Some}
-use Rattle.tk_after.specs.declared.entry.Entry.{Entry}
 use Rattle.tk_after.specs.Keys.{entries_in, marks_in}
 use Rattle.tk_after.proofs.Told.{Rest, next_is, next_marked, rest_all, rest_none, runs}
 use Rattle.tk_after.proofs.timers.entry_with_script.Goals as goal

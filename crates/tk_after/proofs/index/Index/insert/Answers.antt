@@ -1,8 +1,7 @@
-use Rattle.std.proofs.Common.{◌≡◌, ◌^◌, ◌<◌, [], ◌∷◌, ◌++◌, None, sym, ap, ◌∙◌, subst}
-use Rattle.std.specs.BTreeMap.{is_at}
+use Rattle.std.proofs.Common.{◌^◌, ◌<◌, [], ◌∷◌, ◌++◌, sym, ap, ◌∙◌, subst}
 use Rattle.std.specs.List.{AllByRecursion}
 use Rattle.std.specs.List.Sorted.{IsStrictlySortedBy}
-use Rattle.std.specs.Map.{keys_of, lookup}
+use Rattle.std.specs.Map.{keys_of}
 use Rattle.tk_bag.specs.Bag.{AllBelow}
 use Rattle.tk_after.specs.Keys.{IsNumber, mark_number, marks_of, name, name_cmp}
 use Rattle.tk_after.proofs.Marks.{absent_row, given_marks, given_others, small_given}

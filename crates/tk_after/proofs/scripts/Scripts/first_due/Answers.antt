@@ -1,4 +1,4 @@
-use Rattle.std.proofs.Common.{◌≡◌, [], Some, ap, subst}
+use Rattle.std.proofs.Common.{◌≡◌, [], Some, subst}
 use Rattle.std.specs.Prelude.{All, IsSome, IfSome, slice_get}
 use Rattle.std.specs.BTreeMap.Range.{IsLeBy}
 use Rattle.std.specs.Map.{keys_of}

@@ -1,4 +1,4 @@
-use Rattle.std.proofs.Common.{◌≡◌, None, Some, refl, sym, ap, ◌∙◌, subst, option_map}
+use Rattle.std.proofs.Common.{◌≡◌, None, refl, sym, ap, ◌∙◌, subst, option_map}
 use Rattle.tk_after.specs.declared.entry.Entry.{Entry}
 use Rattle.tk_after.specs.Timers.{Held, own_of, entries_of, entry_with, without}
 use Rattle.tk_after.proofs.Kept.{removed}

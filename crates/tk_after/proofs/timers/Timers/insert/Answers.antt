@@ -17,5 +17,5 @@ pub invariant_of-self-in-Ok : goal.invariant_of-self-in-Ok
 invariant_of-self-in-Ok c =
     let room = subst (λ (held : Held). is_full (own_of c.args.owner held) ≡ false) (sym c.self.view_is) c.requires in
     let done = inserted c.self.inside.scripts c.insert.new.self c.self.inside.index c.list_number.new.index c.self.inside.counters.entries c.list_number.new.counters.entries c.args.owner c.self.invariant
-      c.counter_of-id.result.next c.args.due c.args.script c.counter_of-id.ensures.next room c.in_ok-insert.ensures.own c.insert.ensures.others c.in-Ok.ensures.ok c.list_number.ensures.others c.in-Ok.ensures.counts in
+    c.counter_of-id.result.next c.args.due c.args.script c.counter_of-id.ensures.next room c.in_ok-insert.ensures.own c.insert.ensures.others c.in-Ok.ensures.ok c.list_number.ensures.others c.in-Ok.ensures.counts in
     done.kept

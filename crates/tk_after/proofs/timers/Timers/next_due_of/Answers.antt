@@ -1,4 +1,4 @@
-use Rattle.std.proofs.Common.{◌≡◌, ap, ◌∙◌}
+use Rattle.std.proofs.Common.{ap, ◌∙◌}
 use Rattle.tk_after.specs.Timers.{Held, entries_of, least, due_moments}
 use Rattle.tk_after.proofs.Earliest.{least_none-answer, least_some-answer}
 use Rattle.tk_after.proofs.Told.{least_told}

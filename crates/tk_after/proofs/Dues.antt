@@ -1,15 +1,13 @@
 -- The timer that goes first.
-use Rattle.std.proofs.Common.{◌≡◌, ℕ, ◌+◌, ◌<◌, ◌≤◌, zero, suc, min, List, [], ◌∷◌, ◌++◌, length, get_or, drop, append_assoc, append-nil, Option, Some, None, refl, sym, ap, ◌∙◌, subst, eq-eqb, cond, Bool, true, false, arith}
-use Rattle.std.specs.Prelude.{Contains, find, filter, not, ◌==◌, nat_le, nat_lt, if◌then◌else◌, IfSome, IsSomeAnd, slice_get}
-use Rattle.std.specs.List.{cons_option, position, position_or_len}
-use Rattle.std.specs.Option.{MatchOption, is_none, is_some, option_map_or, option_and_then}
+use Rattle.std.proofs.Common.{◌≡◌, ℕ, ◌+◌, ◌<◌, ◌≤◌, zero, suc, min, List, [], ◌∷◌, length, get_or, Option, Some, None, refl, sym, ap, ◌∙◌, subst, eq-eqb, cond, Bool, true, false, arith}
+use Rattle.std.specs.Prelude.{Contains, find, ◌==◌, nat_le, if◌then◌else◌, IfSome, IsSomeAnd}
+use Rattle.std.specs.List.{cons_option}
+use Rattle.std.specs.Option.{option_map_or, option_and_then}
 use Rattle.std.proofs.lemmas.Bool.Decides.{nat_tests}
-use Rattle.std.proofs.lemmas.List.{drop_more, drop_all}
-use Rattle.std.proofs.lemmas.Option.{slice_get_past, IfSome_then, MatchOption-at_none, MatchOption-at_some, option_and_then_some, none-some, same_Some}
-use Rattle.std.proofs.lemmas.Bool.{ltb-true, ltb-false, leb-true, leb-false, le-leb, lt-leb, eqb-true, false≢true}
-use Rattle.std.proofs.lemmas.List.Folds.{find_at}
+use Rattle.std.proofs.lemmas.Option.{IfSome_then, option_and_then_some, none-some, same_Some}
+use Rattle.std.proofs.lemmas.Bool.{leb-true, leb-false, le-leb, eqb-true, false≢true}
 use Rattle.tk_after.specs.declared.entry.Entry.{Entry}
-use Rattle.tk_after.specs.Timers.{IsNumbered, entry_with, ids, idle_ids, lesser, least, due_moments, is_due_at, first_due, IsFirstDue, NothingDue, IsPlaceOf}
+use Rattle.tk_after.specs.Timers.{IsNumbered, least, due_moments, is_due_at, first_due, IsFirstDue, NothingDue}
 use Rattle.tk_after.proofs.Numbers.{id_at_least}
 
 -- no number is below the least
@@ -22,106 +20,9 @@ least_at_most (x ∷ xs) (suc k) lt = below (least xs) (least_at_most xs k (omeg
     below None h = absurd h
     below (Some y) h = omega arith
 
--- it is as high as what is below them all
-least_at_least : (xs : List ℕ) (m : ℕ) → ((k : ℕ) → k < length xs → m ≤ get_or xs k 0) → IfSome (least xs) (λ y. m ≤ y)
-least_at_least [] m h = tt
-least_at_least (x ∷ xs) m h = above (least xs) (least_at_least xs m (λ k lt. h (suc k) (omega arith)))
-  where
-    above : (o : Option ℕ) → IfSome o (λ y. m ≤ y) → m ≤ option_map_or (min x) o x
-    above None rest = h 0 (omega arith)
-    above (Some y) rest = omega (arith, h 0 (omega arith))
-
--- the least of the numbers so far and of the rest is that of them all
-pub lesser-least : (o : Option ℕ) (next : Option ℕ) (moments : List ℕ) → lesser (lesser o next) (least moments) ≡ lesser o (least (cons_option next moments))
-lesser-least None None moments = refl
-lesser-least None (Some x) moments = refl
-lesser-least (Some x) None moments = refl
-lesser-least (Some x) (Some y) moments = of_three (least moments)
-  where
-    of_three : (o : Option ℕ) → lesser (lesser (Some x) (Some y)) o ≡ lesser (Some x) (lesser (Some y) o)
-    of_three None = refl
-    of_three (Some z) = let same : min (min x y) z ≡ min x (min y z) = omega arith in ap Some same
-
-pub lesser-None : (o : Option ℕ) → lesser o None ≡ o
-lesser-None None = refl
-lesser-None (Some x) = refl
-
--- one timer on in a search for the earliest, and at its end
-pub next_due_more : (entries : List Entry) (i : ℕ) (e : Entry) (o : Option ℕ) → i < length entries → e ≡ get_or entries i e →
-    lesser (lesser o e.due) (least (due_moments (drop (i + 1) entries))) ≡ lesser o (least (due_moments (drop i entries)))
-next_due_more entries i e o lt is =
-    let F : List Entry → Option ℕ = λ es. lesser o (least (due_moments es)) in
-    lesser-least o e.due (due_moments (drop (i + 1) entries)) ∙ ap (λ (x : Entry). F (x ∷ drop (i + 1) entries)) is ∙ sym (ap F (drop_more entries i e lt))
-
-pub next_due_all : (entries : List Entry) (i : ℕ) (o : Option ℕ) → length entries ≤ i → lesser o (least (due_moments (drop i entries))) ≡ o
-next_due_all entries i o le = ap (λ (es : List Entry). lesser o (least (due_moments es))) (drop_all i entries le) ∙ lesser-None o
-
--- the number of a timer, where it is an idle script
-abbrev pub idle_id_of : Entry → List ℕ
-idle_id_of e = if is_none e.due then e.id ∷ [] else []
-
-idle_ids_first : (e : Entry) (rest : List Entry) → idle_id_of e ++ idle_ids rest ≡ idle_ids (e ∷ rest)
-idle_ids_first e rest = elim (is_none e.due) as (λ b. (if b then e.id ∷ [] else []) ++ idle_ids rest ≡ ids (if b then e ∷ filter (λ (x : Entry). is_none x.due) rest else filter (λ (x : Entry). is_none x.due) rest)) [ true ↦ refl | false ↦ refl ]
-
--- which a test tells
-pub idle_id_told : (e : Entry) (told : Bool) → is_some e.due ≡ not told → idle_id_of e ≡ (if told then e.id ∷ [] else [])
-idle_id_told e told tells = by e.due told tells
-  where
-    by : (o : Option ℕ) (b : Bool) → is_some o ≡ not b → (if is_none o then e.id ∷ [] else []) ≡ (if b then e.id ∷ [] else [])
-    by None true h = refl
-    by None false h = absurd (cc)
-    by (Some x) true h = absurd (cc)
-    by (Some x) false h = refl
-
--- one timer on in a list of the idle scripts, and at its end
-pub idle_ids_more : (entries : List Entry) (i : ℕ) (e : Entry) (list : List ℕ) → i < length entries → e ≡ get_or entries i e →
-    (list ++ idle_id_of e) ++ idle_ids (drop (i + 1) entries) ≡ list ++ idle_ids (drop i entries)
-idle_ids_more entries i e list lt is =
-    let F : List Entry → List ℕ = λ es. list ++ idle_ids es in
-    append_assoc list (idle_id_of e) (idle_ids (drop (i + 1) entries))
-    ∙ ap (λ xs. list ++ xs) (idle_ids_first e (drop (i + 1) entries))
-    ∙ ap (λ (x : Entry). F (x ∷ drop (i + 1) entries)) is ∙ sym (ap F (drop_more entries i e lt))
-
-pub idle_ids_all : (entries : List Entry) (i : ℕ) (list : List ℕ) → length entries ≤ i → list ++ idle_ids (drop i entries) ≡ list
-idle_ids_all entries i list le = ap (λ (es : List Entry). list ++ idle_ids es) (drop_all i entries le) ∙ append-nil list
-
 -- what runs first, by when the earliest is due
 pub first_due-at : (moment due : ℕ) (entries : List Entry) → least (due_moments entries) ≡ Some due → due ≤ moment → first_due moment entries ≡ find (is_due_at due) entries
 first_due-at moment due entries is le = rw (is, le-leb due moment le) refl
-
-pub first_due-late : (moment due : ℕ) (entries : List Entry) → least (due_moments entries) ≡ Some due → moment < due → first_due moment entries ≡ None
-first_due-late moment due entries is lt = rw (is, lt-leb due moment lt) refl
-
-pub first_due-empty : (moment : ℕ) (entries : List Entry) → least (due_moments entries) ≡ None → first_due moment entries ≡ None
-first_due-empty moment entries is = rw is refl
-
--- where something stands that is looked for from the front
-pub find_place : (p : Entry → Bool) (entries : List Entry) → MatchOption (position p entries) (find p entries ≡ None) (IsPlaceOf (find p entries) entries)
-find_place p entries = at (nat_lt (position_or_len p entries) (length entries)) refl
-  where
-    at : (b : Bool) → nat_lt (position_or_len p entries) (length entries) ≡ b → MatchOption (cond b (Some (position_or_len p entries)) None) (find p entries ≡ None) (IsPlaceOf (find p entries) entries)
-    at true is = (ltb-true _ _ is, sym (find_at p entries))
-    at false is = find_at p entries ∙ slice_get_past entries (position_or_len p entries) (ltb-false _ _ is)
-
-pub id_nowhere : (id : ℕ) (entries : List Entry) → position (λ entry. entry.id == id) entries ≡ None → entry_with id entries ≡ None
-id_nowhere id entries is = MatchOption-at_none _ _ is (find_place (λ entry. entry.id == id) entries)
-
-pub id_there : (id : ℕ) (entries : List Entry) (place : ℕ) → position (λ entry. entry.id == id) entries ≡ Some place → slice_get entries place ≡ entry_with id entries
-id_there id entries place is = (MatchOption-at_some _ _ place is (find_place (λ entry. entry.id == id) entries)).1
-
--- what is found by its number has it
-pub find_id : (entries : List Entry) (id : ℕ) (e : Entry) → find (λ entry. entry.id == id) entries ≡ Some e → e.id ≡ id
-find_id [] id e found = cc
-find_id (x ∷ entries) id e found = test (x.id == id) refl (find_id entries id e) found
-  where
-    test : (b : Bool) → (x.id == id) ≡ b → (find (λ entry. entry.id == id) entries ≡ Some e → e.id ≡ id) → cond b (Some x) (find (λ entry. entry.id == id) entries) ≡ Some e → e.id ≡ id
-    test true is rest found = ap (λ (v : Entry). v.id) (sym (same_Some _ _ found)) ∙ eqb-true x.id id is
-    test false is rest found = rest found
-
--- what is not found is not there to take out
-pub without_absent : (entries : List Entry) (id : ℕ) → find (λ entry. entry.id == id) entries ≡ None → filter (λ entry. not (entry.id == id)) entries ≡ entries
-without_absent [] id none = refl
-without_absent (e ∷ entries) id none = grind (arith, nat_tests, without_absent entries id)
 
 -- each due moment is at or after the least
 later_at_most : (o : Option ℕ) (moments : List ℕ) (its : ℕ) → IsSomeAnd (least moments) (λ y. y ≤ its) → IsSomeAnd (least (cons_option o moments)) (λ y. y ≤ its)

@@ -1,5 +1,12 @@
+mod Bags
 pub mod Dues
-pub mod Earliest
-pub mod Names
+mod Earliest
+mod Firsts
+mod Kept
+mod KeyOrders
+mod Lists
+mod Marks
+mod Names
 pub mod Numbers
-pub mod Owners
+mod Splits
+mod Told

@@ -1,3 +1,4 @@
 -- What the contracts cite.
 pub mod After
+pub mod Keys
 pub mod Timers

@@ -1,7 +1,10 @@
--- Timers and idle scripts: what one application has waiting, and where it stands among those of all applications.
-use Rattle.std.specs.Prelude.{◌≡◌, ◌≢◌, ℕ, ◌+◌, ◌-◌, ◌^◌, ◌<◌, ◌≤◌, Bool, false, ◌||◌, ◌==◌, not, nat_le, if◌then◌else◌, List, [], ◌∷◌, ◌++◌, length, map, filter, find, min, All, AllPairs, Contains, Option, Some, None, is_none, option_and_then, IfSome, slice_get}
+-- Timers and idle scripts: what one application has waiting, among those of all applications.
+use Rattle.std.specs.Prelude.{◌≡◌, ◌≢◌, ℕ, ◌+◌, ◌-◌, ◌^◌, ◌<◌, ◌≤◌, Bool, false, ◌||◌, ◌==◌, not, nat_le, nat_eq, if◌then◌else◌, List, [], ◌∷◌, ◌++◌, length, map, filter, find, min, All, Contains, Option, Some, None, is_none, option_and_then, IfSome}
 use Rattle.std.specs.List.{filter_map}
+use Rattle.std.specs.Map.{lookup}
 use Rattle.std.specs.Option.{option_map_or}
+use Rattle.tk_bag.specs.Bag.{Item, listed}
+use Rattle.tk_after.specs.declared.counter.Counter.{Counter}
 use Rattle.tk_after.specs.declared.entry.Entry.{Entry}
 
 -- what one application has waiting, in the order of its numbers, and the number that comes next
@@ -9,22 +12,27 @@ pub record Own : Type 0 where
   pub next_number : ℕ
   pub entries : List Entry
 
--- the same beside the application's number
-pub record Row : Type 0 where
-  pub owner : ℕ
-  pub own : Own
+-- all applications' parts: each one's counter, and the entries in any order
+pub record Held : Type 0 where
+  pub counters : List (ℕ × Counter)
+  pub bag : List (Item Entry)
 
 -- nothing was ever waiting
 abbrev pub fresh : Own
 fresh = record { next_number = 0; entries = [] }
 
--- what one application has in a table
-abbrev pub own_of : ℕ → List Row → Own
-own_of owner [] = fresh
-own_of owner (row ∷ rows) = if row.owner == owner then row.own else own_of owner rows
+abbrev pub next_of : ℕ → List (ℕ × Counter) → ℕ
+next_of owner counters = option_map_or (λ counter. counter.next) (lookup (nat_eq owner) counters) 0
 
-abbrev pub entries_of : ℕ → List Row → List Entry
-entries_of owner rows = (own_of owner rows).entries
+abbrev pub count_of : ℕ → List (ℕ × Counter) → ℕ
+count_of owner counters = option_map_or (λ counter. counter.count) (lookup (nat_eq owner) counters) 0
+
+-- what one application has, in the order of numbers
+abbrev pub entries_of : ℕ → Held → List Entry
+entries_of owner held = listed (λ entry. entry.id) owner held.bag
+
+abbrev pub own_of : ℕ → Held → Own
+own_of owner held = record { next_number = next_of owner held.counters; entries = entries_of owner held }
 
 -- ---- one application
 
@@ -70,10 +78,6 @@ pub record IsLeastOf (xs : List ℕ) (m : ℕ) : Type 0 where
   pub among : Contains xs m
   pub least : All (λ x. m ≤ x) xs
 
--- the place at which something stands
-abbrev pub IsPlaceOf : Option Entry → List Entry → ℕ → Type 0
-IsPlaceOf wanted entries place = (place < length entries) × (slice_get entries place ≡ wanted)
-
 -- whether it is a timer that is due at this very moment
 abbrev pub is_due_at : ℕ → Entry → Bool
 is_due_at moment entry = option_map_or (λ due. due == moment) entry.due false
@@ -99,26 +103,24 @@ NothingDue moment entries = All (λ entry. IfSome entry.due (λ due. moment < du
 
 -- ---- all applications
 
--- the earliest due moment of them all
-abbrev pub earliest_of : List Row → Option ℕ
-earliest_of [] = None
-earliest_of (row ∷ rows) = lesser (least (due_moments row.own.entries)) (earliest_of rows)
-
 -- some application has a timer due at this moment, and none has one due before it
-pub record IsNextDue (rows : List Row) (moment : ℕ) : Type 0 where
+pub record IsNextDue (held : Held) (moment : ℕ) : Type 0 where
   pub owner : ℕ
-  pub among : Contains (due_moments (entries_of owner rows)) moment
-  pub least : (other : ℕ) → All (λ its_due. moment ≤ its_due) (due_moments (entries_of other rows))
+  pub among : Contains (due_moments (entries_of owner held)) moment
+  pub least : (other : ℕ) → All (λ its_due. moment ≤ its_due) (due_moments (entries_of other held))
 
 -- every application but one has what it had
-abbrev pub LeavesOthers : ℕ → List Row → List Row → Type 0
+abbrev pub LeavesOthers : ℕ → Held → Held → Type 0
 LeavesOthers owner old new = (other : ℕ) → other ≢ owner → own_of other new ≡ own_of other old
 
 -- ---- what is kept
 
--- each application stands once
-abbrev pub IsOncePerOwner : List Row → Type 0
-IsOncePerOwner rows = AllPairs (λ one other. one.owner ≢ other.owner) rows
+-- an application's counter is this one, and the others' are as before
+pub record Counts (owner : ℕ) (counter : Counter) (old new : List (ℕ × Counter)) : Type 0 where
+  pub next_is : next_of owner new ≡ counter.next
+  pub count_is : count_of owner new ≡ counter.count
+  pub nexts : (other : ℕ) → other ≢ owner → next_of other new ≡ next_of other old
+  pub counts : (other : ℕ) → other ≢ owner → count_of other new ≡ count_of other old
 
 -- numbers rise along the list, from low on, and all have been given
 abbrev pub IsNumbered : ℕ → List Entry → ℕ → Type 0

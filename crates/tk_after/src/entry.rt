@@ -1,6 +1,5 @@
 ghost use Rattle.std.specs.Prelude.{◌≡◌};
 
-use crate::answers::is_name_of;
 use tcl_text::Text;
 
 /// A timer or an idle script that waits.
@@ -16,22 +15,6 @@ pub struct Entry {
 
 impl Entry {
     ghost use Rattle.std.specs.Str.{bytes_eq};
-    ghost use Rattle.tk_after.specs.After.{name_of};
-    ghost use Rattle.tk_after.specs.Timers.{is_due_at};
-
-    /// Whether it is a timer that is due at this very moment.
-    pub(crate) fn is_due_at(&self, moment: u64) -> bool
-        ensures { result ≡ is_due_at moment self.now }
-    {
-        self.due == Some(moment)
-    }
-
-    /// Whether scripts have these characters as its name.
-    pub(crate) fn is_named(&self, characters: &str) -> bool
-        ensures { result ≡ bytes_eq (name_of self.now.id) characters.now }
-    {
-        is_name_of(characters, self.id)
-    }
 
     /// Whether these characters are its script.
     pub(crate) fn has_script(&self, characters: &str) -> bool

@@ -3,8 +3,11 @@
 
 mod after;
 mod answers;
+mod counter;
 mod entry;
-mod own;
+mod index;
+mod keys;
+mod scripts;
 mod timers;
 
 pub use after::after_command;

@@ -1,12 +1,24 @@
-ghost use Rattle.std.specs.Prelude.{◌≡◌, ◌≢◌, ℕ, ◌+◌, ◌<◌, false, ◌==◌, [], ◌∷◌, ◌++◌, length, IfOk, IfSome, IfNone, OnOk, OnErr, Some, None, Ok, option_map, position, slice_get};
+ghost use Rattle.std.specs.Prelude.{◌≡◌, ◌≢◌, ℕ, ◌+◌, ◌^◌, ◌<◌, ◌==◌, false, [], ◌∷◌, ◌++◌, length, map, find, IfOk, IfSome, IfNone, OnOk, OnErr, Some, None, Ok, option_map};
 ghost use Rattle.std.specs.Option.{option_copied, option_map_or};
-ghost use Rattle.tk_after.specs.Timers.{own_of, entries_of, fresh, is_full, with_entry, entry_with, without, ids, idle_ids, IsKept, least, IsLeastOf, due_moments, first_due, IsFirstDue, NothingDue, earliest_of, IsNextDue, LeavesOthers};
+ghost use Rattle.std.specs.Str.{bytes_eq};
+ghost use Rattle.tk_bag.specs.Bag.{AllBelow, IsRising};
+ghost use Rattle.tk_after.specs.Keys.{entries_in, marks_of, mark_of, mark_number, number_of};
+ghost use Rattle.tk_after.specs.Timers.{next_of, count_of, Counts, own_of, entries_of, is_full, with_entry, entry_with, without, ids, idle_ids, IsKept, least, IsLeastOf, due_moments, first_due, IsFirstDue, NothingDue, IsNextDue, LeavesOthers};
 
+use crate::counter::{Counter, count_less, counter_of, set_counter};
 use crate::entry::Entry;
-use crate::own::{OwnTimers, earlier};
+use crate::index::Index;
+use crate::scripts::Scripts;
 use std::alloc::{AllocError, Global};
+use std::collections::HashMap;
 use std::marker::Model;
 use tcl_text::Text;
+
+/// How many timers and idle scripts an application has at most.
+const MAX_LISTED: usize = 256;
+
+/// The number after the last one that is given.
+const NUMBERS_END: u64 = u64::MAX;
 
 /// The timers and idle scripts of applications, each application's apart from the others' (after(n)).
 ///
@@ -14,18 +26,20 @@ use tcl_text::Text;
 /// waiting.
 #[derive(Drop)]
 pub struct Timers {
-    owners: Vec<OwnTimers>,
+    scripts: Scripts,
+    index: Index,
+    counters: HashMap<usize, Counter>,
 }
 
 impl Model for Timers {
-    ghost use Rattle.std.specs.Prelude.{List};
-    ghost use Rattle.tk_after.specs.Timers.{Row, IsOncePerOwner};
+    ghost use Rattle.tk_after.specs.Timers.{Held};
+    ghost use Rattle.tk_after.specs.Keys.{held_by, AreKept};
 
-    ghost Value = { List Row };
+    ghost Value = { Held };
 
-    ghost view = { λ t. t.owners.items };
+    ghost view = { λ t. held_by t.scripts t.counters.entries };
 
-    ghost invariant = { λ t. IsOncePerOwner t.owners.items };
+    ghost invariant = { λ t. AreKept t.scripts t.index t.counters.entries };
 }
 
 impl Timers {
@@ -33,10 +47,12 @@ impl Timers {
 
     /// Nothing waits. It takes no memory.
     pub fn new(alloc: Global) -> Timers
-        ensures { result ≡ [] }
+        ensures { result ≡ record { counters = []; bag = [] } }
     {
         Timers {
-            owners: Vec::new(alloc),
+            scripts: Scripts::new(alloc),
+            index: Index::new(alloc),
+            counters: HashMap::new(alloc),
         }
     }
 
@@ -44,10 +60,8 @@ impl Timers {
     pub fn is_full(&self, owner: usize) -> bool
         ensures { result ≡ is_full (own_of owner self.now) }
     {
-        match self.own(owner) {
-            Some(own) => own.is_full(),
-            None => false,
-        }
+        let counter = counter_of(&self.counters, owner);
+        counter.count >= MAX_LISTED || counter.next == NUMBERS_END
     }
 
     /// How many timers and idle scripts the application has listed.
@@ -57,10 +71,7 @@ impl Timers {
         // At most 256, in the order of their numbers, each of which was given before the next one.
         ensures kept { IsKept (own_of owner self.now) }
     {
-        match self.own(owner) {
-            Some(own) => own.count(),
-            None => 0,
-        }
+        counter_of(&self.counters, owner).count
     }
 
     /// Lists a timer that is due at a moment, and answers its number, from 0 on: N is `after#N` to scripts (after(n)).
@@ -95,8 +106,16 @@ impl Timers {
         ensures own { own_of owner self.new ≡ without id (own_of owner self.old) }
         ensures others { LeavesOthers owner self.old self.new }
     {
-        let place = place_of(&self.owners, owner)?;
-        self.owners[place].take_out(id)
+        let due = self.index.due_of(owner, id)?;
+        let entry = self.scripts.take(owner, id, due)?;
+        self.index.remove(owner, id);
+        count_less(&mut self.counters, owner);
+        let Entry {
+            id: _,
+            due: _,
+            script,
+        } = entry;
+        Some(script)
     }
 
     /// The numbers that are listed, timers' and idle scripts', in order (`after info` of after(n)).
@@ -104,17 +123,15 @@ impl Timers {
         ensures list { IfOk result (λ list. list.items ≡ ids (entries_of owner self.now)) }
         ensures kept { IsKept (own_of owner self.now) }
     {
-        match self.own(owner) {
-            Some(own) => own.ids(),
-            None => Ok(Vec::new(*self.owners.allocator())),
-        }
+        self.index.ids(owner)
     }
 
     /// The timer or idle script that is listed under a number. It takes no memory.
     pub fn entry(&self, owner: usize, id: u64) -> Option<&Entry>
         ensures { option_copied result ≡ entry_with id (entries_of owner self.now) }
     {
-        self.own(owner)?.entry(id)
+        let due = self.index.due_of(owner, id)?;
+        self.scripts.get(owner, id, due)
     }
 
     /// The earliest moment at which a timer of any application is due; none where no timer waits. It takes no memory.
@@ -122,7 +139,7 @@ impl Timers {
         ensures none { IfNone result ((owner : ℕ) → due_moments (entries_of owner self.now) ≡ []) }
         ensures least { IfSome result (IsNextDue self.now) }
     {
-        next_due_of(&self.owners)
+        self.scripts.first_due()
     }
 
     /// The earliest moment at which a timer of one application is due; none where none of its waits. It takes no memory.
@@ -131,7 +148,7 @@ impl Timers {
         ensures none { IfNone result (due_moments (entries_of owner self.now) ≡ []) }
         ensures least { IfSome result (IsLeastOf (due_moments (entries_of owner self.now))) }
     {
-        self.own(owner)?.next_due()
+        self.index.next_due(owner)
     }
 
     /// Takes out the timer that goes first of those that the application has due by a moment, the earliest and of those the first made, and
@@ -146,35 +163,53 @@ impl Timers {
             ≡ option_map_or (λ taken. without taken.0 (own_of owner self.old)) result (own_of owner self.old) }
         ensures others { LeavesOthers owner self.old self.new }
     {
-        let place = place_of(&self.owners, owner)?;
-        self.owners[place].take_due(moment)
+        let id = self.first_due(owner, moment)?;
+        let script = self.cancel(owner, id)?;
+        Some((id, script))
+    }
+
+    /// The number of the timer that goes first of those that are due by a moment.
+    fn first_due(&self, owner: usize, moment: u64) -> Option<u64>
+        ensures first { result
+            ≡ option_map (λ entry. entry.id) (first_due moment (entries_of owner self.now)) }
+        ensures kept { IsKept (own_of owner self.now) }
+    {
+        let _ = &self.index;
+        let due = self.next_due_of(owner)?;
+        if due > moment {
+            return None;
+        }
+        self.index.first_at(owner, due)
     }
 
     /// The numbers of the idle scripts that wait now, in order: one round of them (`after idle` of after(n)). None is taken out.
     pub fn idle_round(&self, owner: usize) -> Result<Vec<u64>, AllocError>
         ensures { IfOk result (λ list. list.items ≡ idle_ids (entries_of owner self.now)) }
     {
-        match self.own(owner) {
-            Some(own) => own.idle_ids(),
-            None => Ok(Vec::new(*self.owners.allocator())),
-        }
+        self.index.idle_ids(owner)
     }
 
     /// The number that comes next.
     pub(crate) fn next_number(&self, owner: usize) -> u64
         ensures { result ≡ (own_of owner self.now).next_number }
     {
-        match self.own(owner) {
-            Some(own) => own.next_number(),
-            None => 0,
-        }
+        counter_of(&self.counters, owner).next
     }
 
     /// What is listed under a name.
     pub(crate) fn entry_named(&self, owner: usize, text: &str) -> Option<&Entry>
         ensures { option_copied result ≡ entry_named text.now (entries_of owner self.now) }
     {
-        self.own(owner)?.entry_named(text)
+        let id = self.index.named(owner, text)?;
+        self.entry(owner, id)
+    }
+
+    /// The first that is listed with a script.
+    fn entry_running(&self, owner: usize, script: &str) -> Option<&Entry>
+        ensures { option_copied result
+            ≡ find (λ entry. bytes_eq entry.script script.now) (entries_of owner self.now) }
+    {
+        entry_with_script(&self.scripts, &self.index, owner, script)
     }
 
     /// Takes out what is listed under a name, or else the first with a script, if anything.
@@ -191,15 +226,11 @@ impl Timers {
         ensures { result
             ≡ option_map (λ entry. entry.id) (entry_meant text.now (entries_of owner self.now)) }
     {
-        let entry = self.own(owner)?.entry_meant(text)?;
+        let entry = match self.entry_named(owner, text) {
+            Some(entry) => entry,
+            None => self.entry_running(owner, text)?,
+        };
         Some(entry.id)
-    }
-
-    fn own(&self, owner: usize) -> Option<&OwnTimers>
-        ensures { option_map_or (λ row. row.now.own) result fresh ≡ own_of owner self.now }
-    {
-        let place = place_of(&self.owners, owner)?;
-        Some(&self.owners[place])
     }
 
     pub(crate) fn insert(
@@ -215,30 +246,68 @@ impl Timers {
         ensures others { LeavesOthers owner self.old self.new }
         ensures err { OnErr result (self.new ≡ self.old) }
     {
-        match place_of(&self.owners, owner) {
-            Some(place) => self.owners[place].add(due, script),
-            None => {
-                let mut own = OwnTimers::new(*self.owners.allocator(), owner);
-                let id = own.add(due, script)?;
-                self.owners.push(own)?;
-                Ok(id)
+        let id = counter_of(&self.counters, owner).next;
+        self.scripts.insert(owner, Entry { id, due, script })?;
+        match list_number(&mut self.index, &mut self.counters, owner, due) {
+            Ok(()) => Ok(id),
+            Err(refused) => {
+                let _entry = self.scripts.take(owner, id, due);
+                Err(refused)
             }
         }
     }
 }
 
-fn place_of(owners: &[OwnTimers], owner: usize) -> Option<usize>
-    ensures { result ≡ position (λ row. row.owner == owner) owners.now }
+/// Lists an application's next number, and counts it.
+fn list_number(
+    index: &mut Index,
+    counters: &mut HashMap<usize, Counter>,
+    owner: usize,
+    due: Option<u64>,
+) -> Result<(), AllocError>
+    requires below { AllBelow mark_number (next_of owner counters.old.entries) (marks_of owner index.old) }
+    requires room { next_of owner counters.old.entries + 1 < 2 ^ 64 }
+    requires few { count_of owner counters.old.entries + 1 < 2 ^ 63 }
+    ensures ok { OnOk result (marks_of owner index.new
+        ≡ marks_of owner index.old ++ record { id = next_of owner counters.old.entries; due = due } ∷ []) }
+    ensures others { (other : ℕ) → other ≢ owner → marks_of other index.new ≡ marks_of other index.old }
+    ensures counts { OnOk result (Counts owner (record { next = next_of owner counters.old.entries + 1; count = count_of owner counters.old.entries + 1 })
+        counters.old.entries counters.new.entries) }
+    ensures err { OnErr result (counters.new.entries ≡ counters.old.entries) }
+    ensures back { OnErr result (marks_of owner index.new ≡ marks_of owner index.old) }
 {
-    owners.iter().position(|own| own.owner() == owner)
+    let Counter { next, count } = counter_of(counters, owner);
+    index.insert(owner, next, due)?;
+    let counter = Counter {
+        next: next + 1,
+        count: count + 1,
+    };
+    match set_counter(counters, owner, counter) {
+        Ok(()) => Ok(()),
+        Err(refused) => {
+            index.remove(owner, next);
+            Err(refused)
+        }
+    }
 }
 
-fn next_due_of(owners: &[OwnTimers]) -> Option<u64>
-    ensures { result ≡ earliest_of owners.now }
+/// The first of what an application has listed that has a script.
+fn entry_with_script<'a>(
+    scripts: &'a Scripts,
+    index: &Index,
+    owner: usize,
+    script: &str,
+) -> Option<&'a Entry>
+    requires rising { IsRising number_of (entries_in owner scripts.now) }
+    requires listed { marks_of owner index.now ≡ map mark_of (entries_in owner scripts.now) }
+    ensures { option_copied result
+        ≡ find (λ entry. bytes_eq entry.script script.now) (entries_in owner scripts.now) }
 {
-    let mut earliest = None;
-    for own in owners {
-        earliest = earlier(earliest, own.next_due());
+    for (name, due) in index.own(owner) {
+        let entry = scripts.get(owner, name.id, *due)?;
+        if entry.has_script(script) {
+            return Some(entry);
+        }
     }
-    earliest
+    None
 }

@@ -1,58 +1,21 @@
-use Rattle.std.proofs.Common.{◌≡◌, sym, ap, ◌∙◌}
-use Rattle.tk_after.specs.Timers.{Own, Row, own_of, fresh, is_full, with_entry}
-use Rattle.tk_after.proofs.Owners.{StandsAt, StandsNowhere, own_nowhere, owner_at, own_at, own_of-set, own_of_other-set, own_of-push, own_of_other-push, once-push}
+use Rattle.std.proofs.Common.{◌≡◌, false, sym, subst}
+use Rattle.tk_bag.specs.Bag.{AllBelow}
+use Rattle.tk_after.specs.Keys.{number_of, entries_in, held_by}
+use Rattle.tk_after.specs.Timers.{Held, own_of, is_full}
+use Rattle.tk_after.proofs.Kept.{inserted, kept_below, next_unmarked}
 use Rattle.tk_after.proofs.timers.Timers.insert.Goals as goal
 
-pub add-requires : goal.add-requires
-add-requires c =
-    let at : StandsAt c.args.owner c.self.inside.owners.items c.in-Some.place = rw c.deref.ensures.value at (sym c.place_of.ensures ∙ c.in-Some.is) in
-    let own : c.index_mut.result.now.own ≡ own_of c.args.owner c.args.self.now = own_at c.args.owner c.self.inside.owners.items c.in-Some.place c.index_mut.result.now at c.index_mut.ensures.value ∙ ap (own_of c.args.owner) c.self.view_is in
-    ap is_full own ∙ c.requires
+pub insert-requires : goal.insert-requires
+insert-requires c =
+    let own = own_of c.args.owner (held_by c.self.inside.scripts c.self.inside.counters.entries) in
+    subst (λ n. AllBelow number_of n (entries_in c.args.owner c.self.inside.scripts)) (sym c.counter_of-id.ensures.next) (kept_below own (c.self.invariant.sound c.args.owner))
 
-pub invariant_of-self-in-None : goal.invariant_of-self-in-None
-invariant_of-self-in-None c =
-    let nowhere : StandsNowhere c.args.owner c.self.inside.owners.items = rw c.deref.ensures.value at (sym c.place_of.ensures ∙ c.in-None.is) in
-    let is : c.add-in-None.new.self.owner ≡ c.args.owner = c.add-in-None.ensures.owner ∙ ap (λ (row : Row). row.owner) c.new-own.ensures in
-    rw c.in_ok-push-in-None.ensures.items (once-push c.args.owner c.self.inside.owners.items c.add-in-None.new.self nowhere is c.self.invariant)
+pub list_number-requires-clause-below : goal.list_number-requires-clause-below
+list_number-requires-clause-below c = next_unmarked c.self.inside.scripts c.self.inside.index c.self.inside.counters.entries c.args.owner c.self.invariant
 
-pub returns-in-Some-clause-id : goal.returns-in-Some-clause-id
-returns-in-Some-clause-id c =
-    let at : StandsAt c.args.owner c.self.inside.owners.items c.in-Some.place = rw c.deref.ensures.value at (sym c.place_of.ensures ∙ c.in-Some.is) in
-    let own : c.index_mut.result.now.own ≡ own_of c.args.owner c.args.self.now = own_at c.args.owner c.self.inside.owners.items c.in-Some.place c.index_mut.result.now at c.index_mut.ensures.value ∙ ap (own_of c.args.owner) c.self.view_is in
-    rw (← own) c.add.ensures.id
-
-pub returns-in-Some-clause-ok : goal.returns-in-Some-clause-ok
-returns-in-Some-clause-ok c =
-    let at : StandsAt c.args.owner c.self.inside.owners.items c.in-Some.place = rw c.deref.ensures.value at (sym c.place_of.ensures ∙ c.in-Some.is) in
-    let own : c.index_mut.result.now.own ≡ own_of c.args.owner c.args.self.now = own_at c.args.owner c.self.inside.owners.items c.in-Some.place c.index_mut.result.now at c.index_mut.ensures.value ∙ ap (own_of c.args.owner) c.self.view_is in
-    let is : c.add.new.self.owner ≡ c.args.owner = c.add.ensures.owner ∙ owner_at c.args.owner c.self.inside.owners.items c.in-Some.place c.index_mut.result.now at c.index_mut.ensures.value in
-    let set = own_of-set c.args.owner c.self.inside.owners.items c.in-Some.place c.add.new.self at is in
-    rw (set, ← own) c.add.ensures.ok
-
-pub returns-in-Some-clause-others : goal.returns-in-Some-clause-others
-returns-in-Some-clause-others c =
-    let at : StandsAt c.args.owner c.self.inside.owners.items c.in-Some.place = rw c.deref.ensures.value at (sym c.place_of.ensures ∙ c.in-Some.is) in
-    let own : c.index_mut.result.now.own ≡ own_of c.args.owner c.args.self.now = own_at c.args.owner c.self.inside.owners.items c.in-Some.place c.index_mut.result.now at c.index_mut.ensures.value ∙ ap (own_of c.args.owner) c.self.view_is in
-    let is : c.add.new.self.owner ≡ c.args.owner = c.add.ensures.owner ∙ owner_at c.args.owner c.self.inside.owners.items c.in-Some.place c.index_mut.result.now at c.index_mut.ensures.value in
-    λ other differ. own_of_other-set c.args.owner c.self.inside.owners.items c.in-Some.place c.add.new.self at is other differ ∙ ap (own_of other) c.self.view_is
-
-pub returns-in_ok-push-in-None-clause-id : goal.returns-in_ok-push-in-None-clause-id
-returns-in_ok-push-in-None-clause-id c =
-    let nowhere : StandsNowhere c.args.owner c.self.inside.owners.items = rw c.deref.ensures.value at (sym c.place_of.ensures ∙ c.in-None.is) in
-    let none : own_of c.args.owner c.args.self.now ≡ fresh = ap (own_of c.args.owner) (sym c.self.view_is) ∙ own_nowhere c.args.owner c.self.inside.owners.items nowhere in
-    c.in_ok-id-in-None.ensures.id ∙ ap (λ (own : Own). own.next_number) (ap (λ (row : Row). row.own) c.new-own.ensures ∙ sym none)
-
-pub returns-in_ok-push-in-None-clause-ok : goal.returns-in_ok-push-in-None-clause-ok
-returns-in_ok-push-in-None-clause-ok c =
-    let nowhere : StandsNowhere c.args.owner c.self.inside.owners.items = rw c.deref.ensures.value at (sym c.place_of.ensures ∙ c.in-None.is) in
-    let none : own_of c.args.owner c.args.self.now ≡ fresh = ap (own_of c.args.owner) (sym c.self.view_is) ∙ own_nowhere c.args.owner c.self.inside.owners.items nowhere in
-    let is : c.add-in-None.new.self.owner ≡ c.args.owner = c.add-in-None.ensures.owner ∙ ap (λ (row : Row). row.owner) c.new-own.ensures in
-    ap (own_of c.args.owner) c.in_ok-push-in-None.ensures.items ∙ own_of-push c.args.owner c.self.inside.owners.items c.add-in-None.new.self nowhere is
-    ∙ c.in_ok-id-in-None.ensures.ok ∙ ap (with_entry c.args.due c.args.script) (ap (λ (row : Row). row.own) c.new-own.ensures ∙ sym none)
-
-pub returns-in_ok-push-in-None-clause-others : goal.returns-in_ok-push-in-None-clause-others
-returns-in_ok-push-in-None-clause-others c =
-    let nowhere : StandsNowhere c.args.owner c.self.inside.owners.items = rw c.deref.ensures.value at (sym c.place_of.ensures ∙ c.in-None.is) in
-    let is : c.add-in-None.new.self.owner ≡ c.args.owner = c.add-in-None.ensures.owner ∙ ap (λ (row : Row). row.owner) c.new-own.ensures in
-    λ other differ. ap (own_of other) c.in_ok-push-in-None.ensures.items ∙ own_of_other-push c.args.owner c.self.inside.owners.items c.add-in-None.new.self is other differ
-    ∙ ap (own_of other) c.self.view_is
+pub invariant_of-self-in-Ok : goal.invariant_of-self-in-Ok
+invariant_of-self-in-Ok c =
+    let room = subst (λ (held : Held). is_full (own_of c.args.owner held) ≡ false) (sym c.self.view_is) c.requires in
+    let done = inserted c.self.inside.scripts c.insert.new.self c.self.inside.index c.list_number.new.index c.self.inside.counters.entries c.list_number.new.counters.entries c.args.owner c.self.invariant
+    c.counter_of-id.result.next c.args.due c.args.script c.counter_of-id.ensures.next room c.in_ok-insert.ensures.own c.insert.ensures.others c.in-Ok.ensures.ok c.list_number.ensures.others c.in-Ok.ensures.counts in
+    done.kept

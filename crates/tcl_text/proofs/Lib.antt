@@ -19,6 +19,11 @@ pub mod SplittingLemmas
 pub mod Utf8Lemmas
 pub mod ElementLemmas
 pub mod ListFormLemmas
+pub mod PartLemmas
+pub mod KeptLists
+pub mod KeptViews
+pub mod KeptSteps
+pub mod KeptItems
 pub mod SortLemmas
 pub mod ListReading
 pub mod ListFaultsTold

@@ -1,5 +1,5 @@
 -- What is seen of a kept list: its form, its places.
-use Rattle.std.proofs.Common.{◌≡◌, ℕ, zero, suc, ◌+◌, ◌-◌, ◌<◌, ◌≤◌, List, [], ◌∷◌, ◌++◌, take, drop, length, get_or, IsUtf8, refl, arith, ap, sym, subst, ◌∙◌, length-drop}
+use Rattle.std.proofs.Common.{◌≡◌, ℕ, zero, suc, ◌+◌, ◌-◌, ◌<◌, ◌≤◌, List, [], ◌∷◌, ◌++◌, take, drop, length, get_or, IsUtf8, refl, arith, ap, sym, subst, ◌∙◌, length-append, length-drop}
 use Rattle.std.specs.Str.{IsCharBoundary}
 use Rattle.std.proofs.lemmas.Str.{IsCharBoundary-after_ascii}
 use Rattle.tcl_text.specs.ListForm.{others_form}
@@ -41,5 +41,16 @@ place_behind string ends seen (suc k) d h some within =
     rw one (ap (λ (es : List ℕ). get_or es k d) h.places ∙ ends-at_first seen k d (omega (arith, within)))
 
 -- a place is within the string
-pub place_within : (string ends : List ℕ) (seen : List (List ℕ)) (number : ℕ) → KeepsList string ends seen → length (others_form (take number seen)) ≤ length string
-place_within string ends seen number h = let a = front_length number seen in omega (arith, ap length h.forms, a)
+pub place_short : (string ends : List ℕ) (seen : List (List ℕ)) (number place : ℕ) → KeepsList string ends seen → place ≡ length (others_form (take number seen)) → place ≤ 65537
+place_short string ends seen number place h at = let a = front_length number seen in omega (arith, at, ap length h.forms, a, h.short)
+
+-- each item takes a byte at least
+items_few : (items : List (List ℕ)) → length items ≤ length (others_form items)
+items_few [] = omega arith
+items_few (x ∷ xs) = let e = length-append (element_form x) (others_form xs) in omega (arith, e, items_few xs)
+
+pub seen_few : (string ends : List ℕ) (seen : List (List ℕ)) → KeepsList string ends seen → length seen ≤ 65537
+seen_few string ends seen h = omega (arith, items_few seen, ap length h.forms, h.short)
+
+pub seen_width : (string ends shown : List ℕ) (seen : List (List ℕ)) → KeepsList string ends seen → shown ≡ string → (length shown ≡ length (others_form seen)) × (length shown ≤ 65537)
+seen_width string ends shown seen h is = (ap length (is ∙ h.forms), omega (arith, ap length is, h.short))

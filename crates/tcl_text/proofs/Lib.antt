@@ -24,6 +24,7 @@ pub mod KeptLists
 pub mod KeptViews
 pub mod KeptSteps
 pub mod KeptItems
+pub mod KeptGrown
 pub mod SortLemmas
 pub mod ListReading
 pub mod ListFaultsTold

@@ -1,9 +1,8 @@
-ghost use Rattle.std.specs.Prelude.{◌≡◌, ◌≢◌, ◌+◌, ◌<◌, ◌≤◌, ◌++◌, ◌∷◌, [], ℕ, List, take, drop, length, string_bytes, IfOk, IfErr, OnOk, OnErr, MatchBool};
-ghost use Rattle.std.specs.Str.{IsCharBoundary};
+ghost use Rattle.std.specs.Prelude.{◌≡◌, ◌≢◌, ◌+◌, ◌<◌, ◌≤◌, ◌++◌, ◌∷◌, [], ℕ, List, take, drop, length, slice_index_or, string_bytes, IfOk, IfErr, OnOk, OnErr, MatchBool};
 ghost use Rattle.tcl_text.specs.ListCommands.{spliced};
 ghost use Rattle.tcl_text.specs.ListForm.{others_form};
 ghost use Rattle.tcl_text.specs.ListString.{AreEnds, ends_behind};
-ghost use Rattle.tcl_text.specs.Readings.{list_form};
+ghost use Rattle.tcl_text.specs.Readings.{element_form, list_form};
 
 use crate::list_form::push_element;
 use crate::splitting::first_element;
@@ -11,6 +10,9 @@ use crate::text::{MAX_BYTES, Text, TextFault};
 use std::alloc::{AllocError, Global};
 use std::marker::Model;
 use std::rc::Rc;
+
+/// How many bytes the string of a kept list may have.
+const MAX_STRING: usize = MAX_BYTES + 1;
 
 /// A list. Its form is kept, with a blank before each item's, and where each item's ends: so an item is found by its number, and a part
 /// of what is kept is what is kept of that part of the list.
@@ -31,6 +33,15 @@ impl Model for ListString {
     ghost invariant = { λ l. KeepsList (string_bytes l.string) l.ends.items (items_kept (string_bytes l.string)) };
 }
 
+/// Adds the form of an item, behind a blank.
+fn push_form(string: &mut String, item: &str) -> Result<(), AllocError>
+    ensures { OnOk result (string_bytes string.new ≡ (string_bytes string.old ++ 32 ∷ []) ++ element_form item.now) }
+{
+    string.push(' ')?;
+    push_element(string, item)?;
+    Ok(())
+}
+
 /// Adds the forms of items, each behind a blank, and where each ends. `TooLong` where the form of the list passes 65,536 bytes; it stops
 /// soon after that.
 fn push_forms(
@@ -45,12 +56,12 @@ fn push_forms(
     ensures too_long { IfErr result (λ fault. fault ≢ TextFault.NoMemory → 65537 < length (string_bytes string.old ++ others_form items.now)) }
 {
     for item in items {
-        string.push(' ')?;
-        push_element(string, item.as_str())?;
-        if string.len() > MAX_BYTES + 1 {
+        push_form(string, item.as_str())?;
+        let end = string.as_str().len();
+        if end > MAX_STRING {
             return Err(TextFault::TooLong);
         }
-        ends.push(string.len() as u32)?;
+        ends.push(end as u32)?;
     }
     Ok(())
 }
@@ -73,6 +84,24 @@ fn push_ends(
     Ok(())
 }
 
+/// Adds a list to the string and the ends of another. On an error the string is as it was, and the ends that were there stay in front.
+fn push_kept(
+    string: &mut String,
+    ends: &mut Vec<u32>,
+    more: &ListString,
+) -> Result<(), AllocError>
+    requires { length (string_bytes string.old) + length (others_form more.now) ≤ 65537 }
+    ensures forms { OnOk result (string_bytes string.new ≡ string_bytes string.old ++ others_form more.now) }
+    ensures places { OnOk result (ends.new.items ≡ ends.old.items ++ ends_behind (length (string_bytes string.old)) more.now) }
+    ensures same { OnErr result (string_bytes string.new ≡ string_bytes string.old) }
+    ensures front { OnErr result (take (length ends.old.items) ends.new.items ≡ ends.old.items) }
+{
+    let behind = string.as_str().len() as u32;
+    push_ends(ends, more.ends.as_slice(), 0, behind)?;
+    string.push_str(more.string.as_str())?;
+    Ok(())
+}
+
 impl ListString {
     /// The list of these items. `TooLong` where its form passes 65,536 bytes; it stops soon after that.
     pub fn new(alloc: Global, items: &[Text]) -> Result<ListString, TextFault>
@@ -82,7 +111,8 @@ impl ListString {
         let mut string = String::new(alloc);
         let mut ends = Vec::with_capacity(alloc, items.len())?;
         push_forms(&mut string, &mut ends, items)?;
-        Ok(ListString { string, ends })
+        let list = ListString { string, ends };
+        Ok(list)
     }
 
     /// The form of the list.
@@ -105,10 +135,19 @@ impl ListString {
         self.ends.len()
     }
 
+    /// How many bytes the string has: one more than the form, where there are items.
+    fn width(&self) -> usize
+        ensures value { result ≡ length (others_form self.now) }
+        ensures within { result ≤ 65537 }
+    {
+        self.string.as_str().len()
+    }
+
     /// Where the item of this number begins in the string, with the blank before it, or where the last one ends.
     fn place(&self, number: usize) -> usize
         requires { number ≤ length self.now }
-        ensures { result ≡ length (others_form (take number self.now)) }
+        ensures value { result ≡ length (others_form (take number self.now)) }
+        ensures within { result ≤ 65537 }
     {
         if number == 0 {
             0
@@ -117,14 +156,26 @@ impl ListString {
         }
     }
 
+    /// The form of the item of this number, counted from 0.
+    fn form(&self, number: usize) -> &str
+        requires { number < length self.now }
+        ensures value { result.now ≡ element_form (slice_index_or self.now number []) }
+        ensures short { length result.now ≤ 65536 }
+    {
+        let string = self.string.as_str();
+        let start = self.place(number);
+        let next = number + 1;
+        let end = self.place(next);
+        &string[start + 1..end]
+    }
+
     /// The item of this number, counted from 0.
     pub fn item(&self, alloc: Global, number: usize) -> Result<Text, AllocError>
         requires { number < length self.now }
         ensures { IfOk result (λ item. drop number (take (number + 1) self.now) ≡ item ∷ []) }
     {
-        let from = self.place(number) + 1;
-        let to = self.place(number + 1);
-        match first_element(alloc, &self.string.as_str()[from..to]) {
+        let form = self.form(number);
+        match first_element(alloc, form) {
             Ok((item, _behind)) => Ok(item),
             Err(_) => Err(AllocError),
         }
@@ -136,12 +187,14 @@ impl ListString {
         requires within { to ≤ length self.now }
         ensures { IfOk result (λ list. list ≡ drop from (take to self.now)) }
     {
+        let kept = self.string.as_str();
         let start = self.place(from);
         let end = self.place(to);
-        let string = String::from_str(alloc, &self.string.as_str()[start..end])?;
+        let string = String::from_str(alloc, &kept[start..end])?;
         let mut ends = Vec::new(alloc);
         push_ends(&mut ends, &self.ends[from..to], start as u32, 0)?;
-        Ok(ListString { string, ends })
+        let list = ListString { string, ends };
+        Ok(list)
     }
 
     /// The list with values in place of the items from one number up to another. `TooLong` where its form passes 65,536 bytes.
@@ -158,34 +211,14 @@ impl ListString {
         ensures too_long { IfErr result (λ fault. fault ≢ TextFault.NoMemory → 65536 < length (list_form (spliced self.now from to values.now))) }
     {
         let values = ListString::new(alloc, values)?;
-        self.with_list(alloc, from, to, &values)
-    }
-
-    /// The list with those of another in place of the items from one number up to another. `TooLong` where its form passes 65,536 bytes.
-    fn with_list(
-        &self,
-        alloc: Global,
-        from: usize,
-        to: usize,
-        values: &ListString,
-    ) -> Result<ListString, TextFault>
-        requires in_order { from ≤ to }
-        requires within { to ≤ length self.now }
-        ensures ok { IfOk result (λ list. list ≡ spliced self.now from to values.now) }
-        ensures too_long { IfErr result (λ fault. fault ≢ TextFault.NoMemory → 65536 < length (list_form (spliced self.now from to values.now))) }
-    {
-        let start = self.place(from);
-        let end = self.place(to);
-        let string = with_between(alloc, self.string.as_str(), start, end, values.string.as_str())?;
-        if string.len() > MAX_BYTES + 1 {
+        let mut list = self.part(alloc, 0, from)?;
+        let behind = self.part(alloc, to, self.len())?;
+        if list.width() + values.width() + behind.width() > MAX_STRING {
             return Err(TextFault::TooLong);
         }
-        let mut ends = Vec::with_capacity(alloc, self.ends.len() + values.ends.len())?;
-        ends.extend_from_slice(&self.ends[..from])?;
-        push_ends(&mut ends, values.ends.as_slice(), 0, start as u32)?;
-        let behind = start + values.string.len();
-        push_ends(&mut ends, &self.ends[to..], end as u32, behind as u32)?;
-        Ok(ListString { string, ends })
+        list.push(&values)?;
+        list.push(&behind)?;
+        Ok(list)
     }
 
     /// Adds the items of another list.
@@ -195,12 +228,7 @@ impl ListString {
         ensures err { OnErr result (self.new ≡ self.old) }
     {
         let count = self.ends.len();
-        let end = self.string.len() as u32;
-        if let Err(refused) = push_ends(&mut self.ends, more.ends.as_slice(), 0, end) {
-            self.ends.truncate(count);
-            return Err(refused);
-        }
-        if let Err(refused) = self.string.push_str(more.string.as_str()) {
+        if let Err(refused) = push_kept(&mut self.string, &mut self.ends, more) {
             self.ends.truncate(count);
             return Err(refused);
         }
@@ -222,6 +250,16 @@ impl ListString {
         }
     }
 
+    /// The list with the items of another behind it.
+    fn longer(&self, alloc: Global, more: &ListString) -> Result<ListString, AllocError>
+        requires { length (others_form self.now) + length (others_form more.now) ≤ 65537 }
+        ensures { IfOk result (λ list. list ≡ self.now ++ more.now) }
+    {
+        let mut list = self.part(alloc, 0, self.len())?;
+        list.push(more)?;
+        Ok(list)
+    }
+
     /// Adds items to a list; in place, where it has no other owner. `TooLong`, and nothing is added, where its form would pass 65,536 bytes.
     pub fn push_items(
         list: &mut Rc<ListString>,
@@ -233,35 +271,14 @@ impl ListString {
         ensures err { OnErr result (list.new.value ≡ list.old.value) }
     {
         let more = ListString::new(alloc, items)?;
-        let held = list.as_ref();
-        if MAX_BYTES + 1 - held.string.len() < more.string.len() {
+        if list.as_ref().width() + more.width() > MAX_STRING {
             return Err(TextFault::TooLong);
         }
         if ListString::push_alone(list, &more)? {
             return Ok(());
         }
-        let count = list.as_ref().len();
-        let longer = list.as_ref().with_list(alloc, count, count, &more)?;
+        let longer = list.as_ref().longer(alloc, &more)?;
         *list = Rc::new(alloc, longer)?;
         Ok(())
     }
-}
-
-/// A string with another in place of what stands between two places.
-fn with_between(
-    alloc: Global,
-    string: &str,
-    start: usize,
-    end: usize,
-    between: &str,
-) -> Result<String, AllocError>
-    requires start { IsCharBoundary string.now start }
-    requires end { IsCharBoundary string.now end }
-    ensures { IfOk result (λ whole. string_bytes whole ≡ spliced string.now start end between.now) }
-{
-    let mut whole = String::with_capacity(alloc, string.len() + between.len())?;
-    whole.push_str(&string[..start])?;
-    whole.push_str(between)?;
-    whole.push_str(&string[end..])?;
-    Ok(whole)
 }

@@ -1,4 +1,4 @@
-ghost use Rattle.std.specs.Prelude.{◌≡◌, ◌≤◌, take, length};
+ghost use Rattle.std.specs.Prelude.{◌≡◌, ◌≤◌, take, length, IsUtf8};
 ghost use Rattle.std.specs.Fmt.{signed_decimal};
 
 /// How many digits of a number are kept in place beside it, a sign among them.
@@ -11,6 +11,7 @@ pub struct NumberText {
     digits: [u8; 15],
     length: u8,
     ghost fits: { length ≤ 15 },
+    ghost utf8: { ∥ IsUtf8 (take length digits) ∥₁ },
     ghost spells: { take length digits ≡ signed_decimal number },
 }
 
@@ -45,7 +46,7 @@ impl NumberText {
         ensures { result.now ≡ signed_decimal self.now.number }
     {
         let digits = &self.digits[..usize::from(self.length)];
-        // SAFETY: the digits are those of the number, as the type's field `spells` says, and so ASCII.
+        // SAFETY: the digits are UTF-8, as the type's field `utf8` says.
         unsafe { str::from_utf8_unchecked(digits) }
     }
 }

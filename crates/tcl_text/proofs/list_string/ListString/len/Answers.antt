@@ -1,7 +1,6 @@
 use Rattle.std.proofs.Common.{◌≡◌, arith, length}
 use Rattle.std.proofs.lemmas.Grind.{common_steps}
 use Rattle.tcl_text.proofs.KeptViews.{kept, seen_count}
-use Rattle.tcl_text.proofs.KeptItems.{spliced_length}
 use Rattle.tcl_text.proofs.list_string.ListString.len.Goals as goal
 
 pub returns : goal.returns

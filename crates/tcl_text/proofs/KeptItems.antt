@@ -87,7 +87,8 @@ form_bounds string items k start end utf8 inside is at_start at_end =
 
 pub form_cut : (string : List ℕ) (items : List (List ℕ)) (k start end : ℕ) → k < length items → string ≡ others_form items
     → start ≡ length (others_form (take k items)) → end ≡ length (others_form (take (k + 1) items)) → slice_range string (start + 1) end ≡ element_form (get_or items k [])
-form_cut string items k start end inside is at_start at_end = (λ j. slice_range string (at_start j + 1) (at_end j)) ∙ item_form string items k inside is
+form_cut string items k start end inside is at_start at_end =
+    ap (λ (n : ℕ). slice_range string (n + 1) end) at_start ∙ ap (λ (n : ℕ). slice_range string (length (others_form (take k items)) + 1) n) at_end ∙ item_form string items k inside is
 
 pub begun : (form x : List ℕ) → form ≡ element_form x → Begins form
 begun form x is = subst Begins (sym is) (form_begins x)

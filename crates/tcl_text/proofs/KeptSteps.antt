@@ -121,14 +121,24 @@ spliced_parts items values front behind from to count all is_front is_behind =
     let rest = behind_part items behind to count all is_behind in
     append_assoc front values behind ∙ ap (λ (t : List (List ℕ)). t ++ (values ++ behind)) is_front ∙ ap (λ (t : List (List ℕ)). take from items ++ (values ++ t)) rest
 
-pub parts_long : (items values front behind : List (List ℕ)) (from to count : ℕ) → count ≡ length items → front ≡ take from items → behind ≡ drop to (take count items)
-    → 65537 < length (others_form front) + length (others_form values) + length (others_form behind) → 65536 < length (list_form (spliced items from to values))
-parts_long items values front behind from to count all is_front is_behind long =
+pub parts_long : (items values front kept behind : List (List ℕ)) (from to count : ℕ) → count ≡ length items → kept ≡ values → front ≡ take from items → behind ≡ drop to (take count items)
+    → 65537 < length (others_form front) + length (others_form kept) + length (others_form behind) → 65536 < length (list_form (spliced items from to values))
+parts_long items values front kept behind from to count all is_kept is_front is_behind long =
     let rest = behind_part items behind to count all is_behind in
     let sum = spliced_width items values from to in
     let a = ap (λ (t : List (List ℕ)). length (others_form t)) is_front in
     let b = ap (λ (t : List (List ℕ)). length (others_form t)) rest in
-    list_long (spliced items from to values) (omega (arith, sum, a, b))
+    let d = ap (λ (t : List (List ℕ)). length (others_form t)) is_kept in
+    list_long (spliced items from to values) (omega (arith, sum, a, b, d))
+
+pub spliced_done : (items values front kept grown whole behind : List (List ℕ)) (from to count : ℕ) → count ≡ length items → kept ≡ values → front ≡ take from items → behind ≡ drop to (take count items)
+    → grown ≡ front ++ kept → whole ≡ grown ++ behind → whole ≡ spliced items from to values
+spliced_done items values front kept grown whole behind from to count all is_kept is_front is_behind first second =
+    second ∙ ap (λ (t : List (List ℕ)). t ++ behind) (first ∙ ap (λ (t : List (List ℕ)). front ++ t) is_kept) ∙ spliced_parts items values front behind from to count all is_front is_behind
+
+pub room_left : (front kept grown behind : List (List ℕ)) → grown ≡ front ++ kept → length (others_form front) + length (others_form kept) + length (others_form behind) ≤ 65537
+    → length (others_form grown) + length (others_form behind) ≤ 65537
+room_left front kept grown behind is room = let sum = width-append front kept in let e = ap (λ (t : List (List ℕ)). length (others_form t)) is in omega (arith, room, sum, e)
 
 pub whole_part : (items part : List (List ℕ)) (count : ℕ) → count ≡ length items → part ≡ take count items → part ≡ items
 whole_part items part count all is = is ∙ take_all count items (omega arith)
@@ -231,7 +241,7 @@ part_ends ends items from to start end order is at_start at_end short =
 part_string : (string cut whole : List ℕ) (items : List (List ℕ)) (from to start end : ℕ) → from ≤ to → whole ≡ others_form items
     → start ≡ length (others_form (take from items)) → end ≡ length (others_form (take to items)) → cut ≡ slice_range whole start end → string ≡ cut → string ≡ others_form (drop from (take to items))
 part_string string cut whole items from to start end order is at_start at_end is_cut copied =
-    copied ∙ is_cut ∙ (λ k. slice_range whole (at_start k) (at_end k)) ∙ part_forms whole items from to order is
+    copied ∙ is_cut ∙ ap (λ (n : ℕ). slice_range whole n end) at_start ∙ ap (λ (n : ℕ). slice_range whole (length (others_form (take from items))) n) at_end ∙ part_forms whole items from to order is
 
 pub part_items : (string cut whole : List ℕ) (items : List (List ℕ)) (from to start end : ℕ) → from ≤ to → whole ≡ others_form items
     → start ≡ length (others_form (take from items)) → end ≡ length (others_form (take to items)) → cut ≡ slice_range whole start end → string ≡ cut → items_kept string ≡ drop from (take to items)

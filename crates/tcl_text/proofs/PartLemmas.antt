@@ -1,5 +1,5 @@
 -- Parts of the items of a list, by their indices.
-use Rattle.std.proofs.Common.{◌≡◌, ℕ, ◌+◌, ◌<◌, ◌≤◌, min, List, [], ◌∷◌, take, drop, length, refl, sym, ap, ◌∙◌, inl, inr, arith, pos, negsuc}
+use Rattle.std.proofs.Common.{◌≡◌, ℕ, ◌+◌, ◌<◌, ◌≤◌, min, List, [], ◌∷◌, take, drop, length, refl, sym, ap, subst, ◌∙◌, inl, inr, arith, pos, negsuc}
 use Rattle.std.proofs.lemmas.Bool.{cases_lt}
 use Rattle.std.proofs.lemmas.List.{length-take, drop_all}
 use Rattle.tcl_text.specs.Indices.{before, part, through}
@@ -32,3 +32,30 @@ part_start start end xs = elim (cases_lt start end) [
       let l = length-take end xs in
       rw m (drop_all end (take end xs) (omega (arith, l)) ∙ sym (drop_all start (take end xs) (omega (arith, l))))
 ]
+
+-- the last index is within the items
+pub through_within : (index : Index) (count : ℕ) → through index count ≤ count
+through_within (FromStart (pos n)) count = omega arith
+through_within (FromStart (negsuc n)) count = omega arith
+through_within (FromEnd n) count = omega arith
+
+-- the same by the numbers that were found
+pub part_found : (index : Index) (items : List (List ℕ)) (item : List ℕ) (number end count : ℕ) → count ≡ length items → number ≡ before index count → end ≡ through index count
+    → number < end → drop number (take (number + 1) items) ≡ item ∷ [] → item_or_empty (part index index items) ≡ item
+part_found index items item number end count counted at till inside is =
+    let here : number ≡ before index (length items) = at ∙ ap (before index) counted in
+    let there : end ≡ through index (length items) = till ∙ ap (through index) counted in
+    part_one index items item (omega (arith, here, there)) (subst (λ (n : ℕ). drop n (take (n + 1) items) ≡ item ∷ []) here is)
+
+pub part_missing : (index : Index) (items : List (List ℕ)) (number end count : ℕ) → count ≡ length items → number ≡ before index count → end ≡ through index count
+    → end ≤ number → item_or_empty (part index index items) ≡ []
+part_missing index items number end count counted at till past =
+    let here : number ≡ before index (length items) = at ∙ ap (before index) counted in
+    let there : end ≡ through index (length items) = till ∙ ap (through index) counted in
+    part_none index items (omega (arith, here, there))
+
+pub part_kept : (first last : Index) (items kept : List (List ℕ)) (begin start end count : ℕ) → count ≡ length items → begin ≡ before first count → end ≡ through last count
+    → start ≡ min begin end → kept ≡ drop start (take end items) → kept ≡ part first last items
+part_kept first last items kept begin start end count counted at till cut is =
+    is ∙ ap (λ (n : ℕ). drop n (take end items)) cut ∙ part_start begin end items
+    ∙ ap (λ (n : ℕ). drop n (take end items)) (at ∙ ap (before first) counted) ∙ ap (λ (n : ℕ). drop (before first (length items)) (take n items)) (till ∙ ap (through last) counted)

@@ -213,7 +213,8 @@ impl ListString {
         let values = ListString::new(alloc, values)?;
         let mut list = self.part(alloc, 0, from)?;
         let behind = self.part(alloc, to, self.len())?;
-        if list.width() + values.width() + behind.width() > MAX_STRING {
+        let width = list.width() + values.width() + behind.width();
+        if width > MAX_STRING {
             return Err(TextFault::TooLong);
         }
         list.push(&values)?;
@@ -271,7 +272,8 @@ impl ListString {
         ensures err { OnErr result (list.new.value ≡ list.old.value) }
     {
         let more = ListString::new(alloc, items)?;
-        if list.as_ref().width() + more.width() > MAX_STRING {
+        let width = list.as_ref().width() + more.width();
+        if width > MAX_STRING {
             return Err(TextFault::TooLong);
         }
         if ListString::push_alone(list, &more)? {

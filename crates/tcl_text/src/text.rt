@@ -145,6 +145,7 @@ impl TextForm {
     }
 
     /// Adds items to a text that was made as a list; in place, where no copy shares it. False, and nothing is done, for another text.
+    #[tactic(auto, using(crate::proofs::EditLemmas::kept_lists))]
     fn push_items(&mut self, alloc: Global, items: &[Text]) -> Result<bool, TextFault>
         requires { length (form_bytes self.old) ≤ 65536 }
         ensures ok { IfOk result (λ done. MatchBool done
@@ -171,7 +172,7 @@ impl TextForm {
         ensures { IfOk result (λ longer. form_bytes longer ≡ form_bytes self.now ++ characters.now) }
     {
         let held = self.as_str();
-        if held.len() + characters.len() <= SHORT_BYTES {
+        if held.len() <= SHORT_BYTES && characters.len() <= SHORT_BYTES - held.len() {
             return Ok(TextForm::Short(ShortText::joined(held, characters)));
         }
         let mut string = String::from_str(alloc, held)?;

@@ -77,8 +77,17 @@ fn item_of_kept(alloc: Global, list: &ListString, index: &Text) -> Result<Text, 
     ensures { Gives result (spec.item_at index.now list.now) }
 {
     let index = index_in(alloc, index)?;
-    let number = index.before(list.len());
-    if number < index.through(list.len()) {
+    kept_item_answer(alloc, list, index)
+}
+
+/// The item of a kept list at an index, or the empty text where there is none.
+fn kept_item_answer(alloc: Global, list: &ListString, index: Index) -> Result<Text, Refusal>
+    ensures { Gives result (answers (spec.item_or_empty (part index index list.now))) }
+{
+    let count = list.len();
+    let number = index.before(count);
+    let end = index.through(count);
+    if number < end {
         let item = list.item(alloc, number)?;
         copy_answer(&item)
     } else {
@@ -137,8 +146,22 @@ fn range_of_kept(
 {
     let first = index_in(alloc, first)?;
     let last = index_in(alloc, last)?;
-    let end = last.through(list.len());
-    let start = first.before(list.len()).min(end);
+    kept_range_answer(alloc, list, first, last)
+}
+
+/// The list of the items of a kept list from one index to another.
+fn kept_range_answer(
+    alloc: Global,
+    list: &ListString,
+    first: Index,
+    last: Index,
+) -> Result<Text, Refusal>
+    ensures { Gives result (answers (list_form (part first last list.now))) }
+{
+    let count = list.len();
+    let end = last.through(count);
+    let begin = first.before(count);
+    let start = begin.min(end);
     let part = list.part(alloc, start, end)?;
     kept_answer(alloc, part)
 }

@@ -94,6 +94,12 @@ width-append xs ys = ap length (others_form-append xs ys) ∙ length-append (oth
 pub append_long : (xs ys : List (List ℕ)) → 65537 < length (others_form xs) + length (others_form ys) → 65536 < length (list_form (xs ++ ys))
 append_long xs ys long = let sum = width-append xs ys in list_long (xs ++ ys) (omega (arith, sum))
 
+pub added_long : (held shown more items : List (List ℕ)) → shown ≡ held → more ≡ items → 65537 < length (others_form shown) + length (others_form more) → 65536 < length (list_form (held ++ items))
+added_long held shown more items is_held is_items long =
+    let a = ap (λ (t : List (List ℕ)). length (others_form t)) is_held in
+    let b = ap (λ (t : List (List ℕ)). length (others_form t)) is_items in
+    append_long held items (omega (arith, a, b, long))
+
 pub behind_long : (xs ys : List (List ℕ)) → 65536 < length (list_form ys) → 65536 < length (list_form (xs ++ ys))
 behind_long xs ys long = let wide = long_list ys long in append_long xs ys (omega (arith, wide))
 

@@ -96,8 +96,8 @@ fn push_kept(
     ensures same { OnErr result (string_bytes string.new ≡ string_bytes string.old) }
     ensures front { OnErr result (take (length ends.old.items) ends.new.items ≡ ends.old.items) }
 {
-    let behind = string.as_str().len() as u32;
-    push_ends(ends, more.ends.as_slice(), 0, behind)?;
+    let behind = string.as_str().len();
+    push_ends(ends, more.ends.as_slice(), 0, behind as u32)?;
     string.push_str(more.string.as_str())?;
     Ok(())
 }
@@ -191,8 +191,9 @@ impl ListString {
         let start = self.place(from);
         let end = self.place(to);
         let string = String::from_str(alloc, &kept[start..end])?;
+        let cut = &self.ends.as_slice()[from..to];
         let mut ends = Vec::new(alloc);
-        push_ends(&mut ends, &self.ends[from..to], start as u32, 0)?;
+        push_ends(&mut ends, cut, start as u32, 0)?;
         let list = ListString { string, ends };
         Ok(list)
     }
@@ -229,11 +230,13 @@ impl ListString {
         ensures err { OnErr result (self.new ≡ self.old) }
     {
         let count = self.ends.len();
-        if let Err(refused) = push_kept(&mut self.string, &mut self.ends, more) {
-            self.ends.truncate(count);
-            return Err(refused);
+        match push_kept(&mut self.string, &mut self.ends, more) {
+            Ok(()) => Ok(()),
+            Err(refused) => {
+                self.ends.truncate(count);
+                Err(refused)
+            }
         }
-        Ok(())
     }
 
     /// Adds the items of another list to one that has no other owner; false, and nothing is done, where it has one.

@@ -119,7 +119,7 @@ values_long items values from to long =
 -- ── a list with values in place of a part is what stands before, the values, and what stands behind ──
 
 behind_part : {X : Type 0} (items behind : List X) (to count : ℕ) → count ≡ length items → behind ≡ drop to (take count items) → behind ≡ drop to items
-behind_part items behind to count all is = is ∙ ap (λ (t : List X). drop to t) (take_all count items (omega arith))
+behind_part {X = X} items behind to count all is = is ∙ ap (λ (t : List X). drop to t) (take_all count items (omega arith))
 
 pub spliced_parts : (items values front behind : List (List ℕ)) (from to count : ℕ) → count ≡ length items → front ≡ take from items → behind ≡ drop to (take count items)
     → (front ++ values) ++ behind ≡ spliced items from to values

@@ -9,7 +9,7 @@ loop-item-preserved c =
     let x = c.item-item.result in
     let inside : i < length items = omega arith in
     let pushed = pushed_as _ _ _ _ c.in_ok-push_form.ensures c.as_str.ensures.bytes in
-    let end_is = c.len-end.ensures ∙ ap length c.as_str-2.ensures.value in
+    let end_is = ap length c.as_str-end.ensures.value in
     record {
       forms = forms_more _ _ _ items i x inside c.item-item.is c.loop-item.invariant.forms pushed;
       places = places_more _ _ _ _ _ _ items i x inside c.item-item.is c.loop-item.invariant.places (pushed_length _ _ _ pushed) end_is c.in_ok-push.ensures.items;
@@ -22,7 +22,7 @@ returns-then-end-gt-MAX_STRING-clause-too_long c = λ _.
     let i = c.loop-item.item-index in
     let inside : i < length items = omega arith in
     let pushed = pushed_as _ _ _ _ c.in_ok-push_form.ensures c.as_str.ensures.bytes in
-    let end_is = c.len-end.ensures ∙ ap length c.as_str-2.ensures.value in
+    let end_is = ap length c.as_str-end.ensures.value in
     forms_long _ _ _ items i c.item-item.result inside c.item-item.is c.loop-item.invariant.forms pushed (omega (arith, end_is))
 
 pub returns-clause-forms : goal.returns-clause-forms

@@ -1,4 +1,4 @@
-use crate::kind::{Mode, Opener, BytePlace};
+use crate::kind::{BytePlace, Mode, Opener};
 use crate::open::Open;
 
 /// Where and how the reading of a script or an index begins: at a place of the whole source, and past so many

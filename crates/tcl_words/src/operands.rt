@@ -9,7 +9,7 @@ ghost use Rattle.tcl_words.specs.Chain.{own, opened as opened_origin, IsReading}
 ghost use Rattle.tcl_words.specs.Operands.{opened_of, bracket_of, substitution_of, quoted_of, quoted_rest, outer, IsReadAs, EndsAt, GoesOn};
 
 use crate::fault::ParseFault;
-use crate::kind::{Dollar, Kind, Mode, Opener, BytePlace, Step};
+use crate::kind::{BytePlace, Dollar, Kind, Mode, Opener, Step};
 use crate::nesting::{Origin, Reader};
 use crate::open::{Open, text_of};
 use crate::read::{dollar_at, look, read_text, unfinished};

@@ -13,7 +13,7 @@ ghost use Rattle.tcl_words.specs.Reading.{at_end};
 ghost use Rattle.tcl_words.specs.declared.script.Piece.TheVariants.{Variable};
 
 use crate::fault::ParseFault;
-use crate::kind::{Dollar, Kind, Mode, Opener, BytePlace, Step};
+use crate::kind::{BytePlace, Dollar, Kind, Mode, Opener, Step};
 use crate::look::{dollar_of, kind_before};
 use crate::open::{Open, text_of};
 use crate::script::{Piece, WordForm};
@@ -570,7 +570,12 @@ pub fn read_byte(
 }
 
 /// The text of a script ends, and what is open of it: not in quotes, braces or an index.
-pub fn finish(parts: &mut Open, alloc: Global, source: &str, place: BytePlace) -> Result<(), ParseFault>
+pub fn finish(
+    parts: &mut Open,
+    alloc: Global,
+    source: &str,
+    place: BytePlace,
+) -> Result<(), ParseFault>
     requires short { length source.now ≤ 65536 }
     requires fine { IsFine parts.old source.now place (length source.now) }
     requires script { is_index place ≡ false }

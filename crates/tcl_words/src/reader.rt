@@ -7,7 +7,7 @@ ghost use Rattle.tcl_words.specs.Parts.{IsOpenerCut, no_parts};
 ghost use Rattle.tcl_words.specs.Chain.{outset, own, opened as opened_origin, IsReading, IsOpening, IsEnding, IsParse, Goes};
 
 use crate::fault::ParseFault;
-use crate::kind::{Mode, Opener, BytePlace, Step};
+use crate::kind::{BytePlace, Mode, Opener, Step};
 use crate::nesting::{Origin, Reader, Waiting};
 use crate::open::{Open, text_of};
 use crate::read::{finish, read_byte, unfinished};

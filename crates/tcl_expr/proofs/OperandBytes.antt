@@ -1,15 +1,20 @@
 -- Parts of a text that are UTF-8 as the text is.
-use Rattle.std.proofs.Common.{◌≡◌, ℕ, zero, suc, ◌+◌, ◌-◌, ◌≤◌, ◌<◌, ◌⊎◌, inl, inr, Bool, true, false, nat_lt, nat_le, ◌==◌, ◌&&◌, ◌||◌, List, [], ◌∷◌, ◌++◌, length, take, drop, slice_index, Option, Some, None, Ok, refl, sym, ap, subst, ◌∙◌, append_assoc, length-append, eqb-true, arith}
+use Rattle.std.proofs.Common.{◌≡◌, ℕ, zero, suc, ◌+◌, ◌-◌, ◌≤◌, ◌<◌, ◌⊎◌, inl, inr, Bool, true, false, nat_lt, nat_le, ◌==◌, ◌&&◌, ◌||◌, List, [], ◌∷◌, ◌++◌, length, take, drop, slice_index, Option, Some, None, Ok, Err, refl, sym, ap, subst, ◌∙◌, append_assoc, length-append, eqb-true, arith}
 use Rattle.std.proofs.lemmas.Bool.{or_cases, and_parts, cases_lt, ltb-true, leb-true, le-ltb}
 use Rattle.std.specs.Char.{digit_value}
 use Rattle.std.specs.Str.{IsUtf8, IsAscii, IsCharBoundary}
 use Rattle.std.proofs.lemmas.Str.{IsUtf8-append, IsUtf8-take, IsUtf8-drop, IsUtf8-from_ascii, IsCharBoundary-at_seam, IsCharBoundary-after_ascii}
 use Rattle.std.proofs.lemmas.Str.Ascii.{IsAscii-nil}
 use Rattle.tcl_text.specs.Readings.{base_named}
-use Rattle.tcl_words.specs.Grammar.{begins_space, AreSpaces, IsBraced}
+use Rattle.tcl_words.specs.Grammar.{begins_space, AreSpaces, IsBraced, IsUnclosed}
 use Rattle.tcl_words.specs.Grammar.IsBraced.{none, byte, pair, continuation, braces}
+use Rattle.tcl_words.proofs.BracesCut.{BraceCut, braces_cut}
+use Rattle.tcl_expr.specs.declared.braces.BracePlace.TheVariants.{Plain}
+use Rattle.tcl_expr.specs.declared.fault.ExprFault.TheVariants.{MissingBrace}
+use Rattle.tcl_expr.specs.Braces.{braced}
 use Rattle.tcl_expr.specs.Tokens.{is_digit, is_alphabetic, is_name_byte}
 use Rattle.tcl_expr.specs.Counts.{name_bytes, digits, based_or, past_zero_by, past_zero, number_length}
+use Rattle.tcl_expr.proofs.BracesOfScripts.{braces_read, unclosed_read}
 
 -- ── ASCII ──
 
@@ -219,3 +224,17 @@ value_utf8 (braces own text {inner} {value} first rest) front behind utf8 =
 -- what stands in braces at the front of a text
 pub braced_utf8 : (own value rest text : List ℕ) → IsBraced own value → text ≡ own ++ 125 ∷ rest → IsUtf8 text → IsUtf8 value
 braced_utf8 own value rest text is cut utf8 = before_ascii value 125 rest (omega arith) (value_utf8 is [] (125 ∷ rest) (subst IsUtf8 cut utf8))
+
+found_by : (text value : List ℕ) (n : ℕ) → BraceCut text → braced Plain 0 text ≡ Ok (value, n) → IsUtf8 text → IsUtf8 value
+found_by text value n (inl (own, inner, rest, cut, is)) e utf8 =
+    let k : Ok (inner, length own) ≡ Ok (value, n) = sym (ap (braced Plain 0) cut ∙ braces_read own inner rest is) ∙ e in
+    let same : inner ≡ value = cc in
+    subst IsUtf8 same (braced_utf8 own inner rest text is cut utf8)
+found_by text value n (inr is) e utf8 = let k : Err MissingBrace ≡ Ok (value, n) = sym (unclosed_read text is) ∙ e in absurd (cc)
+
+pub found_utf8 : (text value : List ℕ) (n : ℕ) → braced Plain 0 text ≡ Ok (value, n) → IsUtf8 text → IsUtf8 value
+found_utf8 text value n e utf8 = found_by text value n (braces_cut text) e utf8
+
+-- what stands behind an ASCII byte
+pub behind_utf8 : (text behind : List ℕ) (at : ℕ) → at < length text → slice_index text at < 128 → IsUtf8 text → behind ≡ drop (at + 1) text → IsUtf8 behind
+behind_utf8 text behind at within ascii utf8 e = subst IsUtf8 (sym e) (IsUtf8-drop text (at + 1) utf8 (IsCharBoundary-after_ascii text at utf8 within ascii))

@@ -34,10 +34,7 @@ fn text_of(alloc: Global, bytes: &[u8]) -> Result<Text, ExprFault>
     ensures ok { IfOk result (λ text. text ≡ bytes.now) }
     ensures err { IfErr result (λ fault. fault ≡ ExprFault.NoMemory) }
 {
-    let Ok(characters) = str::from_utf8(bytes) else {
-        unreachable!()
-    };
-    let text = Text::new(alloc, characters)?;
+    let text = Text::new(alloc, str::from_utf8(bytes).unwrap())?;
     Ok(text)
 }
 
@@ -82,6 +79,7 @@ fn take_paren(parser: &mut Parser) -> Result<usize, ExprFault>
 }
 
 /// An integer.
+#[tactic(auto, using(crate::proofs::OperandBytes::number_utf8))]
 fn take_number(alloc: Global, parser: &mut Parser, text: &[u8]) -> Result<usize, ExprFault>
     requires { length text.now ≤ 65536 }
     ensures { standing.Takes parser.old result parser.new (λ before. reading.at_number (counts.number_length text.now) before text.now) }
@@ -96,6 +94,7 @@ fn take_number(alloc: Global, parser: &mut Parser, text: &[u8]) -> Result<usize,
 }
 
 /// A boolean word.
+#[tactic(auto, using(crate::proofs::OperandBytes::word_utf8))]
 fn take_word(alloc: Global, parser: &mut Parser, text: &[u8]) -> Result<usize, ExprFault>
     requires { length text.now ≤ 65536 }
     ensures { standing.Takes parser.old result parser.new (λ before. reading.at_word (counts.name_bytes text.now) before text.now) }
@@ -179,6 +178,7 @@ fn take_quotes(
 }
 
 /// A text in braces, behind the opening one.
+#[tactic(auto, using(crate::proofs::OperandBytes::found_utf8))]
 fn take_braces(alloc: Global, parser: &mut Parser, behind: &[u8]) -> Result<usize, ExprFault>
     requires short { length behind.now ≤ 65536 }
     requires utf8 { IsUtf8 behind.now }
@@ -191,6 +191,7 @@ fn take_braces(alloc: Global, parser: &mut Parser, behind: &[u8]) -> Result<usiz
 }
 
 /// What stands where an operand is due.
+#[tactic(auto, using(crate::proofs::OperandBytes::behind_utf8))]
 fn take_operand(
     alloc: Global,
     parser: &mut Parser,

@@ -1,4 +1,4 @@
-//! The words of a table's lines.
+//! The words of questions.
 use anyhow::{Context, Result, bail};
 use std::alloc::Global;
 use tcl_text::Text;

@@ -1,9 +1,10 @@
 use crate::read::{event_of, name_of, number_of, sequence_of, text_of};
-use anyhow::Result;
+use anyhow::{Result, bail};
 use std::alloc::Global;
+use tables::Fixture;
 use tk_patterns::{BindFault, BindTable, History, Sequence, VirtualName};
 
-/// What a table's lines have made so far.
+/// What the questions have made so far.
 #[derive(Drop)]
 pub struct State {
     bindings: BindTable,
@@ -13,20 +14,11 @@ pub struct State {
 }
 
 impl State {
-    pub fn new(alloc: Global) -> Result<State> {
-        Ok(State {
-            bindings: BindTable::new(alloc),
-            history: History::new(alloc)?,
-            virtuals: Vec::new(alloc),
-            alloc,
-        })
-    }
-
     fn told(&self, text: &str) -> Result<String> {
         Ok(format!(in self.alloc; "={text}")?)
     }
 
-    pub fn bind(&mut self, owner: &str, tag: &str, sequence: &str, script: &str) -> Result<String> {
+    fn bind(&mut self, owner: &str, tag: &str, sequence: &str, script: &str) -> Result<String> {
         let bound = self.bindings.bind(
             number_of(owner)?,
             text_of(self.alloc, tag)?,
@@ -40,18 +32,18 @@ impl State {
         }
     }
 
-    pub fn unbind(&mut self, owner: &str, tag: &str, sequence: &str) -> Result<String> {
+    fn unbind(&mut self, owner: &str, tag: &str, sequence: &str) -> Result<String> {
         let sequence = sequence_of(self.alloc, sequence)?;
         self.bindings.unbind(number_of(owner)?, tag, &sequence);
         self.told("")
     }
 
-    pub fn unbind_all(&mut self, owner: &str, tag: &str) -> Result<String> {
+    fn unbind_all(&mut self, owner: &str, tag: &str) -> Result<String> {
         self.bindings.unbind_all(number_of(owner)?, tag);
         self.told("")
     }
 
-    pub fn script(&self, owner: &str, tag: &str, sequence: &str) -> Result<String> {
+    fn script(&self, owner: &str, tag: &str, sequence: &str) -> Result<String> {
         let sequence = sequence_of(self.alloc, sequence)?;
         match self.bindings.script(number_of(owner)?, tag, &sequence) {
             Some(script) => self.told(script.as_str()),
@@ -59,7 +51,7 @@ impl State {
         }
     }
 
-    pub fn sequences(&self, owner: &str, tag: &str) -> Result<String> {
+    fn sequences(&self, owner: &str, tag: &str) -> Result<String> {
         let mut list = String::from_str(self.alloc, "=")?;
         for sequence in self.bindings.sequences(number_of(owner)?, tag)?.as_slice() {
             list.push_str(sequence.canonical(self.alloc)?.as_str())?;
@@ -67,7 +59,7 @@ impl State {
         Ok(list)
     }
 
-    pub fn add_virtual(&mut self, name: &str, sequence: &str) -> Result<String> {
+    fn add_virtual(&mut self, name: &str, sequence: &str) -> Result<String> {
         let pair = (
             name_of(self.alloc, name)?,
             sequence_of(self.alloc, sequence)?,
@@ -76,12 +68,12 @@ impl State {
         self.told("")
     }
 
-    pub fn push(&mut self, event: &[&str]) -> Result<String> {
+    fn push(&mut self, event: &[&str]) -> Result<String> {
         self.history.push(event_of(self.alloc, event)?);
         self.told("")
     }
 
-    pub fn matches(&self, sequence: &str, event: &[&str]) -> Result<String> {
+    fn matches(&self, sequence: &str, event: &[&str]) -> Result<String> {
         let sequence = sequence_of(self.alloc, sequence)?;
         let event = event_of(self.alloc, event)?;
         if self.history.matches(&sequence, &event) {
@@ -91,7 +83,7 @@ impl State {
         }
     }
 
-    pub fn winner(&self, owner: &str, tag: &str, event: &[&str]) -> Result<String> {
+    fn winner(&self, owner: &str, tag: &str, event: &[&str]) -> Result<String> {
         let event = event_of(self.alloc, event)?;
         let owner = number_of(owner)?;
         let virtuals = self.virtuals.as_slice();
@@ -101,6 +93,33 @@ impl State {
         {
             Some(script) => self.told(script.as_str()),
             None => self.told("-"),
+        }
+    }
+}
+
+impl Fixture for State {
+    fn new(alloc: Global) -> Result<State> {
+        Ok(State {
+            bindings: BindTable::new(alloc),
+            history: History::new(alloc)?,
+            virtuals: Vec::new(alloc),
+            alloc,
+        })
+    }
+
+    fn answer(&mut self, alloc: Global, question: &str) -> Result<String> {
+        let words: Vec<&str> = question.split(' ').collect(alloc)?;
+        match words.as_slice() {
+            ["bind", owner, tag, sequence, script] => self.bind(owner, tag, sequence, script),
+            ["unbind", owner, tag, sequence] => self.unbind(owner, tag, sequence),
+            ["unbindall", owner, tag] => self.unbind_all(owner, tag),
+            ["script", owner, tag, sequence] => self.script(owner, tag, sequence),
+            ["sequences", owner, tag] => self.sequences(owner, tag),
+            ["virtual", name, sequence] => self.add_virtual(name, sequence),
+            ["push", event @ ..] => self.push(event),
+            ["matches", sequence, event @ ..] => self.matches(sequence, event),
+            ["winner", owner, tag, event @ ..] => self.winner(owner, tag, event),
+            _ => bail!("no such question"),
         }
     }
 }

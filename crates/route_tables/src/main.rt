@@ -1,24 +1,15 @@
-//! Leads the lines of sessions to applications, and tells of each answer that isn't the one in a table.
+//! Leads the lines of sessions to applications, and tells of each answer that isn't the one in a table (`tables` says what stands in one).
 //!
-//! Each argument names a table, the file `NAME.table`. In it a line `new X Y W H X Y W H ..` begins anew with applications that have these
-//! rectangles, by slot from 0 on, and a line `MOMENT LINE` is a line of a session, with slots in place of names: `move X Y`, `press B`,
-//! `release B`, `keydown KEY`, `keyup KEY`, `focus SLOT`, `focus -`, `rect SLOT X Y W H`. The line behind it is what it answers: `=` and the
-//! events, each as `SLOT MOMENT STATE KIND ..` with a comma between two; or `!` and the number of the fault. A line that begins with `#` says
-//! something.
+//! A question `new X Y W H X Y W H ..` begins with applications that have these rectangles, by slot from 0 on. A question `MOMENT LINE` is a line
+//! of a session, with slots in place of names: `move X Y`, `press B`, `release B`, `keydown KEY`, `keyup KEY`, `focus SLOT`, `focus -`,
+//! `rect SLOT X Y W H`. It is answered `=` and the events, each as `SLOT MOMENT STATE KIND ..` with a comma between two; or `!` and the number of the
+//! fault.
 #![tactic(auto)]
 
 use anyhow::{Context, Result, bail};
 use std::alloc::Global;
-use std::{env, fs};
+use tables::{Fixture, ask_tables};
 use tk_route::{Delivery, HostLine, Keysym, LocalKind, Rect, Routed, Router};
-
-/// What a table has shown so far.
-#[derive(Clone, Copy)]
-struct Tally {
-    lists: u32,
-    answers: u32,
-    wrong: u32,
-}
 
 fn number(word: &str) -> Result<u32> {
     word.parse().context("a word that is no number")
@@ -144,52 +135,26 @@ fn new_answer(alloc: Global, router: &mut Option<Router>, words: &[&str]) -> Res
     }
 }
 
-/// Leads a table's lines, and prints each answer that isn't the one in the table.
-fn ask(rt: &(impl Print + AllocGlobal), name: &str, table: &str) -> Result<Tally> {
-    let alloc = rt.alloc();
-    let mut tally = Tally {
-        lists: 0,
-        answers: 0,
-        wrong: 0,
-    };
-    let mut router = None;
-    let mut answer = String::new(alloc);
-    for line in table.lines() {
-        if line.starts_with('=') || line.starts_with('!') {
-            tally.answers = tally.answers.saturating_add(1);
-            if answer.as_str() != line {
-                tally.wrong = tally.wrong.saturating_add(1);
-                println!(rt; "{name}: {answer} and not {line}")?;
-            }
-        } else if !line.starts_with('#') && !line.is_empty() {
-            let words: Vec<&str> = line.split(' ').collect(alloc)?;
-            answer = match words.as_slice() {
-                ["new", rects @ ..] => {
-                    tally.lists = tally.lists.saturating_add(1);
-                    new_answer(alloc, &mut router, rects)?
-                }
-                words => line_answer(alloc, &mut router, words)?,
-            };
+/// Who gets the lines, once there are applications.
+#[derive(Drop)]
+struct Host {
+    router: Option<Router>,
+}
+
+impl Fixture for Host {
+    fn new(_alloc: Global) -> Result<Host> {
+        Ok(Host { router: None })
+    }
+
+    fn answer(&mut self, alloc: Global, question: &str) -> Result<String> {
+        let words: Vec<&str> = question.split(' ').collect(alloc)?;
+        match words.as_slice() {
+            ["new", rects @ ..] => new_answer(alloc, &mut self.router, rects),
+            words => line_answer(alloc, &mut self.router, words),
         }
     }
-    Ok(tally)
 }
 
 fn main(rt: HostRuntime) -> Result<()> {
-    let mut wrong = false;
-    for name in env::args(&rt)?.skip(1) {
-        let path = format!(in rt.alloc(); "{name}.table")?;
-        let table = fs::read_to_string(&rt, path).context(format_args!("table {name}"))?;
-        let Tally {
-            lists,
-            answers,
-            wrong: differ,
-        } = ask(&rt, name.as_str(), table.as_str())?;
-        println!(rt; "{name}: {lists} lists of lines, {answers} answers, {differ} wrong")?;
-        wrong = wrong || differ != 0;
-    }
-    if wrong {
-        bail!("some answers are wrong");
-    }
-    Ok(())
+    ask_tables::<Host, _>(&rt)
 }

@@ -1,22 +1,20 @@
-//! Calls what keeps the timers, and tells of each answer that isn't the one in a table.
+//! Calls what keeps the timers, and tells of each answer that isn't the one in a table (`tables` says what stands in one).
 //!
-//! Each argument names a table, the file `NAME.table`. In it a line `MOMENT OWNER CALL` is a call for an application, by its number, at a
-//! moment: `after|WORD|..` is the command, and `count`, `full`, `next`, `round`, `take`, `due|ID`, `cancel|ID` are the calls of those names;
-//! `first` is when the first timer of all is due, and `fill` lists as many timers as there may be. The line behind it is what it answers: `=` and a text, or `!` and an error. An empty
-//! line begins anew without timers, and a line that begins with `#` says something.
+//! A question `MOMENT OWNER CALL` is a call for an application, by its number, at a moment: `after|WORD|..` is the command, and `count`, `full`,
+//! `next`, `round`, `take`, `due|ID`, `cancel|ID` are the calls of those names; `first` is when the first timer of all is due, and `fill` lists as
+//! many timers as there may be. It is answered `=` and a text, or `!` and an error.
 #![tactic(auto)]
 
 use anyhow::{Context, Result, bail};
 use std::alloc::Global;
-use std::{env, fs};
+use tables::{Fixture, ask_tables};
 use tcl_text::{Text, TextList};
 use tk_after::{Timers, after_command};
 
-/// What a table has shown so far.
-#[derive(Clone, Copy)]
-struct Tally {
-    answers: u32,
-    wrong: u32,
+/// The timers of all applications.
+#[derive(Drop)]
+struct Kept {
+    timers: Timers,
 }
 
 /// The words of a command, each behind a bar.
@@ -126,16 +124,16 @@ fn plain_answer(
     }
 }
 
-/// What a line's call answers.
-fn answer_of(alloc: Global, timers: &mut Timers, line: &str) -> Result<String> {
-    let Some((moment, rest)) = line.split_once(' ') else {
-        bail!("a line with no call");
+/// What a call answers.
+fn answer_of(alloc: Global, timers: &mut Timers, question: &str) -> Result<String> {
+    let Some((moment, rest)) = question.split_once(' ') else {
+        bail!("a question with no call");
     };
     let Some((owner, call)) = rest.split_once(' ') else {
-        bail!("a line with no call");
+        bail!("a question with no call");
     };
-    let moment: u64 = moment.parse().context("a line with no moment")?;
-    let owner: usize = owner.parse().context("a line with no application")?;
+    let moment: u64 = moment.parse().context("a question with no moment")?;
+    let owner: usize = owner.parse().context("a question with no application")?;
     match call.split_once('|') {
         None => plain_answer(alloc, timers, owner, moment, call),
         Some(("after", words)) => after(alloc, timers, owner, moment, Some(words)),
@@ -157,45 +155,18 @@ fn answer_of(alloc: Global, timers: &mut Timers, line: &str) -> Result<String> {
     }
 }
 
-/// Makes a table's calls, and prints each answer that isn't the one in the table.
-fn ask(rt: &(impl Print + AllocGlobal), name: &str, table: &str) -> Result<Tally> {
-    let alloc = rt.alloc();
-    let mut tally = Tally {
-        answers: 0,
-        wrong: 0,
-    };
-    let mut timers = Timers::new(alloc);
-    let mut answer = String::new(alloc);
-    for line in table.lines() {
-        if line.is_empty() {
-            timers = Timers::new(alloc);
-        } else if line.starts_with('=') || line.starts_with('!') {
-            tally.answers = tally.answers.saturating_add(1);
-            if answer.as_str() != line {
-                tally.wrong = tally.wrong.saturating_add(1);
-                println!(rt; "{name}: {answer} and not {line}")?;
-            }
-        } else if !line.starts_with('#') {
-            answer = answer_of(alloc, &mut timers, line)?;
-        }
+impl Fixture for Kept {
+    fn new(alloc: Global) -> Result<Kept> {
+        Ok(Kept {
+            timers: Timers::new(alloc),
+        })
     }
-    Ok(tally)
+
+    fn answer(&mut self, alloc: Global, question: &str) -> Result<String> {
+        answer_of(alloc, &mut self.timers, question)
+    }
 }
 
 fn main(rt: HostRuntime) -> Result<()> {
-    let mut wrong = false;
-    for name in env::args(&rt)?.skip(1) {
-        let path = format!(in rt.alloc(); "{name}.table")?;
-        let table = fs::read_to_string(&rt, path).context(format_args!("table {name}"))?;
-        let Tally {
-            answers,
-            wrong: differ,
-        } = ask(&rt, name.as_str(), table.as_str())?;
-        println!(rt; "{name}: {answers} answers, {differ} wrong")?;
-        wrong = wrong || differ != 0;
-    }
-    if wrong {
-        bail!("some answers are wrong");
-    }
-    Ok(())
+    ask_tables::<Kept, _>(&rt)
 }

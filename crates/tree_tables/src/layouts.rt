@@ -1,14 +1,15 @@
-//! Calls of layouts: `begin WIDTH HEIGHT` of the application; `window NUMBER WIDTH HEIGHT BORDER PROPAGATES` makes a window, or changes it;
+//! Questions of layouts: `begin WIDTH HEIGHT` of the application; `window NUMBER WIDTH HEIGHT BORDER PROPAGATES` makes a window, or changes it;
 //! `pack MASTER NUMBER PLACE SIDE ANCHOR FILL EXPAND PADX PADY IPADX IPADY`, two pads joined by a comma; `forget NUMBER`; `gone NUMBER` of a
 //! window that is no longer there; `asks NUMBER` is the size that it asks for; `lay` tells the changes, twice over, of which the second
 //! time has none.
 
+use crate::requests::{anchor_of, fill_of, pads_of, side_of};
 use anyhow::{Context, Result, bail};
 use std::alloc::Global;
 use std::str::SplitAsciiWhitespace;
 use tk_base::{Rect, Win};
 use tk_layout::{Arrangements, Change, Shape, lay_out, requested_size};
-use tk_packer::{Anchor, Fill, PackTable, Pads, Request, Side};
+use tk_packer::{PackTable, Request};
 
 #[derive(Drop)]
 pub struct Layouts {
@@ -24,7 +25,7 @@ const OWNER: usize = 0;
 fn word<'a>(words: &mut SplitAsciiWhitespace<'a>) -> Result<&'a str> {
     match words.next() {
         Some(word) => Ok(word),
-        None => bail!("a call that lacks a word"),
+        None => bail!("a question that lacks a word"),
     }
 }
 
@@ -34,49 +35,6 @@ fn pixels(words: &mut SplitAsciiWhitespace) -> Result<u32> {
 
 fn number(words: &mut SplitAsciiWhitespace) -> Result<u64> {
     word(words)?.parse().context("a window that is no number")
-}
-
-fn side_of(word: &str) -> Result<Side> {
-    match word {
-        "top" => Ok(Side::Top),
-        "bottom" => Ok(Side::Bottom),
-        "left" => Ok(Side::Left),
-        "right" => Ok(Side::Right),
-        _ => bail!("no such side"),
-    }
-}
-
-fn anchor_of(word: &str) -> Result<Anchor> {
-    match word {
-        "center" => Ok(Anchor::Center),
-        "n" => Ok(Anchor::N),
-        "ne" => Ok(Anchor::Ne),
-        "e" => Ok(Anchor::E),
-        "se" => Ok(Anchor::Se),
-        "s" => Ok(Anchor::S),
-        "sw" => Ok(Anchor::Sw),
-        "w" => Ok(Anchor::W),
-        "nw" => Ok(Anchor::Nw),
-        _ => bail!("no such anchor"),
-    }
-}
-
-fn fill_of(word: &str) -> Result<Fill> {
-    match word {
-        "none" => Ok(Fill::None),
-        "x" => Ok(Fill::X),
-        "y" => Ok(Fill::Y),
-        "both" => Ok(Fill::Both),
-        _ => bail!("no such fill"),
-    }
-}
-
-fn pads_of(word: &str) -> Result<Pads> {
-    let (before, after) = word.split_once(',').unwrap_or((word, word));
-    Ok(Pads {
-        before: before.parse().context("a pad that is no number")?,
-        after: after.parse().context("a pad that is no number")?,
-    })
 }
 
 fn request_in(words: &mut SplitAsciiWhitespace) -> Result<Request> {
@@ -93,12 +51,20 @@ fn request_in(words: &mut SplitAsciiWhitespace) -> Result<Request> {
 }
 
 fn shape_in(words: &mut SplitAsciiWhitespace) -> Result<Shape> {
-    Ok(Shape {
-        number: number(words)?,
-        width: pixels(words)?,
-        height: pixels(words)?,
-        border: pixels(words)?,
-        propagates: word(words)? == "1",
+    let number = number(words)?;
+    let size = (pixels(words)?, pixels(words)?);
+    let border = pixels(words)?;
+    Ok(new_shape(number, size, border, word(words)? == "1"))
+}
+
+/// The shape of a window that isn't laid out yet, which asks for a size.
+pub fn new_shape(number: u64, (width, height): (u32, u32), border: u32, propagates: bool) -> Shape {
+    Shape {
+        number,
+        width,
+        height,
+        border,
+        propagates,
         place: Rect {
             x: 0,
             y: 0,
@@ -106,10 +72,10 @@ fn shape_in(words: &mut SplitAsciiWhitespace) -> Result<Shape> {
             height: 1,
         },
         mapped: false,
-    })
+    }
 }
 
-/// A change as the tables have it.
+/// A change as tables have it.
 fn change_text(alloc: Global, change: Change) -> Result<String> {
     match change {
         Change::Unmap(number) => Ok(format!(in alloc; "u{number}")?),
@@ -133,9 +99,9 @@ impl Layouts {
         }
     }
 
-    /// What a call answers.
-    pub fn answer(&mut self, alloc: Global, call: &str) -> Result<String> {
-        let mut words = call.split_ascii_whitespace();
+    /// What a question is answered.
+    pub fn answer(&mut self, alloc: Global, question: &str) -> Result<String> {
+        let mut words = question.split_ascii_whitespace();
         match word(&mut words)? {
             "asks" => return self.asks(alloc, number(&mut words)?),
             "lay" => return self.lay(alloc),
@@ -147,7 +113,7 @@ impl Layouts {
             "pack" => self.pack(&mut words)?,
             "forget" => self.packs.forget(win(number(&mut words)?)),
             "gone" => self.take_out(number(&mut words)?),
-            _ => bail!("no such call"),
+            _ => bail!("no such question"),
         }
         Ok(String::new(alloc))
     }

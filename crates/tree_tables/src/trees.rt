@@ -1,4 +1,4 @@
-//! Calls on windows: `begin`, `create OWNER PATH`, `find OWNER PATH`, and `holds`, `children`, `subtree`, `post`, `dying`, `remove` of
+//! Questions of windows: `begin`, `create OWNER PATH`, `find OWNER PATH`, and `holds`, `children`, `subtree`, `post`, `dying`, `remove` of
 //! `OWNER NUMBER`. A window is told by its number.
 
 use anyhow::{Context, Result, bail};
@@ -19,18 +19,18 @@ impl Trees {
         }
     }
 
-    /// What a call answers.
-    pub fn answer(&mut self, alloc: Global, call: &str) -> Result<String> {
-        let mut words = call.split_ascii_whitespace();
+    /// What a question is answered.
+    pub fn answer(&mut self, alloc: Global, question: &str) -> Result<String> {
+        let mut words = question.split_ascii_whitespace();
         let (Some(name), owner, word) = (words.next(), words.next(), words.next()) else {
-            bail!("a line with no call");
+            bail!("no question");
         };
         if name == "begin" {
             self.windows = Windows::new(alloc);
             return Ok(String::new(alloc));
         }
         let (Some(owner), Some(word)) = (owner, word) else {
-            bail!("a call that lacks a word");
+            bail!("a question that lacks a word");
         };
         let owner = owner.parse().context("an application that is no number")?;
         match name {
@@ -78,7 +78,7 @@ impl Trees {
                 }
                 Ok(String::new(alloc))
             }
-            _ => bail!("no such call"),
+            _ => bail!("no such question"),
         }
     }
 }

@@ -2,6 +2,7 @@
 use crate::words::{word_of, words_of};
 use anyhow::{Context, Result, bail};
 use std::alloc::Global;
+use tables::Fixture;
 use tcl_commands::variable_command;
 use tcl_text::{Text, TextList};
 use tcl_vars::{ReadFault, Scopes};
@@ -19,7 +20,7 @@ pub struct Session {
 
 impl Session {
     /// A new widget of the kind of a name.
-    pub fn new(alloc: Global, kind: &str) -> Result<Session> {
+    fn of(alloc: Global, kind: &str) -> Result<Session> {
         let kind = match kind {
             "frame" => Kind::Frame,
             "label" => Kind::Label,
@@ -110,12 +111,23 @@ impl Session {
     }
 }
 
-/// What a line is answered.
-pub fn answer_of(alloc: Global, session: &mut Session, line: &str) -> Result<String> {
-    let (first, rest) = match line.split_once(' ') {
-        Some((first, rest)) => (first, rest),
-        None => (line, ""),
-    };
+impl Fixture for Session {
+    fn new(alloc: Global) -> Result<Session> {
+        Session::of(alloc, "frame")
+    }
+
+    fn answer(&mut self, alloc: Global, question: &str) -> Result<String> {
+        if let Some(kind) = question.strip_prefix("new ") {
+            *self = Session::of(alloc, kind)?;
+            return Ok(String::from_str(alloc, "=")?);
+        }
+        answer_of(alloc, self, question)
+    }
+}
+
+/// What any other question is answered.
+fn answer_of(alloc: Global, session: &mut Session, question: &str) -> Result<String> {
+    let (first, rest) = question.split_once(' ').unwrap_or((question, ""));
     let act = match first {
         "path" => {
             let words = path_words(alloc, rest)?;
@@ -264,7 +276,7 @@ fn listbox_told(alloc: Global, session: &mut Session, what: &str, rest: &str) ->
             None => bail!("no such step"),
         },
         "space" => listbox.space(),
-        _ => bail!("no such line"),
+        _ => bail!("no such question"),
     };
     told(alloc, if is_told { "1" } else { "0" })
 }

@@ -11,7 +11,7 @@ mod counting;
 use anyhow::{Context, Result, bail};
 use counting::Counting;
 use std::alloc::Global;
-use tables::{Fixture, ask_tables};
+use tables::{Fixture, ask_tables, error_of, result_of};
 use tcl_text::{Text, TextList};
 use tk_alias::{Alias, AliasMeaning, AliasReply};
 use tk_services::{Service, ServiceKind};
@@ -67,8 +67,8 @@ fn made(alloc: Global, kind: &str, list: &str) -> Result<Called> {
 /// A reply as a table has it.
 fn told<M: AliasMeaning>(alloc: Global, alias: &Alias<M>, args: &[Text]) -> Result<String> {
     match alias.call(alloc, args) {
-        AliasReply::Ok(text) => Ok(format!(in alloc; "={}", text.as_str())?),
-        AliasReply::Err(text) => Ok(format!(in alloc; "!{}", text.as_str())?),
+        AliasReply::Ok(text) => result_of(alloc, text.as_str()),
+        AliasReply::Err(text) => error_of(alloc, text.as_str()),
         AliasReply::NoMemory => bail!("memory was refused"),
     }
 }
@@ -99,7 +99,7 @@ impl Fixture for Caller {
         }
         let (kind, list) = question.split_once(' ').context("no configuration")?;
         self.called = Some(made(alloc, kind, list)?);
-        Ok(String::from_str(alloc, "=")?)
+        result_of(alloc, "")
     }
 }
 

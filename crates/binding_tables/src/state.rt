@@ -1,7 +1,7 @@
 use crate::read::{event_of, name_of, number_of, sequence_of, text_of};
 use anyhow::{Result, bail};
 use std::alloc::Global;
-use tables::Fixture;
+use tables::{Fixture, result_of};
 use tk_patterns::{BindFault, BindTable, History, Sequence, VirtualName};
 
 /// What the questions have made so far.
@@ -14,10 +14,6 @@ pub struct State {
 }
 
 impl State {
-    fn told(&self, text: &str) -> Result<String> {
-        Ok(format!(in self.alloc; "={text}")?)
-    }
-
     fn bind(&mut self, owner: &str, tag: &str, sequence: &str, script: &str) -> Result<String> {
         let bound = self.bindings.bind(
             number_of(owner)?,
@@ -26,28 +22,28 @@ impl State {
             text_of(self.alloc, script)?,
         );
         match bound {
-            Ok(()) => self.told(""),
-            Err(BindFault::Full) => self.told("31"),
-            Err(BindFault::NoMemory) => self.told("out of memory"),
+            Ok(()) => result_of(self.alloc, ""),
+            Err(BindFault::Full) => result_of(self.alloc, "31"),
+            Err(BindFault::NoMemory) => result_of(self.alloc, "out of memory"),
         }
     }
 
     fn unbind(&mut self, owner: &str, tag: &str, sequence: &str) -> Result<String> {
         let sequence = sequence_of(self.alloc, sequence)?;
         self.bindings.unbind(number_of(owner)?, tag, &sequence);
-        self.told("")
+        result_of(self.alloc, "")
     }
 
     fn unbind_all(&mut self, owner: &str, tag: &str) -> Result<String> {
         self.bindings.unbind_all(number_of(owner)?, tag);
-        self.told("")
+        result_of(self.alloc, "")
     }
 
     fn script(&self, owner: &str, tag: &str, sequence: &str) -> Result<String> {
         let sequence = sequence_of(self.alloc, sequence)?;
         match self.bindings.script(number_of(owner)?, tag, &sequence) {
-            Some(script) => self.told(script.as_str()),
-            None => self.told("-"),
+            Some(script) => result_of(self.alloc, script.as_str()),
+            None => result_of(self.alloc, "-"),
         }
     }
 
@@ -65,21 +61,21 @@ impl State {
             sequence_of(self.alloc, sequence)?,
         );
         self.virtuals.push(pair)?;
-        self.told("")
+        result_of(self.alloc, "")
     }
 
     fn push(&mut self, event: &[&str]) -> Result<String> {
         self.history.push(event_of(self.alloc, event)?);
-        self.told("")
+        result_of(self.alloc, "")
     }
 
     fn matches(&self, sequence: &str, event: &[&str]) -> Result<String> {
         let sequence = sequence_of(self.alloc, sequence)?;
         let event = event_of(self.alloc, event)?;
         if self.history.matches(&sequence, &event) {
-            self.told("1")
+            result_of(self.alloc, "1")
         } else {
-            self.told("0")
+            result_of(self.alloc, "0")
         }
     }
 
@@ -91,8 +87,8 @@ impl State {
             .bindings
             .winner(owner, tag, &event, &self.history, virtuals)?
         {
-            Some(script) => self.told(script.as_str()),
-            None => self.told("-"),
+            Some(script) => result_of(self.alloc, script.as_str()),
+            None => result_of(self.alloc, "-"),
         }
     }
 }

@@ -1,20 +1,20 @@
 //! Asks the commands on texts and variables for their answers, and tells of each that isn't the one in a table (`tables` says what stands in one).
 //!
-//! A question `LEVEL WORD|WORD|..` calls a command at level 0, or at level 1 as a procedure does that was called at level 0. It is answered
+//! A question `LEVEL WORD|WORD|..` calls a command at level 0, or at 1 or 2, as a procedure does that was called at the level below. It is answered
 //! `=` and the command's result, or `!` and its error.
 #![tactic(auto)]
 
-#[cfg(test)]
-mod tests;
-
-use anyhow::{Result, bail};
-use std::alloc::Global;
-use tables::{Fixture, ask_tables};
+use anyhow::{Context, Result, bail};
+use std::alloc::{AllocError, Global};
+use tables::{Fixture, ask_tables, error_of, result_of};
 use tcl_commands::{info_exists, upvar_command, variable_command};
 use tcl_text::{Text, TextList};
 use tcl_vars::Scopes;
 
-/// The global frame, and that of a procedure.
+/// A command's result, or its error; none where no command has the name.
+type Answer = Option<std::result::Result<Text, Text>>;
+
+/// The global frame, and those of two procedures.
 #[derive(Drop)]
 struct Frames {
     scopes: Scopes,
@@ -29,27 +29,46 @@ fn words_of(alloc: Global, line: &str) -> Result<TextList> {
     Ok(words)
 }
 
-/// What the command with these words answers at a level; none if the first word names none.
+/// What a command on variables answers at a level.
+fn variable_answer(
+    alloc: Global,
+    scopes: &mut Scopes,
+    level: usize,
+    words: &[Text],
+) -> Result<Answer, AllocError> {
+    if scopes.levels() <= level {
+        return Ok(None);
+    }
+    match words {
+        [name, pairs @ ..] if name.as_str() == "upvar" && 0 < level => {
+            Ok(Some(upvar_command(alloc, scopes, level, level - 1, pairs)?))
+        }
+        [name, _exists, names @ ..] if name.as_str() == "info" => {
+            Ok(Some(info_exists(alloc, scopes, level, names)?))
+        }
+        _ => variable_command(alloc, scopes, level, words),
+    }
+}
+
+/// What a command answers at a level.
 fn answer_of(
     alloc: Global,
     scopes: &mut Scopes,
     level: usize,
     words: &[Text],
-) -> Result<Option<std::result::Result<Text, Text>>> {
-    if scopes.levels() <= level {
-        bail!("no such level");
+) -> Result<Answer, AllocError> {
+    match Text::text_command(alloc, words)? {
+        Some(answer) => Ok(Some(answer)),
+        None => variable_answer(alloc, scopes, level, words),
     }
-    match words {
-        [name, pairs @ ..] if name.as_str() == "upvar" && 0 < level => {
-            Ok(Some(upvar_command(alloc, scopes, level, 0, pairs)?))
-        }
-        [name, _exists, names @ ..] if name.as_str() == "info" => {
-            Ok(Some(info_exists(alloc, scopes, level, names)?))
-        }
-        _ => match Text::text_command(alloc, words)? {
-            Some(answer) => Ok(Some(answer)),
-            None => Ok(variable_command(alloc, scopes, level, words)?),
-        },
+}
+
+/// An answer as a table has it.
+fn told(alloc: Global, answer: &Answer) -> Result<String> {
+    match answer {
+        Some(Ok(text)) => result_of(alloc, text.as_str()),
+        Some(Err(message)) => error_of(alloc, message.as_str()),
+        None => bail!("no such command"),
     }
 }
 
@@ -57,21 +76,16 @@ impl Fixture for Frames {
     fn new(alloc: Global) -> Result<Frames> {
         let mut scopes = Scopes::new(alloc)?;
         scopes.push_frame()?;
+        scopes.push_frame()?;
         Ok(Frames { scopes })
     }
 
     fn answer(&mut self, alloc: Global, question: &str) -> Result<String> {
-        let (level, words) = match question.split_once(' ') {
-            Some(("0", words)) => (0, words),
-            Some(("1", words)) => (1, words),
-            _ => bail!("a question with no level"),
-        };
+        let (level, words) = question.split_once(' ').context("no level")?;
+        let level: usize = level.parse().context("a level that is no number")?;
         let words = words_of(alloc, words)?;
-        match answer_of(alloc, &mut self.scopes, level, words.as_slice())? {
-            Some(Ok(text)) => Ok(format!(in alloc; "={}", text.as_str())?),
-            Some(Err(message)) => Ok(format!(in alloc; "!{}", message.as_str())?),
-            None => bail!("no such command"),
-        }
+        let answer = answer_of(alloc, &mut self.scopes, level, words.as_slice())?;
+        told(alloc, &answer)
     }
 }
 

@@ -9,7 +9,7 @@ ghost use Rattle.tcl_expr.specs.Evaluation.{is_waiting, state_after};
 
 use anyhow::{Result, bail};
 use std::alloc::Global;
-use tables::{Fixture, ask_tables};
+use tables::{Fixture, ask_tables, error_of, result_of};
 use tcl_expr::{Ask, Eval, EvalFault, ExprFault, parse_expr};
 use tcl_text::Text;
 
@@ -18,27 +18,27 @@ const MAX_ASKS: u32 = 1000;
 
 fn number_of_text(fault: ExprFault) -> &'static str {
     match fault {
-        ExprFault::TooLong => "!4",
-        ExprFault::MissingBrace => "!5",
-        ExprFault::MissingBracket => "!6",
-        ExprFault::MissingQuote => "!7",
-        ExprFault::ExtraAfterBrace => "!8",
-        ExprFault::ExtraAfterQuote => "!9",
-        ExprFault::MissingParen => "!10",
-        ExprFault::Syntax => "!11",
-        ExprFault::NoMemory => "!out of memory",
+        ExprFault::TooLong => "4",
+        ExprFault::MissingBrace => "5",
+        ExprFault::MissingBracket => "6",
+        ExprFault::MissingQuote => "7",
+        ExprFault::ExtraAfterBrace => "8",
+        ExprFault::ExtraAfterQuote => "9",
+        ExprFault::MissingParen => "10",
+        ExprFault::Syntax => "11",
+        ExprFault::NoMemory => "out of memory",
     }
 }
 
 fn number_of_value(fault: &EvalFault) -> &'static str {
     match fault {
-        EvalFault::NotBoolean(_) => "!2",
-        EvalFault::BadList(_) => "!3",
-        EvalFault::TooLong => "!4",
-        EvalFault::DivideByZero => "!12",
-        EvalFault::Overflow => "!13",
-        EvalFault::NotNumber(_) => "!14",
-        EvalFault::NoMemory => "!out of memory",
+        EvalFault::NotBoolean(_) => "2",
+        EvalFault::BadList(_) => "3",
+        EvalFault::TooLong => "4",
+        EvalFault::DivideByZero => "12",
+        EvalFault::Overflow => "13",
+        EvalFault::NotNumber(_) => "14",
+        EvalFault::NoMemory => "out of memory",
     }
 }
 
@@ -59,25 +59,20 @@ fn answer_to(alloc: Global, ask: &Ask) -> Result<Option<Text>>
     Ok(Some(answer))
 }
 
-/// A fault's text, as a table has it.
-fn spelled(alloc: Global, text: Text) -> Result<String> {
-    Ok(format!(in alloc; "!{}", text.as_str())?)
-}
-
 /// The fault of a text, by its number or its text.
 fn told_of_text(alloc: Global, source: &str, fault: ExprFault, by_text: bool) -> Result<String> {
     if by_text {
-        return spelled(alloc, fault.text(alloc, source)?);
+        return error_of(alloc, fault.text(alloc, source)?.as_str());
     }
-    Ok(String::from_str(alloc, number_of_text(fault))?)
+    error_of(alloc, number_of_text(fault))
 }
 
 /// The fault of a value, by its number or its text.
 fn told_of_value(alloc: Global, fault: &EvalFault, by_text: bool) -> Result<String> {
     if by_text {
-        return spelled(alloc, fault.text(alloc)?);
+        return error_of(alloc, fault.text(alloc)?.as_str());
     }
-    Ok(String::from_str(alloc, number_of_value(fault))?)
+    error_of(alloc, number_of_value(fault))
 }
 
 /// What an expression comes to, as a table has it.
@@ -93,7 +88,7 @@ fn told(alloc: Global, source: &str, by_text: bool) -> Result<String> {
     let mut given = None;
     'asking: for _ in 0..MAX_ASKS {
         match eval.resume(given) {
-            Ok(Ask::Value(text)) => return Ok(format!(in alloc; "={}", text.as_str())?),
+            Ok(Ask::Value(text)) => return result_of(alloc, text.as_str()),
             Ok(ask) => given = answer_to(alloc, &ask)?,
             Err(fault) => return told_of_value(alloc, &fault, by_text),
         }

@@ -8,8 +8,6 @@
 #![tactic(auto)]
 
 mod shown;
-#[cfg(test)]
-mod tests;
 
 use crate::shown::{commands_told, fronts_told};
 use anyhow::{Context, Result, bail};

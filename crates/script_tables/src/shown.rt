@@ -2,6 +2,7 @@
 
 use anyhow::{Result, bail};
 use std::alloc::Global;
+use tables::error_of;
 use tcl_text::Text;
 use tcl_words::{Command, ParseFault, Piece, Script, Word, parse};
 
@@ -136,6 +137,6 @@ pub fn commands_told(alloc: Global, source: &str) -> Result<String> {
     match parse(alloc, source.as_bytes()) {
         Ok(script) => told_commands(alloc, &script),
         Err(ParseFault::NoMemory) => Err(ParseFault::NoMemory.into()),
-        Err(fault) => Ok(format!(in alloc; "!{}", fault.text())?),
+        Err(fault) => error_of(alloc, fault.text()),
     }
 }

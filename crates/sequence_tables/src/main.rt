@@ -6,7 +6,7 @@
 
 use anyhow::{Context, Result, bail};
 use std::alloc::Global;
-use tables::{Fixture, ask_tables};
+use tables::{Fixture, ask_tables, result_of};
 use tcl_text::{Text, TextFault};
 use tk_sequences::{Sequence, SequenceFault};
 
@@ -48,7 +48,7 @@ impl Fixture for Sequences {
                 if again.as_str() != canonical.as_str() {
                     bail!("a canonical form that is read as another sequence");
                 }
-                Ok(format!(in alloc; "={}", canonical.as_str())?)
+                result_of(alloc, canonical.as_str())
             }
             Err(fault) => fault_told(alloc, &fault),
         }

@@ -7,7 +7,7 @@
 
 use anyhow::{Context, Result, bail};
 use std::alloc::Global;
-use tables::{Fixture, ask_tables};
+use tables::{Fixture, ask_tables, result_of};
 use tk_session::{
     AliasLine, AppBlock, EventLine, HostLine, ServiceKind, Session, SessionFault, read_session,
 };
@@ -43,7 +43,7 @@ fn unescaped(alloc: Global, text: &str) -> Result<Vec<u8>> {
 /// Whether bytes are a session, or their fault.
 fn verdict(alloc: Global, bytes: &[u8]) -> Result<String> {
     match read_session(alloc, bytes) {
-        Ok(_) => Ok(String::from_str(alloc, "=")?),
+        Ok(_) => result_of(alloc, ""),
         Err(SessionFault::Refused { fault, line }) => {
             Ok(format!(in alloc; "!{}:{line}", fault.number())?)
         }
@@ -162,7 +162,7 @@ impl Fixture for Given {
     fn answer(&mut self, alloc: Global, question: &str) -> Result<String> {
         if let Some(text) = question.strip_prefix("session ") {
             self.bytes = unescaped(alloc, text)?;
-            return Ok(String::from_str(alloc, "=")?);
+            return result_of(alloc, "");
         }
         let words: Vec<&str> = question.split(' ').collect(alloc)?;
         match words.as_slice() {

@@ -7,7 +7,7 @@
 
 use anyhow::{Context, Result, bail};
 use std::alloc::Global;
-use tables::{Fixture, ask_tables};
+use tables::{Fixture, ask_tables, error_of, result_of};
 use tcl_text::{Text, TextList};
 use tk_after::{Timers, after_command};
 
@@ -41,15 +41,15 @@ fn after(
     }
     let words = words_of(alloc, bars)?;
     match after_command(alloc, timers, owner, moment, words.as_slice())? {
-        Ok(text) => Ok(format!(in alloc; "={}", text.as_str())?),
-        Err(text) => Ok(format!(in alloc; "!{}", text.as_str())?),
+        Ok(text) => result_of(alloc, text.as_str()),
+        Err(text) => error_of(alloc, text.as_str()),
     }
 }
 
 fn optional(alloc: Global, moment: Option<u64>) -> Result<String> {
     match moment {
         Some(moment) => Ok(format!(in alloc; "={moment}")?),
-        None => Ok(String::from_str(alloc, "=none")?),
+        None => result_of(alloc, "none"),
     }
 }
 
@@ -67,7 +67,7 @@ fn round(alloc: Global, timers: &Timers, owner: usize) -> Result<String> {
 fn take(alloc: Global, timers: &mut Timers, owner: usize, moment: u64) -> Result<String> {
     match timers.take_due(owner, moment) {
         Some((id, script)) => Ok(format!(in alloc; "={id} {}", script.as_str())?),
-        None => Ok(String::from_str(alloc, "=none")?),
+        None => result_of(alloc, "none"),
     }
 }
 
@@ -76,17 +76,17 @@ fn due(alloc: Global, timers: &Timers, owner: usize, id: u64) -> Result<String> 
     match timers.entry(owner, id) {
         Some(entry) => match entry.due {
             Some(due) => Ok(format!(in alloc; "={due}")?),
-            None => Ok(String::from_str(alloc, "=idle")?),
+            None => result_of(alloc, "idle"),
         },
-        None => Ok(String::from_str(alloc, "=none")?),
+        None => result_of(alloc, "none"),
     }
 }
 
 /// The script that leaves the table.
 fn cancel(alloc: Global, timers: &mut Timers, owner: usize, id: u64) -> Result<String> {
     match timers.cancel(owner, id) {
-        Some(script) => Ok(format!(in alloc; "={}", script.as_str())?),
-        None => Ok(String::from_str(alloc, "=none")?),
+        Some(script) => result_of(alloc, script.as_str()),
+        None => result_of(alloc, "none"),
     }
 }
 

@@ -17,7 +17,7 @@ use layouts::Layouts;
 use packings::Packings;
 use std::alloc::Global;
 use std::env;
-use tables::{Fixture, ask_tables};
+use tables::{Fixture, ask_tables, result_of};
 use trees::Trees;
 
 /// What the questions are put to.
@@ -47,7 +47,7 @@ impl Fixture for Screen {
             "begin" if !rest.is_empty() => self.layouts.answer(alloc, question)?,
             _ => self.trees.answer(alloc, question)?,
         };
-        Ok(format!(in alloc; "={told}")?)
+        result_of(alloc, told.as_str())
     }
 }
 

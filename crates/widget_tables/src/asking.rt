@@ -2,7 +2,7 @@
 use crate::words::{word_of, words_of};
 use anyhow::{Context, Result, bail};
 use std::alloc::Global;
-use tables::Fixture;
+use tables::{Fixture, error_of, result_of};
 use tcl_commands::variable_command;
 use tcl_text::{Text, TextList};
 use tcl_vars::{ReadFault, Scopes};
@@ -119,7 +119,7 @@ impl Fixture for Session {
     fn answer(&mut self, alloc: Global, question: &str) -> Result<String> {
         if let Some(kind) = question.strip_prefix("new ") {
             *self = Session::of(alloc, kind)?;
-            return Ok(String::from_str(alloc, "=")?);
+            return result_of(alloc, "");
         }
         answer_of(alloc, self, question)
     }
@@ -146,8 +146,8 @@ fn answer_of(alloc: Global, session: &mut Session, question: &str) -> Result<Str
         _ => listbox_told(alloc, session, first, rest)?,
     };
     match act {
-        WidgetAct::Answer(text) => Ok(format!(in alloc; "={}", text.as_str())?),
-        WidgetAct::Fault(text) => Ok(format!(in alloc; "!{}", text.as_str())?),
+        WidgetAct::Answer(text) => result_of(alloc, text.as_str()),
+        WidgetAct::Fault(text) => error_of(alloc, text.as_str()),
         WidgetAct::Script(text) => Ok(format!(in alloc; ">{}", text.as_str())?),
     }
 }

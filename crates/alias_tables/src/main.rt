@@ -11,7 +11,7 @@ mod counting;
 use anyhow::{Context, Result, bail};
 use counting::Counting;
 use std::alloc::Global;
-use tables::{Fixture, ask_tables, error_of, result_of};
+use tables::{Fixture, ask_tables, error_of, first_word, result_of};
 use tcl_text::{Text, TextList};
 use tk_alias::{Alias, AliasMeaning, AliasReply};
 use tk_services::{Service, ServiceKind};
@@ -94,12 +94,13 @@ impl Fixture for Caller {
     }
 
     fn answer(&mut self, alloc: Global, question: &str) -> Result<String> {
-        if let Some(list) = question.strip_prefix("call") {
-            return call(alloc, &self.called, list);
+        match first_word(question) {
+            ("call", list) => call(alloc, &self.called, list),
+            (kind, list) => {
+                self.called = Some(made(alloc, kind, list)?);
+                result_of(alloc, "")
+            }
         }
-        let (kind, list) = question.split_once(' ').context("no configuration")?;
-        self.called = Some(made(alloc, kind, list)?);
-        result_of(alloc, "")
     }
 }
 

@@ -1,6 +1,7 @@
 //! The words of questions.
 use anyhow::{Context, Result, bail};
 use std::alloc::Global;
+use tables::number;
 use tcl_text::Text;
 use tk_patterns::{Event, EventKind, EventType, Keysym, Sequence, VirtualName};
 
@@ -24,15 +25,11 @@ pub fn name_of(alloc: Global, word: &str) -> Result<VirtualName> {
     VirtualName::parse(alloc, &text)?.context("a word that is no virtual event")
 }
 
-pub fn number_of(word: &str) -> Result<usize> {
-    word.parse().context("a word that is no number")
-}
-
 pub fn event_of(alloc: Global, words: &[&str]) -> Result<Event> {
     match words {
         [name, window] => Ok(Event::new(
             EventKind::Virtual(name_of(alloc, name)?),
-            window.parse().context("a word that is no window")?,
+            number(window)?,
             text_of(alloc, ".")?,
             0,
         )),
@@ -40,17 +37,17 @@ pub fn event_of(alloc: Global, words: &[&str]) -> Result<Event> {
             let kind = EventType::named(kind).context("a word that is no type")?;
             let mut event = Event::new(
                 EventKind::Physical(kind),
-                window.parse().context("a word that is no window")?,
+                number(window)?,
                 text_of(alloc, ".")?,
-                moment.parse().context("a word that is no moment")?,
+                number(moment)?,
             );
-            event.state = Some(state.parse().context("a word that is no state")?);
-            event.root_x = Some(x.parse().context("a word that is no place")?);
-            event.root_y = Some(y.parse().context("a word that is no place")?);
+            event.state = Some(number(state)?);
+            event.root_x = Some(number(x)?);
+            event.root_y = Some(number(y)?);
             if kind.is_key() {
                 event.key = Some(Keysym::named(detail).context("a word that is no key")?);
             } else if kind.is_button() {
-                event.button = Some(detail.parse().context("a word that is no button")?);
+                event.button = Some(number(detail)?);
             }
             Ok(event)
         }

@@ -1,7 +1,7 @@
-use crate::read::{event_of, name_of, number_of, sequence_of, text_of};
+use crate::read::{event_of, name_of, sequence_of, text_of};
 use anyhow::{Result, bail};
 use std::alloc::Global;
-use tables::{Fixture, result_of};
+use tables::{Fixture, number, result_of, words_of};
 use tk_patterns::{BindFault, BindTable, History, Sequence, VirtualName};
 
 /// What the questions have made so far.
@@ -16,7 +16,7 @@ pub struct State {
 impl State {
     fn bind(&mut self, owner: &str, tag: &str, sequence: &str, script: &str) -> Result<String> {
         let bound = self.bindings.bind(
-            number_of(owner)?,
+            number(owner)?,
             text_of(self.alloc, tag)?,
             sequence_of(self.alloc, sequence)?,
             text_of(self.alloc, script)?,
@@ -30,18 +30,18 @@ impl State {
 
     fn unbind(&mut self, owner: &str, tag: &str, sequence: &str) -> Result<String> {
         let sequence = sequence_of(self.alloc, sequence)?;
-        self.bindings.unbind(number_of(owner)?, tag, &sequence);
+        self.bindings.unbind(number(owner)?, tag, &sequence);
         result_of(self.alloc, "")
     }
 
     fn unbind_all(&mut self, owner: &str, tag: &str) -> Result<String> {
-        self.bindings.unbind_all(number_of(owner)?, tag);
+        self.bindings.unbind_all(number(owner)?, tag);
         result_of(self.alloc, "")
     }
 
     fn script(&self, owner: &str, tag: &str, sequence: &str) -> Result<String> {
         let sequence = sequence_of(self.alloc, sequence)?;
-        match self.bindings.script(number_of(owner)?, tag, &sequence) {
+        match self.bindings.script(number(owner)?, tag, &sequence) {
             Some(script) => result_of(self.alloc, script.as_str()),
             None => result_of(self.alloc, "-"),
         }
@@ -49,7 +49,7 @@ impl State {
 
     fn sequences(&self, owner: &str, tag: &str) -> Result<String> {
         let mut list = String::from_str(self.alloc, "=")?;
-        for sequence in self.bindings.sequences(number_of(owner)?, tag)?.as_slice() {
+        for sequence in self.bindings.sequences(number(owner)?, tag)?.as_slice() {
             list.push_str(sequence.canonical(self.alloc)?.as_str())?;
         }
         Ok(list)
@@ -81,7 +81,7 @@ impl State {
 
     fn winner(&self, owner: &str, tag: &str, event: &[&str]) -> Result<String> {
         let event = event_of(self.alloc, event)?;
-        let owner = number_of(owner)?;
+        let owner = number(owner)?;
         let virtuals = self.virtuals.as_slice();
         match self
             .bindings
@@ -104,7 +104,7 @@ impl Fixture for State {
     }
 
     fn answer(&mut self, alloc: Global, question: &str) -> Result<String> {
-        let words: Vec<&str> = question.split(' ').collect(alloc)?;
+        let words = words_of(alloc, question, ' ')?;
         match words.as_slice() {
             ["bind", owner, tag, sequence, script] => self.bind(owner, tag, sequence, script),
             ["unbind", owner, tag, sequence] => self.unbind(owner, tag, sequence),

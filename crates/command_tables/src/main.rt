@@ -4,9 +4,9 @@
 //! `=` and the command's result, or `!` and its error.
 #![tactic(auto)]
 
-use anyhow::{Context, Result, bail};
+use anyhow::{Result, bail};
 use std::alloc::{AllocError, Global};
-use tables::{Fixture, ask_tables, error_of, result_of};
+use tables::{Fixture, ask_tables, error_of, first_word, number, result_of, words_of};
 use tcl_commands::{info_exists, upvar_command, variable_command};
 use tcl_text::{Text, TextList};
 use tcl_vars::Scopes;
@@ -20,13 +20,12 @@ struct Frames {
     scopes: Scopes,
 }
 
-/// The words of a line.
-fn words_of(alloc: Global, line: &str) -> Result<TextList> {
-    let mut words = TextList::new(alloc);
-    for word in line.split('|') {
-        words.push(Text::new(alloc, word)?)?;
+fn texts_of(alloc: Global, words: &[&str]) -> Result<TextList> {
+    let mut texts = TextList::new(alloc);
+    for word in words {
+        texts.push(Text::new(alloc, word)?)?;
     }
-    Ok(words)
+    Ok(texts)
 }
 
 /// What a command on variables answers at a level.
@@ -81,10 +80,10 @@ impl Fixture for Frames {
     }
 
     fn answer(&mut self, alloc: Global, question: &str) -> Result<String> {
-        let (level, words) = question.split_once(' ').context("no level")?;
-        let level: usize = level.parse().context("a level that is no number")?;
-        let words = words_of(alloc, words)?;
-        let answer = answer_of(alloc, &mut self.scopes, level, words.as_slice())?;
+        let (level, words) = first_word(question);
+        let words = words_of(alloc, words, '|')?;
+        let words = texts_of(alloc, words.as_slice())?;
+        let answer = answer_of(alloc, &mut self.scopes, number(level)?, words.as_slice())?;
         told(alloc, &answer)
     }
 }

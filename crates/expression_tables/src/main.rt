@@ -9,7 +9,7 @@ ghost use Rattle.tcl_expr.specs.Evaluation.{is_waiting, state_after};
 
 use anyhow::{Result, bail};
 use std::alloc::Global;
-use tables::{Fixture, ask_tables, error_of, result_of};
+use tables::{Fixture, ask_tables, error_of, first_word, result_of};
 use tcl_expr::{Ask, Eval, EvalFault, ExprFault, parse_expr};
 use tcl_text::Text;
 
@@ -106,9 +106,9 @@ impl Fixture for Evaluator {
     }
 
     fn answer(&mut self, alloc: Global, question: &str) -> Result<String> {
-        match question.split_once(' ') {
-            Some(("value", source)) => told(alloc, source, false),
-            Some(("text", source)) => told(alloc, source, true),
+        match first_word(question) {
+            ("value", source) => told(alloc, source, false),
+            ("text", source) => told(alloc, source, true),
             _ => bail!("no such question"),
         }
     }

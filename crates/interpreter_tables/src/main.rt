@@ -13,9 +13,9 @@ mod slices;
 
 use crate::panel::names;
 use crate::runner::Runner;
-use anyhow::{Context, Result};
+use anyhow::Result;
 use std::alloc::Global;
-use tables::{Fixture, ask_tables};
+use tables::{Fixture, ask_tables, first_word, number};
 
 /// How a script ends, as a table has it.
 fn ending(alloc: Global, script: &str, budget: u64, slice: u64) -> Result<String>
@@ -48,8 +48,8 @@ impl Fixture for Scripts {
     }
 
     fn answer(&mut self, alloc: Global, question: &str) -> Result<String> {
-        let (budget, script) = question.split_once(' ').context("no script")?;
-        ending_of(alloc, script, budget.parse().context("no budget")?)
+        let (budget, script) = first_word(question);
+        ending_of(alloc, script, number(budget)?)
     }
 }
 

@@ -8,16 +8,8 @@
 
 use anyhow::{Context, Result, bail};
 use std::alloc::Global;
-use tables::{Fixture, ask_tables};
+use tables::{Fixture, ask_tables, number, result_of, words_of};
 use tk_route::{Delivery, HostLine, Keysym, LocalKind, Rect, Routed, Router};
-
-fn number(word: &str) -> Result<u32> {
-    word.parse().context("a word that is no number")
-}
-
-fn slot_of(word: &str) -> Result<usize> {
-    word.parse().context("a word that is no slot")
-}
 
 fn key_of(word: &str) -> Result<Keysym> {
     Keysym::named(word).context("a word that is no key")
@@ -48,7 +40,7 @@ fn line_of(words: &[&str]) -> Result<HostLine> {
         ("keyup", [key]) => Ok(HostLine::Keyup(key_of(key)?)),
         ("focus", [slot]) => focus_of(slot),
         ("rect", [slot, x, y, width, height]) => Ok(HostLine::Rect {
-            slot: slot_of(slot)?,
+            slot: number(slot)?,
             rect: rect_of(x, y, width, height)?,
         }),
         _ => bail!("no such line"),
@@ -59,7 +51,7 @@ fn focus_of(slot: &str) -> Result<HostLine> {
     if slot == "-" {
         return Ok(HostLine::Focus(None));
     }
-    Ok(HostLine::Focus(Some(slot_of(slot)?)))
+    Ok(HostLine::Focus(Some(number(slot)?)))
 }
 
 /// An event and who gets it.
@@ -89,10 +81,10 @@ fn kind_told(alloc: Global, kind: LocalKind) -> Result<String> {
 
 fn all_told(alloc: Global, routed: &Routed) -> Result<String> {
     match routed {
-        Routed::Nobody => Ok(String::from_str(alloc, "=")?),
+        Routed::Nobody => result_of(alloc, ""),
         Routed::One(only) => {
             let only = told(alloc, only)?;
-            Ok(format!(in alloc; "={}", only.as_str())?)
+            result_of(alloc, only.as_str())
         }
         Routed::Two(first, second) => {
             let first = told(alloc, first)?;
@@ -107,7 +99,7 @@ fn line_answer(alloc: Global, router: &mut Option<Router>, words: &[&str]) -> Re
     let Some((moment, words)) = words.split_first() else {
         bail!("a line with no words");
     };
-    let moment: u64 = moment.parse().context("a line with no moment")?;
+    let moment = number(moment)?;
     let Some(router) = router.as_mut() else {
         bail!("a line with no applications");
     };
@@ -129,7 +121,7 @@ fn new_answer(alloc: Global, router: &mut Option<Router>, words: &[&str]) -> Res
     match Router::new(rects.as_slice()) {
         Ok(made) => {
             *router = Some(made);
-            Ok(String::from_str(alloc, "=")?)
+            result_of(alloc, "")
         }
         Err(fault) => Ok(format!(in alloc; "!{}", fault.number())?),
     }
@@ -147,7 +139,7 @@ impl Fixture for Host {
     }
 
     fn answer(&mut self, alloc: Global, question: &str) -> Result<String> {
-        let words: Vec<&str> = question.split(' ').collect(alloc)?;
+        let words = words_of(alloc, question, ' ')?;
         match words.as_slice() {
             ["new", rects @ ..] => new_answer(alloc, &mut self.router, rects),
             words => line_answer(alloc, &mut self.router, words),

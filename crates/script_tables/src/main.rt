@@ -14,7 +14,7 @@ use anyhow::{Context, Result, bail};
 use std::alloc::Global;
 use std::rt::Files;
 use std::{env, fs};
-use tables::{Fixture, ask_tables};
+use tables::{Fixture, ask_tables, first_word, number};
 use tcl_words::parse;
 
 /// What reads scripts.
@@ -27,9 +27,9 @@ impl Fixture for Scripts {
     }
 
     fn answer(&mut self, alloc: Global, question: &str) -> Result<String> {
-        match question.split_once(' ') {
-            Some(("commands", script)) => commands_told(alloc, script),
-            Some(("fronts", script)) => fronts_told(alloc, script),
+        match first_word(question) {
+            ("commands", script) => commands_told(alloc, script),
+            ("fronts", script) => fronts_told(alloc, script),
             _ => bail!("no such question"),
         }
     }
@@ -37,7 +37,7 @@ impl Fixture for Scripts {
 
 /// Reads a script so many times.
 fn repeat(rt: &(impl Files + Print + AllocGlobal), count: &str, path: &str) -> Result<()> {
-    let count = count.parse::<u32>().context("a count")?;
+    let count: u32 = number(count)?;
     let source = fs::read_to_string(rt, path).context(format_args!("script {path}"))?;
     let mut commands = 0usize;
     for _ in 0..count {

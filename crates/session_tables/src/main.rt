@@ -7,7 +7,7 @@
 
 use anyhow::{Context, Result, bail};
 use std::alloc::Global;
-use tables::{Fixture, ask_tables, result_of};
+use tables::{Fixture, ask_tables, number, result_of, words_of};
 use tk_session::{
     AliasLine, AppBlock, EventLine, HostLine, ServiceKind, Session, SessionFault, read_session,
 };
@@ -138,7 +138,7 @@ fn changed_verdict(alloc: Global, bytes: &[u8], byte: &str, place: &str) -> Resu
         bail!("a byte that isn't two digits");
     };
     let mut changed = bytes.to_vec(alloc)?;
-    let place: usize = place.parse().context("no place")?;
+    let place: usize = number(place)?;
     let Some(changed_byte) = changed.get_mut(place) else {
         bail!("a place past the end");
     };
@@ -164,11 +164,11 @@ impl Fixture for Given {
             self.bytes = unescaped(alloc, text)?;
             return result_of(alloc, "");
         }
-        let words: Vec<&str> = question.split(' ').collect(alloc)?;
+        let words = words_of(alloc, question, ' ')?;
         match words.as_slice() {
             ["says"] => said(alloc, self.bytes.as_slice()),
             ["cut", end] => {
-                let end: usize = end.parse().context("no number of bytes")?;
+                let end: usize = number(end)?;
                 let front = self.bytes.get(..end).context("a cut past the end")?;
                 verdict(alloc, front)
             }

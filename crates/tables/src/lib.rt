@@ -18,6 +18,8 @@ mod asking;
 mod pictures;
 #[cfg(test)]
 mod tests;
+mod words;
 
-pub use answers::{error_of, repeated, result_of};
+pub use answers::{error_of, result_of};
 pub use asking::{Fixture, ask_tables};
+pub use words::{first_word, number, repeated, words_of};

@@ -5,9 +5,9 @@
 //! many timers as there may be. It is answered `=` and a text, or `!` and an error.
 #![tactic(auto)]
 
-use anyhow::{Context, Result, bail};
+use anyhow::{Result, bail};
 use std::alloc::Global;
-use tables::{Fixture, ask_tables, error_of, result_of};
+use tables::{Fixture, ask_tables, error_of, first_word, number, result_of, words_of};
 use tcl_text::{Text, TextList};
 use tk_after::{Timers, after_command};
 
@@ -17,15 +17,12 @@ struct Kept {
     timers: Timers,
 }
 
-/// The words of a command, each behind a bar.
-fn words_of(alloc: Global, bars: Option<&str>) -> Result<TextList> {
-    let mut words = TextList::new(alloc);
-    if let Some(bars) = bars {
-        for word in bars.split('|') {
-            words.push(Text::new(alloc, word)?)?;
-        }
+fn texts_of(alloc: Global, words: &[&str]) -> Result<TextList> {
+    let mut texts = TextList::new(alloc);
+    for word in words {
+        texts.push(Text::new(alloc, word)?)?;
     }
-    Ok(words)
+    Ok(texts)
 }
 
 /// The answer of the command `after` with these words.
@@ -34,12 +31,12 @@ fn after(
     timers: &mut Timers,
     owner: usize,
     moment: u64,
-    bars: Option<&str>,
+    words: &[&str],
 ) -> Result<String> {
     if moment > 1_000_000_000_000 {
         bail!("a moment past the last");
     }
-    let words = words_of(alloc, bars)?;
+    let words = texts_of(alloc, words)?;
     match after_command(alloc, timers, owner, moment, words.as_slice())? {
         Ok(text) => result_of(alloc, text.as_str()),
         Err(text) => error_of(alloc, text.as_str()),
@@ -103,55 +100,33 @@ fn fill(alloc: Global, timers: &mut Timers, owner: usize, moment: u64) -> Result
     Ok(format!(in alloc; "={count}")?)
 }
 
-/// What a call answers that needs no number.
-fn plain_answer(
-    alloc: Global,
-    timers: &mut Timers,
-    owner: usize,
-    moment: u64,
-    call: &str,
-) -> Result<String> {
-    match call {
-        "after" => after(alloc, timers, owner, moment, None),
-        "count" => Ok(format!(in alloc; "={}", timers.count(owner))?),
-        "full" => Ok(format!(in alloc; "={}", timers.is_full(owner))?),
-        "next" => optional(alloc, timers.next_due_of(owner)),
-        "first" => optional(alloc, timers.next_due()),
-        "round" => round(alloc, timers, owner),
-        "take" => take(alloc, timers, owner, moment),
-        "fill" => fill(alloc, timers, owner, moment),
+/// What a call answers that changes nothing.
+fn looked_up(alloc: Global, timers: &Timers, owner: usize, words: &[&str]) -> Result<String> {
+    match words {
+        ["count"] => Ok(format!(in alloc; "={}", timers.count(owner))?),
+        ["full"] => Ok(format!(in alloc; "={}", timers.is_full(owner))?),
+        ["next"] => optional(alloc, timers.next_due_of(owner)),
+        ["first"] => optional(alloc, timers.next_due()),
+        ["round"] => round(alloc, timers, owner),
+        ["due", id] => due(alloc, timers, owner, number(id)?),
         _ => bail!("no such call"),
     }
 }
 
 /// What a call answers.
-fn answer_of(alloc: Global, timers: &mut Timers, question: &str) -> Result<String> {
-    let Some((moment, rest)) = question.split_once(' ') else {
-        bail!("a question with no call");
-    };
-    let Some((owner, call)) = rest.split_once(' ') else {
-        bail!("a question with no call");
-    };
-    let moment: u64 = moment.parse().context("a question with no moment")?;
-    let owner: usize = owner.parse().context("a question with no application")?;
-    match call.split_once('|') {
-        None => plain_answer(alloc, timers, owner, moment, call),
-        Some(("after", words)) => after(alloc, timers, owner, moment, Some(words)),
-        Some(("due", id)) => due(
-            alloc,
-            timers,
-            owner,
-            id.parse().context("a call with no number")?,
-        ),
-        Some(("cancel", id)) => {
-            cancel(
-                alloc,
-                timers,
-                owner,
-                id.parse().context("a call with no number")?,
-            )
-        }
-        Some(_) => bail!("no such call"),
+fn answer_of(
+    alloc: Global,
+    timers: &mut Timers,
+    owner: usize,
+    moment: u64,
+    words: &[&str],
+) -> Result<String> {
+    match words {
+        ["after", words @ ..] => after(alloc, timers, owner, moment, words),
+        ["take"] => take(alloc, timers, owner, moment),
+        ["fill"] => fill(alloc, timers, owner, moment),
+        ["cancel", id] => cancel(alloc, timers, owner, number(id)?),
+        _ => looked_up(alloc, timers, owner, words),
     }
 }
 
@@ -163,7 +138,11 @@ impl Fixture for Kept {
     }
 
     fn answer(&mut self, alloc: Global, question: &str) -> Result<String> {
-        answer_of(alloc, &mut self.timers, question)
+        let (moment, rest) = first_word(question);
+        let (owner, call) = first_word(rest);
+        let words = words_of(alloc, call, '|')?;
+        let (moment, owner) = (number(moment)?, number(owner)?);
+        answer_of(alloc, &mut self.timers, owner, moment, words.as_slice())
     }
 }
 

@@ -4,9 +4,9 @@
 //! time has none.
 
 use crate::requests::{anchor_of, fill_of, pads_of, side_of};
-use anyhow::{Context, Result, bail};
+use anyhow::{Result, bail};
 use std::alloc::Global;
-use std::str::SplitAsciiWhitespace;
+use tables::number;
 use tk_base::{Rect, Win};
 use tk_layout::{Arrangements, Change, Shape, lay_out, requested_size};
 use tk_packer::{PackTable, Request};
@@ -22,39 +22,28 @@ pub struct Layouts {
 /// The application whose windows are laid out.
 const OWNER: usize = 0;
 
-fn word<'a>(words: &mut SplitAsciiWhitespace<'a>) -> Result<&'a str> {
-    match words.next() {
-        Some(word) => Ok(word),
-        None => bail!("a question that lacks a word"),
-    }
-}
-
-fn pixels(words: &mut SplitAsciiWhitespace) -> Result<u32> {
-    word(words)?.parse().context("pixels that are no number")
-}
-
-fn number(words: &mut SplitAsciiWhitespace) -> Result<u64> {
-    word(words)?.parse().context("a window that is no number")
-}
-
-fn request_in(words: &mut SplitAsciiWhitespace) -> Result<Request> {
+fn request_in(words: &[&str]) -> Result<Request> {
+    let [side, anchor, fill, expand, padx, pady, ipadx, ipady] = words else {
+        bail!("a request that lacks a word");
+    };
     let mut request = Request::new(1, 1);
-    request.side = side_of(word(words)?)?;
-    request.anchor = anchor_of(word(words)?)?;
-    request.fill = fill_of(word(words)?)?;
-    request.expand = word(words)? == "1";
-    request.padx = pads_of(word(words)?)?;
-    request.pady = pads_of(word(words)?)?;
-    request.ipadx = pixels(words)?;
-    request.ipady = pixels(words)?;
+    request.side = side_of(side)?;
+    request.anchor = anchor_of(anchor)?;
+    request.fill = fill_of(fill)?;
+    request.expand = *expand == "1";
+    request.padx = pads_of(padx)?;
+    request.pady = pads_of(pady)?;
+    request.ipadx = number(ipadx)?;
+    request.ipady = number(ipady)?;
     Ok(request)
 }
 
-fn shape_in(words: &mut SplitAsciiWhitespace) -> Result<Shape> {
-    let number = number(words)?;
-    let size = (pixels(words)?, pixels(words)?);
-    let border = pixels(words)?;
-    Ok(new_shape(number, size, border, word(words)? == "1"))
+fn shape_in(words: &[&str]) -> Result<Shape> {
+    let [window, width, height, border, propagates] = words else {
+        bail!("a window that lacks a word");
+    };
+    let size = (number(width)?, number(height)?);
+    Ok(new_shape(number(window)?, size, number(border)?, *propagates == "1"))
 }
 
 /// The shape of a window that isn't laid out yet, which asks for a size.
@@ -100,31 +89,24 @@ impl Layouts {
     }
 
     /// What a question is answered.
-    pub fn answer(&mut self, alloc: Global, question: &str) -> Result<String> {
-        let mut words = question.split_ascii_whitespace();
-        match word(&mut words)? {
-            "asks" => return self.asks(alloc, number(&mut words)?),
-            "lay" => return self.lay(alloc),
-            "begin" => {
+    pub fn answer(&mut self, alloc: Global, words: &[&str]) -> Result<String> {
+        match words {
+            ["asks", window] => return self.asks(alloc, number(window)?),
+            ["lay"] => return self.lay(alloc),
+            ["begin", width, height] => {
                 *self = Layouts::new(alloc);
-                self.size = (pixels(&mut words)?, pixels(&mut words)?);
+                self.size = (number(width)?, number(height)?);
             }
-            "window" => self.set(shape_in(&mut words)?)?,
-            "pack" => self.pack(&mut words)?,
-            "forget" => self.packs.forget(win(number(&mut words)?)),
-            "gone" => self.take_out(number(&mut words)?),
+            ["window", shape @ ..] => self.set(shape_in(shape)?)?,
+            ["pack", master, slave, place, request @ ..] => {
+                let slave = win(number(slave)?);
+                self.packs.put(number(master)?, slave, number(place)?, request_in(request)?)?;
+            }
+            ["forget", window] => self.packs.forget(win(number(window)?)),
+            ["gone", window] => self.take_out(number(window)?),
             _ => bail!("no such question"),
         }
         Ok(String::new(alloc))
-    }
-
-    fn pack(&mut self, words: &mut SplitAsciiWhitespace) -> Result<()> {
-        let master = number(words)?;
-        let slave = number(words)?;
-        let place = pixels(words)?;
-        self.packs
-            .put(master, win(slave), place as usize, request_in(words)?)?;
-        Ok(())
     }
 
     /// Adds a window, or changes what it asks for.

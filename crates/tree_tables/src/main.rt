@@ -17,7 +17,7 @@ use layouts::Layouts;
 use packings::Packings;
 use std::alloc::Global;
 use std::env;
-use tables::{Fixture, ask_tables, result_of};
+use tables::{Fixture, ask_tables, first_word, result_of, words_of};
 use trees::Trees;
 
 /// What the questions are put to.
@@ -38,14 +38,16 @@ impl Fixture for Screen {
     }
 
     fn answer(&mut self, alloc: Global, question: &str) -> Result<String> {
-        let (first, rest) = question.split_once(' ').unwrap_or((question, ""));
+        let (first, rest) = first_word(question);
+        let words = words_of(alloc, question, ' ')?;
+        let words = words.as_slice();
         let told = match first {
-            "cavity" | "slave" | "arrange" => self.packings.answer(alloc, question)?,
+            "cavity" | "slave" | "arrange" => self.packings.answer(alloc, words)?,
             "window" | "pack" | "forget" | "gone" | "asks" | "lay" => {
-                self.layouts.answer(alloc, question)?
+                self.layouts.answer(alloc, words)?
             }
-            "begin" if !rest.is_empty() => self.layouts.answer(alloc, question)?,
-            _ => self.trees.answer(alloc, question)?,
+            "begin" if !rest.is_empty() => self.layouts.answer(alloc, words)?,
+            _ => self.trees.answer(alloc, words)?,
         };
         result_of(alloc, told.as_str())
     }

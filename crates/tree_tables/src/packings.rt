@@ -6,6 +6,7 @@
 use crate::requests::{anchor_of, fill_of, pads_of, side_of};
 use anyhow::{Context, Result, bail};
 use std::alloc::Global;
+use tables::number;
 use tk_base::{Rect, Win};
 use tk_packer::{Kept, PackTable, Request, arrange, request_of};
 
@@ -31,10 +32,6 @@ fn slave(number: u64) -> Win {
     }
 }
 
-fn pixels_of(word: &str) -> Result<u32> {
-    word.parse().context("a word that is no number")
-}
-
 /// The request with one more option.
 fn with_option(request: Request, option: &str, value: &str) -> Result<Request> {
     let mut request = request;
@@ -45,15 +42,15 @@ fn with_option(request: Request, option: &str, value: &str) -> Result<Request> {
         "-expand" => request.expand = value == "1",
         "-padx" => request.padx = pads_of(value)?,
         "-pady" => request.pady = pads_of(value)?,
-        "-ipadx" => request.ipadx = pixels_of(value)?,
-        "-ipady" => request.ipady = pixels_of(value)?,
+        "-ipadx" => request.ipadx = number(value)?,
+        "-ipady" => request.ipady = number(value)?,
         _ => bail!("no such option"),
     }
     Ok(request)
 }
 
 fn request_in(width: &str, height: &str, options: &[&str]) -> Result<Request> {
-    let mut request = Request::new(pixels_of(width)?, pixels_of(height)?);
+    let mut request = Request::new(number(width)?, number(height)?);
     for pair in options.chunks(2) {
         let [option, value] = pair else {
             bail!("an option with no value");
@@ -83,11 +80,11 @@ impl Packings {
         }
     }
 
-    pub fn answer(&mut self, alloc: Global, question: &str) -> Result<String> {
-        let words: Vec<&str> = question.split(' ').collect(alloc)?;
-        match words.as_slice() {
+    /// What a question is answered.
+    pub fn answer(&mut self, alloc: Global, words: &[&str]) -> Result<String> {
+        match words {
             ["cavity", width, height] => {
-                self.size = (pixels_of(width)?, pixels_of(height)?);
+                self.size = (number(width)?, number(height)?);
                 self.take_out();
             }
             ["slave", width, height, options @ ..] => {

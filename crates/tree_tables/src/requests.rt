@@ -1,6 +1,7 @@
 //! The words of requests (pack(n)).
 
-use anyhow::{Context, Result, bail};
+use anyhow::{Result, bail};
+use tables::number;
 use tk_packer::{Anchor, Fill, Pads, Side};
 
 pub fn side_of(word: &str) -> Result<Side> {
@@ -42,7 +43,7 @@ pub fn fill_of(word: &str) -> Result<Fill> {
 pub fn pads_of(word: &str) -> Result<Pads> {
     let (before, after) = word.split_once(',').unwrap_or((word, word));
     Ok(Pads {
-        before: before.parse().context("a pad that is no number")?,
-        after: after.parse().context("a pad that is no number")?,
+        before: number(before)?,
+        after: number(after)?,
     })
 }

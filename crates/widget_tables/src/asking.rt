@@ -1,8 +1,8 @@
 //! A widget with the variables of its application, and what is asked of it.
 use crate::words::{word_of, words_of};
-use anyhow::{Context, Result, bail};
+use anyhow::{Result, bail};
 use std::alloc::Global;
-use tables::{Fixture, error_of, result_of};
+use tables::{Fixture, error_of, first_word, number, result_of};
 use tcl_commands::variable_command;
 use tcl_text::{Text, TextList};
 use tcl_vars::{ReadFault, Scopes};
@@ -127,7 +127,7 @@ impl Fixture for Session {
 
 /// What any other question is answered.
 fn answer_of(alloc: Global, session: &mut Session, question: &str) -> Result<String> {
-    let (first, rest) = question.split_once(' ').unwrap_or((question, ""));
+    let (first, rest) = first_word(question);
     let act = match first {
         "path" => {
             let words = path_words(alloc, rest)?;
@@ -249,8 +249,7 @@ fn entry_told(alloc: Global, session: &mut Session, what: &str, rest: &str) -> R
             None => bail!("no such way"),
         },
         _ => {
-            let x: i64 = rest.parse().context("no place")?;
-            entry.point(variable, x);
+            entry.point(variable, number(rest)?);
             return told(alloc, "");
         }
     };
@@ -263,14 +262,8 @@ fn listbox_told(alloc: Global, session: &mut Session, what: &str, rest: &str) ->
         bail!("no listbox");
     };
     let is_told = match what {
-        "press" => {
-            let y: i64 = rest.parse().context("no place")?;
-            listbox.press(y)
-        }
-        "drag" => {
-            let y: i64 = rest.parse().context("no place")?;
-            listbox.drag(y)
-        }
+        "press" => { listbox.press(number(rest)?) }
+        "drag" => { listbox.drag(number(rest)?) }
         "step" => match Step::named(rest) {
             Some(step) => listbox.step(step),
             None => bail!("no such step"),

@@ -1,6 +1,7 @@
 //! The words of questions.
-use anyhow::{Context, Result};
+use anyhow::Result;
 use std::alloc::Global;
+use tables::repeated;
 use tcl_text::{Text, TextList};
 
 /// The words of a question, with bars between.
@@ -12,15 +13,7 @@ pub fn words_of(alloc: Global, words: &str) -> Result<TextList> {
     Ok(list)
 }
 
-/// A word as it is meant: the text of `*N*TEXT` N times, or itself.
+/// A word, as the text that it means.
 pub fn word_of(alloc: Global, word: &str) -> Result<Text> {
-    let Some((count, text)) = word.strip_prefix('*').and_then(|rest| rest.split_once('*')) else {
-        return Ok(Text::new(alloc, word)?);
-    };
-    let count: u32 = count.parse().context("a word that is to stand so often")?;
-    let mut all = String::new(alloc);
-    for _ in 0..count {
-        all.push_str(text)?;
-    }
-    Ok(Text::new(alloc, all.as_str())?)
+    Ok(Text::new(alloc, repeated(alloc, word)?.as_str())?)
 }

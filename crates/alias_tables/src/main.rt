@@ -8,7 +8,7 @@
 
 mod counting;
 
-use anyhow::{Context, Result, bail};
+use anyhow::{Result, bail};
 use counting::Counting;
 use std::alloc::Global;
 use tables::{Fixture, ask_tables, error_of, first_word, result_of};
@@ -49,11 +49,10 @@ fn kind_of(word: &str) -> Option<ServiceKind> {
 fn made(alloc: Global, kind: &str, list: &str) -> Result<Called> {
     let name = text_of(alloc, "called")?;
     let items = items_of(alloc, list)?;
-    let config = items
-        .as_slice()
-        .first()
-        .context("no configuration")?
-        .copy()?;
+    let [config, ..] = items.as_slice() else {
+        bail!("no configuration");
+    };
+    let config = config.copy()?;
     match kind_of(kind) {
         Some(kind) => Ok(Called::Service(Alias::new(name, Service { kind, config }))),
         None if kind == "count" => Ok(Called::Counting(Alias::new(

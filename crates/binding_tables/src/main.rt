@@ -5,7 +5,7 @@
 //! `winner OWNER TAG EVENT`. An event is `TYPE WINDOW MOMENT STATE DETAIL X Y`, the detail a key or a button or `-`, the place from the application's
 //! corner; or `<<NAME>> WINDOW`. Each is answered `=` and what it tells, `-` where it tells that there is none.
 //!
-//! With `bench` as its first argument it times events instead.
+//! With `bench` as its argument it times events instead.
 #![tactic(auto)]
 
 mod bench;
@@ -14,12 +14,11 @@ mod state;
 
 use crate::state::State;
 use anyhow::Result;
-use std::env;
-use tables::ask_tables;
+use tables::{arguments, ask_tables};
 
 fn main(rt: HostRuntime) -> Result<()> {
-    match env::args(&rt)?.nth(1) {
-        Some(word) if word.as_str() == "bench" => bench::run(&rt),
+    match arguments(&rt)?.as_slice() {
+        [word] if word.as_str() == "bench" => bench::run(&rt),
         _ => ask_tables::<State, _>(&rt),
     }
 }

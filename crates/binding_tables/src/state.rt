@@ -2,6 +2,7 @@ use crate::read::{event_of, name_of, sequence_of, text_of};
 use anyhow::{Result, bail};
 use std::alloc::Global;
 use tables::{Fixture, number, result_of, words_of};
+use tcl_text::Text;
 use tk_patterns::{BindFault, BindTable, History, Sequence, VirtualName};
 
 /// What the questions have made so far.
@@ -10,86 +11,107 @@ pub struct State {
     bindings: BindTable,
     history: History,
     virtuals: Vec<(VirtualName, Sequence)>,
+}
+
+fn bind(
     alloc: Global,
+    bindings: &mut BindTable,
+    owner: usize,
+    tag: &str,
+    sequence: &str,
+    script: &str,
+) -> Result<String> {
+    let tag = text_of(alloc, tag)?;
+    let sequence = sequence_of(alloc, sequence)?;
+    let script = text_of(alloc, script)?;
+    match bindings.bind(owner, tag, sequence, script) {
+        Ok(()) => result_of(alloc, ""),
+        Err(BindFault::Full) => result_of(alloc, "31"),
+        Err(BindFault::NoMemory) => bail!("out of memory"),
+    }
+}
+
+fn unbind(
+    alloc: Global,
+    bindings: &mut BindTable,
+    owner: usize,
+    tag: &str,
+    sequence: &str,
+) -> Result<String> {
+    let sequence = sequence_of(alloc, sequence)?;
+    bindings.unbind(owner, tag, &sequence);
+    result_of(alloc, "")
+}
+
+/// A script, or that there is none.
+fn script_told(alloc: Global, script: Option<&Text>) -> Result<String> {
+    match script {
+        Some(script) => result_of(alloc, script.as_str()),
+        None => result_of(alloc, "-"),
+    }
+}
+
+fn script(
+    alloc: Global,
+    bindings: &BindTable,
+    owner: usize,
+    tag: &str,
+    sequence: &str,
+) -> Result<String> {
+    let sequence = sequence_of(alloc, sequence)?;
+    script_told(alloc, bindings.script(owner, tag, &sequence))
+}
+
+fn sequences(alloc: Global, bindings: &BindTable, owner: usize, tag: &str) -> Result<String> {
+    let mut list = String::from_str(alloc, "=")?;
+    for sequence in bindings.sequences(owner, tag)?.as_slice() {
+        list.push_str(sequence.canonical(alloc)?.as_str())?;
+    }
+    Ok(list)
+}
+
+fn matched(alloc: Global, history: &History, sequence: &str, event: &[&str]) -> Result<String> {
+    let sequence = sequence_of(alloc, sequence)?;
+    let event = event_of(alloc, event)?;
+    let answer = if history.matches(&sequence, &event) {
+        "1"
+    } else {
+        "0"
+    };
+    result_of(alloc, answer)
+}
+
+/// What a call on bindings answers.
+fn binding_answer(alloc: Global, bindings: &mut BindTable, words: &[&str]) -> Result<String> {
+    match words {
+        ["bind", owner, tag, sequence, script] => {
+            bind(alloc, bindings, number(owner)?, tag, sequence, script)
+        }
+        ["unbind", owner, tag, sequence] => unbind(alloc, bindings, number(owner)?, tag, sequence),
+        ["unbindall", owner, tag] => {
+            bindings.unbind_all(number(owner)?, tag);
+            result_of(alloc, "")
+        }
+        ["script", owner, tag, sequence] => script(alloc, bindings, number(owner)?, tag, sequence),
+        ["sequences", owner, tag] => sequences(alloc, bindings, number(owner)?, tag),
+        _ => bail!("no such question"),
+    }
 }
 
 impl State {
-    fn bind(&mut self, owner: &str, tag: &str, sequence: &str, script: &str) -> Result<String> {
-        let bound = self.bindings.bind(
-            number(owner)?,
-            text_of(self.alloc, tag)?,
-            sequence_of(self.alloc, sequence)?,
-            text_of(self.alloc, script)?,
-        );
-        match bound {
-            Ok(()) => result_of(self.alloc, ""),
-            Err(BindFault::Full) => result_of(self.alloc, "31"),
-            Err(BindFault::NoMemory) => result_of(self.alloc, "out of memory"),
-        }
-    }
-
-    fn unbind(&mut self, owner: &str, tag: &str, sequence: &str) -> Result<String> {
-        let sequence = sequence_of(self.alloc, sequence)?;
-        self.bindings.unbind(number(owner)?, tag, &sequence);
-        result_of(self.alloc, "")
-    }
-
-    fn unbind_all(&mut self, owner: &str, tag: &str) -> Result<String> {
-        self.bindings.unbind_all(number(owner)?, tag);
-        result_of(self.alloc, "")
-    }
-
-    fn script(&self, owner: &str, tag: &str, sequence: &str) -> Result<String> {
-        let sequence = sequence_of(self.alloc, sequence)?;
-        match self.bindings.script(number(owner)?, tag, &sequence) {
-            Some(script) => result_of(self.alloc, script.as_str()),
-            None => result_of(self.alloc, "-"),
-        }
-    }
-
-    fn sequences(&self, owner: &str, tag: &str) -> Result<String> {
-        let mut list = String::from_str(self.alloc, "=")?;
-        for sequence in self.bindings.sequences(number(owner)?, tag)?.as_slice() {
-            list.push_str(sequence.canonical(self.alloc)?.as_str())?;
-        }
-        Ok(list)
-    }
-
-    fn add_virtual(&mut self, name: &str, sequence: &str) -> Result<String> {
-        let pair = (
-            name_of(self.alloc, name)?,
-            sequence_of(self.alloc, sequence)?,
-        );
+    fn add_virtual(&mut self, alloc: Global, name: &str, sequence: &str) -> Result<String> {
+        let pair = (name_of(alloc, name)?, sequence_of(alloc, sequence)?);
         self.virtuals.push(pair)?;
-        result_of(self.alloc, "")
+        result_of(alloc, "")
     }
 
-    fn push(&mut self, event: &[&str]) -> Result<String> {
-        self.history.push(event_of(self.alloc, event)?);
-        result_of(self.alloc, "")
-    }
-
-    fn matches(&self, sequence: &str, event: &[&str]) -> Result<String> {
-        let sequence = sequence_of(self.alloc, sequence)?;
-        let event = event_of(self.alloc, event)?;
-        if self.history.matches(&sequence, &event) {
-            result_of(self.alloc, "1")
-        } else {
-            result_of(self.alloc, "0")
-        }
-    }
-
-    fn winner(&self, owner: &str, tag: &str, event: &[&str]) -> Result<String> {
-        let event = event_of(self.alloc, event)?;
-        let owner = number(owner)?;
+    fn winner(&self, alloc: Global, owner: usize, tag: &str, event: &[&str]) -> Result<String> {
+        let event = event_of(alloc, event)?;
         let virtuals = self.virtuals.as_slice();
-        match self
+        let winner = self
             .bindings
-            .winner(owner, tag, &event, &self.history, virtuals)?
-        {
-            Some(script) => result_of(self.alloc, script.as_str()),
-            None => result_of(self.alloc, "-"),
-        }
+            .winner(owner, tag, &event, &self.history, virtuals)?;
+        script_told(alloc, winner)
     }
 }
 
@@ -99,23 +121,20 @@ impl Fixture for State {
             bindings: BindTable::new(alloc),
             history: History::new(alloc)?,
             virtuals: Vec::new(alloc),
-            alloc,
         })
     }
 
     fn answer(&mut self, alloc: Global, question: &str) -> Result<String> {
         let words = words_of(alloc, question, ' ')?;
         match words.as_slice() {
-            ["bind", owner, tag, sequence, script] => self.bind(owner, tag, sequence, script),
-            ["unbind", owner, tag, sequence] => self.unbind(owner, tag, sequence),
-            ["unbindall", owner, tag] => self.unbind_all(owner, tag),
-            ["script", owner, tag, sequence] => self.script(owner, tag, sequence),
-            ["sequences", owner, tag] => self.sequences(owner, tag),
-            ["virtual", name, sequence] => self.add_virtual(name, sequence),
-            ["push", event @ ..] => self.push(event),
-            ["matches", sequence, event @ ..] => self.matches(sequence, event),
-            ["winner", owner, tag, event @ ..] => self.winner(owner, tag, event),
-            _ => bail!("no such question"),
+            ["virtual", name, sequence] => self.add_virtual(alloc, name, sequence),
+            ["push", event @ ..] => {
+                self.history.push(event_of(alloc, event)?);
+                result_of(alloc, "")
+            }
+            ["matches", sequence, event @ ..] => matched(alloc, &self.history, sequence, event),
+            ["winner", owner, tag, event @ ..] => self.winner(alloc, number(owner)?, tag, event),
+            words => binding_answer(alloc, &mut self.bindings, words),
         }
     }
 }

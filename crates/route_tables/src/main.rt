@@ -6,13 +6,16 @@
 //! fault.
 #![tactic(auto)]
 
-use anyhow::{Context, Result, bail};
+use anyhow::{Result, bail};
 use std::alloc::Global;
 use tables::{Fixture, ask_tables, number, result_of, words_of};
 use tk_route::{Delivery, HostLine, Keysym, LocalKind, Rect, Routed, Router};
 
 fn key_of(word: &str) -> Result<Keysym> {
-    Keysym::named(word).context("a word that is no key")
+    match Keysym::named(word) {
+        Some(key) => Ok(key),
+        None => bail!("a word that is no key"),
+    }
 }
 
 fn rect_of(x: &str, y: &str, width: &str, height: &str) -> Result<Rect> {

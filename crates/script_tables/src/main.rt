@@ -10,11 +10,10 @@
 mod shown;
 
 use crate::shown::{commands_told, fronts_told};
-use anyhow::{Context, Result, bail};
+use anyhow::{Result, bail};
 use std::alloc::Global;
 use std::rt::Files;
-use std::{env, fs};
-use tables::{Fixture, ask_tables, first_word, number};
+use tables::{Fixture, arguments, ask_tables, first_word, number, text_in};
 use tcl_words::parse;
 
 /// What reads scripts.
@@ -38,7 +37,7 @@ impl Fixture for Scripts {
 /// Reads a script so many times.
 fn repeat(rt: &(impl Files + Print + AllocGlobal), count: &str, path: &str) -> Result<()> {
     let count: u32 = number(count)?;
-    let source = fs::read_to_string(rt, path).context(format_args!("script {path}"))?;
+    let source = text_in(rt, path)?;
     let mut commands = 0usize;
     for _ in 0..count {
         commands = parse(rt.alloc(), source.as_bytes())?.commands().len();
@@ -48,8 +47,7 @@ fn repeat(rt: &(impl Files + Print + AllocGlobal), count: &str, path: &str) -> R
 }
 
 fn main(rt: HostRuntime) -> Result<()> {
-    let words: Vec<String> = env::args(&rt)?.skip(1).collect(rt.alloc())?;
-    match words.as_slice() {
+    match arguments(&rt)?.as_slice() {
         [mode, count, path] if mode.as_str() == "repeat" => {
             repeat(&rt, count.as_str(), path.as_str())
         }

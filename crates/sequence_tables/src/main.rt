@@ -4,7 +4,7 @@
 //! `!NUMBER MESSAGE`, the fault.
 #![tactic(auto)]
 
-use anyhow::{Context, Result, bail};
+use anyhow::{Result, bail};
 use std::alloc::Global;
 use tables::{Fixture, ask_tables, result_of};
 use tcl_text::{Text, TextFault};
@@ -21,7 +21,9 @@ fn text_of(alloc: Global, characters: &str) -> Result<Text> {
 
 /// A fault with its number and its message.
 fn fault_told(alloc: Global, fault: &SequenceFault) -> Result<String> {
-    let number = fault.number().context("out of memory")?;
+    let Some(number) = fault.number() else {
+        bail!("out of memory");
+    };
     let message = fault.message(alloc)?;
     Ok(format!(in alloc; "!{number} {}", message.as_str())?)
 }

@@ -5,7 +5,7 @@
 //! answered `=` where it is a session, or `!NUMBER:LINE` of the fault.
 #![tactic(auto)]
 
-use anyhow::{Context, Result, bail};
+use anyhow::{Result, bail};
 use std::alloc::Global;
 use tables::{Fixture, ask_tables, number, result_of, words_of};
 use tk_session::{
@@ -169,8 +169,10 @@ impl Fixture for Given {
             ["says"] => said(alloc, self.bytes.as_slice()),
             ["cut", end] => {
                 let end: usize = number(end)?;
-                let front = self.bytes.get(..end).context("a cut past the end")?;
-                verdict(alloc, front)
+                match self.bytes.get(..end) {
+                    Some(front) => verdict(alloc, front),
+                    None => bail!("a cut past the end"),
+                }
             }
             ["byte", byte, place] => { changed_verdict(alloc, self.bytes.as_slice(), byte, place) }
             _ => bail!("no such question"),

@@ -91,13 +91,23 @@ pub fn ask_table<F: Fixture, R: Print + AllocGlobal>(
     Ok(wrong == 0)
 }
 
+/// The program's arguments.
+pub fn arguments<R: Env + AllocGlobal>(rt: &R) -> Result<Vec<String>> {
+    Ok(env::args(rt)?.skip(1).collect(rt.alloc())?)
+}
+
+/// The text of a file.
+pub fn text_in<R: Files + AllocGlobal>(rt: &R, path: &str) -> Result<String> {
+    fs::read_to_string(rt, path).context(format_args!("file {path}"))
+}
+
 /// Asks the tables that the program's arguments name: of each it prints what the fixture answers otherwise, and a line that counts. It fails
 /// where an answer differs.
 pub fn ask_tables<F: Fixture, R: Env + Files + Print + AllocGlobal>(rt: &R) -> Result<()> {
     let mut differs = false;
-    for name in env::args(rt)?.skip(1) {
+    for name in arguments(rt)?.as_slice() {
         let path = format!(in rt.alloc(); "{name}.table")?;
-        let table = fs::read_to_string(rt, path).context(format_args!("table {name}"))?;
+        let table = text_in(rt, path.as_str())?;
         let agrees = ask_table::<F, R>(rt, name.as_str(), table.as_str()).context(format_args!(
             "table {name}"
         ))?;

@@ -21,5 +21,5 @@ mod tests;
 mod words;
 
 pub use answers::{error_of, result_of};
-pub use asking::{Fixture, ask_tables};
+pub use asking::{Fixture, arguments, ask_tables, text_in};
 pub use words::{first_word, number, repeated, words_of};

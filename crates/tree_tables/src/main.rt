@@ -3,7 +3,7 @@
 //!
 //! There are questions of windows (`trees.rt`), of packings (`packings.rt`) and of layouts (`layouts.rt`), each answered `=` and what it tells.
 //!
-//! With `bench` as its first argument it tells how long it takes to make, pack, lay out and destroy windows, by how many there are.
+//! With `bench` as its argument it tells how long it takes to make, pack, lay out and destroy windows, by how many there are.
 #![tactic(auto)]
 
 mod bench;
@@ -16,8 +16,7 @@ use anyhow::Result;
 use layouts::Layouts;
 use packings::Packings;
 use std::alloc::Global;
-use std::env;
-use tables::{Fixture, ask_tables, first_word, result_of, words_of};
+use tables::{Fixture, arguments, ask_tables, first_word, result_of, words_of};
 use trees::Trees;
 
 /// What the questions are put to.
@@ -54,8 +53,8 @@ impl Fixture for Screen {
 }
 
 fn main(rt: HostRuntime) -> Result<()> {
-    match env::args(&rt)?.nth(1) {
-        Some(word) if word.as_str() == "bench" => bench::run(&rt),
+    match arguments(&rt)?.as_slice() {
+        [word] if word.as_str() == "bench" => bench::run(&rt),
         _ => ask_tables::<Screen, _>(&rt),
     }
 }

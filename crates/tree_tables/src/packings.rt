@@ -4,7 +4,7 @@
 //! then taken out.
 
 use crate::requests::{anchor_of, fill_of, pads_of, side_of};
-use anyhow::{Context, Result, bail};
+use anyhow::{Result, bail};
 use std::alloc::Global;
 use tables::number;
 use tk_base::{Rect, Win};
@@ -113,7 +113,10 @@ impl Packings {
     fn requests(&self, alloc: Global) -> Result<Vec<Request>> {
         let mut requests = Vec::new(alloc);
         for win in self.packs.slaves(alloc, MASTER)? {
-            requests.push(self.packs.request(win).context("a slave with no request")?)?;
+            let Some(request) = self.packs.request(win) else {
+                bail!("a slave with no request");
+            };
+            requests.push(request)?;
         }
         Ok(requests)
     }

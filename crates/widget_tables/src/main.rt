@@ -14,6 +14,8 @@
 #![tactic(auto)]
 
 mod asking;
+mod keys;
+mod variables;
 mod words;
 
 use anyhow::Result;

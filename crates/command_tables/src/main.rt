@@ -12,7 +12,7 @@ use tcl_text::{Text, TextList};
 use tcl_vars::Scopes;
 
 /// A command's result, or its error; none where no command has the name.
-type Answer = Option<std::result::Result<Text, Text>>;
+type Answer = Option<Result<Text, Text>>;
 
 /// The global frame, and those of two procedures.
 #[derive(Drop)]

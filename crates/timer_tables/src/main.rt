@@ -141,8 +141,13 @@ impl Fixture for Kept {
         let (moment, rest) = first_word(question);
         let (owner, call) = first_word(rest);
         let words = words_of(alloc, call, '|')?;
-        let (moment, owner) = (number(moment)?, number(owner)?);
-        answer_of(alloc, &mut self.timers, owner, moment, words.as_slice())
+        answer_of(
+            alloc,
+            &mut self.timers,
+            number(owner)?,
+            number(moment)?,
+            words.as_slice(),
+        )
     }
 }
 

@@ -42,7 +42,7 @@ fn shape_in(words: &[&str]) -> Result<Shape> {
     let [window, width, height, border, propagates] = words else {
         bail!("a window that lacks a word");
     };
-    let size = (number(width)?, number(height)?);
+    let size: (u32, u32) = (number(width)?, number(height)?);
     Ok(new_shape(number(window)?, size, number(border)?, *propagates == "1"))
 }
 

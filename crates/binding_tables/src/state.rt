@@ -111,7 +111,7 @@ impl State {
         let winner = self
             .bindings
             .winner(owner, tag, &event, &self.history, virtuals)?;
-        script_told(alloc, winner)
+        script_told(alloc, winner.as_ref())
     }
 }
 

@@ -23,7 +23,8 @@ no_winner pairs tag event history = no_winner_by event.kind pairs tag event hist
 
 module _ (event : Event) (history : List Event) (script : List ℕ) where
   -- only those of its name give candidates
-  pub through_named : (name : List ℕ) (pairs : List Pair) → through event history name script (meanings_of pairs) ≡ of_pairs event history script (filter (has_name name) pairs)
+  pub through_named : (name : List ℕ) (pairs : List Pair)
+      → through event history name script (meanings_of pairs) ≡ of_pairs event history script (filter (has_name name) pairs)
   through_named name [] = refl
   through_named name (pair ∷ pairs) = by (has_name name pair) (through_named name pairs)
     where

@@ -57,7 +57,8 @@ parts_cut event text place run behind found front rest =
     let before : (k : ℕ) → k < length (take place text) → get_or (take place text) k 0 ≢ 37 = λ k lt.
     let below : k < place = omega (arith, length-take place text, lt) in
     rw (get_or-take place text k 0 below) (another (get_or text k 0) (found.0.before k (omega arith) below)) in
-    let cut : drop place text ≡ 37 ∷ drop (place + 1) text = drop_more text place 0 found.0.high ∙ ap (λ (byte : ℕ). byte ∷ drop (place + 1) text) (found_here text place found) in
+    let cut : drop place text ≡ 37 ∷ drop (place + 1) text =
+    drop_more text place 0 found.0.high ∙ ap (λ (byte : ℕ). byte ∷ drop (place + 1) text) (found_here text place found) in
     rw (front, rest)
     (ap (substituted_from event false) (sym (take-append-drop place text) ∙ ap (λ (bytes : List ℕ). take place text ++ bytes) cut) ∙ run_first event (take place text) (drop (place + 1) text) before)
 
@@ -78,7 +79,8 @@ step event old now new script rest run behind left so_far is pushed put =
 
 -- with a run it would be too long
 pub run_long : (event : Event) (old script rest run behind : List ℕ) → old ++ substituted_from event false rest ≡ substituted_from event false script
-    → substituted_from event false rest ≡ run ++ substituted_from event true behind → 65536 < length (old ++ run) → 65536 < length (substituted_from event false script)
+    → substituted_from event false rest ≡ run ++ substituted_from event true behind → 65536 < length (old ++ run)
+    → 65536 < length (substituted_from event false script)
 run_long event old script rest run behind so_far is long =
     let whole : (old ++ run) ++ substituted_from event true behind ≡ substituted_from event false script =
     append_assoc old run (substituted_from event true behind) ∙ ap (λ (text : List ℕ). old ++ text) (sym is) ∙ so_far in

@@ -42,7 +42,8 @@ kept_none : (p q : Pair → Bool) → ((pair : Pair) → q pair ≡ true → p p
 kept_none p q fails [] = refl
 kept_none p q fails (pair ∷ pairs) = by (p pair) (q pair) refl refl (fails pair) (kept_none p q fails pairs)
   where
-    by : (a b : Bool) → p pair ≡ a → q pair ≡ b → (q pair ≡ true → p pair ≡ false) → filter q (filter p pairs) ≡ [] → filter q (cond a (pair ∷ filter p pairs) (filter p pairs)) ≡ []
+    by : (a b : Bool) → p pair ≡ a → q pair ≡ b → (q pair ≡ true → p pair ≡ false) → filter q (filter p pairs) ≡ []
+        → filter q (cond a (pair ∷ filter p pairs) (filter p pairs)) ≡ []
     by true true first second h rest = absurd (true≢false (sym first ∙ h second))
     by true false first second h rest = ap (λ t. cond t (pair ∷ filter q (filter p pairs)) (filter q (filter p pairs))) second ∙ rest
     by false b first second h rest = rest
@@ -63,29 +64,36 @@ differs x y apart = by (bytes_eq x y) refl
 -- ---- what a map lists after the list of one name was changed
 
 module _ {Y Z S : Type 0} (name : List ℕ) (m n : HashMap (String Y) (Vec Pair Z) S) where
-  changed : (w : Option (Vec Pair Z)) → UpdatesBy string_eq (λ k. bytes_eq name (string_bytes k)) m n w → (other : List ℕ) → listed other n ≡ option_map_or (λ pairs. pairs.items) (cond (bytes_eq name other) w (get_by_text m other)) []
+  changed : (w : Option (Vec Pair Z)) → UpdatesBy string_eq (λ k. bytes_eq name (string_bytes k)) m n w → (other : List ℕ)
+      → listed other n ≡ option_map_or (λ pairs. pairs.items) (cond (bytes_eq name other) w (get_by_text m other)) []
   changed w updates other = ap (λ found. option_map_or (λ (pairs : Vec Pair Z). pairs.items) found []) (hash_map_updates_text name m n w updates other)
 
   -- that of another name stays
-  pub listed_other : (w : Option (Vec Pair Z)) → UpdatesBy string_eq (λ k. bytes_eq name (string_bytes k)) m n w → (other : List ℕ) → other ≢ name → listed other n ≡ listed other m
+  pub listed_other : (w : Option (Vec Pair Z)) → UpdatesBy string_eq (λ k. bytes_eq name (string_bytes k)) m n w → (other : List ℕ) → other ≢ name
+      → listed other n ≡ listed other m
   listed_other w updates other apart =
       changed w updates other
       ∙ ap (λ t. option_map_or (λ (pairs : Vec Pair Z). pairs.items) (cond t w (get_by_text m other)) []) (differs name other (λ is. apart (sym is)))
 
   -- a list that is as it was
-  pub listed_same : (w : Vec Pair Z) → UpdatesBy string_eq (λ k. bytes_eq name (string_bytes k)) m n (Some w) → w.items ≡ listed name m → (other : List ℕ) → listed other n ≡ listed other m
+  pub listed_same : (w : Vec Pair Z) → UpdatesBy string_eq (λ k. bytes_eq name (string_bytes k)) m n (Some w) → w.items ≡ listed name m → (other : List ℕ)
+      → listed other n ≡ listed other m
   listed_same w updates is other = changed (Some w) updates other ∙ by (bytes_eq name other) refl
     where
-      by : (t : Bool) → bytes_eq name other ≡ t → option_map_or (λ (pairs : Vec Pair Z). pairs.items) (cond t (Some w) (get_by_text m other)) [] ≡ listed other m
+      by : (t : Bool) → bytes_eq name other ≡ t
+          → option_map_or (λ (pairs : Vec Pair Z). pairs.items) (cond t (Some w) (get_by_text m other)) [] ≡ listed other m
       by true same = is ∙ ap (λ name. listed name m) ((bytes_eq-Decides name other).0 same)
       by false same = refl
 
   -- a pair is the last of its name
-  pub listed_more : (pair : Pair) (w : Vec Pair Z) → UpdatesBy string_eq (λ k. bytes_eq name (string_bytes k)) m n (Some w) → w.items ≡ listed name m ++ pair ∷ [] → name ≡ pair.name
+  pub listed_more : (pair : Pair) (w : Vec Pair Z) → UpdatesBy string_eq (λ k. bytes_eq name (string_bytes k)) m n (Some w)
+      → w.items ≡ listed name m ++ pair ∷ [] → name ≡ pair.name
       → (other : List ℕ) → listed other n ≡ listed other m ++ filter (has_name other) (pair ∷ [])
-  listed_more pair w updates is of other = changed (Some w) updates other ∙ by (bytes_eq name other) refl ∙ ap (λ name. listed other m ++ cond (bytes_eq name other) (pair ∷ []) []) of
+  listed_more pair w updates is of other =
+      changed (Some w) updates other ∙ by (bytes_eq name other) refl ∙ ap (λ name. listed other m ++ cond (bytes_eq name other) (pair ∷ []) []) of
     where
-      by : (t : Bool) → bytes_eq name other ≡ t → option_map_or (λ (pairs : Vec Pair Z). pairs.items) (cond t (Some w) (get_by_text m other)) [] ≡ listed other m ++ cond (bytes_eq name other) (pair ∷ []) []
+      by : (t : Bool) → bytes_eq name other ≡ t
+          → option_map_or (λ (pairs : Vec Pair Z). pairs.items) (cond t (Some w) (get_by_text m other)) [] ≡ listed other m ++ cond (bytes_eq name other) (pair ∷ []) []
       by true same =
           is ∙ ap (λ name. listed name m ++ pair ∷ []) ((bytes_eq-Decides name other).0 same) ∙ sym (ap (λ t. listed other m ++ cond t (pair ∷ []) []) same)
       by false same = sym (append-nil (listed other m)) ∙ sym (ap (λ t. listed other m ++ cond t (pair ∷ []) []) same)
@@ -99,7 +107,8 @@ whatever (Err refused) holds = holds
 
 module _ (pairs : List Pair) (old new : List ℕ → List Pair) (was : (name : List ℕ) → old name ≡ filter (has_name name) pairs) where
   -- a pair is taken out of those of its name
-  pub listed_without : (wanted : Pair) → new wanted.name ≡ without_pair wanted (old wanted.name) → ((other : List ℕ) → other ≢ wanted.name → new other ≡ old other)
+  pub listed_without : (wanted : Pair) → new wanted.name ≡ without_pair wanted (old wanted.name)
+      → ((other : List ℕ) → other ≢ wanted.name → new other ≡ old other)
       → (name : List ℕ) → new name ≡ filter (has_name name) (without_pair wanted pairs)
   listed_without wanted own others name = by (bytes_eq name wanted.name) refl
     where
@@ -114,10 +123,12 @@ module _ (pairs : List Pair) (old new : List ℕ → List Pair) (was : (name : L
       by true same = subst (λ n. new n ≡ filter (has_name n) (without_pair wanted pairs)) (sym ((bytes_eq-Decides name wanted.name).0 same)) mine
       by false apart =
           others name (λ is. true≢false (sym ((bytes_eq-Decides name wanted.name).1 is) ∙ apart)) ∙ was name
-          ∙ sym (kept_all (λ pair. not (is_same wanted pair)) (has_name name) (λ pair has. another pair (is_same wanted pair) refl (of_name name pair has) apart) pairs)
+          ∙ sym
+          (kept_all (λ pair. not (is_same wanted pair)) (has_name name) (λ pair has. another pair (is_same wanted pair) refl (of_name name pair has) apart) pairs)
 
   -- all pairs of a name are taken out
-  pub listed_without_name : (gone : List ℕ) → new gone ≡ [] → ((other : List ℕ) → other ≢ gone → new other ≡ old other) → (name : List ℕ) → new name ≡ filter (has_name name) (without_name gone pairs)
+  pub listed_without_name : (gone : List ℕ) → new gone ≡ [] → ((other : List ℕ) → other ≢ gone → new other ≡ old other) → (name : List ℕ)
+      → new name ≡ filter (has_name name) (without_name gone pairs)
   listed_without_name gone own others name = by (bytes_eq name gone) refl
     where
       by : (t : Bool) → bytes_eq name gone ≡ t → new name ≡ filter (has_name name) (without_name gone pairs)
@@ -126,4 +137,5 @@ module _ (pairs : List Pair) (old new : List ℕ → List Pair) (was : (name : L
           (own ∙ sym (kept_none (λ pair. not (has_name gone pair)) (has_name gone) (λ pair has. ap not has) pairs))
       by false apart =
           others name (λ is. true≢false (sym ((bytes_eq-Decides name gone).1 is) ∙ apart)) ∙ was name
-          ∙ sym (kept_all (λ pair. not (has_name gone pair)) (has_name name) (λ pair has. ap not (ap (λ n. bytes_eq n gone) (of_name name pair has) ∙ apart)) pairs)
+          ∙ sym
+          (kept_all (λ pair. not (has_name gone pair)) (has_name name) (λ pair has. ap not (ap (λ n. bytes_eq n gone) (of_name name pair has) ∙ apart)) pairs)

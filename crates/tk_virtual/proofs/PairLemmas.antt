@@ -25,7 +25,8 @@ untouched test (pair ∷ pairs) none = by (test pair) none (untouched test pairs
     by false none rest = ap (λ (l : List Pair). pair ∷ l) (rest none)
 
 -- where no other passes, the first that does is all that does
-pub removed : (test : Pair → Bool) (pairs : List Pair) → list_any test (remove_key test pairs) ≡ false → remove_key test pairs ≡ filter (λ pair. not (test pair)) pairs
+pub removed : (test : Pair → Bool) (pairs : List Pair) → list_any test (remove_key test pairs) ≡ false
+    → remove_key test pairs ≡ filter (λ pair. not (test pair)) pairs
 removed test [] none = refl
 removed test (pair ∷ pairs) none = by (test pair) refl none (removed test pairs)
   where
@@ -51,7 +52,8 @@ but_last pair old new is =
     sym (ap (λ n. take n old) count ∙ ap (take (length new)) is ∙ take-append_seam new (pair ∷ []))
 
 -- the last is taken out again
-pub popped : (pair : Pair) (old whole new : List Pair) (last : Option Pair) → whole ≡ old ++ pair ∷ [] → whole ≡ new ++ option_to_list last → IsSome last → new ≡ old
+pub popped : (pair : Pair) (old whole new : List Pair) (last : Option Pair) → whole ≡ old ++ pair ∷ [] → whole ≡ new ++ option_to_list last → IsSome last
+    → new ≡ old
 popped pair old whole new None is cut some = absurd (cc)
 popped pair old whole new (Some other) is cut some = but_last other whole new cut ∙ sym (but_last pair whole old is)
 
@@ -63,7 +65,8 @@ none_last (pair ∷ old) new is none = absurd (none (omega arith))
 -- ---- one more pair
 
 -- a pair that isn't there is added as the last
-pub added_last : (pair copied : Pair) (pairs new : List Pair) → new ≡ insert_key is_same pairs copied → copied ≡ pair → list_any (is_same pair) pairs ≡ false → new ≡ pairs ++ pair ∷ []
+pub added_last : (pair copied : Pair) (pairs new : List Pair) → new ≡ insert_key is_same pairs copied → copied ≡ pair → list_any (is_same pair) pairs ≡ false
+    → new ≡ pairs ++ pair ∷ []
 added_last pair copied pairs new is copy absent =
     is ∙ ap (insert_key is_same pairs) copy ∙ ap (λ (t : Bool). cond t pairs (pairs ++ pair ∷ [])) absent
 

@@ -8,7 +8,8 @@ use Rattle.tk_virtual.specs.declared.pair.Pair.{Pair}
 pub same_parts : (wanted pair : Pair) → is_same wanted pair ≡ true → (pair.name ≡ wanted.name) × (pair.written ≡ wanted.written)
 same_parts wanted pair same = by (bytes_eq pair.name wanted.name) (bytes_eq pair.written wanted.written) refl refl same
   where
-    by : (a b : Bool) → bytes_eq pair.name wanted.name ≡ a → bytes_eq pair.written wanted.written ≡ b → (a && b) ≡ true → (pair.name ≡ wanted.name) × (pair.written ≡ wanted.written)
+    by : (a b : Bool) → bytes_eq pair.name wanted.name ≡ a → bytes_eq pair.written wanted.written ≡ b → (a && b) ≡ true
+        → (pair.name ≡ wanted.name) × (pair.written ≡ wanted.written)
     by true true name written both = ((bytes_eq-Decides pair.name wanted.name).0 name, (bytes_eq-Decides pair.written wanted.written).0 written)
     by true false name written both = absurd (cc)
     by false b name written both = absurd (cc)

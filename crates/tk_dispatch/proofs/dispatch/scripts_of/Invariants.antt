@@ -11,4 +11,5 @@ invariant-loop-tag l =
     before l.scripts (all_of (filter_map
     (script_of (windows_of.own_of l.choice.owner l.choice.windows.now) (meanings_of l.choice.virtuals.now) (bindings_of.own_of l.choice.owner l.choice.bindings.now) l.choice.history.now l.choice.event.now)
     (drop l.tag-index l.tags)))
-    ≡ scripts_of (windows_of.own_of l.choice.owner l.choice.windows.now) (meanings_of l.choice.virtuals.now) (bindings_of.own_of l.choice.owner l.choice.bindings.now) l.choice.history.now l.choice.event.now l.tags
+    ≡ scripts_of (windows_of.own_of l.choice.owner l.choice.windows.now) (meanings_of l.choice.virtuals.now)
+    (bindings_of.own_of l.choice.owner l.choice.bindings.now) l.choice.history.now l.choice.event.now l.tags

@@ -6,4 +6,5 @@ use Rattle.tk_patterns.proofs.winning.after_named.Given as goal
 
 abbrev pub invariant-loop-pair : goal.invariant-loop-pair
 invariant-loop-pair l =
-    held_at_last (option_map shown l.holder) (of_pairs l.event l.history l.script (drop l.pair-index l.pairs)) ≡ held_at_last (option_map shown l.initial.holder) (of_pairs l.event l.history l.script l.pairs)
+    held_at_last (option_map shown l.holder) (of_pairs l.event l.history l.script (drop l.pair-index l.pairs)) ≡ held_at_last
+    (option_map shown l.initial.holder) (of_pairs l.event l.history l.script l.pairs)

@@ -16,7 +16,9 @@ loop-stamp-init c = record {
 
 pub loop-stamp-preserved : goal.loop-stamp-preserved
 loop-stamp-preserved c =
-    let it = next c.args.event.now c.args.history.now (meanings_of c.args.virtuals.now) c.args.tag.now c.args.kind c.args.bindings.now c.args.filed.now c.requires.kind c.stamps_of_any-any.ensures.rising c.requires.filed _ _ _ _ _ c.in-Some.stamp c.loop-stamp.invariant (sym c.in-Some.ensures) in
+    let it =
+    next c.args.event.now c.args.history.now
+    (meanings_of c.args.virtuals.now) c.args.tag.now c.args.kind c.args.bindings.now c.args.filed.now c.requires.kind c.stamps_of_any-any.ensures.rising c.requires.filed _ _ _ _ _ c.in-Some.stamp c.loop-stamp.invariant (sym c.in-Some.ensures) in
     let is : Some c.in-Some-binding_at.binding.now ≡ Some it.binding = c.in-Some-binding_at.ensures it.place it.there ∙ it.is in
     let same : c.in-Some-binding_at.binding.now ≡ it.binding = cc in
     rw (c.past-by_key.ensures, c.past-by_button.ensures, c.past-any.ensures, c.past-named.ensures, c.after_tagged-holder.ensures, same) it.after
@@ -27,9 +29,12 @@ loop-stamp-smaller c =
 
 pub returns-in_default-binding_at : goal.returns-in_default-binding_at
 returns-in_default-binding_at c =
-    let it = next c.args.event.now c.args.history.now (meanings_of c.args.virtuals.now) c.args.tag.now c.args.kind c.args.bindings.now c.args.filed.now c.requires.kind c.stamps_of_any-any.ensures.rising c.requires.filed _ _ _ _ _ c.in-Some.stamp c.loop-stamp.invariant (sym c.in-Some.ensures) in
+    let it =
+    next c.args.event.now c.args.history.now
+    (meanings_of c.args.virtuals.now) c.args.tag.now c.args.kind c.args.bindings.now c.args.filed.now c.requires.kind c.stamps_of_any-any.ensures.rising c.requires.filed _ _ _ _ _ c.in-Some.stamp c.loop-stamp.invariant (sym c.in-Some.ensures) in
     absurd (let is : None ≡ Some it.binding = c.in_default-binding_at.ensures it.place it.there ∙ it.is in cc)
 
 pub returns : goal.returns
 returns c =
-    all_done c.args.event.now c.args.history.now (meanings_of c.args.virtuals.now) c.args.tag.now c.args.kind c.args.bindings.now c.args.filed.now c.requires.kind c.stamps_of_any-any.ensures.rising c.requires.filed _ _ _ _ _ c.loop-stamp.invariant (sym c.first_of_all.ensures ∙ c.in_default.is)
+    all_done c.args.event.now c.args.history.now
+    (meanings_of c.args.virtuals.now) c.args.tag.now c.args.kind c.args.bindings.now c.args.filed.now c.requires.kind c.stamps_of_any-any.ensures.rising c.requires.filed _ _ _ _ _ c.loop-stamp.invariant (sym c.first_of_all.ensures ∙ c.in_default.is)

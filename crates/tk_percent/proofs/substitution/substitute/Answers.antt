@@ -9,7 +9,8 @@ unfolding substituted
 returns-in_err-push_str-clause-too_long c =
     let p = err_from_is_err_and c.from_residual-in_err-push_str.result c.from_residual-in_err-push_str.ensures.1 in
     let rest = c.loop-run.rest.now in
-    rw (p.1, p.2) (λ differs. run_long c.args.event.now c.loop-run.text c.args.script.now rest c.in-Some.run'.now c.in-Some.behind.now c.loop-run.invariant.same (c.in-Some.ensures.cut c.args.event.now)
+    rw (p.1, p.2)
+    (λ differs. run_long c.args.event.now c.loop-run.text c.args.script.now rest c.in-Some.run'.now c.in-Some.behind.now c.loop-run.invariant.same (c.in-Some.ensures.cut c.args.event.now)
     (c.in_err-push_str.ensures.too_long differs))
 
 pub returns-in_err-taken-clause-too_long : goal.returns-in_err-taken-clause-too_long
@@ -17,7 +18,8 @@ unfolding substituted
 returns-in_err-taken-clause-too_long c =
     let p = err_from_is_err_and c.from_residual-in_err-taken.result c.from_residual-in_err-taken.ensures.1 in
     let rest = c.loop-run.rest.now in
-    rw (p.1, p.2) (λ differs. behind_long c.args.event.now c.loop-run.text c.push_str.new.self c.args.script.now rest c.in-Some.run'.now c.in-Some.behind.now c.loop-run.invariant.same
+    rw (p.1, p.2)
+    (λ differs. behind_long c.args.event.now c.loop-run.text c.push_str.new.self c.args.script.now rest c.in-Some.run'.now c.in-Some.behind.now c.loop-run.invariant.same
     (c.in-Some.ensures.cut c.args.event.now) c.in_ok-push_str.ensures.ok (c.in_err-taken.ensures.too_long differs))
 
 pub loop-run-preserved : goal.loop-run-preserved
@@ -42,4 +44,5 @@ returns-in_err-push_str-2-clause-too_long c =
 pub returns-clause-ok : goal.returns-clause-ok
 unfolding substituted
 returns-clause-ok c =
-    c.in_ok-push_str-2.ensures.ok ∙ ap (λ (text : List ℕ). c.loop-run.text ++ text) (sym (c.in_default.ensures.cut c.args.event.now)) ∙ c.loop-run.invariant.same
+    c.in_ok-push_str-2.ensures.ok ∙ ap (λ (text : List ℕ). c.loop-run.text ++ text) (sym (c.in_default.ensures.cut c.args.event.now))
+    ∙ c.loop-run.invariant.same

@@ -28,5 +28,6 @@ returns-clause-ok c = λ other.
     let same = c.in_ok-name.ensures.ok ∙ c.as_str-2.ensures.name in
     let none = ap (λ found. option_map_or (λ pairs. pairs.items) found []) c.in_default.ensures.value in
     let nothing = none ∙ ap (λ n. listed n c.args.named.now) (c.as_str.ensures.name ∙ sym same) ∙ ap (listed name) (sym c.get_mut.follows.holds-at-none) in
-    listed_more name were c.insert.new.self pair more c.in_ok-insert.ensures.updates (c.in_ok-push-2.ensures.items ∙ ap (λ pairs. pairs ++ pair ∷ []) (c.new-pairs.ensures.items ∙ nothing)) same other
+    listed_more name were c.insert.new.self pair more c.in_ok-insert.ensures.updates
+    (c.in_ok-push-2.ensures.items ∙ ap (λ pairs. pairs ++ pair ∷ []) (c.new-pairs.ensures.items ∙ nothing)) same other
     ∙ ap (λ map. listed other map ++ cond (has_name other pair) (pair ∷ []) []) c.get_mut.follows.holds-at-none

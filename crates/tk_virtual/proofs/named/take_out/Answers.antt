@@ -14,4 +14,5 @@ pub returns-else-is_empty-clause-others : goal.returns-else-is_empty-clause-othe
 returns-else-is_empty-clause-others c = λ other differ.
     let name = c.as_str-name.result.now in
     let left = c.leave_out.new.pairs in
-    listed_other name c.args.named.now (c.get_mut.follows.lender left) _ ((c.get_mut.follows.holds left).3 (search rules)) other (λ is. differ (is ∙ c.as_str-name.ensures.name))
+    listed_other name c.args.named.now (c.get_mut.follows.lender left) _ ((c.get_mut.follows.holds left).3 (search rules)) other
+    (λ is. differ (is ∙ c.as_str-name.ensures.name))

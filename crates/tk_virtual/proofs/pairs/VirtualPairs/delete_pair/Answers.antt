@@ -12,7 +12,8 @@ invariant_of-self c = λ name.
     let wanted = c.args.wanted.now in
     let pairs = c.self.inside.pairs.keys in
     let none = subst (λ (l : List Pair). list_any (is_same wanted) l ≡ false) c.shift_remove.ensures.keys c.shift_remove.ensures.updates.1 in
-    listed_without pairs (λ name. listed name c.self.inside.named) (λ name. listed name c.take_out.new.named) c.self.invariant wanted c.take_out.ensures.own c.take_out.ensures.others name
+    listed_without pairs (λ name. listed name c.self.inside.named)
+    (λ name. listed name c.take_out.new.named) c.self.invariant wanted c.take_out.ensures.own c.take_out.ensures.others name
     ∙ ap (filter (has_name name)) (sym (c.shift_remove.ensures.keys ∙ removed (is_same wanted) pairs none))
 
 pub returns : goal.returns

@@ -10,5 +10,6 @@ invariant_of-self-2 c = λ name.
     let pair = c.in-Some.pair in
     let pairs = c.self.inside.pairs.keys in
     let rest = c.pop.new.self.keys in
-    listed_without pairs (λ name. listed name c.self.inside.named) (λ name. listed name c.take_out.new.named) c.self.invariant pair c.take_out.ensures.own c.take_out.ensures.others name
+    listed_without pairs (λ name. listed name c.self.inside.named)
+    (λ name. listed name c.take_out.new.named) c.self.invariant pair c.take_out.ensures.own c.take_out.ensures.others name
     ∙ ap (filter (has_name name)) (ap (without_pair pair) c.in-Some.ensures.keys ∙ without_last pair rest c.in-Some.ensures.updates.1)

@@ -1,6 +1,7 @@
-//! The words of a table's lines.
-use anyhow::{Context, Result, bail};
+//! The words of questions.
+use anyhow::{Result, bail};
 use std::alloc::Global;
+use tables::number;
 use tcl_text::Text;
 use tk_patterns::{Event, EventKind, EventType, Keysym, Sequence, VirtualName};
 
@@ -21,36 +22,44 @@ pub fn sequence_of(alloc: Global, word: &str) -> Result<Sequence> {
 
 pub fn name_of(alloc: Global, word: &str) -> Result<VirtualName> {
     let text = text_of(alloc, word)?;
-    VirtualName::parse(alloc, &text)?.context("a word that is no virtual event")
+    match VirtualName::parse(alloc, &text)? {
+        Some(name) => Ok(name),
+        None => bail!("a word that is no virtual event"),
+    }
 }
 
-pub fn number_of(word: &str) -> Result<usize> {
-    word.parse().context("a word that is no number")
+fn key_of(word: &str) -> Result<Keysym> {
+    match Keysym::named(word) {
+        Some(key) => Ok(key),
+        None => bail!("a word that is no key"),
+    }
+}
+
+fn type_of(word: &str) -> Result<EventType> {
+    match EventType::named(word) {
+        Some(kind) => Ok(kind),
+        None => bail!("a word that is no type"),
+    }
 }
 
 pub fn event_of(alloc: Global, words: &[&str]) -> Result<Event> {
     match words {
-        [name, window] => Ok(Event::new(
-            EventKind::Virtual(name_of(alloc, name)?),
-            window.parse().context("a word that is no window")?,
-            text_of(alloc, ".")?,
-            0,
-        )),
+        [name, window] => {
+            let kind = EventKind::Virtual(name_of(alloc, name)?);
+            Ok(Event::new(kind, number(window)?, text_of(alloc, ".")?, 0))
+        }
         [kind, window, moment, state, detail, x, y] => {
-            let kind = EventType::named(kind).context("a word that is no type")?;
-            let mut event = Event::new(
-                EventKind::Physical(kind),
-                window.parse().context("a word that is no window")?,
-                text_of(alloc, ".")?,
-                moment.parse().context("a word that is no moment")?,
-            );
-            event.state = Some(state.parse().context("a word that is no state")?);
-            event.root_x = Some(x.parse().context("a word that is no place")?);
-            event.root_y = Some(y.parse().context("a word that is no place")?);
+            let kind = type_of(kind)?;
+            let path = text_of(alloc, ".")?;
+            let moment = number(moment)?;
+            let mut event = Event::new(EventKind::Physical(kind), number(window)?, path, moment);
+            event.state = Some(number(state)?);
+            event.root_x = Some(number(x)?);
+            event.root_y = Some(number(y)?);
             if kind.is_key() {
-                event.key = Some(Keysym::named(detail).context("a word that is no key")?);
+                event.key = Some(key_of(detail)?);
             } else if kind.is_button() {
-                event.button = Some(detail.parse().context("a word that is no button")?);
+                event.button = Some(number(detail)?);
             }
             Ok(event)
         }

@@ -1,12 +1,13 @@
 //! How long it takes to make, pack, lay out and destroy windows, by how many there are.
 
+use crate::layouts::new_shape;
 use crate::trees::remove;
 use anyhow::{Result, bail};
 use std::alloc::Global;
 use std::rt::Clock;
 use std::time::Instant;
 use tcl_text::Text;
-use tk_base::{Kind, Rect, Win};
+use tk_base::{Kind, Win};
 use tk_layout::{Arrangements, Shape, lay_out};
 use tk_packer::{PackTable, Request};
 use tk_tree::Windows;
@@ -62,20 +63,7 @@ fn shapes(alloc: Global, windows: &Windows, owner: usize) -> Result<Vec<Shape>> 
         return Ok(shapes);
     }
     for number in &windows.subtree(main)? {
-        shapes.push(Shape {
-            number: *number,
-            width: 10,
-            height: 10,
-            border: 1,
-            propagates: true,
-            place: Rect {
-                x: 0,
-                y: 0,
-                width: 1,
-                height: 1,
-            },
-            mapped: false,
-        })?;
+        shapes.push(new_shape(*number, (10, 10), 1, true))?;
     }
     Ok(shapes)
 }

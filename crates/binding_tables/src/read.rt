@@ -42,25 +42,38 @@ fn type_of(word: &str) -> Result<EventType> {
     }
 }
 
+fn event_at(alloc: Global, kind: EventKind, window: &str, moment: u64) -> Result<Event> {
+    let window = number(window)?;
+    let path = text_of(alloc, ".")?;
+    Ok(Event::new(kind, window, path, moment))
+}
+
+fn set_place(event: &mut Event, state: &str, x: &str, y: &str) -> Result<()> {
+    event.state = Some(number(state)?);
+    event.root_x = Some(number(x)?);
+    event.root_y = Some(number(y)?);
+    Ok(())
+}
+
+/// Gives an event its key or its button.
+fn set_detail(event: &mut Event, kind: EventType, detail: &str) -> Result<()> {
+    if kind.is_key() {
+        event.key = Some(key_of(detail)?);
+    } else if kind.is_button() {
+        event.button = Some(number(detail)?);
+    }
+    Ok(())
+}
+
 pub fn event_of(alloc: Global, words: &[&str]) -> Result<Event> {
     match words {
-        [name, window] => {
-            let kind = EventKind::Virtual(name_of(alloc, name)?);
-            Ok(Event::new(kind, number(window)?, text_of(alloc, ".")?, 0))
-        }
+        [name, window] => event_at(alloc, EventKind::Virtual(name_of(alloc, name)?), window, 0),
         [kind, window, moment, state, detail, x, y] => {
             let kind = type_of(kind)?;
-            let path = text_of(alloc, ".")?;
             let moment = number(moment)?;
-            let mut event = Event::new(EventKind::Physical(kind), number(window)?, path, moment);
-            event.state = Some(number(state)?);
-            event.root_x = Some(number(x)?);
-            event.root_y = Some(number(y)?);
-            if kind.is_key() {
-                event.key = Some(key_of(detail)?);
-            } else if kind.is_button() {
-                event.button = Some(number(detail)?);
-            }
+            let mut event = event_at(alloc, EventKind::Physical(kind), window, moment)?;
+            set_place(&mut event, state, x, y)?;
+            set_detail(&mut event, kind, detail)?;
             Ok(event)
         }
         _ => bail!("no event"),

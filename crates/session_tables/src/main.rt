@@ -112,15 +112,20 @@ fn event_told(alloc: Global, event: &EventLine) -> Result<String> {
     Ok(format!(in alloc; "{} {}\n", event.moment, line.as_str())?)
 }
 
+fn push_events(told: &mut String, alloc: Global, events: &[EventLine]) -> Result<()> {
+    for event in events {
+        told.push_str(event_told(alloc, event)?.as_str())?;
+    }
+    Ok(())
+}
+
 /// What a session says, a line for each part.
 fn told(alloc: Global, session: &Session) -> Result<String> {
     let mut told = String::from_str(alloc, "=")?;
     for app in session.apps() {
         told.push_str(app_told(alloc, app)?.as_str())?;
     }
-    for event in session.events() {
-        told.push_str(event_told(alloc, event)?.as_str())?;
-    }
+    push_events(&mut told, alloc, session.events())?;
     told.push_str(format!(in alloc; "end {}\n", session.end())?.as_str())?;
     Ok(told)
 }
@@ -129,6 +134,15 @@ fn said(alloc: Global, bytes: &[u8]) -> Result<String> {
     match read_session(alloc, bytes) {
         Ok(session) => told(alloc, &session),
         Err(_) => bail!("no session"),
+    }
+}
+
+/// What the front of bytes is.
+fn cut_verdict(alloc: Global, bytes: &[u8], end: &str) -> Result<String> {
+    let end: usize = number(end)?;
+    match bytes.get(..end) {
+        Some(front) => verdict(alloc, front),
+        None => bail!("a cut past the end"),
     }
 }
 
@@ -167,13 +181,7 @@ impl Fixture for Given {
         let words = words_of(alloc, question, ' ')?;
         match words.as_slice() {
             ["says"] => said(alloc, self.bytes.as_slice()),
-            ["cut", end] => {
-                let end: usize = number(end)?;
-                match self.bytes.get(..end) {
-                    Some(front) => verdict(alloc, front),
-                    None => bail!("a cut past the end"),
-                }
-            }
+            ["cut", end] => cut_verdict(alloc, self.bytes.as_slice(), end),
             ["byte", byte, place] => { changed_verdict(alloc, self.bytes.as_slice(), byte, place) }
             _ => bail!("no such question"),
         }

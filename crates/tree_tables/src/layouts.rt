@@ -91,22 +91,44 @@ impl Layouts {
     /// What a question is answered.
     pub fn answer(&mut self, alloc: Global, words: &[&str]) -> Result<String> {
         match words {
-            ["asks", window] => return self.asks(alloc, number(window)?),
-            ["lay"] => return self.lay(alloc),
+            ["asks", window] => self.asks(alloc, number(window)?),
+            ["lay"] => self.lay(alloc),
             ["begin", width, height] => {
                 *self = Layouts::new(alloc);
                 self.size = (number(width)?, number(height)?);
+                Ok(String::new(alloc))
             }
-            ["window", shape @ ..] => self.set(shape_in(shape)?)?,
+            words => {
+                self.change(words)?;
+                Ok(String::new(alloc))
+            }
+        }
+    }
+
+    /// Changes what windows there are, and what they ask for.
+    fn change(&mut self, words: &[&str]) -> Result<()> {
+        match words {
+            ["window", shape @ ..] => self.set(shape_in(shape)?),
             ["pack", master, slave, place, request @ ..] => {
-                let slave = win(number(slave)?);
-                self.packs.put(number(master)?, slave, number(place)?, request_in(request)?)?;
+                let request = request_in(request)?;
+                self.packs.put(
+                    number(master)?,
+                    win(number(slave)?),
+                    number(place)?,
+                    request,
+                )?;
+                Ok(())
             }
-            ["forget", window] => self.packs.forget(win(number(window)?)),
-            ["gone", window] => self.take_out(number(window)?),
+            ["forget", window] => {
+                self.packs.forget(win(number(window)?));
+                Ok(())
+            }
+            ["gone", window] => {
+                self.take_out(number(window)?);
+                Ok(())
+            }
             _ => bail!("no such question"),
         }
-        Ok(String::new(alloc))
     }
 
     /// Adds a window, or changes what it asks for.

@@ -27,22 +27,27 @@ fn rect_of(x: &str, y: &str, width: &str, height: &str) -> Result<Rect> {
     })
 }
 
+/// A line of one word.
+fn short_line(first: &str, word: &str) -> Result<HostLine> {
+    match first {
+        "press" => Ok(HostLine::Press(number(word)?)),
+        "release" => Ok(HostLine::Release(number(word)?)),
+        "keydown" => Ok(HostLine::Keydown(key_of(word)?)),
+        "keyup" => Ok(HostLine::Keyup(key_of(word)?)),
+        "focus" => focus_of(word),
+        _ => bail!("no such line"),
+    }
+}
+
 /// The line that these words are.
 fn line_of(words: &[&str]) -> Result<HostLine> {
-    let Some((first, words)) = words.split_first() else {
-        bail!("a line with nothing but its moment");
-    };
-    match (*first, words) {
-        ("move", [x, y]) => Ok(HostLine::Move {
+    match words {
+        [first, word] => short_line(first, word),
+        ["move", x, y] => Ok(HostLine::Move {
             x: number(x)?,
             y: number(y)?,
         }),
-        ("press", [button]) => Ok(HostLine::Press(number(button)?)),
-        ("release", [button]) => Ok(HostLine::Release(number(button)?)),
-        ("keydown", [key]) => Ok(HostLine::Keydown(key_of(key)?)),
-        ("keyup", [key]) => Ok(HostLine::Keyup(key_of(key)?)),
-        ("focus", [slot]) => focus_of(slot),
-        ("rect", [slot, x, y, width, height]) => Ok(HostLine::Rect {
+        ["rect", slot, x, y, width, height] => Ok(HostLine::Rect {
             slot: number(slot)?,
             rect: rect_of(x, y, width, height)?,
         }),

@@ -26,39 +26,47 @@ abbrev pub item_or_empty : List (List ℕ) → List ℕ
 item_or_empty [] = []
 item_or_empty (item ∷ _) = item
 
-abbrev pub lindex_words : List (List ℕ) → Answer
-lindex_words (list ∷ []) = answers list
-lindex_words (list ∷ index ∷ []) = do
-  items ← items_in list
+abbrev pub item_at : List ℕ → List (List ℕ) → Answer
+item_at index items = do
   i ← index_in index
   answers (item_or_empty (part i i items))
+
+abbrev pub lindex_words : List (List ℕ) → Answer
+lindex_words (list ∷ []) = answers list
+lindex_words (list ∷ index ∷ []) = items_in list >>= item_at index
 lindex_words _ = wrong_args (codes "lindex list ?index?")
 
-abbrev pub lrange_words : List (List ℕ) → Answer
-lrange_words (list ∷ first ∷ last ∷ []) = do
-  items ← items_in list
+abbrev pub range_of : List ℕ → List ℕ → List (List ℕ) → Answer
+range_of first last items = do
   i ← index_in first
   j ← index_in last
   answers (list_form (part i j items))
+
+abbrev pub lrange_words : List (List ℕ) → Answer
+lrange_words (list ∷ first ∷ last ∷ []) = items_in list >>= range_of first last
 lrange_words _ = wrong_args (codes "lrange list first last")
 
 -- the items with others put in after the first few, in place of those up to a second place
 abbrev pub spliced : {X : Type 0} → List X → ℕ → ℕ → List X → List X
 spliced items from to values = take from items ++ (values ++ drop to items)
 
-abbrev pub linsert_words : List (List ℕ) → Answer
-linsert_words (list ∷ index ∷ values) = do
-  items ← items_in list
+abbrev pub inserted : List ℕ → List (List ℕ) → List (List ℕ) → Answer
+inserted index values items = do
   i ← index_in index
   answers (list_form (spliced items (before_inserted i (length items)) (before_inserted i (length items)) values))
+
+abbrev pub linsert_words : List (List ℕ) → Answer
+linsert_words (list ∷ index ∷ values) = items_in list >>= inserted index values
 linsert_words _ = wrong_args (codes "linsert list index ?value ..?")
 
-abbrev pub lreplace_words : List (List ℕ) → Answer
-lreplace_words (list ∷ first ∷ last ∷ values) = do
-  items ← items_in list
+abbrev pub replaced : List ℕ → List ℕ → List (List ℕ) → List (List ℕ) → Answer
+replaced first last values items = do
   i ← index_in first
   j ← index_in last
   answers (list_form (spliced items (before i (length items)) (max (before i (length items)) (through j (length items))) values))
+
+abbrev pub lreplace_words : List (List ℕ) → Answer
+lreplace_words (list ∷ first ∷ last ∷ values) = items_in list >>= replaced first last values
 lreplace_words _ = wrong_args (codes "lreplace list first last ?value ..?")
 
 -- how lsearch tests an item

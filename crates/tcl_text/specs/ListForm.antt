@@ -30,14 +30,3 @@ form_text Backslashed item = with_backslashes item
 abbrev pub others_form : List (List ℕ) → List ℕ
 others_form [] = []
 others_form (x ∷ xs) = 32 ∷ (element_form x ++ others_form xs)
-
--- the text is the form of items, of which there is one at least
-pub record IsListForm (text : List ℕ) : Type 0 where
-  pub first : List ℕ
-  pub others : List (List ℕ)
-  pub form : text ≡ list_form (first ∷ others)
-
--- the text is what stands behind the form of items where more are added
-pub record IsOthersForm (text : List ℕ) : Type 0 where
-  pub items : List (List ℕ)
-  pub form : text ≡ others_form items

@@ -20,7 +20,18 @@ impl Text {
         ensures refused { IsErr result ↔ ((b : Bool) → ¬ (readings.IsBoolean self.now b)) }
         ensures exact { result_ok result ≡ readings.boolean_of self.now }
     {
-        boolean_in(self.as_str().as_bytes()).ok_or(NotBoolean)
+        boolean_of_text(self).ok_or(NotBoolean)
+    }
+}
+
+/// The boolean that a text is, if any.
+#[tactic(auto, using(crate::proofs::WrittenIntegers::known_integers), unfolding(crate::specs::Readings::boolean_of))]
+fn boolean_of_text(text: &Text) -> Option<bool>
+    ensures { result ≡ readings.boolean_of text.now }
+{
+    match text.number() {
+        Some(number) => Some(number != 0),
+        None => boolean_in(text.as_str().as_bytes()),
     }
 }
 

@@ -15,7 +15,7 @@ pub struct ShortText {
 }
 
 impl ShortText {
-    ghost use Rattle.std.specs.Prelude.{◌≡◌, ◌≤◌, length};
+    ghost use Rattle.std.specs.Prelude.{◌≡◌, ◌+◌, ◌≤◌, ◌++◌, length};
     ghost use Rattle.tcl_text.specs.TextForm.{short_bytes};
 
     /// These characters.
@@ -28,6 +28,22 @@ impl ShortText {
         ShortText {
             bytes,
             length: characters.len() as u8,
+            words: [],
+        }
+    }
+
+    /// These characters, and more behind them.
+    pub fn joined(characters: &str, more: &str) -> ShortText
+        requires { length characters.now + length more.now ≤ 22 }
+        ensures { short_bytes result ≡ characters.now ++ more.now }
+    {
+        let length = characters.len() + more.len();
+        let mut bytes = [0; 22];
+        bytes[..characters.len()].copy_from_slice(characters.as_bytes());
+        bytes[characters.len()..length].copy_from_slice(more.as_bytes());
+        ShortText {
+            bytes,
+            length: length as u8,
             words: [],
         }
     }

@@ -1,0 +1,10 @@
+use Rattle.std.proofs.Common.{◌≡◌, ◌<◌, arith}
+use Rattle.tcl_text.proofs.KeptSteps.{added_long, behind_long}
+use Rattle.tcl_text.proofs.list_string.ListString.push_items.Goals as goal
+
+pub returns-in_err-more-clause-too_long : goal.returns-in_err-more-clause-too_long
+returns-in_err-more-clause-too_long c = let h = c in ?
+
+pub returns-then-width-gt-MAX_STRING-clause-too_long : goal.returns-then-width-gt-MAX_STRING-clause-too_long
+returns-then-width-gt-MAX_STRING-clause-too_long c = λ _.
+    added_long c.args.list.now.value c.as_ref.result.now c.in_ok-more.more c.args.items.now c.as_ref.ensures c.in_ok-more.ensures.ok (omega arith)

@@ -151,10 +151,11 @@ whole_part items part count all is = is ∙ take_all count items (omega arith)
 
 -- ── places are moved ──
 
-pub moved_more : (f : ℕ → ℕ) (ends pushed front others : List ℕ) (i e : ℕ) → i < length others → e ≡ get_or others i e
-    → ends ≡ front ++ map f (take i others) → pushed ≡ ends ++ f e ∷ [] → pushed ≡ front ++ map f (take (i + 1) others)
-moved_more f ends pushed front others i e inside is so_far is_pushed =
-    let cut : take (i + 1) others ≡ take i others ++ e ∷ [] = take_more others i e inside ∙ ap (λ (x : ℕ). take i others ++ x ∷ []) (sym is) in
+pub moved_more : (f : ℕ → ℕ) (ends pushed front others : List ℕ) (i : ℕ) → i < length others → ends ≡ front ++ map f (take i others) → pushed ≡ ends ++ f (get_or others i 0) ∷ []
+    → pushed ≡ front ++ map f (take (i + 1) others)
+moved_more f ends pushed front others i inside so_far is_pushed =
+    let e = get_or others i 0 in
+    let cut : take (i + 1) others ≡ take i others ++ e ∷ [] = take_more others i 0 inside in
     is_pushed ∙ ap (λ (t : List ℕ). t ++ f e ∷ []) so_far ∙ append_assoc front (map f (take i others)) (f e ∷ [])
     ∙ ap (λ (t : List ℕ). front ++ t) (sym (ap (map f) cut ∙ map-append f (take i others) (e ∷ [])))
 

@@ -19,6 +19,7 @@ pub mod SplittingLemmas
 pub mod Utf8Lemmas
 pub mod ElementLemmas
 pub mod ListFormLemmas
+pub mod FaultLemmas
 pub mod PartLemmas
 pub mod KeptLists
 pub mod KeptViews

@@ -15,10 +15,17 @@ use Rattle.tcl_text.specs.Indices.{index_in, before, through, before_inserted, p
 abbrev pub list_words : List (List ℕ) → Answer
 list_words words = answers (list_form words)
 
+-- what is made of the items of the list that a word is
+abbrev pub of_items : {T : Type 0} → (List (List ℕ) → Result T (List ℕ)) → List ℕ → Result T (List ℕ)
+of_items rest list = items_in list >>= rest
+
+abbrev pub count_in : List ℕ → Result ℕ (List ℕ)
+count_in list = of_items (λ items. Ok (length items)) list
+
 abbrev pub llength_words : List (List ℕ) → Answer
 llength_words (list ∷ []) = do
-  items ← items_in list
-  answers (decimal (length items))
+  count ← count_in list
+  answers (decimal count)
 llength_words _ = wrong_args (codes "llength list")
 
 -- the only item, or the empty text where there is none
@@ -33,7 +40,7 @@ item_at index items = do
 
 abbrev pub lindex_words : List (List ℕ) → Answer
 lindex_words (list ∷ []) = answers list
-lindex_words (list ∷ index ∷ []) = items_in list >>= item_at index
+lindex_words (list ∷ index ∷ []) = of_items (item_at index) list
 lindex_words _ = wrong_args (codes "lindex list ?index?")
 
 abbrev pub range_of : List ℕ → List ℕ → List (List ℕ) → Answer
@@ -43,7 +50,7 @@ range_of first last items = do
   answers (list_form (part i j items))
 
 abbrev pub lrange_words : List (List ℕ) → Answer
-lrange_words (list ∷ first ∷ last ∷ []) = items_in list >>= range_of first last
+lrange_words (list ∷ first ∷ last ∷ []) = of_items (range_of first last) list
 lrange_words _ = wrong_args (codes "lrange list first last")
 
 -- the items with others put in after the first few, in place of those up to a second place
@@ -56,7 +63,7 @@ inserted index values items = do
   answers (list_form (spliced items (before_inserted i (length items)) (before_inserted i (length items)) values))
 
 abbrev pub linsert_words : List (List ℕ) → Answer
-linsert_words (list ∷ index ∷ values) = items_in list >>= inserted index values
+linsert_words (list ∷ index ∷ values) = of_items (inserted index values) list
 linsert_words _ = wrong_args (codes "linsert list index ?value ..?")
 
 abbrev pub replaced : List ℕ → List ℕ → List (List ℕ) → List (List ℕ) → Answer
@@ -66,7 +73,7 @@ replaced first last values items = do
   answers (list_form (spliced items (before i (length items)) (max (before i (length items)) (through j (length items))) values))
 
 abbrev pub lreplace_words : List (List ℕ) → Answer
-lreplace_words (list ∷ first ∷ last ∷ values) = items_in list >>= replaced first last values
+lreplace_words (list ∷ first ∷ last ∷ values) = of_items (replaced first last values) list
 lreplace_words _ = wrong_args (codes "lreplace list first last ?value ..?")
 
 -- how lsearch tests an item

@@ -1,4 +1,4 @@
-ghost use Rattle.std.specs.Prelude.{◌≤◌, take, length, IsUtf8};
+ghost use Rattle.std.specs.Prelude.{◌≡◌, ◌+◌, ◌≤◌, ◌++◌, take, length, IsUtf8};
 
 /// How many bytes are kept in place: enough for each integer of 64 bits.
 pub const SHORT_BYTES: usize = 22;
@@ -12,6 +12,15 @@ pub struct ShortText {
     words: [u64; 0],
     ghost fits: { length ≤ 22 },
     ghost utf8: { ∥ IsUtf8 (take length bytes) ∥₁ },
+}
+
+/// Bytes with others in their place from one of them on.
+fn written(mut bytes: [u8; 22], at: usize, others: &[u8]) -> [u8; 22]
+    requires { at + length others.now ≤ 22 }
+    ensures { take (at + length others.now) result ≡ take at bytes ++ others.now }
+{
+    bytes[at..at + others.len()].copy_from_slice(others);
+    bytes
 }
 
 impl ShortText {
@@ -38,9 +47,8 @@ impl ShortText {
         ensures { short_bytes result ≡ characters.now ++ more.now }
     {
         let length = characters.len() + more.len();
-        let mut bytes = [0; 22];
-        bytes[..characters.len()].copy_from_slice(characters.as_bytes());
-        bytes[characters.len()..length].copy_from_slice(more.as_bytes());
+        let front = written([0; 22], 0, characters.as_bytes());
+        let bytes = written(front, characters.len(), more.as_bytes());
         ShortText {
             bytes,
             length: length as u8,

@@ -97,7 +97,8 @@ impl TextForm {
 
     /// The form of this list, which it takes over.
     fn of_list(alloc: Global, list: ListString) -> Result<TextForm, AllocError>
-        ensures { IfOk result (λ form. form_bytes form ≡ list_form list) }
+        ensures form { IfOk result (λ form. form_bytes form ≡ list_form list) }
+        ensures short { length (list_form list) ≤ 65536 }
     {
         let form = list.as_str();
         if form.len() <= SHORT_BYTES {
@@ -241,7 +242,8 @@ impl Text {
 
     /// The text that is the form of a list, which it takes over.
     pub(crate) fn of_list(alloc: Global, list: ListString) -> Result<Text, AllocError>
-        ensures { IfOk result (λ text. text ≡ list_form list) }
+        ensures form { IfOk result (λ text. text ≡ list_form list) }
+        ensures short { length (list_form list) ≤ 65536 }
     {
         Ok(Text {
             form: TextForm::of_list(alloc, list)?,

@@ -1,7 +1,7 @@
 //! The commands of list(n), llength(n), lindex(n), lrange(n), linsert(n), lreplace(n), lsearch(n)
 //! and join(n).
-ghost use Rattle.std.specs.Prelude.{◌≡◌, ◌++◌, ◌≤◌, length, position, Ok, IfOk, OnOk, string_bytes};
-ghost use Rattle.tcl_text.specs.Answers.{Gives, ◌>>=◌, answers, items_in as items_of};
+ghost use Rattle.std.specs.Prelude.{◌≡◌, ◌++◌, ◌≤◌, length, position, IfOk, OnOk, string_bytes};
+ghost use Rattle.tcl_text.specs.Answers.{Gives, answers};
 ghost use Rattle.tcl_text.specs.Indices.{part};
 ghost use Rattle.tcl_text.specs.Readings.{list_form};
 ghost use Rattle.tcl_text.specs.ListCommands as spec;
@@ -40,7 +40,7 @@ pub fn llength_words(alloc: Global, words: &[Text]) -> Result<Text, Refusal>
 /// How many items the list has that a word is.
 #[tactic(auto, using(crate::proofs::AnswerLemmas::known_items))]
 fn item_count(alloc: Global, list: &Text) -> Result<usize, Refusal>
-    ensures { Gives result (items_of list.now >>= λ items. Ok (length items)) }
+    ensures { Gives result (spec.count_in list.now) }
 {
     if let Some(kept) = list.as_list(alloc) {
         return Ok(kept.len());
@@ -64,7 +64,7 @@ pub fn lindex_words(alloc: Global, words: &[Text]) -> Result<Text, Refusal>
 /// The item at an index of the list that a word is.
 #[tactic(auto, using(crate::proofs::AnswerLemmas::known_items))]
 fn item_of_word(alloc: Global, list: &Text, index: &Text) -> Result<Text, Refusal>
-    ensures { Gives result (items_of list.now >>= spec.item_at index.now) }
+    ensures { Gives result (spec.of_items (spec.item_at index.now) list.now) }
 {
     if let Some(kept) = list.as_list(alloc) {
         return item_of_kept(alloc, kept, index);
@@ -127,7 +127,7 @@ pub fn lrange_words(alloc: Global, words: &[Text]) -> Result<Text, Refusal>
 /// The list of the items from one index to another of the list that a word is.
 #[tactic(auto, using(crate::proofs::AnswerLemmas::known_items))]
 fn range_of_word(alloc: Global, list: &Text, first: &Text, last: &Text) -> Result<Text, Refusal>
-    ensures { Gives result (items_of list.now >>= spec.range_of first.now last.now) }
+    ensures { Gives result (spec.of_items (spec.range_of first.now last.now) list.now) }
 {
     if let Some(kept) = list.as_list(alloc) {
         return range_of_kept(alloc, kept, first, last);
@@ -184,7 +184,6 @@ fn range_of_items(
 fn kept_answer(alloc: Global, list: ListString) -> Result<Text, Refusal>
     ensures { Gives result (answers (list_form list)) }
 {
-    let _form = list.as_str();
     Ok(Text::of_list(alloc, list)?)
 }
 
@@ -207,7 +206,7 @@ fn insert_into_word(
     index: &Text,
     values: &[Text],
 ) -> Result<Text, Refusal>
-    ensures { Gives result (items_of list.now >>= spec.inserted index.now values.now) }
+    ensures { Gives result (spec.of_items (spec.inserted index.now values.now) list.now) }
 {
     if let Some(kept) = list.as_list(alloc) {
         return insert_into_kept(alloc, kept, index, values);
@@ -262,7 +261,7 @@ fn replace_in_word(
     last: &Text,
     values: &[Text],
 ) -> Result<Text, Refusal>
-    ensures { Gives result (items_of list.now >>= spec.replaced first.now last.now values.now) }
+    ensures { Gives result (spec.of_items (spec.replaced first.now last.now values.now) list.now) }
 {
     if let Some(kept) = list.as_list(alloc) {
         return replace_in_kept(alloc, kept, first, last, values);

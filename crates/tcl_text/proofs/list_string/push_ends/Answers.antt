@@ -1,4 +1,5 @@
-use Rattle.std.proofs.Common.{◌≡◌, ◌<◌, ◌≤◌, ◌∙◌, ◌+◌, ◌-◌, ℕ, take, length, arith, rules}
+use Rattle.std.proofs.Common.{◌≡◌, ◌<◌, ◌≤◌, ◌∙◌, ◌+◌, ◌-◌, ℕ, Err, take, length, arith, rules}
+use Rattle.std.proofs.lemmas.Result.{err_from_is_err_and}
 use Rattle.tcl_text.proofs.KeptLists.{ends_reach}
 use Rattle.tcl_text.proofs.KeptSteps.{front_stays, moved_done, moved_more, same_stays}
 use Rattle.tcl_text.proofs.list_string.push_ends.Goals as goal
@@ -10,17 +11,17 @@ pub overflow_add-end : goal.overflow_add-end
 overflow_add-end c = (let r = ends_reach c.args.from c.args.to c.args.others.now c.loop-end.end-index 0 c.requires (omega arith) in omega (arith, r.1))
 
 pub loop-end-preserved : goal.loop-end-preserved
-loop-end-preserved c = let h = c in ?
+loop-end-preserved c = moved_more (λ (e : ℕ). e - c.args.from + c.args.to) _ _ _ c.args.others.now c.loop-end.end-index (omega arith) c.loop-end.invariant c.in_ok-push.ensures.items
 
 pub returns-clause-ok : goal.returns-clause-ok
 returns-clause-ok c = moved_done c.args.from c.args.to _ _ c.args.others.now c.loop-end.end-index (omega arith) c.loop-end.invariant
 
 pub returns-in_err-reserve-clause-err : goal.returns-in_err-reserve-clause-err
 returns-in_err-reserve-clause-err c =
-    let front : take (length c.args.ends.now.items) c.reserve.new.self.items ≡ c.args.ends.now.items = same_stays _ _ c.reserve.ensures.items in
-    search rules
+    let p = err_from_is_err_and c.from_residual.result c.from_residual.ensures.1 in
+    rw p.1 (same_stays _ _ c.reserve.ensures.items)
 
 pub returns-in_err-push-clause-err : goal.returns-in_err-push-clause-err
 returns-in_err-push-clause-err c =
-    let front : take (length c.args.ends.now.items) c.push.new.self.items ≡ c.args.ends.now.items = front_stays _ _ _ (c.in_err-push.ensures.items ∙ c.loop-end.invariant) in
-    search rules
+    let p = err_from_is_err_and c.from_residual-in_err-push.result c.from_residual-in_err-push.ensures.1 in
+    rw p.1 (front_stays _ _ _ (c.in_err-push.ensures.items ∙ c.loop-end.invariant))

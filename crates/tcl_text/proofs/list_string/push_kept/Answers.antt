@@ -1,4 +1,5 @@
 use Rattle.std.proofs.Common.{◌≡◌, ◌∙◌, ap, arith, length, string_bytes}
+use Rattle.std.proofs.lemmas.Result.{err_from_is_err_and}
 use Rattle.tcl_text.specs.ListString.{KeepsList}
 use Rattle.tcl_text.proofs.KeptGrown.{ends_movable, forms_behind, places_behind}
 use Rattle.tcl_text.proofs.KeptSteps.{front_stays}
@@ -26,4 +27,5 @@ pub returns-in_err-push_str-clause-front : goal.returns-in_err-push_str-clause-f
 returns-in_err-push_str-clause-front c =
     let keeps : KeepsList (string_bytes c.more.inside.string) c.more.inside.ends.items c.args.more.now = kept _ _ _ _ c.more.invariant c.more.view_is in
     let behind = ap length c.as_str-behind.ensures.value in
-    front_stays _ _ _ (places_behind _ _ c.as_slice.result.now _ _ _ _ (length c.as_str-behind.result.now) keeps c.as_slice.ensures.value behind c.in_ok-push_ends.ensures.ok)
+    let p = err_from_is_err_and c.from_residual-in_err-push_str.result c.from_residual-in_err-push_str.ensures.1 in
+    rw p.1 (front_stays _ _ _ (places_behind _ _ c.as_slice.result.now _ _ _ _ (length c.as_str-behind.result.now) keeps c.as_slice.ensures.value behind c.in_ok-push_ends.ensures.ok))

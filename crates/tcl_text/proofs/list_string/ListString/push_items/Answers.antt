@@ -1,9 +1,12 @@
-use Rattle.std.proofs.Common.{◌≡◌, ◌<◌, arith}
+use Rattle.std.proofs.Common.{◌≡◌, ◌<◌, Err, arith, rules}
 use Rattle.tcl_text.proofs.KeptSteps.{added_long, behind_long}
+use Rattle.tcl_text.proofs.FaultLemmas.{fault_told}
 use Rattle.tcl_text.proofs.list_string.ListString.push_items.Goals as goal
 
 pub returns-in_err-more-clause-too_long : goal.returns-in_err-more-clause-too_long
-returns-in_err-more-clause-too_long c = let h = c in ?
+returns-in_err-more-clause-too_long c =
+    let same : c.from_residual.result ≡ Err c.in_err-more.field-0.0 = search rules in
+    fault_told _ _ _ same (λ n. behind_long c.args.list.now.value c.args.items.now (c.in_err-more.ensures.too_long n))
 
 pub returns-then-width-gt-MAX_STRING-clause-too_long : goal.returns-then-width-gt-MAX_STRING-clause-too_long
 returns-then-width-gt-MAX_STRING-clause-too_long c = λ _.

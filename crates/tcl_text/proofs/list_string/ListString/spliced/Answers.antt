@@ -1,9 +1,12 @@
-use Rattle.std.proofs.Common.{◌≡◌, ◌≤◌, ◌<◌, arith}
+use Rattle.std.proofs.Common.{◌≡◌, ◌≤◌, ◌<◌, Err, arith, rules}
 use Rattle.tcl_text.proofs.KeptSteps.{parts_long, room_left, spliced_done, values_long}
+use Rattle.tcl_text.proofs.FaultLemmas.{fault_told}
 use Rattle.tcl_text.proofs.list_string.ListString.spliced.Goals as goal
 
 pub returns-in_err-values-clause-too_long : goal.returns-in_err-values-clause-too_long
-returns-in_err-values-clause-too_long c = let h = c in ?
+returns-in_err-values-clause-too_long c =
+    let same : c.from_residual.result ≡ Err c.in_err-values.field-0.0 = search rules in
+    fault_told _ _ _ same (λ n. values_long c.args.self.now c.args.values.now c.args.from c.args.to (c.in_err-values.ensures.too_long n))
 
 pub returns-then-width-gt-MAX_STRING-clause-too_long : goal.returns-then-width-gt-MAX_STRING-clause-too_long
 returns-then-width-gt-MAX_STRING-clause-too_long c = λ _.

@@ -275,14 +275,14 @@ impl ListString {
         ensures err { OnErr result (list.new.value ≡ list.old.value) }
     {
         let more = ListString::new(alloc, items)?;
-        let width = list.as_ref().width() + more.width();
+        let width = Rc::as_ref(list).width() + more.width();
         if width > MAX_STRING {
             return Err(TextFault::TooLong);
         }
         if ListString::push_alone(list, &more)? {
             return Ok(());
         }
-        let longer = list.as_ref().longer(alloc, &more)?;
+        let longer = Rc::as_ref(list).longer(alloc, &more)?;
         *list = Rc::new(alloc, longer)?;
         Ok(())
     }

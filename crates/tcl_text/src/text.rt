@@ -159,7 +159,7 @@ impl TextForm {
         match self {
             TextForm::Listed(list) => {
                 ListString::push_items(list, alloc, items)?;
-                let _form = list.as_ref().as_str();
+                let _form = Rc::as_ref(list).as_str();
                 Ok(true)
             }
             TextForm::Short(_) => Ok(false),

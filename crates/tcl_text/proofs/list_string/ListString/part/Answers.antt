@@ -1,7 +1,7 @@
 use Rattle.std.proofs.Common.{◌≡◌, ◌≤◌, ◌∙◌, ◌++◌, [], ℕ, List, ap, arith, drop, length, string_bytes, sym, take}
 use Rattle.tcl_text.specs.ListString.{KeepsList, ends_behind}
 use Rattle.tcl_text.proofs.KeptSteps.{part_bounds, part_ends, part_items, part_keeps, part_places}
-use Rattle.tcl_text.proofs.KeptViews.{kept, seen_count}
+use Rattle.tcl_text.proofs.KeptViews.{kept, seen_count, seen_few}
 use Rattle.tcl_text.proofs.list_string.ListString.part.Goals as goal
 
 pub range-requires : goal.range-requires
@@ -9,6 +9,12 @@ range-requires c =
     let keeps : KeepsList (string_bytes c.self.inside.string) c.self.inside.ends.items c.args.self.now = kept _ _ _ _ c.self.invariant c.self.view_is in
     let b = part_bounds c.as_str-kept.result.now c.args.self.now c.args.from c.args.to c.place-start.result c.place-end.result c.requires.in_order (c.as_str-kept.ensures.value ∙ keeps.forms) c.place-start.ensures.value c.place-end.ensures.value in
     record { start_le_end = b.0; start_boundary = λ _. b.1.0; end_boundary = b.1.1 }
+
+pub offset_bounds-as_slice-from : goal.offset_bounds-as_slice-from
+offset_bounds-as_slice-from c =
+    let keeps : KeepsList (string_bytes c.self.inside.string) c.self.inside.ends.items c.args.self.now = kept _ _ _ _ c.self.invariant c.self.view_is in
+    let few : length c.args.self.now ≤ 65537 = seen_few _ _ _ keeps in
+    omega (arith, few, c.requires.in_order, c.requires.within)
 
 pub slice_bounds-cut-end : goal.slice_bounds-cut-end
 slice_bounds-cut-end c =

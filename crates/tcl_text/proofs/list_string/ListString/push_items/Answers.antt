@@ -1,4 +1,5 @@
-use Rattle.std.proofs.Common.{◌≡◌, ◌<◌, Err, arith, rules}
+use Rattle.std.proofs.Common.{◌≡◌, ◌<◌, Err, List, ℕ, ap, arith, length, rules}
+use Rattle.tcl_text.specs.ListForm.{others_form}
 use Rattle.tcl_text.proofs.KeptSteps.{added_long, behind_long}
 use Rattle.tcl_text.proofs.FaultLemmas.{fault_told}
 use Rattle.tcl_text.proofs.list_string.ListString.push_items.Goals as goal
@@ -11,3 +12,8 @@ returns-in_err-more-clause-too_long c =
 pub returns-then-width-gt-MAX_STRING-clause-too_long : goal.returns-then-width-gt-MAX_STRING-clause-too_long
 returns-then-width-gt-MAX_STRING-clause-too_long c = λ _.
     added_long c.args.list.now.value c.as_ref.result.now c.in_ok-more.more c.args.items.now c.as_ref.ensures c.in_ok-more.ensures.ok (omega arith)
+
+pub push_alone-requires : goal.push_alone-requires
+push_alone-requires c =
+    let held : length (others_form c.as_ref.result.now) ≡ length (others_form c.args.list.now.value) = ap (λ (t : List (List ℕ)). length (others_form t)) c.as_ref.ensures in
+    omega (arith, held)

@@ -43,5 +43,3 @@ pub items_known : {T : Type 0} (answer : Result T Refusal) (list : List ℕ) (it
     → Gives answer (rest items) → Gives answer (items_in list >>= rest)
 unfolding items_in
 items_known answer list items rest known gives = subst (λ (read : Result (List (List ℕ)) ListFault). Gives answer (items_or_error read >>= rest)) (sym known) gives
-
-pub ruleset known_items = (items_known)

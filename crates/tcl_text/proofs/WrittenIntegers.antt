@@ -76,5 +76,3 @@ signed_decimal_reads (negsuc n) fits =
 -- so it is the integer that is read in its digits
 pub written_integer : (text : List ℕ) (n : ℤ) → text ≡ signed_decimal n → FitsSigned w64 n → integer_of text ≡ Some n
 written_integer text n is fits = ap integer_of is ∙ integer_of-from_IsInteger (signed_decimal n) n (signed_decimal_reads n fits)
-
-pub ruleset known_integers = (written_integer)

@@ -2,7 +2,7 @@ ghost use Rattle.std.specs.Prelude.{◌≡◌, ◌∷◌, ◌↔◌, Bool, IsErr
 ghost use Rattle.std.specs.Result.{result_ok};
 ghost use Rattle.tcl_text.specs.Readings as readings;
 
-use crate::integer::integer_in;
+use crate::integer::integer_of_text;
 use crate::text::Text;
 use thiserror::Error;
 
@@ -25,23 +25,13 @@ impl Text {
 }
 
 /// The boolean that a text is, if any.
-#[tactic(auto, using(crate::proofs::WrittenIntegers::known_integers), unfolding(crate::specs::Readings::boolean_of))]
+#[tactic(auto, unfolding(crate::specs::Readings::boolean_of))]
 fn boolean_of_text(text: &Text) -> Option<bool>
     ensures { result ≡ readings.boolean_of text.now }
 {
-    match text.number() {
+    match integer_of_text(text) {
         Some(number) => Some(number != 0),
-        None => boolean_in(text.as_str().as_bytes()),
-    }
-}
-
-#[tactic(auto, unfolding(crate::specs::Readings::boolean_of))]
-fn boolean_in(text: &[u8]) -> Option<bool>
-    ensures { result ≡ readings.boolean_of text.now }
-{
-    match integer_in(text) {
-        Some(number) => Some(number != 0),
-        None => boolean_word(text),
+        None => boolean_word(text.as_str().as_bytes()),
     }
 }
 

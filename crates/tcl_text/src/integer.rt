@@ -42,8 +42,7 @@ impl Text {
 }
 
 /// The integer that a text spells, if any.
-#[tactic(auto, using(crate::proofs::WrittenIntegers::known_integers))]
-fn integer_of_text(text: &Text) -> Option<i64>
+pub fn integer_of_text(text: &Text) -> Option<i64>
     ensures { result ≡ readings.integer_of text.now }
 {
     match text.number() {

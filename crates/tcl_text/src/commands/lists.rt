@@ -8,8 +8,8 @@ ghost use Rattle.tcl_text.specs.ListCommands as spec;
 ghost use Rattle.tcl_text.specs.ListSteps.{behind};
 
 use crate::commands::answers::{
-    Refusal, bad_option, copy_answer, decimal_answer, limit_reached, place_answer, string_answer,
-    text_answer, wrong_args,
+    Refusal, bad_option, copy_answer, decimal_answer, limit_reached, own_answer, place_answer,
+    string_answer, text_answer, wrong_args,
 };
 use crate::commands::indices::{Index, index_in};
 use crate::commands::items::{items_in, list_answer};
@@ -38,7 +38,6 @@ pub fn llength_words(alloc: Global, words: &[Text]) -> Result<Text, Refusal>
 }
 
 /// How many items the list has that a word is.
-#[tactic(auto, using(crate::proofs::AnswerLemmas::known_items))]
 fn item_count(alloc: Global, list: &Text) -> Result<usize, Refusal>
     ensures { Gives result (spec.count_in list.now) }
 {
@@ -62,7 +61,6 @@ pub fn lindex_words(alloc: Global, words: &[Text]) -> Result<Text, Refusal>
 }
 
 /// The item at an index of the list that a word is.
-#[tactic(auto, using(crate::proofs::AnswerLemmas::known_items))]
 fn item_of_word(alloc: Global, list: &Text, index: &Text) -> Result<Text, Refusal>
     ensures { Gives result (spec.of_items (spec.item_at index.now) list.now) }
 {
@@ -89,7 +87,7 @@ fn kept_item_answer(alloc: Global, list: &ListString, index: Index) -> Result<Te
     let end = index.through(count);
     if number < end {
         let item = list.item(alloc, number)?;
-        copy_answer(&item)
+        own_answer(item)
     } else {
         text_answer(alloc, "")
     }
@@ -125,7 +123,6 @@ pub fn lrange_words(alloc: Global, words: &[Text]) -> Result<Text, Refusal>
 }
 
 /// The list of the items from one index to another of the list that a word is.
-#[tactic(auto, using(crate::proofs::AnswerLemmas::known_items))]
 fn range_of_word(alloc: Global, list: &Text, first: &Text, last: &Text) -> Result<Text, Refusal>
     ensures { Gives result (spec.of_items (spec.range_of first.now last.now) list.now) }
 {
@@ -199,7 +196,6 @@ pub fn linsert_words(alloc: Global, words: &[Text]) -> Result<Text, Refusal>
 }
 
 /// The list that a word is, with values put in before an index.
-#[tactic(auto, using(crate::proofs::AnswerLemmas::known_items))]
 fn insert_into_word(
     alloc: Global,
     list: &Text,
@@ -253,7 +249,6 @@ pub fn lreplace_words(alloc: Global, words: &[Text]) -> Result<Text, Refusal>
 }
 
 /// The list that a word is, with values in place of the items from one index to another.
-#[tactic(auto, using(crate::proofs::AnswerLemmas::known_items))]
 fn replace_in_word(
     alloc: Global,
     list: &Text,

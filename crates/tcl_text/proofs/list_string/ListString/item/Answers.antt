@@ -1,10 +1,10 @@
-use Rattle.std.proofs.Common.{◌≡◌, arith}
+use Rattle.std.proofs.Common.{◌≡◌, [], arith, get_or}
 use Rattle.tcl_text.proofs.KeptItems.{begun, told_item}
 use Rattle.tcl_text.proofs.list_string.ListString.item.Goals as goal
 
 pub first_element-requires : goal.first_element-requires
 first_element-requires c =
-    let h = begun c.form-form.result.now _ c.form-form.ensures.value in
+    let h = begun c.form-form.result.now (get_or c.args.self.now c.args.number []) c.form-form.ensures.value in
     record { some = h.some; short = c.form-form.ensures.short; black = h.black }
 
 pub returns-in-Ok : goal.returns-in-Ok

@@ -1,7 +1,7 @@
 -- Facts about answers and refusals.
-use Rattle.std.proofs.Common.{◌≡◌, ℕ, ◌<◌, ◌≤◌, Bool, true, false, leb, List, length, Ok, Err, Result, refl, sym, ap, subst, ◌∙◌, arith, cond}
+use Rattle.std.proofs.Common.{◌≡◌, ℕ, ◌<◌, ◌≤◌, true, false, leb, List, length, Ok, Err, Result, refl, sym, ap, subst, arith}
 use Rattle.std.proofs.lemmas.Bool.Decides.{nat_tests}
-use Rattle.tcl_text.specs.Answers.{Answer, ◌>>=◌, answers, bounded, items_in, items_or_error, limit_text, Gives, Refuses}
+use Rattle.tcl_text.specs.Answers.{◌>>=◌, answers, bounded, items_in, items_or_error, limit_text, Gives, Refuses}
 use Rattle.tcl_text.specs.Readings.{list_of}
 use Rattle.tcl_text.specs.declared.splitting.ListFault.{ListFault}
 use Rattle.tcl_text.specs.declared.commands.answers.Refusal.{Refusal}

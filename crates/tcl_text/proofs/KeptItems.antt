@@ -1,13 +1,12 @@
 -- What an item of a kept list is.
-use Rattle.std.proofs.Common.{◌≡◌, ℕ, zero, suc, ◌+◌, ◌-◌, ◌<◌, ◌≤◌, Bool, true, false, not, IsUtf8, List, [], ◌∷◌, ◌++◌, append-nil, take, drop, length, nat_eq, get_or, Result, Ok, Err, refl, arith, ap, sym, subst, ◌∙◌, inl, inr}
-use Rattle.std.specs.Prelude.{◌==◌, ◌||◌, nat_le, ◌&&◌}
+use Rattle.std.proofs.Common.{◌≡◌, ℕ, zero, suc, ◌+◌, ◌-◌, ◌<◌, ◌≤◌, false, not, IsUtf8, List, [], ◌∷◌, ◌++◌, append-nil, take, drop, length, nat_eq, get_or, Result, Ok, Err, refl, arith, ap, sym, subst, ◌∙◌, inl, inr}
 use Rattle.std.specs.List.{list_all, slice_range}
 use Rattle.std.proofs.lemmas.Bool.{cases_Bool, and_parts, or_parts, not-true}
 use Rattle.std.proofs.lemmas.List.{drop_more, drop-drop, drop-take}
 use Rattle.std.proofs.Math.Seq.{take-nil}
 use Rattle.tcl_text.specs.Backslash.{is_white}
 use Rattle.tcl_text.specs.ListForm.{others_form}
-use Rattle.tcl_text.specs.Readings.{begins_comment, can_be_bare, can_be_braced, element_form, is_special, letter_of, list_form, list_of, with_backslashes}
+use Rattle.tcl_text.specs.Readings.{begins_comment, can_be_bare, can_be_braced, element_form, is_special, list_form, list_of, with_backslashes}
 use Rattle.std.specs.Str.{IsCharBoundary}
 use Rattle.tcl_text.specs.Splitting.{items_before}
 use Rattle.tcl_text.proofs.KeptLists.{forms-cut}

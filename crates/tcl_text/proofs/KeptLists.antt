@@ -1,8 +1,8 @@
 -- A list as it is kept: its string, and where the forms of its items end.
-use Rattle.std.proofs.Common.{◌≡◌, ℕ, zero, suc, ◌+◌, ◌-◌, ◌<◌, ◌≤◌, true, false, List, [], ◌∷◌, ◌++◌, append_assoc, take, drop, length, map, get_or, Ok, refl, arith, ap, sym, subst, ◌∙◌, length-append}
+use Rattle.std.proofs.Common.{◌≡◌, ℕ, zero, suc, ◌+◌, ◌-◌, ◌<◌, ◌≤◌, List, [], ◌∷◌, ◌++◌, append_assoc, take, drop, length, map, get_or, refl, arith, ap, sym, ◌∙◌, length-append}
 use Rattle.std.proofs.lemmas.List.{take-append-drop, take-take}
 use Rattle.tcl_text.specs.ListForm.{others_form}
-use Rattle.tcl_text.specs.ListString.{AreEnds, KeepsList, ends_behind, items_kept, items_read}
+use Rattle.tcl_text.specs.ListString.{AreEnds, ends_behind, items_kept, items_read}
 use Rattle.tcl_text.specs.Readings.{element_form, list_form}
 use Rattle.tcl_text.proofs.ListFormLemmas.{list_form-cons, others_form-append}
 use Rattle.tcl_text.proofs.RoundTrip.{list_of-others_form}

@@ -1,5 +1,5 @@
 -- The steps in which a kept list is made, cut and spliced.
-use Rattle.std.proofs.Common.{◌≡◌, ℕ, zero, suc, ◌+◌, ◌-◌, ◌<◌, ◌≤◌, IsUtf8, List, [], ◌∷◌, ◌++◌, append_assoc, append-nil, take, drop, length, map, get_or, refl, arith, ap, sym, subst, ◌∙◌, length-append, length-drop}
+use Rattle.std.proofs.Common.{◌≡◌, ℕ, ◌+◌, ◌-◌, ◌<◌, ◌≤◌, IsUtf8, List, [], ◌∷◌, ◌++◌, append_assoc, append-nil, take, drop, length, map, get_or, arith, ap, sym, subst, ◌∙◌, length-append, length-drop}
 use Rattle.std.proofs.lemmas.List.{drop_all, drop_more, take_all, take_more, map-append, take-take, drop-take}
 use Rattle.std.proofs.Math.Seq.{take-append_seam, drop-append_seam, get_or-append_seam}
 use Rattle.std.proofs.lemmas.Str.{IsCharBoundary-after_ascii, IsCharBoundary-before_ascii, IsCharBoundary-end}

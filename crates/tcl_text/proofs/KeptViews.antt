@@ -1,9 +1,9 @@
 -- What is seen of a kept list: its form, its places.
-use Rattle.std.proofs.Common.{◌≡◌, ℕ, zero, suc, ◌+◌, ◌-◌, ◌<◌, ◌≤◌, List, [], ◌∷◌, ◌++◌, take, drop, length, get_or, IsUtf8, refl, arith, ap, sym, subst, ◌∙◌, length-append, length-drop}
+use Rattle.std.proofs.Common.{◌≡◌, ℕ, zero, suc, ◌-◌, ◌<◌, ◌≤◌, List, [], ◌∷◌, take, drop, length, get_or, IsUtf8, arith, ap, subst, ◌∙◌, length-append, length-drop}
 use Rattle.std.specs.Str.{IsCharBoundary}
 use Rattle.std.proofs.lemmas.Str.{IsCharBoundary-after_ascii}
 use Rattle.tcl_text.specs.ListForm.{others_form}
-use Rattle.tcl_text.specs.ListString.{KeepsList, ends_behind}
+use Rattle.tcl_text.specs.ListString.{KeepsList}
 use Rattle.tcl_text.specs.Readings.{element_form, list_form}
 use Rattle.tcl_text.proofs.KeptLists.{ends-at_first, ends-length, form_behind_blank, front_length}
 

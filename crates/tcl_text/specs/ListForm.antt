@@ -1,6 +1,6 @@
 -- What the steps of writing a list say, in the words of its form.
 use Rattle.std.specs.Prelude.{◌≡◌, ℕ, ◌<◌, ◌≤◌, true, List, [], ◌∷◌, ◌++◌, take, drop, length, slice_index, codes, Result, Ok, Err, ⊤}
-use Rattle.tcl_text.specs.Readings.{element_form, is_special, list_form, with_backslashes}
+use Rattle.tcl_text.specs.Readings.{element_form, is_special, with_backslashes}
 use Rattle.tcl_text.specs.declared.list_form.ElementForm.{ElementForm}
 use Rattle.tcl_text.specs.declared.list_form.ElementForm.TheVariants.{Empty, Bare, Braced, Comment, Backslashed}
 use Rattle.tcl_text.specs.declared.text.TextFault.{TextFault}

@@ -44,11 +44,7 @@ fn push_form(string: &mut String, item: &str) -> Result<(), AllocError>
 
 /// Adds the forms of items, each behind a blank, and where each ends. `TooLong` where the form of the list passes 65,536 bytes; it stops
 /// soon after that.
-fn push_forms(
-    string: &mut String,
-    ends: &mut Vec<u32>,
-    items: &[Text],
-) -> Result<(), TextFault>
+fn push_forms(string: &mut String, ends: &mut Vec<u32>, items: &[Text]) -> Result<(), TextFault>
     requires { length (string_bytes string.old) ≤ 65537 }
     ensures forms { OnOk result (string_bytes string.new ≡ string_bytes string.old ++ others_form items.now) }
     ensures places { OnOk result (ends.new.items ≡ ends.old.items ++ ends_behind (length (string_bytes string.old)) items.now) }
@@ -67,12 +63,7 @@ fn push_forms(
 }
 
 /// Adds ends, as far behind one place as they are behind another. On an error what was there stays in front.
-fn push_ends(
-    ends: &mut Vec<u32>,
-    others: &[u32],
-    from: u32,
-    to: u32,
-) -> Result<(), AllocError>
+fn push_ends(ends: &mut Vec<u32>, others: &[u32], from: u32, to: u32) -> Result<(), AllocError>
     requires { AreEnds from to others.now }
     ensures ok { OnOk result ((items : List (List ℕ)) → others.now ≡ ends_behind from items → ends.new.items ≡ ends.old.items ++ ends_behind to items) }
     ensures err { OnErr result (take (length ends.old.items) ends.new.items ≡ ends.old.items) }
@@ -85,11 +76,7 @@ fn push_ends(
 }
 
 /// Adds a list to the string and the ends of another. On an error the string is as it was, and the ends that were there stay in front.
-fn push_kept(
-    string: &mut String,
-    ends: &mut Vec<u32>,
-    more: &ListString,
-) -> Result<(), AllocError>
+fn push_kept(string: &mut String, ends: &mut Vec<u32>, more: &ListString) -> Result<(), AllocError>
     requires { length (string_bytes string.old) + length (others_form more.now) ≤ 65537 }
     ensures forms { OnOk result (string_bytes string.new ≡ string_bytes string.old ++ others_form more.now) }
     ensures places { OnOk result (ends.new.items ≡ ends.old.items ++ ends_behind (length (string_bytes string.old)) more.now) }

@@ -163,12 +163,7 @@ fn kept_range_answer(
     kept_answer(alloc, part)
 }
 
-fn range_of_items(
-    alloc: Global,
-    items: &[Text],
-    first: &Text,
-    last: &Text,
-) -> Result<Text, Refusal>
+fn range_of_items(alloc: Global, items: &[Text], first: &Text, last: &Text) -> Result<Text, Refusal>
     ensures { Gives result (spec.range_of first.now last.now items.now) }
 {
     let first = index_in(alloc, first)?;

@@ -1,4 +1,4 @@
-use Rattle.std.proofs.Common.{◌≡◌, ◌<◌, ◌≤◌, ◌∙◌, ap, arith, length}
+use Rattle.std.proofs.Common.{◌<◌, ap, arith, length}
 use Rattle.tcl_text.proofs.KeptSteps.{forms_done, forms_long, forms_more, places_done, places_more, pushed_as, pushed_length}
 use Rattle.tcl_text.proofs.list_string.push_forms.Goals as goal
 

@@ -1,4 +1,4 @@
-use Rattle.std.proofs.Common.{◌≡◌, ◌∙◌, ap, arith, length, string_bytes}
+use Rattle.std.proofs.Common.{ap, arith, length, string_bytes}
 use Rattle.std.proofs.lemmas.Result.{err_from_is_err_and}
 use Rattle.tcl_text.specs.ListString.{KeepsList}
 use Rattle.tcl_text.proofs.KeptGrown.{ends_movable, forms_behind, places_behind}

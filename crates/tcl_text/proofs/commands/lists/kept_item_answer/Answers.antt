@@ -1,4 +1,4 @@
-use Rattle.std.proofs.Common.{◌≡◌, ◌<◌, ℕ, List, arith, sym, subst}
+use Rattle.std.proofs.Common.{ℕ, List, arith, sym, subst}
 use Rattle.tcl_text.specs.Answers.{Gives, answers}
 use Rattle.tcl_text.proofs.PartLemmas.{part_found, part_missing, through_within}
 use Rattle.tcl_text.proofs.commands.lists.kept_item_answer.Goals as goal

@@ -1,4 +1,4 @@
-use Rattle.std.proofs.Common.{◌≡◌, ◌≤◌, ℕ, List, arith, subst}
+use Rattle.std.proofs.Common.{ℕ, List, arith, subst}
 use Rattle.tcl_text.specs.Answers.{Gives, answers}
 use Rattle.tcl_text.specs.Readings.{list_form}
 use Rattle.tcl_text.proofs.PartLemmas.{part_kept, through_within}

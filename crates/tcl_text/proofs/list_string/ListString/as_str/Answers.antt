@@ -1,4 +1,4 @@
-use Rattle.std.proofs.Common.{◌≡◌, ◌<◌, ◌∙◌, ℕ, List, arith, length, sym, subst}
+use Rattle.std.proofs.Common.{◌∙◌, ℕ, List, arith, length, sym, subst}
 use Rattle.std.proofs.lemmas.Bool.{eqb-true, eqb-false}
 use Rattle.tcl_text.specs.ListString.{KeepsList}
 use Rattle.tcl_text.proofs.KeptViews.{behind_blank, kept, seen_form, seen_nothing, seen_short}

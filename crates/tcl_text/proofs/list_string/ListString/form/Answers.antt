@@ -1,5 +1,4 @@
-use Rattle.std.proofs.Common.{◌≡◌, ◌≤◌, ◌∙◌, arith, length, string_bytes}
-use Rattle.tcl_text.specs.ListForm.{others_form}
+use Rattle.std.proofs.Common.{◌≤◌, ◌∙◌, arith, length, string_bytes}
 use Rattle.tcl_text.specs.ListString.{KeepsList}
 use Rattle.tcl_text.proofs.KeptItems.{form_bounds, form_cut}
 use Rattle.tcl_text.proofs.KeptViews.{kept, seen_few}

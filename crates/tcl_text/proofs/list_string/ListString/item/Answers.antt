@@ -1,4 +1,4 @@
-use Rattle.std.proofs.Common.{◌≡◌, [], arith, get_or}
+use Rattle.std.proofs.Common.{[], get_or}
 use Rattle.tcl_text.proofs.KeptItems.{begun, told_item}
 use Rattle.tcl_text.proofs.list_string.ListString.item.Goals as goal
 

@@ -1,4 +1,4 @@
-use Rattle.std.proofs.Common.{◌≡◌, ◌∙◌, ◌++◌, ℕ, List, ap, arith, length}
+use Rattle.std.proofs.Common.{◌∙◌, ◌++◌, ℕ, List, ap, arith, length}
 use Rattle.tcl_text.specs.ListForm.{others_form}
 use Rattle.tcl_text.proofs.KeptSteps.{whole_part}
 use Rattle.tcl_text.proofs.list_string.ListString.longer.Goals as goal

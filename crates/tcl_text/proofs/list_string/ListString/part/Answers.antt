@@ -1,4 +1,4 @@
-use Rattle.std.proofs.Common.{◌≡◌, ◌≤◌, ◌∙◌, ◌++◌, [], ℕ, List, ap, arith, drop, length, string_bytes, sym, take}
+use Rattle.std.proofs.Common.{◌≡◌, ◌≤◌, ◌∙◌, ℕ, ap, arith, drop, length, string_bytes, sym, take}
 use Rattle.tcl_text.specs.ListString.{KeepsList, ends_behind}
 use Rattle.tcl_text.proofs.KeptSteps.{part_bounds, part_ends, part_items, part_keeps, part_places}
 use Rattle.tcl_text.proofs.KeptViews.{kept, seen_count, seen_few}

@@ -1,4 +1,4 @@
-use Rattle.std.proofs.Common.{◌≡◌, ◌<◌, ◌∙◌, arith, length, string_bytes}
+use Rattle.std.proofs.Common.{◌≡◌, ◌∙◌, arith, length, string_bytes}
 use Rattle.std.proofs.lemmas.Grind.{common_steps}
 use Rattle.tcl_text.specs.ListString.{KeepsList}
 use Rattle.tcl_text.proofs.KeptViews.{kept, place_behind, place_short, seen_count}

@@ -1,4 +1,4 @@
-use Rattle.std.proofs.Common.{◌≡◌, ◌<◌, Err, List, ℕ, ap, arith, length, rules}
+use Rattle.std.proofs.Common.{◌≡◌, Err, List, ℕ, ap, arith, length, rules}
 use Rattle.tcl_text.specs.ListForm.{others_form}
 use Rattle.tcl_text.proofs.KeptSteps.{added_long, behind_long}
 use Rattle.tcl_text.proofs.FaultLemmas.{fault_told}

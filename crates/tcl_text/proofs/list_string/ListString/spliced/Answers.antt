@@ -1,4 +1,4 @@
-use Rattle.std.proofs.Common.{◌≡◌, ◌≤◌, ◌<◌, Err, arith, rules}
+use Rattle.std.proofs.Common.{◌≡◌, Err, arith, rules}
 use Rattle.tcl_text.proofs.KeptSteps.{parts_long, room_left, spliced_done, values_long}
 use Rattle.tcl_text.proofs.FaultLemmas.{fault_told}
 use Rattle.tcl_text.proofs.list_string.ListString.spliced.Goals as goal

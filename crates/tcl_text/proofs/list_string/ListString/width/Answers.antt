@@ -1,4 +1,4 @@
-use Rattle.std.proofs.Common.{◌≡◌, ◌∙◌, arith, length, string_bytes}
+use Rattle.std.proofs.Common.{string_bytes}
 use Rattle.tcl_text.specs.ListString.{KeepsList}
 use Rattle.tcl_text.proofs.KeptViews.{kept, seen_width}
 use Rattle.tcl_text.proofs.list_string.ListString.width.Goals as goal

@@ -1,4 +1,4 @@
-use Rattle.std.proofs.Common.{◌≡◌, ◌∙◌, Ok, ap, sym}
+use Rattle.std.proofs.Common.{◌∙◌, Ok, ap, sym}
 use Rattle.tcl_text.specs.Readings.{list_of}
 use Rattle.tcl_text.specs.TextForm.{form_bytes}
 use Rattle.tcl_text.specs.declared.text.TextForm.{TextForm}

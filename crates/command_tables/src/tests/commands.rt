@@ -41,24 +41,60 @@ static LONG_RESULTS: [(&str, &str); 28] = [
     ("lindex|$|8", ""),
     ("lindex|$|-1", ""),
     ("lindex|$|end-6", "second b"),
-    ("lrange|$|0|end", "{first of them} {second b} {third c} {} x#d \\{ {six th} seven"),
+    (
+        "lrange|$|0|end",
+        "{first of them} {second b} {third c} {} x#d \\{ {six th} seven",
+    ),
     ("lrange|$|1|3", "{second b} {third c} {}"),
     ("lrange|$|4|5", "x#d \\{"),
     ("lrange|$|6|2", ""),
     ("lrange|$|-3|0", "{first of them}"),
     ("lrange|$|end|end", "seven"),
-    ("linsert|$|0|a b", "{a b} {first of them} {second b} {third c} {} x#d \\{ {six th} seven"),
-    ("linsert|$|3|x||y", "{first of them} {second b} {third c} x {} y {} x#d \\{ {six th} seven"),
-    ("linsert|$|end|z", "{first of them} {second b} {third c} {} x#d \\{ {six th} seven z"),
-    ("linsert|$|end-1|z", "{first of them} {second b} {third c} {} x#d \\{ {six th} z seven"),
-    ("linsert|$|99|z", "{first of them} {second b} {third c} {} x#d \\{ {six th} seven z"),
-    ("linsert|$|2", "{first of them} {second b} {third c} {} x#d \\{ {six th} seven"),
-    ("lreplace|$|0|0", "{second b} {third c} {} x#d \\{ {six th} seven"),
-    ("lreplace|$|2|4|a b", "{first of them} {second b} {a b} \\{ {six th} seven"),
-    ("lreplace|$|5|end|u|v|w", "{first of them} {second b} {third c} {} x#d u v w"),
+    (
+        "linsert|$|0|a b",
+        "{a b} {first of them} {second b} {third c} {} x#d \\{ {six th} seven",
+    ),
+    (
+        "linsert|$|3|x||y",
+        "{first of them} {second b} {third c} x {} y {} x#d \\{ {six th} seven",
+    ),
+    (
+        "linsert|$|end|z",
+        "{first of them} {second b} {third c} {} x#d \\{ {six th} seven z",
+    ),
+    (
+        "linsert|$|end-1|z",
+        "{first of them} {second b} {third c} {} x#d \\{ {six th} z seven",
+    ),
+    (
+        "linsert|$|99|z",
+        "{first of them} {second b} {third c} {} x#d \\{ {six th} seven z",
+    ),
+    (
+        "linsert|$|2",
+        "{first of them} {second b} {third c} {} x#d \\{ {six th} seven",
+    ),
+    (
+        "lreplace|$|0|0",
+        "{second b} {third c} {} x#d \\{ {six th} seven",
+    ),
+    (
+        "lreplace|$|2|4|a b",
+        "{first of them} {second b} {a b} \\{ {six th} seven",
+    ),
+    (
+        "lreplace|$|5|end|u|v|w",
+        "{first of them} {second b} {third c} {} x#d u v w",
+    ),
     ("lreplace|$|0|end", ""),
-    ("lreplace|$|3|1|k", "{first of them} {second b} {third c} k {} x#d \\{ {six th} seven"),
-    ("lreplace|$|end|end|{", "{first of them} {second b} {third c} {} x#d \\{ {six th} \\{"),
+    (
+        "lreplace|$|3|1|k",
+        "{first of them} {second b} {third c} k {} x#d \\{ {six th} seven",
+    ),
+    (
+        "lreplace|$|end|end|{",
+        "{first of them} {second b} {third c} {} x#d \\{ {six th} \\{",
+    ),
 ];
 
 /// What the command of these words answers: its result, or the text of its error.

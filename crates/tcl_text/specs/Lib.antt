@@ -16,3 +16,4 @@ pub mod ListSteps
 pub mod Splitting
 pub mod Edit
 pub mod TextForm
+pub mod ListString

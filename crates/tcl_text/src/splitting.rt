@@ -259,7 +259,7 @@ fn bare(alloc: Global, text: &str) -> Result<(Text, &str), SplitFault>
 }
 
 /// The first element of a list, and the text behind it.
-fn first_element(alloc: Global, text: &str) -> Result<(Text, &str), SplitFault>
+pub fn first_element(alloc: Global, text: &str) -> Result<(Text, &str), SplitFault>
     requires some { 0 < length text.now }
     requires short { length text.now ≤ 65536 }
     requires black { backslash.is_white (slice_index text.now 0) ≡ false }
@@ -281,7 +281,7 @@ fn trimmed(text: &str) -> &str
 }
 
 /// The items of the list that the text is.
-fn items_of(alloc: Global, text: &str) -> Result<TextList, SplitFault>
+pub fn items_of(alloc: Global, text: &str) -> Result<TextList, SplitFault>
     requires { length text.now ≤ 65536 }
     ensures { Splits result (readings.list_of text.now) }
 {

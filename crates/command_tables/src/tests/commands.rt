@@ -26,6 +26,77 @@ static ERRORS: [(&str, &str); 3] = [
     ("string|repeat|a|65537", "limit reached: value"),
 ];
 
+/// A list past the bytes that a text keeps in place, in a form that isn't its one form.
+const LONG_LIST: &str = "{first of them} \"second b\" third\\ c {} x#d \\{ {six th} seven";
+
+/// Words with `|` between each two, of which `$` stands for that list, and the result of their command in tclsh 8.6.
+static LONG_RESULTS: [(&str, &str); 28] = [
+    ("llength|$", "8"),
+    ("lindex|$|0", "first of them"),
+    ("lindex|$|1", "second b"),
+    ("lindex|$|2", "third c"),
+    ("lindex|$|3", ""),
+    ("lindex|$|5", "{"),
+    ("lindex|$|end", "seven"),
+    ("lindex|$|8", ""),
+    ("lindex|$|-1", ""),
+    ("lindex|$|end-6", "second b"),
+    (
+        "lrange|$|0|end",
+        "{first of them} {second b} {third c} {} x#d \\{ {six th} seven",
+    ),
+    ("lrange|$|1|3", "{second b} {third c} {}"),
+    ("lrange|$|4|5", "x#d \\{"),
+    ("lrange|$|6|2", ""),
+    ("lrange|$|-3|0", "{first of them}"),
+    ("lrange|$|end|end", "seven"),
+    (
+        "linsert|$|0|a b",
+        "{a b} {first of them} {second b} {third c} {} x#d \\{ {six th} seven",
+    ),
+    (
+        "linsert|$|3|x||y",
+        "{first of them} {second b} {third c} x {} y {} x#d \\{ {six th} seven",
+    ),
+    (
+        "linsert|$|end|z",
+        "{first of them} {second b} {third c} {} x#d \\{ {six th} seven z",
+    ),
+    (
+        "linsert|$|end-1|z",
+        "{first of them} {second b} {third c} {} x#d \\{ {six th} z seven",
+    ),
+    (
+        "linsert|$|99|z",
+        "{first of them} {second b} {third c} {} x#d \\{ {six th} seven z",
+    ),
+    (
+        "linsert|$|2",
+        "{first of them} {second b} {third c} {} x#d \\{ {six th} seven",
+    ),
+    (
+        "lreplace|$|0|0",
+        "{second b} {third c} {} x#d \\{ {six th} seven",
+    ),
+    (
+        "lreplace|$|2|4|a b",
+        "{first of them} {second b} {a b} \\{ {six th} seven",
+    ),
+    (
+        "lreplace|$|5|end|u|v|w",
+        "{first of them} {second b} {third c} {} x#d u v w",
+    ),
+    ("lreplace|$|0|end", ""),
+    (
+        "lreplace|$|3|1|k",
+        "{first of them} {second b} {third c} k {} x#d \\{ {six th} seven",
+    ),
+    (
+        "lreplace|$|end|end|{",
+        "{first of them} {second b} {third c} {} x#d \\{ {six th} \\{",
+    ),
+];
+
 /// What the command of these words answers: its result, or the text of its error.
 fn answer_to(alloc: Global, words: &str) -> Result<Option<Result<Text, Text>>, Fail> {
     let mut texts = Vec::new(alloc);
@@ -41,6 +112,38 @@ fn answers_as_tclsh(rt: HostRuntime) -> Result<(), Fail> {
         match answer_to(rt.alloc(), words)? {
             Some(Ok(text)) => assert_eq!(rt; text.as_str(), *expected, "{words}"),
             _ => panic!(rt; "{words} has no result"),
+        }
+    }
+    Ok(())
+}
+
+/// What the command of these words answers, of which `$` is a list.
+fn answer_of_list(alloc: Global, words: &str, list: &Text) -> Result<Text, Fail> {
+    let mut texts = Vec::new(alloc);
+    for word in words.split('|') {
+        texts.push(if word == "$" {
+            list.copy()?
+        } else {
+            Text::new(alloc, word)?
+        })?;
+    }
+    match Text::text_command(alloc, texts.as_slice())? {
+        Some(Ok(text)) => Ok(text),
+        _ => Ok(Text::new(alloc, "no result")?),
+    }
+}
+
+// A list is read anew, then read and kept, and then found as it was kept; and it is one that was made as a list.
+#[test]
+fn long_lists(rt: HostRuntime) -> Result<(), Fail> {
+    let written = Text::new(rt.alloc(), LONG_LIST)?;
+    let made = answer_of_list(rt.alloc(), "lrange|$|0|end", &written)?;
+    assert!(rt; made != written);
+    for (words, expected) in &LONG_RESULTS {
+        let list = Text::new(rt.alloc(), LONG_LIST)?;
+        for list in [&list, &list, &list, &written, &made] {
+            let text = answer_of_list(rt.alloc(), words, list)?;
+            assert_eq!(rt; text.as_str(), *expected, "{words}");
         }
     }
     Ok(())

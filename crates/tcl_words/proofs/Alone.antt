@@ -4,7 +4,7 @@ use Rattle.std.specs.List.{slice_range}
 use Rattle.std.proofs.lemmas.List.{take-append-le, drop-append-le, length-drop}
 use Rattle.tcl_words.specs.Kinds.{class_means, kind_before}
 use Rattle.tcl_words.specs.Classes.{class_of}
-use Rattle.tcl_words.specs.Changes.{Rest, Read, put, piece_before, last_rest, Change, bytes, name, text_ends, word_ends, command_ends, word_begins, command_begins, changed, changed_by}
+use Rattle.tcl_words.specs.Changes.{Rest, Read, put, piece_before, last_rest, Change, bytes, name, text_ends, word_ends, command_ends, word_begins, command_begins, changed}
 use Rattle.tcl_words.specs.Moves.{Move, move_of}
 use Rattle.tcl_words.specs.Reading.{Level, within, rest_of, at_end, past, past_opened, first_place, first_skip, opened_piece}
 use Rattle.tcl_words.specs.declared.kind.BytePlace.{BytePlace}
@@ -17,7 +17,6 @@ use Rattle.tcl_words.specs.declared.kind.Step.{Step}
 use Rattle.tcl_words.specs.declared.kind.Step.TheVariants.{On, Within, Ends}
 use Rattle.tcl_words.specs.declared.script.Piece.TheVariants.{Bracket as BracketPiece, Element}
 use Rattle.tcl_words.specs.declared.fault.ParseFault.{ParseFault}
-use Rattle.tcl_words.specs.declared.fault.ParseFault.TheVariants.{TooLong}
 use Rattle.tcl_words.proofs.Cuts.{IsCloser, FitsStep, step_cut, step_same}
 use Rattle.tcl_words.proofs.Closers.{class_ends, class_closes}
 

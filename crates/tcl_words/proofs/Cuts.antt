@@ -14,8 +14,7 @@ use Rattle.tcl_words.specs.Moves.{Move, on, before, at_dollar, move_of}
 use Rattle.tcl_words.specs.Reading.{first_skip}
 use Rattle.tcl_words.specs.declared.kind.Kind.{Kind}
 use Rattle.tcl_words.specs.declared.kind.Kind.TheVariants.{Blank, Newline, Semicolon, Hash, Dollar, Quote, OpenBracket, CloseBracket, OpenBrace, Expansion, CloseBrace, CloseParen, Backslash, Continuation, Other}
-use Rattle.tcl_words.specs.declared.kind.Dollar.{Dollar as DollarForm}
-use Rattle.tcl_words.specs.declared.kind.Dollar.TheVariants.{Alone, Named, Indexed, Braced, Unclosed}
+use Rattle.tcl_words.specs.declared.kind.Dollar.TheVariants.{Named, Indexed, Braced}
 use Rattle.tcl_words.specs.declared.kind.BytePlace.{BytePlace}
 use Rattle.tcl_words.specs.declared.kind.BytePlace.TheVariants.{Start, Comment, Between, Expanded, Text, PastQuotes, InBraces, PastBraces}
 use Rattle.tcl_words.specs.declared.kind.Mode.{Mode}

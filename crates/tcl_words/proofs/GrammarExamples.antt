@@ -1,6 +1,6 @@
 -- What the grammar relates, on scripts whose words a Tcl shell shows.
 use lib.Utf8.{encode}
-use Rattle.std.proofs.Common.{◌≡◌, refl, ℕ, [], ◌∷◌, List, Some, Ok, Err, codes, false, true}
+use Rattle.std.proofs.Common.{refl, ℕ, [], ◌∷◌, List, Some, Ok, Err, codes, false, true}
 use Rattle.tcl_text.specs.Backslash.{escape}
 use Rattle.tcl_words.specs.Kinds.{dollar_of}
 use Rattle.tcl_words.specs.Classes.{class_of}

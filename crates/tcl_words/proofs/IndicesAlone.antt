@@ -1,5 +1,5 @@
 -- An index that was read within a text is read so by itself.
-use Rattle.std.proofs.Common.{◌≡◌, ℕ, suc, ◌+◌, ◌≤◌, true, List, [], ◌∷◌, ◌++◌, length, refl, sym, ap, ◌∙◌, length-append, arith, Ok}
+use Rattle.std.proofs.Common.{◌≡◌, ℕ, ◌+◌, ◌≤◌, true, List, [], ◌∷◌, ◌++◌, length, sym, ap, ◌∙◌, length-append, arith, Ok}
 use Rattle.std.specs.List.{slice_range}
 use Rattle.tcl_words.specs.Changes.{Rest, put, last_rest, literal_before}
 use Rattle.tcl_words.specs.Reading.{within, rest_of, index_pieces_of}

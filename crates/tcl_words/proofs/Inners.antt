@@ -1,10 +1,9 @@
 -- What scripts and indices give by themselves.
-use Rattle.std.proofs.Common.{◌≡◌, ℕ, zero, suc, ◌+◌, ◌-◌, ◌<◌, ◌≤◌, Bool, true, false, List, [], ◌∷◌, ◌++◌, length, drop, take, refl, sym, ap, subst, ◌∙◌, arith, Ok, Err, Result, append-nil, length-append}
+use Rattle.std.proofs.Common.{◌≡◌, ℕ, zero, suc, ◌+◌, ◌-◌, ◌≤◌, Bool, true, false, List, [], ◌∷◌, ◌++◌, length, drop, take, refl, sym, ap, ◌∙◌, arith, Ok, Err, Result, length-append}
 use Rattle.std.specs.List.{slice_range}
-use Rattle.std.proofs.lemmas.List.{take-append-le, drop-append-le, length-drop, length-take}
 use Rattle.tcl_words.specs.Kinds.{kind_before, dollar_of}
-use Rattle.tcl_words.specs.Changes.{Rest, Read, put, piece_before, last_rest, literal_before, Change, bytes, name, text_ends, word_ends, command_ends, word_begins, command_begins, changed, changed_by}
-use Rattle.tcl_words.specs.Moves.{Move, move_of, at_dollar, in_parens}
+use Rattle.tcl_words.specs.Changes.{Rest, Read, put, piece_before, literal_before, Change, bytes, name, text_ends, word_ends, command_ends, word_begins, command_begins, changed, changed_by}
+use Rattle.tcl_words.specs.Moves.{Move, at_dollar, in_parens}
 use Rattle.tcl_words.specs.Reading.{Level, within, rest_of, at_end, past, past_opened, first_place, first_skip, opened_piece, commands_in, pieces_in, index_pieces_of, outermost}
 use Rattle.tcl_words.specs.Parts.{Whole, joined, no_parts, script_whole, index_whole}
 use Rattle.tcl_words.specs.declared.kind.Kind.{Kind}
@@ -13,7 +12,6 @@ use Rattle.tcl_words.specs.declared.kind.Dollar.{Dollar as DollarForm}
 use Rattle.tcl_words.specs.declared.kind.Dollar.TheVariants.{Alone, Named, Indexed, Braced, Unclosed}
 use Rattle.tcl_words.specs.declared.kind.BytePlace.{BytePlace}
 use Rattle.tcl_words.specs.declared.kind.BytePlace.TheVariants.{Start, Text}
-use Rattle.tcl_words.specs.declared.kind.Mode.{Mode}
 use Rattle.tcl_words.specs.declared.kind.Mode.TheVariants.{Parens}
 use Rattle.tcl_words.specs.declared.kind.Opener.{Opener}
 use Rattle.tcl_words.specs.declared.kind.Step.{Step}
@@ -21,7 +19,6 @@ use Rattle.tcl_words.specs.declared.kind.Step.TheVariants.{On, Within, Ends}
 use Rattle.tcl_words.specs.declared.script.Piece.{Piece}
 use Rattle.tcl_words.specs.declared.script.Piece.TheVariants.{Variable}
 use Rattle.tcl_words.specs.declared.fault.ParseFault.{ParseFault}
-use Rattle.tcl_words.specs.declared.fault.ParseFault.TheVariants.{TooLong}
 use Rattle.tcl_words.proofs.Alone.{Closed, closed}
 use Rattle.tcl_words.proofs.Joins.{slice_none}
 use Rattle.tcl_words.proofs.Nests.{rest_skip}

@@ -1,15 +1,14 @@
 -- Scripts and indices within one another, as the code goes from one to the other.
-use Rattle.std.proofs.Common.{◌≡◌, ℕ, zero, suc, ◌+◌, ◌-◌, ◌<◌, ◌≤◌, List, [], ◌∷◌, ◌++◌, length, drop, take, slice_index, refl, sym, ap, subst, ◌∙◌, arith, Ok, Err, Result, true, false}
+use Rattle.std.proofs.Common.{◌≡◌, ℕ, zero, suc, ◌+◌, ◌-◌, ◌<◌, ◌≤◌, List, [], ◌∷◌, ◌++◌, length, drop, slice_index, refl, sym, ap, ◌∙◌, arith, Ok, Err, Result}
 use Rattle.std.proofs.Math.Seq.{drop-cons}
 use Rattle.std.proofs.lemmas.List.{drop-drop, length-drop}
-use Rattle.std.specs.Str.{IsCharBoundary}
-use Rattle.tcl_words.specs.Changes.{Rest, Read, put, piece_before, last_rest, changed}
-use Rattle.tcl_words.specs.Moves.{Move, move_at}
+use Rattle.tcl_words.specs.Changes.{Read, put, piece_before, changed}
+use Rattle.tcl_words.specs.Moves.{move_at}
 use Rattle.tcl_words.specs.Reading.{Level, within, rest_of, past, past_opened, first_place, first_skip, opened_piece}
-use Rattle.tcl_words.specs.Parts.{Parts, Whole, joined, no_parts, with_piece, is_index, ended, Does, IsFine}
-use Rattle.tcl_words.specs.Chain.{outset, level_of, own, opened, resumed, IsWaiting, IsChain}
+use Rattle.tcl_words.specs.Parts.{Parts, Whole, joined, no_parts, with_piece, ended, Does}
+use Rattle.tcl_words.specs.Chain.{level_of, own, opened, resumed, IsWaiting, IsChain}
 use Rattle.tcl_words.specs.declared.kind.BytePlace.{BytePlace}
-use Rattle.tcl_words.specs.declared.kind.BytePlace.TheVariants.{Start, Text}
+use Rattle.tcl_words.specs.declared.kind.BytePlace.TheVariants.{Text}
 use Rattle.tcl_words.specs.declared.kind.Mode.{Mode}
 use Rattle.tcl_words.specs.declared.kind.Opener.{Opener}
 use Rattle.tcl_words.specs.declared.kind.Opener.TheVariants.{Bracket, Index}

@@ -1,7 +1,7 @@
 -- Each text has one parse, which is what is read of it, and so has each index.
 use Rattle.std.proofs.Common.{◌≡◌, ◌⊎◌, inl, inr, ℕ, List, refl, sym, ap, ◌∙◌, Result, Ok, Err, IfOk, IfErr, IsOk}
 use Rattle.tcl_words.specs.Reading.{commands_of, index_pieces_of}
-use Rattle.tcl_words.specs.Grammar.{IsScriptOf, IsScriptFault, IsScriptParse, IsIndexOf, IsIndexFault, IsIndexParse}
+use Rattle.tcl_words.specs.Grammar.{IsScriptOf, IsScriptFault, IsScriptParse, IsIndexOf, IsIndexParse}
 use Rattle.tcl_words.specs.One.{One}
 use Rattle.tcl_words.specs.declared.script.Piece.{Piece}
 use Rattle.tcl_words.specs.declared.script.Command.{Command}

@@ -1,15 +1,13 @@
 -- How deep the parts of what was read go into one another, by the length of the text.
-use Rattle.std.proofs.Common.{◌≡◌, ℕ, zero, suc, ◌+◌, ◌-◌, ◌*◌, ◌<◌, ◌≤◌, Bool, true, false, max, List, [], ◌∷◌, length, drop, take, refl, sym, ap, subst, ◌∙◌, arith, Ok, Err, Result}
-use Rattle.std.specs.List.{slice_range}
+use Rattle.std.proofs.Common.{◌≡◌, ℕ, zero, suc, ◌+◌, ◌-◌, ◌*◌, ◌<◌, ◌≤◌, Bool, true, false, List, [], ◌∷◌, length, drop, refl, subst, arith, Ok, Err, Result}
 use Rattle.std.proofs.lemmas.List.{length-take, length-drop}
 use Rattle.tcl_words.specs.Kinds.{kind_before}
 use Rattle.tcl_words.specs.Changes.{Rest, Read, put, piece_before, last_rest, literal_before, pieces_of, Change, bytes, name, text_ends, word_ends, command_ends, word_begins, command_begins, changed, changed_by}
-use Rattle.tcl_words.specs.Moves.{Move, move_of, lone}
-use Rattle.tcl_words.specs.Reading.{Level, within, rest_of, at_end, past, past_opened, first_place, first_skip, opened_piece, commands_of, commands_in, pieces_in, index_pieces_of, outermost}
+use Rattle.tcl_words.specs.Moves.{move_of, lone}
+use Rattle.tcl_words.specs.Reading.{Level, within, rest_of, at_end, past, past_opened, first_place, first_skip, opened_piece, commands_in, pieces_in, index_pieces_of, outermost}
 use Rattle.tcl_words.specs.Room.{text_room, piece_room, pieces_room, words_room, commands_room}
 use Rattle.tcl_words.specs.declared.kind.BytePlace.{BytePlace}
 use Rattle.tcl_words.specs.declared.kind.BytePlace.TheVariants.{Start, Comment, Between, Expanded, Text, PastQuotes, InBraces, PastBraces}
-use Rattle.tcl_words.specs.declared.kind.Mode.{Mode}
 use Rattle.tcl_words.specs.declared.kind.Mode.TheVariants.{Bare, Quotes, Parens}
 use Rattle.tcl_words.specs.declared.kind.Opener.{Opener}
 use Rattle.tcl_words.specs.declared.kind.Opener.TheVariants.{Bracket, Index}

@@ -8,14 +8,14 @@ use Rattle.std.proofs.lemmas.Bool.Decides.{nat_tests}
 use Rattle.std.specs.Prelude.{nat_eq, nat_lt, ◌&&◌, ◌≢◌, IsTrue}
 use Rattle.std.proofs.lemmas.Str.{IsCharBoundary-before_ascii, IsCharBoundary-after_ascii}
 use Rattle.tcl_text.specs.Backslash.{escape}
-use Rattle.tcl_words.specs.Changes.{Rest, Read, put, piece_before, last_rest, Change, bytes, name, text_ends, word_ends, command_ends, word_begins, command_begins, changed, changed_by, literal_before}
-use Rattle.tcl_words.specs.Moves.{Move, on, ends, fails, before, word_over, at_brace, at_dollar, in_braces, in_expanded, in_text, lone}
-use Rattle.tcl_words.specs.Reading.{first_skip, at_end}
-use Rattle.tcl_words.specs.Parts.{Parts, joined, with_text, with_word, with_command, with_piece, with_literal, with_braced, so_far, ended, script_whole, IsFine, IsCut, StandsAt, Escaped, EndsWord, DollarFits, Does, is_index, IsExpansion, IsOpenerCut}
+use Rattle.tcl_words.specs.Changes.{Rest, Read, put, piece_before, last_rest, Change, bytes, name, text_ends, word_ends, command_ends, changed, changed_by}
+use Rattle.tcl_words.specs.Moves.{Move, on, ends, before, word_over, at_brace, at_dollar, in_braces, in_expanded, in_text, lone}
+use Rattle.tcl_words.specs.Reading.{at_end}
+use Rattle.tcl_words.specs.Parts.{Parts, joined, with_word, with_command, with_piece, with_literal, with_braced, so_far, ended, script_whole, IsCut, StandsAt, Escaped, EndsWord, DollarFits, Does, is_index, IsExpansion, IsOpenerCut}
 use Rattle.tcl_words.specs.declared.kind.Kind.{Kind}
-use Rattle.tcl_words.specs.declared.kind.Kind.TheVariants.{Blank, Newline, Semicolon, Dollar, OpenBracket, CloseBracket, Backslash, Continuation, OpenBrace, Expansion, Other}
+use Rattle.tcl_words.specs.declared.kind.Kind.TheVariants.{Dollar, OpenBracket, Backslash, Continuation, OpenBrace, Expansion, Other}
 use Rattle.tcl_words.specs.declared.kind.Dollar.{Dollar as DollarForm}
-use Rattle.tcl_words.specs.declared.kind.Dollar.TheVariants.{Alone, Named, Indexed, Braced, Unclosed}
+use Rattle.tcl_words.specs.declared.kind.Dollar.TheVariants.{Named, Indexed, Braced}
 use Rattle.tcl_words.specs.declared.kind.Opener.TheVariants.{Bracket, Index}
 use Rattle.tcl_words.specs.Kinds.{dollar_of}
 use Rattle.tcl_words.specs.Classes.{begins_expansion, begins_newline}
@@ -32,7 +32,7 @@ use Rattle.tcl_words.specs.declared.script.Piece.{Piece}
 use Rattle.tcl_words.specs.declared.fault.ParseFault.{ParseFault}
 use Rattle.tcl_words.proofs.Escapes.{cut_past, escape_ascii, escape_itself}
 use Rattle.tcl_text.proofs.BackslashLemmas.{escape_short, escape_within}
-use Rattle.tcl_words.proofs.Joins.{slice_none, slice_one, slice_split, slice_behind, text_bytes, brace_bytes, text_piece, text_opened, bare_ended, quotes_ended, braces_ended, word_ended, command_ended}
+use Rattle.tcl_words.proofs.Joins.{slice_none, slice_one, slice_split, slice_behind, text_bytes, brace_bytes, text_piece, text_opened, bare_ended, word_ended, command_ended}
 
 -- the move is given otherwise
 pub same_move : (old new : Parts) (s : List ℕ) (at : ℕ) (place : BytePlace) (m m' : Move) (result : Result Step ParseFault) → m ≡ m' → Does old new s at place m' result → Does old new s at place m result

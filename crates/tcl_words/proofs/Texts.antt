@@ -1,5 +1,5 @@
 -- The commands of a text by its length and its bytes.
-use Rattle.std.proofs.Common.{◌≡◌, ◌≤◌, ℕ, true, false, not, List, length, nat_lt, refl, sym, ap, ◌∙◌, ◌⊎◌, inl, inr, arith, Ok, Err, Result}
+use Rattle.std.proofs.Common.{◌≡◌, ◌≤◌, ℕ, true, false, List, length, nat_lt, refl, sym, ap, ◌∙◌, ◌⊎◌, inl, inr, arith, Ok, Err, Result}
 use Rattle.std.proofs.lemmas.Bool.{cases_Bool}
 use Rattle.std.proofs.lemmas.Bool.Decides.{nat_tests}
 use Rattle.std.specs.Str.{IsUtf8, is_utf8}

@@ -5,7 +5,7 @@ use Rattle.tcl_text.specs.Backslash.{escape}
 use Rattle.tcl_words.specs.Kinds.{dollar_of, kind_before}
 use Rattle.tcl_words.specs.Changes.{Change, bytes, name, text_ends, word_ends, command_ends, word_begins, command_begins}
 use Rattle.tcl_words.specs.declared.kind.Kind.{Kind}
-use Rattle.tcl_words.specs.declared.kind.Kind.TheVariants.{Blank, Newline, Semicolon, Hash, Dollar, Quote, OpenBracket, CloseBracket, OpenBrace, Expansion, CloseBrace, CloseParen, Backslash, Continuation, Other}
+use Rattle.tcl_words.specs.declared.kind.Kind.TheVariants.{Blank, Newline, Semicolon, Hash, Dollar, Quote, OpenBracket, CloseBracket, OpenBrace, Expansion, CloseBrace, CloseParen, Backslash, Continuation}
 use Rattle.tcl_words.specs.declared.kind.BytePlace.{BytePlace}
 use Rattle.tcl_words.specs.declared.kind.BytePlace.TheVariants.{Start, Comment, Between, Expanded, Text, PastQuotes, InBraces, PastBraces}
 use Rattle.tcl_words.specs.declared.kind.Mode.{Mode}

@@ -4,12 +4,12 @@ use Rattle.std.specs.Prelude.{ℕ, suc, zero, ◌+◌, Bool, true, false, not, n
 use Rattle.std.specs.List.{slice_range}
 use Rattle.std.specs.Str.{is_utf8}
 use Rattle.tcl_words.specs.Kinds.{kind_before}
-use Rattle.tcl_words.specs.Changes.{Rest, Read, put, last_rest, literal_before, piece_before, changed}
+use Rattle.tcl_words.specs.Changes.{Read, put, last_rest, literal_before, piece_before, changed}
 use Rattle.tcl_words.specs.Moves.{Move, lone, move_of}
 use Rattle.tcl_words.specs.declared.kind.BytePlace.{BytePlace}
-use Rattle.tcl_words.specs.declared.kind.BytePlace.TheVariants.{Start, Comment, Between, Expanded, Text, PastQuotes, InBraces, PastBraces}
+use Rattle.tcl_words.specs.declared.kind.BytePlace.TheVariants.{Start, Expanded, Text, InBraces}
 use Rattle.tcl_words.specs.declared.kind.Mode.{Mode}
-use Rattle.tcl_words.specs.declared.kind.Mode.TheVariants.{Bare, Quotes, Parens}
+use Rattle.tcl_words.specs.declared.kind.Mode.TheVariants.{Quotes, Parens}
 use Rattle.tcl_words.specs.declared.kind.Opener.{Opener}
 use Rattle.tcl_words.specs.declared.kind.Opener.TheVariants.{Bracket as BracketOpener, Index as IndexOpener}
 use Rattle.tcl_words.specs.declared.kind.Step.{Step}

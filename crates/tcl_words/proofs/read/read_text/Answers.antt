@@ -1,4 +1,4 @@
-use Rattle.std.proofs.Common.{◌+◌, arith, drop, refl, sym, ◌≡◌, ◌∙◌, Ok}
+use Rattle.std.proofs.Common.{◌+◌, drop, refl, sym, ◌≡◌, ◌∙◌, Ok}
 use Rattle.tcl_words.specs.Moves.{in_text}
 use Rattle.tcl_words.specs.declared.kind.Kind.TheVariants.{Dollar, OpenBracket, Other}
 use Rattle.tcl_words.specs.declared.kind.BytePlace.TheVariants.{Text}

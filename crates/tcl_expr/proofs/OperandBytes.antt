@@ -1,6 +1,7 @@
 -- Parts of a text that are UTF-8 as the text is.
-use Rattle.std.proofs.Common.{◌≡◌, ℕ, zero, suc, ◌+◌, ◌-◌, ◌≤◌, ◌<◌, ◌⊎◌, inl, inr, Bool, true, false, nat_lt, nat_le, ◌==◌, ◌&&◌, ◌||◌, List, [], ◌∷◌, ◌++◌, length, take, drop, slice_index, Option, Some, None, Ok, Err, refl, sym, ap, subst, ◌∙◌, append_assoc, length-append, eqb-true, arith}
+use Rattle.std.proofs.Common.{◌≡◌, ℕ, zero, suc, ◌+◌, ◌-◌, ◌≤◌, ◌<◌, ◌⊎◌, inl, inr, Bool, true, false, nat_lt, nat_le, ◌==◌, ◌&&◌, ◌||◌, List, [], ◌∷◌, ◌++◌, length, take, drop, slice_index, get_or, length-drop, Option, Some, None, Result, Ok, Err, refl, sym, ap, subst, ◌∙◌, append_assoc, length-append, eqb-true, arith}
 use Rattle.std.proofs.lemmas.Bool.{or_cases, and_parts, cases_lt, ltb-true, leb-true, le-ltb}
+use Rattle.std.proofs.lemmas.List.{take_all}
 use Rattle.std.specs.Char.{digit_value}
 use Rattle.std.specs.Str.{IsUtf8, IsAscii, IsCharBoundary}
 use Rattle.std.proofs.lemmas.Str.{IsUtf8-append, IsUtf8-take, IsUtf8-drop, IsUtf8-from_ascii, IsCharBoundary-at_seam, IsCharBoundary-after_ascii}
@@ -10,11 +11,13 @@ use Rattle.tcl_words.specs.Grammar.{begins_space, AreSpaces, IsBraced, IsUnclose
 use Rattle.tcl_words.specs.Grammar.IsBraced.{none, byte, pair, continuation, braces}
 use Rattle.tcl_words.proofs.BracesCut.{BraceCut, braces_cut}
 use Rattle.tcl_expr.specs.declared.braces.BracePlace.TheVariants.{Plain}
+use Rattle.tcl_expr.specs.declared.fault.ExprFault.{ExprFault}
 use Rattle.tcl_expr.specs.declared.fault.ExprFault.TheVariants.{MissingBrace}
 use Rattle.tcl_expr.specs.Braces.{braced}
 use Rattle.tcl_expr.specs.Tokens.{is_digit, is_alphabetic, is_name_byte}
 use Rattle.tcl_expr.specs.Counts.{name_bytes, digits, based_or, past_zero_by, past_zero, number_length}
 use Rattle.tcl_expr.proofs.BracesOfScripts.{braces_read, unclosed_read}
+use Rattle.tcl_expr.proofs.ReadLemmas.{at_position}
 
 -- ── ASCII ──
 
@@ -114,8 +117,8 @@ number_ascii (b ∷ text) = at (decide (b == 48))
     at (inr h) = rw h (digits_ascii 10 (omega arith) (b ∷ text))
 
 -- a number is UTF-8
-pub number_utf8 : (text bytes : List ℕ) → bytes ≡ take (number_length text) text → IsUtf8 bytes
-number_utf8 text bytes e = subst IsUtf8 (sym e) (IsUtf8-from_ascii (take (number_length text) text) (number_ascii text))
+pub number_utf8 : (text : List ℕ) (count : ℕ) → count ≡ number_length text → IsUtf8 (take count text)
+number_utf8 text count e = subst (λ n. IsUtf8 (take n text)) (sym e) (IsUtf8-from_ascii (take (number_length text) text) (number_ascii text))
 
 name_ascii : (b : ℕ) → is_name_byte b ≡ true → b < 128
 name_ascii b h = at (or_cases (is_alphabetic b || is_digit b) (b == 95) h)
@@ -144,8 +147,8 @@ names_ascii (b ∷ text) = at (decide (is_name_byte b)) (names_ascii text)
     at (inr h) rest = rw h IsAscii-nil
 
 -- and so is a word
-pub word_utf8 : (text bytes : List ℕ) → bytes ≡ take (name_bytes text) text → IsUtf8 bytes
-word_utf8 text bytes e = subst IsUtf8 (sym e) (IsUtf8-from_ascii (take (name_bytes text) text) (names_ascii text))
+pub word_utf8 : (text : List ℕ) (count : ℕ) → count ≡ name_bytes text → IsUtf8 (take count text)
+word_utf8 text count e = subst (λ n. IsUtf8 (take n text)) (sym e) (IsUtf8-from_ascii (take (name_bytes text) text) (names_ascii text))
 
 -- ── what stands in braces ──
 
@@ -225,16 +228,43 @@ value_utf8 (braces own text {inner} {value} first rest) front behind utf8 =
 pub braced_utf8 : (own value rest text : List ℕ) → IsBraced own value → text ≡ own ++ 125 ∷ rest → IsUtf8 text → IsUtf8 value
 braced_utf8 own value rest text is cut utf8 = before_ascii value 125 rest (omega arith) (value_utf8 is [] (125 ∷ rest) (subst IsUtf8 cut utf8))
 
+abbrev Found : Type 0
+Found = Result (List ℕ × ℕ) ExprFault
+
 found_by : (text value : List ℕ) (n : ℕ) → BraceCut text → braced Plain 0 text ≡ Ok (value, n) → IsUtf8 text → IsUtf8 value
 found_by text value n (inl (own, inner, rest, cut, is)) e utf8 =
-    let k : Ok (inner, length own) ≡ Ok (value, n) = sym (ap (braced Plain 0) cut ∙ braces_read own inner rest is) ∙ e in
-    let same : inner ≡ value = cc in
-    subst IsUtf8 same (braced_utf8 own inner rest text is cut utf8)
-found_by text value n (inr is) e utf8 = let k : Err MissingBrace ≡ Ok (value, n) = sym (unclosed_read text is) ∙ e in absurd (cc)
+    let k : ◌≡◌ {A = Found} (Ok (inner, length own)) (Ok (value, n)) = sym (ap (braced Plain 0) cut ∙ braces_read own inner rest is) ∙ e in
+    let parts : ◌≡◌ {A = List ℕ × ℕ} (inner, length own) (value, n) = cc in
+    subst IsUtf8 (ap (λ p. p.0) parts) (braced_utf8 own inner rest text is cut utf8)
+found_by text value n (inr is) e utf8 = let k : ◌≡◌ {A = Found} (Err MissingBrace) (Ok (value, n)) = sym (unclosed_read text is) ∙ e in absurd cc
 
 pub found_utf8 : (text value : List ℕ) (n : ℕ) → braced Plain 0 text ≡ Ok (value, n) → IsUtf8 text → IsUtf8 value
 found_utf8 text value n e utf8 = found_by text value n (braces_cut text) e utf8
 
--- what stands behind an ASCII byte
-pub behind_utf8 : (text behind : List ℕ) (at : ℕ) → at < length text → slice_index text at < 128 → IsUtf8 text → behind ≡ drop (at + 1) text → IsUtf8 behind
-behind_utf8 text behind at within ascii utf8 e = subst IsUtf8 (sym e) (IsUtf8-drop text (at + 1) utf8 (IsCharBoundary-after_ascii text at utf8 within ascii))
+-- ── what stands behind an ASCII byte ──
+
+-- a slice from a place to the end, and what is behind its first byte
+abbrev from_there : List ℕ → ℕ → List ℕ
+from_there text at = take (length text - at) (drop at text)
+
+abbrev past_first : List ℕ → List ℕ
+past_first text = take (length text - 1) (drop 1 text)
+
+abbrev Behind : List ℕ → ℕ → Type 0
+Behind text at = get_or (from_there text at) 0 0 < 128 → IsUtf8 (past_first (from_there text at))
+
+from_there_is : (text : List ℕ) (at : ℕ) → at < length text → from_there text at ≡ slice_index text at ∷ drop (at + 1) text
+from_there_is text at within = take_all (length text - at) (drop at text) (omega (arith, length-drop at text)) ∙ at_position text at within
+
+past_first_is : (b : ℕ) (behind : List ℕ) → past_first (b ∷ behind) ≡ behind
+past_first_is b behind = take_all (suc (length behind) - 1) behind (omega arith)
+
+behind_at : (text : List ℕ) (at : ℕ) → at < length text → IsUtf8 text → Behind text at
+behind_at text at within utf8 ascii =
+    let cut : from_there text at ≡ slice_index text at ∷ drop (at + 1) text = from_there_is text at within in
+    let here : slice_index text at < 128 = subst (λ t. get_or t 0 0 < 128) cut ascii in
+    let behind : IsUtf8 (drop (at + 1) text) = IsUtf8-drop text (at + 1) utf8 (IsCharBoundary-after_ascii text at utf8 within here) in
+    subst IsUtf8 (sym (ap past_first cut ∙ past_first_is (slice_index text at) (drop (at + 1) text))) behind
+
+pub behind_utf8 : (bytes text : List ℕ) (at : ℕ) → bytes ≡ text → at < length text → IsUtf8 text → Behind bytes at
+behind_utf8 bytes text at same within utf8 = subst (λ t. Behind t at) (sym same) (behind_at text at within utf8)

@@ -1,5 +1,5 @@
 -- Of each text with an operand in front, what is found is what the grammar relates.
-use Rattle.std.proofs.Common.{◌≡◌, ◌≢◌, ℕ, zero, suc, ◌+◌, ◌-◌, ◌≤◌, ◌<◌, ◌⊎◌, inl, inr, Bool, true, false, nat_lt, nat_le, ◌==◌, List, [], ◌∷◌, ◌++◌, length, take, drop, Option, Some, None, Result, Ok, Err, refl, sym, ap, subst, ◌∙◌, append_assoc, length-append, eqb-true, arith, if◌then◌else◌}
+use Rattle.std.proofs.Common.{◌≡◌, ◌≢◌, ℕ, zero, suc, ◌+◌, ◌-◌, ◌≤◌, ◌<◌, ◌⊎◌, inl, inr, Bool, true, false, nat_lt, nat_le, ◌==◌, ◌||◌, ◌&&◌, List, [], ◌∷◌, ◌++◌, length, take, drop, Option, Some, None, Result, Ok, Err, refl, sym, ap, subst, ◌∙◌, append_assoc, length-append, eqb-true, arith, if◌then◌else◌}
 use Rattle.std.proofs.lemmas.Bool.{ne_eqb, and_parts, leb-true, lt-ltb}
 use Rattle.std.proofs.lemmas.Str.{digit_value_digit}
 use Rattle.std.specs.Char.{digit_value}
@@ -43,8 +43,8 @@ abbrev pub number_at : ℕ → List ℕ → Found
 number_at n text = number_by (ends_number (drop n text)) (take n text) (n - 1)
 
 abbrev pub word_by : List ℕ → ℕ → Option Bool → Found
-word_by word n (Some truth) = Ok (Plain word, n - 1)
-word_by word n None = Err Syntax
+word_by spelling n (Some truth) = Ok (Plain spelling, n - 1)
+word_by spelling n None = Err Syntax
 
 abbrev pub word_at : ℕ → List ℕ → Found
 word_at n text = word_by (take n text) n (boolean_of (take n text))
@@ -166,9 +166,9 @@ abbrev InFront : List ℕ → List ℕ → Type 0
 InFront text rest = (front : List ℕ) × (text ≡ front ++ rest)
 
 substitution_front : {room : ℕ} {text : List ℕ} {own : Piece} {rest : List ℕ} → IsSubstitution room text own rest → InFront text rest
-substitution_front (name_behind name {rest} is h k) = (name, refl)
-substitution_front (braced_name name {rest} h) = (123 ∷ (name ++ 125 ∷ []), ap (λ t. 123 ∷ t) (sym (append_assoc name (125 ∷ []) rest)))
-substitution_front (element_behind name own {rest} is h) =
+substitution_front (name_behind name {text = rest} is h k) = (name, refl)
+substitution_front (braced_name name {text = rest} h) = (123 ∷ (name ++ 125 ∷ []), ap (λ t. 123 ∷ t) (sym (append_assoc name (125 ∷ []) rest)))
+substitution_front (element_behind name own {text = rest} is h) =
     (name ++ 40 ∷ (own ++ 41 ∷ []), sym (append_assoc name (40 ∷ (own ++ 41 ∷ [])) rest ∙ ap (λ t. name ++ 40 ∷ t) (append_assoc own (41 ∷ []) rest)))
 
 -- ── what the grammar relates is found ──
@@ -276,38 +276,66 @@ ByteOf mark.OpenBracket b = b ≡ 91
 ByteOf mark.Dollar b = b ≡ 36
 ByteOf _ b = Unit {0}
 
-either : (b : ℕ) (cond : Bool) (m other : Mark) → (cond ≡ true → ByteOf m b) → ByteOf other b → ByteOf (if cond then m else other) b
-either b true m other yes no = yes refl
-either b false m other yes no = no
+-- the kind of the first test that holds, and what each test has to tell
+abbrev first_kind : List (Bool × Mark) → Mark
+first_kind [] = mark.Other
+first_kind (test ∷ tests) = if test.0 then test.1 else first_kind tests
+
+abbrev AllTell : ℕ → List (Bool × Mark) → Type 0
+AllTell b [] = Unit {0}
+AllTell b (test ∷ tests) = (test.0 ≡ true → ByteOf test.1 b) × AllTell b tests
+
+told_first : (b : ℕ) (holds : Bool) (m next : Mark) → (holds ≡ true → ByteOf m b) → ByteOf next b → ByteOf (if holds then m else next) b
+told_first b true m next tells further = tells refl
+told_first b false m next tells further = further
+
+all_told : (b : ℕ) (tests : List (Bool × Mark)) → AllTell b tests → ByteOf (first_kind tests) b
+all_told b [] all = tt
+all_told b (test ∷ tests) all = told_first b test.0 test.1 (first_kind tests) all.0 (all_told b tests all.1)
+
+-- the tests of a byte that tell most of it come last
+abbrev last_tests : ℕ → List (Bool × Mark)
+last_tests b =
+    (b == 36, mark.Dollar)
+    ∷ (b == 123, mark.OpenBrace)
+    ∷ (b == 34, mark.Quote)
+    ∷ (b == 91, mark.OpenBracket)
+    ∷ (b == 92, mark.Backslash)
+    ∷ (is_digit b, mark.Digit)
+    ∷ (is_alphabetic b, mark.Letter)
+    ∷ []
+
+abbrev plain_tests : ℕ → List (Bool × Mark) → List (Bool × Mark)
+plain_tests b further =
+    (b == 32 || (nat_le 9 b && nat_le b 13), mark.White)
+    ∷ (b == 43, mark.Plus)
+    ∷ (b == 45, mark.Minus)
+    ∷ (b == 42, mark.Star)
+    ∷ (b == 47, mark.Slash)
+    ∷ (b == 37, mark.Percent)
+    ∷ (b == 60, mark.Less)
+    ∷ (b == 62, mark.Greater)
+    ∷ (b == 61, mark.Equals)
+    ∷ (b == 33, mark.Bang)
+    ∷ (b == 38, mark.Ampersand)
+    ∷ (b == 124, mark.Bar)
+    ∷ (b == 94, mark.Caret)
+    ∷ (b == 126, mark.Tilde)
+    ∷ (b == 63, mark.Question)
+    ∷ (b == 58, mark.Colon)
+    ∷ (b == 40, mark.OpenParen)
+    ∷ (b == 41, mark.CloseParen)
+    ∷ further
+
+last_tell : (b : ℕ) → AllTell b (last_tests b)
+last_tell b = (λ e. eqb-true b 36 e, (λ e. eqb-true b 123 e, (λ e. eqb-true b 34 e, (λ e. eqb-true b 91 e, (λ _. tt, (λ e. e, (λ e. e, tt)))))))
+
+plain_tell : (b : ℕ) (further : List (Bool × Mark)) → AllTell b further → AllTell b (plain_tests b further)
+plain_tell b further tell = (λ _. tt, (λ _. tt, (λ _. tt, (λ _. tt, (λ _. tt, (λ _. tt, (λ _. tt, (λ _. tt, (λ _. tt, (λ _. tt, (λ _. tt, (λ _. tt, (λ _. tt, (λ _. tt, (λ _. tt, (λ _. tt, (λ _. tt, (λ _. tt, tell))))))))))))))))))
 
 byte_of : (b : ℕ) → ByteOf (mark_of b) b
 unfolding mark_of
-byte_of b =
-    either b _ mark.White _ (λ _. tt)
-    (either b _ mark.Plus _ (λ _. tt)
-    (either b _ mark.Minus _ (λ _. tt)
-    (either b _ mark.Star _ (λ _. tt)
-    (either b _ mark.Slash _ (λ _. tt)
-    (either b _ mark.Percent _ (λ _. tt)
-    (either b _ mark.Less _ (λ _. tt)
-    (either b _ mark.Greater _ (λ _. tt)
-    (either b _ mark.Equals _ (λ _. tt)
-    (either b _ mark.Bang _ (λ _. tt)
-    (either b _ mark.Ampersand _ (λ _. tt)
-    (either b _ mark.Bar _ (λ _. tt)
-    (either b _ mark.Caret _ (λ _. tt)
-    (either b _ mark.Tilde _ (λ _. tt)
-    (either b _ mark.Question _ (λ _. tt)
-    (either b _ mark.Colon _ (λ _. tt)
-    (either b _ mark.OpenParen _ (λ _. tt)
-    (either b _ mark.CloseParen _ (λ _. tt)
-    (either b _ mark.Dollar _ (λ e. eqb-true b 36 e)
-    (either b _ mark.OpenBrace _ (λ e. eqb-true b 123 e)
-    (either b _ mark.Quote _ (λ e. eqb-true b 34 e)
-    (either b _ mark.OpenBracket _ (λ e. eqb-true b 91 e)
-    (either b _ mark.Backslash _ (λ _. tt)
-    (either b _ mark.Digit _ (λ e. e)
-    (either b _ mark.Letter _ (λ e. e) tt))))))))))))))))))))))))
+byte_of b = all_told b (plain_tests b (last_tests b)) (plain_tell b (last_tests b) (last_tell b))
 
 byte_as : (b : ℕ) (m : Mark) → mark_of b ≡ m → ByteOf m b
 byte_as b m e = subst (λ k. ByteOf k b) e (byte_of b)

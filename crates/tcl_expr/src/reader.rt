@@ -79,7 +79,6 @@ fn take_paren(parser: &mut Parser) -> Result<usize, ExprFault>
 }
 
 /// An integer.
-#[tactic(auto, using(crate::proofs::OperandBytes::number_utf8))]
 fn take_number(alloc: Global, parser: &mut Parser, text: &[u8]) -> Result<usize, ExprFault>
     requires { length text.now ≤ 65536 }
     ensures { standing.Takes parser.old result parser.new (λ before. reading.at_number (counts.number_length text.now) before text.now) }
@@ -94,7 +93,6 @@ fn take_number(alloc: Global, parser: &mut Parser, text: &[u8]) -> Result<usize,
 }
 
 /// A boolean word.
-#[tactic(auto, using(crate::proofs::OperandBytes::word_utf8))]
 fn take_word(alloc: Global, parser: &mut Parser, text: &[u8]) -> Result<usize, ExprFault>
     requires { length text.now ≤ 65536 }
     ensures { standing.Takes parser.old result parser.new (λ before. reading.at_word (counts.name_bytes text.now) before text.now) }
@@ -191,7 +189,6 @@ fn take_braces(alloc: Global, parser: &mut Parser, behind: &[u8]) -> Result<usiz
 }
 
 /// What stands where an operand is due.
-#[tactic(auto, using(crate::proofs::OperandBytes::behind_utf8))]
 fn take_operand(
     alloc: Global,
     parser: &mut Parser,

@@ -1,4 +1,4 @@
--- An evaluation that is resumed: what is still to come of it, and what an answer says of that.
+-- Steps. An evaluation that is resumed: what is still to come of it, and what an answer says of that.
 use Rattle.std.specs.Prelude.{◌≡◌, ◌⊎◌, ℕ, Bool, true, false, List, [], ◌∷◌, drop, Option, Some, None, Result, Ok, Err}
 use Rattle.tcl_expr.specs.declared.ask.Ask.{Ask}
 use Rattle.tcl_expr.specs.declared.ask.Ask.TheVariants.{Value as ValueOf}
@@ -14,7 +14,7 @@ use Rattle.tcl_expr.specs.Run.{Run, Ends, asks}
 use Rattle.tcl_expr.specs.Steps.{execute}
 
 -- the steps that are left, the values that wait for them, and whether something was asked
-pub record Evaluation : Type 0 where
+pub record Resumption : Type 0 where
   pub steps : List Step
   pub stack : List Value
   pub state : State
@@ -25,7 +25,7 @@ steps_in (Ok steps) = steps
 steps_in (Err fault) = []
 
 -- what is left from a place on
-abbrev pub evaluation_at : ℕ → Result (List Step) ExprFault → List Value → State → Evaluation
+abbrev pub evaluation_at : ℕ → Result (List Step) ExprFault → List Value → State → Resumption
 evaluation_at place compiled stack state = record { steps = drop place (steps_in compiled); stack = stack; state = state }
 
 -- the stack with an answer, if one is given
@@ -43,11 +43,11 @@ to_come (Ended text) steps stack = Ends (Ok text)
 to_come (Failed fault) steps stack = Ends (Err fault)
 to_come _ steps stack = execute 0 steps stack
 
-abbrev pub told : Evaluation → Option (List ℕ) → Run
+abbrev pub told : Resumption → Option (List ℕ) → Run
 told evaluation given = to_come evaluation.state evaluation.steps (with_given given evaluation.stack)
 
 -- what an answer to the question leads to
-abbrev pub answered : Evaluation → List ℕ → Run
+abbrev pub answered : Resumption → List ℕ → Run
 answered evaluation text = told evaluation (Some text)
 
 abbrev pub state_after : Ask → State
@@ -55,7 +55,7 @@ state_after (ValueOf text) = Ended text
 state_after _ = Waiting
 
 -- What is told is what was to come, and what is left is what comes then; a value or a fault stays.
-abbrev pub Tells : Run → Result Ask EvalFault → Evaluation → Type 0
+abbrev pub Tells : Run → Result Ask EvalFault → Resumption → Type 0
 Tells run (Ok ask) after = (run ≡ asks ask (answered after)) × (after.state ≡ state_after ask)
 Tells run (Err fault) after = ((run ≡ Ends (Err fault)) ⊎ (fault ≡ NoMemory)) × (after.state ≡ Failed fault)
 

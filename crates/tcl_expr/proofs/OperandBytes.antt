@@ -3,11 +3,11 @@ use Rattle.std.proofs.Common.{◌≡◌, ℕ, zero, suc, ◌+◌, ◌-◌, ◌�
 use Rattle.std.proofs.lemmas.Bool.{or_cases, and_parts, cases_lt, ltb-true, leb-true, le-ltb}
 use Rattle.std.proofs.lemmas.List.{take_all}
 use Rattle.std.specs.Char.{digit_value}
-use Rattle.std.specs.Str.{IsUtf8, IsAscii, IsCharBoundary}
+use Rattle.std.specs.Str.{IsUtf8, IsAscii}
 use Rattle.std.proofs.lemmas.Str.{IsUtf8-append, IsUtf8-take, IsUtf8-drop, IsUtf8-from_ascii, IsCharBoundary-at_seam, IsCharBoundary-after_ascii}
 use Rattle.std.proofs.lemmas.Str.Ascii.{IsAscii-nil}
 use Rattle.tcl_text.specs.Readings.{base_named}
-use Rattle.tcl_words.specs.Grammar.{begins_space, AreSpaces, IsBraced, IsUnclosed}
+use Rattle.tcl_words.specs.Grammar.{AreSpaces, IsBraced}
 use Rattle.tcl_words.specs.Grammar.IsBraced.{none, byte, pair, continuation, braces}
 use Rattle.tcl_words.proofs.BracesCut.{BraceCut, braces_cut}
 use Rattle.tcl_expr.specs.declared.braces.BracePlace.TheVariants.{Plain}

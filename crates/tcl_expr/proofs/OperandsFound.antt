@@ -1,11 +1,11 @@
 -- Of each text with an operand in front, what is found is what the grammar relates.
-use Rattle.std.proofs.Common.{◌≡◌, ◌≢◌, ℕ, zero, suc, ◌+◌, ◌-◌, ◌≤◌, ◌<◌, ◌⊎◌, inl, inr, Bool, true, false, nat_lt, nat_le, ◌==◌, ◌||◌, ◌&&◌, List, [], ◌∷◌, ◌++◌, length, take, drop, Option, Some, None, Result, Ok, Err, refl, sym, ap, subst, ◌∙◌, append_assoc, length-append, eqb-true, arith, if◌then◌else◌}
+use Rattle.std.proofs.Common.{◌≡◌, ◌≢◌, ℕ, suc, ◌+◌, ◌-◌, ◌≤◌, ◌<◌, ◌⊎◌, inl, inr, Bool, true, false, nat_lt, nat_le, ◌==◌, ◌||◌, ◌&&◌, List, [], ◌∷◌, ◌++◌, length, take, drop, Option, Some, None, Result, Ok, Err, refl, sym, ap, subst, ◌∙◌, append_assoc, length-append, eqb-true, arith, if◌then◌else◌}
 use Rattle.std.proofs.lemmas.Bool.{ne_eqb, and_parts, leb-true, lt-ltb}
 use Rattle.std.proofs.lemmas.Str.{digit_value_digit}
 use Rattle.std.specs.Char.{digit_value}
 use Rattle.tcl_text.specs.Readings.{boolean_of, base_named}
-use Rattle.tcl_words.specs.Grammar.{begins, begins_name, IsBraced, IsUnclosed}
-use Rattle.tcl_words.specs.OperandGrammar.{IsSubstitution, IsFaultySubstitution, IsBehindBracket, IsBehindDollar, IsBehindQuote}
+use Rattle.tcl_words.specs.Grammar.{IsBraced, IsUnclosed}
+use Rattle.tcl_words.specs.OperandGrammar.{IsSubstitution, IsBehindBracket, IsBehindDollar, IsBehindQuote}
 use Rattle.tcl_words.specs.OperandGrammar.IsSubstitution.{variable as name_behind, braced_name, element as element_behind}
 use Rattle.tcl_words.specs.Operands.{bracket_of, substitution_of, quoted_of}
 use Rattle.tcl_words.specs.declared.script.Piece.{Piece}
@@ -25,7 +25,7 @@ use Rattle.tcl_expr.specs.Substitution.{piece_tree, text_tree}
 use Rattle.tcl_expr.specs.Tokens.{mark_of, is_digit, is_alphabetic, is_name_byte, begins_name_byte, ends_number}
 use Rattle.tcl_expr.specs.Counts.{name_bytes, digits, based_or, past_zero_by, past_zero, number_length}
 use Rattle.tcl_expr.specs.Trees.{Tree, Integer, Plain, Command}
-use Rattle.tcl_expr.specs.Grammar.{ExprEnding, leaves, fails, AreDigits, begins_digit, begins_digit_of, begins_base, IsNumber, AreNameBytes, IsPieceTree, IsTextTree, begins_operand, IsOperand}
+use Rattle.tcl_expr.specs.Grammar.{ExprEnding, leaves, fails, AreDigits, begins_digit, begins_digit_of, begins_base, IsNumber, AreNameBytes, begins_operand, IsOperand}
 use Rattle.tcl_expr.specs.Grammar.IsNumber.{based, octal, decimal}
 use Rattle.tcl_expr.specs.Grammar.IsOperand.{number, unended_number, word, other_word, braces, unclosed_braces, quotes, faulty_quotes, bracket, faulty_bracket, variable, faulty_variable, no_variable, none}
 use Rattle.tcl_expr.proofs.BracesOfScripts.{braces_read, unclosed_read}

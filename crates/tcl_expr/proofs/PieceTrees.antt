@@ -5,7 +5,6 @@ use Rattle.tcl_words.specs.Grammar.{TextEnding, leaves as leaves_text, fails as 
 use Rattle.tcl_words.specs.Grammar.ArePieces.{stop, unended, byte, backslash, dollar, variable as body_variable, braced_name as body_braced_name, unclosed_name, element as body_element, faulty_index, bracket as body_bracket, faulty_script}
 use Rattle.tcl_words.specs.OperandGrammar.{IsSubstitution}
 use Rattle.tcl_words.specs.OperandGrammar.IsSubstitution.{variable as name_behind, braced_name as braced_behind, element as element_behind}
-use Rattle.tcl_words.specs.Reading.{index_pieces_of}
 use Rattle.tcl_words.specs.declared.kind.Mode.{Mode}
 use Rattle.tcl_words.specs.declared.script.Piece.{Piece}
 use Rattle.tcl_words.specs.declared.script.Piece.TheVariants as piece

@@ -1,8 +1,8 @@
 # Packs windows in cavities in many ways with the packer of this wish (8.6), and prints the table of where they come to lie:
 #
-#     xvfb-run -a wish tests/packings.tcl > crates/packer_tables/data/packings.table
+#     xvfb-run -a wish tests/packings.tcl > crates/tree_tables/data/packings.table
 #
-# The form of the table is told by the program packer_tables, which reads it.
+# The form of its questions is told by the program tree_tables, which asks them.
 
 frame .f
 place .f -x 0 -y 0
@@ -10,29 +10,25 @@ place .f -x 0 -y 0
 # One case: a cavity, and a list of {width height option value ..}.
 proc packing {width height slaves} {
     place .f -width $width -height $height
-    puts "cavity $width $height"
+    puts "? cavity $width $height"
     set i 0
     foreach slave $slaves {
         set options [lassign $slave w h]
         frame .f.s$i -width $w -height $h
         pack .f.s$i {*}$options
+        puts "? slave [join [lmap word $slave {join $word ,}] { }]"
         incr i
     }
     update
-    set i 0
-    foreach slave $slaves {
-        set words {}
-        foreach word $slave {lappend words [join $word ,]}
-        set s .f.s$i
+    set places {}
+    foreach s [pack slaves .f] {
         if {[winfo ismapped $s]} {
-            set place "[winfo x $s] [winfo y $s] [winfo width $s] [winfo height $s]"
+            lappend places "[winfo x $s] [winfo y $s] [winfo width $s] [winfo height $s]"
         } else {
-            set place none
+            lappend places none
         }
-        puts "[join $words { }] = $place"
-        incr i
     }
-    puts "wants [winfo reqwidth .f] [winfo reqheight .f]"
+    puts "? arrange\n=[winfo reqwidth .f] [winfo reqheight .f]: [join $places {, }]"
     foreach s [winfo children .f] {destroy $s}
 }
 

@@ -2,14 +2,17 @@
 #
 #     xvfb-run -a wish tests/widgets.tcl crates/widget_tables/data/*.table > tests/widgets.otherwise
 #
-# The form of the tables is told by the program widget_tables, which reads them. Each list of lines is asked up to its first line of a key or the
-# pointer; sizes, which hang on the font, scripts that are to be run, and what a label or a button shows aren't asked. Two refusals are alike,
-# whatever their texts. The last line counts.
+# The form of a table is told by the library tables, that of the questions by the program widget_tables. Behind each `new` they are asked up
+# to the first of a key or the pointer; sizes, which hang on the font, scripts that are to be run, and what a label or a button shows aren't asked.
+# Two refusals are alike, whatever their texts. The last line counts.
 
-# A word as it is meant: newlines for `~`, and the text of `*N*TEXT` N times.
+# Control characters by their pictures.
+set pictures {}
+for {set code 0} {$code < 32} {incr code} {lappend pictures [format %c [expr {0x2400 + $code}]] [format %c $code]}
+
+# A word as it is meant: the text of `*N*TEXT` N times, or itself.
 proc plain {word} {
-    if {[regexp {^\*(\d+)\*(.*)$} $word -> count text]} {set word [string repeat $text $count]}
-    return [string map [list ~ \n] $word]
+    return [expr {[regexp {^\*(\d+)\*(.*)$} $word -> count text] ? [string repeat $text $count] : $word}]
 }
 
 proc words {rest} {
@@ -24,9 +27,9 @@ proc begin {kind} {
     $kind .w
 }
 
-# What wish answers to a line; nothing where it isn't asked.
-proc asked {line} {
-    regexp {^(\S+) ?(.*)$} $line -> first rest
+# What wish answers to a question; nothing where it isn't asked.
+proc asked {question} {
+    regexp {^(\S+) ?(.*)$} $question -> first rest
     switch $first {
         path {set command [list .w {*}[words $rest]]}
         set - unset {set command [list $first {*}[words $rest]]}
@@ -45,7 +48,7 @@ proc asked {line} {
 }
 
 proc short {text} {
-    set text [string map [list \n ~] $text]
+    set text [string map [lreverse $::pictures] $text]
     return [expr {[string length $text] > 200 ? "[string range $text 0 199].." : $text}]
 }
 
@@ -57,29 +60,28 @@ proc compare {path} {
     set file [open $path]
     fconfigure $file -encoding utf-8
     set number 0
-    set line ""
+    set question ""
     set over 0
-    while {[gets $file text] >= 0} {
+    while {[gets $file line] >= 0} {
         incr number
-        if {$text eq "" || [string match "#*" $text]} continue
-        if {[string match "new *" $text]} {
-            begin [string range $text 4 end]
+        set text [string map $::pictures $line]
+        if {[regexp {^\? new (.*)$} $text -> kind]} {
+            begin $kind
             set over 0
-        } elseif {[string index $text 0] in {= ! >}} {
-            if {[string index $text 0] eq ">" || $line eq ""} continue
+        } elseif {[regexp {^\? (key|backspace|delete|move|point|press|drag|step|space|down|sink|up)( |$)} $text]} {
+            set over 1
+        } elseif {[regexp {^\? (.*)$} $text -> question]} {
+            if {$over} {set question ""}
+        } elseif {[regexp {^[=!]} $text] && $question ne ""} {
             incr ::asked
-            set told [asked $line]
+            set told [asked $question]
             if {$told eq ""} {
                 incr ::asked -1
-            } elseif {![is_alike $told [plain $text]]} {
-                puts "[file tail $path]:$number: [short $line] [short $text]; wish: [short $told]"
+            } elseif {![is_alike $told $text]} {
+                puts "[file tail $path]:$number: [short $question] [short $text]; wish: [short $told]"
                 incr ::otherwise
             }
-            set line ""
-        } elseif {[regexp {^(key|backspace|delete|move|point|press|drag|step|space|down|sink|up)( |$)} $text]} {
-            set over 1
-        } else {
-            set line [expr {$over ? "" : $text}]
+            set question ""
         }
     }
     close $file

@@ -1,4 +1,4 @@
-# Writes a table anew, with the values that tclsh gives. Where it gives an error, its text stands behind `! `.
+# Writes a table anew, with the values that tclsh gives. Where it gives an error, its text stands behind the mark.
 #
 #     tclsh ask.tcl < data/operands.table
 #
@@ -27,12 +27,10 @@ proc value_of {expression} {
 fconfigure stdin -encoding utf-8
 fconfigure stdout -encoding utf-8
 while {[gets stdin line] >= 0} {
-    set place [string last " => " $line]
-    if {[string index $line 0] eq "#" || $place < 0} {
-        puts $line
+    if {![regexp {^\? (?:value|text) (.*)$} $line -> expression]} {
+        if {$line eq "" || [string match #* $line]} {puts $line}
         continue
     }
-    set expression [string range $line 0 $place-1]
-    if {[catch {value_of [pictures $expression read]} value]} {set value "! $value"}
-    puts "$expression => [pictures $value write]"
+    set mark [expr {[catch {value_of [pictures $expression read]} value] ? "!" : "="}]
+    puts "$line\n$mark[pictures $value write]"
 }

@@ -25,7 +25,7 @@ proc note {args} {
     if {[lindex $args 0] eq "k"} {
         return \[[join $args " "]\]
     }
-    append ::noted \n= [string map [lreverse $::pictures] [join $args |]]
+    lappend ::noted [join $args |]
     return
 }
 
@@ -43,9 +43,10 @@ proc quiet {} {
     return $own
 }
 
-# Runs a script until it lacks no variable: its commands as a table has them, or its fault.
+# Runs a script until it lacks no variable: its commands as a table has them, with a U+001E between two, or its fault.
 proc answer {own script} {
     set names {}
+    set fault {}
     while 1 {
         set ::noted {}
         set failed [catch {interp eval $own $script} told]
@@ -53,7 +54,7 @@ proc answer {own script} {
             break
         }
         if {![regexp {^can't read "(.*)": no such (?:variable|element in array)$} $told -> name]} {
-            set ::noted \n![regsub { for variable name|: possible unbalanced brace in comment} $told {}]
+            set fault ![regsub { for variable name|: possible unbalanced brace in comment} $told {}]
             break
         }
         interp invokehidden $own set $name <$name>
@@ -62,7 +63,10 @@ proc answer {own script} {
     foreach name $names {
         interp invokehidden $own unset -nocomplain [regsub {\(.*\)$} $name {}] $name
     }
-    return $::noted
+    if {$fault ne {}} {
+        return $fault
+    }
+    return [expr {[llength $::noted] ? "=[join $::noted \u001e]" : "-"}]
 }
 
 # A character for each number of bytes short of the whole: what a script of so many is.
@@ -77,25 +81,24 @@ proc verdicts {own script} {
             continue
         }
         set answer [answer $own $text]
-        if {![string match "\n!*" $answer]} {
+        if {![string match !* $answer]} {
             append told .
             continue
         }
-        append told $::marks([string range $answer 2 end])
+        append told $::marks([string range $answer 1 end])
     }
-    return \n~$told
+    return ~$told
 }
 
 set own [quiet]
-set blocks {}
-foreach block [split [string map {\n\n \u0001} [string trimright [read stdin] \n]] \u0001] {
-    set script [string map $pictures [lindex [split $block \n] 0]]
-    if {[string match --* $block]} {
-        lappend blocks $block
-    } elseif {[string match *\n~* $block]} {
-        lappend blocks [lindex [split $block \n] 0][verdicts $own $script]
-    } else {
-        lappend blocks [lindex [split $block \n] 0][answer $own $script]
+while {[gets stdin line] >= 0} {
+    if {![regexp {^\? (commands|fronts) (.*)$} $line -> kind script]} {
+        if {$line eq {} || [string match #* $line]} {
+            puts $line
+        }
+        continue
     }
+    set script [string map $pictures $script]
+    set told [expr {$kind eq "fronts" ? [verdicts $own $script] : [answer $own $script]}]
+    puts $line\n[string map [lreverse $pictures] $told]
 }
-puts [join $blocks \n\n]

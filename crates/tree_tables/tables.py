@@ -8,6 +8,10 @@ import itertools, random, sys
 MOST = 2147483647
 
 
+def tell(question, answer=""):
+    print(f"? {question}\n={answer}")
+
+
 # ---- trees
 
 class Tree:
@@ -53,29 +57,26 @@ class Tree:
 
 
 class Trees:
-    """Tells each call with its answer."""
+    """Tells each question with its answer."""
 
     def __init__(self):
         self.owners = {}
 
     def begin(self):
         self.owners = {}
-        print("begin =")
+        tell("begin")
 
     def own(self, owner):
         return self.owners.setdefault(owner, Tree())
 
-    def tell(self, call, answer):
-        print(f"{call} = {answer}".rstrip())
-
     def create(self, owner, path):
         answer = self.own(owner).create(path)
-        self.tell(f"create {owner} {path}", answer)
+        tell(f"create {owner} {path}", answer)
         return answer
 
     def find(self, owner, path):
         window = self.own(owner).at(path)
-        self.tell(f"find {owner} {path}", "none" if window is None else window["number"])
+        tell(f"find {owner} {path}", "none" if window is None else window["number"])
 
     def call(self, name, owner, number):
         tree = self.own(owner)
@@ -92,7 +93,7 @@ class Trees:
                 answer = ""
             else:
                 answer = " ".join(str(n) for n in {"children": tree.children, "subtree": tree.subtree, "post": tree.post}[name](number))
-        self.tell(f"{name} {owner} {number}", answer)
+        tell(f"{name} {owner} {number}", answer)
 
     def walk(self, owner, number):
         for name in "children", "subtree", "post":
@@ -261,23 +262,23 @@ def arrange(size, requests):
 
 
 class Layouts:
-    """Tells each call with its answer; windows by number, in pre-order."""
+    """Tells each question with its answer; windows by number, in pre-order."""
 
     def begin(self, width, height):
         self.size, self.windows, self.slaves = (width, height), {}, {}
-        print(f"begin {width} {height} =")
+        tell(f"begin {width} {height}")
 
     def window(self, number, width, height, border, propagates):
         old = self.windows.get(number, {"place": (0, 0, 1, 1), "mapped": False})
         self.windows[number] = dict(old, size=(width, height), border=border, propagates=propagates)
-        print(f"window {number} {width} {height} {border} {int(propagates)} =")
+        tell(f"window {number} {width} {height} {border} {int(propagates)}")
 
     def pack(self, master, number, place, request):
         self.drop(number)
         self.slaves.setdefault(master, []).insert(place, dict(request, number=number))
         r = request
-        print(f"pack {master} {number} {place} {r['side']} {r['anchor']} {r['fill']} {int(r['expand'])} {r['padx'][0]},{r['padx'][1]} "
-              f"{r['pady'][0]},{r['pady'][1]} {r['ipad'][0]} {r['ipad'][1]} =")
+        tell(f"pack {master} {number} {place} {r['side']} {r['anchor']} {r['fill']} {int(r['expand'])} {r['padx'][0]},{r['padx'][1]} "
+             f"{r['pady'][0]},{r['pady'][1]} {r['ipad'][0]} {r['ipad'][1]}")
 
     def drop(self, number):
         for slaves in self.slaves.values():
@@ -285,7 +286,7 @@ class Layouts:
 
     def forget(self, number):
         self.drop(number)
-        print(f"forget {number} =")
+        tell(f"forget {number}")
 
     def requests(self, number):
         return [dict(r, size=self.asked(r["number"])) for r in self.slaves.get(number, [])]
@@ -298,7 +299,7 @@ class Layouts:
         return min(MOST, max(1, width)), min(MOST, max(1, height))
 
     def asks(self, number):
-        print(f"asks {number} = {' '.join(map(str, self.asked(number)))}" if number in self.windows else f"asks {number} = none")
+        tell(f"asks {number}", " ".join(map(str, self.asked(number))) if number in self.windows else "none")
 
     def places(self, number, rect):
         told = {number: rect}
@@ -324,7 +325,7 @@ class Layouts:
                 if not window["mapped"]:
                     texts.append(f"m{number}")
             window["mapped"] = rect is not None
-        print(f"lay = {' '.join(texts)}".rstrip())
+        tell("lay", " ".join(texts))
 
 
 def request(side="top", anchor="center", fill="none", expand=False, padx=(0, 0), pady=(0, 0), ipad=(0, 0)):

@@ -1,29 +1,20 @@
-//! Calls aliases, and tells of each reply that isn't the one in a table.
+//! Calls aliases, and tells of each reply that isn't the one in a table (`tables` says what stands in one).
 //!
-//! Each argument names a table, the file `NAME.table`. In it a line `KIND LIST` sets an alias up, with the configuration that is the first
-//! item of the list, and a line `call LIST` calls it with these arguments. The line behind a call is what it replies: `=` and a result, or
-//! `!` and the text of an error. A line that begins with `#` says something.
+//! A question `KIND LIST` sets an alias up, with the configuration that is the first item of the list. `call LIST` calls it with these arguments,
+//! and is answered what it replies: `=` and a result, or `!` and the text of an error.
 //!
 //! Beside the program's services it calls aliases of its own, of the kind `count`: those answer how many arguments they are given.
 #![tactic(auto)]
 
 mod counting;
 
-use anyhow::{Context, Result, bail};
+use anyhow::{Result, bail};
 use counting::Counting;
 use std::alloc::Global;
-use std::{env, fs};
+use tables::{Fixture, ask_tables, error_of, first_word, result_of};
 use tcl_text::{Text, TextList};
 use tk_alias::{Alias, AliasMeaning, AliasReply};
 use tk_services::{Service, ServiceKind};
-
-/// What a table has shown so far.
-#[derive(Clone, Copy)]
-struct Tally {
-    aliases: u32,
-    replies: u32,
-    wrong: u32,
-}
 
 /// What is called.
 #[derive(Drop)]
@@ -54,15 +45,14 @@ fn kind_of(word: &str) -> Option<ServiceKind> {
     }
 }
 
-/// The alias that a line of a table sets up.
+/// The alias that a question sets up.
 fn made(alloc: Global, kind: &str, list: &str) -> Result<Called> {
     let name = text_of(alloc, "called")?;
     let items = items_of(alloc, list)?;
-    let config = items
-        .as_slice()
-        .first()
-        .context("no configuration")?
-        .copy()?;
+    let [config, ..] = items.as_slice() else {
+        bail!("no configuration");
+    };
+    let config = config.copy()?;
     match kind_of(kind) {
         Some(kind) => Ok(Called::Service(Alias::new(name, Service { kind, config }))),
         None if kind == "count" => Ok(Called::Counting(Alias::new(
@@ -76,8 +66,8 @@ fn made(alloc: Global, kind: &str, list: &str) -> Result<Called> {
 /// A reply as a table has it.
 fn told<M: AliasMeaning>(alloc: Global, alias: &Alias<M>, args: &[Text]) -> Result<String> {
     match alias.call(alloc, args) {
-        AliasReply::Ok(text) => Ok(format!(in alloc; "={}", text.as_str())?),
-        AliasReply::Err(text) => Ok(format!(in alloc; "!{}", text.as_str())?),
+        AliasReply::Ok(text) => result_of(alloc, text.as_str()),
+        AliasReply::Err(text) => error_of(alloc, text.as_str()),
         AliasReply::NoMemory => bail!("memory was refused"),
     }
 }
@@ -91,49 +81,28 @@ fn call(alloc: Global, called: &Option<Called>, list: &str) -> Result<String> {
     }
 }
 
-/// Calls a table's aliases, and prints each reply that isn't the one in the table.
-fn ask(rt: &(impl Print + AllocGlobal), name: &str, table: &str) -> Result<Tally> {
-    let alloc = rt.alloc();
-    let mut tally = Tally {
-        aliases: 0,
-        replies: 0,
-        wrong: 0,
-    };
-    let mut called = None;
-    let mut reply = String::new(alloc);
-    for line in table.lines() {
-        if line.starts_with('=') || line.starts_with('!') {
-            tally.replies = tally.replies.saturating_add(1);
-            if reply.as_str() != line {
-                tally.wrong = tally.wrong.saturating_add(1);
-                println!(rt; "{name}: {reply} and not {line}")?;
+/// The alias that was set up last.
+#[derive(Drop)]
+struct Caller {
+    called: Option<Called>,
+}
+
+impl Fixture for Caller {
+    fn new(_alloc: Global) -> Result<Caller> {
+        Ok(Caller { called: None })
+    }
+
+    fn answer(&mut self, alloc: Global, question: &str) -> Result<String> {
+        match first_word(question) {
+            ("call", list) => call(alloc, &self.called, list),
+            (kind, list) => {
+                self.called = Some(made(alloc, kind, list)?);
+                result_of(alloc, "")
             }
-        } else if let Some(list) = line.strip_prefix("call") {
-            reply = call(alloc, &called, list)?;
-        } else if !line.starts_with('#') && !line.is_empty() {
-            let (kind, list) = line.split_once(' ').context("a line of one word")?;
-            called = Some(made(alloc, kind, list)?);
-            tally.aliases = tally.aliases.saturating_add(1);
         }
     }
-    Ok(tally)
 }
 
 fn main(rt: HostRuntime) -> Result<()> {
-    let mut wrong = false;
-    for name in env::args(&rt)?.skip(1) {
-        let path = format!(in rt.alloc(); "{name}.table")?;
-        let table = fs::read_to_string(&rt, path).context(format_args!("table {name}"))?;
-        let Tally {
-            aliases,
-            replies,
-            wrong: differ,
-        } = ask(&rt, name.as_str(), table.as_str())?;
-        println!(rt; "{name}: {aliases} aliases, {replies} replies, {differ} wrong")?;
-        wrong = wrong || differ != 0;
-    }
-    if wrong {
-        bail!("some replies are wrong");
-    }
-    Ok(())
+    ask_tables::<Caller, _>(&rt)
 }

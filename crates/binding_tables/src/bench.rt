@@ -33,43 +33,72 @@ fn bindings(alloc: Global, owners: usize, count: usize) -> Result<BindTable> {
     Ok(table)
 }
 
-/// How many of the events had a winner.
-fn winners(
-    table: &BindTable,
-    owners: usize,
-    event: &Event,
-    history: &History,
-    virtuals: &VirtualPairs,
-) -> Result<u32> {
-    let mut found = 0u32;
-    for round in 0..EVENTS {
-        let owner = round as usize % owners.max(1);
-        if table
-            .winner(owner, ".w1", event, history, virtuals)?
-            .is_some()
-        {
-            found = found.saturating_add(1);
-        }
+/// What is asked for winners.
+#[derive(Drop)]
+struct Asked {
+    table: BindTable,
+    history: History,
+    virtuals: VirtualPairs,
+}
+
+impl Asked {
+    fn new(alloc: Global, owners: usize, count: usize) -> Result<Asked> {
+        Ok(Asked {
+            table: bindings(alloc, owners, count)?,
+            history: History::new(alloc)?,
+            virtuals: VirtualPairs::new(alloc),
+        })
     }
-    Ok(found)
+
+    /// Whether an event has a winner in an application.
+    fn has_winner(&self, owner: usize, event: &Event) -> Result<bool> {
+        let winner = self
+            .table
+            .winner(owner, ".w1", event, &self.history, &self.virtuals)?;
+        Ok(winner.is_some())
+    }
+
+    /// How many of the events had a winner.
+    fn winners(&self, owners: usize, event: &Event) -> Result<u32> {
+        let mut found = 0u32;
+        for round in 0..EVENTS {
+            let owner = round as usize % owners.max(1);
+            if self.has_winner(owner, event)? {
+                found = found.saturating_add(1);
+            }
+        }
+        Ok(found)
+    }
+}
+
+fn key_winners(alloc: Global, asked: &Asked, owners: usize) -> Result<u32> {
+    let event = event_of(alloc, &["Key", "0", "0", "0", "a", "0", "0"])?;
+    asked.winners(owners, &event)
+}
+
+/// Times events with so many bindings in each of so many applications.
+fn time_events(rt: &(impl Print + AllocGlobal + Clock), owners: usize, count: usize) -> Result<()> {
+    let asked = Asked::new(rt.alloc(), owners, count)?;
+    let start = Instant::now(rt)?;
+    let found = key_winners(rt.alloc(), &asked, owners)?;
+    let time = start.elapsed(rt)?.as_micros();
+    println!(rt;
+        "{owners} applications, {count} bindings each: {found} of {EVENTS} events in {time} microseconds"
+    )?;
+    Ok(())
 }
 
 /// Times events with 16, 256 and 4,096 bindings, in one application and in sixteen.
 pub fn run(rt: &(impl Print + AllocGlobal + Clock)) -> Result<()> {
-    let alloc = rt.alloc();
-    let history = History::new(alloc)?;
-    let virtuals = VirtualPairs::new(alloc);
-    let event = event_of(alloc, &["Key", "0", "0", "0", "a", "0", "0"])?;
-    for owners in [1, 16] {
-        for count in [16, 256, 4096] {
-            let table = bindings(alloc, owners, count)?;
-            let start = Instant::now(rt)?;
-            let found = winners(&table, owners, &event, &history, &virtuals)?;
-            let time = start.elapsed(rt)?.as_micros();
-            println!(rt;
-                "{owners} applications, {count} bindings each: {found} of {EVENTS} events in {time} microseconds"
-            )?;
-        }
+    for (owners, count) in [
+        (1, 16),
+        (1, 256),
+        (1, 4096),
+        (16, 16),
+        (16, 256),
+        (16, 4096),
+    ] {
+        time_events(rt, owners, count)?;
     }
     Ok(())
 }

@@ -1,105 +1,142 @@
-use crate::read::{event_of, number_of, sequence_of, text_of};
+use crate::read::{event_of, sequence_of, text_of};
 use anyhow::{Result, bail};
 use std::alloc::Global;
+use tables::{Fixture, number, result_of, words_of};
+use tcl_text::Text;
 use tk_patterns::{BindFault, BindTable, History, VirtualPairs};
 
-/// What a table's lines have made so far.
+/// What the questions have made so far.
 #[derive(Drop)]
 pub struct State {
     bindings: BindTable,
     history: History,
     virtuals: VirtualPairs,
+}
+
+fn bind(
     alloc: Global,
+    bindings: &mut BindTable,
+    owner: usize,
+    tag: &str,
+    sequence: &str,
+    script: &str,
+) -> Result<String> {
+    let tag = text_of(alloc, tag)?;
+    let sequence = sequence_of(alloc, sequence)?;
+    let script = text_of(alloc, script)?;
+    match bindings.bind(owner, tag, sequence, script) {
+        Ok(()) => result_of(alloc, ""),
+        Err(BindFault::Full) => result_of(alloc, "31"),
+        Err(BindFault::NoMemory) => bail!("out of memory"),
+    }
+}
+
+fn unbind(
+    alloc: Global,
+    bindings: &mut BindTable,
+    owner: usize,
+    tag: &str,
+    sequence: &str,
+) -> Result<String> {
+    let sequence = sequence_of(alloc, sequence)?;
+    bindings.unbind(owner, tag, &sequence);
+    result_of(alloc, "")
+}
+
+/// A script, or that there is none.
+fn script_told(alloc: Global, script: Option<&Text>) -> Result<String> {
+    match script {
+        Some(script) => result_of(alloc, script.as_str()),
+        None => result_of(alloc, "-"),
+    }
+}
+
+fn script(
+    alloc: Global,
+    bindings: &BindTable,
+    owner: usize,
+    tag: &str,
+    sequence: &str,
+) -> Result<String> {
+    let sequence = sequence_of(alloc, sequence)?;
+    script_told(alloc, bindings.script(owner, tag, &sequence))
+}
+
+fn sequences(alloc: Global, bindings: &BindTable, owner: usize, tag: &str) -> Result<String> {
+    let mut list = String::from_str(alloc, "=")?;
+    for sequence in bindings.sequences(owner, tag)?.as_slice() {
+        list.push_str(sequence.canonical(alloc)?.as_str())?;
+    }
+    Ok(list)
+}
+
+fn matched(alloc: Global, history: &History, sequence: &str, event: &[&str]) -> Result<String> {
+    let sequence = sequence_of(alloc, sequence)?;
+    let event = event_of(alloc, event)?;
+    let answer = if history.matches(&sequence, &event) {
+        "1"
+    } else {
+        "0"
+    };
+    result_of(alloc, answer)
+}
+
+/// What a call on bindings answers.
+fn binding_answer(alloc: Global, bindings: &mut BindTable, words: &[&str]) -> Result<String> {
+    match words {
+        ["bind", owner, tag, sequence, script] => {
+            bind(alloc, bindings, number(owner)?, tag, sequence, script)
+        }
+        ["unbind", owner, tag, sequence] => unbind(alloc, bindings, number(owner)?, tag, sequence),
+        ["unbindall", owner, tag] => {
+            bindings.unbind_all(number(owner)?, tag);
+            result_of(alloc, "")
+        }
+        ["script", owner, tag, sequence] => script(alloc, bindings, number(owner)?, tag, sequence),
+        ["sequences", owner, tag] => sequences(alloc, bindings, number(owner)?, tag),
+        _ => bail!("no such question"),
+    }
 }
 
 impl State {
-    pub fn new(alloc: Global) -> Result<State> {
-        Ok(State {
-            bindings: BindTable::new(alloc),
-            history: History::new(alloc)?,
-            virtuals: VirtualPairs::new(alloc),
-            alloc,
-        })
-    }
-
-    fn told(&self, text: &str) -> Result<String> {
-        Ok(format!(in self.alloc; "={text}")?)
-    }
-
-    pub fn bind(&mut self, owner: &str, tag: &str, sequence: &str, script: &str) -> Result<String> {
-        let bound = self.bindings.bind(
-            number_of(owner)?,
-            text_of(self.alloc, tag)?,
-            sequence_of(self.alloc, sequence)?,
-            text_of(self.alloc, script)?,
-        );
-        match bound {
-            Ok(()) => self.told(""),
-            Err(BindFault::Full) => self.told("31"),
-            Err(BindFault::NoMemory) => self.told("out of memory"),
-        }
-    }
-
-    pub fn unbind(&mut self, owner: &str, tag: &str, sequence: &str) -> Result<String> {
-        let sequence = sequence_of(self.alloc, sequence)?;
-        self.bindings.unbind(number_of(owner)?, tag, &sequence);
-        self.told("")
-    }
-
-    pub fn unbind_all(&mut self, owner: &str, tag: &str) -> Result<String> {
-        self.bindings.unbind_all(number_of(owner)?, tag);
-        self.told("")
-    }
-
-    pub fn script(&self, owner: &str, tag: &str, sequence: &str) -> Result<String> {
-        let sequence = sequence_of(self.alloc, sequence)?;
-        match self.bindings.script(number_of(owner)?, tag, &sequence) {
-            Some(script) => self.told(script.as_str()),
-            None => self.told("-"),
-        }
-    }
-
-    pub fn sequences(&self, owner: &str, tag: &str) -> Result<String> {
-        let mut list = String::from_str(self.alloc, "=")?;
-        for sequence in self.bindings.sequences(number_of(owner)?, tag)?.as_slice() {
-            list.push_str(sequence.canonical(self.alloc)?.as_str())?;
-        }
-        Ok(list)
-    }
-
-    pub fn add_virtual(&mut self, name: &str, sequence: &str) -> Result<String> {
-        let name = text_of(self.alloc, name)?;
-        let sequence = text_of(self.alloc, sequence)?;
-        match self.virtuals.add(self.alloc, &name, &sequence) {
-            Ok(()) => self.told(""),
+    fn add_virtual(&mut self, alloc: Global, name: &str, sequence: &str) -> Result<String> {
+        let name = text_of(alloc, name)?;
+        let sequence = text_of(alloc, sequence)?;
+        match self.virtuals.add(alloc, &name, &sequence) {
+            Ok(()) => result_of(alloc, ""),
             Err(_) => bail!("a pair that was refused"),
         }
     }
 
-    pub fn push(&mut self, event: &[&str]) -> Result<String> {
-        self.history.push(event_of(self.alloc, event)?);
-        self.told("")
-    }
-
-    pub fn matches(&self, sequence: &str, event: &[&str]) -> Result<String> {
-        let sequence = sequence_of(self.alloc, sequence)?;
-        let event = event_of(self.alloc, event)?;
-        if self.history.matches(&sequence, &event) {
-            self.told("1")
-        } else {
-            self.told("0")
-        }
-    }
-
-    pub fn winner(&self, owner: &str, tag: &str, event: &[&str]) -> Result<String> {
-        let event = event_of(self.alloc, event)?;
-        let owner = number_of(owner)?;
-        match self
+    fn winner(&self, alloc: Global, owner: usize, tag: &str, event: &[&str]) -> Result<String> {
+        let event = event_of(alloc, event)?;
+        let winner = self
             .bindings
-            .winner(owner, tag, &event, &self.history, &self.virtuals)?
-        {
-            Some(script) => self.told(script.as_str()),
-            None => self.told("-"),
+            .winner(owner, tag, &event, &self.history, &self.virtuals)?;
+        script_told(alloc, winner.as_ref())
+    }
+}
+
+impl Fixture for State {
+    fn new(alloc: Global) -> Result<State> {
+        Ok(State {
+            bindings: BindTable::new(alloc),
+            history: History::new(alloc)?,
+            virtuals: VirtualPairs::new(alloc),
+        })
+    }
+
+    fn answer(&mut self, alloc: Global, question: &str) -> Result<String> {
+        let words = words_of(alloc, question, ' ')?;
+        match words.as_slice() {
+            ["virtual", name, sequence] => self.add_virtual(alloc, name, sequence),
+            ["push", event @ ..] => {
+                self.history.push(event_of(alloc, event)?);
+                result_of(alloc, "")
+            }
+            ["matches", sequence, event @ ..] => matched(alloc, &self.history, sequence, event),
+            ["winner", owner, tag, event @ ..] => self.winner(alloc, number(owner)?, tag, event),
+            words => binding_answer(alloc, &mut self.bindings, words),
         }
     }
 }

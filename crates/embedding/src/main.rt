@@ -22,30 +22,30 @@ fn budget(total: u64) -> Budget {
     Budget { total, refill: 0 }
 }
 
-/// Two applications, side by side.
-fn panels(alloc: Global) -> Result<Host<Service>> {
+/// Puts two applications side by side into a host.
+fn add_panels(alloc: Global, host: &mut Host<Service>) -> Result<()> {
     let endless = Text::new(alloc, "while 1 {}")?;
-    let timed = Text::new(alloc, "after 5 {puts ready}")?;
-
-    let mut host = Host::new(alloc, 64)?;
     let runaway = Text::new(alloc, "runaway")?;
     host.add_app(runaway, LEFT, endless, budget(1_000), Aliases::new(alloc))?;
+
+    let timed = Text::new(alloc, "after 5 {puts ready}")?;
     let gauge = Text::new(alloc, "gauge")?;
     host.add_app(gauge, RIGHT, timed, budget(20), Aliases::new(alloc))?;
-    Ok(host)
-}
-
-/// Runs their scripts, and what is due up to a moment, in milliseconds.
-fn run_to(host: &mut Host<Service>, moment: u64) -> Result<()> {
-    host.start()?;
-    host.advance_to(moment)?;
     Ok(())
 }
 
-fn main(rt: HostRuntime) -> Result<()> {
-    let mut host = panels(rt.alloc())?;
-    run_to(&mut host, 10)?;
+/// What the second has shown when both have run for ten milliseconds.
+fn shown(alloc: Global, host: &mut Host<Service>) -> Result<Vec<u8>> {
+    add_panels(alloc, host)?;
+    host.start()?;
+    host.advance_to(10)?;
     let section = host.section(1)?;
+    Ok(section)
+}
+
+fn main(rt: HostRuntime) -> Result<()> {
+    let mut host = Host::new(rt.alloc(), 64)?;
+    let section = shown(rt.alloc(), &mut host)?;
     print!(rt; "{}", str::from_utf8(section.as_slice())?)?;
     Ok(())
 }

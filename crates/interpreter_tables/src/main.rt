@@ -1,9 +1,8 @@
-//! Runs the scripts of tables, and tells of each that doesn't end as its table says.
+//! Runs scripts, and tells of each that doesn't end as a table says (`tables` says what stands in one).
 //!
-//! Each argument names a table, the file `NAME.table`. In it a line `BUDGET SCRIPT` is a script of which so many steps may be taken,
-//! where `¶` stands for a newline. The line behind it says how the script ends: `=LEFT RESULT` normally, with so many
-//! steps left, `!LEFT MESSAGE` with an error, and `-` where it needs a step and none is left. Each script runs by itself, four times:
-//! in slices of 1, 2, 3 and 1,000 steps. A line that begins with `#` says something.
+//! A question `BUDGET SCRIPT` is a script of which so many steps may be taken. It is answered how the script ends: `=LEFT RESULT` normally, with so
+//! many steps left, `!LEFT MESSAGE` with an error, and `-` where it needs a step and none is left. Each script runs by itself, four times: in slices
+//! of 1, 2, 3 and 1,000 steps.
 #![tactic(auto)]
 
 ghost use Rattle.std.specs.Prelude.{◌<◌};
@@ -14,16 +13,9 @@ mod slices;
 
 use crate::panel::names;
 use crate::runner::Runner;
-use anyhow::{Context, Result, bail};
+use anyhow::Result;
 use std::alloc::Global;
-use std::{env, fs};
-
-/// What a table has shown so far.
-#[derive(Clone, Copy)]
-struct Tally {
-    scripts: u32,
-    wrong: u32,
-}
+use tables::{Fixture, ask_tables, first_word, number};
 
 /// How a script ends, as a table has it.
 fn ending(alloc: Global, script: &str, budget: u64, slice: u64) -> Result<String>
@@ -34,79 +26,34 @@ fn ending(alloc: Global, script: &str, budget: u64, slice: u64) -> Result<String
     runner.ending(script, slice)
 }
 
-/// A line's script, with its newlines.
-fn with_newlines(alloc: Global, line: &str) -> Result<String> {
-    let mut script = String::new(alloc);
-    let mut lines = line.split('¶');
-    if let Some(first) = lines.next() {
-        script.push_str(first)?;
-    }
-    for more in lines {
-        script.push_str("\n")?;
-        script.push_str(more)?;
-    }
-    Ok(script)
-}
-
-/// How a line's script ends in slices of one size.
-fn line_ending(alloc: Global, line: &str, slice: u64) -> Result<String>
-    requires { 0 < slice }
-{
-    let Some((budget, script)) = line.split_once(' ') else {
-        bail!("a line with no script");
-    };
-    let budget: u64 = budget.parse().context("a line with no budget")?;
-    let script = with_newlines(alloc, script)?;
-    ending(alloc, script.as_str(), budget, slice)
-}
-
-/// Whether a line's script ends so, in slices of any size.
-fn ends_so(rt: &(impl Print + AllocGlobal), line: &str, wanted: &str) -> Result<bool> {
-    for slice in [1, 2, 3, 1000] {
-        let ending = line_ending(rt.alloc(), line, slice)?;
-        if ending.as_str() != wanted {
-            println!(rt; "{line}: {ending} and not {wanted}, in slices of {slice}")?;
-            return Ok(false);
+/// How a script ends in slices of any size; a slice in which it ends otherwise is told.
+fn ending_of(alloc: Global, script: &str, budget: u64) -> Result<String> {
+    let whole = ending(alloc, script, budget, 1000)?;
+    for slice in [1, 2, 3] {
+        let told = ending(alloc, script, budget, slice)?;
+        if told != whole {
+            return Ok(format!(in alloc; "{whole}, and in slices of {slice} {told}")?);
         }
     }
-    Ok(true)
+    Ok(whole)
 }
 
-/// Runs a table's scripts.
-fn run(rt: &(impl Print + AllocGlobal), table: &str) -> Result<Tally> {
-    let mut tally = Tally {
-        scripts: 0,
-        wrong: 0,
-    };
-    let mut script = "";
-    for line in table.lines() {
-        if line.starts_with('=') || line.starts_with('!') || line.starts_with('-') {
-            tally.scripts = tally.scripts.saturating_add(1);
-            if !ends_so(rt, script, line)? {
-                tally.wrong = tally.wrong.saturating_add(1);
-            }
-        } else if !line.starts_with('#') && !line.is_empty() {
-            script = line;
-        }
+/// What runs scripts.
+#[derive(Drop)]
+struct Scripts;
+
+impl Fixture for Scripts {
+    fn new(_alloc: Global) -> Result<Scripts> {
+        Ok(Scripts)
     }
-    Ok(tally)
+
+    fn answer(&mut self, alloc: Global, question: &str) -> Result<String> {
+        let (budget, script) = first_word(question);
+        ending_of(alloc, script, number(budget)?)
+    }
 }
 
 fn main(rt: HostRuntime) -> Result<()> {
     slices::show(&rt)?;
-    let mut wrong = false;
-    for name in env::args(&rt)?.skip(1) {
-        let path = format!(in rt.alloc(); "{name}.table")?;
-        let table = fs::read_to_string(&rt, path).context(format_args!("table {name}"))?;
-        let Tally {
-            scripts,
-            wrong: differ,
-        } = run(&rt, table.as_str())?;
-        println!(rt; "{name}: {scripts} scripts, {differ} wrong")?;
-        wrong = wrong || differ != 0;
-    }
-    if wrong {
-        bail!("some scripts end otherwise");
-    }
-    Ok(())
+    ask_tables::<Scripts, _>(&rt)
 }

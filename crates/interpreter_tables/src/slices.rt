@@ -1,11 +1,10 @@
-//! What slices answer one after another, what a task alone takes, and how deep scripts nest.
+//! What slices answer one after another, what a task alone takes, and what scripts in turn find.
 ghost use Rattle.std.specs.Prelude.{◌≡◌, OnOk};
 ghost use Rattle.tcl_interp.specs.Finish.{Idle};
 ghost use Rattle.tcl_interp.specs.Interp.{rest_of};
 
 use crate::runner::Runner;
 use anyhow::{Result, bail};
-use std::alloc::{AllocError, Global};
 use tcl_interp::{Code, SliceEnd};
 use tcl_text::Text;
 
@@ -20,8 +19,6 @@ enum Scene {
     ScriptsInTurn,
     /// An outside command replaces a built-in one of its name.
     Replaced,
-    /// A script and the bodies of 199 loops are 200 scripts; one more isn't run.
-    Nested(u64),
 }
 
 /// What a slice answers, in a word.
@@ -101,39 +98,6 @@ fn show_replaced(rt: &(impl Print + AllocGlobal), runner: &mut Runner) -> Result
     Ok(())
 }
 
-/// So many loops one in another.
-fn nested(alloc: Global, loops: u64) -> Result<String, AllocError> {
-    let mut script = String::new(alloc);
-    for _ in 0..loops {
-        script.push_str("while 1 {")?;
-    }
-    script.push_str("set x deep")?;
-    for _ in 0..loops {
-        script.push_str("; break}")?;
-    }
-    Ok(script)
-}
-
-fn show_nested(rt: &(impl Print + AllocGlobal), runner: &mut Runner, loops: u64) -> Result<()>
-    requires { rest_of runner.old.interp ≡ Idle }
-{
-    let script = nested(rt.alloc(), loops)?;
-    runner.begin(script.as_str())?;
-    let SliceEnd::Done(code, text) = runner.to_end(&[], 7)? else {
-        bail!("the loops have no end");
-    };
-    let end = match code {
-        Code::Error => "error",
-        _ => "done",
-    };
-    println!(rt;
-        "{loops} loops: {end} {}, {} left",
-        text.as_str(),
-        runner.steps_left()
-    )?;
-    Ok(())
-}
-
 impl Scene {
     /// The steps that may be taken.
     fn budget(self) -> u64 {
@@ -142,7 +106,6 @@ impl Scene {
             Scene::Task => 9,
             Scene::ScriptsInTurn => 9,
             Scene::Replaced => 9,
-            Scene::Nested(_) => 1000,
         }
     }
 
@@ -154,7 +117,6 @@ impl Scene {
             Scene::Task => show_task(rt, runner),
             Scene::ScriptsInTurn => show_scripts_in_turn(rt, runner),
             Scene::Replaced => show_replaced(rt, runner),
-            Scene::Nested(loops) => show_nested(rt, runner, loops),
         }
     }
 }
@@ -171,7 +133,5 @@ pub fn show(rt: &(impl Print + AllocGlobal)) -> Result<()> {
     show_scene(rt, Scene::Endless, &[])?;
     show_scene(rt, Scene::Task, &[])?;
     show_scene(rt, Scene::ScriptsInTurn, &[])?;
-    show_scene(rt, Scene::Replaced, &replaced)?;
-    show_scene(rt, Scene::Nested(199), &[])?;
-    show_scene(rt, Scene::Nested(200), &[])
+    show_scene(rt, Scene::Replaced, &replaced)
 }

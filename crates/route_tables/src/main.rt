@@ -1,35 +1,21 @@
-//! Leads the lines of sessions to applications, and tells of each answer that isn't the one in a table.
+//! Leads the lines of sessions to applications, and tells of each answer that isn't the one in a table (`tables` says what stands in one).
 //!
-//! Each argument names a table, the file `NAME.table`. In it a line `new X Y W H X Y W H ..` begins anew with applications that have these
-//! rectangles, by slot from 0 on, and a line `MOMENT LINE` is a line of a session, with slots in place of names: `move X Y`, `press B`,
-//! `release B`, `keydown KEY`, `keyup KEY`, `focus SLOT`, `focus -`, `rect SLOT X Y W H`. The line behind it is what it answers: `=` and the
-//! events, each as `SLOT MOMENT STATE KIND ..` with a comma between two; or `!` and the number of the fault. A line that begins with `#` says
-//! something.
+//! A question `new X Y W H X Y W H ..` begins with applications that have these rectangles, by slot from 0 on. A question `MOMENT LINE` is a line
+//! of a session, with slots in place of names: `move X Y`, `press B`, `release B`, `keydown KEY`, `keyup KEY`, `focus SLOT`, `focus -`,
+//! `rect SLOT X Y W H`. It is answered `=` and the events, each as `SLOT MOMENT STATE KIND ..` with a comma between two; or `!` and the number of the
+//! fault.
 #![tactic(auto)]
 
-use anyhow::{Context, Result, bail};
+use anyhow::{Result, bail};
 use std::alloc::Global;
-use std::{env, fs};
+use tables::{Fixture, ask_tables, number, result_of, words_of};
 use tk_route::{Delivery, HostLine, Keysym, LocalKind, Rect, Routed, Router};
 
-/// What a table has shown so far.
-#[derive(Clone, Copy)]
-struct Tally {
-    lists: u32,
-    answers: u32,
-    wrong: u32,
-}
-
-fn number(word: &str) -> Result<u32> {
-    word.parse().context("a word that is no number")
-}
-
-fn slot_of(word: &str) -> Result<usize> {
-    word.parse().context("a word that is no slot")
-}
-
 fn key_of(word: &str) -> Result<Keysym> {
-    Keysym::named(word).context("a word that is no key")
+    match Keysym::named(word) {
+        Some(key) => Ok(key),
+        None => bail!("a word that is no key"),
+    }
 }
 
 fn rect_of(x: &str, y: &str, width: &str, height: &str) -> Result<Rect> {
@@ -41,23 +27,28 @@ fn rect_of(x: &str, y: &str, width: &str, height: &str) -> Result<Rect> {
     })
 }
 
+/// A line of one word.
+fn short_line(first: &str, word: &str) -> Result<HostLine> {
+    match first {
+        "press" => Ok(HostLine::Press(number(word)?)),
+        "release" => Ok(HostLine::Release(number(word)?)),
+        "keydown" => Ok(HostLine::Keydown(key_of(word)?)),
+        "keyup" => Ok(HostLine::Keyup(key_of(word)?)),
+        "focus" => focus_of(word),
+        _ => bail!("no such line"),
+    }
+}
+
 /// The line that these words are.
 fn line_of(words: &[&str]) -> Result<HostLine> {
-    let Some((first, words)) = words.split_first() else {
-        bail!("a line with nothing but its moment");
-    };
-    match (*first, words) {
-        ("move", [x, y]) => Ok(HostLine::Move {
+    match words {
+        [first, word] => short_line(first, word),
+        ["move", x, y] => Ok(HostLine::Move {
             x: number(x)?,
             y: number(y)?,
         }),
-        ("press", [button]) => Ok(HostLine::Press(number(button)?)),
-        ("release", [button]) => Ok(HostLine::Release(number(button)?)),
-        ("keydown", [key]) => Ok(HostLine::Keydown(key_of(key)?)),
-        ("keyup", [key]) => Ok(HostLine::Keyup(key_of(key)?)),
-        ("focus", [slot]) => focus_of(slot),
-        ("rect", [slot, x, y, width, height]) => Ok(HostLine::Rect {
-            slot: slot_of(slot)?,
+        ["rect", slot, x, y, width, height] => Ok(HostLine::Rect {
+            slot: number(slot)?,
             rect: rect_of(x, y, width, height)?,
         }),
         _ => bail!("no such line"),
@@ -68,7 +59,7 @@ fn focus_of(slot: &str) -> Result<HostLine> {
     if slot == "-" {
         return Ok(HostLine::Focus(None));
     }
-    Ok(HostLine::Focus(Some(slot_of(slot)?)))
+    Ok(HostLine::Focus(Some(number(slot)?)))
 }
 
 /// An event and who gets it.
@@ -98,10 +89,10 @@ fn kind_told(alloc: Global, kind: LocalKind) -> Result<String> {
 
 fn all_told(alloc: Global, routed: &Routed) -> Result<String> {
     match routed {
-        Routed::Nobody => Ok(String::from_str(alloc, "=")?),
+        Routed::Nobody => result_of(alloc, ""),
         Routed::One(only) => {
             let only = told(alloc, only)?;
-            Ok(format!(in alloc; "={}", only.as_str())?)
+            result_of(alloc, only.as_str())
         }
         Routed::Two(first, second) => {
             let first = told(alloc, first)?;
@@ -116,7 +107,7 @@ fn line_answer(alloc: Global, router: &mut Option<Router>, words: &[&str]) -> Re
     let Some((moment, words)) = words.split_first() else {
         bail!("a line with no words");
     };
-    let moment: u64 = moment.parse().context("a line with no moment")?;
+    let moment = number(moment)?;
     let Some(router) = router.as_mut() else {
         bail!("a line with no applications");
     };
@@ -138,58 +129,32 @@ fn new_answer(alloc: Global, router: &mut Option<Router>, words: &[&str]) -> Res
     match Router::new(rects.as_slice()) {
         Ok(made) => {
             *router = Some(made);
-            Ok(String::from_str(alloc, "=")?)
+            result_of(alloc, "")
         }
         Err(fault) => Ok(format!(in alloc; "!{}", fault.number())?),
     }
 }
 
-/// Leads a table's lines, and prints each answer that isn't the one in the table.
-fn ask(rt: &(impl Print + AllocGlobal), name: &str, table: &str) -> Result<Tally> {
-    let alloc = rt.alloc();
-    let mut tally = Tally {
-        lists: 0,
-        answers: 0,
-        wrong: 0,
-    };
-    let mut router = None;
-    let mut answer = String::new(alloc);
-    for line in table.lines() {
-        if line.starts_with('=') || line.starts_with('!') {
-            tally.answers = tally.answers.saturating_add(1);
-            if answer.as_str() != line {
-                tally.wrong = tally.wrong.saturating_add(1);
-                println!(rt; "{name}: {answer} and not {line}")?;
-            }
-        } else if !line.starts_with('#') && !line.is_empty() {
-            let words: Vec<&str> = line.split(' ').collect(alloc)?;
-            answer = match words.as_slice() {
-                ["new", rects @ ..] => {
-                    tally.lists = tally.lists.saturating_add(1);
-                    new_answer(alloc, &mut router, rects)?
-                }
-                words => line_answer(alloc, &mut router, words)?,
-            };
+/// Who gets the lines, once there are applications.
+#[derive(Drop)]
+struct Host {
+    router: Option<Router>,
+}
+
+impl Fixture for Host {
+    fn new(_alloc: Global) -> Result<Host> {
+        Ok(Host { router: None })
+    }
+
+    fn answer(&mut self, alloc: Global, question: &str) -> Result<String> {
+        let words = words_of(alloc, question, ' ')?;
+        match words.as_slice() {
+            ["new", rects @ ..] => new_answer(alloc, &mut self.router, rects),
+            words => line_answer(alloc, &mut self.router, words),
         }
     }
-    Ok(tally)
 }
 
 fn main(rt: HostRuntime) -> Result<()> {
-    let mut wrong = false;
-    for name in env::args(&rt)?.skip(1) {
-        let path = format!(in rt.alloc(); "{name}.table")?;
-        let table = fs::read_to_string(&rt, path).context(format_args!("table {name}"))?;
-        let Tally {
-            lists,
-            answers,
-            wrong: differ,
-        } = ask(&rt, name.as_str(), table.as_str())?;
-        println!(rt; "{name}: {lists} lists of lines, {answers} answers, {differ} wrong")?;
-        wrong = wrong || differ != 0;
-    }
-    if wrong {
-        bail!("some answers are wrong");
-    }
-    Ok(())
+    ask_tables::<Host, _>(&rt)
 }

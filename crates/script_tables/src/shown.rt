@@ -1,8 +1,8 @@
 //! What a script is, as a table says it.
 
-use crate::pictures::push_pictured;
 use anyhow::{Result, bail};
 use std::alloc::Global;
+use tables::error_of;
 use tcl_text::Text;
 use tcl_words::{Command, ParseFault, Piece, Script, Word, parse};
 
@@ -86,21 +86,24 @@ fn words_of(alloc: Global, depth: u32, command: &Command) -> Result<Vec<Text>> {
     Ok(words)
 }
 
-/// A script's commands, a line each, but for those that no word is left of.
+/// A script's commands, but for those that no word is left of.
 fn told_commands(alloc: Global, script: &Script) -> Result<String> {
-    let mut lines = String::new(alloc);
+    let mut told = String::new(alloc);
     for command in script.commands() {
         for (place, word) in words_of(alloc, MAX_DEPTH, command)?.iter().enumerate() {
             let before = match place {
-                0 if lines.is_empty() => "=",
-                0 => "\n=",
+                0 if told.is_empty() => "=",
+                0 => "\u{1e}",
                 _ => "|",
             };
-            lines.push_str(before)?;
-            push_pictured(&mut lines, word.as_str())?;
+            told.push_str(before)?;
+            told.push_str(word.as_str())?;
         }
     }
-    Ok(lines)
+    if told.is_empty() {
+        told.push_str("-")?;
+    }
+    Ok(told)
 }
 
 /// The mark of a text that is no script for this reason.
@@ -118,7 +121,7 @@ fn mark_of(fault: ParseFault) -> Result<char> {
 }
 
 /// A mark for each number of bytes short of the whole.
-fn told_fronts(alloc: Global, source: &str) -> Result<String> {
+pub fn fronts_told(alloc: Global, source: &str) -> Result<String> {
     let mut marks = String::from_str(alloc, "~")?;
     for length in 0..source.len() {
         marks.push(match parse(alloc, &source.as_bytes()[..length]) {
@@ -129,14 +132,11 @@ fn told_fronts(alloc: Global, source: &str) -> Result<String> {
     Ok(marks)
 }
 
-/// What a text is as a script; or what each of its fronts is.
-pub fn told(alloc: Global, source: &str, fronts: bool) -> Result<String> {
-    if fronts {
-        return told_fronts(alloc, source);
-    }
+/// What a text is as a script.
+pub fn commands_told(alloc: Global, source: &str) -> Result<String> {
     match parse(alloc, source.as_bytes()) {
         Ok(script) => told_commands(alloc, &script),
         Err(ParseFault::NoMemory) => Err(ParseFault::NoMemory.into()),
-        Err(fault) => Ok(format!(in alloc; "!{}", fault.text())?),
+        Err(fault) => error_of(alloc, fault.text()),
     }
 }

@@ -1,26 +1,16 @@
-//! Reads sessions, and tells of each answer that isn't the one in a table.
+//! Reads sessions, and tells of each answer that isn't the one in a table (`tables` says what stands in one).
 //!
-//! Each argument names a table, the file `NAME.table`. In it a line `session TEXT` gives a session; in its text `\n` stands for an LF, and
-//! `\xHH` for another byte that doesn't print, and for the backslash. The lines behind it say what the reader answers: `says TEXT` what the
-//! session says; `cuts` what is answered to each front of it, the empty one first and the whole one last; and `byte HH` what is answered where
-//! the first byte is this one in its place, where the second one is, and so on. An answer is `ok`, or `NUMBER:LINE` of the fault. A line that
-//! begins with `#` says something.
+//! A question `session TEXT` gives a session; in its text `\xHH` stands for a byte that is no character, and for the backslash. Those behind it ask
+//! the reader: `says` what the session says; `cut N` what its first N bytes are; and `byte HH N` what it is with this byte in its place N. Those are
+//! answered `=` where it is a session, or `!NUMBER:LINE` of the fault.
 #![tactic(auto)]
 
-use anyhow::{Context, Result, bail};
+use anyhow::{Result, bail};
 use std::alloc::Global;
-use std::{env, fs};
+use tables::{Fixture, ask_tables, number, result_of, words_of};
 use tk_session::{
     AliasLine, AppBlock, EventLine, HostLine, ServiceKind, Session, SessionFault, read_session,
 };
-
-/// What a table has shown so far.
-#[derive(Clone, Copy)]
-struct Tally {
-    sessions: u32,
-    answers: u32,
-    wrong: u32,
-}
 
 fn hex(digit: u8) -> Result<u8> {
     match digit {
@@ -34,16 +24,12 @@ fn byte_of(high: u8, low: u8) -> Result<u8> {
     Ok(hex(high)?.wrapping_mul(16).wrapping_add(hex(low)?))
 }
 
-/// The bytes that a text of a table stands for.
+/// The bytes of a session.
 fn unescaped(alloc: Global, text: &str) -> Result<Vec<u8>> {
     let mut bytes = Vec::new(alloc);
     for (place, piece) in text.split('\\').enumerate() {
         match piece.as_bytes() {
             plain if place == 0 => bytes.extend_from_slice(plain)?,
-            [b'n', plain @ ..] => {
-                bytes.push(b'\n')?;
-                bytes.extend_from_slice(plain)?;
-            }
             [b'x', high, low, plain @ ..] => {
                 bytes.push(byte_of(*high, *low)?)?;
                 bytes.extend_from_slice(plain)?;
@@ -54,12 +40,12 @@ fn unescaped(alloc: Global, text: &str) -> Result<Vec<u8>> {
     Ok(bytes)
 }
 
-/// What the reader answers to bytes, in short.
-fn answer(alloc: Global, bytes: &[u8]) -> Result<String> {
+/// Whether bytes are a session, or their fault.
+fn verdict(alloc: Global, bytes: &[u8]) -> Result<String> {
     match read_session(alloc, bytes) {
-        Ok(_) => Ok(String::from_str(alloc, "ok")?),
+        Ok(_) => result_of(alloc, ""),
         Err(SessionFault::Refused { fault, line }) => {
-            Ok(format!(in alloc; "{}:{line}", fault.number())?)
+            Ok(format!(in alloc; "!{}:{line}", fault.number())?)
         }
         Err(SessionFault::NoMemory) => bail!("memory was refused"),
     }
@@ -126,15 +112,20 @@ fn event_told(alloc: Global, event: &EventLine) -> Result<String> {
     Ok(format!(in alloc; "{} {}\n", event.moment, line.as_str())?)
 }
 
+fn push_events(told: &mut String, alloc: Global, events: &[EventLine]) -> Result<()> {
+    for event in events {
+        told.push_str(event_told(alloc, event)?.as_str())?;
+    }
+    Ok(())
+}
+
 /// What a session says, a line for each part.
 fn told(alloc: Global, session: &Session) -> Result<String> {
-    let mut told = String::new(alloc);
+    let mut told = String::from_str(alloc, "=")?;
     for app in session.apps() {
         told.push_str(app_told(alloc, app)?.as_str())?;
     }
-    for event in session.events() {
-        told.push_str(event_told(alloc, event)?.as_str())?;
-    }
+    push_events(&mut told, alloc, session.events())?;
     told.push_str(format!(in alloc; "end {}\n", session.end())?.as_str())?;
     Ok(told)
 }
@@ -146,114 +137,57 @@ fn said(alloc: Global, bytes: &[u8]) -> Result<String> {
     }
 }
 
-/// How many of the answers to fronts of these bytes aren't those of a table, which are told.
-fn wrong_cuts(rt: &(impl Print + AllocGlobal), bytes: &[u8], wanted: &[&str]) -> Result<u32> {
-    let mut wrong = 0u32;
-    for (end, wanted) in wanted.iter().enumerate() {
-        let Some(front) = bytes.get(..end) else {
-            bail!("more fronts than a session has");
-        };
-        let answer = answer(rt.alloc(), front)?;
-        if answer.as_str() != *wanted {
-            wrong = wrong.saturating_add(1);
-            println!(rt; "cut at {end}: {answer} and not {wanted}")?;
-        }
-    }
-    Ok(wrong)
-}
-
-/// How many of the answers to these bytes with another byte aren't those of a table, which are told.
-fn wrong_changes(
-    rt: &(impl Print + AllocGlobal),
-    bytes: &[u8],
-    byte: u8,
-    wanted: &[&str],
-) -> Result<u32> {
-    let mut wrong = 0u32;
-    for (at, wanted) in wanted.iter().enumerate() {
-        let mut changed = bytes.to_vec(rt.alloc())?;
-        let Some(place) = changed.get_mut(at) else {
-            bail!("more places than a session has");
-        };
-        *place = byte;
-        let answer = answer(rt.alloc(), changed.as_slice())?;
-        if answer.as_str() != *wanted {
-            wrong = wrong.saturating_add(1);
-            println!(rt; "byte {byte} at {at}: {answer} and not {wanted}")?;
-        }
-    }
-    Ok(wrong)
-}
-
-/// How many answers a line of a table has, and how many of them are wrong.
-fn line_asked(rt: &(impl Print + AllocGlobal), bytes: &[u8], line: &str) -> Result<(u32, u32)> {
-    let alloc = rt.alloc();
-    if let Some(text) = line.strip_prefix("says ") {
-        let wanted = unescaped(alloc, text)?;
-        let said = said(alloc, bytes)?;
-        if said.as_bytes() == wanted.as_slice() {
-            return Ok((1, 0));
-        }
-        println!(rt; "says {said} and not {text}")?;
-        return Ok((1, 1));
-    }
-    let words: Vec<&str> = line.split(' ').collect(alloc)?;
-    match words.as_slice() {
-        ["cuts", wanted @ ..] => Ok((count(wanted)?, wrong_cuts(rt, bytes, wanted)?)),
-        ["byte", byte, wanted @ ..] => {
-            let [high, low] = byte.as_bytes() else {
-                bail!("a byte that isn't two digits");
-            };
-            let wrong = wrong_changes(rt, bytes, byte_of(*high, *low)?, wanted)?;
-            Ok((count(wanted)?, wrong))
-        }
-        _ => bail!("no such line"),
+/// What the front of bytes is.
+fn cut_verdict(alloc: Global, bytes: &[u8], end: &str) -> Result<String> {
+    let end: usize = number(end)?;
+    match bytes.get(..end) {
+        Some(front) => verdict(alloc, front),
+        None => bail!("a cut past the end"),
     }
 }
 
-fn count(wanted: &[&str]) -> Result<u32> {
-    u32::try_from(wanted.len()).context("too many answers")
-}
-
-/// Reads a table's sessions, and prints each answer that isn't the one in the table.
-fn ask(rt: &(impl Print + AllocGlobal), table: &str) -> Result<Tally> {
-    let mut tally = Tally {
-        sessions: 0,
-        answers: 0,
-        wrong: 0,
+/// What bytes are with another byte in a place.
+fn changed_verdict(alloc: Global, bytes: &[u8], byte: &str, place: &str) -> Result<String> {
+    let [high, low] = byte.as_bytes() else {
+        bail!("a byte that isn't two digits");
     };
-    let mut bytes = Vec::new(rt.alloc());
-    for line in table.lines() {
-        if line.starts_with('#') || line.is_empty() {
-            continue;
+    let mut changed = bytes.to_vec(alloc)?;
+    let place: usize = number(place)?;
+    let Some(changed_byte) = changed.get_mut(place) else {
+        bail!("a place past the end");
+    };
+    *changed_byte = byte_of(*high, *low)?;
+    verdict(alloc, changed.as_slice())
+}
+
+/// The session that was given last.
+#[derive(Drop)]
+struct Given {
+    bytes: Vec<u8>,
+}
+
+impl Fixture for Given {
+    fn new(alloc: Global) -> Result<Given> {
+        Ok(Given {
+            bytes: Vec::new(alloc),
+        })
+    }
+
+    fn answer(&mut self, alloc: Global, question: &str) -> Result<String> {
+        if let Some(text) = question.strip_prefix("session ") {
+            self.bytes = unescaped(alloc, text)?;
+            return result_of(alloc, "");
         }
-        if let Some(text) = line.strip_prefix("session ") {
-            bytes = unescaped(rt.alloc(), text)?;
-            tally.sessions = tally.sessions.saturating_add(1);
-        } else {
-            let (answers, wrong) = line_asked(rt, bytes.as_slice(), line)?;
-            tally.answers = tally.answers.saturating_add(answers);
-            tally.wrong = tally.wrong.saturating_add(wrong);
+        let words = words_of(alloc, question, ' ')?;
+        match words.as_slice() {
+            ["says"] => said(alloc, self.bytes.as_slice()),
+            ["cut", end] => cut_verdict(alloc, self.bytes.as_slice(), end),
+            ["byte", byte, place] => { changed_verdict(alloc, self.bytes.as_slice(), byte, place) }
+            _ => bail!("no such question"),
         }
     }
-    Ok(tally)
 }
 
 fn main(rt: HostRuntime) -> Result<()> {
-    let mut wrong = false;
-    for name in env::args(&rt)?.skip(1) {
-        let path = format!(in rt.alloc(); "{name}.table")?;
-        let table = fs::read_to_string(&rt, path).context(format_args!("table {name}"))?;
-        let Tally {
-            sessions,
-            answers,
-            wrong: differ,
-        } = ask(&rt, table.as_str())?;
-        println!(rt; "{name}: {sessions} sessions, {answers} answers, {differ} wrong")?;
-        wrong = wrong || differ != 0;
-    }
-    if wrong {
-        bail!("some answers are wrong");
-    }
-    Ok(())
+    ask_tables::<Given, _>(&rt)
 }

@@ -1,33 +1,28 @@
-//! Calls what keeps the timers, and tells of each answer that isn't the one in a table.
+//! Calls what keeps the timers, and tells of each answer that isn't the one in a table (`tables` says what stands in one).
 //!
-//! Each argument names a table, the file `NAME.table`. In it a line `MOMENT OWNER CALL` is a call for an application, by its number, at a
-//! moment: `after|WORD|..` is the command, and `count`, `full`, `next`, `round`, `take`, `due|ID`, `cancel|ID` are the calls of those names;
-//! `first` is when the first timer of all is due, and `fill` lists as many timers as there may be. The line behind it is what it answers: `=` and a text, or `!` and an error. An empty
-//! line begins anew without timers, and a line that begins with `#` says something.
+//! A question `MOMENT OWNER CALL` is a call for an application, by its number, at a moment: `after|WORD|..` is the command, and `count`, `full`,
+//! `next`, `round`, `take`, `due|ID`, `cancel|ID` are the calls of those names; `first` is when the first timer of all is due, and `fill` lists as
+//! many timers as there may be. It is answered `=` and a text, or `!` and an error.
 #![tactic(auto)]
 
-use anyhow::{Context, Result, bail};
+use anyhow::{Result, bail};
 use std::alloc::Global;
-use std::{env, fs};
+use tables::{Fixture, ask_tables, error_of, first_word, number, result_of, words_of};
 use tcl_text::{Text, TextList};
 use tk_after::{Timers, after_command};
 
-/// What a table has shown so far.
-#[derive(Clone, Copy)]
-struct Tally {
-    answers: u32,
-    wrong: u32,
+/// The timers of all applications.
+#[derive(Drop)]
+struct Kept {
+    timers: Timers,
 }
 
-/// The words of a command, each behind a bar.
-fn words_of(alloc: Global, bars: Option<&str>) -> Result<TextList> {
-    let mut words = TextList::new(alloc);
-    if let Some(bars) = bars {
-        for word in bars.split('|') {
-            words.push(Text::new(alloc, word)?)?;
-        }
+fn texts_of(alloc: Global, words: &[&str]) -> Result<TextList> {
+    let mut texts = TextList::new(alloc);
+    for word in words {
+        texts.push(Text::new(alloc, word)?)?;
     }
-    Ok(words)
+    Ok(texts)
 }
 
 /// The answer of the command `after` with these words.
@@ -36,22 +31,22 @@ fn after(
     timers: &mut Timers,
     owner: usize,
     moment: u64,
-    bars: Option<&str>,
+    words: &[&str],
 ) -> Result<String> {
     if moment > 1_000_000_000_000 {
         bail!("a moment past the last");
     }
-    let words = words_of(alloc, bars)?;
+    let words = texts_of(alloc, words)?;
     match after_command(alloc, timers, owner, moment, words.as_slice())? {
-        Ok(text) => Ok(format!(in alloc; "={}", text.as_str())?),
-        Err(text) => Ok(format!(in alloc; "!{}", text.as_str())?),
+        Ok(text) => result_of(alloc, text.as_str()),
+        Err(text) => error_of(alloc, text.as_str()),
     }
 }
 
 fn optional(alloc: Global, moment: Option<u64>) -> Result<String> {
     match moment {
         Some(moment) => Ok(format!(in alloc; "={moment}")?),
-        None => Ok(String::from_str(alloc, "=none")?),
+        None => result_of(alloc, "none"),
     }
 }
 
@@ -69,7 +64,7 @@ fn round(alloc: Global, timers: &Timers, owner: usize) -> Result<String> {
 fn take(alloc: Global, timers: &mut Timers, owner: usize, moment: u64) -> Result<String> {
     match timers.take_due(owner, moment) {
         Some((id, script)) => Ok(format!(in alloc; "={id} {}", script.as_str())?),
-        None => Ok(String::from_str(alloc, "=none")?),
+        None => result_of(alloc, "none"),
     }
 }
 
@@ -78,17 +73,17 @@ fn due(alloc: Global, timers: &Timers, owner: usize, id: u64) -> Result<String> 
     match timers.entry(owner, id) {
         Some(entry) => match entry.due {
             Some(due) => Ok(format!(in alloc; "={due}")?),
-            None => Ok(String::from_str(alloc, "=idle")?),
+            None => result_of(alloc, "idle"),
         },
-        None => Ok(String::from_str(alloc, "=none")?),
+        None => result_of(alloc, "none"),
     }
 }
 
 /// The script that leaves the table.
 fn cancel(alloc: Global, timers: &mut Timers, owner: usize, id: u64) -> Result<String> {
     match timers.cancel(owner, id) {
-        Some(script) => Ok(format!(in alloc; "={}", script.as_str())?),
-        None => Ok(String::from_str(alloc, "=none")?),
+        Some(script) => result_of(alloc, script.as_str()),
+        None => result_of(alloc, "none"),
     }
 }
 
@@ -105,97 +100,57 @@ fn fill(alloc: Global, timers: &mut Timers, owner: usize, moment: u64) -> Result
     Ok(format!(in alloc; "={count}")?)
 }
 
-/// What a call answers that needs no number.
-fn plain_answer(
-    alloc: Global,
-    timers: &mut Timers,
-    owner: usize,
-    moment: u64,
-    call: &str,
-) -> Result<String> {
-    match call {
-        "after" => after(alloc, timers, owner, moment, None),
-        "count" => Ok(format!(in alloc; "={}", timers.count(owner))?),
-        "full" => Ok(format!(in alloc; "={}", timers.is_full(owner))?),
-        "next" => optional(alloc, timers.next_due_of(owner)),
-        "first" => optional(alloc, timers.next_due()),
-        "round" => round(alloc, timers, owner),
-        "take" => take(alloc, timers, owner, moment),
-        "fill" => fill(alloc, timers, owner, moment),
+/// What a call answers that changes nothing.
+fn looked_up(alloc: Global, timers: &Timers, owner: usize, words: &[&str]) -> Result<String> {
+    match words {
+        ["count"] => Ok(format!(in alloc; "={}", timers.count(owner))?),
+        ["full"] => Ok(format!(in alloc; "={}", timers.is_full(owner))?),
+        ["next"] => optional(alloc, timers.next_due_of(owner)),
+        ["first"] => optional(alloc, timers.next_due()),
+        ["round"] => round(alloc, timers, owner),
+        ["due", id] => due(alloc, timers, owner, number(id)?),
         _ => bail!("no such call"),
     }
 }
 
-/// What a line's call answers.
-fn answer_of(alloc: Global, timers: &mut Timers, line: &str) -> Result<String> {
-    let Some((moment, rest)) = line.split_once(' ') else {
-        bail!("a line with no call");
-    };
-    let Some((owner, call)) = rest.split_once(' ') else {
-        bail!("a line with no call");
-    };
-    let moment: u64 = moment.parse().context("a line with no moment")?;
-    let owner: usize = owner.parse().context("a line with no application")?;
-    match call.split_once('|') {
-        None => plain_answer(alloc, timers, owner, moment, call),
-        Some(("after", words)) => after(alloc, timers, owner, moment, Some(words)),
-        Some(("due", id)) => due(
-            alloc,
-            timers,
-            owner,
-            id.parse().context("a call with no number")?,
-        ),
-        Some(("cancel", id)) => {
-            cancel(
-                alloc,
-                timers,
-                owner,
-                id.parse().context("a call with no number")?,
-            )
-        }
-        Some(_) => bail!("no such call"),
+/// What a call answers.
+fn answer_of(
+    alloc: Global,
+    timers: &mut Timers,
+    owner: usize,
+    moment: u64,
+    words: &[&str],
+) -> Result<String> {
+    match words {
+        ["after", words @ ..] => after(alloc, timers, owner, moment, words),
+        ["take"] => take(alloc, timers, owner, moment),
+        ["fill"] => fill(alloc, timers, owner, moment),
+        ["cancel", id] => cancel(alloc, timers, owner, number(id)?),
+        _ => looked_up(alloc, timers, owner, words),
     }
 }
 
-/// Makes a table's calls, and prints each answer that isn't the one in the table.
-fn ask(rt: &(impl Print + AllocGlobal), name: &str, table: &str) -> Result<Tally> {
-    let alloc = rt.alloc();
-    let mut tally = Tally {
-        answers: 0,
-        wrong: 0,
-    };
-    let mut timers = Timers::new(alloc);
-    let mut answer = String::new(alloc);
-    for line in table.lines() {
-        if line.is_empty() {
-            timers = Timers::new(alloc);
-        } else if line.starts_with('=') || line.starts_with('!') {
-            tally.answers = tally.answers.saturating_add(1);
-            if answer.as_str() != line {
-                tally.wrong = tally.wrong.saturating_add(1);
-                println!(rt; "{name}: {answer} and not {line}")?;
-            }
-        } else if !line.starts_with('#') {
-            answer = answer_of(alloc, &mut timers, line)?;
-        }
+impl Fixture for Kept {
+    fn new(alloc: Global) -> Result<Kept> {
+        Ok(Kept {
+            timers: Timers::new(alloc),
+        })
     }
-    Ok(tally)
+
+    fn answer(&mut self, alloc: Global, question: &str) -> Result<String> {
+        let (moment, rest) = first_word(question);
+        let (owner, call) = first_word(rest);
+        let words = words_of(alloc, call, '|')?;
+        answer_of(
+            alloc,
+            &mut self.timers,
+            number(owner)?,
+            number(moment)?,
+            words.as_slice(),
+        )
+    }
 }
 
 fn main(rt: HostRuntime) -> Result<()> {
-    let mut wrong = false;
-    for name in env::args(&rt)?.skip(1) {
-        let path = format!(in rt.alloc(); "{name}.table")?;
-        let table = fs::read_to_string(&rt, path).context(format_args!("table {name}"))?;
-        let Tally {
-            answers,
-            wrong: differ,
-        } = ask(&rt, name.as_str(), table.as_str())?;
-        println!(rt; "{name}: {answers} answers, {differ} wrong")?;
-        wrong = wrong || differ != 0;
-    }
-    if wrong {
-        bail!("some answers are wrong");
-    }
-    Ok(())
+    ask_tables::<Kept, _>(&rt)
 }

@@ -1,12 +1,13 @@
 //! How long it takes to make, pack, lay out and destroy windows, by how many there are.
 
+use crate::layouts::new_shape;
 use crate::trees::remove;
 use anyhow::{Result, bail};
 use std::alloc::Global;
 use std::rt::Clock;
 use std::time::Instant;
 use tcl_text::Text;
-use tk_base::{Kind, Rect, Win};
+use tk_base::{Kind, Win};
 use tk_layout::{Arrangements, Shape, lay_out};
 use tk_packer::{PackTable, Request};
 use tk_tree::Windows;
@@ -14,11 +15,23 @@ use tk_tree::Windows;
 /// How many applications there are.
 const APPLICATIONS: usize = 16;
 
+/// How many windows each of them has.
+const COUNTS: [usize; 3] = [8, 64, 512];
+
 /// The tables of all applications.
 #[derive(Drop)]
 struct Tables {
     windows: Windows,
     packs: PackTable,
+}
+
+impl Tables {
+    fn new(alloc: Global) -> Tables {
+        Tables {
+            windows: Windows::new(alloc),
+            packs: PackTable::new(alloc),
+        }
+    }
 }
 
 /// Makes and packs the windows of an application: the main window, frames in it, and windows in each of these.
@@ -62,20 +75,7 @@ fn shapes(alloc: Global, windows: &Windows, owner: usize) -> Result<Vec<Shape>> 
         return Ok(shapes);
     }
     for number in &windows.subtree(main)? {
-        shapes.push(Shape {
-            number: *number,
-            width: 10,
-            height: 10,
-            border: 1,
-            propagates: true,
-            place: Rect {
-                x: 0,
-                y: 0,
-                width: 1,
-                height: 1,
-            },
-            mapped: false,
-        })?;
+        shapes.push(new_shape(*number, (10, 10), 1, true))?;
     }
     Ok(shapes)
 }
@@ -99,42 +99,73 @@ fn destroy(tables: &mut Tables, owner: usize) -> Result<()> {
     Ok(())
 }
 
+/// Lays out the windows of an application.
+fn lay_out_windows(alloc: Global, tables: &Tables, owner: usize) -> Result<()> {
+    let shapes = shapes(alloc, &tables.windows, owner)?;
+    let mut arrangements = Arrangements::new(alloc);
+    let _ = lay_out(
+        alloc,
+        (4000, 4000),
+        &tables.packs,
+        owner,
+        shapes.as_slice(),
+        &mut arrangements,
+    )?;
+    Ok(())
+}
+
+fn make_all(alloc: Global, tables: &mut Tables, count: usize) -> Result<()> {
+    for owner in 0..APPLICATIONS {
+        make(alloc, tables, owner, count)?;
+    }
+    Ok(())
+}
+
+fn lay_out_all(alloc: Global, tables: &Tables) -> Result<()> {
+    for owner in 0..APPLICATIONS {
+        lay_out_windows(alloc, tables, owner)?;
+    }
+    Ok(())
+}
+
+fn destroy_all(tables: &mut Tables) -> Result<()> {
+    for owner in 0..APPLICATIONS {
+        destroy(tables, owner)?;
+    }
+    Ok(())
+}
+
+/// How many microseconds it takes to make as many windows in each application.
+fn time_of_making(
+    rt: &(impl AllocGlobal + Clock),
+    tables: &mut Tables,
+    count: usize,
+) -> Result<u128> {
+    let start = Instant::now(rt)?;
+    make_all(rt.alloc(), tables, count)?;
+    Ok(start.elapsed(rt)?.as_micros())
+}
+
+fn time_of_laying_out(rt: &(impl AllocGlobal + Clock), tables: &Tables) -> Result<u128> {
+    let start = Instant::now(rt)?;
+    lay_out_all(rt.alloc(), tables)?;
+    Ok(start.elapsed(rt)?.as_micros())
+}
+
+fn time_of_destroying(rt: &impl Clock, tables: &mut Tables) -> Result<u128> {
+    let start = Instant::now(rt)?;
+    destroy_all(tables)?;
+    Ok(start.elapsed(rt)?.as_micros())
+}
+
 /// Makes, lays out and destroys as many windows in each application.
 fn round(rt: &(impl Print + AllocGlobal + Clock), count: usize) -> Result<()> {
-    let alloc = rt.alloc();
-    let mut tables = Tables {
-        windows: Windows::new(alloc),
-        packs: PackTable::new(alloc),
-    };
-    let start = Instant::now(rt)?;
-    for owner in 0..APPLICATIONS {
-        make(alloc, &mut tables, owner, count)?;
-    }
-    let made = start.elapsed(rt)?;
-    let start = Instant::now(rt)?;
-    for owner in 0..APPLICATIONS {
-        let shapes = shapes(alloc, &tables.windows, owner)?;
-        let mut arrangements = Arrangements::new(alloc);
-        let _ = lay_out(
-            alloc,
-            (4000, 4000),
-            &tables.packs,
-            owner,
-            shapes.as_slice(),
-            &mut arrangements,
-        )?;
-    }
-    let laid = start.elapsed(rt)?;
-    let start = Instant::now(rt)?;
-    for owner in 0..APPLICATIONS {
-        destroy(&mut tables, owner)?;
-    }
-    let gone = start.elapsed(rt)?;
+    let mut tables = Tables::new(rt.alloc());
+    let made = time_of_making(rt, &mut tables, count)?;
+    let laid = time_of_laying_out(rt, &tables)?;
+    let gone = time_of_destroying(rt, &mut tables)?;
     println!(rt;
-        "{count} windows in each of {APPLICATIONS}: made and packed in {} us, laid out in {} us, destroyed in {} us",
-        made.as_micros(),
-        laid.as_micros(),
-        gone.as_micros()
+        "{count} windows in each of {APPLICATIONS}: made and packed in {made} us, laid out in {laid} us, destroyed in {gone} us"
     )?;
     Ok(())
 }
@@ -198,38 +229,39 @@ fn make_slaves(
     Ok(())
 }
 
+/// Makes as many slaves of one master in each application.
+fn make_all_slaves(alloc: Global, tables: &mut Tables, count: usize, order: Order) -> Result<()> {
+    for owner in 0..APPLICATIONS {
+        make_slaves(alloc, tables, owner, count, order)?;
+    }
+    Ok(())
+}
+
 /// Makes as many slaves of one master in each application, and destroys them.
 fn slaves_round(rt: &(impl Print + AllocGlobal + Clock), count: usize, order: Order) -> Result<()> {
-    let alloc = rt.alloc();
-    let mut tables = Tables {
-        windows: Windows::new(alloc),
-        packs: PackTable::new(alloc),
-    };
-    for owner in 0..APPLICATIONS {
-        make_slaves(alloc, &mut tables, owner, count, order)?;
-    }
-    let start = Instant::now(rt)?;
-    for owner in 0..APPLICATIONS {
-        destroy(&mut tables, owner)?;
-    }
-    let gone = start.elapsed(rt)?;
+    let mut tables = Tables::new(rt.alloc());
+    make_all_slaves(rt.alloc(), &mut tables, count, order)?;
+    let gone = time_of_destroying(rt, &mut tables)?;
+    let order = order.name();
     println!(rt;
-        "{count} windows in each of {APPLICATIONS}, slaves of one master {}: destroyed in {} us",
-        order.name(),
-        gone.as_micros()
+        "{count} windows in each of {APPLICATIONS}, slaves of one master {order}: destroyed in {gone} us"
     )?;
+    Ok(())
+}
+
+fn slaves_rounds(rt: &(impl Print + AllocGlobal + Clock), order: Order) -> Result<()> {
+    for count in COUNTS {
+        slaves_round(rt, count, order)?;
+    }
     Ok(())
 }
 
 /// Tells how long it takes as the number of windows grows.
 pub fn run(rt: &(impl Print + AllocGlobal + Clock)) -> Result<()> {
-    for count in [8, 64, 512] {
+    for count in COUNTS {
         round(rt, count)?;
     }
-    for order in [Order::Forward, Order::Reverse, Order::Middle] {
-        for count in [8, 64, 512] {
-            slaves_round(rt, count, order)?;
-        }
-    }
-    Ok(())
+    slaves_rounds(rt, Order::Forward)?;
+    slaves_rounds(rt, Order::Reverse)?;
+    slaves_rounds(rt, Order::Middle)
 }

@@ -1,14 +1,15 @@
-//! Calls of layouts: `begin WIDTH HEIGHT` of the application; `window NUMBER WIDTH HEIGHT BORDER PROPAGATES` makes a window, or changes it;
+//! Questions of layouts: `begin WIDTH HEIGHT` of the application; `window NUMBER WIDTH HEIGHT BORDER PROPAGATES` makes a window, or changes it;
 //! `pack MASTER NUMBER PLACE SIDE ANCHOR FILL EXPAND PADX PADY IPADX IPADY`, two pads joined by a comma; `forget NUMBER`; `gone NUMBER` of a
 //! window that is no longer there; `asks NUMBER` is the size that it asks for; `lay` tells the changes, twice over, of which the second
 //! time has none.
 
-use anyhow::{Context, Result, bail};
+use crate::requests::{anchor_of, fill_of, pads_of, side_of};
+use anyhow::{Result, bail};
 use std::alloc::Global;
-use std::str::SplitAsciiWhitespace;
+use tables::number;
 use tk_base::{Rect, Win};
 use tk_layout::{Arrangements, Change, Shape, lay_out, requested_size};
-use tk_packer::{Anchor, Fill, PackTable, Pads, Request, Side};
+use tk_packer::{PackTable, Request};
 
 #[derive(Drop)]
 pub struct Layouts {
@@ -21,84 +22,38 @@ pub struct Layouts {
 /// The application whose windows are laid out.
 const OWNER: usize = 0;
 
-fn word<'a>(words: &mut SplitAsciiWhitespace<'a>) -> Result<&'a str> {
-    match words.next() {
-        Some(word) => Ok(word),
-        None => bail!("a call that lacks a word"),
-    }
-}
-
-fn pixels(words: &mut SplitAsciiWhitespace) -> Result<u32> {
-    word(words)?.parse().context("pixels that are no number")
-}
-
-fn number(words: &mut SplitAsciiWhitespace) -> Result<u64> {
-    word(words)?.parse().context("a window that is no number")
-}
-
-fn side_of(word: &str) -> Result<Side> {
-    match word {
-        "top" => Ok(Side::Top),
-        "bottom" => Ok(Side::Bottom),
-        "left" => Ok(Side::Left),
-        "right" => Ok(Side::Right),
-        _ => bail!("no such side"),
-    }
-}
-
-fn anchor_of(word: &str) -> Result<Anchor> {
-    match word {
-        "center" => Ok(Anchor::Center),
-        "n" => Ok(Anchor::N),
-        "ne" => Ok(Anchor::Ne),
-        "e" => Ok(Anchor::E),
-        "se" => Ok(Anchor::Se),
-        "s" => Ok(Anchor::S),
-        "sw" => Ok(Anchor::Sw),
-        "w" => Ok(Anchor::W),
-        "nw" => Ok(Anchor::Nw),
-        _ => bail!("no such anchor"),
-    }
-}
-
-fn fill_of(word: &str) -> Result<Fill> {
-    match word {
-        "none" => Ok(Fill::None),
-        "x" => Ok(Fill::X),
-        "y" => Ok(Fill::Y),
-        "both" => Ok(Fill::Both),
-        _ => bail!("no such fill"),
-    }
-}
-
-fn pads_of(word: &str) -> Result<Pads> {
-    let (before, after) = word.split_once(',').unwrap_or((word, word));
-    Ok(Pads {
-        before: before.parse().context("a pad that is no number")?,
-        after: after.parse().context("a pad that is no number")?,
-    })
-}
-
-fn request_in(words: &mut SplitAsciiWhitespace) -> Result<Request> {
+fn request_in(words: &[&str]) -> Result<Request> {
+    let [side, anchor, fill, expand, padx, pady, ipadx, ipady] = words else {
+        bail!("a request that lacks a word");
+    };
     let mut request = Request::new(1, 1);
-    request.side = side_of(word(words)?)?;
-    request.anchor = anchor_of(word(words)?)?;
-    request.fill = fill_of(word(words)?)?;
-    request.expand = word(words)? == "1";
-    request.padx = pads_of(word(words)?)?;
-    request.pady = pads_of(word(words)?)?;
-    request.ipadx = pixels(words)?;
-    request.ipady = pixels(words)?;
+    request.side = side_of(side)?;
+    request.anchor = anchor_of(anchor)?;
+    request.fill = fill_of(fill)?;
+    request.expand = *expand == "1";
+    request.padx = pads_of(padx)?;
+    request.pady = pads_of(pady)?;
+    request.ipadx = number(ipadx)?;
+    request.ipady = number(ipady)?;
     Ok(request)
 }
 
-fn shape_in(words: &mut SplitAsciiWhitespace) -> Result<Shape> {
-    Ok(Shape {
-        number: number(words)?,
-        width: pixels(words)?,
-        height: pixels(words)?,
-        border: pixels(words)?,
-        propagates: word(words)? == "1",
+fn shape_in(words: &[&str]) -> Result<Shape> {
+    let [window, width, height, border, propagates] = words else {
+        bail!("a window that lacks a word");
+    };
+    let size: (u32, u32) = (number(width)?, number(height)?);
+    Ok(new_shape(number(window)?, size, number(border)?, *propagates == "1"))
+}
+
+/// The shape of a window that isn't laid out yet, which asks for a size.
+pub fn new_shape(number: u64, (width, height): (u32, u32), border: u32, propagates: bool) -> Shape {
+    Shape {
+        number,
+        width,
+        height,
+        border,
+        propagates,
         place: Rect {
             x: 0,
             y: 0,
@@ -106,10 +61,10 @@ fn shape_in(words: &mut SplitAsciiWhitespace) -> Result<Shape> {
             height: 1,
         },
         mapped: false,
-    })
+    }
 }
 
-/// A change as the tables have it.
+/// A change as tables have it.
 fn change_text(alloc: Global, change: Change) -> Result<String> {
     match change {
         Change::Unmap(number) => Ok(format!(in alloc; "u{number}")?),
@@ -133,32 +88,47 @@ impl Layouts {
         }
     }
 
-    /// What a call answers.
-    pub fn answer(&mut self, alloc: Global, call: &str) -> Result<String> {
-        let mut words = call.split_ascii_whitespace();
-        match word(&mut words)? {
-            "asks" => return self.asks(alloc, number(&mut words)?),
-            "lay" => return self.lay(alloc),
-            "begin" => {
+    /// What a question is answered.
+    pub fn answer(&mut self, alloc: Global, words: &[&str]) -> Result<String> {
+        match words {
+            ["asks", window] => self.asks(alloc, number(window)?),
+            ["lay"] => self.lay(alloc),
+            ["begin", width, height] => {
                 *self = Layouts::new(alloc);
-                self.size = (pixels(&mut words)?, pixels(&mut words)?);
+                self.size = (number(width)?, number(height)?);
+                Ok(String::new(alloc))
             }
-            "window" => self.set(shape_in(&mut words)?)?,
-            "pack" => self.pack(&mut words)?,
-            "forget" => self.packs.forget(win(number(&mut words)?)),
-            "gone" => self.take_out(number(&mut words)?),
-            _ => bail!("no such call"),
+            words => {
+                self.change(words)?;
+                Ok(String::new(alloc))
+            }
         }
-        Ok(String::new(alloc))
     }
 
-    fn pack(&mut self, words: &mut SplitAsciiWhitespace) -> Result<()> {
-        let master = number(words)?;
-        let slave = number(words)?;
-        let place = pixels(words)?;
-        self.packs
-            .put(master, win(slave), place as usize, request_in(words)?)?;
-        Ok(())
+    /// Changes what windows there are, and what they ask for.
+    fn change(&mut self, words: &[&str]) -> Result<()> {
+        match words {
+            ["window", shape @ ..] => self.set(shape_in(shape)?),
+            ["pack", master, slave, place, request @ ..] => {
+                let request = request_in(request)?;
+                self.packs.put(
+                    number(master)?,
+                    win(number(slave)?),
+                    number(place)?,
+                    request,
+                )?;
+                Ok(())
+            }
+            ["forget", window] => {
+                self.packs.forget(win(number(window)?));
+                Ok(())
+            }
+            ["gone", window] => {
+                self.take_out(number(window)?);
+                Ok(())
+            }
+            _ => bail!("no such question"),
+        }
     }
 
     /// Adds a window, or changes what it asks for.

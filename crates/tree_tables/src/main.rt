@@ -1,91 +1,60 @@
-//! Makes, walks and destroys windows, and lays them out, and tells of each answer that isn't the one in a table.
+//! Makes, walks and destroys windows, packs them, and lays them out, and tells of each answer that isn't the one in a table (`tables` says what stands
+//! in one).
 //!
-//! Each argument names a table, the file `NAME.table`. A line `CALL = ANSWER` is a call, and what it answers; an empty line, or one that
-//! begins with `#`, says nothing. `trees` has calls on windows (`trees.rt`), any other table calls of layouts (`layouts.rt`).
+//! There are questions of windows (`trees.rt`), of packings (`packings.rt`) and of layouts (`layouts.rt`), each answered `=` and what it tells.
 //!
-//! With `bench` as its first argument it tells how long it takes to make, pack, lay out and destroy windows, by how many there are.
+//! With `bench` as its argument it tells how long it takes to make, pack, lay out and destroy windows, by how many there are.
 #![tactic(auto)]
 
 mod bench;
 mod layouts;
+mod packings;
+mod requests;
 mod trees;
 
-use anyhow::{Context, Result, bail};
+use anyhow::Result;
 use layouts::Layouts;
+use packings::Packings;
 use std::alloc::Global;
-use std::{env, fs};
+use tables::{Fixture, arguments, ask_tables, first_word, result_of, words_of};
 use trees::Trees;
 
-/// What a table has shown so far.
-#[derive(Clone, Copy)]
-struct Tally {
-    answers: u32,
-    wrong: u32,
-}
-
-/// What the calls of a table are made on.
+/// What the questions are put to.
 #[derive(Drop)]
-struct Called {
+struct Screen {
     trees: Trees,
+    packings: Packings,
     layouts: Layouts,
 }
 
-impl Called {
-    fn new(alloc: Global) -> Called {
-        Called {
+impl Fixture for Screen {
+    fn new(alloc: Global) -> Result<Screen> {
+        Ok(Screen {
             trees: Trees::new(alloc),
+            packings: Packings::new(alloc),
             layouts: Layouts::new(alloc),
-        }
+        })
     }
 
-    fn answer(&mut self, alloc: Global, of_trees: bool, call: &str) -> Result<String> {
-        if of_trees {
-            self.trees.answer(alloc, call)
-        } else {
-            self.layouts.answer(alloc, call)
-        }
-    }
-}
-
-/// Makes the calls of a table, and prints each that answers something else.
-fn ask(rt: &(impl Print + AllocGlobal), name: &str, table: &str) -> Result<Tally> {
-    let alloc = rt.alloc();
-    let mut tally = Tally {
-        answers: 0,
-        wrong: 0,
-    };
-    let mut called = Called::new(alloc);
-    for line in table.lines() {
-        if line.is_empty() || line.starts_with('#') {
-            continue;
-        }
-        let Some((call, wanted)) = line.split_once(" =") else {
-            bail!("a call with no answer");
+    fn answer(&mut self, alloc: Global, question: &str) -> Result<String> {
+        let (first, rest) = first_word(question);
+        let words = words_of(alloc, question, ' ')?;
+        let words = words.as_slice();
+        let told = match first {
+            "cavity" | "slave" | "arrange" => self.packings.answer(alloc, words)?,
+            "window" | "pack" | "forget" | "gone" | "asks" | "lay" => {
+                self.layouts.answer(alloc, words)?
+            }
+            "begin" if !rest.is_empty() => self.layouts.answer(alloc, words)?,
+            _ => self.trees.answer(alloc, words)?,
         };
-        let answer = called.answer(alloc, name == "trees", call)?;
-        tally.answers = tally.answers.saturating_add(1);
-        if answer.as_str() != wanted.trim_ascii_start() {
-            tally.wrong = tally.wrong.saturating_add(1);
-            println!(rt; "{name}: {line}: answers {answer}")?;
-        }
+        result_of(alloc, told.as_str())
     }
-    Ok(tally)
 }
 
 fn main(rt: HostRuntime) -> Result<()> {
-    let mut wrong = false;
-    for name in env::args(&rt)?.skip(1) {
-        if name.as_str() == "bench" {
-            return bench::run(&rt);
-        }
-        let path = format!(in rt.alloc(); "{name}.table")?;
-        let table = fs::read_to_string(&rt, path).context(format_args!("table {name}"))?;
-        let tally = ask(&rt, name.as_str(), table.as_str())?;
-        println!(rt; "{name}: {} answers, {} wrong", tally.answers, tally.wrong)?;
-        wrong = wrong || tally.wrong != 0;
+    match arguments(&rt)?.as_slice() {
+        [word] if word.as_str() == "bench" => bench::run(&rt),
+        _ => ask_tables::<Screen, _>(&rt),
     }
-    if wrong {
-        bail!("some answers are wrong");
-    }
-    Ok(())
 }

@@ -1,8 +1,9 @@
-//! Calls on windows: `begin`, `create OWNER PATH`, `find OWNER PATH`, and `holds`, `children`, `subtree`, `post`, `dying`, `remove` of
+//! Questions of windows: `begin`, `create OWNER PATH`, `find OWNER PATH`, and `holds`, `children`, `subtree`, `post`, `dying`, `remove` of
 //! `OWNER NUMBER`. A window is told by its number.
 
-use anyhow::{Context, Result, bail};
+use anyhow::{Result, bail};
 use std::alloc::Global;
+use tables::number;
 use tcl_text::Text;
 use tk_base::{Kind, Win};
 use tk_tree::{WindowFault, Windows};
@@ -19,27 +20,23 @@ impl Trees {
         }
     }
 
-    /// What a call answers.
-    pub fn answer(&mut self, alloc: Global, call: &str) -> Result<String> {
-        let mut words = call.split_ascii_whitespace();
-        let (Some(name), owner, word) = (words.next(), words.next(), words.next()) else {
-            bail!("a line with no call");
-        };
-        if name == "begin" {
-            self.windows = Windows::new(alloc);
-            return Ok(String::new(alloc));
-        }
-        let (Some(owner), Some(word)) = (owner, word) else {
-            bail!("a call that lacks a word");
-        };
-        let owner = owner.parse().context("an application that is no number")?;
-        match name {
-            "create" => self.create(alloc, owner, word),
-            "find" => self.find(alloc, owner, word),
-            _ => {
-                let number = word.parse().context("a window that is no number")?;
-                self.answer_of(alloc, name, Win { owner, number })
+    /// What a question is answered.
+    pub fn answer(&mut self, alloc: Global, words: &[&str]) -> Result<String> {
+        match words {
+            ["begin"] => {
+                self.windows = Windows::new(alloc);
+                Ok(String::new(alloc))
             }
+            ["create", owner, path] => self.create(alloc, number(owner)?, path),
+            ["find", owner, path] => self.find(alloc, number(owner)?, path),
+            [name, owner, window] => {
+                let win = Win {
+                    owner: number(owner)?,
+                    number: number(window)?,
+                };
+                self.answer_of(alloc, name, win)
+            }
+            _ => bail!("no such question"),
         }
     }
 
@@ -78,7 +75,7 @@ impl Trees {
                 }
                 Ok(String::new(alloc))
             }
-            _ => bail!("no such call"),
+            _ => bail!("no such question"),
         }
     }
 }

@@ -1,13 +1,16 @@
 //! A widget with the variables of its application, and what is asked of it.
-use crate::words::{word_of, words_of};
-use anyhow::{Context, Result, bail};
+use crate::keys::{
+    entry_asked, listbox_told, pressed, put_relief, sink, size_told, told, value_told,
+};
+use crate::variables::{read, variable_told, write_variable};
+use crate::words::{path_words, variable_words};
+use anyhow::{Result, bail};
 use std::alloc::Global;
-use tcl_commands::variable_command;
-use tcl_text::{Text, TextList};
-use tcl_vars::{ReadFault, Scopes};
+use tables::{Fixture, error_of, first_word, result_of};
+use tcl_text::Text;
+use tcl_vars::Scopes;
 use tk_base::Kind;
-use tk_entry::Move;
-use tk_widgets::{Asked, Button, Step, VariableWrite, Widget, WidgetAct};
+use tk_widgets::{Asked, Widget, WidgetAct};
 
 /// A widget, the variables, and the relief of a pressed button.
 #[derive(Drop)]
@@ -19,7 +22,7 @@ pub struct Session {
 
 impl Session {
     /// A new widget of the kind of a name.
-    pub fn new(alloc: Global, kind: &str) -> Result<Session> {
+    fn of(alloc: Global, kind: &str) -> Result<Session> {
         let kind = match kind {
             "frame" => Kind::Frame,
             "label" => Kind::Label,
@@ -35,44 +38,19 @@ impl Session {
         })
     }
 
-    /// A copy of the text of the variable that the widget shows, where it can be read.
-    fn variable(&self) -> Result<Option<Text>> {
-        if self.scopes.levels() == 0 {
-            bail!("no variables");
-        }
+    /// The name of the variable that the widget shows, where it shows one.
+    fn name(&self) -> Result<Option<Text>> {
         match self.widget.variable() {
-            Some(name) => match self.scopes.get(0, name) {
-                Ok(text) => Ok(Some(text.copy()?)),
-                Err(_) => Ok(None),
-            },
+            Some(name) => Ok(Some(name.copy()?)),
             None => Ok(None),
         }
     }
 
-    /// Sets a variable as a change asks; the text of the error where it can't be.
-    fn write(&mut self, alloc: Global, write: VariableWrite) -> Result<Option<Text>> {
-        if self.scopes.levels() == 0 {
-            bail!("no variables");
-        }
-        let VariableWrite {
-            name,
-            text,
-            absent_only,
-        } = write;
-        let is_absent = matches!(
-            self.scopes.get(0, &name),
-            Err(ReadFault::NoVariable | ReadFault::NoElement)
-        );
-        if absent_only && !is_absent {
-            return Ok(None);
-        }
-        let mut words = TextList::new(alloc);
-        words.push(word_of(alloc, "set")?)?;
-        words.push(name)?;
-        words.push(text)?;
-        match variable_command(alloc, &mut self.scopes, 0, words.as_slice())? {
-            Some(Err(text)) => Ok(Some(text)),
-            _ => Ok(None),
+    /// A copy of the text of the variable that the widget shows, where it can be read.
+    fn variable(&self) -> Result<Option<Text>> {
+        match self.name()? {
+            Some(name) => read(&self.scopes, &name),
+            None => Ok(None),
         }
     }
 
@@ -83,7 +61,7 @@ impl Session {
             Asked::Wants(change) => change,
         };
         if let Some(write) = self.widget.variable_write(alloc, &change)? {
-            if let Some(fault) = self.write(alloc, write)? {
+            if let Some(fault) = write_variable(alloc, &mut self.scopes, write)? {
                 return Ok(WidgetAct::Fault(fault));
             }
         }
@@ -97,174 +75,94 @@ impl Session {
         self.done(alloc, asked)
     }
 
-    /// A command on variables.
-    fn set(&mut self, alloc: Global, words: &[Text]) -> Result<WidgetAct> {
-        if self.scopes.levels() == 0 {
-            bail!("no variables");
+    /// What the pointer does to a button.
+    fn button_told(&mut self, alloc: Global, what: &str) -> Result<WidgetAct> {
+        match what {
+            "down" => {
+                self.saved = pressed(alloc, &mut self.widget)?;
+                match &self.saved {
+                    Some(relief) => told(alloc, relief.as_str()),
+                    None => told(alloc, ""),
+                }
+            }
+            "up" => {
+                if let Some(relief) = self.saved.take() {
+                    put_relief(&mut self.widget, relief)?;
+                }
+                told(alloc, "")
+            }
+            _ => {
+                sink(alloc, &mut self.widget)?;
+                told(alloc, "")
+            }
         }
-        match variable_command(alloc, &mut self.scopes, 0, words)? {
-            Some(Ok(text)) => Ok(WidgetAct::Answer(text)),
-            Some(Err(text)) => Ok(WidgetAct::Fault(text)),
-            None => bail!("no such command"),
+    }
+
+    /// What keys and the pointer do to an entry.
+    fn entry_told(&mut self, alloc: Global, what: &str, rest: &str) -> Result<WidgetAct> {
+        let variable = self.variable()?;
+        match entry_asked(alloc, &mut self.widget, variable.as_ref(), what, rest)? {
+            Some(asked) => self.done(alloc, asked),
+            None => told(alloc, ""),
+        }
+    }
+
+    /// What the widget is asked or told, but for its own command and those on variables.
+    fn widget_told(&mut self, alloc: Global, what: &str, rest: &str) -> Result<WidgetAct> {
+        match what {
+            "value" => {
+                let variable = self.variable()?;
+                value_told(alloc, &self.widget, variable.as_ref())
+            }
+            "size" => {
+                let variable = self.variable()?;
+                size_told(alloc, &self.widget, variable.as_ref())
+            }
+            "down" | "sink" | "up" => self.button_told(alloc, what),
+            "key" | "backspace" | "delete" | "move" | "point" => {
+                self.entry_told(alloc, what, rest)
+            }
+            _ => listbox_told(alloc, &mut self.widget, what, rest),
+        }
+    }
+
+    /// What is to come of a question.
+    fn act(&mut self, alloc: Global, question: &str) -> Result<WidgetAct> {
+        let (first, rest) = first_word(question);
+        match first {
+            "path" => {
+                let words = path_words(alloc, rest)?;
+                self.command(alloc, words.as_slice())
+            }
+            "set" | "unset" | "array" => {
+                let words = variable_words(alloc, first, rest)?;
+                variable_told(alloc, &mut self.scopes, words.as_slice())
+            }
+            _ => self.widget_told(alloc, first, rest),
         }
     }
 }
 
-/// What a line is answered.
-pub fn answer_of(alloc: Global, session: &mut Session, line: &str) -> Result<String> {
-    let (first, rest) = match line.split_once(' ') {
-        Some((first, rest)) => (first, rest),
-        None => (line, ""),
-    };
-    let act = match first {
-        "path" => {
-            let words = path_words(alloc, rest)?;
-            session.command(alloc, words.as_slice())?
+impl Fixture for Session {
+    fn new(alloc: Global) -> Result<Session> {
+        Session::of(alloc, "frame")
+    }
+
+    fn answer(&mut self, alloc: Global, question: &str) -> Result<String> {
+        if let Some(kind) = question.strip_prefix("new ") {
+            *self = Session::of(alloc, kind)?;
+            return result_of(alloc, "");
         }
-        "set" | "unset" | "array" => {
-            let words = variable_words(alloc, first, rest)?;
-            session.set(alloc, words.as_slice())?
-        }
-        "value" => value_told(alloc, session)?,
-        "size" => size_told(alloc, session)?,
-        "down" | "sink" | "up" => button_told(alloc, session, first)?,
-        "key" | "backspace" | "delete" | "move" | "point" => {
-            entry_told(alloc, session, first, rest)?
-        }
-        _ => listbox_told(alloc, session, first, rest)?,
-    };
+        let act = self.act(alloc, question)?;
+        act_told(alloc, &act)
+    }
+}
+
+/// An act as a table has it.
+fn act_told(alloc: Global, act: &WidgetAct) -> Result<String> {
     match act {
-        WidgetAct::Answer(text) => Ok(format!(in alloc; "={}", text.as_str())?),
-        WidgetAct::Fault(text) => Ok(format!(in alloc; "!{}", text.as_str())?),
+        WidgetAct::Answer(text) => result_of(alloc, text.as_str()),
+        WidgetAct::Fault(text) => error_of(alloc, text.as_str()),
         WidgetAct::Script(text) => Ok(format!(in alloc; ">{}", text.as_str())?),
     }
-}
-
-/// The words behind `path`; none where nothing stands there.
-fn path_words(alloc: Global, rest: &str) -> Result<TextList> {
-    if rest.is_empty() {
-        return Ok(TextList::new(alloc));
-    }
-    words_of(alloc, rest)
-}
-
-/// The words of a command on variables.
-fn variable_words(alloc: Global, first: &str, rest: &str) -> Result<TextList> {
-    let mut words = TextList::new(alloc);
-    words.push(word_of(alloc, first)?)?;
-    let rest = match rest.strip_prefix("set ") {
-        Some(rest) => {
-            words.push(word_of(alloc, "set")?)?;
-            rest
-        }
-        None => rest,
-    };
-    for word in rest.split('|') {
-        words.push(word_of(alloc, word)?)?;
-    }
-    Ok(words)
-}
-
-fn told(alloc: Global, characters: &str) -> Result<WidgetAct> {
-    Ok(WidgetAct::Answer(Text::new(alloc, characters)?))
-}
-
-/// What the widget tells as its value.
-fn value_told(alloc: Global, session: &Session) -> Result<WidgetAct> {
-    let variable = session.variable()?;
-    match session.widget.value(alloc, variable.as_ref())? {
-        Some(text) => Ok(WidgetAct::Answer(text)),
-        None => told(alloc, "none"),
-    }
-}
-
-/// The size that it requests.
-fn size_told(alloc: Global, session: &Session) -> Result<WidgetAct> {
-    let variable = session.variable()?;
-    let (width, height) = session.widget.requested_size(variable.as_ref());
-    let size = format!(in alloc; "{width} {height}")?;
-    told(alloc, size.as_str())
-}
-
-/// The widget, where it is a button.
-fn button_of(widget: &mut Widget) -> Result<&mut Button> {
-    match widget {
-        Widget::Button(button) => Ok(button),
-        _ => bail!("no button"),
-    }
-}
-
-/// What the pointer does to a button.
-fn button_told(alloc: Global, session: &mut Session, what: &str) -> Result<WidgetAct> {
-    match what {
-        "down" => {
-            session.saved = button_of(&mut session.widget)?.press(alloc)?;
-            match &session.saved {
-                Some(relief) => told(alloc, relief.as_str()),
-                None => told(alloc, ""),
-            }
-        }
-        "up" => {
-            let saved = session.saved.take();
-            if let Some(relief) = saved {
-                button_of(&mut session.widget)?.put_relief(relief);
-            }
-            told(alloc, "")
-        }
-        _ => {
-            button_of(&mut session.widget)?.sink(alloc)?;
-            told(alloc, "")
-        }
-    }
-}
-
-/// What keys and the pointer do to an entry.
-fn entry_told(alloc: Global, session: &mut Session, what: &str, rest: &str) -> Result<WidgetAct> {
-    let variable = session.variable()?;
-    let variable = variable.as_ref();
-    let Widget::Entry(entry) = &mut session.widget else {
-        bail!("no entry");
-    };
-    let asked = match what {
-        "key" => entry.ask_typed(alloc, variable, &word_of(alloc, rest)?)?,
-        "backspace" => entry.ask_backspace(alloc, variable)?,
-        "delete" => entry.ask_delete(alloc, variable)?,
-        "move" => match Move::named(rest) {
-            Some(way) => {
-                entry.entry.move_cursor(variable, way);
-                return told(alloc, "");
-            }
-            None => bail!("no such way"),
-        },
-        _ => {
-            let x: i64 = rest.parse().context("no place")?;
-            entry.point(variable, x);
-            return told(alloc, "");
-        }
-    };
-    session.done(alloc, asked)
-}
-
-/// What keys and the pointer do to a listbox.
-fn listbox_told(alloc: Global, session: &mut Session, what: &str, rest: &str) -> Result<WidgetAct> {
-    let Widget::Listbox(listbox) = &mut session.widget else {
-        bail!("no listbox");
-    };
-    let is_told = match what {
-        "press" => {
-            let y: i64 = rest.parse().context("no place")?;
-            listbox.press(y)
-        }
-        "drag" => {
-            let y: i64 = rest.parse().context("no place")?;
-            listbox.drag(y)
-        }
-        "step" => match Step::named(rest) {
-            Some(step) => listbox.step(step),
-            None => bail!("no such step"),
-        },
-        "space" => listbox.space(),
-        _ => bail!("no such line"),
-    };
-    told(alloc, if is_told { "1" } else { "0" })
 }

@@ -1,45 +1,43 @@
-//! The words of a table's lines.
-use anyhow::{Context, Result};
+//! The words of questions.
+use anyhow::Result;
 use std::alloc::Global;
+use tables::{repeated, words_of};
 use tcl_text::{Text, TextList};
 
-/// The words of a line.
-pub fn words_of(alloc: Global, line: &str) -> Result<TextList> {
+/// A word, as the text that it means.
+pub fn word_of(alloc: Global, word: &str) -> Result<Text> {
+    Ok(Text::new(alloc, repeated(alloc, word)?.as_str())?)
+}
+
+/// Adds words that have bars between.
+fn push_words(texts: &mut TextList, alloc: Global, words: &str) -> Result<()> {
+    let words = words_of(alloc, words, '|')?;
+    for word in words.as_slice() {
+        texts.push(word_of(alloc, word)?)?;
+    }
+    Ok(())
+}
+
+/// The words behind `path`; none where nothing stands there.
+pub fn path_words(alloc: Global, rest: &str) -> Result<TextList> {
     let mut words = TextList::new(alloc);
-    for word in line.split('|') {
-        words.push(word_of(alloc, word)?)?;
+    if !rest.is_empty() {
+        push_words(&mut words, alloc, rest)?;
     }
     Ok(words)
 }
 
-/// A word as it is meant.
-pub fn word_of(alloc: Global, word: &str) -> Result<Text> {
-    let word = plain(alloc, word)?;
-    Ok(Text::new(alloc, word.as_str())?)
-}
-
-/// The characters that are meant: newlines for `~`, and a text as often as is said.
-pub fn plain(alloc: Global, word: &str) -> Result<String> {
-    let word = repeated(alloc, word)?;
-    let mut text = String::new(alloc);
-    for (number, part) in word.as_str().split('~').enumerate() {
-        if number > 0 {
-            text.push_str("\n")?;
+/// The words of a command on variables.
+pub fn variable_words(alloc: Global, first: &str, rest: &str) -> Result<TextList> {
+    let mut words = TextList::new(alloc);
+    words.push(word_of(alloc, first)?)?;
+    let rest = match rest.strip_prefix("set ") {
+        Some(rest) => {
+            words.push(word_of(alloc, "set")?)?;
+            rest
         }
-        text.push_str(part)?;
-    }
-    Ok(text)
-}
-
-/// The text of `*N*TEXT` N times, or the word itself.
-fn repeated(alloc: Global, word: &str) -> Result<String> {
-    let Some((count, text)) = word.strip_prefix('*').and_then(|rest| rest.split_once('*')) else {
-        return Ok(String::from_str(alloc, word)?);
+        None => rest,
     };
-    let count: u32 = count.parse().context("a word that is to stand so often")?;
-    let mut all = String::new(alloc);
-    for _ in 0..count {
-        all.push_str(text)?;
-    }
-    Ok(all)
+    push_words(&mut words, alloc, rest)?;
+    Ok(words)
 }

@@ -5,9 +5,9 @@ use std::alloc::{AllocError, Global};
 /// The picture of the character 0, which those of the other control characters follow.
 const FIRST: u32 = 0x2400;
 
+/// How many control characters have pictures.
 const COUNT: u32 = 32;
 
-/// The control character that a picture stands for, or the character itself.
 fn without_picture(character: char) -> char {
     let number = u32::from(character);
     if number < FIRST || FIRST + COUNT <= number {
@@ -16,7 +16,15 @@ fn without_picture(character: char) -> char {
     char::from_u32(number - FIRST).unwrap_or(character)
 }
 
-/// A line, with the control characters whose pictures stand in it.
+fn with_picture(character: char) -> char {
+    let number = u32::from(character);
+    if COUNT <= number {
+        return character;
+    }
+    char::from_u32(FIRST + number).unwrap_or(character)
+}
+
+/// A text of a table, with the control characters whose pictures stand in it.
 pub fn without_pictures(alloc: Global, line: &str) -> Result<String, AllocError> {
     let mut text = String::new(alloc);
     for character in line.chars() {
@@ -25,16 +33,11 @@ pub fn without_pictures(alloc: Global, line: &str) -> Result<String, AllocError>
     Ok(text)
 }
 
-/// Adds a text, with pictures for its control characters.
-pub fn push_pictured(line: &mut String, text: &str) -> Result<(), AllocError> {
+/// A text as a table has it, with pictures for its control characters.
+pub fn with_pictures(alloc: Global, text: &str) -> Result<String, AllocError> {
+    let mut line = String::new(alloc);
     for character in text.chars() {
-        let number = u32::from(character);
-        let pictured = if number < COUNT {
-            char::from_u32(FIRST + number).unwrap_or(character)
-        } else {
-            character
-        };
-        line.push(pictured)?;
+        line.push(with_picture(character))?;
     }
-    Ok(())
+    Ok(line)
 }

@@ -1,0 +1,120 @@
+use crate::pictures::{with_pictures, without_pictures};
+use anyhow::{Context, Result, bail};
+use std::alloc::Global;
+use std::rt::{Env, Files};
+use std::{env, fs};
+
+/// What the questions of a table are put to.
+pub trait Fixture: Drop {
+    /// One to which nothing was put yet.
+    fn new(alloc: Global) -> Result<Self>;
+
+    /// What a question is answered, with its mark; an error where it is no question.
+    fn answer(&mut self, alloc: Global, question: &str) -> Result<String>;
+}
+
+/// A question, and what it was answered.
+#[derive(Drop)]
+struct Asked {
+    question: String,
+    answer: String,
+}
+
+/// A table under way.
+#[derive(Drop)]
+struct Asking<F: Fixture> {
+    fixture: F,
+    /// The question of the line above, where that was one.
+    last: Option<Asked>,
+    answers: u32,
+}
+
+impl<F: Fixture> Asking<F> {
+    fn new(alloc: Global) -> Result<Asking<F>> {
+        Ok(Asking {
+            fixture: F::new(alloc)?,
+            last: None,
+            answers: 0,
+        })
+    }
+
+    fn ask(&mut self, alloc: Global, question: &str) -> Result<Asked> {
+        let plain = without_pictures(alloc, question)?;
+        let answer = self.fixture.answer(alloc, plain.as_str())?;
+        Ok(Asked {
+            question: String::from_str(alloc, question)?,
+            answer: with_pictures(alloc, answer.as_str())?,
+        })
+    }
+
+    /// Reads a line of the table: the question that it answers otherwise than the fixture did, if it does.
+    fn read(&mut self, alloc: Global, line: &str) -> Result<Option<Asked>> {
+        let last = self.last.take();
+        if line.is_empty() {
+            self.fixture = F::new(alloc)?;
+        } else if let Some(question) = line.strip_prefix('?') {
+            self.last = Some(self.ask(alloc, question.strip_prefix(' ').unwrap_or(question))?);
+        } else if !line.starts_with('#') {
+            let Some(asked) = last else {
+                bail!("an answer with no question above it");
+            };
+            self.answers = self.answers.saturating_add(1);
+            if asked.answer.as_str() != line {
+                return Ok(Some(asked));
+            }
+        }
+        Ok(None)
+    }
+}
+
+/// Asks a table's questions, and prints each answer that isn't the one in the table, and how many there are. Whether none differs.
+pub fn ask_table<F: Fixture, R: Print + AllocGlobal>(
+    rt: &R,
+    name: &str,
+    table: &str,
+) -> Result<bool> {
+    let alloc = rt.alloc();
+    let mut asking: Asking<F> = Asking::new(alloc)?;
+    let mut wrong = 0u32;
+    for (above, line) in table.lines().enumerate() {
+        let number = above.saturating_add(1);
+        let read = asking
+            .read(alloc, line)
+            .context(format_args!("line {number}"))?;
+        if let Some(Asked { question, answer }) = read {
+            wrong = wrong.saturating_add(1);
+            println!(rt; "{name}:{number}: {question}: {answer} and not {line}")?;
+        }
+    }
+    let answers = asking.answers;
+    println!(rt; "{name}: {answers} answers, {wrong} wrong")?;
+    Ok(wrong == 0)
+}
+
+/// The program's arguments.
+pub fn arguments<R: Env + AllocGlobal>(rt: &R) -> Result<Vec<String>> {
+    Ok(env::args(rt)?.skip(1).collect(rt.alloc())?)
+}
+
+/// The text of a file.
+pub fn text_in<R: Files + AllocGlobal>(rt: &R, path: &str) -> Result<String> {
+    fs::read_to_string(rt, path).context(format_args!("file {path}"))
+}
+
+/// Asks the tables that the program's arguments name: of each it prints what the fixture answers otherwise, and a line that counts. It fails
+/// where an answer differs.
+pub fn ask_tables<F: Fixture, R: Env + Files + Print + AllocGlobal>(rt: &R) -> Result<()> {
+    let mut differs = false;
+    for name in arguments(rt)?.as_slice() {
+        let path = format!(in rt.alloc(); "{name}.table")?;
+        let table = text_in(rt, path.as_str())?;
+        let agrees = ask_table::<F, R>(rt, name.as_str(), table.as_str()).context(format_args!(
+            "table {name}"
+        ))?;
+        differs = differs || !agrees;
+    }
+    if differs {
+        bail!("some answers differ");
+    }
+    Ok(())
+}

@@ -1,0 +1,25 @@
+//! Tables of questions and their answers, and asking them.
+//!
+//! A table is a file `NAME.table`. The first character of a line says what it is:
+//!
+//! - `?` and a blank: behind them stands a question, which is asked.
+//! - `#`: the line says something to its reader.
+//! - An empty line begins anew, without what the questions above it have left.
+//! - Any other line is what the question right above it is answered: mostly `=` and a result, or `!` and an error.
+//!
+//! A question that no answer stands behind is asked too, for what it leaves to those below it. A control character (U+0000 to U+001F) stands as
+//! its picture (U+2400 to U+241F), in questions and in answers: `␊` is a newline.
+//!
+//! A program of tables implements [`Fixture`], and calls [`ask_tables`] in its `main`. [`result_of`] and [`error_of`] give answers their marks.
+#![tactic(auto)]
+
+mod answers;
+mod asking;
+mod pictures;
+#[cfg(test)]
+mod tests;
+mod words;
+
+pub use answers::{error_of, result_of};
+pub use asking::{Fixture, arguments, ask_tables, text_in};
+pub use words::{first_word, number, repeated, words_of};

@@ -5,7 +5,7 @@
 #![tactic(auto)]
 
 ghost use Rattle.std.specs.Prelude.{◌≡◌, is_some, IfOk};
-ghost use Rattle.tcl_expr.specs.Evaluation.{is_waiting, state_after};
+ghost use Rattle.tcl_expr.specs.Resuming.{is_waiting, state_after};
 
 use anyhow::{Result, bail};
 use std::alloc::Global;

@@ -94,7 +94,7 @@ impl Tasks for Panel {
 
     ghost left_alone = { λ _. tt };
 
-    #[tactic(auto, unfolding(tcl_table::specs::Source::script_of))]
+    #[tactic(auto, using(tcl_table::proofs::SourceLemmas::script_walk))]
     fn parsed(&mut self, text: &Text) -> Result<Script, ParseFault> {
         parse(self.alloc, text.as_str().as_bytes())
     }

@@ -6,7 +6,8 @@ use Rattle.std.specs.Option.{option_map_or}
 use Rattle.std.proofs.lemmas.Slice.Eq.{bytes_eq-Decides}
 use Rattle.std.proofs.lemmas.List.{take_all}
 use Rattle.lru.specs.LruCache.{LruCache, promoted, put_entries}
-use Rattle.tcl_cache.specs.Kept.{texts_of, without, AreTheirs}
+use Rattle.tcl_cache.specs.Kept.{without}
+use Rattle.tcl_cache.specs.Entries.{texts_of, AreTheirs}
 
 -- the test by which a map finds the key with these bytes
 abbrev pub is_key : {Z : Type 0} → List ℕ → String Z → Bool

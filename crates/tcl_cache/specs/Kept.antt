@@ -1,5 +1,5 @@
--- What a cache of scripts keeps.
-use Rattle.std.specs.Prelude.{◌≡◌, ℕ, Bool, not, List, [], ◌∷◌, map, filter, take, String, string_bytes}
+-- Meaning. What a cache of scripts keeps.
+use Rattle.std.specs.Prelude.{ℕ, Bool, not, List, [], ◌∷◌, filter, take}
 use Rattle.std.specs.List.{list_any}
 use Rattle.std.specs.Str.{bytes_eq}
 
@@ -20,13 +20,3 @@ without text texts = filter (λ other. not (bytes_eq text other)) texts
 -- A text that is asked for goes first, and those past the capacity go.
 abbrev pub put_first : List ℕ → Kept → Kept
 put_first text kept = record kept { texts = take kept.capacity (text ∷ without text kept.texts) }
-
--- ── the cache as a map from texts to scripts ──
-
-abbrev pub texts_of : {Z V : Type 0} → List (String Z × V) → List (List ℕ)
-texts_of entries = map (λ e. string_bytes e.0) entries
-
--- each script is that of its text
-abbrev pub AreTheirs : {Z : Type 0} → List (String Z × List ℕ) → Type 0
-AreTheirs [] = Unit {0}
-AreTheirs (e ∷ es) = (e.1 ≡ string_bytes e.0) × AreTheirs es

@@ -1,4 +1,4 @@
--- What follows of a cache whose texts are asked for one after another.
+-- Meaning. What follows of a cache whose texts are asked for one after another.
 use Rattle.std.specs.Prelude.{◌≡◌, ℕ, ◌≤◌, true, false, List, [], ◌∷◌, length, codes}
 use Rattle.std.specs.List.{IsDistinct}
 use Rattle.std.specs.Str.{bytes_eq}

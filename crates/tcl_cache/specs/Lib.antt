@@ -1,3 +1,4 @@
 -- What the contracts cite.
+pub mod Entries
 pub mod Kept
 pub mod Laws

@@ -1,6 +1,8 @@
-ghost use Rattle.std.specs.Prelude.{◌≡◌, ◌⊎◌, ◌<◌, Err, true, false, IfOk, IfErr, IsOk, MatchOption, OnErr, OnOk};
+ghost use Rattle.std.specs.Prelude.{◌≡◌, ◌⊎◌, ◌<◌, List, Err, true, false, IfOk, IfErr, IsOk, MatchOption, OnErr, OnOk};
 ghost use Rattle.tcl_cache.specs.Kept.{is_kept, none_kept, put_first};
+ghost use Rattle.tcl_words.specs.Grammar.{IsScriptOf, IsScriptFault};
 ghost use Rattle.tcl_words.specs.Reading.{commands_of};
+ghost use Rattle.tcl_words.specs.declared.script.Command.{Command};
 
 use lru::LruCache;
 use std::alloc::{AllocError, Global};
@@ -18,7 +20,8 @@ pub struct ScriptCache {
 
 impl Model for ScriptCache {
     ghost use Rattle.std.specs.Prelude.{◌<◌};
-    ghost use Rattle.tcl_cache.specs.Kept.{Kept, AreTheirs, texts_of};
+    ghost use Rattle.tcl_cache.specs.Kept.{Kept};
+    ghost use Rattle.tcl_cache.specs.Entries.{AreTheirs, texts_of};
 
     ghost Value = { Kept };
 
@@ -52,6 +55,21 @@ impl ScriptCache {
     /// The script of a text (Tcl(n)), or its fault (4 to 10), as `parse` answers: a text that is kept isn't read again. The script is then the one
     /// that was asked for last. Nothing changes where the text is at fault, or where memory is refused.
     pub fn parsed(&mut self, text: &Text) -> Result<Script, ParseFault>
+        ensures text { IfOk result (λ script. script ≡ text.now) }
+        ensures script { IfOk result (λ _. (commands : List Command) × IsScriptOf text.now commands) }
+        ensures fault { IfErr result (λ fault. IsScriptFault text.now fault ⊎ (fault ≡ ParseFault.NoMemory)) }
+        ensures read { (commands : List Command) → IsScriptOf text.now commands → IfErr result (λ fault. fault ≡ ParseFault.NoMemory) }
+        ensures told { (fault : ParseFault) → IsScriptFault text.now fault → (result ≡ Err fault) ⊎ (result ≡ Err ParseFault.NoMemory) }
+        ensures walk { IfOk result (λ _. IsOk (commands_of text.now)) }
+        ensures walk_fault { IfErr result (λ fault. (commands_of text.now ≡ Err fault) ⊎ (fault ≡ ParseFault.NoMemory)) }
+        ensures kept { OnOk result (self.new ≡ put_first text.now self.old) }
+        ensures stays { OnErr result (self.new ≡ self.old) }
+    {
+        self.kept_or_read(text)
+    }
+
+    /// The script of a text that is asked for, by the function that reads its commands.
+    fn kept_or_read(&mut self, text: &Text) -> Result<Script, ParseFault>
         ensures text { IfOk result (λ script. script ≡ text.now) }
         ensures ok { IfOk result (λ _. IsOk (commands_of text.now)) }
         ensures fault { IfErr result (λ fault. (commands_of text.now ≡ Err fault) ⊎ (fault ≡ ParseFault.NoMemory)) }

@@ -1,4 +1,4 @@
--- Variables that are set one after another.
+-- Meaning. Variables that are set one after another.
 use Rattle.std.specs.Prelude.{ℕ, List, [], ◌∷◌, drop, Option, Some, None, Result, Ok, Err}
 use Rattle.tcl_vars.specs.Store.{Store, with_variable}
 use Rattle.tcl_vars.specs.declared.fault.SetFault.{SetFault}

@@ -1,4 +1,4 @@
--- The commands that choose one of several bodies: `if` and `switch`.
+-- Meaning. The commands that choose one of several bodies: `if` and `switch`.
 use Rattle.std.specs.Prelude.{◌||◌, ◌&&◌, ◌==◌, ◌-◌, length, slice_get, ℕ, Bool, true, false, List, [], ◌∷◌, if◌then◌else◌, Option, Some, None, Result, Ok, Err, codes, bytes_eq}
 use Rattle.std.specs.Str.{chars}
 use Rattle.tcl_text.specs.Glob.{glob_matches}

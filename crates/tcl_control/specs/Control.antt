@@ -1,4 +1,4 @@
--- What a command that is called does, by its name.
+-- Meaning. What a command that is called does, by its name.
 use Rattle.std.specs.Prelude.{ℕ, List, [], ◌∷◌, length, Option, Some, None, codes}
 use Rattle.tcl_text.specs.Commands.{command_answer}
 use Rattle.tcl_vars.specs.Store.{Store}

@@ -9,6 +9,7 @@ pub mod Choices
 pub mod Commands
 pub mod Control
 pub mod Expressions
+pub mod ExpressionForms
 pub mod Procedures
 pub mod Turns
 pub mod Variables

@@ -1,4 +1,4 @@
--- Procedures: how they are called, made and renamed.
+-- Meaning. Procedures: how they are called, made and renamed.
 use Rattle.std.specs.Prelude.{ℕ, ◌==◌, nat_le, nat_lt, Bool, true, false, ◌||◌, ◌&&◌, List, [], ◌∷◌, ◌++◌, length, drop, if◌then◌else◌, Option, Some, None, is_some, unwrap_or, Result, Ok, Err, codes, bytes_eq}
 use Rattle.tcl_text.specs.Readings.{list_of, list_form}
 use Rattle.tcl_vars.specs.Store.{Store, with_variable}

@@ -1,4 +1,4 @@
--- The tests of loops over lists.
+-- Meaning. The tests of loops over lists.
 use Rattle.std.specs.Prelude.{ℕ, Bool, true, false, List, map, if◌then◌else◌, Option, Some, None}
 use Rattle.std.specs.List.{list_any}
 use Rattle.tcl_shapes.specs.Groups.{advanced, has_more}

@@ -1,4 +1,4 @@
--- The commands on variables, at the level of the script that calls them.
+-- Meaning. The commands on variables, at the level of the script that calls them.
 use Rattle.std.specs.Prelude.{ℕ, ◌%◌, ◌==◌, nat_lt, if◌then◌else◌, List, [], ◌∷◌, length, take, Option, Some, None, Result, Ok, Err, codes}
 use Rattle.tcl_text.specs.Answers.{Answer}
 use Rattle.tcl_vars.specs.Store.{Store}

@@ -1,5 +1,6 @@
 ghost use Rattle.std.specs.Prelude.{◌≡◌, IfOk};
-ghost use Rattle.tcl_control.specs.Expressions.{evaluation_begins, truth_of};
+ghost use Rattle.tcl_control.specs.Expressions.{truth_of};
+ghost use Rattle.tcl_control.specs.ExpressionForms.{evaluation_begins};
 
 use std::alloc::{AllocError, Global};
 use std::marker::Model;
@@ -25,7 +26,7 @@ pub struct Expression {
 
 impl Model for Expression {
     ghost use Rattle.std.specs.Prelude.{ℕ, List};
-    ghost use Rattle.tcl_control.specs.Expressions.{expression_text, HasFault};
+    ghost use Rattle.tcl_control.specs.ExpressionForms.{expression_text, HasFault};
 
     ghost Value = { List ℕ };
 
@@ -38,7 +39,7 @@ impl Expression {
     ghost use Rattle.tcl_expr.specs.declared.state.State.TheVariants.{Ready};
 
     /// The expression of a text, read whole (expr(n)). A fault is kept, and told by `begin`.
-    #[tactic(auto, unfolding(crate::specs::Expressions::evaluation_begins))]
+    #[tactic(auto, unfolding(crate::specs::ExpressionForms::evaluation_begins))]
     pub fn of(alloc: Global, text: &Text) -> Result<Expression, AllocError>
         ensures { IfOk result (λ expression. expression ≡ text.now) }
     {
@@ -89,7 +90,7 @@ impl Expression {
     }
 
     /// Its evaluation from the beginning, or the text of its fault (4 to 11).
-    #[tactic(auto, unfolding(crate::specs::Expressions::evaluation_begins))]
+    #[tactic(auto, unfolding(crate::specs::ExpressionForms::evaluation_begins))]
     pub fn begin(&self, alloc: Global) -> Result<Result<Eval, Text>, AllocError>
         ensures begun { IfOk result (λ begun. begun ≡ evaluation_begins self.now) }
         ensures ready { IfOk result (λ begun. IfOk begun (λ eval. eval.state ≡ Ready)) }

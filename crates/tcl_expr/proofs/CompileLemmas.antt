@@ -10,7 +10,7 @@ use Rattle.tcl_expr.specs.Run.{Run, on_result, on_truth}
 use Rattle.tcl_expr.specs.Trees.{Tree, Integer, Plain, Variable, Element, Command, Joined, Unary, Binary, And, Or, Choice, literal, value, evaluation}
 use Rattle.tcl_expr.specs.Steps.{execute, literal_step, steps_of}
 use Rattle.tcl_expr.specs.Reading.{compiled_by}
-use Rattle.tcl_expr.specs.Evaluation.{steps_in}
+use Rattle.tcl_expr.specs.Resuming.{steps_in}
 
 -- steps that are all left out
 execute_past : (xs ys : List Step) (stack : List Value) → execute (length xs) (xs ++ ys) stack ≡ execute 0 ys stack

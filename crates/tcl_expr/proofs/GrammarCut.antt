@@ -10,37 +10,39 @@ use Rattle.tcl_expr.specs.declared.tokens.Link.{Link}
 use Rattle.tcl_expr.specs.declared.tokens.Link.TheVariants as link
 use Rattle.tcl_expr.specs.Tokens.{mark_of, link_at}
 use Rattle.tcl_expr.specs.Trees.{Tree, Unary, Choice}
-use Rattle.tcl_expr.specs.Reading.{Opened, Before, After as Pending, Paren, Question, Otherwise, parens, ends_at, Closed, close, ended, level_of, between, AtOperand, AtOperator, move, at_colon, at_close, at_paren, room_in, on_move, reading, whole}
-use Rattle.tcl_expr.specs.Grammar.{blank_mark, past_blanks, After, at_end, linked, nothing, after_link, after_blanks, after, Ending, leaves, fails, goes_on, stops, with_tree, operand_of, operand_ending, First, sign, paren, operand, first_of, closed_by, closed, colon_fault, unchosen, IsExpr, whole_by, Gives}
+use Rattle.tcl_expr.specs.Reading.{Opened, Before, After as Pending, Paren, Question, Otherwise, parens, ends_at, Closed, close, ended, AtOperand, AtOperator, move, at_colon, at_close, at_paren, room_in, on_move, reading, whole}
+use Rattle.tcl_expr.specs.Operators.{level_of, between}
+use Rattle.tcl_expr.specs.Grammar.{blank_mark, past_blanks, After, at_end, linked, nothing, after_link, after_blanks, after, ExprEnding, leaves, fails, goes_on, stops, with_tree, First, sign, paren, operand, first_of, closed_by, closed, colon_fault, unchosen, IsExpr, whole_by, IsWholeExpr}
 use Rattle.tcl_expr.specs.Grammar.IsExpr.{lacks, operand_read, signed, deep, parens as in_parens, tighter, operated, choice, no_choice}
+use Rattle.tcl_expr.proofs.OperandsFound.{operand_of, operand_ending, operand_is}
 use Rattle.tcl_expr.proofs.StandLemmas.{reading_skip}
 use Rattle.tcl_expr.proofs.GrammarRead.{levels, decide, not_blank, moved, operand_moves, sign_moves, paren_moves, on_next, goes, reading_goes, first_byte, lacks_read}
 
 -- ── operators that follow one another ──
 
 -- how a text goes on behind a tree of a level, by operators of that level and less tight ones, down to another level
-data Tail (room n : ℕ) : ℕ → Tree → List ℕ → Ending → Type 0 where
+data Tail (room n : ℕ) : ℕ → Tree → List ℕ → ExprEnding → Type 0 where
   done : {cur : ℕ} {a : Tree} {start : List ℕ} → Tail room n cur a start (leaves a start)
-  more : {cur : ℕ} {a : Tree} {start : List ℕ} (operator : Infix) (behind : List ℕ) (b : Tree) (left : List ℕ) {ending : Ending} → n ≤ level_of operator → level_of operator ≤ cur →
+  more : {cur : ℕ} {a : Tree} {start : List ℕ} (operator : Infix) (behind : List ℕ) (b : Tree) (left : List ℕ) {ending : ExprEnding} → n ≤ level_of operator → level_of operator ≤ cur →
       after start ≡ linked (link.Infix operator) behind → IsExpr room (suc (level_of operator)) behind (leaves b left) → Tail room n (level_of operator) (between operator a b) left ending → Tail room n cur a start ending
   faulty : {cur : ℕ} {a : Tree} {start : List ℕ} (operator : Infix) (behind : List ℕ) (fault : ExprFault) → n ≤ level_of operator → level_of operator ≤ cur →
       after start ≡ linked (link.Infix operator) behind → IsExpr room (suc (level_of operator)) behind (fails fault) → Tail room n cur a start (fails fault)
-  chosen : {cur : ℕ} {a : Tree} {start : List ℕ} (b : Tree) (behind left behind' : List ℕ) {ending : Ending} → n ≡ 0 → 1 ≤ cur → after start ≡ linked link.Question behind →
+  chosen : {cur : ℕ} {a : Tree} {start : List ℕ} (b : Tree) (behind left behind' : List ℕ) {ending : ExprEnding} → n ≡ 0 → 1 ≤ cur → after start ≡ linked link.Question behind →
       IsExpr room 0 behind (leaves b left) → after left ≡ linked link.Colon behind' → IsExpr room 0 behind' ending → Tail room n cur a start (with_tree (Choice a b) ending)
-  unended : {cur : ℕ} {a : Tree} {start : List ℕ} (behind : List ℕ) (fault : ExprFault) (ending : Ending) → n ≡ 0 → 1 ≤ cur → after start ≡ linked link.Question behind →
+  unended : {cur : ℕ} {a : Tree} {start : List ℕ} (behind : List ℕ) (fault : ExprFault) (ending : ExprEnding) → n ≡ 0 → 1 ≤ cur → after start ≡ linked link.Question behind →
       IsExpr room 0 behind ending → stops ending ≡ true → unchosen ending ≡ Some fault → Tail room n cur a start (fails fault)
 
-lower_by : (room k n : ℕ) (text : List ℕ) (ending : Ending) → IsExpr room (n + k) text ending → IsExpr room n text ending
+lower_by : (room k n : ℕ) (text : List ℕ) (ending : ExprEnding) → IsExpr room (n + k) text ending → IsExpr room n text ending
 lower_by room zero n text ending is = let e : n + 0 ≡ n = omega arith in subst (λ m. IsExpr room m text ending) e is
 lower_by room (suc k) n text ending is = let e : n + suc k ≡ suc (n + k) = omega arith in lower_by room k n text ending (tighter (subst (λ m. IsExpr room m text ending) e is))
 
-lower : (room k n : ℕ) (text : List ℕ) (ending : Ending) → n ≤ k → IsExpr room k text ending → IsExpr room n text ending
+lower : (room k n : ℕ) (text : List ℕ) (ending : ExprEnding) → n ≤ k → IsExpr room k text ending → IsExpr room n text ending
 lower room k n text ending h is = let e : k ≡ n + (k - n) = omega (arith, h) in lower_by room (k - n) n text ending (subst (λ m. IsExpr room m text ending) e is)
 
-at_zero : (room n : ℕ) (text : List ℕ) (ending : Ending) → n ≡ 0 → IsExpr room 0 text ending → IsExpr room n text ending
+at_zero : (room n : ℕ) (text : List ℕ) (ending : ExprEnding) → n ≡ 0 → IsExpr room 0 text ending → IsExpr room n text ending
 at_zero room n text ending e is = subst (λ m. IsExpr room m text ending) (sym e) is
 
-tail_read : (room n : ℕ) (text : List ℕ) {cur : ℕ} {a : Tree} {start : List ℕ} {ending : Ending} → Tail room n cur a start ending → n ≤ cur → IsExpr room cur text (leaves a start) → IsExpr room n text ending
+tail_read : (room n : ℕ) (text : List ℕ) {cur : ℕ} {a : Tree} {start : List ℕ} {ending : ExprEnding} → Tail room n cur a start ending → n ≤ cur → IsExpr room cur text (leaves a start) → IsExpr room n text ending
 tail_read room n text (done {cur} {a} {start}) h is = lower room cur n text (leaves a start) h is
 tail_read room n text (more {cur} {a} {start} operator behind b left' {ending} low high e is' tail) h is =
     tail_read room n text tail low (operated operator a start behind (lower room cur (level_of operator) text (leaves a start) high is) e is')
@@ -72,33 +74,33 @@ Nests (Question a ∷ opened) = (level_in opened ≡ 0) × Nests opened
 Nests (Otherwise a b ∷ opened) = (level_in opened ≡ 0) × Nests opened
 
 -- a closed parenthesis, where `Goes` says how a tree goes on
-abbrev PastParen : (Tree → List ℕ → Type 0) → Ending → Result Tree ExprFault → Type 0
+abbrev PastParen : (Tree → List ℕ → Type 0) → ExprEnding → Result Tree ExprFault → Type 0
 PastParen Goes (leaves tree left) given = Goes tree left
 PastParen Goes (fails fault) given = given ≡ Err fault
 
 -- what stands open, filled with what was read within it, gives this in all
-abbrev Filled : List Opened → Ending → Result Tree ExprFault → Type 0
+abbrev Filled : List Opened → ExprEnding → Result Tree ExprFault → Type 0
 Filled opened (fails fault) given = given ≡ Err fault
 Filled [] (leaves tree left) given = (goes_on (after left) ≡ false) × (given ≡ whole_by tree (after left))
 Filled (Before operator ∷ opened) (leaves tree left) given =
-    (ending : Ending) × Tail (room_in opened) (level_in opened) 11 (Unary operator tree) left ending × Filled opened ending given
+    (ending : ExprEnding) × Tail (room_in opened) (level_in opened) 11 (Unary operator tree) left ending × Filled opened ending given
 Filled (Pending operator a ∷ opened) (leaves tree left) given =
-    (ending : Ending) × Tail (room_in opened) (level_in opened) (level_of operator) (between operator a tree) left ending × Filled opened ending given
+    (ending : ExprEnding) × Tail (room_in opened) (level_in opened) (level_of operator) (between operator a tree) left ending × Filled opened ending given
 Filled (Paren ∷ opened) (leaves tree left) given =
     (goes_on (after left) ≡ false)
-    × PastParen (λ own rest. (ending : Ending) × Tail (room_in opened) (level_in opened) 11 own rest ending × Filled opened ending given) (closed_by tree (after left)) given
+    × PastParen (λ own rest. (ending : ExprEnding) × Tail (room_in opened) (level_in opened) 11 own rest ending × Filled opened ending given) (closed_by tree (after left)) given
 Filled (Question a ∷ opened) (leaves tree left) given =
     (goes_on (after left) ≡ false)
-    × (((behind : List ℕ) × (ending : Ending) × (after left ≡ linked link.Colon behind) × IsExpr (room_in opened) 0 behind ending × Filled opened (with_tree (Choice a tree) ending) given)
+    × (((behind : List ℕ) × (ending : ExprEnding) × (after left ≡ linked link.Colon behind) × IsExpr (room_in opened) 0 behind ending × Filled opened (with_tree (Choice a tree) ending) given)
     ⊎ ((fault : ExprFault) × (colon_fault (after left) ≡ Some fault) × (given ≡ Err fault)))
 Filled (Otherwise a b ∷ opened) (leaves tree left) given = Filled opened (leaves (Choice a b tree) left) given
 
 -- how a tree of a level goes on within it
 abbrev Continues : List Opened → ℕ → Tree → List ℕ → Result Tree ExprFault → Type 0
-Continues opened cur tree text given = (ending : Ending) × Tail (room_in opened) (level_in opened) cur tree text ending × Filled opened ending given
+Continues opened cur tree text given = (ending : ExprEnding) × Tail (room_in opened) (level_in opened) cur tree text ending × Filled opened ending given
 
 abbrev Started : List Opened → List ℕ → Result Tree ExprFault → Type 0
-Started opened text given = (ending : Ending) × IsExpr (room_in opened) (level_in opened) text ending × Filled opened ending given
+Started opened text given = (ending : ExprEnding) × IsExpr (room_in opened) (level_in opened) text ending × Filled opened ending given
 
 level_most : (opened : List Opened) → level_in opened ≤ 11
 level_most [] = omega arith
@@ -165,7 +167,7 @@ none_looser (Otherwise a b ∷ opened) h = refl
 -- what comes behind an operator, once all that ends before it has ended
 abbrev PastInfix : Infix → List ℕ → Result Tree ExprFault → Closed → Type 0
 PastInfix operator behind given closed_at =
-    (ending : Ending) × IsExpr (room_in closed_at.opened) (suc (level_of operator)) behind ending × Filled (Pending operator closed_at.tree ∷ closed_at.opened) ending given
+    (ending : ExprEnding) × IsExpr (room_in closed_at.opened) (suc (level_of operator)) behind ending × Filled (Pending operator closed_at.tree ∷ closed_at.opened) ending given
 
 infix_joins : (operator : Infix) (opened : List Opened) (cur : ℕ) (tree : Tree) (text behind : List ℕ) (given : Result Tree ExprFault) → level_in opened ≤ level_of operator → level_of operator ≤ cur →
     after text ≡ linked (link.Infix operator) behind → PastInfix operator behind given (record { opened = opened; tree = tree }) → Continues opened cur tree text given
@@ -193,7 +195,7 @@ infix_continues operator (own ∷ opened) cur tree text behind given high e past
 
 abbrev PastQuestion : List ℕ → Result Tree ExprFault → Closed → Type 0
 PastQuestion behind given closed_at =
-    (ending : Ending) × IsExpr (room_in closed_at.opened) 0 behind ending × Filled (Question closed_at.tree ∷ closed_at.opened) ending given
+    (ending : ExprEnding) × IsExpr (room_in closed_at.opened) 0 behind ending × Filled (Question closed_at.tree ∷ closed_at.opened) ending given
 
 stops_by : (tree : Tree) (left : List ℕ) → goes_on (after left) ≡ false → stops (leaves tree left) ≡ true
 stops_by tree left h = ap not h
@@ -311,7 +313,7 @@ goes_within opened tree (linked link.Colon behind) = on_next (at_colon opened tr
 goes_within opened tree (linked link.Close behind) = on_next (at_close opened tree) behind
 goes_within opened tree _ = Err Syntax
 
-otherwise_filled : (opened : List Opened) (a b : Tree) (ending : Ending) (given : Result Tree ExprFault) → Filled (Otherwise a b ∷ opened) ending given → Filled opened (with_tree (Choice a b) ending) given
+otherwise_filled : (opened : List Opened) (a b : Tree) (ending : ExprEnding) (given : Result Tree ExprFault) → Filled (Otherwise a b ∷ opened) ending given → Filled opened (with_tree (Choice a b) ending) given
 otherwise_filled opened a b (leaves tree left) given f = f
 otherwise_filled opened a b (fails fault) given f = f
 
@@ -335,7 +337,7 @@ module _ (text : List ℕ) (below : Below text) where
 
   abbrev Coloned : List Opened → Tree → Tree → Result Tree ExprFault → Type 0
   Coloned opened a tree given =
-      ((behind : List ℕ) × (ending : Ending) × (after text ≡ linked link.Colon behind) × IsExpr (room_in opened) 0 behind ending × Filled opened (with_tree (Choice a tree) ending) given)
+      ((behind : List ℕ) × (ending : ExprEnding) × (after text ≡ linked link.Colon behind) × IsExpr (room_in opened) 0 behind ending × Filled opened (with_tree (Choice a tree) ending) given)
       ⊎ ((fault : ExprFault) × (colon_fault (after text) ≡ Some fault) × (given ≡ Err fault))
 
   question_filled : (opened : List Opened) (a tree : Tree) (next : After) → after text ≡ next → goes_on next ≡ false → (level_in opened ≡ 0) × Nests opened →
@@ -391,7 +393,7 @@ module _ (text : List ℕ) (below : Below text) where
   operator_cut opened tree w = subst (λ given. Continues opened 11 tree text given) (sym (reading_goes opened tree text)) (operator_next opened tree w (after text) refl)
 
   -- an operand, and what comes behind it
-  starts_past : (opened : List Opened) (own : Ending) (given : Result Tree ExprFault) → IsExpr (room_in opened) 11 text own →
+  starts_past : (opened : List Opened) (own : ExprEnding) (given : Result Tree ExprFault) → IsExpr (room_in opened) 11 text own →
       PastParen (λ tree left. Continues opened 11 tree left given) own given → Started opened text given
   starts_past opened (leaves tree left) given is (ending, tail, filled) = (ending, tail_read (room_in opened) (level_in opened) text tail (level_most opened) is, filled)
   starts_past opened (fails fault) given is e = (fails fault, lower (room_in opened) 11 (level_in opened) text (fails fault) (level_most opened) is, e)
@@ -408,17 +410,17 @@ module _ (text : List ℕ) (below : Below text) where
       ((below (drop found.1 behind) (omega (arith, h, short))).operators opened found.0 w)
   operand_past opened behind (Err fault) short w = refl
 
-  sign_past : (opened : List Opened) (operator : UnaryOperator) (ending : Ending) (given : Result Tree ExprFault) → Filled (Before operator ∷ opened) ending given →
+  sign_past : (opened : List Opened) (operator : UnaryOperator) (ending : ExprEnding) (given : Result Tree ExprFault) → Filled (Before operator ∷ opened) ending given →
       PastParen (λ tree left. Continues opened 11 tree left given) (with_tree (Unary operator) ending) given
   sign_past opened operator (leaves tree left) given f = f
   sign_past opened operator (fails fault) given f = f
 
-  paren_past : (opened : List Opened) (inner : Ending) (given : Result Tree ExprFault) → Filled (Paren ∷ opened) inner given →
+  paren_past : (opened : List Opened) (inner : ExprEnding) (given : Result Tree ExprFault) → Filled (Paren ∷ opened) inner given →
       PastParen (λ tree left. Continues opened 11 tree left given) (closed inner) given
   paren_past opened (leaves tree left) given f = f.1
   paren_past opened (fails fault) given f = f
 
-  inner_stops : (opened : List Opened) (inner : Ending) (given : Result Tree ExprFault) → Filled (Paren ∷ opened) inner given → stops inner ≡ true
+  inner_stops : (opened : List Opened) (inner : ExprEnding) (given : Result Tree ExprFault) → Filled (Paren ∷ opened) inner given → stops inner ≡ true
   inner_stops opened (leaves tree left) given f = stops_by tree left f.0
   inner_stops opened (fails fault) given f = refl
 
@@ -453,10 +455,11 @@ module _ (text : List ℕ) (below : Below text) where
   first_cut : (opened : List Opened) (b : ℕ) (behind : List ℕ) → Nests opened → past_blanks text ≡ b ∷ behind → (first : First) → first_of (mark_of b) ≡ first →
       Started opened text (reading 0 AtOperand opened text)
   first_cut opened b behind w e operand f =
+      let small : room_in opened ≤ 200 = omega arith in
       let found : Result (Tree × ℕ) ExprFault = operand_of (room_in opened) (mark_of b) (b ∷ behind) behind in
       started_as opened (reading 0 AtOperand opened text) (on_move (moved opened found) (λ further place left. reading further place left behind))
       (first_byte opened text b behind (moved opened found) e (operand_moves opened (b ∷ behind) behind (mark_of b) f (not_blank text b behind e)))
-      (starts_past opened (operand_ending behind found) (on_move (moved opened found) (λ further place left. reading further place left behind)) (operand_read b behind e f)
+      (starts_past opened (operand_ending behind found) (on_move (moved opened found) (λ further place left. reading further place left behind)) (operand_read b behind e f (operand_is (room_in opened) small b behind))
       (operand_past opened behind found (first_shorter text b behind e) w))
   first_cut opened b behind w e (sign operator) f =
       let s = (below behind (first_shorter text b behind e)).operands (Before operator ∷ opened) w in
@@ -477,9 +480,9 @@ cuts : (n : ℕ) (text : List ℕ) → length text ≤ n → Cuts text
 cuts zero text h = let below : Below text = λ other l. absurd (omega (arith, h, l)) in record { operands = operand_cut text below; operators = operator_cut text below }
 cuts (suc n) text h = let below : Below text = λ other l. cuts n other (omega (arith, h, l)) in record { operands = operand_cut text below; operators = operator_cut text below }
 
-gives : (text : List ℕ) (given : Result Tree ExprFault) → Started [] text given → Gives text given
+gives : (text : List ℕ) (given : Result Tree ExprFault) → Started [] text given → IsWholeExpr text given
 gives text given (leaves tree left, is, (stop, e)) = (leaves tree left, is, stops_by tree left stop, sym e)
 gives text given (fails fault, is, e) = (fails fault, is, refl, sym e)
 
-pub whole_cut : (text : List ℕ) → Gives text (reading 0 AtOperand [] text)
+pub whole_cut : (text : List ℕ) → IsWholeExpr text (reading 0 AtOperand [] text)
 whole_cut text = gives text (reading 0 AtOperand [] text) ((cuts (length text) text (omega arith)).operands [] tt)

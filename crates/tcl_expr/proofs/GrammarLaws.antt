@@ -1,14 +1,16 @@
 -- The tree or the fault of a text is that of the grammar.
-use Rattle.std.proofs.Common.{◌≡◌, ◌≤◌, ◌<◌, ◌⊎◌, inl, inr, ℕ, ◌↔◌, true, false, List, length, Result, Ok, Err, IsOk, refl, sym, ap, subst, ◌∙◌, arith}
+use Rattle.std.proofs.Common.{◌≡◌, ◌≤◌, ◌<◌, ◌⊎◌, inl, inr, ℕ, ◌↔◌, true, false, List, length, Result, Ok, Err, IsOk, IfOk, IfErr, refl, sym, ap, subst, ◌∙◌, arith}
 use Rattle.std.proofs.lemmas.Bool.{cases_lt}
 use Rattle.std.specs.Str.{IsUtf8, is_utf8}
 use Rattle.std.proofs.lemmas.Str.{is_utf8-from_IsUtf8, IsUtf8-from_is_utf8}
 use Rattle.tcl_expr.specs.declared.fault.ExprFault.{ExprFault}
-use Rattle.tcl_expr.specs.declared.fault.ExprFault.TheVariants.{TooLong}
+use Rattle.tcl_expr.specs.declared.fault.ExprFault.TheVariants.{TooLong, NoMemory}
 use Rattle.tcl_expr.specs.Trees.{Tree}
 use Rattle.tcl_expr.specs.Reading.{tree_of}
 use Rattle.tcl_expr.specs.Standing.{IsFaultOrMemory}
-use Rattle.tcl_expr.specs.Grammar.{IsText, Gives, IsTreeOf, IsFaultOf, IsExpression, IsFaultOfOrMemory, OneTreeOrFault}
+use Rattle.tcl_words.specs.One.{One}
+use Rattle.tcl_expr.specs.Grammar.{IsText, IsWholeExpr, IsTreeOf, IsExprFault, IsExprParse, IsExpression, OneTreeOrFault}
+use Rattle.tcl_expr.specs.Grammar.IsExprFault.{no_text, faulty_text}
 use Rattle.tcl_expr.proofs.ReadLemmas.{tree_of-long, tree_of-not_utf8, tree_of-read}
 use Rattle.tcl_expr.proofs.GrammarRead.{decide, whole_read}
 use Rattle.tcl_expr.proofs.GrammarCut.{whole_cut}
@@ -30,11 +32,11 @@ length_by text (inr short) = text_by text short (decide (is_utf8 text))
 text_or_none : (text : List ℕ) → TextOrNone text
 text_or_none text = length_by text (cases_lt 65536 (length text))
 
-gives_read : (text : List ℕ) (given : Result Tree ExprFault) → IsText text → Gives text given → tree_of text ≡ given
+gives_read : (text : List ℕ) (given : Result Tree ExprFault) → IsText text → IsWholeExpr text given → tree_of text ≡ given
 gives_read text given (short, utf8) (ending, is, stop, e) = tree_of-read text short utf8 ∙ whole_read text ending is stop ∙ e
 
-read_gives : (text : List ℕ) (given : Result Tree ExprFault) → IsText text → tree_of text ≡ given → Gives text given
-read_gives text given (short, utf8) e = subst (λ r. Gives text r) (sym (tree_of-read text short utf8) ∙ e) (whole_cut text)
+read_gives : (text : List ℕ) (given : Result Tree ExprFault) → IsText text → tree_of text ≡ given → IsWholeExpr text given
+read_gives text given (short, utf8) e = subst (λ r. IsWholeExpr text r) (sym (tree_of-read text short utf8) ∙ e) (whole_cut text)
 
 same_tree : (read : Result Tree ExprFault) (tree other : Tree) → read ≡ Ok tree → read ≡ Ok other → tree ≡ other
 same_tree read tree other e f = cc
@@ -46,25 +48,26 @@ not_both : (read : Result Tree ExprFault) (tree : Tree) (fault : ExprFault) → 
 not_both read tree fault e f = cc
 
 tree_read : (text : List ℕ) (tree : Tree) → IsTreeOf text tree → tree_of text ≡ Ok tree
-tree_read text tree (t, g) = gives_read text (Ok tree) t g
+tree_read text tree t = gives_read text (Ok tree) t.is_text t.cut
 
 tree_cut : (text : List ℕ) (tree : Tree) → TextOrNone text → tree_of text ≡ Ok tree → IsTreeOf text tree
-tree_cut text tree (inl t) e = (t, read_gives text (Ok tree) t e)
+tree_cut text tree (inl t) e = record { is_text = t; cut = read_gives text (Ok tree) t e }
 tree_cut text tree (inr (none, h)) e = absurd (not_both (tree_of text) tree TooLong e none)
 
-fault_read : (text : List ℕ) (fault : ExprFault) → TextOrNone text → IsFaultOf text fault → tree_of text ≡ Err fault
-fault_read text fault own (inr (t, g)) = gives_read text (Err fault) t g
-fault_read text fault (inl t) (inl (e, none)) = absurd (none t)
-fault_read text fault (inr (r, h)) (inl (e, none)) = r ∙ ap Err (sym e)
+fault_read : (text : List ℕ) (fault : ExprFault) → TextOrNone text → IsExprFault text fault → tree_of text ≡ Err fault
+fault_read text fault (inl t) (faulty_text is g) = gives_read text (Err fault) is g
+fault_read text fault (inl t) (no_text none) = absurd (none t)
+fault_read text fault (inr (r, h)) (faulty_text is g) = absurd (h is)
+fault_read text fault (inr (r, h)) (no_text none) = r
 
-fault_cut : (text : List ℕ) (fault : ExprFault) → TextOrNone text → tree_of text ≡ Err fault → IsFaultOf text fault
-fault_cut text fault (inl t) e = inr (t, read_gives text (Err fault) t e)
-fault_cut text fault (inr (none, h)) e = inl (same_fault (tree_of text) fault TooLong e none, h)
+fault_cut : (text : List ℕ) (fault : ExprFault) → TextOrNone text → tree_of text ≡ Err fault → IsExprFault text fault
+fault_cut text fault (inl t) e = faulty_text t (read_gives text (Err fault) t e)
+fault_cut text fault (inr (none, h)) e = subst (IsExprFault text) (same_fault (tree_of text) TooLong fault none e) (no_text h)
 
 pub trees : (text : List ℕ) (tree : Tree) → IsTreeOf text tree ↔ (tree_of text ≡ Ok tree)
 trees text tree = (tree_read text tree, tree_cut text tree (text_or_none text))
 
-pub faults : (text : List ℕ) (fault : ExprFault) → IsFaultOf text fault ↔ (tree_of text ≡ Err fault)
+pub faults : (text : List ℕ) (fault : ExprFault) → IsExprFault text fault ↔ (tree_of text ≡ Err fault)
 faults text fault = (fault_read text fault (text_or_none text), fault_cut text fault (text_or_none text))
 
 expression_by : (text : List ℕ) (read : Result Tree ExprFault) → tree_of text ≡ read → IsOk read → IsExpression text
@@ -74,7 +77,7 @@ expression_by text (Err fault) e ok = absurd (cc)
 pub expression_read : (text : List ℕ) → IsOk (tree_of text) → IsExpression text
 expression_read text ok = expression_by text (tree_of text) refl ok
 
-pub fault_told : (text : List ℕ) (fault : ExprFault) → IsFaultOrMemory (tree_of text) fault → IsFaultOfOrMemory text fault
+pub fault_told : (text : List ℕ) (fault : ExprFault) → IsFaultOrMemory (tree_of text) fault → IsExprFault text fault ⊎ (fault ≡ NoMemory)
 fault_told text fault (inl e) = inl (fault_cut text fault (text_or_none text) e)
 fault_told text fault (inr e) = inr e
 
@@ -84,3 +87,40 @@ one_tree_or_fault = record {
   one_fault = λ text fault other f g. same_fault (tree_of text) fault other (fault_read text fault (text_or_none text) f) (fault_read text other (text_or_none text) g);
   never_both = λ text tree fault t f. not_both (tree_of text) tree fault (tree_read text tree t) (fault_read text fault (text_or_none text) f);
 }
+
+-- ── each text has one parse ──
+
+read_is_parse : (text : List ℕ) (read : Result Tree ExprFault) → tree_of text ≡ read → IsExprParse text read
+read_is_parse text (Ok tree) e = tree_cut text tree (text_or_none text) e
+read_is_parse text (Err fault) e = fault_cut text fault (text_or_none text) e
+
+-- what the grammar relates to a text is read
+pub expr_parse_is_read : (text : List ℕ) (parse : Result Tree ExprFault) → IsExprParse text parse → parse ≡ tree_of text
+expr_parse_is_read text (Ok tree) is = sym (tree_read text tree is)
+expr_parse_is_read text (Err fault) is = sym (fault_read text fault (text_or_none text) is)
+
+pub one_expr_parse : (text : List ℕ) → One (IsExprParse text)
+one_expr_parse text = record { it = tree_of text; holds = read_is_parse text (tree_of text) refl; only = λ other is. expr_parse_is_read text other is }
+
+-- ── what is answered of a text ──
+
+abbrev IsRead : List ℕ → Result (List ℕ) ExprFault → Type 0
+IsRead text answer = IfOk answer (λ _. IsOk (tree_of text)) × IfErr answer (λ fault. IsFaultOrMemory (tree_of text) fault)
+
+pub tree_answered : (text : List ℕ) (answer : Result (List ℕ) ExprFault) → IsRead text answer → (tree : Tree) → IsTreeOf text tree → IfErr answer (λ fault. fault ≡ NoMemory)
+tree_answered text (Ok expr) read tree is = tt
+tree_answered text (Err fault) (ok, inl e) tree is = absurd (not_both (tree_of text) tree fault (tree_read text tree is) e)
+tree_answered text (Err fault) (ok, inr e) tree is = e
+
+not_ok : (read : Result Tree ExprFault) (fault : ExprFault) → read ≡ Err fault → IsOk read → ⊥
+not_ok (Ok tree) fault e ok = cc
+not_ok (Err other) fault e ok = cc
+
+pub fault_answered : (text : List ℕ) (answer : Result (List ℕ) ExprFault) → IsRead text answer → (fault : ExprFault) → IsExprFault text fault → (answer ≡ Err fault) ⊎ (answer ≡ Err NoMemory)
+fault_answered text (Ok expr) (ok, err) fault is = absurd (not_ok (tree_of text) fault (fault_read text fault (text_or_none text) is) ok)
+fault_answered text (Err told) (ok, inl e) fault is = inl (ap Err (same_fault (tree_of text) told fault e (fault_read text fault (text_or_none text) is)))
+fault_answered text (Err told) (ok, inr e) fault is = inr (ap Err e)
+
+-- the tree of an expression is read
+pub tree_walked : (text : List ℕ) (tree : Tree) → IsTreeOf text tree → tree_of text ≡ Ok tree
+tree_walked = tree_read

@@ -1,7 +1,6 @@
 -- What the grammar relates is read.
 use Rattle.std.proofs.Common.{◌≡◌, ℕ, zero, suc, ◌-◌, ◌≤◌, ◌⊎◌, inl, inr, nat_lt, nat_le, ◌==◌, Bool, true, false, not, List, [], ◌∷◌, drop, take, Option, Some, None, Result, Ok, Err, refl, sym, ap, subst, ◌∙◌, eqb-true, arith}
 use Rattle.std.proofs.lemmas.Bool.Decides.{nat_tests}
-use Rattle.std.specs.Str.{is_utf8}
 use Rattle.tcl_text.specs.Readings.{boolean_of}
 use Rattle.tcl_words.specs.Operands.{bracket_of, substitution_of, quoted_of}
 use Rattle.tcl_words.specs.declared.script.Piece.{Piece}
@@ -24,29 +23,32 @@ use Rattle.tcl_expr.specs.declared.tokens.Link.{Link}
 use Rattle.tcl_expr.specs.declared.tokens.Link.TheVariants as link
 use Rattle.tcl_expr.specs.Braces.{braced}
 use Rattle.tcl_expr.specs.Substitution.{piece_tree, text_tree}
-use Rattle.tcl_expr.specs.Tokens.{mark_of, begins_newline, link_at, number_length, ends_number, name_bytes}
-use Rattle.tcl_expr.specs.Trees.{Tree, Integer, Plain, Unary, Choice}
-use Rattle.tcl_expr.specs.Reading.{Opened, Before, After as Pending, Paren, Question, Otherwise, parens, ends_at, Closed, close, level_of, arithmetic_level, comparison_level, between, Place, AtOperand, AtOperator, Move, move, Next, link_next, link_move, at_infix, at_question, at_colon, at_close, at_paren, at_number, at_word, at_brace, with_text, word_or_fault, with_piece, with_pieces, with_substitution, with_operand, room_in, with_skip, operand_move, operator_move, on_move, reading, whole}
-use Rattle.tcl_expr.specs.Grammar.{blank_mark, past_blanks, After, at_end, linked, nothing, after_link, after_blanks, after, Ending, leaves, fails, goes_on, stops, with_tree, found_text, number_at, word_by, word_at, brace_at, with_count, piece_at, pieces_at, variable_at, operand_of, operand_ending, sign, paren, operand, first_of, closed_by, closed, colon_fault, unchosen, IsExpr, whole_by, whole_of}
+use Rattle.tcl_expr.specs.Tokens.{mark_of, begins_newline, link_at, ends_number}
+use Rattle.tcl_expr.specs.Counts.{number_length, name_bytes}
+use Rattle.tcl_expr.specs.Trees.{Tree, Unary, Choice}
+use Rattle.tcl_expr.specs.Reading.{Opened, Before, After as Pending, Paren, Question, Otherwise, parens, ends_at, Closed, close, OperandPlace, AtOperand, AtOperator, Move, move, Next, link_next, link_move, at_infix, at_question, at_colon, at_close, at_paren, at_number, at_brace, word_or_fault, with_piece, with_pieces, with_substitution, with_operand, room_in, with_skip, operand_move, operator_move, on_move, reading, whole}
+use Rattle.tcl_expr.specs.Operators.{level_of, arithmetic_level, comparison_level, between}
+use Rattle.tcl_expr.specs.Grammar.{blank_mark, past_blanks, After, at_end, linked, nothing, after_link, after_blanks, after, ExprEnding, leaves, fails, goes_on, stops, with_tree, sign, paren, operand, first_of, closed_by, closed, colon_fault, unchosen, IsExpr, whole_by, whole_of}
 use Rattle.tcl_expr.specs.Grammar.IsExpr.{lacks, operand_read, signed, deep, parens as in_parens, tighter, operated, choice, no_choice}
+use Rattle.tcl_expr.proofs.OperandsFound.{number_at, word_by, brace_at, with_count, piece_at, pieces_at, variable_at, operand_of, operand_ending, operand_found}
 use Rattle.tcl_expr.proofs.StandLemmas.{reading_skip}
 
 -- ── blanks ──
 
-newline : (behind : List ℕ) (place : Place) (opened : List Opened) → reading 1 place opened (10 ∷ behind) ≡ reading 0 place opened (10 ∷ behind)
+newline : (behind : List ℕ) (place : OperandPlace) (opened : List Opened) → reading 1 place opened (10 ∷ behind) ≡ reading 0 place opened (10 ∷ behind)
 unfolding mark_of
 newline behind AtOperand opened = refl
 newline behind (AtOperator tree) opened = refl
 
-is_newline : (b : ℕ) (behind : List ℕ) (place : Place) (opened : List Opened) → begins_newline (b ∷ behind) ≡ true → reading 1 place opened (b ∷ behind) ≡ reading 0 place opened (b ∷ behind)
+is_newline : (b : ℕ) (behind : List ℕ) (place : OperandPlace) (opened : List Opened) → begins_newline (b ∷ behind) ≡ true → reading 1 place opened (b ∷ behind) ≡ reading 0 place opened (b ∷ behind)
 is_newline b behind place opened h = subst (λ c. reading 1 place opened (c ∷ behind) ≡ reading 0 place opened (c ∷ behind)) (sym (eqb-true b 10 h)) (newline behind place opened)
 
-newline_behind : (behind : List ℕ) (place : Place) (opened : List Opened) → begins_newline behind ≡ true → reading 1 place opened behind ≡ reading 0 place opened behind
+newline_behind : (behind : List ℕ) (place : OperandPlace) (opened : List Opened) → begins_newline behind ≡ true → reading 1 place opened behind ≡ reading 0 place opened behind
 newline_behind [] place opened h = absurd (cc)
 newline_behind (b ∷ behind) place opened h = is_newline b behind place opened h
 
 -- a blank is as if it weren't there
-blank_step : (b : ℕ) (behind : List ℕ) (place : Place) (opened : List Opened) (m : Mark) → mark_of b ≡ m → blank_mark m behind ≡ true → reading 0 place opened (b ∷ behind) ≡ reading 0 place opened behind
+blank_step : (b : ℕ) (behind : List ℕ) (place : OperandPlace) (opened : List Opened) (m : Mark) → mark_of b ≡ m → blank_mark m behind ≡ true → reading 0 place opened (b ∷ behind) ≡ reading 0 place opened behind
 blank_step b behind AtOperand opened mark.White e h = rw e refl
 blank_step b behind (AtOperator tree) opened mark.White e h = rw e refl
 blank_step b behind AtOperand opened mark.Backslash e h = rw (e, h) (newline_behind behind AtOperand opened h)
@@ -57,7 +59,7 @@ pub decide : (b : Bool) → (b ≡ true) ⊎ (b ≡ false)
 decide true = inl refl
 decide false = inr refl
 
-pub blanks : (place : Place) (opened : List Opened) (text : List ℕ) → reading 0 place opened text ≡ reading 0 place opened (past_blanks text)
+pub blanks : (place : OperandPlace) (opened : List Opened) (text : List ℕ) → reading 0 place opened text ≡ reading 0 place opened (past_blanks text)
 blanks place opened [] = refl
 blanks place opened (b ∷ behind) = go (blanks place opened behind) (decide (blank_mark (mark_of b) behind))
   where
@@ -155,24 +157,16 @@ abbrev pub moved : List Opened → Result (Tree × ℕ) ExprFault → Result Mov
 moved opened (Ok found) = move found.1 (AtOperator found.0) opened
 moved opened (Err fault) = Err fault
 
-text_moves : (opened : List Opened) (bytes : List ℕ) (tree : Tree) (n : ℕ) (utf8 : Bool) → is_utf8 bytes ≡ utf8 → with_text bytes (move n (AtOperator tree) opened) ≡ moved opened (found_text bytes tree n)
-text_moves opened bytes tree n true e = rw e refl
-text_moves opened bytes tree n false e = rw e refl
-
 number_moves : (opened : List Opened) (n : ℕ) (text : List ℕ) (ends : Bool) → ends_number (drop n text) ≡ ends → at_number n opened text ≡ moved opened (number_at n text)
-number_moves opened n text true e = rw e (text_moves opened (take n text) (Integer (take n text)) (n - 1) (is_utf8 (take n text)) refl)
+number_moves opened n text true e = rw e refl
 number_moves opened n text false e = rw e refl
 
 word_moves_by : (opened : List Opened) (n : ℕ) (word : List ℕ) (read : Option Bool) → word_or_fault n opened word read ≡ moved opened (word_by word n read)
 word_moves_by opened n word (Some truth) = refl
 word_moves_by opened n word None = refl
 
-word_moves : (opened : List Opened) (n : ℕ) (text : List ℕ) (utf8 : Bool) → is_utf8 (take n text) ≡ utf8 → at_word n opened text ≡ moved opened (word_at n text)
-word_moves opened n text true e = rw e (word_moves_by opened n (take n text) (boolean_of (take n text)))
-word_moves opened n text false e = rw e refl
-
 brace_moves : (opened : List Opened) (found : Result (List ℕ × ℕ) ExprFault) → at_brace opened found ≡ moved opened (brace_at found)
-brace_moves opened (Ok found) = text_moves opened found.0 (Plain found.0) (suc found.1) (is_utf8 found.0) refl
+brace_moves opened (Ok found) = refl
 brace_moves opened (Err fault) = refl
 
 operand_moves_by : (opened : List Opened) (n : ℕ) (tree : Result Tree ExprFault) → with_operand n opened tree ≡ moved opened (with_count n tree)
@@ -202,7 +196,7 @@ operand_moves opened text behind mark.Tilde f h = absurd (cc)
 operand_moves opened text behind mark.Bang f h = absurd (cc)
 operand_moves opened text behind mark.OpenParen f h = absurd (cc)
 operand_moves opened text behind mark.Digit f h = number_moves opened (number_length text) text (ends_number (drop (number_length text) text)) refl
-operand_moves opened text behind mark.Letter f h = word_moves opened (name_bytes text) text (is_utf8 (take (name_bytes text) text)) refl
+operand_moves opened text behind mark.Letter f h = word_moves_by opened (name_bytes text) (take (name_bytes text) text) (boolean_of (take (name_bytes text) text))
 operand_moves opened text behind mark.OpenBrace f h = brace_moves opened (braced Unescaped 0 behind)
 operand_moves opened text behind mark.Quote f h = pieces_moves opened (quoted_of (room_in opened) behind)
 operand_moves opened text behind mark.OpenBracket f h = piece_moves opened (bracket_of (room_in opened) behind)
@@ -280,11 +274,11 @@ pub record Reached (n : ℕ) (opened : List Opened) (text : List ℕ) (tree : Tr
   pub reads : reading 0 AtOperand opened text ≡ reading 0 (AtOperator last) more left
   pub closes : (m : ℕ) → m ≤ n → close m more last ≡ close m opened tree
 
-abbrev pub Comes : ℕ → List Opened → List ℕ → Ending → Type 0
+abbrev pub Comes : ℕ → List Opened → List ℕ → ExprEnding → Type 0
 Comes n opened text (leaves tree left) = Reached n opened text tree left
 Comes n opened text (fails fault) = reading 0 AtOperand opened text ≡ Err fault
 
-abbrev pub Reads : ℕ → ℕ → List ℕ → Ending → Type 0
+abbrev pub Reads : ℕ → ℕ → List ℕ → ExprEnding → Type 0
 Reads room n text ending = (opened : List Opened) → room ≡ room_in opened → Guards n opened → Comes n opened text ending
 
 -- what stands first
@@ -306,7 +300,7 @@ operand_comes opened text behind (Ok found) e = record {
 }
 operand_comes opened text behind (Err fault) e = e
 
-signed_comes : (opened : List Opened) (text behind : List ℕ) (operator : UnaryOperator) (ending : Ending) → reading 0 AtOperand opened text ≡ reading 0 AtOperand (Before operator ∷ opened) behind →
+signed_comes : (opened : List Opened) (text behind : List ℕ) (operator : UnaryOperator) (ending : ExprEnding) → reading 0 AtOperand opened text ≡ reading 0 AtOperand (Before operator ∷ opened) behind →
     Comes 11 (Before operator ∷ opened) behind ending → Comes 11 opened text (with_tree (Unary operator) ending)
 signed_comes opened text behind operator (leaves tree left) e c = record {
   more = c.more;
@@ -347,14 +341,14 @@ closed_comes opened text tree (linked link.Colon behind) h e = e
 closed_comes opened text tree (linked link.Close behind) h e = record { more = opened; last = tree; reads = e; closes = λ m k. refl }
 closed_comes opened text tree nothing h e = e
 
-parens_come : (opened : List Opened) (text behind : List ℕ) (inner : Ending) → stops inner ≡ true → reading 0 AtOperand opened text ≡ reading 0 AtOperand (Paren ∷ opened) behind →
+parens_come : (opened : List Opened) (text behind : List ℕ) (inner : ExprEnding) → stops inner ≡ true → reading 0 AtOperand opened text ≡ reading 0 AtOperand (Paren ∷ opened) behind →
     Comes 0 (Paren ∷ opened) behind inner → Comes 11 opened text (closed inner)
 parens_come opened text behind (leaves tree left) h e c =
     let k : goes_on (after left) ≡ false = not_true (goes_on (after left)) h in
     closed_comes opened text tree (after left) k (e ∙ past_closed 0 (Paren ∷ opened) behind tree left c k)
 parens_come opened text behind (fails fault) h e c = e ∙ c
 
-tighter_comes : (n : ℕ) (opened : List Opened) (text : List ℕ) (ending : Ending) → Comes (suc n) opened text ending → Comes n opened text ending
+tighter_comes : (n : ℕ) (opened : List Opened) (text : List ℕ) (ending : ExprEnding) → Comes (suc n) opened text ending → Comes n opened text ending
 tighter_comes n opened text (leaves tree left) c = record { more = c.more; last = c.last; reads = c.reads; closes = λ m h. c.closes m (omega (arith, h)) }
 tighter_comes n opened text (fails fault) c = c
 
@@ -367,7 +361,7 @@ past_infix opened text operator a left behind g c e =
     ∙ ap (goes c.more c.last) e
     ∙ ap (λ closed_at. on_next (at_infix operator closed_at) behind) (c.closes (level_of operator) (omega arith) ∙ stays (level_of operator) (level_of operator) opened a g (omega arith) (levels operator))
 
-infix_comes : (opened : List Opened) (text behind : List ℕ) (operator : Infix) (a : Tree) (ending : Ending) → reading 0 AtOperand opened text ≡ reading 0 AtOperand (Pending operator a ∷ opened) behind →
+infix_comes : (opened : List Opened) (text behind : List ℕ) (operator : Infix) (a : Tree) (ending : ExprEnding) → reading 0 AtOperand opened text ≡ reading 0 AtOperand (Pending operator a ∷ opened) behind →
     Comes (suc (level_of operator)) (Pending operator a ∷ opened) behind ending → Comes (level_of operator) opened text (with_tree (between operator a) ending)
 infix_comes opened text behind operator a (leaves tree left) e c = record {
   more = c.more;
@@ -399,7 +393,7 @@ past_colon : (opened : List Opened) (text : List ℕ) (a b : Tree) (left behind 
 past_colon opened text a b left behind c e =
     c.reads ∙ reading_goes c.more c.last left ∙ ap (goes c.more c.last) e ∙ ap (λ (k : Closed). on_next (at_colon k.opened k.tree) behind) (c.closes 0 (omega arith))
 
-choice_comes : (opened : List Opened) (text behind : List ℕ) (a b : Tree) (ending : Ending) → reading 0 AtOperand opened text ≡ reading 0 AtOperand (Otherwise a b ∷ opened) behind →
+choice_comes : (opened : List Opened) (text behind : List ℕ) (a b : Tree) (ending : ExprEnding) → reading 0 AtOperand opened text ≡ reading 0 AtOperand (Otherwise a b ∷ opened) behind →
     Comes 0 (Otherwise a b ∷ opened) behind ending → Comes 0 opened text (with_tree (Choice a b) ending)
 choice_comes opened text behind a b (leaves tree left) e c = record {
   more = c.more;
@@ -432,7 +426,7 @@ colon_fails opened a b fault nothing h e = ap Err (same_fault fault e)
     same_fault : (f : ExprFault) → Some Syntax ≡ Some f → Syntax ≡ f
     same_fault f p = cc
 
-unchosen_fails : (opened : List Opened) (text behind : List ℕ) (a : Tree) (fault : ExprFault) (ending : Ending) → stops ending ≡ true → unchosen ending ≡ Some fault →
+unchosen_fails : (opened : List Opened) (text behind : List ℕ) (a : Tree) (fault : ExprFault) (ending : ExprEnding) → stops ending ≡ true → unchosen ending ≡ Some fault →
     reading 0 AtOperand opened text ≡ reading 0 AtOperand (Question a ∷ opened) behind → Comes 0 (Question a ∷ opened) behind ending → reading 0 AtOperand opened text ≡ Err fault
 unchosen_fails opened text behind a fault (leaves tree left) h u e c =
     let k : goes_on (after left) ≡ false = not_true (goes_on (after left)) h in
@@ -451,12 +445,14 @@ no_room opened e = grind (arith, nat_tests)
 pub less_room : (opened : List Opened) (room : ℕ) → suc room ≡ room_in opened → room ≡ room_in (Paren ∷ opened)
 less_room opened room e = omega (arith, e)
 
-pub read : {room n : ℕ} {text : List ℕ} {ending : Ending} → IsExpr room n text ending → (opened : List Opened) → room ≡ room_in opened → Guards n opened → Comes n opened text ending
+pub read : {room n : ℕ} {text : List ℕ} {ending : ExprEnding} → IsExpr room n text ending → (opened : List Opened) → room ≡ room_in opened → Guards n opened → Comes n opened text ending
 read (lacks {room} {text} e) opened r g = lacks_read opened text e
-read (operand_read {room} {text} b behind e f) opened r g =
-    operand_comes opened text behind (operand_of room (mark_of b) (b ∷ behind) behind)
+read (operand_read {room} {text} {ending} b behind e f is) opened r g =
+    let small : room ≤ 200 = omega (arith, r) in
+    subst (Comes 11 opened text) (operand_found room small is)
+    (operand_comes opened text behind (operand_of room (mark_of b) (b ∷ behind) behind)
     (first_byte opened text b behind (moved opened (operand_of room (mark_of b) (b ∷ behind) behind)) e
-    (operand_moves opened (b ∷ behind) behind (mark_of b) f (not_blank text b behind e) ∙ ap (λ k. moved opened (operand_of k (mark_of b) (b ∷ behind) behind)) (sym r)))
+    (operand_moves opened (b ∷ behind) behind (mark_of b) f (not_blank text b behind e) ∙ ap (λ k. moved opened (operand_of k (mark_of b) (b ∷ behind) behind)) (sym r))))
 read (signed {room} {text} b behind operator {ending} e f is) opened r g =
     signed_comes opened text behind operator ending
     (first_byte opened text b behind (move 0 AtOperand (Before operator ∷ opened)) e (sign_moves opened (b ∷ behind) behind operator (mark_of b) f))
@@ -497,11 +493,11 @@ whole_comes tree (linked link.Colon behind) h = refl
 whole_comes tree (linked link.Close behind) h = refl
 whole_comes tree nothing h = refl
 
-whole_read_by : (text : List ℕ) (ending : Ending) → stops ending ≡ true → Comes 0 [] text ending → reading 0 AtOperand [] text ≡ whole_of ending
+whole_read_by : (text : List ℕ) (ending : ExprEnding) → stops ending ≡ true → Comes 0 [] text ending → reading 0 AtOperand [] text ≡ whole_of ending
 whole_read_by text (leaves tree left) h c =
     let k : goes_on (after left) ≡ false = not_true (goes_on (after left)) h in
     past_closed 0 [] text tree left c k ∙ whole_comes tree (after left) k
 whole_read_by text (fails fault) h c = c
 
-pub whole_read : (text : List ℕ) (ending : Ending) → IsExpr 200 0 text ending → stops ending ≡ true → reading 0 AtOperand [] text ≡ whole_of ending
+pub whole_read : (text : List ℕ) (ending : ExprEnding) → IsExpr 200 0 text ending → stops ending ≡ true → reading 0 AtOperand [] text ≡ whole_of ending
 whole_read text ending is h = let r : 200 ≡ room_in [] = omega arith in whole_read_by text ending h (read is [] r tt)

@@ -10,7 +10,10 @@ pub mod StandLemmas
 pub mod ReadLemmas
 pub mod FloorLemmas
 pub mod DueLemmas
+pub mod OperandBytes
 pub mod OperandLemmas
+pub mod OperandsFound
+pub mod PieceTrees
 pub mod GrammarRead
 pub mod GrammarCut
 pub mod GrammarLaws

@@ -1,6 +1,6 @@
 -- Lemmas on operands that are read as in a script: brackets, variables and quotes.
 use Rattle.std.proofs.Common.{◌≡◌, ℕ, zero, suc, false, ◌+◌, ◌-◌, ◌<◌, List, ◌∷◌, length, take, drop, slice_index, get_or, arith, Some, None, Result, Ok, Err, refl, sym, ap, subst, ◌∙◌, ◌⊎◌, inl, inr}
-use Rattle.tcl_words.specs.Operands.{Gives, bracket_of, substitution_of, quoted_of}
+use Rattle.tcl_words.specs.Operands.{IsReadAs, bracket_of, substitution_of, quoted_of}
 use Rattle.tcl_words.specs.declared.script.Piece.{Piece}
 use Rattle.tcl_words.specs.declared.fault.ParseFault.{ParseFault}
 use Rattle.tcl_expr.specs.declared.fault.ExprFault.{ExprFault}
@@ -53,15 +53,15 @@ module _ (old new : Parser) (room : ℕ) (behind : List ℕ) (most : room ≡ 20
       subst (λ n. Follows new taken (with_pieces before (quoted_of n behind))) r
       (subst (λ x. Follows new taken (with_pieces before x)) (sym e) (subst (λ n. Follows new taken (with_operand taken before (text_tree n pieces))) r (written_stands old new before taken (text_tree room pieces) t s)))
 
-  pub bracket_refused : (fault : ParseFault) → Gives (Err fault) (bracket_of room behind) → Takes old (Err (script_fault fault)) new (λ before. at_bracket before behind)
+  pub bracket_refused : (fault : ParseFault) → IsReadAs (Err fault) (bracket_of room behind) → Takes old (Err (script_fault fault)) new (λ before. at_bracket before behind)
   bracket_refused fault (inl e) = inr (λ before s. ap (λ n. with_piece before (bracket_of n behind)) (sym (room_is old room before most s)) ∙ ap (with_piece before) e)
   bracket_refused fault (inr e) = inl (ap script_fault e)
 
-  pub dollar_refused : (fault : ParseFault) → Gives (Err fault) (substitution_of room behind) → Takes old (Err (script_fault fault)) new (λ before. at_dollar before behind)
+  pub dollar_refused : (fault : ParseFault) → IsReadAs (Err fault) (substitution_of room behind) → Takes old (Err (script_fault fault)) new (λ before. at_dollar before behind)
   dollar_refused fault (inl e) = inr (λ before s. ap (λ n. with_substitution before (substitution_of n behind)) (sym (room_is old room before most s)) ∙ ap (with_substitution before) e)
   dollar_refused fault (inr e) = inl (ap script_fault e)
 
-  pub quotes_refused : (fault : ParseFault) → Gives (Err fault) (quoted_of room behind) → Takes old (Err (script_fault fault)) new (λ before. at_quote before behind)
+  pub quotes_refused : (fault : ParseFault) → IsReadAs (Err fault) (quoted_of room behind) → Takes old (Err (script_fault fault)) new (λ before. at_quote before behind)
   quotes_refused fault (inl e) = inr (λ before s. ap (λ n. with_pieces before (quoted_of n behind)) (sym (room_is old room before most s)) ∙ ap (with_pieces before) e)
   quotes_refused fault (inr e) = inl (ap script_fault e)
 

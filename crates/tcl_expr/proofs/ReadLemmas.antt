@@ -10,7 +10,7 @@ use Rattle.tcl_expr.specs.declared.fault.ExprFault.TheVariants.{TooLong}
 use Rattle.tcl_expr.specs.declared.step.Step.{Step}
 use Rattle.tcl_expr.specs.declared.parser.Parser.{Parser}
 use Rattle.tcl_expr.specs.Trees.{Tree}
-use Rattle.tcl_expr.specs.Reading.{Opened, Place, AtOperand, AtOperator, on_move, reading, at_end, tree_of, compiled_by, compiled}
+use Rattle.tcl_expr.specs.Reading.{Opened, OperandPlace, AtOperand, AtOperator, on_move, reading, at_end, tree_of, compiled_by, compiled}
 use Rattle.tcl_expr.specs.Standing.{Stands, move_at, TakesToken, IsWhole, Finishes, FailsAtEnd, IsFaultOrMemory}
 use Rattle.tcl_expr.proofs.StandLemmas.{follow_on}
 
@@ -37,10 +37,10 @@ tree_of-read text h k = rw (short text h, is_utf8-from_IsUtf8 text k) refl
 
 -- from where the code stands, what is left gives the whole
 abbrev pub StillReads : Parser → List ℕ → Result Tree ExprFault → Type 0
-StillReads parser rest whole = (place : Place) × (before : List Opened) × Stands parser place before × (reading 0 place before rest ≡ whole)
+StillReads parser rest whole = (place : OperandPlace) × (before : List Opened) × Stands parser place before × (reading 0 place before rest ≡ whole)
 
 -- what the first bytes make of it
-token_move : (b : ℕ) (behind : List ℕ) (place : Place) (before : List Opened) →
+token_move : (b : ℕ) (behind : List ℕ) (place : OperandPlace) (before : List Opened) →
     reading 0 place before (b ∷ behind) ≡ on_move (move_at (b ∷ behind) place before) (λ further next left. reading further next left behind)
 token_move b behind AtOperand before = refl
 token_move b behind (AtOperator tree) before = refl

@@ -10,7 +10,8 @@ use Rattle.tcl_expr.specs.declared.open.Open.TheVariants as open_form
 use Rattle.tcl_expr.specs.declared.parser.Parser.{Parser}
 use Rattle.tcl_expr.specs.Trees.{Tree}
 use Rattle.tcl_expr.specs.Steps.{steps_of}
-use Rattle.tcl_expr.specs.Reading.{Opened, Before, After, Paren, Question, Otherwise, level_of, ended, close, parens, Place, AtOperand, AtOperator, Move, at_colon, at_close, on_move, reading}
+use Rattle.tcl_expr.specs.Reading.{Opened, Before, After, Paren, Question, Otherwise, ended, close, parens, OperandPlace, AtOperand, AtOperator, Move, at_colon, at_close, on_move, reading}
+use Rattle.tcl_expr.specs.Operators.{level_of}
 use Rattle.tcl_expr.specs.Parsing.{infix_hole, written, Closes}
 use Rattle.tcl_expr.specs.Standing.{Stands, StandsNext, Follows}
 use Rattle.tcl_expr.proofs.CloseLemmas.{append_nil, infix_opens, question_opens, colon_opens, paren_ends}
@@ -87,7 +88,7 @@ operand_stands old new own tree before one es eo ep due s =
     }
 
 -- bytes that are skipped are as if they weren't there
-pub reading_skip : (n : ℕ) (place : Place) (opened : List Opened) (text : List ℕ) → reading n place opened text ≡ reading 0 place opened (drop n text)
+pub reading_skip : (n : ℕ) (place : OperandPlace) (opened : List Opened) (text : List ℕ) → reading n place opened text ≡ reading 0 place opened (drop n text)
 reading_skip zero place opened text = refl
 reading_skip (suc n) place opened [] = refl
 reading_skip (suc n) place opened (b ∷ text) = reading_skip n place opened text
@@ -107,7 +108,7 @@ drop_min n xs = drop_min_by n xs (cases_lt n (length xs))
 
 -- where the code follows a move, reading goes on from there
 pub follow_on : (moved : Result Move ExprFault) (new : Parser) (skip count : ℕ) (behind : List ℕ) → count ≡ min skip (length behind) → Follows new skip moved →
-    (place : Place) × (opened : List Opened) × Stands new place opened
+    (place : OperandPlace) × (opened : List Opened) × Stands new place opened
     × (on_move moved (λ further next left. reading further next left behind) ≡ reading 0 place opened (drop count behind))
 follow_on (Ok m) new skip count behind e f = (
   m.place,

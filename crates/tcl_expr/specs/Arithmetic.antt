@@ -1,4 +1,4 @@
--- Integers of 64 bits as expr(n) computes with them: exact, or refused.
+-- Meaning. Integers of 64 bits as expr(n) computes with them: exact, or refused.
 use Rattle.std.specs.Prelude.{◌≡◌, ℕ, suc, ◌-◌, ◌/◌, ◌%◌, ◌^◌, ◌⊎◌, nat_lt, if◌then◌else◌, ℤ, pos, negsuc, ◌+ℤ◌, ◌*ℤ◌, ◌≤ℤ◌, ◌<ℤ◌, neg_ℤ, Option, Some, None}
 
 -- a number where 64 bits hold it

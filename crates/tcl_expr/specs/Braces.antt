@@ -1,4 +1,4 @@
--- A text in braces: what it stands for, up to the brace that closes.
+-- Steps. A text in braces: what it stands for, up to the brace that closes.
 use Rattle.std.specs.Prelude.{ℕ, suc, ◌-◌, Bool, false, ◌==◌, ◌&&◌, ◌||◌, if◌then◌else◌, List, [], ◌∷◌, ◌++◌, Result, Ok, Err}
 use Rattle.tcl_expr.specs.declared.braces.BracePlace.{BracePlace}
 use Rattle.tcl_expr.specs.declared.braces.BracePlace.TheVariants.{Plain, Escaped, Indented}

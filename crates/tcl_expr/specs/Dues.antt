@@ -1,4 +1,4 @@
--- The steps of what is still to be written of a text with substitution, as the code has it on a stack, the topmost last.
+-- Steps. The steps of what is still to be written of a text with substitution, as the code has it on a stack, the topmost last.
 use Rattle.std.specs.Prelude.{ℕ, zero, suc, ◌+◌, ◌≡◌, ◌⊎◌, List, [], ◌∷◌, ◌++◌, Result, Ok, Err}
 use Rattle.tcl_words.specs.Reading.{index_pieces_of}
 use Rattle.tcl_words.specs.declared.script.Piece.{Piece}

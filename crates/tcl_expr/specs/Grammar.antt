@@ -1,14 +1,17 @@
--- The grammar of expressions, as a relation between a text and its tree or fault, by the levels of the operators. It says nothing of what
+-- Meaning. The grammar of expressions, as a relation between a text and its tree or fault, by the levels of the operators. It says nothing of what
 -- stands open while a text is read. What stands at the front of a text is read with how that goes on: with what is left, or with a fault.
-use Rattle.std.specs.Prelude.{ℕ, zero, suc, ◌-◌, ◌≡◌, ◌≤◌, ◌⊎◌, Bool, true, false, not, if◌then◌else◌, List, [], ◌∷◌, length, take, drop, Option, Some, None, Result, Ok, Err}
-use Rattle.std.specs.Str.{IsUtf8, is_utf8}
-use Rattle.tcl_text.specs.Readings.{boolean_of}
-use Rattle.tcl_words.specs.Operands.{bracket_of, substitution_of, quoted_of}
+use Rattle.std.specs.Prelude.{ℕ, zero, suc, ◌-◌, ◌≡◌, ◌≢◌, ◌≤◌, nat_lt, Bool, true, false, not, if◌then◌else◌, List, [], ◌∷◌, ◌++◌, length, drop, Option, Some, None, Result, Ok, Err}
+use Rattle.std.specs.Char.{digit_value}
+use Rattle.std.specs.Str.{IsUtf8}
+use Rattle.tcl_text.specs.Readings.{boolean_of, base_named}
+use Rattle.tcl_words.specs.Grammar.{leaves as leaves_text, fails as text_fails, script, begins, begins_name, ArePieces, IsBraced, IsUnclosed, IsInnerOf, IsIndexOf}
+use Rattle.tcl_words.specs.OperandGrammar.{IsSubstitution, IsFaultySubstitution}
+use Rattle.tcl_words.specs.declared.kind.Mode.TheVariants.{Quotes}
 use Rattle.tcl_words.specs.declared.script.Piece.{Piece}
+use Rattle.tcl_words.specs.declared.script.Piece.TheVariants as piece
 use Rattle.tcl_words.specs.declared.fault.ParseFault.{ParseFault}
-use Rattle.tcl_expr.specs.declared.braces.BracePlace.TheVariants.{Plain as Unescaped}
 use Rattle.tcl_expr.specs.declared.fault.ExprFault.{ExprFault}
-use Rattle.tcl_expr.specs.declared.fault.ExprFault.TheVariants.{TooLong, MissingParen, Syntax, NoMemory}
+use Rattle.tcl_expr.specs.declared.fault.ExprFault.TheVariants.{TooLong, MissingBrace, MissingParen, Syntax}
 use Rattle.tcl_expr.specs.declared.operators.UnaryOperator.{UnaryOperator}
 use Rattle.tcl_expr.specs.declared.operators.UnaryOperator.TheVariants.{Negate, Keep, Complement, Not}
 use Rattle.tcl_expr.specs.declared.operators.Infix.{Infix}
@@ -16,12 +19,10 @@ use Rattle.tcl_expr.specs.declared.tokens.Mark.{Mark}
 use Rattle.tcl_expr.specs.declared.tokens.Mark.TheVariants as mark
 use Rattle.tcl_expr.specs.declared.tokens.Link.{Link}
 use Rattle.tcl_expr.specs.declared.tokens.Link.TheVariants as link
-use Rattle.tcl_expr.specs.Braces.{braced}
 use Rattle.tcl_expr.specs.Faults.{script_fault}
-use Rattle.tcl_expr.specs.Reading.{level_of, between}
-use Rattle.tcl_expr.specs.Substitution.{piece_tree, text_tree}
-use Rattle.tcl_expr.specs.Tokens.{mark_of, begins_newline, link_at, number_length, ends_number, name_bytes}
-use Rattle.tcl_expr.specs.Trees.{Tree, Integer, Plain, Unary, Choice}
+use Rattle.tcl_expr.specs.Operators.{level_of, between}
+use Rattle.tcl_expr.specs.Tokens.{mark_of, begins_newline, link_at, is_name_byte, begins_name_byte, ends_number}
+use Rattle.tcl_expr.specs.Trees.{Tree, Integer, Plain, Variable, Element, Command, Joined, Unary, Choice}
 
 -- ── what stands between operands and operators ──
 
@@ -54,11 +55,11 @@ after text = after_blanks (past_blanks text)
 
 -- ── how what stands at the front of a text goes on ──
 
-pub data Ending : Type 0 where
+pub data ExprEnding : Type 0 where
   -- it is this tree, and this is left
-  leaves : Tree → List ℕ → Ending
+  leaves : Tree → List ℕ → ExprEnding
   -- it has this fault
-  fails : ExprFault → Ending
+  fails : ExprFault → ExprEnding
 
 -- an operator that an expression can always go on with
 abbrev pub goes_on : After → Bool
@@ -67,64 +68,96 @@ goes_on (linked link.Question behind) = true
 goes_on _ = false
 
 -- the expression is as long as can be
-abbrev pub stops : Ending → Bool
+abbrev pub stops : ExprEnding → Bool
 stops (leaves tree left) = not (goes_on (after left))
 stops (fails fault) = true
 
-abbrev pub with_tree : (Tree → Tree) → Ending → Ending
+abbrev pub with_tree : (Tree → Tree) → ExprEnding → ExprEnding
 with_tree of (leaves tree left) = leaves (of tree) left
 with_tree of (fails fault) = fails fault
 
 -- ── operands ──
 
--- what is there, and how many of the bytes behind the first are its own
-abbrev pub found_text : List ℕ → Tree → ℕ → Result (Tree × ℕ) ExprFault
-found_text bytes tree n = if is_utf8 bytes then Ok (tree, n) else Err TooLong
+-- digits of a base
+abbrev pub AreDigits : ℕ → List ℕ → Type 0
+AreDigits base [] = Unit {0}
+AreDigits base (b ∷ digits) = (nat_lt (digit_value b) base ≡ true) × AreDigits base digits
 
-abbrev pub number_at : ℕ → List ℕ → Result (Tree × ℕ) ExprFault
-number_at n text = if ends_number (drop n text) then found_text (take n text) (Integer (take n text)) (n - 1) else Err Syntax
+abbrev pub begins_digit : ℕ → List ℕ → Bool
+begins_digit base [] = false
+begins_digit base (b ∷ text) = nat_lt (digit_value b) base
 
-abbrev pub word_by : List ℕ → ℕ → Option Bool → Result (Tree × ℕ) ExprFault
-word_by word n (Some truth) = Ok (Plain word, n - 1)
-word_by word n None = Err Syntax
+-- a digit of the base, if one is named, is first
+abbrev pub begins_digit_of : Option ℕ → List ℕ → Bool
+begins_digit_of (Some base) text = begins_digit base text
+begins_digit_of None text = false
 
-abbrev pub word_at : ℕ → List ℕ → Result (Tree × ℕ) ExprFault
-word_at n text = if is_utf8 (take n text) then word_by (take n text) n (boolean_of (take n text)) else Err TooLong
+-- the letter of a base is first, with a digit of that base behind it
+abbrev pub begins_base : List ℕ → Bool
+begins_base [] = false
+begins_base (letter ∷ behind) = begins_digit_of (base_named letter) behind
 
-abbrev pub brace_at : Result (List ℕ × ℕ) ExprFault → Result (Tree × ℕ) ExprFault
-brace_at (Ok found) = found_text found.0 (Plain found.0) (suc found.1)
-brace_at (Err fault) = Err fault
+-- The number in front of this text, as long as can be: `0` and the letter of a base with digits of it, octal digits behind a `0`, or decimal ones.
+pub data IsNumber (rest : List ℕ) : List ℕ → Type 0 where
+  based : (letter base digit : ℕ) (digits : List ℕ) → base_named letter ≡ Some base → AreDigits base (digit ∷ digits) → begins_digit base rest ≡ false →
+      IsNumber rest (48 ∷ letter ∷ digit ∷ digits)
+  octal : (digits : List ℕ) → AreDigits 8 digits → begins_digit 8 rest ≡ false → begins_base (digits ++ rest) ≡ false → IsNumber rest (48 ∷ digits)
+  decimal : (digit : ℕ) (digits : List ℕ) → digit ≢ 48 → AreDigits 10 (digit ∷ digits) → begins_digit 10 rest ≡ false → IsNumber rest (digit ∷ digits)
 
-abbrev pub with_count : ℕ → Result Tree ExprFault → Result (Tree × ℕ) ExprFault
-with_count n (Ok tree) = Ok (tree, n)
-with_count n (Err fault) = Err fault
+-- letters, digits and `_`
+abbrev pub AreNameBytes : List ℕ → Type 0
+AreNameBytes [] = Unit {0}
+AreNameBytes (b ∷ word) = (is_name_byte b ≡ true) × AreNameBytes word
 
-abbrev pub piece_at : ℕ → Result (Piece × ℕ) ParseFault → Result (Tree × ℕ) ExprFault
-piece_at room (Ok found) = with_count found.1 (piece_tree room found.0)
-piece_at room (Err fault) = Err (script_fault fault)
+-- What pieces of a script are as trees: one of them, and several that are joined from the left.
+mutual
+  pub data IsPieceTree : Piece → Tree → Type 0 where
+    literal : (text : List ℕ) → IsPieceTree (piece.Literal text) (Plain text)
+    variable : (name : List ℕ) → IsPieceTree (piece.Variable name) (Variable name)
+    bracket : (script : List ℕ) → IsPieceTree (piece.Bracket script) (Command script)
+    element : (name index : List ℕ) (pieces : List Piece) (tree : Tree) → IsIndexOf index pieces → IsTextTree pieces tree → IsPieceTree (piece.Element name index) (Element name tree)
 
-abbrev pub pieces_at : ℕ → Result (List Piece × ℕ) ParseFault → Result (Tree × ℕ) ExprFault
-pieces_at room (Ok found) = with_count found.1 (text_tree room found.0)
-pieces_at room (Err fault) = Err (script_fault fault)
+  pub data IsTextTree : List Piece → Tree → Type 0 where
+    none : IsTextTree [] (Plain [])
+    some : (own : Piece) (pieces : List Piece) (first tree : Tree) → IsPieceTree own first → IsJoinedTree first pieces tree → IsTextTree (own ∷ pieces) tree
 
-abbrev pub variable_at : ℕ → Result (Option (Piece × ℕ)) ParseFault → Result (Tree × ℕ) ExprFault
-variable_at room (Ok (Some found)) = with_count found.1 (piece_tree room found.0)
-variable_at room (Ok None) = Err Syntax
-variable_at room (Err fault) = Err (script_fault fault)
+  pub data IsJoinedTree : Tree → List Piece → Tree → Type 0 where
+    all : (tree : Tree) → IsJoinedTree tree [] tree
+    more : (own : Piece) (pieces : List Piece) (first next tree : Tree) → IsPieceTree own next → IsJoinedTree (Joined first next) pieces tree → IsJoinedTree first (own ∷ pieces) tree
 
--- an operand that begins with a byte of this kind, where so many brackets and indices may stand in one another
-abbrev pub operand_of : ℕ → Mark → List ℕ → List ℕ → Result (Tree × ℕ) ExprFault
-operand_of room mark.Digit text behind = number_at (number_length text) text
-operand_of room mark.Letter text behind = word_at (name_bytes text) text
-operand_of room mark.OpenBrace text behind = brace_at (braced Unescaped 0 behind)
-operand_of room mark.Quote text behind = pieces_at room (quoted_of room behind)
-operand_of room mark.OpenBracket text behind = piece_at room (bracket_of room behind)
-operand_of room mark.Dollar text behind = variable_at room (substitution_of room behind)
-operand_of room _ text behind = Err Syntax
+-- what can begin an operand that is no operator and no parenthesis
+abbrev pub begins_operand : Mark → Bool
+begins_operand mark.Digit = true
+begins_operand mark.Letter = true
+begins_operand mark.OpenBrace = true
+begins_operand mark.Quote = true
+begins_operand mark.OpenBracket = true
+begins_operand mark.Dollar = true
+begins_operand _ = false
 
-abbrev pub operand_ending : List ℕ → Result (Tree × ℕ) ExprFault → Ending
-operand_ending behind (Ok found) = leaves found.0 (drop found.1 behind)
-operand_ending behind (Err fault) = fails fault
+-- An operand at the front of a text, without an operator or a parenthesis before it, where so many brackets and indices may stand in one
+-- another. What a bracket, a `$`, a quote or a brace begins is as the grammar of scripts has it.
+pub data IsOperand (room : ℕ) : List ℕ → ExprEnding → Type 0 where
+  number : (b : ℕ) (own rest : List ℕ) → mark_of b ≡ mark.Digit → IsNumber rest (b ∷ own) → ends_number rest ≡ true → IsOperand room (b ∷ (own ++ rest)) (leaves (Integer (b ∷ own)) rest)
+  unended_number : (b : ℕ) (own rest : List ℕ) → mark_of b ≡ mark.Digit → IsNumber rest (b ∷ own) → ends_number rest ≡ false → IsOperand room (b ∷ (own ++ rest)) (fails Syntax)
+  -- a word that spells a boolean
+  word : (b : ℕ) (own rest : List ℕ) (truth : Bool) → mark_of b ≡ mark.Letter → AreNameBytes (b ∷ own) → begins_name_byte rest ≡ false → boolean_of (b ∷ own) ≡ Some truth →
+      IsOperand room (b ∷ (own ++ rest)) (leaves (Plain (b ∷ own)) rest)
+  other_word : (b : ℕ) (own rest : List ℕ) → mark_of b ≡ mark.Letter → AreNameBytes (b ∷ own) → begins_name_byte rest ≡ false → boolean_of (b ∷ own) ≡ None →
+      IsOperand room (b ∷ (own ++ rest)) (fails Syntax)
+  braces : (own value rest : List ℕ) → IsBraced own value → IsOperand room (123 ∷ (own ++ 125 ∷ rest)) (leaves (Plain value) rest)
+  unclosed_braces : (text : List ℕ) → IsUnclosed text → IsOperand room (123 ∷ text) (fails MissingBrace)
+  quotes : (own rest : List ℕ) (pieces : List Piece) (tree : Tree) → ArePieces (IsInnerOf room) true Quotes (own ++ 34 ∷ rest) pieces (leaves_text (34 ∷ rest)) → IsTextTree pieces tree →
+      IsOperand room (34 ∷ (own ++ 34 ∷ rest)) (leaves tree rest)
+  faulty_quotes : (text : List ℕ) (pieces : List Piece) (fault : ParseFault) → ArePieces (IsInnerOf room) true Quotes text pieces (text_fails fault) → IsOperand room (34 ∷ text) (fails (script_fault fault))
+  bracket : (own rest : List ℕ) → IsInnerOf room script (own ++ 93 ∷ rest) (leaves_text (93 ∷ rest)) → IsOperand room (91 ∷ (own ++ 93 ∷ rest)) (leaves (Command own) rest)
+  faulty_bracket : (text : List ℕ) (fault : ParseFault) → IsInnerOf room script text (text_fails fault) → IsOperand room (91 ∷ text) (fails (script_fault fault))
+  -- a variable or an element
+  variable : (text rest : List ℕ) (own : Piece) (tree : Tree) → IsSubstitution room text own rest → IsPieceTree own tree → IsOperand room (36 ∷ text) (leaves tree rest)
+  faulty_variable : (text : List ℕ) (fault : ParseFault) → IsFaultySubstitution room text fault → IsOperand room (36 ∷ text) (fails (script_fault fault))
+  -- a `$` with nothing that it could begin
+  no_variable : (text : List ℕ) → begins_name text ≡ false → begins 123 text ≡ false → IsOperand room (36 ∷ text) (fails Syntax)
+  none : (b : ℕ) (behind : List ℕ) → begins_operand (mark_of b) ≡ false → IsOperand room (b ∷ behind) (fails Syntax)
 
 -- what a byte of this kind begins where an operand is due
 pub data First : Type 0 where
@@ -143,12 +176,12 @@ first_of _ = operand
 -- ── expressions ──
 
 -- what stands in parentheses, with what comes behind it
-abbrev pub closed_by : Tree → After → Ending
+abbrev pub closed_by : Tree → After → ExprEnding
 closed_by tree (linked link.Close behind) = leaves tree behind
 closed_by tree at_end = fails MissingParen
 closed_by tree _ = fails Syntax
 
-abbrev pub closed : Ending → Ending
+abbrev pub closed : ExprEnding → ExprEnding
 closed (leaves tree left) = closed_by tree (after left)
 closed (fails fault) = fails fault
 
@@ -157,34 +190,34 @@ abbrev pub colon_fault : After → Option ExprFault
 colon_fault (linked link.Colon behind) = None
 colon_fault _ = Some Syntax
 
-abbrev pub unchosen : Ending → Option ExprFault
+abbrev pub unchosen : ExprEnding → Option ExprFault
 unchosen (leaves tree left) = colon_fault (after left)
 unchosen (fails fault) = Some fault
 
 -- What stands at the front of a text at this level or a tighter one, where so many parentheses, brackets and indices may be opened in one
 -- another. Level 0 is that of a choice, 11 that of operands.
-pub data IsExpr : ℕ → ℕ → List ℕ → Ending → Type 0 where
+pub data IsExpr : ℕ → ℕ → List ℕ → ExprEnding → Type 0 where
   -- no operand
   lacks : {room : ℕ} {text : List ℕ} → past_blanks text ≡ [] → IsExpr room 11 text (fails Syntax)
-  operand_read : {room : ℕ} {text : List ℕ} (b : ℕ) (behind : List ℕ) → past_blanks text ≡ b ∷ behind → first_of (mark_of b) ≡ operand →
-      IsExpr room 11 text (operand_ending behind (operand_of room (mark_of b) (b ∷ behind) behind))
+  operand_read : {room : ℕ} {text : List ℕ} {ending : ExprEnding} (b : ℕ) (behind : List ℕ) → past_blanks text ≡ b ∷ behind → first_of (mark_of b) ≡ operand →
+      IsOperand room (b ∷ behind) ending → IsExpr room 11 text ending
   -- an operator before its operand
-  signed : {room : ℕ} {text : List ℕ} (b : ℕ) (behind : List ℕ) (operator : UnaryOperator) {ending : Ending} → past_blanks text ≡ b ∷ behind → first_of (mark_of b) ≡ sign operator →
+  signed : {room : ℕ} {text : List ℕ} (b : ℕ) (behind : List ℕ) (operator : UnaryOperator) {ending : ExprEnding} → past_blanks text ≡ b ∷ behind → first_of (mark_of b) ≡ sign operator →
       IsExpr room 11 behind ending → IsExpr room 11 text (with_tree (Unary operator) ending)
   -- parentheses
   deep : {text : List ℕ} (b : ℕ) (behind : List ℕ) → past_blanks text ≡ b ∷ behind → first_of (mark_of b) ≡ paren → IsExpr zero 11 text (fails TooLong)
-  parens : {room : ℕ} {text : List ℕ} (b : ℕ) (behind : List ℕ) {inner : Ending} → past_blanks text ≡ b ∷ behind → first_of (mark_of b) ≡ paren →
+  parens : {room : ℕ} {text : List ℕ} (b : ℕ) (behind : List ℕ) {inner : ExprEnding} → past_blanks text ≡ b ∷ behind → first_of (mark_of b) ≡ paren →
       IsExpr room 0 behind inner → stops inner ≡ true → IsExpr (suc room) 11 text (closed inner)
   -- what binds tighter
-  tighter : {room level : ℕ} {text : List ℕ} {ending : Ending} → IsExpr room (suc level) text ending → IsExpr room level text ending
+  tighter : {room level : ℕ} {text : List ℕ} {ending : ExprEnding} → IsExpr room (suc level) text ending → IsExpr room level text ending
   -- an operator between operands: the left one may have operators of its level, the right one only tighter ones
-  operated : {room : ℕ} {text : List ℕ} (operator : Infix) (a : Tree) (left behind : List ℕ) {ending : Ending} → IsExpr room (level_of operator) text (leaves a left) →
+  operated : {room : ℕ} {text : List ℕ} (operator : Infix) (a : Tree) (left behind : List ℕ) {ending : ExprEnding} → IsExpr room (level_of operator) text (leaves a left) →
       after left ≡ linked (link.Infix operator) behind → IsExpr room (suc (level_of operator)) behind ending → IsExpr room (level_of operator) text (with_tree (between operator a) ending)
   -- a choice: its condition is no choice, its last part may be one
-  choice : {room : ℕ} {text : List ℕ} (a b : Tree) (left behind left' behind' : List ℕ) {ending : Ending} → IsExpr room 1 text (leaves a left) →
+  choice : {room : ℕ} {text : List ℕ} (a b : Tree) (left behind left' behind' : List ℕ) {ending : ExprEnding} → IsExpr room 1 text (leaves a left) →
       after left ≡ linked link.Question behind → IsExpr room 0 behind (leaves b left') → after left' ≡ linked link.Colon behind' → IsExpr room 0 behind' ending →
       IsExpr room 0 text (with_tree (Choice a b) ending)
-  no_choice : {room : ℕ} {text : List ℕ} (a : Tree) (left behind : List ℕ) (fault : ExprFault) {ending : Ending} → IsExpr room 1 text (leaves a left) →
+  no_choice : {room : ℕ} {text : List ℕ} (a : Tree) (left behind : List ℕ) (fault : ExprFault) {ending : ExprEnding} → IsExpr room 1 text (leaves a left) →
       after left ≡ linked link.Question behind → IsExpr room 0 behind ending → stops ending ≡ true → unchosen ending ≡ Some fault → IsExpr room 0 text (fails fault)
 
 -- ── whole texts ──
@@ -193,7 +226,7 @@ abbrev pub whole_by : Tree → After → Result Tree ExprFault
 whole_by tree at_end = Ok tree
 whole_by tree _ = Err Syntax
 
-abbrev pub whole_of : Ending → Result Tree ExprFault
+abbrev pub whole_of : ExprEnding → Result Tree ExprFault
 whole_of (leaves tree left) = whole_by tree (after left)
 whole_of (fails fault) = Err fault
 
@@ -201,27 +234,32 @@ whole_of (fails fault) = Err fault
 abbrev pub IsText : List ℕ → Type 0
 IsText text = (length text ≤ 65536) × IsUtf8 text
 
--- a text of an expression with what it gives
-abbrev pub Gives : List ℕ → Result Tree ExprFault → Type 0
-Gives text given = (ending : Ending) × IsExpr 200 0 text ending × (stops ending ≡ true) × (whole_of ending ≡ given)
+-- The text as a whole is of this tree, or has this fault, as the levels of operators cut it. At most 200 parentheses, brackets and
+-- indices stand in one another.
+abbrev pub IsWholeExpr : List ℕ → Result Tree ExprFault → Type 0
+IsWholeExpr text whole = (ending : ExprEnding) × IsExpr 200 0 text ending × (stops ending ≡ true) × (whole_of ending ≡ whole)
 
--- The text is an expression with this tree. At most 200 parentheses, brackets and indices stand in one another.
-abbrev pub IsTreeOf : List ℕ → Tree → Type 0
-IsTreeOf text tree = IsText text × Gives text (Ok tree)
+-- The text is an expression with this tree.
+pub record IsTreeOf (text : List ℕ) (tree : Tree) : Type 0 where
+  pub is_text : IsText text
+  pub cut : IsWholeExpr text (Ok tree)
 
--- The text is no expression, and this is its first fault from the left. That it is no text counts before all else.
-abbrev pub IsFaultOf : List ℕ → ExprFault → Type 0
-IsFaultOf text fault = ((fault ≡ TooLong) × (¬ IsText text)) ⊎ (IsText text × Gives text (Err fault))
+-- The text is no expression, and this is its first fault from the left.
+pub data IsExprFault (text : List ℕ) : ExprFault → Type 0 where
+  -- that it is no text counts before all else
+  no_text : ¬ IsText text → IsExprFault text TooLong
+  faulty_text : {fault : ExprFault} → IsText text → IsWholeExpr text (Err fault) → IsExprFault text fault
+
+-- What the text is: an expression with this tree, or none, with this fault. Each text is one of both, and in one way alone.
+abbrev pub IsExprParse : List ℕ → Result Tree ExprFault → Type 0
+IsExprParse text (Ok tree) = IsTreeOf text tree
+IsExprParse text (Err fault) = IsExprFault text fault
 
 abbrev pub IsExpression : List ℕ → Type 0
 IsExpression text = (tree : Tree) × IsTreeOf text tree
 
--- what may be answered of a text that isn't read: its fault, or want of memory
-abbrev pub IsFaultOfOrMemory : List ℕ → ExprFault → Type 0
-IsFaultOfOrMemory text fault = IsFaultOf text fault ⊎ (fault ≡ NoMemory)
-
 -- a text has at most one tree, at most one fault, and never both
 pub record OneTreeOrFault : Type 0 where
   pub one_tree : (text : List ℕ) (tree other : Tree) → IsTreeOf text tree → IsTreeOf text other → tree ≡ other
-  pub one_fault : (text : List ℕ) (fault other : ExprFault) → IsFaultOf text fault → IsFaultOf text other → fault ≡ other
-  pub never_both : (text : List ℕ) (tree : Tree) (fault : ExprFault) → IsTreeOf text tree → ¬ IsFaultOf text fault
+  pub one_fault : (text : List ℕ) (fault other : ExprFault) → IsExprFault text fault → IsExprFault text other → fault ≡ other
+  pub never_both : (text : List ℕ) (tree : Tree) (fault : ExprFault) → IsTreeOf text tree → ¬ IsExprFault text fault

@@ -1,14 +1,16 @@
 -- What the contracts cite.
 pub mod Arithmetic
 pub mod Braces
+pub mod Counts
 pub mod Dues
-pub mod Evaluation
 pub mod Faults
 pub mod Grammar
 pub mod Machine
 pub mod Messages
+pub mod Operators
 pub mod Parsing
 pub mod Reading
+pub mod Resuming
 pub mod Run
 pub mod Standing
 pub mod Steps

@@ -1,4 +1,4 @@
--- What one step and many steps of the machine come to.
+-- Steps. What one step and many steps of the machine come to.
 use Rattle.std.specs.Prelude.{◌≡◌, ◌≤◌, ◌<◌, ◌⊎◌, ◌+◌, ℕ, List, [], ◌∷◌, ◌++◌, length, drop, Result, Ok, Err}
 use Rattle.tcl_expr.specs.declared.fault.EvalFault.{EvalFault}
 use Rattle.tcl_expr.specs.declared.fault.EvalFault.TheVariants.{NoMemory}

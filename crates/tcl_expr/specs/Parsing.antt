@@ -1,4 +1,4 @@
--- What the code keeps while it reads an expression, and how that stands to the trees that stand open.
+-- Steps. What the code keeps while it reads an expression, and how that stands to the trees that stand open.
 use Rattle.std.specs.Prelude.{◌≡◌, ◌⊎◌, ℕ, suc, ◌+◌, ◌-◌, Bool, true, false, ◌==◌, nat_le, List, [], ◌∷◌, ◌++◌, length, set, Result, Ok, Err}
 use Rattle.std.specs.declared.alloc.AllocError.{AllocError}
 use Rattle.tcl_expr.specs.declared.operators.Infix.{Infix}
@@ -9,7 +9,8 @@ use Rattle.tcl_expr.specs.declared.open.Open.{Open}
 use Rattle.tcl_expr.specs.declared.open.Open.TheVariants as open_form
 use Rattle.tcl_expr.specs.Trees.{Tree}
 use Rattle.tcl_expr.specs.Steps.{steps_of}
-use Rattle.tcl_expr.specs.Reading.{Opened, Before, After, Paren, Question, Otherwise, level_of, close}
+use Rattle.tcl_expr.specs.Reading.{Opened, Before, After, Paren, Question, Otherwise, close}
+use Rattle.tcl_expr.specs.Operators.{level_of}
 
 -- ── what the code does to the steps ──
 

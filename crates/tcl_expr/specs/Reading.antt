@@ -1,4 +1,4 @@
--- The tree of a text, by recursion on its bytes: what stands open before a byte, and what the byte makes of it.
+-- Steps. The tree of a text, by recursion on its bytes: what stands open before a byte, and what the byte makes of it.
 use Rattle.std.specs.Prelude.{ℕ, zero, suc, ◌-◌, Bool, true, false, not, ◌==◌, nat_lt, nat_le, if◌then◌else◌, List, [], ◌∷◌, length, take, drop, Option, Some, None, Result, Ok, Err}
 use Rattle.std.specs.Str.{is_utf8}
 use Rattle.tcl_text.specs.Readings.{boolean_of}
@@ -6,21 +6,16 @@ use Rattle.tcl_expr.specs.declared.fault.ExprFault.{ExprFault}
 use Rattle.tcl_expr.specs.declared.fault.ExprFault.TheVariants.{TooLong, MissingParen, Syntax}
 use Rattle.tcl_expr.specs.declared.operators.UnaryOperator.{UnaryOperator}
 use Rattle.tcl_expr.specs.declared.operators.UnaryOperator.TheVariants.{Negate, Keep, Complement, Not}
-use Rattle.tcl_expr.specs.declared.operators.ArithmeticOperator.{ArithmeticOperator}
-use Rattle.tcl_expr.specs.declared.operators.ArithmeticOperator.TheVariants.{Multiply, Divide, Remainder, Add, Subtract, ShiftLeft, ShiftRight, BitAnd, BitXor, BitOr}
-use Rattle.tcl_expr.specs.declared.operators.Comparison.{Comparison}
-use Rattle.tcl_expr.specs.declared.operators.Comparison.TheVariants as comparison
-use Rattle.tcl_expr.specs.declared.operators.BinaryOperator.{BinaryOperator}
-use Rattle.tcl_expr.specs.declared.operators.BinaryOperator.TheVariants as binary
 use Rattle.tcl_expr.specs.declared.operators.Infix.{Infix}
-use Rattle.tcl_expr.specs.declared.operators.Infix.TheVariants as infixed
 use Rattle.tcl_expr.specs.declared.tokens.Mark.{Mark}
 use Rattle.tcl_expr.specs.declared.tokens.Mark.TheVariants as mark
 use Rattle.tcl_expr.specs.declared.tokens.Link.{Link}
 use Rattle.tcl_expr.specs.declared.tokens.Link.TheVariants as link
 use Rattle.tcl_expr.specs.declared.step.Step.{Step}
-use Rattle.tcl_expr.specs.Tokens.{mark_of, begins_newline, link_at, number_length, ends_number, name_bytes}
-use Rattle.tcl_expr.specs.Trees.{Tree, Integer, Plain, Unary, Binary, And, Or, Choice}
+use Rattle.tcl_expr.specs.Tokens.{mark_of, begins_newline, link_at, ends_number}
+use Rattle.tcl_expr.specs.Counts.{number_length, name_bytes}
+use Rattle.tcl_expr.specs.Operators.{level_of, between}
+use Rattle.tcl_expr.specs.Trees.{Tree, Integer, Plain, Unary, Choice}
 use Rattle.tcl_expr.specs.Steps.{steps_of}
 use Rattle.tcl_expr.specs.Faults.{script_fault}
 use Rattle.tcl_expr.specs.Braces.{braced}
@@ -29,41 +24,6 @@ use Rattle.tcl_expr.specs.Substitution.{piece_tree, text_tree}
 use Rattle.tcl_words.specs.Operands.{bracket_of, substitution_of, quoted_of}
 use Rattle.tcl_words.specs.declared.script.Piece.{Piece}
 use Rattle.tcl_words.specs.declared.fault.ParseFault.{ParseFault}
-
--- ── levels: an operator binds tighter than those of a lower level ──
-
-abbrev pub arithmetic_level : ArithmeticOperator → ℕ
-arithmetic_level Multiply = 10
-arithmetic_level Divide = 10
-arithmetic_level Remainder = 10
-arithmetic_level Add = 9
-arithmetic_level Subtract = 9
-arithmetic_level ShiftLeft = 8
-arithmetic_level ShiftRight = 8
-arithmetic_level BitAnd = 5
-arithmetic_level BitXor = 4
-arithmetic_level BitOr = 3
-
-abbrev pub comparison_level : Comparison → ℕ
-comparison_level comparison.Same = 6
-comparison_level comparison.Different = 6
-comparison_level _ = 7
-
-abbrev pub binary_level : BinaryOperator → ℕ
-binary_level (binary.Arithmetic operator) = arithmetic_level operator
-binary_level (binary.Comparison operator) = comparison_level operator
-binary_level (binary.Text operator) = 6
-
-abbrev pub level_of : Infix → ℕ
-level_of infixed.Or = 1
-level_of infixed.And = 2
-level_of (infixed.Binary operator) = binary_level operator
-
--- two trees with an operator between them
-abbrev pub between : Infix → Tree → Tree → Tree
-between infixed.Or a b = Or a b
-between infixed.And a b = And a b
-between (infixed.Binary operator) a b = Binary operator a b
 
 -- ── what stands open ──
 
@@ -116,21 +76,21 @@ close level (own ∷ opened) tree = if ends_at level own then close level opened
 -- ── bytes ──
 
 -- an operand is due, or stands before
-pub data Place : Type 0 where
-  AtOperand : Place
-  AtOperator : Tree → Place
+pub data OperandPlace : Type 0 where
+  AtOperand : OperandPlace
+  AtOperator : Tree → OperandPlace
 
 -- how reading goes on: so many further bytes are taken
 pub record Move : Type 0 where
   pub skip : ℕ
-  pub place : Place
+  pub place : OperandPlace
   pub opened : List Opened
 
-abbrev pub move : ℕ → Place → List Opened → Result Move ExprFault
+abbrev pub move : ℕ → OperandPlace → List Opened → Result Move ExprFault
 move skip place opened = Ok (record { skip = skip; place = place; opened = opened })
 
 -- white space of one byte, or a newline behind a backslash
-abbrev pub at_backslash : Place → List Opened → List ℕ → Result Move ExprFault
+abbrev pub at_backslash : OperandPlace → List Opened → List ℕ → Result Move ExprFault
 at_backslash place opened behind = if begins_newline behind then move 1 place opened else Err Syntax
 
 abbrev pub at_sign : UnaryOperator → List Opened → Result Move ExprFault
@@ -139,20 +99,15 @@ at_sign operator opened = move 0 AtOperand (Before operator ∷ opened)
 abbrev pub at_paren : List Opened → Result Move ExprFault
 at_paren opened = if nat_lt (parens opened) 200 then move 0 AtOperand (Paren ∷ opened) else Err TooLong
 
--- A part of a text that is cut at ASCII bytes is UTF-8 where the text is, so that this never fails.
-abbrev pub with_text : List ℕ → Result Move ExprFault → Result Move ExprFault
-with_text bytes next = if is_utf8 bytes then next else Err TooLong
-
 abbrev pub at_number : ℕ → List Opened → List ℕ → Result Move ExprFault
-at_number n opened text =
-    if ends_number (drop n text) then with_text (take n text) (move (n - 1) (AtOperator (Integer (take n text))) opened) else Err Syntax
+at_number n opened text = if ends_number (drop n text) then move (n - 1) (AtOperator (Integer (take n text))) opened else Err Syntax
 
 abbrev pub word_or_fault : ℕ → List Opened → List ℕ → Option Bool → Result Move ExprFault
 word_or_fault n opened word (Some truth) = move (n - 1) (AtOperator (Plain word)) opened
 word_or_fault n opened word None = Err Syntax
 
 abbrev pub at_word : ℕ → List Opened → List ℕ → Result Move ExprFault
-at_word n opened text = with_text (take n text) (word_or_fault n opened (take n text) (boolean_of (take n text)))
+at_word n opened text = word_or_fault n opened (take n text) (boolean_of (take n text))
 
 -- how many parentheses, brackets and indices may still be opened in one another
 abbrev pub room_in : List Opened → ℕ
@@ -188,7 +143,7 @@ at_quote opened behind = with_pieces opened (quoted_of (room_in opened) behind)
 
 -- what stands in braces is a text
 abbrev pub at_brace : List Opened → Result (List ℕ × ℕ) ExprFault → Result Move ExprFault
-at_brace opened (Ok found) = with_text found.0 (move (suc found.1) (AtOperator (Plain found.0)) opened)
+at_brace opened (Ok found) = move (suc found.1) (AtOperator (Plain found.0)) opened
 at_brace opened (Err fault) = Err fault
 
 -- a byte of this kind where an operand is due
@@ -210,10 +165,10 @@ operand_move _ opened text behind = Err Syntax
 
 -- how reading goes on behind an operator
 pub record Next : Type 0 where
-  pub place : Place
+  pub place : OperandPlace
   pub opened : List Opened
 
-abbrev pub next : Place → List Opened → Result Next ExprFault
+abbrev pub next : OperandPlace → List Opened → Result Next ExprFault
 next place opened = Ok (record { place = place; opened = opened })
 
 abbrev pub at_colon : List Opened → Tree → Result Next ExprFault
@@ -251,7 +206,7 @@ operator_move mark.White opened tree text behind = move 0 (AtOperator tree) open
 operator_move mark.Backslash opened tree text behind = at_backslash (AtOperator tree) opened behind
 operator_move _ opened tree text behind = link_move opened tree (link_at text)
 
-abbrev pub move_of : Place → List Opened → List ℕ → List ℕ → Mark → Result Move ExprFault
+abbrev pub move_of : OperandPlace → List Opened → List ℕ → List ℕ → Mark → Result Move ExprFault
 move_of AtOperand opened text behind m = operand_move m opened text behind
 move_of (AtOperator tree) opened text behind m = operator_move m opened tree text behind
 
@@ -261,16 +216,16 @@ whole [] tree = Ok tree
 whole (Paren ∷ opened) tree = Err MissingParen
 whole _ tree = Err Syntax
 
-abbrev pub at_end : Place → List Opened → Result Tree ExprFault
+abbrev pub at_end : OperandPlace → List Opened → Result Tree ExprFault
 at_end AtOperand opened = Err Syntax
 at_end (AtOperator tree) opened = whole (close 0 opened tree).opened (close 0 opened tree).tree
 
-abbrev pub on_move : Result Move ExprFault → (ℕ → Place → List Opened → Result Tree ExprFault) → Result Tree ExprFault
+abbrev pub on_move : Result Move ExprFault → (ℕ → OperandPlace → List Opened → Result Tree ExprFault) → Result Tree ExprFault
 on_move (Ok next) go = go next.skip next.place next.opened
 on_move (Err fault) go = Err fault
 
 -- what a text gives past so many bytes of it
-abbrev pub reading : ℕ → Place → List Opened → List ℕ → Result Tree ExprFault
+abbrev pub reading : ℕ → OperandPlace → List Opened → List ℕ → Result Tree ExprFault
 reading skip place opened [] = at_end place opened
 reading (suc skip) place opened (b ∷ text) = reading skip place opened text
 reading zero place opened (b ∷ text) = on_move (move_of place opened (b ∷ text) text (mark_of b)) (λ further next left. reading further next left text)

@@ -1,4 +1,4 @@
--- What evaluating comes to: a value, a fault, or something that has to be asked before it goes on.
+-- Meaning. What evaluating comes to: a value, a fault, or something that has to be asked before it goes on.
 use Rattle.std.specs.Prelude.{ℕ, Bool, List, Result, Ok, Err}
 use Rattle.tcl_expr.specs.declared.fault.EvalFault.{EvalFault}
 use Rattle.tcl_expr.specs.declared.ask.Ask.{Ask}

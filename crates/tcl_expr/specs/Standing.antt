@@ -1,7 +1,7 @@
--- How the code stands where it has read some of an expression, and what it makes of what comes next.
+-- Steps. How the code stands where it has read some of an expression, and what it makes of what comes next.
 use Rattle.std.specs.Prelude.{◌≡◌, ◌≢◌, ◌⊎◌, ℕ, Bool, true, false, List, [], ◌∷◌, ◌++◌, Option, Some, None, Result, Ok, Err}
 use Rattle.tcl_expr.specs.declared.fault.ExprFault.{ExprFault}
-use Rattle.tcl_expr.specs.declared.fault.ExprFault.TheVariants.{TooLong, Syntax, NoMemory}
+use Rattle.tcl_expr.specs.declared.fault.ExprFault.TheVariants.{Syntax, NoMemory}
 use Rattle.tcl_expr.specs.declared.step.Step.{Step}
 use Rattle.tcl_expr.specs.declared.open.Open.{Open}
 use Rattle.tcl_expr.specs.declared.open.Open.TheVariants as open_form
@@ -9,9 +9,8 @@ use Rattle.tcl_expr.specs.declared.tokens.Link.{Link}
 use Rattle.tcl_expr.specs.declared.parser.Parser.{Parser}
 use Rattle.tcl_expr.specs.Trees.{Tree}
 use Rattle.tcl_expr.specs.Steps.{steps_of}
-use Rattle.tcl_expr.specs.Reading.{Opened, Place, AtOperand, AtOperator, parens, Next, Move, link_next, link_move, operand_move, operator_move, whole, at_end}
+use Rattle.tcl_expr.specs.Reading.{Opened, OperandPlace, AtOperand, AtOperator, parens, Next, Move, link_next, link_move, operand_move, operator_move, whole, at_end}
 use Rattle.tcl_expr.specs.Tokens.{mark_of}
-use Rattle.std.specs.Str.{is_utf8}
 use Rattle.tcl_expr.specs.Parsing.{Holds, all_kept}
 
 abbrev pub PopsQuestion : List Open → Option ℕ → List Open → Type 0
@@ -23,15 +22,15 @@ PopsParen old true new = old ≡ new ++ open_form.Paren ∷ []
 PopsParen old false new = (below : List Open) → old ≢ below ++ open_form.Paren ∷ []
 
 -- the steps of a tree that stands before
-abbrev pub own_steps : Place → List Step
+abbrev pub own_steps : OperandPlace → List Step
 own_steps AtOperand = []
 own_steps (AtOperator tree) = steps_of tree
 
-abbrev pub is_due : Place → Bool
+abbrev pub is_due : OperandPlace → Bool
 is_due AtOperand = true
 is_due (AtOperator tree) = false
 
-pub record Stands (parser : Parser) (place : Place) (opened : List Opened) : Type 0 where
+pub record Stands (parser : Parser) (place : OperandPlace) (opened : List Opened) : Type 0 where
   pub holds : Holds parser.opened.items parser.steps.items opened (own_steps place)
   pub counted : parser.parens ≡ parens opened
   pub due : parser.is_due ≡ is_due place
@@ -63,11 +62,6 @@ pub record HasOperand (old new : Parser) (own : List Step) : Type 0 where
   pub parens_are : new.parens ≡ old.parens
   pub due : new.is_due ≡ false
 
--- the text of bytes that are one
-abbrev pub TextOf : List ℕ → Result (List ℕ) ExprFault → Type 0
-TextOf bytes (Ok text) = (text ≡ bytes) × (is_utf8 bytes ≡ true)
-TextOf bytes (Err fault) = (fault ≡ NoMemory) ⊎ ((fault ≡ TooLong) × (is_utf8 bytes ≡ false))
-
 -- what the bytes in front are where an operand is due, and behind one
 abbrev pub operand_at : List ℕ → List Opened → Result Move ExprFault
 operand_at [] before = Err Syntax
@@ -77,7 +71,7 @@ abbrev pub operator_at : List ℕ → List Opened → Tree → Result Move ExprF
 operator_at [] before tree = Err Syntax
 operator_at (b ∷ behind) before tree = operator_move (mark_of b) before tree (b ∷ behind) behind
 
-abbrev pub move_at : List ℕ → Place → List Opened → Result Move ExprFault
+abbrev pub move_at : List ℕ → OperandPlace → List Opened → Result Move ExprFault
 move_at text AtOperand before = operand_at text before
 move_at text (AtOperator tree) before = operator_at text before tree
 
@@ -92,9 +86,9 @@ TakesFound old (Err fault) new found =
     (fault ≡ NoMemory) ⊎ ((before : List Opened) (tree : Tree) → Stands old (AtOperator tree) before → link_move before tree found ≡ Err fault)
 
 abbrev pub TakesToken : Parser → Result ℕ ExprFault → Parser → List ℕ → Type 0
-TakesToken old (Ok skip) new text = (place : Place) (before : List Opened) → Stands old place before → Follows new skip (move_at text place before)
+TakesToken old (Ok skip) new text = (place : OperandPlace) (before : List Opened) → Stands old place before → Follows new skip (move_at text place before)
 TakesToken old (Err fault) new text =
-    (fault ≡ NoMemory) ⊎ ((place : Place) (before : List Opened) → Stands old place before → move_at text place before ≡ Err fault)
+    (fault ≡ NoMemory) ⊎ ((place : OperandPlace) (before : List Opened) → Stands old place before → move_at text place before ≡ Err fault)
 
 -- the end of the text: its steps are those of the tree
 abbrev pub IsWhole : Result Tree ExprFault → List Step → Type 0
@@ -102,10 +96,10 @@ IsWhole (Ok tree) steps = steps ≡ steps_of tree
 IsWhole (Err fault) steps = ⊥
 
 abbrev pub Finishes : Parser → List Step → Type 0
-Finishes parser steps = (place : Place) (before : List Opened) → Stands parser place before → IsWhole (at_end place before) steps
+Finishes parser steps = (place : OperandPlace) (before : List Opened) → Stands parser place before → IsWhole (at_end place before) steps
 
 abbrev pub FailsAtEnd : Parser → ExprFault → Type 0
-FailsAtEnd parser fault = (fault ≡ NoMemory) ⊎ ((place : Place) (before : List Opened) → Stands parser place before → at_end place before ≡ Err fault)
+FailsAtEnd parser fault = (fault ≡ NoMemory) ⊎ ((place : OperandPlace) (before : List Opened) → Stands parser place before → at_end place before ≡ Err fault)
 
 -- a fault, or else the tree
 abbrev pub end_answer : Option ExprFault → Tree → Result Tree ExprFault

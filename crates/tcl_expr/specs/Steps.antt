@@ -1,4 +1,4 @@
--- The steps of a tree, and what they come to. A stack is a list of values, the topmost first.
+-- Steps. The steps of a tree, and what they come to. A stack is a list of values, the topmost first.
 use Rattle.std.specs.Prelude.{ℕ, zero, suc, true, false, ◌++◌, List, [], ◌∷◌, length, if◌then◌else◌, ℤ, pos, Option, Some, None, Ok, Err}
 use Rattle.tcl_text.specs.Readings.{integer_of}
 use Rattle.tcl_expr.specs.declared.fault.EvalFault.TheVariants.{Overflow}

@@ -1,4 +1,4 @@
--- The tree of a text with substitution: of what stands in quotes, and of the index of an element.
+-- Steps. The tree of a text with substitution: of what stands in quotes, and of the index of an element.
 use Rattle.std.specs.Prelude.{◌≡◌, ◌⊎◌, ℕ, zero, suc, List, [], ◌∷◌, ◌++◌, Result, Ok, Err}
 use Rattle.tcl_words.specs.Reading.{index_pieces_of}
 use Rattle.tcl_words.specs.declared.script.Piece.{Piece}

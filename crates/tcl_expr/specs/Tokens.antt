@@ -1,8 +1,6 @@
--- What stands in front of a text where an operand or an operator is due.
-use Rattle.std.specs.Prelude.{ℕ, zero, suc, ◌+◌, Bool, true, false, not, ◌==◌, nat_eq, nat_lt, nat_le, ◌&&◌, ◌||◌, if◌then◌else◌, List, [], ◌∷◌, drop, Option, Some, None, codes}
-use Rattle.std.specs.Char.{digit_value}
+-- Meaning. What stands in front of a text where an operand or an operator is due.
+use Rattle.std.specs.Prelude.{ℕ, Bool, true, false, not, ◌==◌, nat_eq, nat_le, ◌&&◌, ◌||◌, if◌then◌else◌, List, [], ◌∷◌, drop, Option, Some, None, codes}
 use Rattle.std.specs.List.{starts_with}
-use Rattle.tcl_text.specs.Readings.{base_named}
 use Rattle.tcl_expr.specs.declared.operators.ArithmeticOperator.TheVariants.{Multiply, Divide, Remainder, Add, Subtract, ShiftLeft, ShiftRight, BitAnd, BitXor, BitOr}
 use Rattle.tcl_expr.specs.declared.operators.Comparison.{Comparison}
 use Rattle.tcl_expr.specs.declared.operators.Comparison.TheVariants as comparison
@@ -74,11 +72,6 @@ abbrev pub begins_name_byte : List ℕ → Bool
 begins_name_byte [] = false
 begins_name_byte (b ∷ text) = is_name_byte b
 
--- how many bytes of a name stand in front
-abbrev pub name_bytes : List ℕ → ℕ
-name_bytes [] = 0
-name_bytes (b ∷ text) = if is_name_byte b then suc (name_bytes text) else 0
-
 -- ── operators ──
 
 abbrev pub arithmetic_link : ArithmeticOperator → Link
@@ -149,30 +142,7 @@ abbrev pub link_at : List ℕ → Option (Link × ℕ)
 link_at [] = None
 link_at (b ∷ behind) = link_by (mark_of b) (b ∷ behind) behind
 
--- ── operands ──
-
--- how many digits of a base stand in front
-abbrev pub digits : ℕ → List ℕ → ℕ
-digits base [] = 0
-digits base (b ∷ text) = if nat_lt (digit_value b) base then suc (digits base text) else 0
-
--- `0` and the letter of a base with at least one digit, or else octal digits
-abbrev pub based_or : List ℕ → ℕ → ℕ
-based_or text zero = suc (digits 8 text)
-based_or text (suc n) = suc n + 2
-
-abbrev pub past_zero_by : Option ℕ → List ℕ → List ℕ → ℕ
-past_zero_by (Some base) text behind = based_or text (digits base behind)
-past_zero_by None text behind = suc (digits 8 text)
-
-abbrev pub past_zero : List ℕ → ℕ
-past_zero [] = 1
-past_zero (b ∷ behind) = past_zero_by (base_named b) (b ∷ behind) behind
-
--- how long the number in front of a text is that begins with a digit: as long as can be
-abbrev pub number_length : List ℕ → ℕ
-number_length [] = 0
-number_length (b ∷ text) = if b == 48 then past_zero text else digits 10 (b ∷ text)
+-- ── numbers ──
 
 -- a number ends before a byte that is none of a name, or before an operator word
 abbrev pub ends_number : List ℕ → Bool

@@ -1,4 +1,4 @@
--- The tree of an expression, and its value.
+-- Meaning. The tree of an expression, and its value.
 use Rattle.std.specs.Prelude.{ℕ, true, false, ◌++◌, List, length, nat_le, if◌then◌else◌, ℤ, Option, Some, None, Result, Ok, Err}
 use Rattle.std.specs.Fmt.{signed_decimal}
 use Rattle.tcl_text.specs.Readings.{integer_of}

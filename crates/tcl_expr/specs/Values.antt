@@ -1,4 +1,4 @@
--- What operators make of values: integers that were computed, and texts, which may spell integers.
+-- Meaning. What operators make of values: integers that were computed, and texts, which may spell integers.
 use Rattle.std.specs.Prelude.{ℕ, zero, Bool, true, false, not, List, ℤ, pos, ◌+ℤ◌, ◌-ℤ◌, ◌*ℤ◌, neg_ℤ, Option, Some, None, Result, Ok, Err, bytes_eq, bit_and, bit_or, bit_xor}
 use Rattle.std.specs.List.{list_any}
 use Rattle.std.specs.Int.{w64, cast_signed, cast_unsigned}

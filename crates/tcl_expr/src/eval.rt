@@ -1,7 +1,7 @@
 ghost use Rattle.std.specs.Prelude.{◌≡◌, IfOk};
 ghost use Rattle.tcl_expr.specs.Machine.{Halts};
 ghost use Rattle.tcl_expr.specs.Reading.{compiled};
-ghost use Rattle.tcl_expr.specs.Evaluation.{Repeats, state_after, steps_in, with_given};
+ghost use Rattle.tcl_expr.specs.Resuming.{Repeats, state_after, steps_in, with_given};
 
 use crate::ask::Ask;
 use crate::expr::Expr;
@@ -25,10 +25,10 @@ pub struct Eval {
 }
 
 impl Model for Eval {
-    ghost use Rattle.tcl_expr.specs.Evaluation.{Evaluation, evaluation_at};
+    ghost use Rattle.tcl_expr.specs.Resuming.{Resumption, evaluation_at};
     ghost use Rattle.tcl_expr.specs.Reading.{compiled};
 
-    ghost Value = { Evaluation };
+    ghost Value = { Resumption };
 
     ghost view = { λ e. evaluation_at e.place (compiled e.expr) e.stack e.state };
 }
@@ -81,16 +81,17 @@ impl Eval {
     ghost use Rattle.std.specs.Prelude.{◌≡◌, ◌⊎◌, [], Option, is_some, Ok, IfOk};
     ghost use Rattle.tcl_expr.specs.declared.state.State.TheVariants.{Failed, Ready};
     ghost use Rattle.tcl_expr.specs.declared.fault.EvalFault.TheVariants.{NoMemory};
-    ghost use Rattle.tcl_expr.specs.Evaluation.{Tells, evaluation_at, told, is_waiting, to_come, with_given};
+    ghost use Rattle.tcl_expr.specs.Resuming.{Tells, evaluation_at, told, is_waiting, to_come, with_given};
     ghost use Rattle.tcl_expr.specs.Machine.{AsksBy};
-    ghost use Rattle.tcl_expr.specs.Reading.{tree_of, compiled};
+    ghost use Rattle.tcl_expr.specs.Grammar.{IsTreeOf};
+    ghost use Rattle.tcl_expr.specs.Reading.{compiled};
     ghost use Rattle.tcl_expr.specs.Trees.{Tree, evaluation};
 
     /// The evaluation of an expression, from its beginning. It takes no memory.
     pub fn new(alloc: Global, expr: Expr) -> Eval
-        ensures value { (tree : Tree) → tree_of expr ≡ Ok tree → told result None ≡ evaluation tree }
+        ensures value { (tree : Tree) → IsTreeOf expr tree → told result None ≡ evaluation tree }
         ensures ready { result.state ≡ Ready }
-        ensures whole { result ≡ evaluation_at 0 (compiled expr) [] Ready }
+        ensures walk { result ≡ evaluation_at 0 (compiled expr) [] Ready }
     {
         Eval {
             alloc,

@@ -31,6 +31,7 @@ impl Model for Expr {
 
 impl Expr {
     ghost use Rattle.std.specs.Prelude.{◌≡◌, Ok, IfOk, IsOk};
+    ghost use Rattle.tcl_expr.specs.Grammar.{IsExpression};
     ghost use Rattle.tcl_expr.specs.Reading.{compiled, tree_of};
 
     /// An expression of this text, of which these are the steps.
@@ -46,7 +47,8 @@ impl Expr {
     /// The source, which has a tree.
     pub fn text(&self) -> &Text
         ensures text { result.now ≡ self.now }
-        ensures tree { IsOk (tree_of self.now) }
+        ensures expression { IsExpression self.now }
+        ensures walk { IsOk (tree_of self.now) }
     {
         &self.parsed.text
     }

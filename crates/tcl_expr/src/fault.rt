@@ -55,6 +55,28 @@ pub enum EvalFault {
     NoMemory,
 }
 
+impl ExprFault {
+    ghost use Rattle.std.specs.Prelude.{◌≡◌};
+    ghost use Rattle.tcl_expr.specs.Faults.{expr_number};
+
+    /// Its number; none where memory was refused.
+    pub fn number(&self) -> Option<u32>
+        ensures { result ≡ expr_number self.now }
+    {
+        match self {
+            ExprFault::TooLong => Some(4),
+            ExprFault::MissingBrace => Some(5),
+            ExprFault::MissingBracket => Some(6),
+            ExprFault::MissingQuote => Some(7),
+            ExprFault::ExtraAfterBrace => Some(8),
+            ExprFault::ExtraAfterQuote => Some(9),
+            ExprFault::MissingParen => Some(10),
+            ExprFault::Syntax => Some(11),
+            ExprFault::NoMemory => None,
+        }
+    }
+}
+
 impl From<AllocError> for ExprFault {
     ghost use Rattle.std.specs.Prelude.{◌≡◌};
     ghost use Rattle.tcl_expr.specs.declared.fault.ExprFault.TheVariants.{NoMemory};
@@ -163,7 +185,23 @@ impl From<TextFault> for EvalFault {
 
 impl EvalFault {
     ghost use Rattle.std.specs.Prelude.{◌≡◌, ◌⊎◌};
+    ghost use Rattle.tcl_expr.specs.Faults.{eval_number};
     ghost use Rattle.tcl_expr.specs.declared.fault.EvalFault.TheVariants.{NoMemory};
+
+    /// Its number; none where memory was refused.
+    pub fn number(&self) -> Option<u32>
+        ensures { result ≡ eval_number self.now }
+    {
+        match self {
+            EvalFault::NotBoolean(_) => Some(2),
+            EvalFault::BadList(_) => Some(3),
+            EvalFault::TooLong => Some(4),
+            EvalFault::DivideByZero => Some(12),
+            EvalFault::Overflow => Some(13),
+            EvalFault::NotNumber(_) => Some(14),
+            EvalFault::NoMemory => None,
+        }
+    }
 
     /// The same fault, or `NoMemory` where its text can't be shared.
     pub(crate) fn copied(&self) -> EvalFault

@@ -3,7 +3,7 @@ ghost use Rattle.std.specs.Prelude.{◌≡◌, ◌≢◌, ◌↔◌, ℕ, ℤ, p
 ghost use Rattle.tcl_words.specs.Grammar.{IsBraced, IsUnclosed};
 ghost use Rattle.tcl_expr.specs.Arithmetic.{floor_quotient, floor_remainder, IsFloorDivision};
 ghost use Rattle.tcl_expr.specs.Braces.{braced};
-ghost use Rattle.tcl_expr.specs.Grammar.{IsTreeOf, IsFaultOf, OneTreeOrFault};
+ghost use Rattle.tcl_expr.specs.Grammar.{IsTreeOf, IsExprFault, OneTreeOrFault};
 ghost use Rattle.tcl_expr.specs.Machine.{WeighsLess};
 ghost use Rattle.tcl_expr.specs.Reading.{tree_of};
 ghost use Rattle.tcl_expr.specs.Trees.{Tree};
@@ -33,7 +33,7 @@ pub fn trees_are_read()
 
 /// `tree_of` gives a fault exactly where the grammar relates it to the text.
 pub fn faults_are_told()
-    ensures { (text : List ℕ) (fault : Fault) → IsFaultOf text fault ↔ (tree_of text ≡ Err fault) }
+    ensures { (text : List ℕ) (fault : Fault) → IsExprFault text fault ↔ (tree_of text ≡ Err fault) }
 {}
 
 /// A text is an expression with one tree, or has one fault.

@@ -1,6 +1,6 @@
 //! Steps, performed one after another until something has to be asked.
 ghost use Rattle.std.specs.Prelude.{◌≡◌, ◌≤◌, ◌<◌, length, Ok};
-ghost use Rattle.tcl_expr.specs.Faults.{Gives};
+ghost use Rattle.tcl_expr.specs.Faults.{IsEvaluatedAs};
 ghost use Rattle.tcl_expr.specs.Machine.{Performs, Advances, Halts};
 ghost use Rattle.tcl_expr.specs.Trees as trees;
 
@@ -40,7 +40,7 @@ pub enum Advance {
 
 /// Two texts, one after the other.
 fn joined(alloc: Global, left: Value, right: Value) -> Result<Value, EvalFault>
-    ensures { Gives result (trees.joined left right) }
+    ensures { IsEvaluatedAs result (trees.joined left right) }
 {
     let left = into_text(alloc, left)?;
     let right = into_text(alloc, right)?;
@@ -52,7 +52,7 @@ fn joined(alloc: Global, left: Value, right: Value) -> Result<Value, EvalFault>
 
 /// The text of the last value, an integer in decimal.
 fn final_text(alloc: Global, value: Value) -> Result<Text, EvalFault>
-    ensures { Gives result (Ok (trees.final_text value)) }
+    ensures { IsEvaluatedAs result (Ok (trees.final_text value)) }
 {
     match number_in(&value) {
         Some(number) => {

@@ -1,6 +1,6 @@
 //! What stands open while an expression is read, beside the steps that were written.
 ghost use Rattle.std.specs.Prelude.{◌≡◌, ◌-◌, ◌<◌, OnOk, OnErr, List, [], ◌∷◌, ◌++◌, length, set};
-ghost use Rattle.tcl_expr.specs.Reading as reading;
+ghost use Rattle.tcl_expr.specs.Operators as operators;
 ghost use Rattle.tcl_expr.specs.Reading.{Opened};
 ghost use Rattle.tcl_expr.specs.Trees.{Tree};
 ghost use Rattle.tcl_expr.specs.Steps.{steps_of};
@@ -21,7 +21,7 @@ pub enum Open {
 }
 
 fn arithmetic_level(operator: ArithmeticOperator) -> usize
-    ensures { result ≡ reading.arithmetic_level operator }
+    ensures { result ≡ operators.arithmetic_level operator }
 {
     match operator {
         ArithmeticOperator::Multiply | ArithmeticOperator::Divide | ArithmeticOperator::Remainder =>
@@ -36,7 +36,7 @@ fn arithmetic_level(operator: ArithmeticOperator) -> usize
 
 /// How tight an operator binds.
 pub fn level_of(operator: Infix) -> usize
-    ensures { result ≡ reading.level_of operator }
+    ensures { result ≡ operators.level_of operator }
 {
     match operator {
         Infix::Or => 1,

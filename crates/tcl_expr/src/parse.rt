@@ -1,7 +1,8 @@
-ghost use Rattle.std.specs.Prelude.{◌≡◌, IfOk, IfErr, IsOk};
-ghost use Rattle.tcl_expr.specs.Grammar.{IsExpression, IsFaultOfOrMemory};
+ghost use Rattle.std.specs.Prelude.{◌≡◌, ◌⊎◌, Err, IfOk, IfErr, IsOk};
+ghost use Rattle.tcl_expr.specs.Grammar.{IsExpression, IsTreeOf, IsExprFault};
 ghost use Rattle.tcl_expr.specs.Reading.{tree_of};
 ghost use Rattle.tcl_expr.specs.Standing.{IsFaultOrMemory};
+ghost use Rattle.tcl_expr.specs.Trees.{Tree};
 
 use crate::expr::Expr;
 use crate::fault::ExprFault;
@@ -32,13 +33,16 @@ fn read_expr(alloc: Global, source: &[u8]) -> Result<Expr, ExprFault>
 
 /// Reads an expression whole, by the rules of expr(n). `TooLong` (4) for more than 65,536 bytes, or bytes that aren't UTF-8, comes before
 /// all else. Then the first fault from the left is told (4 to 11): 4 where more than 200 parentheses, brackets and indices stand in one
-/// another.
+/// another. What the clauses named after the walk say, by the function that reads byte by byte, the others say by the grammar: proofs cite
+/// them.
 pub fn parse_expr(alloc: Global, source: &[u8]) -> Result<Expr, ExprFault>
     ensures text { IfOk result (λ expr. expr ≡ source.now) }
     ensures expression { IfOk result (λ _. IsExpression source.now) }
-    ensures fault_of { IfErr result (λ fault. IsFaultOfOrMemory source.now fault) }
-    ensures tree { IfOk result (λ _. IsOk (tree_of source.now)) }
-    ensures fault { IfErr result (λ fault. IsFaultOrMemory (tree_of source.now) fault) }
+    ensures fault { IfErr result (λ fault. IsExprFault source.now fault ⊎ (fault ≡ ExprFault.NoMemory)) }
+    ensures read { (tree : Tree) → IsTreeOf source.now tree → IfErr result (λ fault. fault ≡ ExprFault.NoMemory) }
+    ensures told { (fault : ExprFault) → IsExprFault source.now fault → (result ≡ Err fault) ⊎ (result ≡ Err ExprFault.NoMemory) }
+    ensures walk { IfOk result (λ _. IsOk (tree_of source.now)) }
+    ensures walk_fault { IfErr result (λ fault. IsFaultOrMemory (tree_of source.now) fault) }
 {
     read_expr(alloc, source)
 }

@@ -1,9 +1,11 @@
 //! An expression, read from its bytes.
 ghost use Rattle.std.specs.Prelude.{◌≡◌, ◌≤◌, ◌+◌, ◌-◌, ◌^◌, ◌<◌, length, drop, slice_index, IfOk, IfErr, OnOk, [], ◌∷◌, Ok};
+ghost use Rattle.std.specs.Str.{IsUtf8};
 ghost use Rattle.tcl_text.specs.Readings.{integer_of};
 ghost use Rattle.tcl_expr.specs.Reading as reading;
 ghost use Rattle.tcl_expr.specs.Steps.{literal_step};
 ghost use Rattle.tcl_expr.specs.Standing as standing;
+ghost use Rattle.tcl_expr.specs.Counts as counts;
 ghost use Rattle.tcl_expr.specs.Tokens as tokens;
 ghost use Rattle.tcl_expr.specs.Braces.{braced as braced_text};
 ghost use Rattle.tcl_expr.specs.declared.braces.BracePlace.TheVariants.{Plain};
@@ -25,15 +27,14 @@ use tcl_words::{bracket_behind, quotes_behind, substitution_behind};
 /// How many parentheses, brackets and indices may stand open in one another.
 const MAX_DEPTH: usize = 200;
 
-/// The text of some bytes.
+/// The text of some bytes, which are characters.
 fn text_of(alloc: Global, bytes: &[u8]) -> Result<Text, ExprFault>
-    requires { length bytes.now ≤ 65536 }
-    ensures { standing.TextOf bytes.now result }
+    requires short { length bytes.now ≤ 65536 }
+    requires utf8 { IsUtf8 bytes.now }
+    ensures ok { IfOk result (λ text. text ≡ bytes.now) }
+    ensures err { IfErr result (λ fault. fault ≡ ExprFault.NoMemory) }
 {
-    let Ok(characters) = str::from_utf8(bytes) else {
-        return Err(ExprFault::TooLong);
-    };
-    let text = Text::new(alloc, characters)?;
+    let text = Text::new(alloc, str::from_utf8(bytes).unwrap())?;
     Ok(text)
 }
 
@@ -80,7 +81,7 @@ fn take_paren(parser: &mut Parser) -> Result<usize, ExprFault>
 /// An integer.
 fn take_number(alloc: Global, parser: &mut Parser, text: &[u8]) -> Result<usize, ExprFault>
     requires { length text.now ≤ 65536 }
-    ensures { standing.Takes parser.old result parser.new (λ before. reading.at_number (tokens.number_length text.now) before text.now) }
+    ensures { standing.Takes parser.old result parser.new (λ before. reading.at_number (counts.number_length text.now) before text.now) }
 {
     let count = number_length(text);
     if !ends_number(&text[count..]) {
@@ -94,7 +95,7 @@ fn take_number(alloc: Global, parser: &mut Parser, text: &[u8]) -> Result<usize,
 /// A boolean word.
 fn take_word(alloc: Global, parser: &mut Parser, text: &[u8]) -> Result<usize, ExprFault>
     requires { length text.now ≤ 65536 }
-    ensures { standing.Takes parser.old result parser.new (λ before. reading.at_word (tokens.name_bytes text.now) before text.now) }
+    ensures { standing.Takes parser.old result parser.new (λ before. reading.at_word (counts.name_bytes text.now) before text.now) }
 {
     let count = name_bytes(text);
     let word = text_of(alloc, &text[..count])?;
@@ -175,8 +176,10 @@ fn take_quotes(
 }
 
 /// A text in braces, behind the opening one.
+#[tactic(auto, using(crate::proofs::OperandBytes::found_utf8))]
 fn take_braces(alloc: Global, parser: &mut Parser, behind: &[u8]) -> Result<usize, ExprFault>
-    requires { length behind.now ≤ 65536 }
+    requires short { length behind.now ≤ 65536 }
+    requires utf8 { IsUtf8 behind.now }
     ensures { standing.Takes parser.old result parser.new (λ before. reading.at_brace before (braced_text Plain 0 behind.now)) }
 {
     let (bytes, count) = braced(alloc, behind)?;

@@ -2,6 +2,7 @@
 ghost use Rattle.std.specs.Prelude.{◌≡◌, ◌≢◌, ◌≤◌, ◌<◌, ◌+◌, ◌^◌, length, IfOk, IfSome};
 ghost use Rattle.std.specs.Char as chars;
 ghost use Rattle.tcl_text.specs.Readings as readings;
+ghost use Rattle.tcl_expr.specs.Counts as counts;
 ghost use Rattle.tcl_expr.specs.Tokens as tokens;
 
 use crate::fault::ExprFault;
@@ -136,7 +137,7 @@ fn begins_name_byte(text: &[u8]) -> bool
 
 /// How many bytes of a name stand in front.
 pub fn name_bytes(text: &[u8]) -> usize
-    ensures count { result ≡ tokens.name_bytes text.now }
+    ensures count { result ≡ counts.name_bytes text.now }
     ensures within { result ≤ length text.now }
 {
     for (count, byte) in text.iter().enumerate() {
@@ -269,7 +270,7 @@ fn digit_value(byte: u8) -> u8
 
 /// How many digits of a base stand in front.
 fn digits(base: u8, text: &[u8]) -> usize
-    ensures count { result ≡ tokens.digits base text.now }
+    ensures count { result ≡ counts.digits base text.now }
     ensures within { result ≤ length text.now }
 {
     for (count, byte) in text.iter().enumerate() {
@@ -294,7 +295,7 @@ fn base_named(letter: u8) -> Option<u8>
 /// How long a number is, from the 0 that it begins with on: a base's letter needs a digit of the base behind it.
 fn past_zero(text: &[u8]) -> usize
     requires { length text.now < 2 ^ 32 }
-    ensures length { result ≡ tokens.past_zero text.now }
+    ensures length { result ≡ counts.past_zero text.now }
     ensures within { result ≤ length text.now + 1 }
 {
     let [letter, behind @ ..] = text else {
@@ -312,7 +313,7 @@ fn past_zero(text: &[u8]) -> usize
 /// How long the number in front of a text is that begins with a digit: as long as can be.
 pub fn number_length(text: &[u8]) -> usize
     requires { length text.now < 2 ^ 32 }
-    ensures length { result ≡ tokens.number_length text.now }
+    ensures length { result ≡ counts.number_length text.now }
     ensures within { result ≤ length text.now }
 {
     match text {

@@ -1,6 +1,6 @@
 //! The values of operands, and what each operator makes of them.
 ghost use Rattle.std.specs.Prelude.{◌≡◌, IfOk, not};
-ghost use Rattle.tcl_expr.specs.Faults.{Gives};
+ghost use Rattle.tcl_expr.specs.Faults.{IsEvaluatedAs};
 ghost use Rattle.tcl_expr.specs.Values as values;
 
 use crate::arithmetic::{
@@ -65,7 +65,7 @@ pub fn truth_value(truth: bool) -> Value
 
 /// The boolean that a value has to be.
 pub fn need_truth(alloc: Global, value: Value) -> Result<bool, EvalFault>
-    ensures { Gives result (values.needed_truth value) }
+    ensures { IsEvaluatedAs result (values.needed_truth value) }
 {
     match truth_in(&value) {
         Some(truth) => Ok(truth),
@@ -168,14 +168,14 @@ fn is_among(text: &Text, items: &[Text]) -> bool
 
 /// Whether an item of the list that the second text is equals the first.
 fn is_in(alloc: Global, item: &Text, list: &Text) -> Result<bool, EvalFault>
-    ensures { Gives result (values.is_in item.now list.now) }
+    ensures { IsEvaluatedAs result (values.is_in item.now list.now) }
 {
     let items = list.split_list(alloc)?;
     Ok(is_among(item, items.as_slice()))
 }
 
 fn test(alloc: Global, operator: TextOperator, left: &Text, right: &Text) -> Result<bool, EvalFault>
-    ensures { Gives result (values.test operator left.now right.now) }
+    ensures { IsEvaluatedAs result (values.test operator left.now right.now) }
 {
     match operator {
         TextOperator::Same => Ok(left.as_str() == right.as_str()),
@@ -193,7 +193,7 @@ fn test(alloc: Global, operator: TextOperator, left: &Text, right: &Text) -> Res
 
 /// What an operator makes of the value behind it.
 pub fn unary_value(alloc: Global, operator: UnaryOperator, value: Value) -> Result<Value, EvalFault>
-    ensures { Gives result (values.unary_value operator value) }
+    ensures { IsEvaluatedAs result (values.unary_value operator value) }
 {
     match operator {
         UnaryOperator::Not => {
@@ -221,7 +221,7 @@ fn arithmetic_value(
     left: &Value,
     right: &Value,
 ) -> Result<Value, EvalFault>
-    ensures { Gives result (values.arithmetic_value operator left.now right.now) }
+    ensures { IsEvaluatedAs result (values.arithmetic_value operator left.now right.now) }
 {
     let left = need_number(NumberOperator::Arithmetic(operator), left)?;
     let right = need_number(NumberOperator::Arithmetic(operator), right)?;
@@ -236,7 +236,7 @@ pub fn binary_value(
     left: Value,
     right: Value,
 ) -> Result<Value, EvalFault>
-    ensures { Gives result (values.binary_value operator left right) }
+    ensures { IsEvaluatedAs result (values.binary_value operator left right) }
 {
     match operator {
         BinaryOperator::Arithmetic(operator) => {

@@ -4,7 +4,7 @@ use Rattle.tcl_vars.specs.Store.{Store, variable_in, element_in}
 use Rattle.tcl_vars.specs.declared.fault.ReadFault.{ReadFault}
 use Rattle.tcl_expr.specs.declared.ask.Ask.{Ask}
 use Rattle.tcl_expr.specs.declared.ask.Ask.TheVariants as ask
-use Rattle.tcl_expr.specs.Evaluation.{Evaluation, Tells, told, is_waiting, state_after}
+use Rattle.tcl_expr.specs.Resuming.{Resumption, Tells, told, is_waiting, state_after}
 use Rattle.tcl_expr.specs.Machine.{AsksBy}
 use Rattle.tcl_control.specs.declared.code.Code.TheVariants.{Normal, Error}
 use Rattle.tcl_control.specs.declared.context.Context.{Context}
@@ -35,28 +35,28 @@ reply_waits level store (ask.Command script) = refl
 reply_waits level store (ask.Value text) = refl
 
 module _ {K : Type 0} where
-  abbrev pub reply_move : ℕ → Evaluation → List (Waiting K) → Reply → Moved K
+  abbrev pub reply_move : ℕ → Resumption → List (Waiting K) → Reply → Moved K
   reply_move room next waits (reply.Given text) = moved (Evaluates room next (Some text)) waits
   reply_move room next waits (reply.Missing text) = moved (Ends Error text) waits
   reply_move room next waits (reply.Script script) = moved (Begins room script) (ForValue room next ∷ waits)
   reply_move room next waits (reply.Value text) = moved (Ends Normal text) waits
 
-  found_move : (room : ℕ) (next : Evaluation) (waits : List (Waiting K)) (name : List ℕ) (value : Result (List ℕ) ReadFault) → reply_move room next waits (found name value) ≡ moved (value_given room next name value) waits
+  found_move : (room : ℕ) (next : Resumption) (waits : List (Waiting K)) (name : List ℕ) (value : Result (List ℕ) ReadFault) → reply_move room next waits (found name value) ≡ moved (value_given room next name value) waits
   found_move room next waits name (Ok text) = refl
   found_move room next waits name (Err fault) = refl
 
-  asked_moves : (level : ℕ) (store : Store) (room : ℕ) (next : Evaluation) (waits : List (Waiting K)) (asked : Ask) → reply_move room next waits (reply_to level store asked) ≡ asked_move level store room next waits asked
+  asked_moves : (level : ℕ) (store : Store) (room : ℕ) (next : Resumption) (waits : List (Waiting K)) (asked : Ask) → reply_move room next waits (reply_to level store asked) ≡ asked_move level store room next waits asked
   asked_moves level store room next waits (ask.Variable name) = found_move room next waits name (variable_in store level name)
   asked_moves level store room next waits (ask.Element array index) = found_move room next waits (element_name array index) (element_in store level array index)
   asked_moves level store room next waits (ask.Command script) = refl
   asked_moves level store room next waits (ask.Value text) = refl
 
   -- one move leads on by the reply
-  abbrev pub RepliesBy : Store → Context → ℕ → List (Waiting K) → Evaluation → Option (List ℕ) → Evaluation → Reply → Type 0
+  abbrev pub RepliesBy : Store → Context → ℕ → List (Waiting K) → Resumption → Option (List ℕ) → Resumption → Reply → Type 0
   RepliesBy store context room waits evaluation given next replied =
       Moves (standing (moved (Evaluates room evaluation given) waits) store context) (standing (reply_move room next waits replied) store context) × (is_waiting next.state ≡ waits_for replied)
 
-  pub replies_by : (store : Store) (context : Context) (room : ℕ) (waits : List (Waiting K)) (evaluation : Evaluation) (given : Option (List ℕ)) (next : Evaluation) (level : ℕ) (asked : Ask) (replied : Reply)
+  pub replies_by : (store : Store) (context : Context) (room : ℕ) (waits : List (Waiting K)) (evaluation : Resumption) (given : Option (List ℕ)) (next : Resumption) (level : ℕ) (asked : Ask) (replied : Reply)
       → level ≡ here context.levels store → Tells (told evaluation given) (Ok asked) next → AsksBy evaluation.steps asked next.steps → replied ≡ reply_to level store asked
       → RepliesBy store context room waits evaluation given next replied
   replies_by store context room waits evaluation given next level asked replied at_level tells asks is =

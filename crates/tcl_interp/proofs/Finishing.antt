@@ -9,7 +9,7 @@ use Rattle.tcl_control.specs.declared.code.Code.TheVariants.{Normal, Error, Retu
 use Rattle.tcl_control.specs.declared.turns.Turning.{Turning}
 use Rattle.tcl_control.specs.Texts.{element_name, limit_text}
 use Rattle.tcl_shapes.specs.declared.branches.Branch.{Branch}
-use Rattle.tcl_expr.specs.Evaluation.{told}
+use Rattle.tcl_expr.specs.Resuming.{told}
 use Rattle.tcl_interp.specs.Outside.{Outside}
 use Rattle.tcl_interp.specs.Evaluation.{State, Outcome, Ended, OutOfSteps, level_of, words_of, on_words, element_read, index_depth, element_meaning, with_joined, word_meaning, words_meaning, called}
 use Rattle.tcl_interp.specs.Expressions.{if_holds, choices_meaning}

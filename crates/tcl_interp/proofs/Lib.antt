@@ -3,6 +3,7 @@ pub mod Answering
 pub mod Bounds
 pub mod ChoiceLemmas
 pub mod Finishing
+pub mod IndexLemmas
 pub mod Same
 pub mod Settled
 pub mod Stepping

@@ -12,16 +12,18 @@ use Rattle.tcl_control.specs.declared.code.Code.{Code}
 use Rattle.tcl_control.specs.declared.code.Code.TheVariants.{Normal, Error, Return, Break, Continue}
 use Rattle.tcl_control.specs.declared.context.Context.{Context}
 use Rattle.tcl_control.specs.declared.turns.Turning.{Turning}
-use Rattle.tcl_control.specs.Expressions.{tree_or_text, expression_of, begun, evaluation_begins, truth_of}
+use Rattle.tcl_control.specs.Expressions.{tree_or_text, truth_of}
+use Rattle.tcl_control.specs.ExpressionForms.{begun, evaluation_begins}
 use Rattle.tcl_shapes.specs.declared.branches.Branch.{Branch}
 use Rattle.tcl_expr.specs.declared.ask.Ask.{Ask}
 use Rattle.tcl_expr.specs.declared.ask.Ask.TheVariants as ask
 use Rattle.tcl_expr.specs.declared.fault.EvalFault.{EvalFault}
 use Rattle.tcl_expr.specs.declared.fault.ExprFault.{ExprFault}
-use Rattle.tcl_expr.specs.Evaluation.{Evaluation, answered}
+use Rattle.tcl_expr.specs.Resuming.{Resumption, answered}
 use Rattle.tcl_expr.specs.Reading.{tree_of, compiled_by}
 use Rattle.tcl_expr.specs.Trees.{Tree}
 use Rattle.tcl_control.specs.Source.{script_of}
+use Rattle.tcl_control.proofs.ExpressionLemmas.{expression_walk}
 use Rattle.tcl_control.specs.Texts.{limit_text, element_name}
 use Rattle.tcl_expr.proofs.CompileLemmas.{execute_whole}
 use Rattle.tcl_interp.specs.Outside.{Outside}
@@ -207,15 +209,16 @@ module _ {S K : Type 0} (outside : Outside S K) where
   begun_same room text waits state (Err fault) = refl
 
   pub expression_same : (room : ℕ) (text : List ℕ) (waits : List (Waiting K)) (state : State S) → and_then (expression_meaning (run_in room) text state) (waits_meaning outside waits) ≡ finish_moved (moved (expression_begins room text) waits) state
-  unfolding expression_of evaluation_begins tree_of
-  expression_same room text waits state = begun_same room text waits state (tree_of text)
+  unfolding evaluation_begins tree_of
+  expression_same room text waits state =
+      ap (λ tree. and_then (tree_meaning (run_in room) state tree) (waits_meaning outside waits)) (expression_walk text) ∙ begun_same room text waits state (tree_of text)
 
-  given_same : (room : ℕ) (next : Evaluation) (name : List ℕ) (waits : List (Waiting K)) (state : State S) (value : Result (List ℕ) ReadFault)
+  given_same : (room : ℕ) (next : Resumption) (name : List ℕ) (waits : List (Waiting K)) (state : State S) (value : Result (List ℕ) ReadFault)
       → and_then (on_read name state (λ state' text. run_meaning (run_in room) (answered next text) state') value) (waits_meaning outside waits) ≡ finish_moved (moved (value_given room next name value) waits) state
   given_same room next name waits state (Ok value) = refl
   given_same room next name waits state (Err fault) = refl
 
-  answer_same : (room : ℕ) (next : Evaluation) (waits : List (Waiting K)) (state : State S) (answer : Result Ask EvalFault)
+  answer_same : (room : ℕ) (next : Resumption) (waits : List (Waiting K)) (state : State S) (answer : Result Ask EvalFault)
       → and_then (run_meaning (run_in room) (told_run answer next) state) (waits_meaning outside waits) ≡ finish_moved (answer_move (level_of state) state.store room next waits answer) state
   answer_same room next waits state (Ok (ask.Variable name)) = given_same room next name waits state (variable_in state.store (level_of state) name)
   answer_same room next waits state (Ok (ask.Element array index)) = given_same room next (element_name array index) waits state (element_in state.store (level_of state) array index)
@@ -223,7 +226,7 @@ module _ {S K : Type 0} (outside : Outside S K) where
   answer_same room next waits state (Ok (ask.Value text)) = refl
   answer_same room next waits state (Err fault) = refl
 
-  evaluation_same : (room : ℕ) (evaluation : Evaluation) (given : Option (List ℕ)) (waits : List (Waiting K)) (state : State S) (after : Moved K) → EvaluationMoves (level_of state) state.store room evaluation given waits after
+  evaluation_same : (room : ℕ) (evaluation : Resumption) (given : Option (List ℕ)) (waits : List (Waiting K)) (state : State S) (after : Moved K) → EvaluationMoves (level_of state) state.store room evaluation given waits after
       → and_then (value_rest outside room evaluation given state) (waits_meaning outside waits) ≡ finish_moved after state
   evaluation_same room evaluation given waits state after (answer, next, told_so, by, e) =
       ap (λ r. and_then (run_meaning (run_in room) r state) (waits_meaning outside waits)) told_so ∙ answer_same room next waits state answer ∙ ap (λ m. finish_moved m state) (sym e)
@@ -271,7 +274,7 @@ module _ {S K : Type 0} (outside : Outside S K) where
   part_end_same w waits state Break text = refl
   part_end_same w waits state Continue text = refl
 
-  value_end_same : (room : ℕ) (evaluation : Evaluation) (waits : List (Waiting K)) (state : State S) (code : Code) (text : List ℕ) → and_then (waiting_meaning outside (ForValue room evaluation) state code text) (waits_meaning outside waits) ≡ finish_moved (after_value_move room evaluation waits code text) state
+  value_end_same : (room : ℕ) (evaluation : Resumption) (waits : List (Waiting K)) (state : State S) (code : Code) (text : List ℕ) → and_then (waiting_meaning outside (ForValue room evaluation) state code text) (waits_meaning outside waits) ≡ finish_moved (after_value_move room evaluation waits code text) state
   value_end_same room evaluation waits state Normal text = refl
   value_end_same room evaluation waits state Error text = refl
   value_end_same room evaluation waits state (Return code) text = refl

@@ -11,14 +11,15 @@ use Rattle.tcl_control.specs.declared.code.Code.{Code}
 use Rattle.tcl_control.specs.declared.code.Code.TheVariants.{Normal, Error, Return, Break, Continue}
 use Rattle.tcl_control.specs.declared.context.Context.{Context}
 use Rattle.tcl_control.specs.declared.turns.Turning.{Turning}
-use Rattle.tcl_control.specs.Expressions.{evaluation_begins, truth_of}
+use Rattle.tcl_control.specs.Expressions.{truth_of}
+use Rattle.tcl_control.specs.ExpressionForms.{evaluation_begins}
 use Rattle.tcl_shapes.specs.declared.branches.Branch.{Branch}
 use Rattle.tcl_expr.specs.declared.ask.Ask.{Ask}
 use Rattle.tcl_expr.specs.declared.ask.Ask.TheVariants as ask
 use Rattle.tcl_expr.specs.declared.fault.EvalFault.{EvalFault}
 use Rattle.tcl_expr.specs.declared.step.Step.{Step}
 use Rattle.tcl_expr.specs.declared.step.Step.TheVariants as step
-use Rattle.tcl_expr.specs.Evaluation.{Evaluation}
+use Rattle.tcl_expr.specs.Resuming.{Resumption}
 use Rattle.tcl_expr.specs.Machine.{AsksBy, weight as steps_weight}
 use Rattle.tcl_expr.proofs.StepLemmas.{weighs_less}
 use Rattle.tcl_control.specs.Levels.{here}
@@ -114,11 +115,11 @@ step_weight room (step.Command script) = suc (script_weight room script)
 step_weight room _ = 1
 
 -- what is left of an evaluation
-abbrev pub evaluation_weight : ℕ → Evaluation → ℕ
+abbrev pub evaluation_weight : ℕ → Resumption → ℕ
 evaluation_weight room evaluation = 2 + steps_weight (step_weight room) evaluation.steps
 
 -- an expression that begins
-abbrev pub begun_weight : ℕ → Result Evaluation (List ℕ) → ℕ
+abbrev pub begun_weight : ℕ → Result Resumption (List ℕ) → ℕ
 begun_weight room (Ok evaluation) = evaluation_weight room evaluation
 begun_weight room (Err text) = 1
 
@@ -252,7 +253,7 @@ module _ {K : Type 0} where
 
   -- ── expressions ──
 
-  begun_light : (room : ℕ) (begun : Result Evaluation (List ℕ)) (waits : List (Waiting K)) → weight (moved (begun_as room begun) waits) ≡ begun_weight room begun + waits_weight waits
+  begun_light : (room : ℕ) (begun : Result Resumption (List ℕ)) (waits : List (Waiting K)) → weight (moved (begun_as room begun) waits) ≡ begun_weight room begun + waits_weight waits
   begun_light room (Ok evaluation) waits = refl
   begun_light room (Err text) waits = refl
 
@@ -264,7 +265,7 @@ module _ {K : Type 0} where
   choice_light room [] otherwise waits = otherwise_light room otherwise waits
   choice_light room (branch ∷ branches) otherwise waits = begun_light room (evaluation_begins branch.test) (ForChoice room (branch ∷ branches) otherwise ∷ waits) ∙ omega arith
 
-  given_light : (room : ℕ) (evaluation : Evaluation) (name : List ℕ) (value : Result (List ℕ) ReadFault) (waits : List (Waiting K)) → weight (moved (value_given room evaluation name value) waits) ≤ evaluation_weight room evaluation + waits_weight waits
+  given_light : (room : ℕ) (evaluation : Resumption) (name : List ℕ) (value : Result (List ℕ) ReadFault) (waits : List (Waiting K)) → weight (moved (value_given room evaluation name value) waits) ≤ evaluation_weight room evaluation + waits_weight waits
   given_light room evaluation name (Ok value) waits = omega arith
   given_light room evaluation name (Err fault) waits = omega arith
 
@@ -272,14 +273,14 @@ module _ {K : Type 0} where
   choice_positive room [] otherwise waits = omega arith
   choice_positive room (branch ∷ branches) otherwise waits = omega arith
 
-  asked_lighter : (level : ℕ) (store : Store) (room : ℕ) (before after : Evaluation) (waits : List (Waiting K)) (asked : Ask) → AsksBy before.steps asked after.steps → weight (asked_move level store room after waits asked) < evaluation_weight room before + waits_weight waits
+  asked_lighter : (level : ℕ) (store : Store) (room : ℕ) (before after : Resumption) (waits : List (Waiting K)) (asked : Ask) → AsksBy before.steps asked after.steps → weight (asked_move level store room after waits asked) < evaluation_weight room before + waits_weight waits
   asked_lighter level store room before after waits (ask.Variable name) by = omega (arith, weighs_less (step_weight room) before.steps after.steps (ask.Variable name) by, given_light room after name (variable_in store level name) waits)
   asked_lighter level store room before after waits (ask.Element array index) by =
       omega (arith, weighs_less (step_weight room) before.steps after.steps (ask.Element array index) by, given_light room after (element_name array index) (element_in store level array index) waits)
   asked_lighter level store room before after waits (ask.Command script) by = omega (arith, weighs_less (step_weight room) before.steps after.steps (ask.Command script) by)
   asked_lighter level store room before after waits (ask.Value text) by = omega arith
 
-  answer_lighter : (level : ℕ) (store : Store) (room : ℕ) (before after : Evaluation) (waits : List (Waiting K)) (answer : Result Ask EvalFault) → IfOk answer (λ asked. AsksBy before.steps asked after.steps) → weight (answer_move level store room after waits answer) < evaluation_weight room before + waits_weight waits
+  answer_lighter : (level : ℕ) (store : Store) (room : ℕ) (before after : Resumption) (waits : List (Waiting K)) (answer : Result Ask EvalFault) → IfOk answer (λ asked. AsksBy before.steps asked after.steps) → weight (answer_move level store room after waits answer) < evaluation_weight room before + waits_weight waits
   answer_lighter level store room before after waits (Ok asked) by = asked_lighter level store room before after waits asked by
   answer_lighter level store room before after waits (Err fault) by = omega arith
 
@@ -373,7 +374,7 @@ module _ {K : Type 0} where
   end_lighter store context code text (ForScript room task) waits = omega arith
   end_lighter store context code text ForAll waits = global_lighter waits (out_of_global code) text
 
-  evaluation_lighter : (level : ℕ) (store : Store) (room : ℕ) (evaluation : Evaluation) (given : Option (List ℕ)) (waits : List (Waiting K)) (after : Moved K) → EvaluationMoves level store room evaluation given waits after → weight after < evaluation_weight room evaluation + waits_weight waits
+  evaluation_lighter : (level : ℕ) (store : Store) (room : ℕ) (evaluation : Resumption) (given : Option (List ℕ)) (waits : List (Waiting K)) (after : Moved K) → EvaluationMoves level store room evaluation given waits after → weight after < evaluation_weight room evaluation + waits_weight waits
   evaluation_lighter level store room evaluation given waits after (answer, next, told, by, e) = rw e (answer_lighter level store room evaluation next waits answer by)
 
   quiet_lighter_by : (store : Store) (context : Context) (doing : Doing K) (waits : List (Waiting K)) (n : Standing K) → IsQuietBy doing waits → MovesBy store context doing waits n → weight n.moved < weight (moved doing waits)
@@ -503,7 +504,7 @@ module _ {K : Type 0} (size : K → ℕ) where
   part_tasks level store w waits Break text = omega arith
   part_tasks level store w waits Continue text = omega arith
 
-  begun_tasks : (room : ℕ) (begun : Result Evaluation (List ℕ)) → doing_tasks (begun_as room begun) ≡ 0
+  begun_tasks : (room : ℕ) (begun : Result Resumption (List ℕ)) → doing_tasks (begun_as room begun) ≡ 0
   begun_tasks room (Ok evaluation) = refl
   begun_tasks room (Err text) = refl
 
@@ -515,18 +516,18 @@ module _ {K : Type 0} (size : K → ℕ) where
   choice_tasks room [] otherwise waits = otherwise_tasks room otherwise waits
   choice_tasks room (branch ∷ branches) otherwise waits = omega (arith, begun_tasks room (evaluation_begins branch.test))
 
-  given_tasks : (room : ℕ) (evaluation : Evaluation) (name : List ℕ) (value : Result (List ℕ) ReadFault) → doing_tasks (value_given room evaluation name value) ≡ 0
+  given_tasks : (room : ℕ) (evaluation : Resumption) (name : List ℕ) (value : Result (List ℕ) ReadFault) → doing_tasks (value_given room evaluation name value) ≡ 0
   given_tasks room evaluation name (Ok value) = refl
   given_tasks room evaluation name (Err fault) = refl
 
-  answer_tasks : (level : ℕ) (store : Store) (room : ℕ) (evaluation : Evaluation) (waits : List (Waiting K)) (answer : Result Ask EvalFault) → tasks (answer_move level store room evaluation waits answer) ≡ waits_tasks waits
+  answer_tasks : (level : ℕ) (store : Store) (room : ℕ) (evaluation : Resumption) (waits : List (Waiting K)) (answer : Result Ask EvalFault) → tasks (answer_move level store room evaluation waits answer) ≡ waits_tasks waits
   answer_tasks level store room evaluation waits (Ok (ask.Variable name)) = omega (arith, given_tasks room evaluation name (variable_in store level name))
   answer_tasks level store room evaluation waits (Ok (ask.Element array index)) = omega (arith, given_tasks room evaluation (element_name array index) (element_in store level array index))
   answer_tasks level store room evaluation waits (Ok (ask.Command script)) = omega arith
   answer_tasks level store room evaluation waits (Ok (ask.Value text)) = omega arith
   answer_tasks level store room evaluation waits (Err fault) = omega arith
 
-  value_tasks : (room : ℕ) (evaluation : Evaluation) (waits : List (Waiting K)) (code : Code) (text : List ℕ) → tasks (after_value_move room evaluation waits code text) ≡ waits_tasks waits
+  value_tasks : (room : ℕ) (evaluation : Resumption) (waits : List (Waiting K)) (code : Code) (text : List ℕ) → tasks (after_value_move room evaluation waits code text) ≡ waits_tasks waits
   value_tasks room evaluation waits Normal text = omega arith
   value_tasks room evaluation waits Error text = omega arith
   value_tasks room evaluation waits (Return code) text = omega arith
@@ -607,7 +608,7 @@ module _ {K : Type 0} (size : K → ℕ) where
   end_tasks store context code text (ForScript room task) waits = refl
   end_tasks store context code text ForAll waits = omega (arith, global_tasks waits (out_of_global code) text)
 
-  evaluation_tasks : (level : ℕ) (store : Store) (room : ℕ) (evaluation : Evaluation) (given : Option (List ℕ)) (waits : List (Waiting K)) (after : Moved K) → EvaluationMoves level store room evaluation given waits after → tasks after ≡ waits_tasks waits
+  evaluation_tasks : (level : ℕ) (store : Store) (room : ℕ) (evaluation : Resumption) (given : Option (List ℕ)) (waits : List (Waiting K)) (after : Moved K) → EvaluationMoves level store room evaluation given waits after → tasks after ≡ waits_tasks waits
   evaluation_tasks level store room evaluation given waits after (answer, next, told, by, e) = ap tasks e ∙ answer_tasks level store room next waits answer
 
   quiet_tasks_by : (store : Store) (context : Context) (doing : Doing K) (waits : List (Waiting K)) (n : Standing K) → MovesBy store context doing waits n → tasks n.moved ≡ tasks (moved doing waits)

@@ -1,4 +1,4 @@
--- What a move of the interpreter comes to, or several.
+-- Steps. What a move of the interpreter comes to, or several.
 use Rattle.std.specs.Prelude.{◌≡◌, List}
 use Rattle.tcl_vars.specs.Store.{Store}
 use Rattle.tcl_control.specs.declared.context.Context.{Context}

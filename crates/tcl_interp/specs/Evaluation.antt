@@ -1,4 +1,4 @@
--- The evaluation of words and of commands in order, where it is given how a script and how a command is run.
+-- Meaning. The evaluation of words and of commands in order, where it is given how a script and how a command is run.
 use Rattle.std.specs.Prelude.{ℕ, zero, suc, Bool, List, [], ◌∷◌, ◌++◌, length, nat_le, if◌then◌else◌, Result, Ok, Err}
 use Rattle.tcl_text.specs.Readings.{list_of}
 use Rattle.tcl_text.specs.Splitting.{fault_text as list_text}
@@ -10,7 +10,7 @@ use Rattle.tcl_words.specs.declared.script.Piece.TheVariants.{Literal, Variable,
 use Rattle.tcl_words.specs.declared.fault.ParseFault.{ParseFault}
 use Rattle.tcl_words.specs.declared.fault.ParseFault.TheVariants.{TooLong}
 use Rattle.tcl_words.specs.Faults.{text_of}
-use Rattle.tcl_words.specs.Reading.{index_pieces_of}
+use Rattle.tcl_words.proofs.Parses.{one_index_parse}
 use Rattle.tcl_vars.specs.Store.{Store, variable_in, element_in}
 use Rattle.tcl_vars.specs.declared.fault.ReadFault.{ReadFault}
 use Rattle.tcl_control.specs.declared.code.Code.{Code}
@@ -77,9 +77,10 @@ abbrev pub on_words : {S : Type 0} → State S → (State S → List (List ℕ) 
 on_words state after (Ok words) = after state words
 on_words state after (Err text) = Ended state Error text
 
--- the pieces of the index of an element, or its fault
+-- What a text is as the index of an element: its pieces, or its fault. It is the one thing that the grammar of scripts relates to
+-- the text (`IsIndexParse` in tcl_words), as the type of `one_index_parse` says.
 unfoldable pub index_pieces : List ℕ → Result (List Piece) ParseFault
-index_pieces text = index_pieces_of text
+index_pieces text = (one_index_parse text).it
 
 -- an element is read, whose index is whole
 abbrev pub element_read : {S : Type 0} → List ℕ → State S → List ℕ → Outcome S

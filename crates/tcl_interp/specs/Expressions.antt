@@ -1,4 +1,4 @@
--- The values of expressions: what an evaluation asks for is answered by the variables, and by running scripts.
+-- Meaning. The values of expressions: what an evaluation asks for is answered by the variables, and by running scripts.
 use Rattle.std.specs.Prelude.{ℕ, Bool, true, false, List, [], ◌∷◌, Option, Some, None, Result, Ok, Err}
 use Rattle.tcl_vars.specs.Store.{element_in}
 use Rattle.tcl_shapes.specs.declared.branches.Branch.{Branch}

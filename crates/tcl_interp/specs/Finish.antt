@@ -1,4 +1,4 @@
--- What an interpreter still has to do, and the outcome of doing it, innermost first.
+-- Steps. What an interpreter still has to do, and the outcome of doing it, innermost first.
 use Rattle.std.specs.Prelude.{ℕ, Bool, List, [], ◌∷◌, ◌++◌, Option, Some, codes}
 use Rattle.tcl_words.specs.declared.script.Command.{Command}
 use Rattle.tcl_words.specs.declared.script.Word.{Word}
@@ -7,7 +7,7 @@ use Rattle.tcl_control.specs.declared.code.Code.{Code}
 use Rattle.tcl_control.specs.declared.code.Code.TheVariants.{Normal, Error, Break, Continue}
 use Rattle.tcl_control.specs.declared.turns.Turning.{Turning}
 use Rattle.tcl_shapes.specs.declared.branches.Branch.{Branch}
-use Rattle.tcl_expr.specs.Evaluation.{Evaluation, told}
+use Rattle.tcl_expr.specs.Resuming.{Resumption, told}
 use Rattle.tcl_interp.specs.Outside.{Outside}
 use Rattle.tcl_interp.specs.Evaluation.{State, Outcome, Ended, OutOfSteps, and_then, on_normal, with_step, with_joined, words_of, on_words, pieces_meaning, element_read, element_meaning, word_meaning, words_meaning, called, commands_meaning}
 use Rattle.tcl_interp.specs.Expressions.{value_ended, on_value, if_holds, run_meaning, otherwise_meaning, choices_meaning}
@@ -40,7 +40,7 @@ pub data Doing (K : Type 0) : Type 0 where
   GoesOn : ℕ → List Command → List ℕ → Doing K
   Indexes : Indexing → Doing K
   -- an evaluation, with the answer to what it asked
-  Evaluates : ℕ → Evaluation → Option (List ℕ) → Doing K
+  Evaluates : ℕ → Resumption → Option (List ℕ) → Doing K
   Calls : ℕ → List (List ℕ) → Doing K
   Tests : ℕ → Turning → Doing K
   Steps : ℕ → K → Doing K
@@ -56,7 +56,7 @@ pub data Waiting (K : Type 0) : Type 0 where
   -- an index, for a bracket or an element in it
   ForIndex : Indexing → Waiting K
   -- an evaluation, for a bracket in it
-  ForValue : ℕ → Evaluation → Waiting K
+  ForValue : ℕ → Resumption → Waiting K
   -- a loop, for the value of its condition
   ForTest : ℕ → Turning → Waiting K
   -- `if`, for the value of the first condition: its branches from there on, and its last body
@@ -129,7 +129,7 @@ module _ {S K : Type 0} (outside : Outside S K) where
   loop_rest room turning state = loop_meaning (script_meaning outside room) turning state
 
   -- what is left of an evaluation
-  abbrev pub value_rest : ℕ → Evaluation → Option (List ℕ) → State S → Outcome S
+  abbrev pub value_rest : ℕ → Resumption → Option (List ℕ) → State S → Outcome S
   value_rest room evaluation given state = run_meaning (script_meaning outside room) (told evaluation given) state
 
   -- the first branch of `if`, by whether its condition holds

@@ -1,4 +1,4 @@
--- The moves of the interpreter: what is done, what waits, the variables and the context after each.
+-- Steps. The moves of the interpreter: what is done, what waits, the variables and the context after each.
 use Rattle.std.specs.Prelude.{ℕ, ◌-◌, ◌==◌, Bool, true, false, List, [], ◌∷◌, ◌++◌, length, nat_le, if◌then◌else◌, Option, Some, None, Result, Ok, Err, codes}
 use Rattle.tcl_words.specs.declared.script.Command.{Command}
 use Rattle.tcl_words.specs.declared.script.Word.{Word}
@@ -12,7 +12,7 @@ use Rattle.tcl_shapes.specs.declared.branches.Branch.{Branch}
 use Rattle.tcl_expr.specs.declared.ask.Ask.{Ask}
 use Rattle.tcl_expr.specs.declared.ask.Ask.TheVariants as ask
 use Rattle.tcl_expr.specs.declared.fault.EvalFault.{EvalFault}
-use Rattle.tcl_expr.specs.Evaluation.{Evaluation}
+use Rattle.tcl_expr.specs.Resuming.{Resumption}
 use Rattle.tcl_expr.specs.Messages.{eval_message}
 use Rattle.tcl_vars.specs.declared.fault.ReadFault.{ReadFault}
 use Rattle.tcl_control.specs.declared.code.Code.{Code}
@@ -23,7 +23,8 @@ use Rattle.tcl_control.specs.declared.plan.Plan.TheVariants as plan
 use Rattle.tcl_control.specs.declared.turns.Test.{Test}
 use Rattle.tcl_control.specs.declared.turns.Test.TheVariants.{Holds, Items}
 use Rattle.tcl_control.specs.declared.turns.Turning.{Turning}
-use Rattle.tcl_control.specs.Expressions.{evaluation_begins, truth_of}
+use Rattle.tcl_control.specs.Expressions.{truth_of}
+use Rattle.tcl_control.specs.ExpressionForms.{evaluation_begins}
 use Rattle.tcl_control.specs.Commands.{Ending, caught_ending}
 use Rattle.tcl_control.specs.Levels.{here, popped}
 use Rattle.tcl_control.specs.Source.{script_of}
@@ -156,7 +157,7 @@ module _ {K : Type 0} where
   -- ── expressions ──
 
   -- an evaluation begins, unless the expression has a fault
-  abbrev pub begun_as : ℕ → Result Evaluation (List ℕ) → Doing K
+  abbrev pub begun_as : ℕ → Result Resumption (List ℕ) → Doing K
   begun_as room (Ok evaluation) = Evaluates room evaluation None
   begun_as room (Err text) = Ends Error text
 
@@ -164,18 +165,18 @@ module _ {K : Type 0} where
   expression_begins room text = begun_as room (evaluation_begins text)
 
   -- it goes on with the value of a variable of this name
-  abbrev pub value_given : ℕ → Evaluation → List ℕ → Result (List ℕ) ReadFault → Doing K
+  abbrev pub value_given : ℕ → Resumption → List ℕ → Result (List ℕ) ReadFault → Doing K
   value_given room evaluation name (Ok value) = Evaluates room evaluation (Some value)
   value_given room evaluation name (Err fault) = Ends Error (cannot_read name fault)
 
   -- it has asked for something, or has ended
-  abbrev pub asked_move : ℕ → Store → ℕ → Evaluation → List (Waiting K) → Ask → Moved K
+  abbrev pub asked_move : ℕ → Store → ℕ → Resumption → List (Waiting K) → Ask → Moved K
   asked_move level store room evaluation waits (ask.Variable name) = moved (value_given room evaluation name (variable_in store level name)) waits
   asked_move level store room evaluation waits (ask.Element array index) = moved (value_given room evaluation (element_name array index) (element_in store level array index)) waits
   asked_move level store room evaluation waits (ask.Command script) = moved (Begins room script) (ForValue room evaluation ∷ waits)
   asked_move level store room evaluation waits (ask.Value text) = moved (Ends Normal text) waits
 
-  abbrev pub answer_move : ℕ → Store → ℕ → Evaluation → List (Waiting K) → Result Ask EvalFault → Moved K
+  abbrev pub answer_move : ℕ → Store → ℕ → Resumption → List (Waiting K) → Result Ask EvalFault → Moved K
   answer_move level store room evaluation waits (Ok asked) = asked_move level store room evaluation waits asked
   answer_move level store room evaluation waits (Err fault) = moved (Ends Error (eval_message fault)) waits
 
@@ -224,7 +225,7 @@ module _ {K : Type 0} where
   after_index x waits Normal text = moved (longer_index x text) waits
   after_index x waits code text = moved (Ends code text) waits
 
-  abbrev pub after_value_move : ℕ → Evaluation → List (Waiting K) → Code → List ℕ → Moved K
+  abbrev pub after_value_move : ℕ → Resumption → List (Waiting K) → Code → List ℕ → Moved K
   after_value_move room evaluation waits Normal text = moved (Evaluates room evaluation (Some text)) waits
   after_value_move room evaluation waits code text = moved (Ends code text) waits
 

@@ -1,4 +1,4 @@
--- What the commands do that run scripts: the meaning of a plan.
+-- Meaning. What the commands do that run scripts: the meaning of a plan.
 use Rattle.std.specs.Prelude.{ℕ, zero, suc, List, [], ◌++◌, take, drop, Option, Some, None, codes}
 use Rattle.tcl_vars.specs.Store.{Store}
 use Rattle.tcl_control.specs.declared.code.Code.{Code}

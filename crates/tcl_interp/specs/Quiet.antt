@@ -1,9 +1,9 @@
--- Moves in a row, up to where a step, a task or the end is due.
+-- Steps. Moves in a row, up to where a step, a task or the end is due.
 use Rattle.std.specs.Prelude.{◌≡◌, ◌≢◌, ℕ, zero, suc, List, [], ◌∷◌, Option, Result, Ok, Err, IfOk}
 use Rattle.tcl_vars.specs.Store.{Store}
 use Rattle.tcl_expr.specs.declared.ask.Ask.{Ask}
 use Rattle.tcl_expr.specs.declared.fault.EvalFault.{EvalFault}
-use Rattle.tcl_expr.specs.Evaluation.{Evaluation, told, answered}
+use Rattle.tcl_expr.specs.Resuming.{Resumption, told, answered}
 use Rattle.tcl_expr.specs.Machine.{AsksBy}
 use Rattle.tcl_expr.specs.Run.{Run, Ends as RunEnds, asks}
 use Rattle.tcl_control.specs.declared.code.Code.{Code}
@@ -13,7 +13,7 @@ use Rattle.tcl_interp.specs.Finish.{Doing, Begins, GoesOn, Indexes, Evaluates, E
 use Rattle.tcl_interp.specs.Moves.{Moved, Standing, moved, standing, begin_move, go_on_move, indexes_move, answer_move, end_move}
 
 -- what was to come of an evaluation that answers so
-abbrev pub told_run : Result Ask EvalFault → Evaluation → Run
+abbrev pub told_run : Result Ask EvalFault → Resumption → Run
 told_run (Ok asked) next = asks asked (answered next)
 told_run (Err fault) next = RunEnds (Err fault)
 
@@ -31,9 +31,9 @@ module _ {K : Type 0} where
   quiet_by store context doing waits = standing (moved doing waits) store context
 
   -- an evaluation goes on, up to where it asks for something or ends
-  abbrev pub EvaluationMoves : ℕ → Store → ℕ → Evaluation → Option (List ℕ) → List (Waiting K) → Moved K → Type 0
+  abbrev pub EvaluationMoves : ℕ → Store → ℕ → Resumption → Option (List ℕ) → List (Waiting K) → Moved K → Type 0
   EvaluationMoves level store room evaluation given waits after =
-      (answer : Result Ask EvalFault) × (next : Evaluation) × (told evaluation given ≡ told_run answer next) × IfOk answer (λ asked. AsksBy evaluation.steps asked next.steps) × (after ≡ answer_move level store room next waits answer)
+      (answer : Result Ask EvalFault) × (next : Resumption) × (told evaluation given ≡ told_run answer next) × IfOk answer (λ asked. AsksBy evaluation.steps asked next.steps) × (after ≡ answer_move level store room next waits answer)
 
   abbrev pub MovesBy : Store → Context → Doing K → List (Waiting K) → Standing K → Type 0
   MovesBy store context (Evaluates room evaluation given) waits after =

@@ -1,4 +1,4 @@
--- What an evaluation gets for what it asked.
+-- Steps. What an evaluation gets for what it asked.
 use Rattle.std.specs.Prelude.{ℕ, List, Result, Ok, Err}
 use Rattle.tcl_vars.specs.Store.{Store, variable_in, element_in}
 use Rattle.tcl_vars.specs.declared.fault.ReadFault.{ReadFault}

@@ -1,4 +1,4 @@
--- What the parts of the interpreter stand for.
+-- Steps. What the parts of the interpreter stand for.
 use Rattle.std.specs.Prelude.{◌≡◌, ℕ, ◌+◌, Bool, false, List, [], ◌∷◌, map, reverse, drop, Result, Ok, Err}
 use Rattle.tcl_words.specs.declared.script.Command.{Command}
 use Rattle.tcl_words.specs.declared.script.Word.{Word}
@@ -7,7 +7,7 @@ use Rattle.tcl_words.specs.declared.fault.ParseFault.{ParseFault}
 use Rattle.tcl_vars.specs.Store.{Store}
 use Rattle.tcl_control.specs.declared.context.Context.{Context}
 use Rattle.tcl_control.specs.Source.{script_of}
-use Rattle.tcl_interp.specs.declared.machine.Place.{Place}
+use Rattle.tcl_interp.specs.declared.machine.ScriptPlace.{ScriptPlace}
 use Rattle.tcl_interp.specs.declared.machine.Wording.{Wording as WordsPart}
 use Rattle.tcl_interp.specs.declared.machine.Indexing.{Indexing as IndexPart}
 use Rattle.tcl_interp.specs.declared.machine.Now.{Now}
@@ -35,7 +35,7 @@ abbrev pub commands_in : List ℕ → List Command
 commands_in text = read_commands (script_of text)
 
 -- the commands that are left
-abbrev pub left_in : Place → List Command
+abbrev pub left_in : ScriptPlace → List Command
 left_in place = drop place.next (commands_in place.script)
 
 -- the words of the command in front, and the pieces of the word in front

@@ -1,4 +1,4 @@
--- How far a slice comes.
+-- Steps. How far a slice comes.
 use Rattle.std.specs.Prelude.{◌≡◌}
 use Rattle.tcl_interp.specs.declared.machine.Now.{Now}
 use Rattle.tcl_interp.specs.declared.slices.Ran.{Ran}

@@ -1,4 +1,4 @@
--- Steps: what needs one, and what it leads to.
+-- Steps. Steps: what needs one, and what it leads to.
 use Rattle.std.specs.Prelude.{◌≡◌, ℕ, suc, List, []}
 use Rattle.tcl_vars.specs.Store.{Store}
 use Rattle.tcl_control.specs.declared.code.Code.{Code}

@@ -2,7 +2,7 @@
 ghost use Rattle.std.specs.Prelude.{◌≡◌, ◌≢◌, ◌<◌, ◌∷◌, List, drop, length, true, IfOk};
 ghost use Rattle.tcl_vars.specs.Store.{variable_in, element_in};
 ghost use Rattle.tcl_expr.specs.declared.fault.EvalFault.TheVariants.{NoMemory};
-ghost use Rattle.tcl_expr.specs.Evaluation.{is_waiting};
+ghost use Rattle.tcl_expr.specs.Resuming.{is_waiting};
 ghost use Rattle.tcl_expr.specs.Messages.{eval_message};
 ghost use Rattle.tcl_control.specs.declared.code.Code.TheVariants.{Error};
 ghost use Rattle.tcl_control.specs.Expressions.{truth_of};

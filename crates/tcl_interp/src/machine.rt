@@ -1,5 +1,5 @@
 ghost use Rattle.std.specs.Prelude.{◌≡◌, ◌<◌, is_some, length, true};
-ghost use Rattle.tcl_expr.specs.Evaluation.{is_waiting};
+ghost use Rattle.tcl_expr.specs.Resuming.{is_waiting};
 
 use tcl_control::{Choices, Code, Levels, Looping, Source};
 use tcl_expr::Eval;
@@ -8,7 +8,7 @@ use tcl_words::{Index, Script};
 
 /// A script of which the commands before `next` have run, and the room for scripts in it.
 #[derive(Drop)]
-pub struct Place {
+pub struct ScriptPlace {
     pub script: Script,
     pub next: usize,
     pub room: u64,
@@ -18,7 +18,7 @@ pub struct Place {
 /// word before `piece` are joined.
 #[derive(Drop)]
 pub struct Wording {
-    pub place: Place,
+    pub place: ScriptPlace,
     pub word: usize,
     pub piece: usize,
     pub whole: TextList,
@@ -68,7 +68,7 @@ pub enum Now<K> {
         script: Source,
     },
     GoesOn {
-        place: Place,
+        place: ScriptPlace,
         result: Text,
     },
     Indexes(Box<Indexing>),
@@ -103,7 +103,7 @@ pub enum Now<K> {
 /// What waits for something to end, with what is large behind a box.
 #[derive(Drop)]
 pub enum Frame<K> {
-    ForCommand(Place),
+    ForCommand(ScriptPlace),
     ForPart(Box<Wording>),
     ForIndex(Box<Indexing>),
     ForValue { room: u64, asking: Box<Asking> },

@@ -11,7 +11,7 @@ ghost use Rattle.tcl_interp.specs.Advances.{MoveGives};
 ghost use Rattle.tcl_interp.specs.Quiet.{Leads, Stops};
 
 use crate::expressions::{chosen, evaluate, turn};
-use crate::machine::{Answered, Asking, Frame, Now, Place};
+use crate::machine::{Answered, Asking, Frame, Now, ScriptPlace};
 use crate::words::{after_part, go_on, longer_index, put_index, wait};
 use std::alloc::{AllocError, Global};
 use tcl_control::texts::{fault_text, fixed};
@@ -40,13 +40,13 @@ pub fn out_of_global(code: Code) -> Code
 }
 
 /// A script that has been read begins.
-#[tactic(auto, unfolding(tcl_table::specs::Source::script_of))]
+#[tactic(auto, using(tcl_table::proofs::SourceLemmas::script_walk))]
 fn first_command<K>(alloc: Global, script: Script, room: u64) -> Result<Now<K>, AllocError>
     ensures { IfOk result (λ now. (waits : List (Waiting K)) → moved (doing_of now) waits ≡ parsed_move room waits (script_of script)) }
 {
     let _commands = script.commands();
     Ok(Now::GoesOn {
-        place: Place {
+        place: ScriptPlace {
             script,
             next: 0,
             room,
@@ -372,7 +372,7 @@ fn command_ended<K: Drop>(
     scopes: &Scopes,
     context: &Context,
     frames: &mut Vec<Frame<K>>,
-    place: Place,
+    place: ScriptPlace,
     code: Code,
     text: Text,
 ) -> Result<Move<K>, AllocError>

@@ -7,7 +7,7 @@ ghost use Rattle.tcl_interp.specs.Evaluation.{index_depth, split_words, words_of
 ghost use Rattle.tcl_interp.specs.Moves.{with_more, piece_text, word_end, called_move, words_move, element_begins, element_end, indexes_move, longer_index, part_begins, part_move, word_part, go_on_move};
 ghost use Rattle.tcl_interp.specs.Rests.{commands_in, doing_of, expand_in_front, indexing_of, IsSingle, left_in, moved_of, part_of, pieces_in, pieces_in_front, put_end, value_of, waiting_of, waits_of, wording_of, words_in_front};
 
-use crate::machine::{Frame, Indexing, Now, Place, Wording};
+use crate::machine::{Frame, Indexing, Now, ScriptPlace, Wording};
 use std::alloc::{AllocError, Global};
 use tcl_control::texts::{cannot_read, cannot_read_element, fault_text, fixed, limit, list_fault};
 use tcl_control::{Code, Source};
@@ -119,7 +119,7 @@ fn put_pieces(
 }
 
 /// The commands of a script.
-#[tactic(auto, unfolding(tcl_table::specs::Source::script_of))]
+#[tactic(auto, using(tcl_table::proofs::SourceLemmas::script_walk))]
 fn commands(script: &Script) -> &[Command]
     ensures { result.now ≡ commands_in script.now }
 {
@@ -127,7 +127,7 @@ fn commands(script: &Script) -> &[Command]
 }
 
 /// The words of the command that is next.
-fn next_words(place: &Place) -> &[Word]
+fn next_words(place: &ScriptPlace) -> &[Word]
     ensures { result.now ≡ words_in_front (left_in place.now) }
 {
     match commands(&place.script).get(place.next) {
@@ -219,21 +219,21 @@ pub fn wait<K: Drop>(frames: &mut Vec<Frame<K>>, frame: Frame<K>) -> Result<(), 
 }
 
 /// A script past the command that is next.
-fn past_command(place: Place) -> Place
+fn past_command(place: ScriptPlace) -> ScriptPlace
     ensures room { result.room ≡ place.room }
     ensures left { left_in result ≡ drop (place.next + 1) (commands_in place.script) }
 {
-    let Place { script, next, room } = place;
+    let ScriptPlace { script, next, room } = place;
     let count = commands(&script).len();
     let next = if next < count { next + 1 } else { next };
-    Place { script, next, room }
+    ScriptPlace { script, next, room }
 }
 
 /// The command that is next has its words: it is called, or does nothing where it has none.
 fn called<K: Drop>(
     alloc: Global,
     frames: &mut Vec<Frame<K>>,
-    place: Place,
+    place: ScriptPlace,
     whole: TextList,
 ) -> Result<Now<K>, AllocError>
     ensures { IfOk result (λ now. moved_of now frames.new.items ≡ called_move place.room (drop (place.next + 1) (commands_in place.script)) whole (waits_of frames.old.items)) }
@@ -280,7 +280,7 @@ fn put_words<K: Drop>(
     scopes: &Scopes,
     level: usize,
     frames: &mut Vec<Frame<K>>,
-    place: Place,
+    place: ScriptPlace,
     from: usize,
     so_far: TextList,
 ) -> Result<Now<K>, AllocError>
@@ -331,7 +331,7 @@ fn put_words_past<K: Drop>(
     scopes: &Scopes,
     level: usize,
     frames: &mut Vec<Frame<K>>,
-    place: Place,
+    place: ScriptPlace,
     word: usize,
     whole: TextList,
 ) -> Result<Now<K>, AllocError>
@@ -346,7 +346,7 @@ fn put_words_past<K: Drop>(
 }
 
 /// The element of this array is to be read, with indices at most so deep in its index.
-#[tactic(auto, unfolding(crate::specs::Evaluation::index_pieces))]
+#[tactic(auto, using(crate::proofs::IndexLemmas::index_walk))]
 fn element_begins<K: Drop>(
     alloc: Global,
     room: u64,
@@ -397,7 +397,7 @@ fn part_begins<K: Drop>(
 fn word_part<K: Drop>(
     alloc: Global,
     frames: &mut Vec<Frame<K>>,
-    place: Place,
+    place: ScriptPlace,
     word: usize,
     piece: usize,
     whole: TextList,
@@ -419,7 +419,7 @@ fn word_part<K: Drop>(
 }
 
 /// The pieces of an index.
-#[tactic(auto, unfolding(crate::specs::Evaluation::index_pieces))]
+#[tactic(auto, using(crate::proofs::IndexLemmas::index_walk))]
 fn pieces_of(index: &Index) -> &[Piece]
     ensures { result.now ≡ pieces_in index.now }
 {
@@ -583,7 +583,7 @@ pub fn go_on<K: Drop>(
     scopes: &Scopes,
     level: usize,
     frames: &mut Vec<Frame<K>>,
-    place: Place,
+    place: ScriptPlace,
     previous: Text,
 ) -> Result<Now<K>, AllocError>
     requires { level < length scopes.now }

@@ -1,4 +1,4 @@
--- The tasks of jobs come to an end: a script that one of them runs is followed by a smaller one.
+-- Steps. The tasks of jobs come to an end: a script that one of them runs is followed by a smaller one.
 use Rattle.std.specs.Prelude.{ℕ, ◌<◌, List}
 use Rattle.std.proofs.Common.{arith}
 use Rattle.tcl_vars.specs.Store.{Store}

@@ -1,4 +1,4 @@
--- The tasks of jobs, as outside commands of an interpreter.
+-- Meaning. The tasks of jobs, as outside commands of an interpreter.
 use Rattle.std.specs.Prelude.{ℕ, List, [], codes}
 use Rattle.tcl_vars.specs.Store.{Store}
 use Rattle.tcl_control.specs.declared.code.Code.{Code}

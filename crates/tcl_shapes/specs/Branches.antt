@@ -1,4 +1,4 @@
--- The words of `if`, and the pairs of `switch`: bodies, each behind its condition or pattern.
+-- Meaning. The words of `if`, and the pairs of `switch`: bodies, each behind its condition or pattern.
 use Rattle.std.specs.Prelude.{◌≡◌, ℕ, List, [], ◌∷◌, ◌++◌, if◌then◌else◌, Option, Some, None, option_map, codes, bytes_eq}
 use Rattle.tcl_shapes.specs.declared.branches.Branch.{Branch}
 use Rattle.tcl_shapes.specs.declared.branches.Clause.{Clause}

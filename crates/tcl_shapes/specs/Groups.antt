@@ -1,4 +1,4 @@
--- The words of `foreach`: lists of names, each with a list of items.
+-- Meaning. The words of `foreach`: lists of names, each with a list of items.
 use Rattle.std.specs.Prelude.{◌≡◌, ℕ, ◌+◌, ◌-◌, ◌%◌, ◌==◌, nat_lt, Bool, List, [], ◌∷◌, length, if◌then◌else◌, Option, Some, None, Result, Ok, Err, codes}
 use Rattle.tcl_text.specs.Readings.{list_of}
 use Rattle.tcl_text.specs.Splitting.{fault_text as list_text}

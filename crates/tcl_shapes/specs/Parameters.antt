@@ -1,4 +1,4 @@
--- The parameters of procedures.
+-- Meaning. The parameters of procedures.
 use Rattle.std.specs.Prelude.{ℕ, ◌==◌, nat_eq, Bool, false, ◌||◌, not, List, [], ◌∷◌, length, if◌then◌else◌, Option, Some, None, is_some, Result, Ok, Err, codes}
 use Rattle.std.specs.List.{starts_with}
 use Rattle.tcl_text.specs.Readings.{list_of}

@@ -1,4 +1,4 @@
--- How the words of `if` and `foreach` and the pairs of `switch` are cut, as relations on whole lists.
+-- Meaning. How the words of `if` and `foreach` and the pairs of `switch` are cut, as relations on whole lists.
 use Rattle.std.specs.Prelude.{◌≡◌, ◌≢◌, ◌⊎◌, ℕ, zero, suc, List, [], ◌∷◌, ◌++◌, Option, Some, None, codes}
 use Rattle.tcl_text.specs.Readings.{IsList}
 use Rattle.tcl_text.specs.ListFaults.{IsListFault}

@@ -1,4 +1,4 @@
--- The texts of errors.
+-- Meaning. The texts of errors.
 use Rattle.std.specs.Prelude.{ℕ, List, length, nat_le, if◌then◌else◌, codes}
 
 -- in place of a value, or of a message, past 65,536 bytes

@@ -1,2 +1,3 @@
 pub mod NamedLemmas
 pub mod TableLemmas
+pub mod SourceLemmas

@@ -1,4 +1,4 @@
--- Levels: where the frames of a script and of its callers stand among the frames of the variables.
+-- Meaning. Levels: where the frames of a script and of its callers stand among the frames of the variables.
 use Rattle.std.specs.Prelude.{ℕ, ◌-◌, nat_lt, List, length, take, slice_index_or, if◌then◌else◌}
 use Rattle.tcl_vars.specs.Store.{Store}
 

@@ -3,5 +3,6 @@ pub mod Levels
 pub mod Named
 pub mod Names
 pub mod Source
+pub mod SourceForms
 pub mod Table
 pub mod Texts

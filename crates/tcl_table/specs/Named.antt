@@ -1,4 +1,4 @@
--- The entries of a map under text keys, seen by the bytes of the keys.
+-- Steps. The entries of a map under text keys, seen by the bytes of the keys.
 use Rattle.std.specs.Prelude.{ℕ, List, map, String, string_bytes}
 
 abbrev pub named : {Z V : Type 0} → List (String Z × V) → List (List ℕ × V)

@@ -1,4 +1,4 @@
--- The names of commands.
+-- Meaning. The names of commands.
 use Rattle.std.specs.Prelude.{ℕ, Bool, List, drop, nat_eq, if◌then◌else◌, codes}
 use Rattle.std.specs.List.{starts_with}
 

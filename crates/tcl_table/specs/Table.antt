@@ -1,4 +1,4 @@
--- The commands by their names.
+-- Meaning. The commands by their names.
 use Rattle.std.specs.Prelude.{ℕ, Bool, true, false, ◌+◌, List, [], ◌∷◌, map, Option, if◌then◌else◌, Some, codes}
 use Rattle.std.specs.Str.{bytes_eq}
 use Rattle.std.specs.Map.{lookup, remove_entry}

@@ -1,4 +1,4 @@
--- The texts of errors.
+-- Meaning. The texts of errors.
 use Rattle.std.specs.Prelude.{ℕ, List, [], ◌++◌, length, nat_le, if◌then◌else◌, codes}
 use Rattle.tcl_vars.specs.declared.fault.ReadFault.{ReadFault}
 use Rattle.tcl_vars.specs.declared.fault.ReadFault.TheVariants.{NoVariable, NoElement, IsArray, NotArray}

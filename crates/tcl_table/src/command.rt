@@ -106,7 +106,7 @@ impl CommandTable {
 
     /// The commands of a text as a script (Tcl(n)), or its fault (4 to 10). What is read without a fault is kept, at one of 256 places, and
     /// isn't read again as long as it is. A `NoMemory` of the reader is the outer error.
-    #[tactic(auto, unfolding(crate::specs::Source::script_of))]
+    #[tactic(auto, using(crate::proofs::SourceLemmas::script_walk))]
     pub fn read(&mut self, text: &Text) -> Result<Result<Script, ParseFault>, AllocError>
         ensures table { self.new ≡ self.old }
         ensures reading { IfOk result (λ reading. MatchResult reading (λ script. (script ≡ text.now) × IsOk (script_of text.now)) (λ fault. script_of text.now ≡ Err fault)) }

@@ -1,5 +1,5 @@
 //! What was read of scripts and of expressions, kept by their texts, so that what runs again isn't read again.
-ghost use Rattle.std.specs.Prelude.{◌≡◌, ◌<◌, IfOk, IsOk, IfSome, OnOk};
+ghost use Rattle.std.specs.Prelude.{◌≡◌, ◌+◌, ◌<◌, ◌≤◌, length, IfOk, IsOk, IfSome, OnOk};
 ghost use Rattle.tcl_table.specs.Source.{script_of};
 
 use std::alloc::{AllocError, Global};
@@ -19,14 +19,49 @@ pub(crate) fn vacant_places<T: Drop>(alloc: Global) -> Result<Vec<Option<T>>, Al
     Ok(places)
 }
 
-/// How many bytes at each end of a text tell its place.
-const END_BYTES: usize = 16;
+/// How many bytes a word has.
+const WORD: usize = 8;
 
-/// A number mixed with bytes. It may be any number: only how often texts share a place depends on it.
-fn mixed(number: usize, bytes: &[u8]) -> usize {
-    bytes.iter().fold(number, |mixed, byte| {
-        mixed.wrapping_mul(31).wrapping_add(usize::from(*byte))
-    })
+/// A number mixed with another. It may be any number: only how often texts share a place depends on it.
+#[inline]
+fn mixed(number: u64, word: u64) -> u64 {
+    (number.rotate_left(5) ^ word).wrapping_mul(0x517c_c1b7_2722_0a95)
+}
+
+/// The bytes of the word at a place, as a number.
+#[inline]
+fn word_at(bytes: &[u8], at: usize) -> u64
+    requires { at + 8 ≤ length bytes.now }
+{
+    let word = &bytes[at..at + WORD];
+    u64::from_le_bytes([
+        word[0], word[1], word[2], word[3], word[4], word[5], word[6], word[7],
+    ])
+}
+
+/// A number by the words at both ends of bytes, two where there are as many.
+fn ends_mixed(bytes: &[u8]) -> u64
+    requires { 8 ≤ length bytes.now }
+{
+    let last = bytes.len() - WORD;
+    let ends = mixed(
+        mixed(bytes.len() as u64, word_at(bytes, 0)),
+        word_at(bytes, last),
+    );
+    if last < WORD {
+        return ends;
+    }
+    mixed(
+        mixed(ends, word_at(bytes, WORD)),
+        word_at(bytes, last - WORD),
+    )
+}
+
+/// A number by each of a few bytes.
+fn bytes_mixed(bytes: &[u8]) -> u64 {
+    bytes
+        .iter()
+        .fold(0, |number, byte| mixed(number, u64::from(*byte)))
 }
 
 /// The place of what was read of a text: by its length and the bytes at its ends, so that a long text costs no more than a short one.
@@ -34,14 +69,16 @@ pub(crate) fn place_of(text: &Text) -> usize
     ensures { result < 256 }
 {
     let bytes = text.as_str().as_bytes();
-    let length = bytes.len();
-    let end = length.min(END_BYTES);
-    let front = mixed(length, &bytes[..end]);
-    mixed(front, &bytes[length - end..]) % PLACES
+    let number = if bytes.len() < WORD {
+        bytes_mixed(bytes)
+    } else {
+        ends_mixed(bytes)
+    };
+    (number >> 32) as usize % PLACES
 }
 
 /// The script that is kept at a place, if it is that of a text.
-#[tactic(auto, unfolding(crate::specs::Source::script_of))]
+#[tactic(auto, using(crate::proofs::SourceLemmas::script_walk))]
 pub(crate) fn script_at(
     places: &[Option<Script>],
     place: usize,

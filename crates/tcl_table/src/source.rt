@@ -26,7 +26,7 @@ pub struct Source {
 
 impl Model for Source {
     ghost use Rattle.std.specs.Prelude.{ℕ, List};
-    ghost use Rattle.tcl_table.specs.Source.{source_text, HasFault};
+    ghost use Rattle.tcl_table.specs.SourceForms.{source_text, HasFault};
 
     ghost Value = { List ℕ };
 
@@ -65,7 +65,7 @@ impl Source {
     }
 
     /// A script by its text, read at once, so that its copies are. A fault (4 to 10) is kept, and told by `read`.
-    #[tactic(auto, unfolding(crate::specs::Source::script_of))]
+    #[tactic(auto, using(crate::proofs::SourceLemmas::script_walk))]
     pub fn read_of(alloc: Global, text: &Text) -> Result<Source, AllocError>
         ensures { IfOk result (λ source. source ≡ text.now) }
     {
@@ -146,7 +146,7 @@ impl Source {
     }
 
     /// The script's commands (Tcl(n)), or its fault (4 to 10); a table reads what hasn't been read.
-    #[tactic(auto, unfolding(crate::specs::Source::script_of))]
+    #[tactic(auto, using(crate::proofs::SourceLemmas::script_walk))]
     pub fn read(self, table: &mut CommandTable) -> Result<Result<Script, ParseFault>, AllocError>
         ensures table { table.new ≡ table.old }
         ensures reading { IfOk result (λ reading. MatchResult reading (λ script. (script ≡ self) × IsOk (script_of self)) (λ fault. script_of self ≡ Err fault)) }

@@ -1,7 +1,9 @@
 -- Facts about answers and refusals.
-use Rattle.std.proofs.Common.{◌≡◌, ℕ, ◌<◌, ◌≤◌, Bool, true, false, leb, List, length, Ok, Err, Result, refl, sym, ap, ◌∙◌, arith, cond}
+use Rattle.std.proofs.Common.{◌≡◌, ℕ, ◌<◌, ◌≤◌, true, false, leb, List, length, Ok, Err, Result, refl, sym, ap, subst, arith}
 use Rattle.std.proofs.lemmas.Bool.Decides.{nat_tests}
-use Rattle.tcl_text.specs.Answers.{Answer, ◌>>=◌, answers, bounded, limit_text, Gives, Refuses}
+use Rattle.tcl_text.specs.Answers.{◌>>=◌, answers, bounded, items_in, items_or_error, limit_text, Gives, Refuses}
+use Rattle.tcl_text.specs.Readings.{list_of}
+use Rattle.tcl_text.specs.declared.splitting.ListFault.{ListFault}
 use Rattle.tcl_text.specs.declared.commands.answers.Refusal.{Refusal}
 use Rattle.tcl_text.specs.declared.commands.answers.Refusal.TheVariants.{Error, NoMemory}
 
@@ -35,3 +37,9 @@ given_error T (Error message) text h = ap Err h
 given_error T NoMemory text h = tt
 
 pub ruleset list_faults = (given_error)
+
+-- the items of a text that is known to be a list
+pub items_known : {T : Type 0} (answer : Result T Refusal) (list : List ℕ) (items : List (List ℕ)) (rest : List (List ℕ) → Result T (List ℕ)) → list_of list ≡ Ok items
+    → Gives answer (rest items) → Gives answer (items_in list >>= rest)
+unfolding items_in
+items_known answer list items rest known gives = subst (λ (read : Result (List (List ℕ)) ListFault). Gives answer (items_or_error read >>= rest)) (sym known) gives

@@ -1,12 +1,12 @@
 -- Facts about the characters of a text, and white space at its ends.
-use Rattle.std.proofs.Common.{◌≡◌, ◌≢◌, ℕ, zero, suc, ◌+◌, ◌-◌, ◌<◌, ◌≤◌, ◌⊎◌, inl, inr, Bool, true, false, ◌||◌, ◌&&◌, eqb, leb, ltb, List, [], ◌∷◌, ◌++◌, length, take, drop, get_or, min, refl, sym, ap, subst, ◌∙◌, arith, rules}
-use Rattle.std.specs.Str.{chars, IsUtf8, IsAscii, IsCharBoundary, encode_utf8_all}
+use Rattle.std.proofs.Common.{◌≡◌, ℕ, ◌+◌, ◌-◌, ◌<◌, ◌≤◌, ◌⊎◌, inl, inr, Bool, true, false, List, [], ◌∷◌, ◌++◌, length, take, drop, get_or, min, refl, sym, ap, subst, ◌∙◌, arith}
+use Rattle.std.specs.Str.{chars, IsUtf8, IsAscii, IsCharBoundary}
 use Rattle.std.specs.Char.{encode_utf8}
-use Rattle.std.proofs.lemmas.Str.{chars-append, chars-IsAscii, encode_ascii, inside_one, length-encode, len_utf8_bounds, char_from_byte, IsUtf8-take, IsUtf8-drop, IsCharBoundary-from_drop, IsAscii-take, IsAscii-drop, drop_past_char}
+use Rattle.std.proofs.lemmas.Str.{chars-append, chars-IsAscii, encode_ascii, inside_one, length-encode, len_utf8_bounds, char_from_byte, IsUtf8-take, IsCharBoundary-from_drop, IsAscii-take, IsAscii-drop, drop_past_char}
 use Rattle.std.specs.Char.{len_utf8}
 use Rattle.std.proofs.lemmas.List.{length-append, length-drop}
 use Rattle.std.proofs.lemmas.Bool.{false≢true, cases_lt}
-use Rattle.std.proofs.lemmas.Bool.Decides.{eqb_tells, nat_tests}
+use Rattle.std.proofs.lemmas.Bool.Decides.{nat_tests}
 use Rattle.std.proofs.lemmas.List.{take-append-drop, drop-drop, append-nil, append_assoc, take_all, take_more, drop_all, append_cancel_right}
 use Rattle.tcl_text.specs.Backslash.{is_white}
 use Rattle.tcl_text.specs.Readings.{skip_white}

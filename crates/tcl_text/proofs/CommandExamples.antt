@@ -1,5 +1,5 @@
 -- Worked examples of the definitions, from the manual pages: each computes.
-use Rattle.std.proofs.Common.{◌≡◌, ℕ, List, [], ◌∷◌, Option, Some, None, Ok, Err, true, false, refl}
+use Rattle.std.proofs.Common.{◌≡◌, [], ◌∷◌, Some, None, Ok, Err, true, false, refl}
 use Rattle.std.specs.Prelude.{codes}
 use Rattle.std.specs.Fmt.{digits}
 use Rattle.std.specs.Str.{chars}
@@ -10,7 +10,7 @@ use Rattle.tcl_text.specs.Glob.{glob_matches}
 use Rattle.tcl_text.specs.Answers.{answers, bounded, integer_in, items_in}
 use Rattle.tcl_text.specs.Indices.{index_of, index_in}
 use Rattle.tcl_text.specs.StringCommands.{string_command_named}
-use Rattle.tcl_text.specs.ListCommands.{search_by, with_option}
+use Rattle.tcl_text.specs.ListCommands.{with_option}
 use Rattle.tcl_text.specs.Commands.{command_named, text_command_of}
 
 glob-star : glob_matches (codes "a*b*c") (codes "aXXbYYc") ≡ true

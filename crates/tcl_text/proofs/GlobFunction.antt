@@ -1,11 +1,10 @@
 -- The function on patterns and texts is the relation.
-use Rattle.std.proofs.Common.{◌≡◌, ◌≢◌, ℕ, zero, suc, ◌+◌, ◌<◌, ◌≤◌, ◌⊎◌, inl, inr, Bool, true, false, ◌||◌, ◌&&◌, eqb, List, [], ◌∷◌, ◌++◌, length, take, drop, refl, sym, ap, subst, ◌∙◌, arith}
+use Rattle.std.proofs.Common.{◌≡◌, ◌≢◌, ℕ, zero, suc, ◌⊎◌, inl, inr, Bool, true, false, ◌||◌, ◌&&◌, eqb, List, [], ◌∷◌, ◌++◌, length, drop, refl, sym, ap, subst, ◌∙◌, arith}
 use Rattle.std.proofs.lemmas.Bool.{false≢true, ne_eqb}
 use Rattle.std.proofs.lemmas.Bool.Decides.{eqb_tells, same_from_decides}
 use Rattle.std.proofs.lemmas.List.{append-nil, append_assoc}
-use Rattle.std.specs.Bool.{Decides}
-use Rattle.tcl_text.specs.Glob.{in_class, Lacks, AllowsByClass, AllowsFirst, GlobMatches, PatternPlace, first_passes, some_end_passes, glob_from, glob_matches}
-use Rattle.tcl_text.specs.Glob.GlobMatches.{nothing_left, skips, allows}
+use Rattle.tcl_text.specs.Glob.{in_class, Lacks, AllowsFirst, GlobMatches, PatternPlace, first_passes, some_end_passes, glob_from, glob_matches}
+use Rattle.tcl_text.specs.Glob.GlobMatches.{nothing_left, allows}
 use Rattle.tcl_text.specs.Glob.PatternPlace.{at_part, behind_backslash, inside_class}
 use Rattle.tcl_text.proofs.GlobLemmas.{GlobMatches-empty, GlobMatches-part, GlobMatches-star, star_skips}
 

@@ -1,7 +1,7 @@
 -- Facts about glob patterns.
-use Rattle.std.proofs.Common.{◌≡◌, ◌≢◌, ℕ, zero, suc, ◌+◌, ◌-◌, ◌<◌, ◌≤◌, ◌⊎◌, ◌↔◌, inl, inr, Bool, true, false, ◌||◌, ◌&&◌, eqb, leb, ltb, List, [], ◌∷◌, ◌++◌, length, take, drop, Option, Some, None, MatchOption, Bor, refl, sym, ap, subst, ◌∙◌, arith, rules}
+use Rattle.std.proofs.Common.{◌≡◌, ℕ, zero, suc, ◌+◌, ◌-◌, ◌<◌, ◌≤◌, ◌⊎◌, inl, inr, Bool, true, false, ◌||◌, eqb, ltb, List, [], ◌∷◌, ◌++◌, length, take, drop, Option, Some, None, Bor, refl, sym, ap, subst, ◌∙◌, arith}
 use Rattle.std.specs.Str.{chars, IsUtf8, NonePass, NoCharPasses, encode_utf8_all}
-use Rattle.std.proofs.lemmas.Str.{chars_past_char, chars-append, chars_from_encodes, encodes-chars, chars-nil}
+use Rattle.std.proofs.lemmas.Str.{chars-append, chars_from_encodes, encodes-chars, chars-nil}
 use Rattle.std.proofs.lemmas.Bool.{ne_eqb, eqb-false, cases_lt}
 use Rattle.std.proofs.lemmas.List.{take-append-drop, drop-drop, drop_at}
 use Rattle.std.proofs.lemmas.Bool.Decides.{eqb_tells, nat_tests}

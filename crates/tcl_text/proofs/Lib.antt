@@ -19,6 +19,13 @@ pub mod SplittingLemmas
 pub mod Utf8Lemmas
 pub mod ElementLemmas
 pub mod ListFormLemmas
+pub mod FaultLemmas
+pub mod PartLemmas
+pub mod KeptLists
+pub mod KeptViews
+pub mod KeptSteps
+pub mod KeptItems
+pub mod KeptGrown
 pub mod SortLemmas
 pub mod ListReading
 pub mod ListFaultsTold

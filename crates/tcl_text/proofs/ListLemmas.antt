@@ -1,8 +1,8 @@
 -- Facts about the commands of list(n) and its kin.
-use Rattle.std.proofs.Common.{◌≡◌, ℕ, zero, suc, ◌+◌, ◌-◌, ◌<◌, ◌≤◌, min, Bool, true, false, List, [], ◌∷◌, ◌++◌, Option, Some, None, Result, Ok, Err, length, take, drop, get_or, map, refl, sym, ap, subst, ◌∙◌, inl, inr, arith, add-one, eqb, ltb}
+use Rattle.std.proofs.Common.{◌≡◌, ℕ, zero, suc, ◌+◌, ◌-◌, ◌<◌, min, Bool, true, false, List, [], ◌∷◌, ◌++◌, Some, None, length, take, drop, get_or, map, refl, sym, ap, subst, ◌∙◌, inl, inr, arith, add-one, eqb, ltb}
 use Rattle.std.proofs.lemmas.Bool.{cases_lt, ne_eqb, false≢true}
-use Rattle.std.proofs.lemmas.List.{append-nil, append_assoc, length-append, length-take, length-drop, take_more, drop_all, drop-take, take-append-drop, get_or-take}
-use Rattle.std.specs.Prelude.{if◌then◌else◌, ◌≢◌}
+use Rattle.std.proofs.lemmas.List.{append-nil, append_assoc, length-take, take_more, drop_all, drop-take, take-append-drop, get_or-take}
+use Rattle.std.specs.Prelude.{if◌then◌else◌}
 use Rattle.std.specs.Char.{encode_utf8}
 use Rattle.tcl_text.specs.Glob.{Lacks}
 use Rattle.std.proofs.lemmas.Str.{encode_ascii, IsCharBoundary-after_ascii, IsCharBoundary-before_ascii, IsUtf8-take, chars-append, chars-nil}

@@ -317,3 +317,8 @@ pub list_of-list_form : (items : List (List ℕ)) → list_of (list_form items) 
 unfolding list_of list_form marks
 list_of-list_form [] = refl
 list_of-list_form (x ∷ xs) = ap list_of (list_form-cons x xs) ∙ ap elements (form_reads x (others_form xs) xs (ends_others xs) (others_read xs))
+
+-- and so it does with a blank before each item's
+pub list_of-others_form : (items : List (List ℕ)) → list_of (others_form items) ≡ Ok items
+unfolding list_of
+list_of-others_form items = ap elements (others_read items)

@@ -1,5 +1,5 @@
 -- Facts about the commands of string(n) and concat(n).
-use Rattle.std.proofs.Common.{◌≡◌, ℕ, zero, suc, ◌+◌, ◌-◌, ◌*◌, ◌/◌, ◌<◌, ◌≤◌, Bool, true, false, List, [], ◌∷◌, ◌++◌, Option, Some, None, Result, Ok, Err, length, take, drop, get_or, map, replicate, refl, sym, ap, subst, ◌∙◌, arith, add-one}
+use Rattle.std.proofs.Common.{◌≡◌, ℕ, zero, suc, ◌+◌, ◌*◌, ◌/◌, ◌<◌, ◌≤◌, Bool, true, false, List, [], ◌∷◌, ◌++◌, Some, None, Ok, Err, length, take, get_or, map, replicate, refl, sym, ap, ◌∙◌, arith, add-one}
 use Rattle.std.specs.List.{concat, join_with_byte}
 use Rattle.std.specs.Prelude.{not, ◌==◌, filter, nat_eq}
 use Rattle.std.specs.Cmp.Lexicographic.{same_text, pointwise}
@@ -9,8 +9,8 @@ use Rattle.std.proofs.lemmas.List.{append-nil, append_assoc, length-append, map_
 use Rattle.std.proofs.lemmas.List.Elements.{filter-append}
 use Rattle.std.proofs.Math.Nat.{div-lt_iff_lt-mul}
 use Rattle.memchr.specs.Find.{FindsNeedle}
-use Rattle.tcl_text.specs.Answers.{Answer, answers, limit_text}
-use Rattle.tcl_text.specs.StringCommands.{characters_before, concatenated, trimmed, first_place}
+use Rattle.tcl_text.specs.Answers.{answers, limit_text}
+use Rattle.tcl_text.specs.StringCommands.{characters_before, concatenated, trimmed}
 use Rattle.tcl_text.specs.StringSteps.{with_word}
 use Rattle.tcl_text.proofs.AnswerLemmas.{answers_beyond, answers_within}
 use Rattle.tcl_text.proofs.FindLemmas.{first_place-found}

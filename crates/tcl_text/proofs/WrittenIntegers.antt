@@ -1,12 +1,13 @@
 -- A written integer reads as itself.
-use Rattle.std.proofs.Common.{◌≡◌, ℕ, zero, suc, ◌^◌, ◌<◌, ◌≤◌, true, false, List, [], ◌∷◌, get_or, refl, arith, sym, ap, subst, inr, append-nil, ℤ, pos, negsuc}
+use Rattle.std.proofs.Common.{◌≡◌, ℕ, zero, suc, ◌^◌, ◌<◌, ◌≤◌, true, false, List, [], ◌∷◌, get_or, Some, refl, arith, sym, ap, subst, inr, ◌∙◌, append-nil, ℤ, pos, negsuc}
 use Rattle.std.specs.Prelude.{FitsSigned}
 use Rattle.std.specs.Fmt.{decimal, signed_decimal}
 use Rattle.std.specs.Int.{w64}
 use Rattle.std.specs.Str.Parse as parse
 use Rattle.std.proofs.lemmas.Bool.{ne_eqb, lt-ltb, le-leb}
 use Rattle.std.proofs.lemmas.Fmt.{decimal_is_IsNumeral, decimal_digit, first_decimal}
-use Rattle.tcl_text.specs.Readings.{IsInteger, IsNumeral}
+use Rattle.tcl_text.specs.Readings.{IsInteger, IsNumeral, integer_of}
+use Rattle.tcl_text.proofs.IntegerReading.{integer_of-from_IsInteger}
 
 -- digits that don't begin with 0 are a decimal numeral
 decimal_numeral : (digits : List ℕ) (n : ℕ) → 48 < get_or digits 0 0 → parse.IsNumeral 10 digits → parse.digits_value 10 digits ≡ n → IsNumeral digits n
@@ -71,3 +72,7 @@ signed_decimal_reads (negsuc n) fits =
       spells = decimal_reads (suc n) (omega arith);
       valued = rw (le-leb (suc n) (2 ^ 63) small) refl;
     }
+
+-- so it is the integer that is read in its digits
+pub written_integer : (text : List ℕ) (n : ℤ) → text ≡ signed_decimal n → FitsSigned w64 n → integer_of text ≡ Some n
+written_integer text n is fits = ap integer_of is ∙ integer_of-from_IsInteger (signed_decimal n) n (signed_decimal_reads n fits)

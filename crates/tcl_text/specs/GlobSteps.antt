@@ -1,5 +1,5 @@
 -- What the steps of a glob search say to one another.
-use Rattle.std.specs.Prelude.{◌≡◌, ◌≢◌, ℕ, List, [], ◌∷◌, drop, length, ◌≤◌}
+use Rattle.std.specs.Prelude.{◌≡◌, ◌≢◌, ℕ, List, [], ◌∷◌, drop}
 use Rattle.tcl_text.specs.Glob.{GlobMatches}
 
 -- the pattern begins with a part for one character, and not with `*`

@@ -1,5 +1,5 @@
 -- Indices of list(n) and string(n): an integer, `end` or `end-N`.
-use Rattle.std.specs.Prelude.{◌≡◌, ℕ, suc, ◌+◌, ◌-◌, min, max, ℤ, pos, negsuc, Bool, true, false, not, ◌&&◌, nat_le, if◌then◌else◌, List, [], ◌∷◌, ◌++◌, length, take, drop, slice_index, Option, Some, None, option_map, Result, Ok, Err, codes}
+use Rattle.std.specs.Prelude.{ℕ, ◌+◌, ◌-◌, min, ℤ, pos, negsuc, Bool, false, not, ◌&&◌, nat_le, if◌then◌else◌, List, [], ◌∷◌, length, take, drop, slice_index, Option, Some, None, option_map, Result, Ok, codes}
 use Rattle.std.specs.Str.{bytes_eq}
 use Rattle.tcl_text.specs.Backslash.{is_white}
 use Rattle.tcl_text.specs.Readings.{integer_of}

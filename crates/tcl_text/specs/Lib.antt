@@ -6,6 +6,7 @@ pub mod Escaped
 pub mod ListForm
 pub mod Readings
 pub mod ListFaults
+pub mod Faults
 pub mod Answers
 pub mod Indices
 pub mod Commands
@@ -16,3 +17,4 @@ pub mod ListSteps
 pub mod Splitting
 pub mod Edit
 pub mod TextForm
+pub mod ListString

@@ -1,5 +1,5 @@
 -- The commands of list(n), llength(n), lindex(n), lrange(n), linsert(n), lreplace(n), lsearch(n), lsort(n), join(n) and split(n).
-use Rattle.std.specs.Prelude.{◌≡◌, ℕ, zero, suc, ◌+◌, ◌-◌, max, ℤ, pos, negsuc, Bool, true, false, not, ◌&&◌, ◌||◌, ◌==◌, nat_eq, nat_lt, nat_le, if◌then◌else◌, List, [], ◌∷◌, ◌++◌, length, take, drop, map, filter, position, Option, Some, None, option_map, Result, Ok, Err, codes}
+use Rattle.std.specs.Prelude.{ℕ, max, ℤ, Bool, true, false, ◌==◌, if◌then◌else◌, List, [], ◌∷◌, ◌++◌, length, take, drop, map, position, Result, Ok, codes}
 use Rattle.std.specs.Str.{chars, encode_utf8_all, bytes_eq}
 use Rattle.std.specs.Char.{encode_utf8}
 use Rattle.std.specs.Fmt.{decimal}
@@ -15,10 +15,17 @@ use Rattle.tcl_text.specs.Indices.{index_in, before, through, before_inserted, p
 abbrev pub list_words : List (List ℕ) → Answer
 list_words words = answers (list_form words)
 
+-- what is made of the items of the list that a word is
+abbrev pub of_items : {T : Type 0} → (List (List ℕ) → Result T (List ℕ)) → List ℕ → Result T (List ℕ)
+of_items rest list = items_in list >>= rest
+
+abbrev pub count_in : List ℕ → Result ℕ (List ℕ)
+count_in list = of_items (λ items. Ok (length items)) list
+
 abbrev pub llength_words : List (List ℕ) → Answer
 llength_words (list ∷ []) = do
-  items ← items_in list
-  answers (decimal (length items))
+  count ← count_in list
+  answers (decimal count)
 llength_words _ = wrong_args (codes "llength list")
 
 -- the only item, or the empty text where there is none
@@ -26,39 +33,47 @@ abbrev pub item_or_empty : List (List ℕ) → List ℕ
 item_or_empty [] = []
 item_or_empty (item ∷ _) = item
 
-abbrev pub lindex_words : List (List ℕ) → Answer
-lindex_words (list ∷ []) = answers list
-lindex_words (list ∷ index ∷ []) = do
-  items ← items_in list
+abbrev pub item_at : List ℕ → List (List ℕ) → Answer
+item_at index items = do
   i ← index_in index
   answers (item_or_empty (part i i items))
+
+abbrev pub lindex_words : List (List ℕ) → Answer
+lindex_words (list ∷ []) = answers list
+lindex_words (list ∷ index ∷ []) = of_items (item_at index) list
 lindex_words _ = wrong_args (codes "lindex list ?index?")
 
-abbrev pub lrange_words : List (List ℕ) → Answer
-lrange_words (list ∷ first ∷ last ∷ []) = do
-  items ← items_in list
+abbrev pub range_of : List ℕ → List ℕ → List (List ℕ) → Answer
+range_of first last items = do
   i ← index_in first
   j ← index_in last
   answers (list_form (part i j items))
+
+abbrev pub lrange_words : List (List ℕ) → Answer
+lrange_words (list ∷ first ∷ last ∷ []) = of_items (range_of first last) list
 lrange_words _ = wrong_args (codes "lrange list first last")
 
 -- the items with others put in after the first few, in place of those up to a second place
 abbrev pub spliced : {X : Type 0} → List X → ℕ → ℕ → List X → List X
 spliced items from to values = take from items ++ (values ++ drop to items)
 
-abbrev pub linsert_words : List (List ℕ) → Answer
-linsert_words (list ∷ index ∷ values) = do
-  items ← items_in list
+abbrev pub inserted : List ℕ → List (List ℕ) → List (List ℕ) → Answer
+inserted index values items = do
   i ← index_in index
   answers (list_form (spliced items (before_inserted i (length items)) (before_inserted i (length items)) values))
+
+abbrev pub linsert_words : List (List ℕ) → Answer
+linsert_words (list ∷ index ∷ values) = of_items (inserted index values) list
 linsert_words _ = wrong_args (codes "linsert list index ?value ..?")
 
-abbrev pub lreplace_words : List (List ℕ) → Answer
-lreplace_words (list ∷ first ∷ last ∷ values) = do
-  items ← items_in list
+abbrev pub replaced : List ℕ → List ℕ → List (List ℕ) → List (List ℕ) → Answer
+replaced first last values items = do
   i ← index_in first
   j ← index_in last
   answers (list_form (spliced items (before i (length items)) (max (before i (length items)) (through j (length items))) values))
+
+abbrev pub lreplace_words : List (List ℕ) → Answer
+lreplace_words (list ∷ first ∷ last ∷ values) = of_items (replaced first last values) list
 lreplace_words _ = wrong_args (codes "lreplace list first last ?value ..?")
 
 -- how lsearch tests an item

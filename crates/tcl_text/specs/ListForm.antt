@@ -1,6 +1,6 @@
 -- What the steps of writing a list say, in the words of its form.
 use Rattle.std.specs.Prelude.{◌≡◌, ℕ, ◌<◌, ◌≤◌, true, List, [], ◌∷◌, ◌++◌, take, drop, length, slice_index, codes, Result, Ok, Err, ⊤}
-use Rattle.tcl_text.specs.Readings.{element_form, is_special, list_form, with_backslashes}
+use Rattle.tcl_text.specs.Readings.{element_form, is_special, with_backslashes}
 use Rattle.tcl_text.specs.declared.list_form.ElementForm.{ElementForm}
 use Rattle.tcl_text.specs.declared.list_form.ElementForm.TheVariants.{Empty, Bare, Braced, Comment, Backslashed}
 use Rattle.tcl_text.specs.declared.text.TextFault.{TextFault}
@@ -30,14 +30,3 @@ form_text Backslashed item = with_backslashes item
 abbrev pub others_form : List (List ℕ) → List ℕ
 others_form [] = []
 others_form (x ∷ xs) = 32 ∷ (element_form x ++ others_form xs)
-
--- the text is the form of items, of which there is one at least
-pub record IsListForm (text : List ℕ) : Type 0 where
-  pub first : List ℕ
-  pub others : List (List ℕ)
-  pub form : text ≡ list_form (first ∷ others)
-
--- the text is what stands behind the form of items where more are added
-pub record IsOthersForm (text : List ℕ) : Type 0 where
-  pub items : List (List ℕ)
-  pub form : text ≡ others_form items

@@ -1,5 +1,5 @@
 -- The commands of string(n), and concat(n).
-use Rattle.std.specs.Prelude.{◌≡◌, ℕ, zero, suc, ◌+◌, ◌*◌, ◌-◌, ℤ, pos, negsuc, Bool, true, false, not, ◌&&◌, ◌||◌, ◌==◌, nat_eq, nat_lt, nat_le, if◌then◌else◌, List, [], ◌∷◌, ◌++◌, length, take, drop, map, filter, reverse, Option, Some, None, option_map, replicate, Result, Ok, Err, codes}
+use Rattle.std.specs.Prelude.{ℕ, suc, not, ◌==◌, nat_eq, if◌then◌else◌, List, [], ◌∷◌, length, take, map, filter, Option, Some, None, option_map, replicate, codes}
 use Rattle.std.specs.List.{starts_with, concat, join_with_byte}
 use Rattle.std.specs.Str.{chars, encode_utf8_all, bytes_eq, str_to_ascii_lowercase, str_to_ascii_uppercase}
 use Rattle.std.specs.Fmt.{decimal}

@@ -2,7 +2,7 @@ ghost use Rattle.std.specs.Prelude.{◌≡◌, ◌∷◌, ◌↔◌, Bool, IsErr
 ghost use Rattle.std.specs.Result.{result_ok};
 ghost use Rattle.tcl_text.specs.Readings as readings;
 
-use crate::integer::integer_in;
+use crate::integer::integer_of_text;
 use crate::text::Text;
 use thiserror::Error;
 
@@ -10,6 +10,18 @@ use thiserror::Error;
 #[derive(Clone, Copy, Debug, PartialEq, Eq, Drop, Error)]
 #[error("expected boolean value")]
 pub struct NotBoolean;
+
+impl NotBoolean {
+    ghost use Rattle.std.specs.Prelude.{◌≡◌};
+    ghost use Rattle.tcl_text.specs.Faults.{not_boolean_number};
+
+    /// Its number.
+    pub fn number(&self) -> u32
+        ensures { result ≡ not_boolean_number }
+    {
+        2
+    }
+}
 
 impl Text {
     /// The boolean that the text is, as Tcl_GetBoolean(3) reads one: an integer, of which 0 is false, or in any case of its
@@ -20,17 +32,18 @@ impl Text {
         ensures refused { IsErr result ↔ ((b : Bool) → ¬ (readings.IsBoolean self.now b)) }
         ensures exact { result_ok result ≡ readings.boolean_of self.now }
     {
-        boolean_in(self.as_str().as_bytes()).ok_or(NotBoolean)
+        boolean_of_text(self).ok_or(NotBoolean)
     }
 }
 
+/// The boolean that a text is, if any.
 #[tactic(auto, unfolding(crate::specs::Readings::boolean_of))]
-fn boolean_in(text: &[u8]) -> Option<bool>
+fn boolean_of_text(text: &Text) -> Option<bool>
     ensures { result ≡ readings.boolean_of text.now }
 {
-    match integer_in(text) {
+    match integer_of_text(text) {
         Some(number) => Some(number != 0),
-        None => boolean_word(text),
+        None => boolean_word(text.as_str().as_bytes()),
     }
 }
 

@@ -1,12 +1,16 @@
-// Texts are equal and ordered by their bytes, which is also the order of their characters.
+// Texts are equal, ordered and hashed by their bytes, whose order is also that of their characters.
 ghost use Rattle.std.specs.Prelude.{◌≡◌, Some, refl};
 ghost use Rattle.std.specs.Cmp as laws_of;
 ghost use Rattle.std.specs.Cmp.Lexicographic.{pointwise, slice_cmp, nat_list_eq_equiv, nat_list_cmp_total, texts_po, texts_ties};
+ghost use Rattle.std.specs.Cmp.Rules.{hashing};
+ghost use Rattle.std.specs.Hash as fed;
 ghost use Rattle.std.specs.Ordering.{nat_cmp};
+ghost use Rattle.std.proofs.Common.{rules};
 ghost use Rattle.std.specs.Prelude.{nat_eq};
 
 use crate::text::Text;
 use std::cmp::Ordering;
+use std::hash::{Hash, Hasher};
 
 impl PartialEq for Text {
     ghost eq = { pointwise nat_eq };
@@ -43,5 +47,15 @@ impl Ord for Text {
 
     fn cmp(&self, other: &Text) -> Ordering {
         self.as_str().cmp(other.as_str())
+    }
+}
+
+impl Hash for Text {
+    ghost hash_input = { fed.str };
+
+    ghost respects_eq = { Prim.search (hashing, rules) };
+
+    fn hash<H: Hasher>(&self, state: &mut H) {
+        self.as_str().hash(state);
     }
 }

@@ -1,7 +1,6 @@
 //! Changes of a text in place.
 ghost use Rattle.std.specs.Prelude.{◌≡◌, ◌≢◌, ◌++◌, Ok, Err, IfOk, IfErr, OnOk, OnErr};
 ghost use Rattle.tcl_text.specs.Edit.{edited, within_limit, with_more, written_anew};
-ghost use Rattle.tcl_text.specs.ListForm.{IsListForm};
 ghost use Rattle.tcl_text.specs.Readings.{list_form, list_of};
 
 use crate::list::TextList;
@@ -31,6 +30,22 @@ pub enum EditFault {
     /// Memory was refused.
     #[error("out of memory")]
     NoMemory,
+}
+
+impl EditFault {
+    ghost use Rattle.std.specs.Prelude.{◌≡◌};
+    ghost use Rattle.tcl_text.specs.Faults.{edit_number};
+
+    /// Its number; none where memory was refused.
+    pub fn number(&self) -> Option<u32>
+        ensures { result ≡ edit_number self.now }
+    {
+        match self {
+            EditFault::TooLong => Some(4),
+            EditFault::BadList(fault) => Some(fault.number()),
+            EditFault::NoMemory => None,
+        }
+    }
 }
 
 impl From<AllocError> for EditFault {
@@ -81,33 +96,30 @@ fn push_characters(alloc: Global, text: &mut Text, characters: &str) -> Result<(
 }
 
 // Adds items to the list that a text is.
-#[tactic(auto, using(crate::proofs::EditLemmas::anew))]
+#[tactic(auto, using(crate::proofs::EditLemmas::limits))]
 fn push_items(alloc: Global, text: &mut Text, items: &[Text]) -> Result<(), EditFault>
     ensures ok { OnOk result (written_anew (with_more items.now (list_of text.old)) ≡ Ok text.new) }
     ensures refused { IfErr result (λ fault. fault ≢ EditFault.NoMemory → written_anew (with_more items.now (list_of text.old)) ≡ Err fault) }
     ensures err { OnErr result (text.new ≡ text.old) }
 {
-    if text.is_list_form() {
-        return push_behind(alloc, text, items);
+    match text.push_items(alloc, items) {
+        Ok(true) => Ok(()),
+        Ok(false) => push_anew(alloc, text, items),
+        Err(TextFault::TooLong) => Err(EditFault::TooLong),
+        Err(TextFault::NoMemory) => Err(EditFault::NoMemory),
     }
-    let all = with_more(alloc, text, items)?;
-    *text = list_text(alloc, all.as_slice())?;
-    Ok(())
 }
 
-// Adds items to the list whose form a text is, without reading it.
-#[tactic(auto, using(crate::proofs::EditLemmas::limits))]
-fn push_behind(alloc: Global, text: &mut Text, items: &[Text]) -> Result<(), EditFault>
-    requires { IsListForm text.old }
+// Adds items to the list that a text is, which is read.
+#[tactic(auto, using(crate::proofs::EditLemmas::anew))]
+fn push_anew(alloc: Global, text: &mut Text, items: &[Text]) -> Result<(), EditFault>
     ensures ok { OnOk result (written_anew (with_more items.now (list_of text.old)) ≡ Ok text.new) }
     ensures refused { IfErr result (λ fault. fault ≢ EditFault.NoMemory → written_anew (with_more items.now (list_of text.old)) ≡ Err fault) }
     ensures err { OnErr result (text.new ≡ text.old) }
 {
-    match text.push_items(alloc, items) {
-        Ok(()) => Ok(()),
-        Err(TextFault::TooLong) => Err(EditFault::TooLong),
-        Err(TextFault::NoMemory) => Err(EditFault::NoMemory),
-    }
+    let all = with_more(alloc, text, items)?;
+    *text = list_text(alloc, all.as_slice())?;
+    Ok(())
 }
 
 // The items of the list that a text is, with more behind them.

@@ -4,6 +4,7 @@ ghost use Rattle.std.specs.Fmt.{signed_decimal};
 ghost use Rattle.std.specs.Result.{result_ok};
 ghost use Rattle.tcl_text.specs.Readings as readings;
 
+use crate::number::{NUMBER_DIGITS, NumberText};
 use crate::text::Text;
 use crate::white_space::{is_blank, skip_white};
 use itoa::Buffer;
@@ -15,6 +16,18 @@ use thiserror::Error;
 #[error("expected integer")]
 pub struct NotInteger;
 
+impl NotInteger {
+    ghost use Rattle.std.specs.Prelude.{◌≡◌};
+    ghost use Rattle.tcl_text.specs.Faults.{not_integer_number};
+
+    /// Its number.
+    pub fn number(&self) -> u32
+        ensures { result ≡ not_integer_number }
+    {
+        1
+    }
+}
+
 impl Text {
     /// The integer that the text spells, as Tcl's expr(n) reads one: an optional sign, then decimal digits, `0x`, `0o` or `0b`
     /// with digits, or octal digits after a leading 0, with white space around. `NotInteger` (1) for any other text, and where
@@ -24,7 +37,7 @@ impl Text {
         ensures refused { IsErr result ↔ ((n : ℤ) → ¬ (readings.IsInteger self.now n)) }
         ensures exact { result_ok result ≡ readings.integer_of self.now }
     {
-        integer_in(self.as_str().as_bytes()).ok_or(NotInteger)
+        integer_of_text(self).ok_or(NotInteger)
     }
 
     /// The decimal text of an integer, which is short enough to take no memory.
@@ -32,7 +45,21 @@ impl Text {
         ensures { IfOk result (λ text. text ≡ signed_decimal number) }
     {
         let mut buffer = Buffer::new();
-        Text::of_short(alloc, buffer.format(number))
+        let digits = buffer.format(number);
+        if digits.len() <= NUMBER_DIGITS {
+            return Ok(Text::of_number(NumberText::new(number, digits)));
+        }
+        Text::of_short(alloc, digits)
+    }
+}
+
+/// The integer that a text spells, if any.
+pub fn integer_of_text(text: &Text) -> Option<i64>
+    ensures { result ≡ readings.integer_of text.now }
+{
+    match text.number() {
+        Some(number) => Some(number),
+        None => integer_in(text.as_str().as_bytes()),
     }
 }
 

@@ -13,6 +13,8 @@ pub mod laws;
 mod list;
 mod list_form;
 mod list_string;
+mod number;
+mod shared;
 mod short;
 mod splitting;
 mod text;

@@ -1,11 +1,12 @@
 ghost use Rattle.std.specs.Prelude.{◌≡◌, ◌≢◌, ◌++◌, ◌∷◌, [], ◌<◌, ◌≤◌, take, drop, length, true, slice_index, string_bytes, IfErr, OnOk, OnErr, not};
 ghost use Rattle.std.specs.List.{list_all};
 ghost use Rattle.tcl_text.specs.Backslash as backslash;
-ghost use Rattle.tcl_text.specs.ListForm.{IsListForm, Joins, StopsAtSpecial, form_text, others_form};
+ghost use Rattle.tcl_text.specs.ListForm.{Joins, StopsAtSpecial, form_text};
 ghost use Rattle.tcl_text.specs.Readings as readings;
 
+use crate::list_string::ListString;
 use crate::splitting::brace_step;
-use crate::text::{MAX_BYTES, Text, TextFault};
+use crate::text::{Text, TextFault};
 use crate::white_space::is_white;
 use std::alloc::{AllocError, Global};
 
@@ -154,7 +155,7 @@ fn push_backslashed(form: &mut String, item: &str) -> Result<(), AllocError>
 }
 
 /// Adds an item as it is written as an element.
-fn push_element(form: &mut String, item: &str) -> Result<(), AllocError>
+pub fn push_element(form: &mut String, item: &str) -> Result<(), AllocError>
     ensures { OnOk result (string_bytes form.new ≡ string_bytes form.old ++ readings.element_form item.now) }
 {
     match form_of(item.as_bytes()) {
@@ -174,51 +175,13 @@ fn push_element(form: &mut String, item: &str) -> Result<(), AllocError>
     Ok(())
 }
 
-/// Adds items, each with a blank in front. `TooLong` where the whole passes 65,536 bytes; it stops soon after that.
-fn push_others(form: &mut String, items: &[Text]) -> Result<(), TextFault>
-    ensures ok { OnOk result (string_bytes form.new ≡ string_bytes form.old ++ others_form items.now) }
-    ensures short { OnOk result (length (string_bytes form.old ++ others_form items.now) ≤ 65536) }
-    ensures too_long { IfErr result (λ fault. fault ≢ TextFault.NoMemory → 65536 < length (string_bytes form.old ++ others_form items.now)) }
-{
-    for item in items {
-        if form.len() > MAX_BYTES {
-            return Err(TextFault::TooLong);
-        }
-        form.push(' ')?;
-        push_element(form, item.as_str())?;
-    }
-    if form.len() > MAX_BYTES {
-        return Err(TextFault::TooLong);
-    }
-    Ok(())
-}
-
 impl Text {
     /// The list of these items, as Tcl's list(n) writes one: each as it is where it can stand bare, else in braces, else with
     /// backslashes, and a blank between each two. `TooLong` (4) where that passes 65,536 bytes.
     pub fn join_list(alloc: Global, items: &[Text]) -> Result<Text, TextFault>
         ensures { Joins result (readings.list_form items.now) }
     {
-        let Some((first, others)) = items.split_first() else {
-            return Ok(Text::of_short(alloc, "")?);
-        };
-        let mut form = String::new(alloc);
-        push_element(&mut form, first.as_str())?;
-        push_others(&mut form, others)?;
-        Ok(Text::of_list(alloc, form)?)
-    }
-
-    /// Adds items to the list whose form the text is; what is held is not read. `TooLong` (4), and nothing is added, where the
-    /// text would pass 65,536 bytes.
-    pub(crate) fn push_items(&mut self, alloc: Global, items: &[Text]) -> Result<(), TextFault>
-        requires { IsListForm self.old }
-        ensures ok { OnOk result (self.new ≡ self.old ++ others_form items.now) }
-        ensures short { OnOk result (length (self.old ++ others_form items.now) ≤ 65536) }
-        ensures too_long { IfErr result (λ fault. fault ≢ TextFault.NoMemory → 65536 < length (self.old ++ others_form items.now)) }
-        ensures err { OnErr result (self.new ≡ self.old) }
-    {
-        let mut more = String::new(alloc);
-        push_others(&mut more, items)?;
-        self.push_others(alloc, more.as_str())
+        let list = ListString::new(alloc, items)?;
+        Ok(Text::of_list(alloc, list)?)
     }
 }

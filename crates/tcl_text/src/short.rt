@@ -1,4 +1,4 @@
-ghost use Rattle.std.specs.Prelude.{◌≤◌, take, length, IsUtf8};
+ghost use Rattle.std.specs.Prelude.{◌≡◌, ◌+◌, ◌≤◌, ◌++◌, take, length, IsUtf8};
 
 /// How many bytes are kept in place: enough for each integer of 64 bits.
 pub const SHORT_BYTES: usize = 22;
@@ -14,8 +14,17 @@ pub struct ShortText {
     ghost utf8: { ∥ IsUtf8 (take length bytes) ∥₁ },
 }
 
+/// Bytes with others in their place from one of them on.
+fn written(mut bytes: [u8; 22], at: usize, others: &[u8]) -> [u8; 22]
+    requires { at + length others.now ≤ 22 }
+    ensures { take (at + length others.now) result ≡ take at bytes ++ others.now }
+{
+    bytes[at..at + others.len()].copy_from_slice(others);
+    bytes
+}
+
 impl ShortText {
-    ghost use Rattle.std.specs.Prelude.{◌≡◌, ◌≤◌, length};
+    ghost use Rattle.std.specs.Prelude.{◌≡◌, ◌+◌, ◌≤◌, ◌++◌, length};
     ghost use Rattle.tcl_text.specs.TextForm.{short_bytes};
 
     /// These characters.
@@ -28,6 +37,21 @@ impl ShortText {
         ShortText {
             bytes,
             length: characters.len() as u8,
+            words: [],
+        }
+    }
+
+    /// These characters, and more behind them.
+    pub fn joined(characters: &str, more: &str) -> ShortText
+        requires { length characters.now + length more.now ≤ 22 }
+        ensures { short_bytes result ≡ characters.now ++ more.now }
+    {
+        let length = characters.len() + more.len();
+        let front = written([0; 22], 0, characters.as_bytes());
+        let bytes = written(front, characters.len(), more.as_bytes());
+        ShortText {
+            bytes,
+            length: length as u8,
             words: [],
         }
     }

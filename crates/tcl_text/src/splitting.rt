@@ -26,6 +26,15 @@ pub enum ListFault {
 }
 
 impl ListFault {
+    ghost use Rattle.tcl_text.specs.Faults.{bad_list_number};
+
+    /// Its number.
+    pub fn number(&self) -> u32
+        ensures { result ≡ bad_list_number }
+    {
+        3
+    }
+
     /// The fault as a script is told of it.
     pub fn text(&self) -> &'static str
         ensures { result.now ≡ fault_text self.now }
@@ -58,6 +67,21 @@ pub enum SplitFault {
     /// Memory was refused.
     #[error("out of memory")]
     NoMemory,
+}
+
+impl SplitFault {
+    ghost use Rattle.std.specs.Prelude.{◌≡◌};
+    ghost use Rattle.tcl_text.specs.Faults.{split_number};
+
+    /// Its number; none where memory was refused.
+    pub fn number(&self) -> Option<u32>
+        ensures { result ≡ split_number self.now }
+    {
+        match self {
+            SplitFault::BadList(fault) => Some(fault.number()),
+            SplitFault::NoMemory => None,
+        }
+    }
 }
 
 impl From<AllocError> for SplitFault {
@@ -259,7 +283,7 @@ fn bare(alloc: Global, text: &str) -> Result<(Text, &str), SplitFault>
 }
 
 /// The first element of a list, and the text behind it.
-fn first_element(alloc: Global, text: &str) -> Result<(Text, &str), SplitFault>
+pub fn first_element(alloc: Global, text: &str) -> Result<(Text, &str), SplitFault>
     requires some { 0 < length text.now }
     requires short { length text.now ≤ 65536 }
     requires black { backslash.is_white (slice_index text.now 0) ≡ false }
@@ -281,7 +305,7 @@ fn trimmed(text: &str) -> &str
 }
 
 /// The items of the list that the text is.
-fn items_of(alloc: Global, text: &str) -> Result<TextList, SplitFault>
+pub fn items_of(alloc: Global, text: &str) -> Result<TextList, SplitFault>
     requires { length text.now ≤ 65536 }
     ensures { Splits result (readings.list_of text.now) }
 {

@@ -1,7 +1,13 @@
-ghost use Rattle.std.specs.Prelude.{◌≡◌, ◌≢◌, ◌<◌, ◌≤◌, ◌↔◌, ◌++◌, length, IfOk, IfErr, IfSome, OnOk, OnErr, IsErrOf, IsTrue, IsUtf8, MatchBool, string_bytes, string_len};
-ghost use Rattle.tcl_text.specs.ListForm.{IsListForm, IsOthersForm};
+ghost use Rattle.std.specs.Prelude.{◌≡◌, ◌≢◌, ◌<◌, ◌≤◌, ◌↔◌, ◌++◌, length, Ok, Err, IfOk, IfErr, IfSome, OnOk, OnErr, IsErrOf, IsUtf8, MatchBool, string_bytes, string_len};
+ghost use Rattle.std.specs.Fmt.{signed_decimal};
+ghost use Rattle.tcl_text.specs.Answers.{bounded};
+ghost use Rattle.tcl_text.specs.Edit.{with_more, written_anew};
+ghost use Rattle.tcl_text.specs.Readings.{list_form, list_of};
 
+use crate::edit::EditFault;
 use crate::list_string::ListString;
+use crate::number::NumberText;
+use crate::shared::SharedText;
 use crate::short::{SHORT_BYTES, ShortText};
 use std::alloc::{AllocError, AllocFailed, Global};
 use std::marker::Model;
@@ -20,6 +26,21 @@ pub enum TextFault {
     /// Memory was refused.
     #[error("out of memory")]
     NoMemory,
+}
+
+impl TextFault {
+    ghost use Rattle.std.specs.Prelude.{◌≡◌};
+    ghost use Rattle.tcl_text.specs.Faults.{text_number};
+
+    /// Its number; none where memory was refused.
+    pub fn number(&self) -> Option<u32>
+        ensures { result ≡ text_number self.now }
+    {
+        match self {
+            TextFault::TooLong => Some(4),
+            TextFault::NoMemory => None,
+        }
+    }
 }
 
 impl From<AllocError> for TextFault {
@@ -49,9 +70,11 @@ impl<T: Drop> From<AllocFailed<T>> for TextFault {
 enum TextForm {
     /// In place, where they are few.
     Short(ShortText),
+    /// In place with the number that they spell, where they are those of an integer and fewer.
+    Number(NumberText),
     /// In memory that copies share.
-    Shared(Rc<String>),
-    /// In memory that copies share, and known to be the form of a list.
+    Shared(Rc<SharedText>),
+    /// In memory that copies share, as the list that it was made as.
     Listed(Rc<ListString>),
 }
 
@@ -74,7 +97,8 @@ impl Model for Text {
 }
 
 impl TextForm {
-    ghost use Rattle.tcl_text.specs.ListForm.{IsListForm, IsOthersForm};
+    ghost use Rattle.tcl_text.specs.Edit.{with_more, written_anew};
+    ghost use Rattle.tcl_text.specs.Readings.{list_form, list_of};
     ghost use Rattle.tcl_text.specs.TextForm.{form_bytes};
 
     /// These characters, which it takes over.
@@ -84,18 +108,19 @@ impl TextForm {
         if string.len() <= SHORT_BYTES {
             return Ok(TextForm::Short(ShortText::new(string.as_str())));
         }
-        Ok(TextForm::Shared(Rc::new(alloc, string)?))
+        Ok(TextForm::Shared(Rc::new(alloc, SharedText::new(string))?))
     }
 
-    /// These characters, the form of a list, which it takes over.
-    fn of_list(alloc: Global, string: String) -> Result<TextForm, AllocError>
-        requires { IsListForm (string_bytes string) }
-        ensures { IfOk result (λ form. form_bytes form ≡ string_bytes string) }
+    /// The form of this list, which it takes over.
+    fn of_list(alloc: Global, list: ListString) -> Result<TextForm, AllocError>
+        ensures form { IfOk result (λ form. form_bytes form ≡ list_form list) }
+        ensures short { length (list_form list) ≤ 65536 }
     {
-        if string.len() <= SHORT_BYTES {
-            return Ok(TextForm::Short(ShortText::new(string.as_str())));
+        let form = list.as_str();
+        if form.len() <= SHORT_BYTES {
+            return Ok(TextForm::Short(ShortText::new(form)));
         }
-        Ok(TextForm::Listed(Rc::new(alloc, ListString::new(string))?))
+        Ok(TextForm::Listed(Rc::new(alloc, list)?))
     }
 
     /// The characters.
@@ -104,28 +129,31 @@ impl TextForm {
     {
         match self {
             TextForm::Short(short) => short.as_str(),
-            TextForm::Shared(string) => string.as_ref().as_str(),
+            TextForm::Number(number) => number.as_str(),
+            TextForm::Shared(text) => text.as_ref().as_str(),
             TextForm::Listed(list) => list.as_ref().as_str(),
         }
     }
 
-    /// The characters, where they are known to be the form of a list.
-    fn as_list(&self) -> Option<&str>
-        ensures { IfSome result (λ _. IsListForm (form_bytes self.now)) }
+    /// The list that the text is, where it is kept.
+    fn as_list(&self, alloc: Global) -> Option<&ListString>
+        ensures { IfSome result (λ list. list_of (form_bytes self.now) ≡ Ok list.now) }
     {
         match self {
-            TextForm::Listed(list) => Some(list.as_ref().as_str()),
-            TextForm::Short(_) | TextForm::Shared(_) => None,
+            TextForm::Short(_) => None,
+            TextForm::Number(_) => None,
+            TextForm::Shared(text) => text.as_ref().as_list(alloc),
+            TextForm::Listed(list) => Some(list.as_ref()),
         }
     }
 
-    /// Adds characters at the end; in place, where no copy shares the form and it isn't known to be a list's.
+    /// Adds characters at the end; in place, where no copy shares the form and it wasn't made as a list.
     fn push_str(&mut self, alloc: Global, characters: &str) -> Result<(), AllocError>
         ensures ok { OnOk result (form_bytes self.new ≡ form_bytes self.old ++ characters.now) }
         ensures err { OnErr result (form_bytes self.new ≡ form_bytes self.old) }
     {
-        if let TextForm::Shared(string) = self
-            && push_alone(string, characters)?
+        if let TextForm::Shared(text) = self
+            && SharedText::push_alone(text, characters)?
         {
             return Ok(());
         }
@@ -133,47 +161,40 @@ impl TextForm {
         Ok(())
     }
 
-    /// Adds the form of more items to that of a list; in place, where no copy shares it and it is known to be one.
-    fn push_others(&mut self, alloc: Global, more: &str) -> Result<(), AllocError>
-        requires list { IsListForm (form_bytes self.old) }
-        requires others { IsOthersForm more.now }
-        ensures ok { OnOk result (form_bytes self.new ≡ form_bytes self.old ++ more.now) }
+    /// Adds items to a text that was made as a list; in place, where no copy shares it. False, and nothing is done, for another text.
+    #[tactic(auto, using(crate::proofs::EditLemmas::kept_lists))]
+    fn push_items(&mut self, alloc: Global, items: &[Text]) -> Result<bool, TextFault>
+        requires { length (form_bytes self.old) ≤ 65536 }
+        ensures ok { IfOk result (λ done. MatchBool done
+            (written_anew (with_more items.now (list_of (form_bytes self.old))) ≡ Ok (form_bytes self.new))
+            (form_bytes self.new ≡ form_bytes self.old)) }
+        ensures too_long { IfErr result (λ fault. fault ≢ TextFault.NoMemory → written_anew (with_more items.now (list_of (form_bytes self.old))) ≡ Err EditFault.TooLong) }
         ensures err { OnErr result (form_bytes self.new ≡ form_bytes self.old) }
+        ensures short { length (form_bytes self.new) ≤ 65536 }
     {
-        if let TextForm::Listed(list) = self
-            && ListString::push_others_alone(list, more)?
-        {
-            return Ok(());
+        match self {
+            TextForm::Listed(list) => {
+                ListString::push_items(list, alloc, items)?;
+                let _form = Rc::as_ref(list).as_str();
+                Ok(true)
+            }
+            TextForm::Short(_) => Ok(false),
+            TextForm::Number(_) => Ok(false),
+            TextForm::Shared(_) => Ok(false),
         }
-        let mut string = String::from_str(alloc, self.as_str())?;
-        string.push_str(more)?;
-        *self = TextForm::of_list(alloc, string)?;
-        Ok(())
     }
 
     /// A form of these characters with more at the end.
     fn longer(&self, alloc: Global, characters: &str) -> Result<TextForm, AllocError>
         ensures { IfOk result (λ longer. form_bytes longer ≡ form_bytes self.now ++ characters.now) }
     {
-        let mut string = String::from_str(alloc, self.as_str())?;
+        let held = self.as_str();
+        if held.len() <= SHORT_BYTES && characters.len() <= SHORT_BYTES - held.len() {
+            return Ok(TextForm::Short(ShortText::joined(held, characters)));
+        }
+        let mut string = String::from_str(alloc, held)?;
         string.push_str(characters)?;
         TextForm::of(alloc, string)
-    }
-}
-
-// Adds characters to a string that has no other owner; false, and nothing is done, where it has one.
-fn push_alone(string: &mut Rc<String>, characters: &str) -> Result<bool, AllocError>
-    ensures ok { IfOk result (λ done. MatchBool done
-        (string_bytes string.new.value ≡ string_bytes string.old.value ++ characters.now)
-        (string_bytes string.new.value ≡ string_bytes string.old.value)) }
-    ensures err { OnErr result (string_bytes string.new.value ≡ string_bytes string.old.value) }
-{
-    match Rc::get_mut(string) {
-        Some(string) => {
-            string.push_str(characters)?;
-            Ok(true)
-        }
-        None => Ok(false),
     }
 }
 
@@ -189,8 +210,8 @@ impl Text {
         Ok(Text::of_short(alloc, characters)?)
     }
 
-    /// A text of these characters, which are known to be few enough.
-    pub(crate) fn of_short(alloc: Global, characters: &str) -> Result<Text, AllocError>
+    /// A text of characters that are known to be 65,536 bytes at most.
+    pub fn of_short(alloc: Global, characters: &str) -> Result<Text, AllocError>
         requires { length characters.now ≤ 65536 }
         ensures { IfOk result (λ text. text ≡ characters.now) }
     {
@@ -201,12 +222,23 @@ impl Text {
         }
         let string = String::from_str(alloc, characters)?;
         Ok(Text {
-            form: TextForm::Shared(Rc::new(alloc, string)?),
+            form: TextForm::Shared(Rc::new(alloc, SharedText::new(string))?),
         })
     }
 
-    /// A text of the characters of a string, which it takes over.
-    pub(crate) fn from_string(alloc: Global, string: String) -> Result<Text, TextFault>
+    /// The message of an error with these characters, or with those of the limit (4) where they are more than 65,536 bytes.
+    #[tactic(auto, using(crate::proofs::AnswerLemmas::bounds))]
+    pub fn of_message(alloc: Global, characters: &str) -> Result<Text, AllocError>
+        ensures { IfOk result (λ text. text ≡ bounded characters.now) }
+    {
+        if characters.len() > MAX_BYTES {
+            return Text::of_short(alloc, "limit reached: value");
+        }
+        Text::of_short(alloc, characters)
+    }
+
+    /// A text of the characters of a string, which it takes over. `TooLong` (4) where they are more than 65,536 bytes.
+    pub fn from_string(alloc: Global, string: String) -> Result<Text, TextFault>
         ensures ok { IfOk result (λ text. text ≡ string_bytes string) }
         ensures too_long { IsErrOf result TextFault.TooLong ↔ (65536 < length (string_bytes string)) }
     {
@@ -235,22 +267,41 @@ impl Text {
         })
     }
 
-    /// A text of the characters of a string, the form of a list, which are known to be few enough.
-    pub(crate) fn of_list(alloc: Global, string: String) -> Result<Text, AllocError>
-        requires list { IsListForm (string_bytes string) }
-        requires short { string_len string ≤ 65536 }
-        ensures { IfOk result (λ text. text ≡ string_bytes string) }
+    /// The text that is the form of a list, which it takes over.
+    pub(crate) fn of_list(alloc: Global, list: ListString) -> Result<Text, AllocError>
+        ensures form { IfOk result (λ text. text ≡ list_form list) }
+        ensures short { length (list_form list) ≤ 65536 }
     {
         Ok(Text {
-            form: TextForm::of_list(alloc, string)?,
+            form: TextForm::of_list(alloc, list)?,
         })
     }
 
-    /// Whether the text is known to be the form of a list. It may be one without that.
-    pub(crate) fn is_list_form(&self) -> bool
-        ensures { IsTrue result → IsListForm self.now }
+    /// The decimal text of an integer, whose digits are few.
+    pub(crate) fn of_number(number: NumberText) -> Text
+        ensures { result ≡ signed_decimal number.number }
     {
-        self.form.as_list().is_some()
+        Text {
+            form: TextForm::Number(number),
+        }
+    }
+
+    /// The integer of which the text is known to be the decimal text, if it is known to be one.
+    pub(crate) fn number(&self) -> Option<i64>
+        ensures { IfSome result (λ number. self.now ≡ signed_decimal number) }
+    {
+        match &self.form {
+            TextForm::Number(number) => Some(number.number()),
+            _ => None,
+        }
+    }
+
+    /// The list that the text is, where it is kept: of a text past 22 bytes that was made as a list, or is read as one a second time. So
+    /// none says nothing.
+    pub(crate) fn as_list(&self, alloc: Global) -> Option<&ListString>
+        ensures { IfSome result (λ list. list_of self.now ≡ Ok list.now) }
+    {
+        self.form.as_list(alloc)
     }
 
     /// The characters. It takes no memory.
@@ -277,22 +328,16 @@ impl Text {
         Ok(())
     }
 
-    /// Adds the form of more items to that of a list; in place, where no copy shares the text and it is known to be one.
-    /// `TooLong` (4), and nothing is added, where the text would pass 65,536 bytes.
-    pub(crate) fn push_others(&mut self, alloc: Global, more: &str) -> Result<(), TextFault>
-        requires list { IsListForm self.old }
-        requires others { IsOthersForm more.now }
-        ensures ok { OnOk result (self.new ≡ self.old ++ more.now) }
-        ensures short { OnOk result (length (self.old ++ more.now) ≤ 65536) }
-        ensures too_long { IfErr result (λ fault. fault ≢ TextFault.NoMemory → 65536 < length (self.old ++ more.now)) }
+    /// Adds items to a text that was made as a list past 22 bytes; in place, where no copy shares it. False, and nothing is done, for
+    /// another text; `TooLong` (4), and nothing is added, where the text would pass 65,536 bytes.
+    pub(crate) fn push_items(&mut self, alloc: Global, items: &[Text]) -> Result<bool, TextFault>
+        ensures ok { IfOk result (λ done. MatchBool done
+            (written_anew (with_more items.now (list_of self.old)) ≡ Ok self.new)
+            (self.new ≡ self.old)) }
+        ensures too_long { IfErr result (λ fault. fault ≢ TextFault.NoMemory → written_anew (with_more items.now (list_of self.old)) ≡ Err EditFault.TooLong) }
         ensures err { OnErr result (self.new ≡ self.old) }
     {
-        let length = self.as_str().len();
-        if MAX_BYTES - length < more.len() {
-            return Err(TextFault::TooLong);
-        }
-        self.form.push_others(alloc, more)?;
-        Ok(())
+        self.form.push_items(alloc, items)
     }
 
     /// An equal text, which shares the characters. It takes no memory; it is refused only where the count of a shared text is full.
@@ -301,7 +346,8 @@ impl Text {
     {
         let form = match &self.form {
             TextForm::Short(short) => TextForm::Short(*short),
-            TextForm::Shared(string) => TextForm::Shared(string.clone()?),
+            TextForm::Number(number) => TextForm::Number(*number),
+            TextForm::Shared(text) => TextForm::Shared(text.clone()?),
             TextForm::Listed(list) => TextForm::Listed(list.clone()?),
         };
         Ok(Text { form })

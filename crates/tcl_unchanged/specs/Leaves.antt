@@ -1,4 +1,4 @@
--- What of an object that serves outside commands no script changes.
+-- Meaning. What of an object that serves outside commands no script changes.
 use Rattle.std.specs.Prelude.{◌≡◌, ℕ, List}
 use Rattle.tcl_vars.specs.Store.{Store}
 use Rattle.tcl_control.specs.declared.code.Code.{Code}

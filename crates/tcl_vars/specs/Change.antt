@@ -1,4 +1,4 @@
--- What changing a text that is there does in one content, in one frame and in the store.
+-- Meaning. What changing a text that is there does in one content, in one frame and in the store.
 use Rattle.std.specs.Prelude.{◌≡◌, ◌≢◌, ℕ, List, Option, None, Some, Result, Ok, Err}
 use Rattle.tcl_text.specs.Edit.{edited}
 use Rattle.tcl_text.specs.declared.edit.Edit.{Edit}

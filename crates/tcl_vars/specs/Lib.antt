@@ -1,4 +1,5 @@
 pub mod Change
+pub mod Faults
 pub mod Name
 pub mod Named
 pub mod Owned

@@ -1,4 +1,4 @@
--- How the name of a variable is read.
+-- Meaning. How the name of a variable is read.
 use Rattle.std.specs.Prelude.{ℕ, ◌-◌, ◌==◌, nat_eq, nat_lt, List, Option, None, Some, length, take, drop, if◌then◌else◌, codes}
 use Rattle.std.specs.List.{starts_with, ends_with, position_or_len, before_first, after_first}
 

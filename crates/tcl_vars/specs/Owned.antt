@@ -1,4 +1,4 @@
--- What a place that is kept apart points to.
+-- Steps. What a place that is kept apart points to.
 use Rattle.std.specs.Prelude.{option_map, string_bytes}
 use Rattle.tcl_vars.specs.declared.name.OwnPlace.{OwnPlace}
 use Rattle.tcl_vars.specs.Name.{Place}

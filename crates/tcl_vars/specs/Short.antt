@@ -1,4 +1,4 @@
--- Names are parts of texts, so that they have at most as many bytes as those.
+-- Steps. Names are parts of texts, so that they have at most as many bytes as those.
 use Rattle.std.specs.Prelude.{ℕ, ◌≤◌, List, [], ◌∷◌, length, IfSome}
 use Rattle.tcl_vars.specs.Name.{Place}
 use Rattle.tcl_vars.specs.Table.{Table}

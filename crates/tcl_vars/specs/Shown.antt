@@ -1,4 +1,4 @@
--- What a place of the code points to.
+-- Steps. What a place of the code points to.
 use Rattle.std.specs.Option.{option_copied}
 use Rattle.tcl_vars.specs.declared.name.Place.{Place as BorrowedPlace}
 use Rattle.tcl_vars.specs.Name.{Place}

@@ -1,4 +1,4 @@
--- The variables of an application: a list of frames, the global one first, each a list of (name, content).
+-- Meaning. The variables of an application: a list of frames, the global one first, each a list of (name, content).
 use Rattle.std.specs.Prelude.{Bool, true, false, not, ◌&&◌, is_none, nat_eq, codes, ℕ, zero, suc, ◌+◌, nat_le, List, [], ◌∷◌, Option, None, Some, Result, Ok, Err, length, sum_by, is_some, ok_or, option_and_then, slice_index_or, slice_set, if◌then◌else◌}
 use Rattle.std.specs.List.{starts_with}
 use Rattle.tcl_vars.specs.declared.content.Content.{Content}

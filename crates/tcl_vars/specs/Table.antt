@@ -1,4 +1,4 @@
--- Values by name, as a list of (name, value) in the order in which the names came.
+-- Meaning. Values by name, as a list of (name, value) in the order in which the names came.
 use Rattle.std.specs.Prelude.{ℕ, List, Option, None, Some}
 use Rattle.std.specs.Str.{bytes_eq}
 use Rattle.std.specs.Map.{lookup, remove_entry}

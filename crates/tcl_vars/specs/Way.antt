@@ -1,4 +1,4 @@
--- The way along links.
+-- Steps. The way along links.
 use Rattle.std.specs.Prelude.{◌≡◌, ◌<◌, length}
 use Rattle.tcl_vars.specs.Name.{Place}
 use Rattle.tcl_vars.specs.Short.{IsShortPlace}

@@ -19,6 +19,23 @@ pub enum ReadFault {
     NotArray,
 }
 
+impl ReadFault {
+    ghost use Rattle.std.specs.Prelude.{◌≡◌};
+    ghost use Rattle.tcl_vars.specs.Faults.{read_number};
+
+    /// Its number.
+    pub fn number(&self) -> u32
+        ensures { result ≡ read_number self.now }
+    {
+        match self {
+            ReadFault::NoVariable => 15,
+            ReadFault::NoElement => 16,
+            ReadFault::IsArray => 17,
+            ReadFault::NotArray => 18,
+        }
+    }
+}
+
 /// Why a variable can't be set.
 #[derive(Clone, Copy, Debug, PartialEq, Eq, Drop, Error)]
 pub enum SetFault {
@@ -34,6 +51,23 @@ pub enum SetFault {
     /// Memory was refused.
     #[error("out of memory")]
     NoMemory,
+}
+
+impl SetFault {
+    ghost use Rattle.std.specs.Prelude.{◌≡◌};
+    ghost use Rattle.tcl_vars.specs.Faults.{set_number};
+
+    /// Its number; none where memory was refused.
+    pub fn number(&self) -> Option<u32>
+        ensures { result ≡ set_number self.now }
+    {
+        match self {
+            SetFault::IsArray => Some(17),
+            SetFault::NotArray => Some(18),
+            SetFault::Full => Some(19),
+            SetFault::NoMemory => None,
+        }
+    }
 }
 
 impl From<AllocError> for SetFault {
@@ -75,6 +109,23 @@ pub enum ChangeFault {
     NoMemory,
 }
 
+impl ChangeFault {
+    ghost use Rattle.std.specs.Prelude.{◌≡◌};
+    ghost use Rattle.tcl_vars.specs.Faults.{change_number};
+
+    /// Its number; none where memory was refused.
+    pub fn number(&self) -> Option<u32>
+        ensures { result ≡ change_number self.now }
+    {
+        match self {
+            ChangeFault::Unread(fault) => Some(fault.number()),
+            ChangeFault::TooLong => Some(4),
+            ChangeFault::BadList(_) => Some(3),
+            ChangeFault::NoMemory => None,
+        }
+    }
+}
+
 impl From<AllocError> for ChangeFault {
     ghost use Rattle.std.specs.Prelude.{◌≡◌};
     ghost use Rattle.tcl_vars.specs.declared.fault.ChangeFault.TheVariants.{NoMemory};
@@ -103,6 +154,23 @@ pub enum UnsetFault {
     NoMemory,
 }
 
+impl UnsetFault {
+    ghost use Rattle.std.specs.Prelude.{◌≡◌};
+    ghost use Rattle.tcl_vars.specs.Faults.{unset_number};
+
+    /// Its number; none where memory was refused.
+    pub fn number(&self) -> Option<u32>
+        ensures { result ≡ unset_number self.now }
+    {
+        match self {
+            UnsetFault::NoVariable => Some(15),
+            UnsetFault::NoElement => Some(16),
+            UnsetFault::NotArray => Some(18),
+            UnsetFault::NoMemory => None,
+        }
+    }
+}
+
 impl From<AllocError> for UnsetFault {
     ghost use Rattle.std.specs.Prelude.{◌≡◌};
     ghost use Rattle.tcl_vars.specs.declared.fault.UnsetFault.TheVariants.{NoMemory};
@@ -129,6 +197,22 @@ pub enum LinkFault {
     /// Memory was refused.
     #[error("out of memory")]
     NoMemory,
+}
+
+impl LinkFault {
+    ghost use Rattle.std.specs.Prelude.{◌≡◌};
+    ghost use Rattle.tcl_vars.specs.Faults.{link_number};
+
+    /// Its number; none where memory was refused, nor for the first two.
+    pub fn number(&self) -> Option<u32>
+        ensures { result ≡ link_number self.now }
+    {
+        match self {
+            LinkFault::BadName | LinkFault::Exists => None,
+            LinkFault::Full => Some(19),
+            LinkFault::NoMemory => None,
+        }
+    }
 }
 
 impl From<AllocError> for LinkFault {

@@ -2,12 +2,13 @@
 use Rattle.std.proofs.Common.{◌≡◌, ℕ, zero, suc, ◌+◌, ◌-◌, ◌<◌, ◌≤◌, Bool, true, false, List, [], ◌∷◌, ◌++◌, length, drop, take, refl, sym, ap, subst, ◌∙◌, append_assoc, arith, Ok, Err, Result}
 use Rattle.std.specs.List.{slice_range}
 use Rattle.std.proofs.lemmas.List.{take-append-le, drop-append-le, length-drop}
-use Rattle.tcl_words.specs.Kinds.{class_of, class_means, kind_of}
-use Rattle.tcl_words.specs.Changes.{Rest, Read, put, piece_before, last_rest, Change, bytes, name, text_ends, word_ends, command_ends, word_begins, command_begins, changed, changed_by}
+use Rattle.tcl_words.specs.Kinds.{class_means, kind_before}
+use Rattle.tcl_words.specs.Classes.{class_of}
+use Rattle.tcl_words.specs.Changes.{Rest, Read, put, piece_before, last_rest, Change, bytes, name, text_ends, word_ends, command_ends, word_begins, command_begins, changed}
 use Rattle.tcl_words.specs.Moves.{Move, move_of}
 use Rattle.tcl_words.specs.Reading.{Level, within, rest_of, at_end, past, past_opened, first_place, first_skip, opened_piece}
-use Rattle.tcl_words.specs.declared.kind.Place.{Place}
-use Rattle.tcl_words.specs.declared.kind.Place.TheVariants.{Start, Comment, Between, Expanded, Text, PastQuotes, InBraces, PastBraces}
+use Rattle.tcl_words.specs.declared.kind.BytePlace.{BytePlace}
+use Rattle.tcl_words.specs.declared.kind.BytePlace.TheVariants.{Start, Comment, Between, Expanded, Text, PastQuotes, InBraces, PastBraces}
 use Rattle.tcl_words.specs.declared.kind.Mode.{Mode}
 use Rattle.tcl_words.specs.declared.kind.Mode.TheVariants.{Bare, Quotes, Parens}
 use Rattle.tcl_words.specs.declared.kind.Opener.{Opener}
@@ -16,12 +17,11 @@ use Rattle.tcl_words.specs.declared.kind.Step.{Step}
 use Rattle.tcl_words.specs.declared.kind.Step.TheVariants.{On, Within, Ends}
 use Rattle.tcl_words.specs.declared.script.Piece.TheVariants.{Bracket as BracketPiece, Element}
 use Rattle.tcl_words.specs.declared.fault.ParseFault.{ParseFault}
-use Rattle.tcl_words.specs.declared.fault.ParseFault.TheVariants.{TooLong}
 use Rattle.tcl_words.proofs.Cuts.{IsCloser, FitsStep, step_cut, step_same}
 use Rattle.tcl_words.proofs.Closers.{class_ends, class_closes}
 
 -- what was read of this text ends at a bracket or a parenthesis in it
-pub record Closed (text : List ℕ) (room skip : ℕ) (place : Place) (at : ℕ) (rest : Rest) : Type 0 where
+pub record Closed (text : List ℕ) (room skip : ℕ) (place : BytePlace) (at : ℕ) (rest : Rest) : Type 0 where
   pub inner : List ℕ
   pub closer : ℕ
   pub after : List ℕ
@@ -67,7 +67,7 @@ piece_cut (Index n) xs tail close h k =
     ∙ ap (λ t. Element (take n xs) t) (ap (take (close - suc n)) (drop-append-le (suc n) xs tail k) ∙ take-append-le (close - suc n) (drop (suc n) xs) tail room)
 
 -- an end before it should end is a fault
-no_end : (place : Place) (at : ℕ) (rest : Rest) → at_end true place at ≡ Ok rest → ⊥
+no_end : (place : BytePlace) (at : ℕ) (rest : Rest) → at_end true place at ≡ Ok rest → ⊥
 no_end Start at rest e = let h : at_end true Start at ≡ Ok rest = e in cc
 no_end Comment at rest e = let h : at_end true Comment at ≡ Ok rest = e in cc
 no_end Between at rest e = let h : at_end true Between at ≡ Ok rest = e in cc
@@ -79,17 +79,17 @@ no_end PastQuotes at rest e = let h : at_end true PastQuotes at ≡ Ok rest = e 
 no_end (InBraces depth) at rest e = let h : at_end true (InBraces depth) at ≡ Ok rest = e in cc
 no_end PastBraces at rest e = let h : at_end true PastBraces at ≡ Ok rest = e in cc
 
-pub past_ok : (opener : Opener) (mode : Mode) (behind : List ℕ) (go : ℕ → Place → Read) (x : Read) (rest : Rest) → past_opened opener mode behind go x ≡ Ok rest →
+pub past_ok : (opener : Opener) (mode : Mode) (behind : List ℕ) (go : ℕ → BytePlace → Read) (x : Read) (rest : Rest) → past_opened opener mode behind go x ≡ Ok rest →
     (found : Rest) × ((x ≡ Ok found) × (put (piece_before (opened_piece opener behind found.close)) (go (suc found.close) (Text mode)) ≡ Ok rest))
 past_ok opener mode behind go (Ok found) rest e = (found, (refl, e))
 past_ok opener mode behind go (Err fault) rest e = absurd (let h : past_opened opener mode behind go (Err fault) ≡ Ok rest = e in cc)
 
-pub room_left : (room at : ℕ) (opener : Opener) (mode : Mode) (behind : List ℕ) (go : ℕ → Place → Read) (inner : ℕ → ℕ → Place → Read) (rest : Rest) → past (Ok (Within opener mode)) room at behind go inner ≡ Ok rest →
+pub room_left : (room at : ℕ) (opener : Opener) (mode : Mode) (behind : List ℕ) (go : ℕ → BytePlace → Read) (inner : ℕ → ℕ → BytePlace → Read) (rest : Rest) → past (Ok (Within opener mode)) room at behind go inner ≡ Ok rest →
     (0 < room) × (past_opened opener mode behind go (inner (room - 1) (first_skip opener) (first_place opener)) ≡ Ok rest)
 room_left zero at opener mode behind go inner rest e = absurd (let h : past (Ok (Within opener mode)) zero at behind go inner ≡ Ok rest = e in cc)
 room_left (suc room) at opener mode behind go inner rest e = let h : room ≡ suc room - 1 = omega arith in (omega arith, ap (λ n. past_opened opener mode behind go (inner n (first_skip opener) (first_place opener))) (sym h) ∙ e)
 
-room_goes : (room at : ℕ) (opener : Opener) (mode : Mode) (behind : List ℕ) (go : ℕ → Place → Read) (inner : ℕ → ℕ → Place → Read) → 0 < room →
+room_goes : (room at : ℕ) (opener : Opener) (mode : Mode) (behind : List ℕ) (go : ℕ → BytePlace → Read) (inner : ℕ → ℕ → BytePlace → Read) → 0 < room →
     past (Ok (Within opener mode)) room at behind go inner ≡ past_opened opener mode behind go (inner (room - 1) (first_skip opener) (first_place opener))
 room_goes zero at opener mode behind go inner some = absurd (omega (arith, some))
 room_goes (suc room) at opener mode behind go inner some = let h : room ≡ suc room - 1 = omega arith in ap (λ n. past_opened opener mode behind go (inner n (first_skip opener) (first_place opener))) h
@@ -99,7 +99,7 @@ moved : List ℕ → Level → Move → ℕ → Read
 moved text level move at =
     put (changed move.changes) (past move.step level.room at text (λ skip next. rest_of text level skip next (at + 1)) (λ room skip next. rest_of text (within room) skip next 0))
 
-module _ (b : ℕ) (text : List ℕ) (place : Place) (at : ℕ) where
+module _ (b : ℕ) (text : List ℕ) (place : BytePlace) (at : ℕ) where
   abbrev move : Bool → List ℕ → Move
   move inside behind = move_of place (class_means inside (class_of b) behind) b at behind
 
@@ -116,7 +116,7 @@ module _ (b : ℕ) (text : List ℕ) (place : Place) (at : ℕ) where
       move true text ≡ move true (inner ++ closer ∷ tail)
   to_same inner closer after tail step e closes h fits = ap (move true) e ∙ step_same (class_of b) place b at closer inner after tail closes (same_fits (length inner) inner closer after step e h fits)
 
-  goes_on : (other : List ℕ) (level : Level) (m : Move) (skip : ℕ) (next : Place) (found rest : Rest) → move true text ≡ m → (move true text).step ≡ Ok (On skip next) →
+  goes_on : (other : List ℕ) (level : Level) (m : Move) (skip : ℕ) (next : BytePlace) (found rest : Rest) → move true text ≡ m → (move true text).step ≡ Ok (On skip next) →
       changed (move true text).changes found ≡ rest → rest_of other level skip next (at + 1) ≡ Ok found → moved other level m at ≡ Ok rest
   unfolding moved
   goes_on other level m skip next found rest same h e again =
@@ -141,7 +141,7 @@ module _ (b : ℕ) (text : List ℕ) (place : Place) (at : ℕ) where
       )
       ∙ ap (λ r. Ok r) e
 
-  stepped : (room : ℕ) (rest : Rest) → ((room skip : ℕ) (place : Place) (at : ℕ) (rest : Rest) → rest_of text (within room) skip place at ≡ Ok rest → Closed text room skip place at rest) →
+  stepped : (room : ℕ) (rest : Rest) → ((room skip : ℕ) (place : BytePlace) (at : ℕ) (rest : Rest) → rest_of text (within room) skip place at ≡ Ok rest → Closed text room skip place at rest) →
       (step : Result Step ParseFault) → (move true text).step ≡ step →
       put (changed (move true text).changes) (past step room at text (λ skip next. rest_of text (within room) skip next (at + 1)) (λ room skip next. rest_of text (within room) skip next 0)) ≡ Ok rest →
       Closed (b ∷ text) room 0 place at rest
@@ -181,7 +181,7 @@ module _ (b : ℕ) (text : List ℕ) (place : Place) (at : ℕ) where
             goes_on c.inner (record { inside = false; room = more }) (move false c.inner) skip next p.0 rest (to_cut c.inner c.closer c.after (Ok (On skip next)) c.text_is c.closes h c.skipped) h p.1.1 (c.alone more m);
       }
   stepped room rest known (Ok (Within opener mode)) h e =
-      let go : ℕ → Place → Read = λ skip next. rest_of text (within room) skip next (at + 1) in
+      let go : ℕ → BytePlace → Read = λ skip next. rest_of text (within room) skip next (at + 1) in
       let p : (third : Rest) × ((past (Ok (Within opener mode)) room at text go (λ room skip next. rest_of text (within room) skip next 0) ≡ Ok third) × (changed (move true text).changes third ≡ rest)) =
       put_ok (changed (move true text).changes) (past (Ok (Within opener mode)) room at text go (λ room skip next. rest_of text (within room) skip next 0)) rest e in
       let q : (0 < room) × (past_opened opener mode text go (rest_of text (within (room - 1)) (first_skip opener) (first_place opener) 0) ≡ Ok p.0) =
@@ -223,7 +223,7 @@ module _ (b : ℕ) (text : List ℕ) (place : Place) (at : ℕ) where
             (c.alone more m);
       }
 
-pub closed : (text : List ℕ) (room skip : ℕ) (place : Place) (at : ℕ) (rest : Rest) → rest_of text (within room) skip place at ≡ Ok rest → Closed text room skip place at rest
+pub closed : (text : List ℕ) (room skip : ℕ) (place : BytePlace) (at : ℕ) (rest : Rest) → rest_of text (within room) skip place at ≡ Ok rest → Closed text room skip place at rest
 closed [] room skip place at rest e = absurd (no_end place at rest e)
 closed (b ∷ text) room (suc skip) place at rest e =
     let c : Closed text room skip place (at + 1) rest = closed text room skip place (at + 1) rest e in
@@ -239,4 +239,4 @@ closed (b ∷ text) room (suc skip) place at rest e =
       alone = c.alone;
     }
 closed (b ∷ text) room zero place at rest e =
-    stepped b text place at room rest (λ room skip place at rest. closed text room skip place at rest) (move_of place (kind_of true b text) b at text).step refl e
+    stepped b text place at room rest (λ room skip place at rest. closed text room skip place at rest) (move_of place (kind_before true b text) b at text).step refl e

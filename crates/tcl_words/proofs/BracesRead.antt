@@ -1,7 +1,8 @@
 -- Braces are read as the grammar says.
 use Rattle.std.proofs.Common.{◌⊎◌, inl, inr, ◌≡◌, ◌≢◌, ℕ, suc, ◌+◌, Bool, true, false, List, [], ◌∷◌, ◌++◌, length, refl, sym, ap, ◌∙◌, append-nil, append_assoc, length-append, arith, Ok, Err}
 use Rattle.tcl_text.specs.Backslash.{escape, blanks}
-use Rattle.tcl_words.specs.Kinds.{class_of, class_means, begins_expansion}
+use Rattle.tcl_words.specs.Kinds.{class_means}
+use Rattle.tcl_words.specs.Classes.{class_of, begins_expansion}
 use Rattle.tcl_words.specs.Changes.{Read, put, changed}
 use Rattle.tcl_words.specs.Changes.Change.{bytes as put_bytes, text_ends}
 use Rattle.tcl_words.specs.Moves.{on, in_braces}
@@ -11,7 +12,7 @@ use Rattle.tcl_words.specs.Grammar.IsBraced.{none, byte, pair, continuation, bra
 use Rattle.tcl_words.specs.Grammar.IsUnclosed.{ends, backslash, opens}
 use Rattle.tcl_words.specs.declared.kind.Kind.{Kind}
 use Rattle.tcl_words.specs.declared.kind.Kind.TheVariants.{Blank, Newline, Semicolon, Hash, Dollar, Quote, OpenBracket, CloseBracket, OpenBrace, Expansion, CloseBrace, CloseParen, Backslash, Continuation, Other}
-use Rattle.tcl_words.specs.declared.kind.Place.TheVariants.{InBraces, PastBraces}
+use Rattle.tcl_words.specs.declared.kind.BytePlace.TheVariants.{InBraces, PastBraces}
 use Rattle.tcl_words.specs.declared.fault.ParseFault.TheVariants.{MissingBrace}
 use Rattle.tcl_words.proofs.ClassLemmas.{byte_is, expansion_or, newline_or}
 use Rattle.tcl_words.proofs.StepLemmas.{after_move, moved_by, read_at, skip_read}

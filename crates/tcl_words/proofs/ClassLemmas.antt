@@ -3,7 +3,8 @@ use Rattle.std.proofs.Common.{◌≡◌, ◌≢◌, ℕ, Bool, true, false, ◌=
 use Rattle.std.proofs.Common.{arith}
 use Rattle.std.proofs.lemmas.Bool.Decides.{nat_tests}
 use Rattle.tcl_text.specs.Backslash.{escape}
-use Rattle.tcl_words.specs.Kinds.{class_of, class_means, kind_of, is_blank, begins_newline, begins_expansion}
+use Rattle.tcl_words.specs.Kinds.{class_means, kind_before}
+use Rattle.tcl_words.specs.Classes.{class_of, is_blank, begins_newline, begins_expansion}
 use Rattle.tcl_words.specs.Grammar.{class_ends}
 use Rattle.tcl_words.specs.Changes.{bytes}
 use Rattle.tcl_words.specs.Moves.{on, in_bare, in_quotes, in_parens, move_of, at_dollar}
@@ -11,7 +12,7 @@ use Rattle.tcl_words.specs.Kinds.{dollar_of}
 use Rattle.tcl_words.specs.Grammar.{stops, is_plain}
 use Rattle.tcl_words.specs.declared.kind.Mode.{Mode}
 use Rattle.tcl_words.specs.declared.kind.Mode.TheVariants.{Bare, Quotes, Parens}
-use Rattle.tcl_words.specs.declared.kind.Place.TheVariants.{Text}
+use Rattle.tcl_words.specs.declared.kind.BytePlace.TheVariants.{Text}
 use Rattle.std.proofs.Common.{Ok, nat_eq}
 use Rattle.tcl_words.specs.declared.kind.Opener.TheVariants.{Bracket as BracketOpener}
 use Rattle.tcl_words.specs.declared.kind.Step.TheVariants.{Within}
@@ -173,7 +174,7 @@ pub other_class : (b c : ℕ) (kind : Kind) → (b == c) ≡ false → (class_of
 other_class b c kind h is e = let same : b ≡ c = is e in absurd (grind (arith, nat_tests))
 
 pub plain_move : (inside : Bool) (mode : Mode) (b at : ℕ) (text : List ℕ) → stops inside mode (b ∷ text) ≡ false → is_plain (class_of b) ≡ true →
-    move_of (Text mode) (kind_of inside b text) b at text ≡ on (bytes (b ∷ []) ∷ []) 0 (Text mode)
+    move_of (Text mode) (kind_before inside b text) b at text ≡ on (bytes (b ∷ []) ∷ []) 0 (Text mode)
 plain_move inside Bare b at text h p = plain_bare inside (class_of b) b at text h p
 plain_move inside Quotes b at text h p = plain_quoted inside (class_of b) b text (other_class b 34 Quote h (byte_is b Quote)) p
 plain_move true Parens b at text h p = plain_parensed true (class_of b) b text (λ q. other_class b 41 CloseParen h (byte_is b CloseParen)) p
@@ -184,7 +185,7 @@ continuation_or P true x y = x
 continuation_or P false x y = y
 
 pub backslash_move : (inside : Bool) (mode : Mode) (at : ℕ) (text : List ℕ) → stops inside mode (92 ∷ text) ≡ false →
-    move_of (Text mode) (kind_of inside 92 text) 92 at text ≡ on (bytes (escape text).meaning ∷ []) (escape text).length (Text mode)
+    move_of (Text mode) (kind_before inside 92 text) 92 at text ≡ on (bytes (escape text).meaning ∷ []) (escape text).length (Text mode)
 unfolding class_of
 backslash_move inside Bare at text h = rw h refl
 backslash_move inside Quotes at text h =
@@ -192,14 +193,14 @@ backslash_move inside Quotes at text h =
 backslash_move inside Parens at text h =
     continuation_or (λ k. in_parens k 92 text ≡ on (bytes (escape text).meaning ∷ []) (escape text).length (Text Parens)) (begins_newline text) refl refl
 
-pub dollar_move : (inside : Bool) (mode : Mode) (at : ℕ) (text : List ℕ) → move_of (Text mode) (kind_of inside 36 text) 36 at text ≡ at_dollar mode (dollar_of text) 36 text
+pub dollar_move : (inside : Bool) (mode : Mode) (at : ℕ) (text : List ℕ) → move_of (Text mode) (kind_before inside 36 text) 36 at text ≡ at_dollar mode (dollar_of text) 36 text
 unfolding class_of
 dollar_move inside Bare at text = refl
 dollar_move inside Quotes at text = refl
 dollar_move inside Parens at text = refl
 
 pub bracket_move : (inside : Bool) (mode : Mode) (at : ℕ) (text : List ℕ) →
-    move_of (Text mode) (kind_of inside 91 text) 91 at text ≡ record { changes = []; step = Ok (Within BracketOpener mode) }
+    move_of (Text mode) (kind_before inside 91 text) 91 at text ≡ record { changes = []; step = Ok (Within BracketOpener mode) }
 unfolding class_of
 bracket_move inside Bare at text = refl
 bracket_move inside Quotes at text = refl

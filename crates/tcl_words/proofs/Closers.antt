@@ -2,7 +2,8 @@
 use Rattle.std.proofs.Common.{◌≡◌, ℕ, zero, suc, ◌⊎◌, true, false, List, nat_eq, refl, arith, inl, inr, Ok}
 use Rattle.std.proofs.lemmas.Bool.{cases_Bool, cond_both}
 use Rattle.std.proofs.lemmas.Bool.Decides.{nat_tests}
-use Rattle.tcl_words.specs.Kinds.{class_of, class_means, begins_newline, begins_expansion, is_blank, dollar_of}
+use Rattle.tcl_words.specs.Kinds.{class_means, dollar_of}
+use Rattle.tcl_words.specs.Classes.{class_of, begins_newline, begins_expansion, is_blank}
 use Rattle.tcl_words.specs.Changes.{put, last_rest, changed}
 use Rattle.tcl_words.specs.Moves.{at_dollar, at_brace, move_of}
 use Rattle.tcl_words.specs.Reading.{at_end}
@@ -10,8 +11,8 @@ use Rattle.tcl_words.specs.declared.kind.Kind.{Kind}
 use Rattle.tcl_words.specs.declared.kind.Kind.TheVariants.{Blank, Newline, Semicolon, Hash, Dollar, Quote, OpenBracket, CloseBracket, OpenBrace, Expansion, CloseBrace, CloseParen, Backslash, Continuation, Other}
 use Rattle.tcl_words.specs.declared.kind.Dollar.{Dollar as DollarForm}
 use Rattle.tcl_words.specs.declared.kind.Dollar.TheVariants.{Alone, Named, Indexed, Braced, Unclosed}
-use Rattle.tcl_words.specs.declared.kind.Place.{Place}
-use Rattle.tcl_words.specs.declared.kind.Place.TheVariants.{Start, Comment, Between, Expanded, Text, PastQuotes, InBraces, PastBraces}
+use Rattle.tcl_words.specs.declared.kind.BytePlace.{BytePlace}
+use Rattle.tcl_words.specs.declared.kind.BytePlace.TheVariants.{Start, Comment, Between, Expanded, Text, PastQuotes, InBraces, PastBraces}
 use Rattle.tcl_words.specs.declared.kind.Mode.{Mode}
 use Rattle.tcl_words.specs.declared.kind.Mode.TheVariants.{Bare, Quotes, Parens}
 use Rattle.tcl_words.specs.declared.kind.Step.TheVariants.{Ends}
@@ -33,11 +34,11 @@ brace_goes (suc depth) b e = let f : (at_brace (suc depth) b).step ≡ Ok Ends =
 -- ── what ends ──
 
 -- what ends a script or an index is no more than its byte, and the text may end before it
-abbrev EndsHere : Kind → Place → ℕ → ℕ → List ℕ → List ℕ → Type 0
+abbrev EndsHere : Kind → BytePlace → ℕ → ℕ → List ℕ → List ℕ → Type 0
 EndsHere k place b at X Y =
     ((k ≡ CloseBracket) ⊎ (k ≡ CloseParen)) × (move_of place k b at X ≡ move_of place k b at Y) × (at_end false place at ≡ put (changed (move_of place k b at X).changes) (Ok (last_rest at)))
 
-ends_blank : (place : Place) (b at : ℕ) (X Y : List ℕ) → (move_of place Blank b at X).step ≡ Ok Ends → EndsHere Blank place b at X Y
+ends_blank : (place : BytePlace) (b at : ℕ) (X Y : List ℕ) → (move_of place Blank b at X).step ≡ Ok Ends → EndsHere Blank place b at X Y
 ends_blank Start b at X Y e = absurd (let f : (move_of Start Blank b at X).step ≡ Ok Ends = e in cc)
 ends_blank Comment b at X Y e = absurd (let f : (move_of Comment Blank b at X).step ≡ Ok Ends = e in cc)
 ends_blank Between b at X Y e = absurd (let f : (move_of Between Blank b at X).step ≡ Ok Ends = e in cc)
@@ -49,7 +50,7 @@ ends_blank PastQuotes b at X Y e = absurd (let f : (move_of PastQuotes Blank b a
 ends_blank (InBraces depth) b at X Y e = absurd (let f : (move_of (InBraces depth) Blank b at X).step ≡ Ok Ends = e in cc)
 ends_blank PastBraces b at X Y e = absurd (let f : (move_of PastBraces Blank b at X).step ≡ Ok Ends = e in cc)
 
-ends_newline : (place : Place) (b at : ℕ) (X Y : List ℕ) → (move_of place Newline b at X).step ≡ Ok Ends → EndsHere Newline place b at X Y
+ends_newline : (place : BytePlace) (b at : ℕ) (X Y : List ℕ) → (move_of place Newline b at X).step ≡ Ok Ends → EndsHere Newline place b at X Y
 ends_newline Start b at X Y e = absurd (let f : (move_of Start Newline b at X).step ≡ Ok Ends = e in cc)
 ends_newline Comment b at X Y e = absurd (let f : (move_of Comment Newline b at X).step ≡ Ok Ends = e in cc)
 ends_newline Between b at X Y e = absurd (let f : (move_of Between Newline b at X).step ≡ Ok Ends = e in cc)
@@ -61,7 +62,7 @@ ends_newline PastQuotes b at X Y e = absurd (let f : (move_of PastQuotes Newline
 ends_newline (InBraces depth) b at X Y e = absurd (let f : (move_of (InBraces depth) Newline b at X).step ≡ Ok Ends = e in cc)
 ends_newline PastBraces b at X Y e = absurd (let f : (move_of PastBraces Newline b at X).step ≡ Ok Ends = e in cc)
 
-ends_semicolon : (place : Place) (b at : ℕ) (X Y : List ℕ) → (move_of place Semicolon b at X).step ≡ Ok Ends → EndsHere Semicolon place b at X Y
+ends_semicolon : (place : BytePlace) (b at : ℕ) (X Y : List ℕ) → (move_of place Semicolon b at X).step ≡ Ok Ends → EndsHere Semicolon place b at X Y
 ends_semicolon Start b at X Y e = absurd (let f : (move_of Start Semicolon b at X).step ≡ Ok Ends = e in cc)
 ends_semicolon Comment b at X Y e = absurd (let f : (move_of Comment Semicolon b at X).step ≡ Ok Ends = e in cc)
 ends_semicolon Between b at X Y e = absurd (let f : (move_of Between Semicolon b at X).step ≡ Ok Ends = e in cc)
@@ -73,7 +74,7 @@ ends_semicolon PastQuotes b at X Y e = absurd (let f : (move_of PastQuotes Semic
 ends_semicolon (InBraces depth) b at X Y e = absurd (let f : (move_of (InBraces depth) Semicolon b at X).step ≡ Ok Ends = e in cc)
 ends_semicolon PastBraces b at X Y e = absurd (let f : (move_of PastBraces Semicolon b at X).step ≡ Ok Ends = e in cc)
 
-ends_hash : (place : Place) (b at : ℕ) (X Y : List ℕ) → (move_of place Hash b at X).step ≡ Ok Ends → EndsHere Hash place b at X Y
+ends_hash : (place : BytePlace) (b at : ℕ) (X Y : List ℕ) → (move_of place Hash b at X).step ≡ Ok Ends → EndsHere Hash place b at X Y
 ends_hash Start b at X Y e = absurd (let f : (move_of Start Hash b at X).step ≡ Ok Ends = e in cc)
 ends_hash Comment b at X Y e = absurd (let f : (move_of Comment Hash b at X).step ≡ Ok Ends = e in cc)
 ends_hash Between b at X Y e = absurd (let f : (move_of Between Hash b at X).step ≡ Ok Ends = e in cc)
@@ -85,7 +86,7 @@ ends_hash PastQuotes b at X Y e = absurd (let f : (move_of PastQuotes Hash b at 
 ends_hash (InBraces depth) b at X Y e = absurd (let f : (move_of (InBraces depth) Hash b at X).step ≡ Ok Ends = e in cc)
 ends_hash PastBraces b at X Y e = absurd (let f : (move_of PastBraces Hash b at X).step ≡ Ok Ends = e in cc)
 
-ends_dollar : (place : Place) (b at : ℕ) (X Y : List ℕ) → (move_of place Dollar b at X).step ≡ Ok Ends → EndsHere Dollar place b at X Y
+ends_dollar : (place : BytePlace) (b at : ℕ) (X Y : List ℕ) → (move_of place Dollar b at X).step ≡ Ok Ends → EndsHere Dollar place b at X Y
 ends_dollar Start b at X Y e = absurd (dollar_goes Bare (dollar_of X) b X e)
 ends_dollar Comment b at X Y e = absurd (let f : (move_of Comment Dollar b at X).step ≡ Ok Ends = e in cc)
 ends_dollar Between b at X Y e = absurd (dollar_goes Bare (dollar_of X) b X e)
@@ -97,7 +98,7 @@ ends_dollar PastQuotes b at X Y e = absurd (let f : (move_of PastQuotes Dollar b
 ends_dollar (InBraces depth) b at X Y e = absurd (let f : (move_of (InBraces depth) Dollar b at X).step ≡ Ok Ends = e in cc)
 ends_dollar PastBraces b at X Y e = absurd (let f : (move_of PastBraces Dollar b at X).step ≡ Ok Ends = e in cc)
 
-ends_quote : (place : Place) (b at : ℕ) (X Y : List ℕ) → (move_of place Quote b at X).step ≡ Ok Ends → EndsHere Quote place b at X Y
+ends_quote : (place : BytePlace) (b at : ℕ) (X Y : List ℕ) → (move_of place Quote b at X).step ≡ Ok Ends → EndsHere Quote place b at X Y
 ends_quote Start b at X Y e = absurd (let f : (move_of Start Quote b at X).step ≡ Ok Ends = e in cc)
 ends_quote Comment b at X Y e = absurd (let f : (move_of Comment Quote b at X).step ≡ Ok Ends = e in cc)
 ends_quote Between b at X Y e = absurd (let f : (move_of Between Quote b at X).step ≡ Ok Ends = e in cc)
@@ -109,7 +110,7 @@ ends_quote PastQuotes b at X Y e = absurd (let f : (move_of PastQuotes Quote b a
 ends_quote (InBraces depth) b at X Y e = absurd (let f : (move_of (InBraces depth) Quote b at X).step ≡ Ok Ends = e in cc)
 ends_quote PastBraces b at X Y e = absurd (let f : (move_of PastBraces Quote b at X).step ≡ Ok Ends = e in cc)
 
-ends_openbracket : (place : Place) (b at : ℕ) (X Y : List ℕ) → (move_of place OpenBracket b at X).step ≡ Ok Ends → EndsHere OpenBracket place b at X Y
+ends_openbracket : (place : BytePlace) (b at : ℕ) (X Y : List ℕ) → (move_of place OpenBracket b at X).step ≡ Ok Ends → EndsHere OpenBracket place b at X Y
 ends_openbracket Start b at X Y e = absurd (let f : (move_of Start OpenBracket b at X).step ≡ Ok Ends = e in cc)
 ends_openbracket Comment b at X Y e = absurd (let f : (move_of Comment OpenBracket b at X).step ≡ Ok Ends = e in cc)
 ends_openbracket Between b at X Y e = absurd (let f : (move_of Between OpenBracket b at X).step ≡ Ok Ends = e in cc)
@@ -121,7 +122,7 @@ ends_openbracket PastQuotes b at X Y e = absurd (let f : (move_of PastQuotes Ope
 ends_openbracket (InBraces depth) b at X Y e = absurd (let f : (move_of (InBraces depth) OpenBracket b at X).step ≡ Ok Ends = e in cc)
 ends_openbracket PastBraces b at X Y e = absurd (let f : (move_of PastBraces OpenBracket b at X).step ≡ Ok Ends = e in cc)
 
-ends_closebracket : (place : Place) (b at : ℕ) (X Y : List ℕ) → (move_of place CloseBracket b at X).step ≡ Ok Ends → EndsHere CloseBracket place b at X Y
+ends_closebracket : (place : BytePlace) (b at : ℕ) (X Y : List ℕ) → (move_of place CloseBracket b at X).step ≡ Ok Ends → EndsHere CloseBracket place b at X Y
 ends_closebracket Start b at X Y e = (inl refl, refl, refl)
 ends_closebracket Comment b at X Y e = absurd (let f : (move_of Comment CloseBracket b at X).step ≡ Ok Ends = e in cc)
 ends_closebracket Between b at X Y e = (inl refl, refl, refl)
@@ -133,7 +134,7 @@ ends_closebracket PastQuotes b at X Y e = (inl refl, refl, refl)
 ends_closebracket (InBraces depth) b at X Y e = absurd (let f : (move_of (InBraces depth) CloseBracket b at X).step ≡ Ok Ends = e in cc)
 ends_closebracket PastBraces b at X Y e = (inl refl, refl, refl)
 
-ends_openbrace : (place : Place) (b at : ℕ) (X Y : List ℕ) → (move_of place OpenBrace b at X).step ≡ Ok Ends → EndsHere OpenBrace place b at X Y
+ends_openbrace : (place : BytePlace) (b at : ℕ) (X Y : List ℕ) → (move_of place OpenBrace b at X).step ≡ Ok Ends → EndsHere OpenBrace place b at X Y
 ends_openbrace Start b at X Y e = absurd (let f : (move_of Start OpenBrace b at X).step ≡ Ok Ends = e in cc)
 ends_openbrace Comment b at X Y e = absurd (let f : (move_of Comment OpenBrace b at X).step ≡ Ok Ends = e in cc)
 ends_openbrace Between b at X Y e = absurd (let f : (move_of Between OpenBrace b at X).step ≡ Ok Ends = e in cc)
@@ -145,7 +146,7 @@ ends_openbrace PastQuotes b at X Y e = absurd (let f : (move_of PastQuotes OpenB
 ends_openbrace (InBraces depth) b at X Y e = absurd (let f : (move_of (InBraces depth) OpenBrace b at X).step ≡ Ok Ends = e in cc)
 ends_openbrace PastBraces b at X Y e = absurd (let f : (move_of PastBraces OpenBrace b at X).step ≡ Ok Ends = e in cc)
 
-ends_expansion : (place : Place) (b at : ℕ) (X Y : List ℕ) → (move_of place Expansion b at X).step ≡ Ok Ends → EndsHere Expansion place b at X Y
+ends_expansion : (place : BytePlace) (b at : ℕ) (X Y : List ℕ) → (move_of place Expansion b at X).step ≡ Ok Ends → EndsHere Expansion place b at X Y
 ends_expansion Start b at X Y e = absurd (let f : (move_of Start Expansion b at X).step ≡ Ok Ends = e in cc)
 ends_expansion Comment b at X Y e = absurd (let f : (move_of Comment Expansion b at X).step ≡ Ok Ends = e in cc)
 ends_expansion Between b at X Y e = absurd (let f : (move_of Between Expansion b at X).step ≡ Ok Ends = e in cc)
@@ -157,7 +158,7 @@ ends_expansion PastQuotes b at X Y e = absurd (let f : (move_of PastQuotes Expan
 ends_expansion (InBraces depth) b at X Y e = absurd (let f : (move_of (InBraces depth) Expansion b at X).step ≡ Ok Ends = e in cc)
 ends_expansion PastBraces b at X Y e = absurd (let f : (move_of PastBraces Expansion b at X).step ≡ Ok Ends = e in cc)
 
-ends_closebrace : (place : Place) (b at : ℕ) (X Y : List ℕ) → (move_of place CloseBrace b at X).step ≡ Ok Ends → EndsHere CloseBrace place b at X Y
+ends_closebrace : (place : BytePlace) (b at : ℕ) (X Y : List ℕ) → (move_of place CloseBrace b at X).step ≡ Ok Ends → EndsHere CloseBrace place b at X Y
 ends_closebrace Start b at X Y e = absurd (let f : (move_of Start CloseBrace b at X).step ≡ Ok Ends = e in cc)
 ends_closebrace Comment b at X Y e = absurd (let f : (move_of Comment CloseBrace b at X).step ≡ Ok Ends = e in cc)
 ends_closebrace Between b at X Y e = absurd (let f : (move_of Between CloseBrace b at X).step ≡ Ok Ends = e in cc)
@@ -169,7 +170,7 @@ ends_closebrace PastQuotes b at X Y e = absurd (let f : (move_of PastQuotes Clos
 ends_closebrace (InBraces depth) b at X Y e = absurd (brace_goes depth b e)
 ends_closebrace PastBraces b at X Y e = absurd (let f : (move_of PastBraces CloseBrace b at X).step ≡ Ok Ends = e in cc)
 
-ends_closeparen : (place : Place) (b at : ℕ) (X Y : List ℕ) → (move_of place CloseParen b at X).step ≡ Ok Ends → EndsHere CloseParen place b at X Y
+ends_closeparen : (place : BytePlace) (b at : ℕ) (X Y : List ℕ) → (move_of place CloseParen b at X).step ≡ Ok Ends → EndsHere CloseParen place b at X Y
 ends_closeparen Start b at X Y e = absurd (let f : (move_of Start CloseParen b at X).step ≡ Ok Ends = e in cc)
 ends_closeparen Comment b at X Y e = absurd (let f : (move_of Comment CloseParen b at X).step ≡ Ok Ends = e in cc)
 ends_closeparen Between b at X Y e = absurd (let f : (move_of Between CloseParen b at X).step ≡ Ok Ends = e in cc)
@@ -181,7 +182,7 @@ ends_closeparen PastQuotes b at X Y e = absurd (let f : (move_of PastQuotes Clos
 ends_closeparen (InBraces depth) b at X Y e = absurd (let f : (move_of (InBraces depth) CloseParen b at X).step ≡ Ok Ends = e in cc)
 ends_closeparen PastBraces b at X Y e = absurd (let f : (move_of PastBraces CloseParen b at X).step ≡ Ok Ends = e in cc)
 
-ends_backslash : (place : Place) (b at : ℕ) (X Y : List ℕ) → (move_of place Backslash b at X).step ≡ Ok Ends → EndsHere Backslash place b at X Y
+ends_backslash : (place : BytePlace) (b at : ℕ) (X Y : List ℕ) → (move_of place Backslash b at X).step ≡ Ok Ends → EndsHere Backslash place b at X Y
 ends_backslash Start b at X Y e = absurd (let f : (move_of Start Backslash b at X).step ≡ Ok Ends = e in cc)
 ends_backslash Comment b at X Y e = absurd (let f : (move_of Comment Backslash b at X).step ≡ Ok Ends = e in cc)
 ends_backslash Between b at X Y e = absurd (let f : (move_of Between Backslash b at X).step ≡ Ok Ends = e in cc)
@@ -193,7 +194,7 @@ ends_backslash PastQuotes b at X Y e = absurd (let f : (move_of PastQuotes Backs
 ends_backslash (InBraces depth) b at X Y e = absurd (let f : (move_of (InBraces depth) Backslash b at X).step ≡ Ok Ends = e in cc)
 ends_backslash PastBraces b at X Y e = absurd (let f : (move_of PastBraces Backslash b at X).step ≡ Ok Ends = e in cc)
 
-ends_continuation : (place : Place) (b at : ℕ) (X Y : List ℕ) → (move_of place Continuation b at X).step ≡ Ok Ends → EndsHere Continuation place b at X Y
+ends_continuation : (place : BytePlace) (b at : ℕ) (X Y : List ℕ) → (move_of place Continuation b at X).step ≡ Ok Ends → EndsHere Continuation place b at X Y
 ends_continuation Start b at X Y e = absurd (let f : (move_of Start Continuation b at X).step ≡ Ok Ends = e in cc)
 ends_continuation Comment b at X Y e = absurd (let f : (move_of Comment Continuation b at X).step ≡ Ok Ends = e in cc)
 ends_continuation Between b at X Y e = absurd (let f : (move_of Between Continuation b at X).step ≡ Ok Ends = e in cc)
@@ -205,7 +206,7 @@ ends_continuation PastQuotes b at X Y e = absurd (let f : (move_of PastQuotes Co
 ends_continuation (InBraces depth) b at X Y e = absurd (let f : (move_of (InBraces depth) Continuation b at X).step ≡ Ok Ends = e in cc)
 ends_continuation PastBraces b at X Y e = absurd (let f : (move_of PastBraces Continuation b at X).step ≡ Ok Ends = e in cc)
 
-ends_other : (place : Place) (b at : ℕ) (X Y : List ℕ) → (move_of place Other b at X).step ≡ Ok Ends → EndsHere Other place b at X Y
+ends_other : (place : BytePlace) (b at : ℕ) (X Y : List ℕ) → (move_of place Other b at X).step ≡ Ok Ends → EndsHere Other place b at X Y
 ends_other Start b at X Y e = absurd (let f : (move_of Start Other b at X).step ≡ Ok Ends = e in cc)
 ends_other Comment b at X Y e = absurd (let f : (move_of Comment Other b at X).step ≡ Ok Ends = e in cc)
 ends_other Between b at X Y e = absurd (let f : (move_of Between Other b at X).step ≡ Ok Ends = e in cc)
@@ -217,11 +218,11 @@ ends_other PastQuotes b at X Y e = absurd (let f : (move_of PastQuotes Other b a
 ends_other (InBraces depth) b at X Y e = absurd (let f : (move_of (InBraces depth) Other b at X).step ≡ Ok Ends = e in cc)
 ends_other PastBraces b at X Y e = absurd (let f : (move_of PastBraces Other b at X).step ≡ Ok Ends = e in cc)
 
-abbrev pub ClassEnds : Kind → Place → ℕ → ℕ → List ℕ → List ℕ → Type 0
+abbrev pub ClassEnds : Kind → BytePlace → ℕ → ℕ → List ℕ → List ℕ → Type 0
 ClassEnds k place b at X Y =
     ((k ≡ CloseBracket) ⊎ (k ≡ CloseParen)) × (move_of place (class_means true k X) b at X ≡ move_of place (class_means true k Y) b at Y) × (at_end false place at ≡ put (changed (move_of place (class_means true k X) b at X).changes) (Ok (last_rest at)))
 
-class_openbrace : (place : Place) (b at : ℕ) (X : List ℕ) → (move_of place (class_means true OpenBrace X) b at X).step ≡ Ok Ends → ⊥
+class_openbrace : (place : BytePlace) (b at : ℕ) (X : List ℕ) → (move_of place (class_means true OpenBrace X) b at X).step ≡ Ok Ends → ⊥
 class_openbrace place b at X = elim (cases_Bool (begins_expansion X)) [
   | inl t ↦ rw t (λ e. none (ends_expansion place b at X X e).0)
   | inr t ↦ rw t (λ e. none_open (ends_openbrace place b at X X e).0)
@@ -235,7 +236,7 @@ class_openbrace place b at X = elim (cases_Bool (begins_expansion X)) [
     none_open (inl e) = cc
     none_open (inr e) = cc
 
-class_backslash : (place : Place) (b at : ℕ) (X : List ℕ) → (move_of place (class_means true Backslash X) b at X).step ≡ Ok Ends → ⊥
+class_backslash : (place : BytePlace) (b at : ℕ) (X : List ℕ) → (move_of place (class_means true Backslash X) b at X).step ≡ Ok Ends → ⊥
 class_backslash place b at X = elim (cases_Bool (begins_newline X)) [
   | inl t ↦ rw t (λ e. none (ends_continuation place b at X X e).0)
   | inr t ↦ rw t (λ e. none_plain (ends_backslash place b at X X e).0)
@@ -249,7 +250,7 @@ class_backslash place b at X = elim (cases_Bool (begins_newline X)) [
     none_plain (inl e) = cc
     none_plain (inr e) = cc
 
-pub class_ends : (k : Kind) (place : Place) (b at : ℕ) (X Y : List ℕ) → (move_of place (class_means true k X) b at X).step ≡ Ok Ends → ClassEnds k place b at X Y
+pub class_ends : (k : Kind) (place : BytePlace) (b at : ℕ) (X Y : List ℕ) → (move_of place (class_means true k X) b at X).step ≡ Ok Ends → ClassEnds k place b at X Y
 class_ends Blank place b at X Y e = ends_blank place b at X Y e
 class_ends Newline place b at X Y e = ends_newline place b at X Y e
 class_ends Semicolon place b at X Y e = ends_semicolon place b at X Y e
@@ -267,7 +268,7 @@ class_ends Continuation place b at X Y e = ends_continuation place b at X Y e
 class_ends Other place b at X Y e = ends_other place b at X Y e
 
 -- outside of brackets and parentheses nothing ends
-pub none_outside : (k : Kind) (place : Place) (b at : ℕ) (X : List ℕ) → (move_of place (class_means false k X) b at X).step ≡ Ok Ends → ⊥
+pub none_outside : (k : Kind) (place : BytePlace) (b at : ℕ) (X : List ℕ) → (move_of place (class_means false k X) b at X).step ≡ Ok Ends → ⊥
 none_outside Blank place b at X e = no_blank (ends_blank place b at X X e).0
   where
     no_blank : (Blank ≡ CloseBracket) ⊎ (Blank ≡ CloseParen) → ⊥

@@ -7,16 +7,16 @@ use Rattle.std.specs.List.{starts_with}
 use Rattle.std.proofs.lemmas.Bool.{le-ltb, and_right, cases_Bool}
 use Rattle.std.proofs.lemmas.List.{take-append-le, drop-append-le}
 use Rattle.tcl_text.specs.Backslash.{Digits, Escape, digits_from, numbered, blanks, escape}
-use Rattle.tcl_words.specs.Kinds.{class_means, begins_newline, begins_expansion, is_letter, letters, past_colons, name_length, to_brace, one_further, dollar_braced, dollar_named, dollar_of}
+use Rattle.tcl_words.specs.Kinds.{class_means, letters, past_colons, name_length, to_brace, one_further, dollar_braced, dollar_named, dollar_of}
+use Rattle.tcl_words.specs.Classes.{begins_newline, begins_expansion, is_letter}
 use Rattle.tcl_words.specs.Changes.{name, word_begins, command_begins}
 use Rattle.tcl_words.specs.Moves.{Move, on, before, at_dollar, move_of}
 use Rattle.tcl_words.specs.Reading.{first_skip}
 use Rattle.tcl_words.specs.declared.kind.Kind.{Kind}
 use Rattle.tcl_words.specs.declared.kind.Kind.TheVariants.{Blank, Newline, Semicolon, Hash, Dollar, Quote, OpenBracket, CloseBracket, OpenBrace, Expansion, CloseBrace, CloseParen, Backslash, Continuation, Other}
-use Rattle.tcl_words.specs.declared.kind.Dollar.{Dollar as DollarForm}
-use Rattle.tcl_words.specs.declared.kind.Dollar.TheVariants.{Alone, Named, Indexed, Braced, Unclosed}
-use Rattle.tcl_words.specs.declared.kind.Place.{Place}
-use Rattle.tcl_words.specs.declared.kind.Place.TheVariants.{Start, Comment, Between, Expanded, Text, PastQuotes, InBraces, PastBraces}
+use Rattle.tcl_words.specs.declared.kind.Dollar.TheVariants.{Named, Indexed, Braced}
+use Rattle.tcl_words.specs.declared.kind.BytePlace.{BytePlace}
+use Rattle.tcl_words.specs.declared.kind.BytePlace.TheVariants.{Start, Comment, Between, Expanded, Text, PastQuotes, InBraces, PastBraces}
 use Rattle.tcl_words.specs.declared.kind.Mode.{Mode}
 use Rattle.tcl_words.specs.declared.kind.Mode.TheVariants.{Bare, Quotes, Parens}
 use Rattle.tcl_words.specs.declared.kind.Step.{Step}
@@ -196,7 +196,7 @@ dollar_back mode b c (x ∷ ys) tail k closer = elim (cases_Bool (starts_with na
 
 -- ── the moves ──
 
-move_dollar : (place : Place) (b at k : ℕ) (X Y : List ℕ) → ((mode : Mode) → FitsStep (at_dollar mode (dollar_of X) b X).step k → at_dollar mode (dollar_of X) b X ≡ at_dollar mode (dollar_of Y) b Y) →
+move_dollar : (place : BytePlace) (b at k : ℕ) (X Y : List ℕ) → ((mode : Mode) → FitsStep (at_dollar mode (dollar_of X) b X).step k → at_dollar mode (dollar_of X) b X ≡ at_dollar mode (dollar_of Y) b Y) →
     FitsStep (move_of place Dollar b at X).step k → move_of place Dollar b at X ≡ move_of place Dollar b at Y
 move_dollar Start b at k X Y same fits = ap (λ m. before (command_begins at) (before (word_begins BareForm false at) m)) (same Bare fits)
 move_dollar Comment b at k X Y same fits = refl
@@ -209,7 +209,7 @@ move_dollar PastQuotes b at k X Y same fits = refl
 move_dollar (InBraces depth) b at k X Y same fits = refl
 move_dollar PastBraces b at k X Y same fits = refl
 
-move_backslash : (place : Place) (b at : ℕ) (X Y : List ℕ) → escape X ≡ escape Y → take 1 X ≡ take 1 Y → move_of place Backslash b at X ≡ move_of place Backslash b at Y
+move_backslash : (place : BytePlace) (b at : ℕ) (X Y : List ℕ) → escape X ≡ escape Y → take 1 X ≡ take 1 Y → move_of place Backslash b at X ≡ move_of place Backslash b at Y
 move_backslash Start b at X Y e f = rw e refl
 move_backslash Comment b at X Y e f = rw f refl
 move_backslash Between b at X Y e f = rw e refl
@@ -221,7 +221,7 @@ move_backslash PastQuotes b at X Y e f = refl
 move_backslash (InBraces depth) b at X Y e f = rw f refl
 move_backslash PastBraces b at X Y e f = refl
 
-move_continuation : (place : Place) (b at : ℕ) (X Y : List ℕ) → escape X ≡ escape Y → take 1 X ≡ take 1 Y → move_of place Continuation b at X ≡ move_of place Continuation b at Y
+move_continuation : (place : BytePlace) (b at : ℕ) (X Y : List ℕ) → escape X ≡ escape Y → take 1 X ≡ take 1 Y → move_of place Continuation b at X ≡ move_of place Continuation b at Y
 move_continuation Start b at X Y e f = rw e refl
 move_continuation Comment b at X Y e f = rw f refl
 move_continuation Between b at X Y e f = rw e refl
@@ -233,7 +233,7 @@ move_continuation PastQuotes b at X Y e f = rw e refl
 move_continuation (InBraces depth) b at X Y e f = rw e refl
 move_continuation PastBraces b at X Y e f = rw e refl
 
-none_backslash : (place : Place) (b at c : ℕ) (tail : List ℕ) → IsCloser c → FitsStep (move_of place Backslash b at (c ∷ tail)).step 0 → ⊥
+none_backslash : (place : BytePlace) (b at c : ℕ) (tail : List ℕ) → IsCloser c → FitsStep (move_of place Backslash b at (c ∷ tail)).step 0 → ⊥
 none_backslash Start b at c tail closer fits = omega (arith, fits, escape_some c tail closer)
 none_backslash Comment b at c tail closer fits = omega (arith, fits)
 none_backslash Between b at c tail closer fits = omega (arith, fits, escape_some c tail closer)
@@ -245,7 +245,7 @@ none_backslash PastQuotes b at c tail closer fits = fits
 none_backslash (InBraces depth) b at c tail closer fits = omega (arith, fits)
 none_backslash PastBraces b at c tail closer fits = fits
 
-none_continuation : (place : Place) (b at c : ℕ) (tail : List ℕ) → IsCloser c → FitsStep (move_of place Continuation b at (c ∷ tail)).step 0 → ⊥
+none_continuation : (place : BytePlace) (b at c : ℕ) (tail : List ℕ) → IsCloser c → FitsStep (move_of place Continuation b at (c ∷ tail)).step 0 → ⊥
 none_continuation Start b at c tail closer fits = omega (arith, fits, escape_some c tail closer)
 none_continuation Comment b at c tail closer fits = omega (arith, fits)
 none_continuation Between b at c tail closer fits = omega (arith, fits, escape_some c tail closer)
@@ -257,7 +257,7 @@ none_continuation PastQuotes b at c tail closer fits = omega (arith, fits, escap
 none_continuation (InBraces depth) b at c tail closer fits = omega (arith, fits, escape_some c tail closer)
 none_continuation PastBraces b at c tail closer fits = omega (arith, fits, escape_some c tail closer)
 
-move_blank : (place : Place) (b at : ℕ) (X Y : List ℕ) → move_of place Blank b at X ≡ move_of place Blank b at Y
+move_blank : (place : BytePlace) (b at : ℕ) (X Y : List ℕ) → move_of place Blank b at X ≡ move_of place Blank b at Y
 move_blank Start b at X Y = refl
 move_blank Comment b at X Y = refl
 move_blank Between b at X Y = refl
@@ -269,7 +269,7 @@ move_blank PastQuotes b at X Y = refl
 move_blank (InBraces depth) b at X Y = refl
 move_blank PastBraces b at X Y = refl
 
-move_newline : (place : Place) (b at : ℕ) (X Y : List ℕ) → move_of place Newline b at X ≡ move_of place Newline b at Y
+move_newline : (place : BytePlace) (b at : ℕ) (X Y : List ℕ) → move_of place Newline b at X ≡ move_of place Newline b at Y
 move_newline Start b at X Y = refl
 move_newline Comment b at X Y = refl
 move_newline Between b at X Y = refl
@@ -281,7 +281,7 @@ move_newline PastQuotes b at X Y = refl
 move_newline (InBraces depth) b at X Y = refl
 move_newline PastBraces b at X Y = refl
 
-move_semicolon : (place : Place) (b at : ℕ) (X Y : List ℕ) → move_of place Semicolon b at X ≡ move_of place Semicolon b at Y
+move_semicolon : (place : BytePlace) (b at : ℕ) (X Y : List ℕ) → move_of place Semicolon b at X ≡ move_of place Semicolon b at Y
 move_semicolon Start b at X Y = refl
 move_semicolon Comment b at X Y = refl
 move_semicolon Between b at X Y = refl
@@ -293,7 +293,7 @@ move_semicolon PastQuotes b at X Y = refl
 move_semicolon (InBraces depth) b at X Y = refl
 move_semicolon PastBraces b at X Y = refl
 
-move_hash : (place : Place) (b at : ℕ) (X Y : List ℕ) → move_of place Hash b at X ≡ move_of place Hash b at Y
+move_hash : (place : BytePlace) (b at : ℕ) (X Y : List ℕ) → move_of place Hash b at X ≡ move_of place Hash b at Y
 move_hash Start b at X Y = refl
 move_hash Comment b at X Y = refl
 move_hash Between b at X Y = refl
@@ -305,7 +305,7 @@ move_hash PastQuotes b at X Y = refl
 move_hash (InBraces depth) b at X Y = refl
 move_hash PastBraces b at X Y = refl
 
-move_quote : (place : Place) (b at : ℕ) (X Y : List ℕ) → move_of place Quote b at X ≡ move_of place Quote b at Y
+move_quote : (place : BytePlace) (b at : ℕ) (X Y : List ℕ) → move_of place Quote b at X ≡ move_of place Quote b at Y
 move_quote Start b at X Y = refl
 move_quote Comment b at X Y = refl
 move_quote Between b at X Y = refl
@@ -317,7 +317,7 @@ move_quote PastQuotes b at X Y = refl
 move_quote (InBraces depth) b at X Y = refl
 move_quote PastBraces b at X Y = refl
 
-move_openbracket : (place : Place) (b at : ℕ) (X Y : List ℕ) → move_of place OpenBracket b at X ≡ move_of place OpenBracket b at Y
+move_openbracket : (place : BytePlace) (b at : ℕ) (X Y : List ℕ) → move_of place OpenBracket b at X ≡ move_of place OpenBracket b at Y
 move_openbracket Start b at X Y = refl
 move_openbracket Comment b at X Y = refl
 move_openbracket Between b at X Y = refl
@@ -329,7 +329,7 @@ move_openbracket PastQuotes b at X Y = refl
 move_openbracket (InBraces depth) b at X Y = refl
 move_openbracket PastBraces b at X Y = refl
 
-move_closebracket : (place : Place) (b at : ℕ) (X Y : List ℕ) → move_of place CloseBracket b at X ≡ move_of place CloseBracket b at Y
+move_closebracket : (place : BytePlace) (b at : ℕ) (X Y : List ℕ) → move_of place CloseBracket b at X ≡ move_of place CloseBracket b at Y
 move_closebracket Start b at X Y = refl
 move_closebracket Comment b at X Y = refl
 move_closebracket Between b at X Y = refl
@@ -341,7 +341,7 @@ move_closebracket PastQuotes b at X Y = refl
 move_closebracket (InBraces depth) b at X Y = refl
 move_closebracket PastBraces b at X Y = refl
 
-move_openbrace : (place : Place) (b at : ℕ) (X Y : List ℕ) → move_of place OpenBrace b at X ≡ move_of place OpenBrace b at Y
+move_openbrace : (place : BytePlace) (b at : ℕ) (X Y : List ℕ) → move_of place OpenBrace b at X ≡ move_of place OpenBrace b at Y
 move_openbrace Start b at X Y = refl
 move_openbrace Comment b at X Y = refl
 move_openbrace Between b at X Y = refl
@@ -353,7 +353,7 @@ move_openbrace PastQuotes b at X Y = refl
 move_openbrace (InBraces depth) b at X Y = refl
 move_openbrace PastBraces b at X Y = refl
 
-move_expansion : (place : Place) (b at : ℕ) (X Y : List ℕ) → move_of place Expansion b at X ≡ move_of place Expansion b at Y
+move_expansion : (place : BytePlace) (b at : ℕ) (X Y : List ℕ) → move_of place Expansion b at X ≡ move_of place Expansion b at Y
 move_expansion Start b at X Y = refl
 move_expansion Comment b at X Y = refl
 move_expansion Between b at X Y = refl
@@ -365,7 +365,7 @@ move_expansion PastQuotes b at X Y = refl
 move_expansion (InBraces depth) b at X Y = refl
 move_expansion PastBraces b at X Y = refl
 
-move_closebrace : (place : Place) (b at : ℕ) (X Y : List ℕ) → move_of place CloseBrace b at X ≡ move_of place CloseBrace b at Y
+move_closebrace : (place : BytePlace) (b at : ℕ) (X Y : List ℕ) → move_of place CloseBrace b at X ≡ move_of place CloseBrace b at Y
 move_closebrace Start b at X Y = refl
 move_closebrace Comment b at X Y = refl
 move_closebrace Between b at X Y = refl
@@ -377,7 +377,7 @@ move_closebrace PastQuotes b at X Y = refl
 move_closebrace (InBraces depth) b at X Y = refl
 move_closebrace PastBraces b at X Y = refl
 
-move_closeparen : (place : Place) (b at : ℕ) (X Y : List ℕ) → move_of place CloseParen b at X ≡ move_of place CloseParen b at Y
+move_closeparen : (place : BytePlace) (b at : ℕ) (X Y : List ℕ) → move_of place CloseParen b at X ≡ move_of place CloseParen b at Y
 move_closeparen Start b at X Y = refl
 move_closeparen Comment b at X Y = refl
 move_closeparen Between b at X Y = refl
@@ -389,7 +389,7 @@ move_closeparen PastQuotes b at X Y = refl
 move_closeparen (InBraces depth) b at X Y = refl
 move_closeparen PastBraces b at X Y = refl
 
-move_other : (place : Place) (b at : ℕ) (X Y : List ℕ) → move_of place Other b at X ≡ move_of place Other b at Y
+move_other : (place : BytePlace) (b at : ℕ) (X Y : List ℕ) → move_of place Other b at X ≡ move_of place Other b at Y
 move_other Start b at X Y = refl
 move_other Comment b at X Y = refl
 move_other Between b at X Y = refl
@@ -402,7 +402,7 @@ move_other (InBraces depth) b at X Y = refl
 move_other PastBraces b at X Y = refl
 
 -- a bracket or a parenthesis that ends nothing is as any other byte
-outside_closebracket : (place : Place) (b at n : ℕ) (X Y : List ℕ) → FitsStep (move_of place CloseBracket b at X).step n → move_of place CloseBracket b at X ≡ move_of place Other b at Y
+outside_closebracket : (place : BytePlace) (b at n : ℕ) (X Y : List ℕ) → FitsStep (move_of place CloseBracket b at X).step n → move_of place CloseBracket b at X ≡ move_of place Other b at Y
 outside_closebracket Start b at n X Y fits = absurd fits
 outside_closebracket Comment b at n X Y fits = refl
 outside_closebracket Between b at n X Y fits = absurd fits
@@ -414,7 +414,7 @@ outside_closebracket PastQuotes b at n X Y fits = absurd fits
 outside_closebracket (InBraces depth) b at n X Y fits = refl
 outside_closebracket PastBraces b at n X Y fits = absurd fits
 
-outside_closeparen : (place : Place) (b at n : ℕ) (X Y : List ℕ) → FitsStep (move_of place CloseParen b at X).step n → move_of place CloseParen b at X ≡ move_of place Other b at Y
+outside_closeparen : (place : BytePlace) (b at n : ℕ) (X Y : List ℕ) → FitsStep (move_of place CloseParen b at X).step n → move_of place CloseParen b at X ≡ move_of place Other b at Y
 outside_closeparen Start b at n X Y fits = refl
 outside_closeparen Comment b at n X Y fits = refl
 outside_closeparen Between b at n X Y fits = refl
@@ -426,12 +426,12 @@ outside_closeparen PastQuotes b at n X Y fits = refl
 outside_closeparen (InBraces depth) b at n X Y fits = refl
 outside_closeparen PastBraces b at n X Y fits = refl
 
-cut_openbrace : (place : Place) (b at c : ℕ) (xs tail : List ℕ) → IsCloser c → FitsStep (move_of place (class_means true OpenBrace (xs ++ c ∷ tail)) b at (xs ++ c ∷ tail)).step (length xs) →
+cut_openbrace : (place : BytePlace) (b at c : ℕ) (xs tail : List ℕ) → IsCloser c → FitsStep (move_of place (class_means true OpenBrace (xs ++ c ∷ tail)) b at (xs ++ c ∷ tail)).step (length xs) →
     move_of place (class_means true OpenBrace (xs ++ c ∷ tail)) b at (xs ++ c ∷ tail) ≡ move_of place (class_means false OpenBrace xs) b at xs
 cut_openbrace place b at c xs tail closer = rw (begins_two 42 125 c xs tail (differs 42 c closer refl refl) (differs 125 c closer refl refl))
     (elim (cases_Bool (begins_expansion xs)) [ inl t ↦ rw t (λ fits. move_expansion place b at (xs ++ c ∷ tail) xs) | inr t ↦ rw t (λ fits. move_openbrace place b at (xs ++ c ∷ tail) xs) ])
 
-cut_backslash : (place : Place) (b at c : ℕ) (xs tail : List ℕ) → IsCloser c → FitsStep (move_of place (class_means true Backslash (xs ++ c ∷ tail)) b at (xs ++ c ∷ tail)).step (length xs) →
+cut_backslash : (place : BytePlace) (b at c : ℕ) (xs tail : List ℕ) → IsCloser c → FitsStep (move_of place (class_means true Backslash (xs ++ c ∷ tail)) b at (xs ++ c ∷ tail)).step (length xs) →
     move_of place (class_means true Backslash (xs ++ c ∷ tail)) b at (xs ++ c ∷ tail) ≡ move_of place (class_means false Backslash xs) b at xs
 cut_backslash place b at c [] tail closer = rw (begins_one 10 c [] tail (differs 10 c closer refl refl)) (λ fits. absurd (none_backslash place b at c tail closer fits))
 cut_backslash place b at c (x ∷ xs) tail closer = elim (cases_Bool (begins_newline (x ∷ xs))) [
@@ -439,14 +439,14 @@ cut_backslash place b at c (x ∷ xs) tail closer = elim (cases_Bool (begins_new
   | inr t ↦ rw t (λ fits. move_backslash place b at (x ∷ (xs ++ c ∷ tail)) (x ∷ xs) (escape_cut x c xs tail closer) refl)
 ]
 
-same_openbrace : (place : Place) (b at c : ℕ) (xs tail other : List ℕ) → IsCloser c → FitsStep (move_of place (class_means true OpenBrace (xs ++ c ∷ tail)) b at (xs ++ c ∷ tail)).step (length xs) →
+same_openbrace : (place : BytePlace) (b at c : ℕ) (xs tail other : List ℕ) → IsCloser c → FitsStep (move_of place (class_means true OpenBrace (xs ++ c ∷ tail)) b at (xs ++ c ∷ tail)).step (length xs) →
     move_of place (class_means true OpenBrace (xs ++ c ∷ tail)) b at (xs ++ c ∷ tail) ≡ move_of place (class_means true OpenBrace (xs ++ c ∷ other)) b at (xs ++ c ∷ other)
 same_openbrace place b at c xs tail other closer fits = cut_openbrace place b at c xs tail closer fits ∙ sym (back (begins_two 42 125 c xs other (differs 42 c closer refl refl) (differs 125 c closer refl refl)))
   where
     back : begins_expansion (xs ++ c ∷ other) ≡ begins_expansion xs → move_of place (class_means true OpenBrace (xs ++ c ∷ other)) b at (xs ++ c ∷ other) ≡ move_of place (class_means false OpenBrace xs) b at xs
     back e = rw e (elim (cases_Bool (begins_expansion xs)) [ inl t ↦ rw t (move_expansion place b at (xs ++ c ∷ other) xs) | inr t ↦ rw t (move_openbrace place b at (xs ++ c ∷ other) xs) ])
 
-same_backslash : (place : Place) (b at c : ℕ) (xs tail other : List ℕ) → IsCloser c → FitsStep (move_of place (class_means true Backslash (xs ++ c ∷ tail)) b at (xs ++ c ∷ tail)).step (length xs) →
+same_backslash : (place : BytePlace) (b at c : ℕ) (xs tail other : List ℕ) → IsCloser c → FitsStep (move_of place (class_means true Backslash (xs ++ c ∷ tail)) b at (xs ++ c ∷ tail)).step (length xs) →
     move_of place (class_means true Backslash (xs ++ c ∷ tail)) b at (xs ++ c ∷ tail) ≡ move_of place (class_means true Backslash (xs ++ c ∷ other)) b at (xs ++ c ∷ other)
 same_backslash place b at c [] tail other closer = rw (begins_one 10 c [] tail (differs 10 c closer refl refl)) (λ fits. absurd (none_backslash place b at c tail closer fits))
 same_backslash place b at c (x ∷ xs) tail other closer = elim (cases_Bool (begins_newline (x ∷ xs))) [
@@ -455,7 +455,7 @@ same_backslash place b at c (x ∷ xs) tail other closer = elim (cases_Bool (beg
 ]
 
 -- behind what is read the text may end
-pub step_cut : (k : Kind) (place : Place) (b at c : ℕ) (xs tail : List ℕ) → IsCloser c → FitsStep (move_of place (class_means true k (xs ++ c ∷ tail)) b at (xs ++ c ∷ tail)).step (length xs) →
+pub step_cut : (k : Kind) (place : BytePlace) (b at c : ℕ) (xs tail : List ℕ) → IsCloser c → FitsStep (move_of place (class_means true k (xs ++ c ∷ tail)) b at (xs ++ c ∷ tail)).step (length xs) →
     move_of place (class_means true k (xs ++ c ∷ tail)) b at (xs ++ c ∷ tail) ≡ move_of place (class_means false k xs) b at xs
 step_cut Blank place b at c xs tail closer fits = move_blank place b at (xs ++ c ∷ tail) xs
 step_cut Newline place b at c xs tail closer fits = move_newline place b at (xs ++ c ∷ tail) xs
@@ -475,7 +475,7 @@ step_cut Continuation place b at c (x ∷ xs) tail closer fits = move_continuati
 step_cut Other place b at c xs tail closer fits = move_other place b at (xs ++ c ∷ tail) xs
 
 -- or go on otherwise
-pub step_same : (k : Kind) (place : Place) (b at c : ℕ) (xs tail other : List ℕ) → IsCloser c → FitsStep (move_of place (class_means true k (xs ++ c ∷ tail)) b at (xs ++ c ∷ tail)).step (length xs) →
+pub step_same : (k : Kind) (place : BytePlace) (b at c : ℕ) (xs tail other : List ℕ) → IsCloser c → FitsStep (move_of place (class_means true k (xs ++ c ∷ tail)) b at (xs ++ c ∷ tail)).step (length xs) →
     move_of place (class_means true k (xs ++ c ∷ tail)) b at (xs ++ c ∷ tail) ≡ move_of place (class_means true k (xs ++ c ∷ other)) b at (xs ++ c ∷ other)
 step_same Blank place b at c xs tail other closer fits = move_blank place b at (xs ++ c ∷ tail) (xs ++ c ∷ other)
 step_same Newline place b at c xs tail other closer fits = move_newline place b at (xs ++ c ∷ tail) (xs ++ c ∷ other)

@@ -1,6 +1,6 @@
 -- Where the last of the words ends.
 use Rattle.std.proofs.Common.{◌≡◌, ℕ, List, [], ◌∷◌, ◌++◌, refl}
-use Rattle.tcl_words.specs.Changes.{words_end}
+use Rattle.tcl_words.specs.Spans.{words_end}
 use Rattle.tcl_words.specs.declared.script.Word.{Word}
 
 pub words_end-append : (start : ℕ) (words : List Word) (word : Word) → words_end start (words ++ word ∷ []) ≡ word.span.end

@@ -1,8 +1,9 @@
 -- What stands in front of a text, byte by byte.
-use Rattle.std.proofs.Common.{◌≡◌, ◌≢◌, ℕ, suc, ◌+◌, ◌<◌, List, [], ◌∷◌, length, drop, slice_index, refl, ap, ◌∙◌, arith, Option, Some, None, true, false, cond, nat_eq}
+use Rattle.std.proofs.Common.{◌≡◌, ◌≢◌, ℕ, suc, ◌+◌, ◌<◌, List, ◌∷◌, length, drop, slice_index, refl, ap, ◌∙◌, arith, Option, Some, None, true, false, cond, nat_eq}
 use Rattle.std.proofs.Math.Seq.{drop-cons}
 use Rattle.std.proofs.lemmas.Bool.Decides.{nat_tests}
-use Rattle.tcl_words.specs.Kinds.{is_letter, letters, to_brace, one_further}
+use Rattle.tcl_words.specs.Kinds.{letters, to_brace, one_further}
+use Rattle.tcl_words.specs.Classes.{is_letter}
 
 next : (text : List ℕ) (at : ℕ) → at < length text → drop at text ≡ slice_index text at ∷ drop (at + 1) text
 next text at within = let e : suc at ≡ at + 1 = omega arith in drop-cons text at 0 within ∙ ap (λ n. slice_index text at ∷ drop n text) e

@@ -1,7 +1,8 @@
 -- Blanks, gaps and comments are read as the grammar says, and so is the end of a script.
 use Rattle.std.proofs.Common.{◌≡◌, ◌≢◌, ℕ, suc, ◌+◌, inl, inr, Bool, true, false, ◌==◌, ◌||◌, if◌then◌else◌, List, [], ◌∷◌, ◌++◌, length, take, refl, sym, ap, ◌∙◌, eqb-true, append_assoc, append-nil, length-append, arith, Ok}
 use Rattle.tcl_text.specs.Backslash.{escape, blanks}
-use Rattle.tcl_words.specs.Kinds.{kind_of, class_of, class_means, begins_newline, begins_expansion}
+use Rattle.tcl_words.specs.Kinds.{kind_before, class_means}
+use Rattle.tcl_words.specs.Classes.{class_of, begins_newline, begins_expansion}
 use Rattle.tcl_words.specs.Grammar.{class_ends, ends_word}
 use Rattle.tcl_words.specs.Changes.{put, changed, last_rest}
 use Rattle.tcl_words.specs.Changes.Change.{command_begins}
@@ -13,18 +14,18 @@ use Rattle.tcl_words.specs.Grammar.IsNote.{none as no_note, byte as note_byte, p
 use Rattle.tcl_words.specs.Grammar.IsGap.{none as no_gap, blank, continuation, separator, comment}
 use Rattle.tcl_words.specs.declared.kind.Kind.{Kind}
 use Rattle.tcl_words.specs.declared.kind.Kind.TheVariants.{Blank, Newline, Semicolon, Hash, Dollar, Quote, OpenBracket, CloseBracket, OpenBrace, Expansion, CloseBrace, CloseParen, Backslash, Continuation, Other}
-use Rattle.tcl_words.specs.declared.kind.Place.{Place}
-use Rattle.tcl_words.specs.declared.kind.Place.TheVariants.{Start, Comment, Between}
+use Rattle.tcl_words.specs.declared.kind.BytePlace.{BytePlace}
+use Rattle.tcl_words.specs.declared.kind.BytePlace.TheVariants.{Start, Comment, Between}
 use Rattle.tcl_words.specs.declared.fault.ParseFault.TheVariants.{MissingBracket}
 use Rattle.tcl_words.proofs.ClassLemmas.{byte_is, expansion_or, continuation_or, other_class}
 use Rattle.tcl_words.proofs.StepLemmas.{moved_by, read_at, put-put, put-none}
 
 -- where blanks are passed over
-pub data IsOpen : Place → Type 0 where
+pub data IsOpen : BytePlace → Type 0 where
   at_start : IsOpen Start
   at_between : IsOpen Between
 
-open_blank : (place : Place) → IsOpen place → (level : Level) (b : ℕ) (text : List ℕ) (at : ℕ) → class_of b ≡ Blank → rest_of (b ∷ text) level 0 place at ≡ rest_of text level 0 place (at + 1)
+open_blank : (place : BytePlace) → IsOpen place → (level : Level) (b : ℕ) (text : List ℕ) (at : ℕ) → class_of b ≡ Blank → rest_of (b ∷ text) level 0 place at ≡ rest_of text level 0 place (at + 1)
 open_blank place at_start level b text at e =
     moved_by (on [] 0 Start) Start b text level at (ap (λ k. move_of Start (class_means level.inside k text) b at text) e) ∙ put-none (rest_of text level 0 Start (at + 1))
 open_blank place at_between level b text at e =
@@ -46,7 +47,7 @@ space_class b h = go (b == 32) refl h
     go false e k = ap class_of (eqb-true b 9 k) ∙ class_9
 
 -- the blanks behind a newline are passed over in any case
-skip_blanks : (place : Place) → IsOpen place → (level : Level) (text : List ℕ) (at : ℕ) → rest_of text level (blanks text) place at ≡ rest_of text level 0 place at
+skip_blanks : (place : BytePlace) → IsOpen place → (level : Level) (text : List ℕ) (at : ℕ) → rest_of text level (blanks text) place at ≡ rest_of text level 0 place at
 skip_blanks place h level [] at = refl
 skip_blanks place h level (b ∷ text) at = go (skip_blanks place h level text (at + 1)) (b == 32 || b == 9) refl
   where
@@ -58,7 +59,7 @@ escape-newline : (text : List ℕ) → (escape (10 ∷ text)).length ≡ suc (bl
 unfolding escape
 escape-newline text = refl
 
-open_continued : (place : Place) → IsOpen place → (level : Level) (text : List ℕ) (at : ℕ) → rest_of (92 ∷ 10 ∷ text) level 0 place at ≡ rest_of text level 0 place (at + 1 + 1)
+open_continued : (place : BytePlace) → IsOpen place → (level : Level) (text : List ℕ) (at : ℕ) → rest_of (92 ∷ 10 ∷ text) level 0 place at ≡ rest_of text level 0 place (at + 1 + 1)
 unfolding class_of
 open_continued place at_start level text at =
     moved_by (on [] (escape (10 ∷ text)).length Start) Start 92 (10 ∷ text) level at refl
@@ -194,12 +195,12 @@ start_kinds inside Other b at text h k n = refl
 pub start_read : (level : Level) (text : List ℕ) (at : ℕ) → ends_word level.inside text ≡ false → begins 35 text ≡ false → rest_of text level 0 Start at ≡ put (changed (command_begins at ∷ [])) (rest_of text level 0 Between at)
 start_read level [] at h k = cc
 start_read level (b ∷ text) at h k =
-    let move : Move = move_of Between (kind_of level.inside b text) b at text in
+    let move : Move = move_of Between (kind_before level.inside b text) b at text in
     moved_by (before (command_begins at) move) Start b text level at (start_kinds level.inside (class_of b) b at text h (other_class b 35 Hash k (byte_is b Hash)) (λ e. byte_is b Continuation e))
     ∙ sym (put-put (changed (command_begins at ∷ [])) (changed move.changes)
     (past move.step level.room at text (λ skip next. rest_of text level skip next (at + 1)) (λ room skip next. rest_of text (within room) skip next 0)))
 
-pub bracket_read : (room : ℕ) (text : List ℕ) (at : ℕ) (place : Place) → IsOpen place → rest_of (93 ∷ text) (record { inside = true; room = room }) 0 place at ≡ Ok (last_rest at)
+pub bracket_read : (room : ℕ) (text : List ℕ) (at : ℕ) (place : BytePlace) → IsOpen place → rest_of (93 ∷ text) (record { inside = true; room = room }) 0 place at ≡ Ok (last_rest at)
 unfolding class_of
 bracket_read room text at place at_start = refl
 bracket_read room text at place at_between = refl

@@ -1,9 +1,10 @@
 -- What the grammar relates, on scripts whose words a Tcl shell shows.
 use lib.Utf8.{encode}
-use Rattle.std.proofs.Common.{◌≡◌, refl, ℕ, [], ◌∷◌, List, Some, Ok, Err, codes, false, true}
+use Rattle.std.proofs.Common.{refl, ℕ, [], ◌∷◌, List, Some, Ok, Err, codes, false, true}
 use Rattle.tcl_text.specs.Backslash.{escape}
-use Rattle.tcl_words.specs.Kinds.{class_of, dollar_of}
-use Rattle.tcl_words.specs.Changes.{word_of, command_of}
+use Rattle.tcl_words.specs.Kinds.{dollar_of}
+use Rattle.tcl_words.specs.Classes.{class_of}
+use Rattle.tcl_words.specs.Spans.{word_of, command_of}
 use Rattle.tcl_words.specs.Grammar.{IsInnerOf, IsScript, leaves, fails}
 use Rattle.tcl_words.specs.OperandGrammar.{IsBehindBracket, IsBehindDollar, IsBehindQuote}
 use Rattle.tcl_words.specs.declared.script.WordForm.TheVariants.{Bare, Quoted, Braced}

@@ -1,19 +1,17 @@
 -- What scripts and indices give by themselves.
-use Rattle.std.proofs.Common.{◌≡◌, ℕ, zero, suc, ◌+◌, ◌-◌, ◌<◌, ◌≤◌, Bool, true, false, List, [], ◌∷◌, ◌++◌, length, drop, take, refl, sym, ap, subst, ◌∙◌, arith, Ok, Err, Result, append-nil, length-append}
+use Rattle.std.proofs.Common.{◌≡◌, ℕ, zero, suc, ◌+◌, ◌-◌, ◌≤◌, Bool, true, false, List, [], ◌∷◌, ◌++◌, length, drop, take, refl, sym, ap, ◌∙◌, arith, Ok, Err, Result, length-append}
 use Rattle.std.specs.List.{slice_range}
-use Rattle.std.proofs.lemmas.List.{take-append-le, drop-append-le, length-drop, length-take}
-use Rattle.tcl_words.specs.Kinds.{kind_of, dollar_of}
-use Rattle.tcl_words.specs.Changes.{Rest, Read, put, piece_before, last_rest, literal_before, Change, bytes, name, text_ends, word_ends, command_ends, word_begins, command_begins, changed, changed_by}
-use Rattle.tcl_words.specs.Moves.{Move, move_of, at_dollar, in_parens}
+use Rattle.tcl_words.specs.Kinds.{kind_before, dollar_of}
+use Rattle.tcl_words.specs.Changes.{Rest, Read, put, piece_before, literal_before, Change, bytes, name, text_ends, word_ends, command_ends, word_begins, command_begins, changed, changed_by}
+use Rattle.tcl_words.specs.Moves.{Move, at_dollar, in_parens}
 use Rattle.tcl_words.specs.Reading.{Level, within, rest_of, at_end, past, past_opened, first_place, first_skip, opened_piece, commands_in, pieces_in, index_pieces_of, outermost}
 use Rattle.tcl_words.specs.Parts.{Whole, joined, no_parts, script_whole, index_whole}
 use Rattle.tcl_words.specs.declared.kind.Kind.{Kind}
 use Rattle.tcl_words.specs.declared.kind.Kind.TheVariants.{Blank, Newline, Semicolon, Hash, Dollar, Quote, OpenBracket, CloseBracket, OpenBrace, Expansion, CloseBrace, CloseParen, Backslash, Continuation, Other}
 use Rattle.tcl_words.specs.declared.kind.Dollar.{Dollar as DollarForm}
 use Rattle.tcl_words.specs.declared.kind.Dollar.TheVariants.{Alone, Named, Indexed, Braced, Unclosed}
-use Rattle.tcl_words.specs.declared.kind.Place.{Place}
-use Rattle.tcl_words.specs.declared.kind.Place.TheVariants.{Start, Text}
-use Rattle.tcl_words.specs.declared.kind.Mode.{Mode}
+use Rattle.tcl_words.specs.declared.kind.BytePlace.{BytePlace}
+use Rattle.tcl_words.specs.declared.kind.BytePlace.TheVariants.{Start, Text}
 use Rattle.tcl_words.specs.declared.kind.Mode.TheVariants.{Parens}
 use Rattle.tcl_words.specs.declared.kind.Opener.{Opener}
 use Rattle.tcl_words.specs.declared.kind.Step.{Step}
@@ -21,7 +19,6 @@ use Rattle.tcl_words.specs.declared.kind.Step.TheVariants.{On, Within, Ends}
 use Rattle.tcl_words.specs.declared.script.Piece.{Piece}
 use Rattle.tcl_words.specs.declared.script.Piece.TheVariants.{Variable}
 use Rattle.tcl_words.specs.declared.fault.ParseFault.{ParseFault}
-use Rattle.tcl_words.specs.declared.fault.ParseFault.TheVariants.{TooLong}
 use Rattle.tcl_words.proofs.Alone.{Closed, closed}
 use Rattle.tcl_words.proofs.Joins.{slice_none}
 use Rattle.tcl_words.proofs.Nests.{rest_skip}
@@ -92,12 +89,12 @@ stays Backslash b behind = refl
 stays Continuation b behind = refl
 stays Other b behind = refl
 
-opened_same : (opener : Opener) (behind : List ℕ) (go go' : ℕ → Place → Read) (x : Read) → ((skip : ℕ) → SameText (go skip (Text Parens)) (go' skip (Text Parens))) →
+opened_same : (opener : Opener) (behind : List ℕ) (go go' : ℕ → BytePlace → Read) (x : Read) → ((skip : ℕ) → SameText (go skip (Text Parens)) (go' skip (Text Parens))) →
     SameText (past_opened opener Parens behind go x) (past_opened opener Parens behind go' x)
 opened_same opener behind go go' (Ok rest) same = put_piece (opened_piece opener behind rest.close) (go (suc rest.close) (Text Parens)) (go' (suc rest.close) (Text Parens)) (same (suc rest.close))
 opened_same opener behind go go' (Err fault) same = refl
 
-past_same : (step : Result Step ParseFault) (room at at' : ℕ) (behind : List ℕ) (go go' : ℕ → Place → Read) (inner : ℕ → ℕ → Place → Read) → StaysIn step → ((skip : ℕ) → SameText (go skip (Text Parens)) (go' skip (Text Parens))) →
+past_same : (step : Result Step ParseFault) (room at at' : ℕ) (behind : List ℕ) (go go' : ℕ → BytePlace → Read) (inner : ℕ → ℕ → BytePlace → Read) → StaysIn step → ((skip : ℕ) → SameText (go skip (Text Parens)) (go' skip (Text Parens))) →
     SameText (past step room at behind go inner) (past step room at' behind go' inner)
 past_same (Ok (On skip next)) room at at' behind go go' inner stay same = rw stay (same skip)
 past_same (Ok (Within opener mode)) zero at at' behind go go' inner stay same = refl
@@ -114,12 +111,12 @@ shift : (text : List ℕ) (level : Level) (skip at at' : ℕ) → SameText (rest
 shift [] level skip at at' = end_same level.inside at at'
 shift (b ∷ text) level (suc skip) at at' = shift text level skip (at + 1) (at' + 1)
 shift (b ∷ text) level zero at at' =
-    let move : Move = in_parens (kind_of level.inside b text) b text in
+    let move : Move = in_parens (kind_before level.inside b text) b text in
     put_same move.changes
     (past move.step level.room at text (λ skip next. rest_of text level skip next (at + 1)) (λ room skip next. rest_of text (within room) skip next 0))
     (past move.step level.room at' text (λ skip next. rest_of text level skip next (at' + 1)) (λ room skip next. rest_of text (within room) skip next 0))
     (past_same move.step level.room at at' text (λ skip next. rest_of text level skip next (at + 1)) (λ skip next. rest_of text level skip next (at' + 1)) (λ room skip next. rest_of text (within room) skip next 0)
-    (stays (kind_of level.inside b text) b text) (λ skip. shift text level skip (at + 1) (at' + 1)))
+    (stays (kind_before level.inside b text) b text) (λ skip. shift text level skip (at + 1) (at' + 1)))
 
 same_pieces : (one other : Read) (rest : Rest) → SameText one other → one ≡ Ok rest → pieces_in other ≡ Ok (literal_before rest.bytes rest.pieces)
 same_pieces (Ok one) (Ok other) rest same e =

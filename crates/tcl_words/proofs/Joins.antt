@@ -6,7 +6,7 @@ use Rattle.std.proofs.lemmas.List.Edits.{between_more, between_none}
 use Rattle.std.proofs.Math.Seq.{take-add}
 use Rattle.tcl_words.specs.Changes.{Rest, Read, put, piece_before, literal_before, bytes, text_ends, word_ends, command_ends, word_begins, command_begins, changed, changed_by}
 use Rattle.tcl_words.specs.Parts.{Parts, joined, with_word, with_command, with_piece, with_literal, with_braced, so_far}
-use Rattle.tcl_words.specs.declared.kind.Place.TheVariants.{Start, Between, Text, PastQuotes, InBraces, PastBraces}
+use Rattle.tcl_words.specs.declared.kind.BytePlace.TheVariants.{Start, Between, Text, PastQuotes, InBraces, PastBraces}
 use Rattle.tcl_words.specs.declared.kind.Mode.{Mode}
 use Rattle.tcl_words.specs.declared.kind.Mode.TheVariants.{Bare, Quotes, Parens}
 use Rattle.tcl_words.specs.declared.script.WordForm.TheVariants.{Bare as BareForm, Quoted as QuotedForm, Braced as BracedForm}

@@ -4,7 +4,7 @@ use Rattle.tcl_words.specs.Changes.{bytes, word_begins, command_begins}
 use Rattle.tcl_words.specs.Moves.{Move, on, before, in_text, word_over, in_bare, in_quotes, in_parens, in_braces, at_word, in_expanded, in_between, in_start, in_comment}
 use Rattle.tcl_words.specs.declared.kind.Kind.{Kind}
 use Rattle.tcl_words.specs.declared.kind.Kind.TheVariants.{Blank, Newline, Semicolon, Hash, Dollar, Quote, OpenBracket, CloseBracket, OpenBrace, Expansion, CloseBrace, CloseParen, Backslash, Continuation, Other}
-use Rattle.tcl_words.specs.declared.kind.Place.TheVariants.{Comment, Text, InBraces}
+use Rattle.tcl_words.specs.declared.kind.BytePlace.TheVariants.{Comment, Text, InBraces}
 use Rattle.tcl_words.specs.declared.kind.Mode.{Mode}
 use Rattle.tcl_words.specs.declared.kind.Mode.TheVariants.{Quotes, Parens}
 use Rattle.tcl_words.specs.declared.script.WordForm.TheVariants.{Bare as BareForm}

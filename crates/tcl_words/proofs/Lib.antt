@@ -16,6 +16,8 @@ pub mod ScriptsCut
 pub mod Grammars
 mod GrammarExamples
 pub mod Indices
+pub mod IndicesAlone
+pub mod Parses
 pub mod Slices
 pub mod Tails
 pub mod InnersMoved

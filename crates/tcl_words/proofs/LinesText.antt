@@ -3,8 +3,8 @@ use Rattle.std.proofs.Common.{◌≡◌, ℕ, suc, ◌+◌, ◌<◌, ◌≤◌, 
 use Rattle.std.specs.Str.{IsUtf8, IsCharBoundary}
 use Rattle.std.proofs.lemmas.Str.{IsUtf8-append, IsUtf8-nil, IsUtf8-take, IsUtf8-drop, IsCharBoundary-before_ascii, IsCharBoundary-after_ascii}
 use Rattle.tcl_text.proofs.Utf8Lemmas.{ascii_before}
-use Rattle.tcl_words.specs.Kinds.{class_of, is_blank}
-use Rattle.tcl_words.specs.Changes.{command_of}
+use Rattle.tcl_words.specs.Classes.{class_of, is_blank}
+use Rattle.tcl_words.specs.Spans.{command_of}
 use Rattle.tcl_words.specs.Grammar.{leaves, class_ends, ends_word, IsInnerOf, IsWord, IsSeparator, IsGap, IsScript, IsScriptOf}
 use Rattle.tcl_words.specs.Grammar.IsGap.{none as no_gap, blank, continuation, separator, comment}
 use Rattle.tcl_words.specs.Joining.{source_of, lines_of, CommandsAlike}

@@ -2,7 +2,8 @@
 use Rattle.std.proofs.Common.{◌-◌, take, ◌⊎◌, eqb-true, ◌≡◌, ◌≢◌, ℕ, suc, ◌+◌, Bool, true, false, ◌==◌, ◌&&◌, ◌||◌, List, [], ◌∷◌, ◌++◌, length, drop, nat_eq, refl, sym, ap, ◌∙◌, inl, inr, arith, Some, None}
 use Rattle.std.specs.List.{starts_with, slice_range}
 use Rattle.std.proofs.lemmas.Bool.Decides.{nat_tests}
-use Rattle.tcl_words.specs.Kinds.{is_letter, letters, past_colons, name_length, to_brace, dollar_braced, dollar_named, dollar_of}
+use Rattle.tcl_words.specs.Kinds.{letters, past_colons, name_length, to_brace, dollar_braced, dollar_named, dollar_of}
+use Rattle.tcl_words.specs.Classes.{is_letter}
 use Rattle.tcl_words.specs.Grammar.{begins, begins_letter, begins_name, AreLetters, IsName, HasNoBrace}
 use Rattle.tcl_words.specs.declared.kind.Dollar.TheVariants.{Alone, Named, Indexed, Braced, Unclosed}
 

@@ -1,7 +1,7 @@
 -- The names of variables at the front of a text.
 use Rattle.std.proofs.Common.{◌≡◌, ℕ, ◌⊎◌, inl, inr, Bool, true, false, ◌&&◌, ◌||◌, List, [], ◌∷◌, ◌++◌, drop, nat_eq, refl, sym, ap, subst, ◌∙◌, eqb-true}
 use Rattle.std.specs.List.{starts_with}
-use Rattle.tcl_words.specs.Kinds.{is_letter}
+use Rattle.tcl_words.specs.Classes.{is_letter}
 use Rattle.tcl_words.specs.Grammar.{begins_letter, begins_name, AreLetters, IsName, HasNoBrace}
 use Rattle.tcl_words.proofs.WordsRead.{both}
 use Rattle.tcl_words.proofs.BracesCut.{decided, same_or_other}

@@ -1,15 +1,14 @@
 -- Scripts and indices within one another, as the code goes from one to the other.
-use Rattle.std.proofs.Common.{◌≡◌, ℕ, zero, suc, ◌+◌, ◌-◌, ◌<◌, ◌≤◌, List, [], ◌∷◌, ◌++◌, length, drop, take, slice_index, refl, sym, ap, subst, ◌∙◌, arith, Ok, Err, Result, true, false}
+use Rattle.std.proofs.Common.{◌≡◌, ℕ, zero, suc, ◌+◌, ◌-◌, ◌<◌, ◌≤◌, List, [], ◌∷◌, ◌++◌, length, drop, slice_index, refl, sym, ap, ◌∙◌, arith, Ok, Err, Result}
 use Rattle.std.proofs.Math.Seq.{drop-cons}
 use Rattle.std.proofs.lemmas.List.{drop-drop, length-drop}
-use Rattle.std.specs.Str.{IsCharBoundary}
-use Rattle.tcl_words.specs.Changes.{Rest, Read, put, piece_before, last_rest, changed}
-use Rattle.tcl_words.specs.Moves.{Move, move_at}
+use Rattle.tcl_words.specs.Changes.{Read, put, piece_before, changed}
+use Rattle.tcl_words.specs.Moves.{move_at}
 use Rattle.tcl_words.specs.Reading.{Level, within, rest_of, past, past_opened, first_place, first_skip, opened_piece}
-use Rattle.tcl_words.specs.Parts.{Parts, Whole, joined, no_parts, with_piece, is_index, ended, Does, IsFine}
-use Rattle.tcl_words.specs.Chain.{outset, level_of, own, opened, resumed, IsWaiting, IsChain}
-use Rattle.tcl_words.specs.declared.kind.Place.{Place}
-use Rattle.tcl_words.specs.declared.kind.Place.TheVariants.{Start, Text}
+use Rattle.tcl_words.specs.Parts.{Parts, Whole, joined, no_parts, with_piece, ended, Does}
+use Rattle.tcl_words.specs.Chain.{level_of, own, opened, resumed, IsWaiting, IsChain}
+use Rattle.tcl_words.specs.declared.kind.BytePlace.{BytePlace}
+use Rattle.tcl_words.specs.declared.kind.BytePlace.TheVariants.{Text}
 use Rattle.tcl_words.specs.declared.kind.Mode.{Mode}
 use Rattle.tcl_words.specs.declared.kind.Opener.{Opener}
 use Rattle.tcl_words.specs.declared.kind.Opener.TheVariants.{Bracket, Index}
@@ -42,29 +41,29 @@ chain_fault s first origin (w ∷ ws) fault chain e =
 
 -- ── texts ──
 
-pub rest_skip : (text : List ℕ) (level : Level) (k : ℕ) (place : Place) (at : ℕ) → k ≤ length text → rest_of text level k place at ≡ rest_of (drop k text) level 0 place (at + k)
+pub rest_skip : (text : List ℕ) (level : Level) (k : ℕ) (place : BytePlace) (at : ℕ) → k ≤ length text → rest_of text level k place at ≡ rest_of (drop k text) level 0 place (at + k)
 rest_skip text level zero place at h = let e : at ≡ at + 0 = omega arith in ap (rest_of text level 0 place) e
 rest_skip [] level (suc k) place at h = absurd (omega (arith, h))
 rest_skip (b ∷ text) level (suc k) place at h =
     let e : at + 1 + k ≡ at + suc k = omega arith in rest_skip text level k place (at + 1) (omega (arith, h)) ∙ ap (rest_of (drop k text) level 0 place) e
 
-past_at : List ℕ → Level → Place → ℕ → Result Step ParseFault → Read
+past_at : List ℕ → Level → BytePlace → ℕ → Result Step ParseFault → Read
 past_at s level place at step =
     past step level.room at (drop (at + 1) s) (λ skip next. rest_of (drop (at + 1) s) level skip next (at + 1)) (λ room skip next. rest_of (drop (at + 1) s) (within room) skip next 0)
 
 -- what is left of the text begins with the next byte
-rest_next : (s : List ℕ) (level : Level) (place : Place) (at : ℕ) → at < length s →
+rest_next : (s : List ℕ) (level : Level) (place : BytePlace) (at : ℕ) → at < length s →
     rest_of (drop at s) level 0 place at ≡ put (changed (move_at s at level.inside place).changes) (past_at s level place at (move_at s at level.inside place).step)
 unfolding past_at
 rest_next s level place at within =
     let e : suc at ≡ at + 1 = omega arith in ap (λ t. rest_of t level 0 place at) (drop-cons s at 0 within ∙ ap (λ n. slice_index s at ∷ drop n s) e)
 
 -- the same, by the step that the code found
-rest_by : (s : List ℕ) (level : Level) (place : Place) (at : ℕ) (step : Result Step ParseFault) → at < length s → (move_at s at level.inside place).step ≡ step →
+rest_by : (s : List ℕ) (level : Level) (place : BytePlace) (at : ℕ) (step : Result Step ParseFault) → at < length s → (move_at s at level.inside place).step ≡ step →
     rest_of (drop at s) level 0 place at ≡ put (changed (move_at s at level.inside place).changes) (past_at s level place at step)
 rest_by s level place at step within e = rest_next s level place at within ∙ ap (λ x. put (changed (move_at s at level.inside place).changes) (past_at s level place at x)) e
 
-pub on_read : (old new : Parts) (s : List ℕ) (level : Level) (place next : Place) (at skip : ℕ) (whole : Result Whole ParseFault) → at < length s →
+pub on_read : (old new : Parts) (s : List ℕ) (level : Level) (place next : BytePlace) (at skip : ℕ) (whole : Result Whole ParseFault) → at < length s →
     joined old s place at (rest_of (drop at s) level 0 place at) ≡ whole → Does old new s at place (move_at s at level.inside place) (Ok (On skip next)) →
     joined new s next (at + 1 + skip) (rest_of (drop (at + 1 + skip) s) level 0 next (at + 1 + skip)) ≡ whole
 unfolding past_at
@@ -73,30 +72,30 @@ on_read old new s level place next at skip whole here reads does =
     let rest : rest_of (drop (at + 1) s) level skip next (at + 1) ≡ rest_of (drop (at + 1 + skip) s) level 0 next (at + 1 + skip) = rest_skip (drop (at + 1) s) level skip next (at + 1) room ∙ ap (λ t. rest_of t level 0 next (at + 1 + skip)) (drop-drop skip (at + 1) s) in
     ap (joined new s next (at + 1 + skip)) (sym rest) ∙ sym (does.1 (rest_of (drop (at + 1) s) level skip next (at + 1))) ∙ ap (joined old s place at) (sym (rest_by s level place at (Ok (On skip next)) here does.0)) ∙ reads
 
-pub fault_read : (old : Parts) (s : List ℕ) (level : Level) (place : Place) (at : ℕ) (whole : Result Whole ParseFault) (fault : ParseFault) → at < length s →
+pub fault_read : (old : Parts) (s : List ℕ) (level : Level) (place : BytePlace) (at : ℕ) (whole : Result Whole ParseFault) (fault : ParseFault) → at < length s →
     joined old s place at (rest_of (drop at s) level 0 place at) ≡ whole → (move_at s at level.inside place).step ≡ Err fault → whole ≡ Err fault
 unfolding past_at
 fault_read old s level place at whole fault here reads e = sym reads ∙ ap (joined old s place at) (rest_by s level place at (Err fault) here e)
 
-pub end_read : (old new : Parts) (s : List ℕ) (level : Level) (place : Place) (at : ℕ) (whole : Result Whole ParseFault) → at < length s →
+pub end_read : (old new : Parts) (s : List ℕ) (level : Level) (place : BytePlace) (at : ℕ) (whole : Result Whole ParseFault) → at < length s →
     joined old s place at (rest_of (drop at s) level 0 place at) ≡ whole → Does old new s at place (move_at s at level.inside place) (Ok Ends) → whole ≡ Ok (ended place new at)
 unfolding past_at
 end_read old new s level place at whole here reads does = sym reads ∙ ap (joined old s place at) (rest_by s level place at (Ok Ends) here does.0) ∙ does.1
 
 -- too deep
-pub full_read : (old : Parts) (s : List ℕ) (level : Level) (place : Place) (at : ℕ) (opener : Opener) (mode : Mode) (whole : Result Whole ParseFault) → at < length s →
+pub full_read : (old : Parts) (s : List ℕ) (level : Level) (place : BytePlace) (at : ℕ) (opener : Opener) (mode : Mode) (whole : Result Whole ParseFault) → at < length s →
     joined old s place at (rest_of (drop at s) level 0 place at) ≡ whole → (move_at s at level.inside place).step ≡ Ok (Within opener mode) → level.room ≡ 0 → whole ≡ Err TooLong
 unfolding past_at
 full_read old s level place at opener mode whole here reads e none =
     sym reads ∙ ap (joined old s place at) (rest_by s level place at (Ok (Within opener mode)) here e) ∙ rw none refl
 
-past_suc : (room at : ℕ) (opener : Opener) (mode : Mode) (behind : List ℕ) (go : ℕ → Place → Read) (inner : ℕ → ℕ → Place → Read) → 0 < room →
+past_suc : (room at : ℕ) (opener : Opener) (mode : Mode) (behind : List ℕ) (go : ℕ → BytePlace → Read) (inner : ℕ → ℕ → BytePlace → Read) → 0 < room →
     past (Ok (Within opener mode)) room at behind go inner ≡ past_opened opener mode behind go (inner (room - 1) (first_skip opener) (first_place opener))
 past_suc zero at opener mode behind go inner some = absurd (omega (arith, some))
 past_suc (suc room) at opener mode behind go inner some = let e : room ≡ suc room - 1 = omega arith in ap (λ n. past_opened opener mode behind go (inner n (first_skip opener) (first_place opener))) e
 
 -- what a bracket or a parenthesis opens is waited for
-pub link_made : (s : List ℕ) (origin : Origin) (old new : Parts) (place : Place) (at : ℕ) (opener : Opener) (mode : Mode) → at < length (drop origin.base s) →
+pub link_made : (s : List ℕ) (origin : Origin) (old new : Parts) (place : BytePlace) (at : ℕ) (opener : Opener) (mode : Mode) → at < length (drop origin.base s) →
     joined old (drop origin.base s) place at (rest_of (drop at (drop origin.base s)) (level_of origin) 0 place at) ≡ own s origin →
     Does old new (drop origin.base s) at place (move_at (drop origin.base s) at origin.inside place) (Ok (Within opener mode)) → 0 < origin.room →
     resumed s (record { origin = origin; parts = new; at = at; opener = opener; mode = mode }) (own s (opened origin at opener)) ≡ own s origin

@@ -4,7 +4,7 @@ use Rattle.std.proofs.Math.Seq.{drop-cons}
 use Rattle.std.specs.List.{slice_range}
 use Rattle.std.specs.Str.{IsCharBoundary, IsUtf8}
 use Rattle.std.proofs.lemmas.List.{drop-drop, length-drop}
-use Rattle.tcl_words.specs.Kinds.{kind_of, dollar_of}
+use Rattle.tcl_words.specs.Kinds.{kind_before, dollar_of}
 use Rattle.tcl_words.specs.Changes.{Read, put, last_rest, changed, piece_before, literal_before}
 use Rattle.tcl_words.specs.Moves.{Move, in_text, at_dollar}
 use Rattle.tcl_words.specs.Reading.{Level, within, rest_of, past, past_opened, at_end, first_place, first_skip, opened_piece}
@@ -15,8 +15,8 @@ use Rattle.tcl_words.specs.declared.kind.Kind.{Kind}
 use Rattle.tcl_words.specs.declared.kind.Kind.TheVariants.{Blank, Newline, Semicolon, Hash, Dollar, Quote, OpenBracket, CloseBracket, OpenBrace, Expansion, CloseBrace, CloseParen, Backslash, Continuation, Other}
 use Rattle.tcl_words.specs.declared.kind.Dollar.{Dollar as DollarForm}
 use Rattle.tcl_words.specs.declared.kind.Dollar.TheVariants.{Alone, Named, Indexed, Braced, Unclosed}
-use Rattle.tcl_words.specs.declared.kind.Place.{Place}
-use Rattle.tcl_words.specs.declared.kind.Place.TheVariants.{Start, Comment, Between, Expanded, Text, PastQuotes, InBraces, PastBraces}
+use Rattle.tcl_words.specs.declared.kind.BytePlace.{BytePlace}
+use Rattle.tcl_words.specs.declared.kind.BytePlace.TheVariants.{Start, Comment, Between, Expanded, Text, PastQuotes, InBraces, PastBraces}
 use Rattle.tcl_words.specs.declared.kind.Mode.{Mode}
 use Rattle.tcl_words.specs.declared.kind.Mode.TheVariants.{Bare, Quotes, Parens}
 use Rattle.tcl_words.specs.declared.kind.Opener.{Opener}
@@ -58,7 +58,7 @@ opened_begins s at room opener some most cut =
     }
 
 -- what began first ends where nothing waits
-pub ends_inside : (first : Origin) (s : List ℕ) (ws : List Waiting) (o : Origin) (p : Parts) (place : Place) (n k : ℕ) → Goes true first s ws o p place n k → EndsAt first s p n
+pub ends_inside : (first : Origin) (s : List ℕ) (ws : List Waiting) (o : Origin) (p : Parts) (place : BytePlace) (n k : ℕ) → Goes true first s ws o p place n k → EndsAt first s p n
 ends_inside first s ws o p place n k (none, ending) =
     let alone : IsEnding first s [] o p place n = subst (λ x. IsEnding first s x o p place n) none ending in
     (place, subst (λ x. IsEnding first s [] x p place n) (sym alone.chain) alone)
@@ -68,7 +68,7 @@ still_inside s first o [] chain e = ap (λ x. x.inside) (sym chain) ∙ e
 still_inside s first o (w ∷ ws) chain e = chain_inside s first o w ws chain
 
 -- the text ends before it
-pub never_ends : (first : Origin) (s : List ℕ) (ws : List Waiting) (o : Origin) (p : Parts) (place : Place) (n : ℕ) (fault : ParseFault) → IsReading first s ws o p place n → first.inside ≡ true → length s ≤ o.base + n →
+pub never_ends : (first : Origin) (s : List ℕ) (ws : List Waiting) (o : Origin) (p : Parts) (place : BytePlace) (n : ℕ) (fault : ParseFault) → IsReading first s ws o p place n → first.inside ≡ true → length s ≤ o.base + n →
     ((at : ℕ) → at_end true place at ≡ Err fault) → own s first ≡ Err fault
 never_ends first s ws o p place n fault r inside end told =
     let in_it : o.inside ≡ true = still_inside s first o ws r.chain inside in
@@ -213,7 +213,7 @@ past_quoted room s at step =
 pub record Byte (s : List ℕ) (at b : ℕ) (kind : Kind) : Type 0 where
   pub within : at < length s
   pub is : slice_index s at ≡ b
-  pub kind_is : kind ≡ kind_of false b (drop (at + 1) s)
+  pub kind_is : kind ≡ kind_before false b (drop (at + 1) s)
 
 quoted_next : (room : ℕ) (s : List ℕ) (at b : ℕ) (kind : Kind) → Byte s at b kind →
     quoted_rest room (drop at s) 0 at
@@ -232,7 +232,7 @@ quoted_by room s at b kind step byte other e =
     ∙ quote_not kind at (put (changed (in_text Parens kind b (drop (at + 1) s)).changes) (past_quoted room s at (in_text Parens kind b (drop (at + 1) s)).step)) other
     ∙ ap (λ x. put (changed (in_text Parens kind b (drop (at + 1) s)).changes) (past_quoted room s at x)) e
 
-place_is : (place : Place) → is_index place ≡ true → place ≡ Text Parens
+place_is : (place : BytePlace) → is_index place ≡ true → place ≡ Text Parens
 place_is Start e = absurd (let h : false ≡ true = e in cc)
 place_is Comment e = absurd (let h : false ≡ true = e in cc)
 place_is Between e = absurd (let h : false ≡ true = e in cc)
@@ -249,7 +249,7 @@ from_here : (room : ℕ) (s : List ℕ) (at skip : ℕ) → at + 1 + skip ≤ le
 from_here room s at skip h =
     quoted_skip room (drop (at + 1) s) skip (at + 1) (omega (arith, h, length-drop (at + 1) s)) ∙ ap (λ t. quoted_rest room t 0 (at + 1 + skip)) (drop-drop skip (at + 1) s)
 
-pub quoted_on : (room : ℕ) (s : List ℕ) (at b : ℕ) (kind : Kind) (skip : ℕ) (next : Place) (old new : Parts) → Byte s at b kind → kind ≢ Quote →
+pub quoted_on : (room : ℕ) (s : List ℕ) (at b : ℕ) (kind : Kind) (skip : ℕ) (next : BytePlace) (old new : Parts) → Byte s at b kind → kind ≢ Quote →
     Does old new s at (Text Parens) (in_text Parens kind b (drop (at + 1) s)) (Ok (On skip next)) → GoesOn room s old at new (at + 1 + skip)
 unfolding past_quoted
 quoted_on room s at b kind skip next old new byte other does =
@@ -267,7 +267,7 @@ quoted_on room s at b kind skip next old new byte other does =
       within = does.3;
     }
 
-past_found : (opener : Opener) (mode : Mode) (behind : List ℕ) (go : ℕ → Place → Read) (r : Read) (piece : Piece) (taken : ℕ) → piece_found opener behind r ≡ Ok (piece, taken) →
+past_found : (opener : Opener) (mode : Mode) (behind : List ℕ) (go : ℕ → BytePlace → Read) (r : Read) (piece : Piece) (taken : ℕ) → piece_found opener behind r ≡ Ok (piece, taken) →
     past_opened opener mode behind go r ≡ put (piece_before piece) (go taken (Text mode))
 past_found opener mode behind go (Ok rest) piece taken e =
     let h : Ok (opened_piece opener behind rest.close, suc rest.close) ≡ Ok (piece, taken) = e in
@@ -275,16 +275,16 @@ past_found opener mode behind go (Ok rest) piece taken e =
     ap (λ (x : Piece × ℕ). put (piece_before x.0) (go x.1 (Text mode))) k
 past_found opener mode behind go (Err fault) piece taken e = absurd (let h : piece_found opener behind (Err fault) ≡ Ok (piece, taken) = e in cc)
 
-past_failed : (opener : Opener) (mode : Mode) (behind : List ℕ) (go : ℕ → Place → Read) (r : Read) (fault : ParseFault) → piece_found opener behind r ≡ Err fault → past_opened opener mode behind go r ≡ Err fault
+past_failed : (opener : Opener) (mode : Mode) (behind : List ℕ) (go : ℕ → BytePlace → Read) (r : Read) (fault : ParseFault) → piece_found opener behind r ≡ Err fault → past_opened opener mode behind go r ≡ Err fault
 past_failed opener mode behind go (Ok rest) fault e = absurd (let h : piece_found opener behind (Ok rest) ≡ Err fault = e in cc)
 past_failed opener mode behind go (Err other) fault e = let h : piece_found opener behind (Err other) ≡ Err fault = e in let k : other ≡ fault = cc in ap (λ f. Err f) k
 
-goes_past : (room at : ℕ) (opener : Opener) (mode : Mode) (behind : List ℕ) (go : ℕ → Place → Read) (piece : Piece) (taken : ℕ) → opened_of room opener behind ≡ Ok (piece, taken) →
+goes_past : (room at : ℕ) (opener : Opener) (mode : Mode) (behind : List ℕ) (go : ℕ → BytePlace → Read) (piece : Piece) (taken : ℕ) → opened_of room opener behind ≡ Ok (piece, taken) →
     past (Ok (Within opener mode)) room at behind go (λ room skip next. rest_of behind (within room) skip next 0) ≡ put (piece_before piece) (go taken (Text mode))
 goes_past zero at opener mode behind go piece taken e = absurd (let h : opened_of zero opener behind ≡ Ok (piece, taken) = e in cc)
 goes_past (suc room) at opener mode behind go piece taken e = past_found opener mode behind go (rest_of behind (within room) (first_skip opener) (first_place opener) 0) piece taken e
 
-fails_past : (room at : ℕ) (opener : Opener) (mode : Mode) (behind : List ℕ) (go : ℕ → Place → Read) (fault : ParseFault) → opened_of room opener behind ≡ Err fault →
+fails_past : (room at : ℕ) (opener : Opener) (mode : Mode) (behind : List ℕ) (go : ℕ → BytePlace → Read) (fault : ParseFault) → opened_of room opener behind ≡ Err fault →
     past (Ok (Within opener mode)) room at behind go (λ room skip next. rest_of behind (within room) skip next 0) ≡ Err fault
 fails_past zero at opener mode behind go fault e = let h : opened_of zero opener behind ≡ Err fault = e in let k : TooLong ≡ fault = cc in ap (λ f. Err f) k
 fails_past (suc room) at opener mode behind go fault e = past_failed opener mode behind go (rest_of behind (within room) (first_skip opener) (first_place opener) 0) fault e

@@ -4,12 +4,12 @@ use Rattle.std.specs.List.{slice_range}
 use Rattle.tcl_words.specs.Changes.{put}
 use Rattle.tcl_words.specs.Reading.{Level, rest_of, within}
 use Rattle.tcl_words.specs.Operands.{piece_found, opened_of, bracket_of, some_found, substitution, substitution_of}
-use Rattle.tcl_words.specs.Grammar.{Ending, leaves, fails, script, index, begins, begins_letter, begins_name, IsName, HasNoBrace, ArePieces, IsInnerOf}
+use Rattle.tcl_words.specs.Grammar.{TextEnding, leaves, fails, script, index, begins, begins_letter, begins_name, IsName, HasNoBrace, ArePieces, IsInnerOf}
 use Rattle.tcl_words.specs.Grammar.ArePieces.{variable as body_variable, braced_name as body_braced_name, element as body_element, unclosed_name as body_unclosed_name, faulty_index as body_faulty_index}
 use Rattle.tcl_words.specs.OperandGrammar.{IsBehindBracket, IsSubstitution, variable, braced_name, element, IsFaultySubstitution, unclosed_name, faulty_index, IsBehindDollar}
 use Rattle.tcl_words.specs.declared.kind.Mode.{Mode}
 use Rattle.tcl_words.specs.declared.kind.Mode.TheVariants.{Parens}
-use Rattle.tcl_words.specs.declared.kind.Place.TheVariants.{Start}
+use Rattle.tcl_words.specs.declared.kind.BytePlace.TheVariants.{Start}
 use Rattle.tcl_words.specs.declared.kind.Opener.TheVariants.{Bracket as BracketOpener, Index as IndexOpener}
 use Rattle.tcl_words.specs.declared.script.Piece.{Piece}
 use Rattle.tcl_words.specs.declared.script.Piece.TheVariants.{Variable, Element, Bracket}
@@ -55,7 +55,7 @@ bracket_read room text (Err fault) h = bracket_told room text fault h
 bracket_cut : (room : ℕ) (text : List ℕ) → (result : Opened) × IsBehindBracket room text result
 bracket_cut room text = let found = inner_cuts room script text in at found.0 found.1 found.2
   where
-    at : (ending : Ending) → IsInnerOf room script text ending → IsInnerCut script text ending → (result : Opened) × IsBehindBracket room text result
+    at : (ending : TextEnding) → IsInnerOf room script text ending → IsInnerCut script text ending → (result : Opened) × IsBehindBracket room text result
     at (leaves left) h (own, rest, e, f) =
         (Ok (Bracket own, suc (length own)), (own, rest, e, subst (λ t. IsInnerOf room script t (leaves (93 ∷ rest))) e (subst (λ l. IsInnerOf room script text (leaves l)) f h), refl))
     at (fails fault) h cut = (Err fault, h)
@@ -118,7 +118,7 @@ Cut room text = (result : Substituted) × IsBehindDollar room text result
 index_cut : (room : ℕ) (name text : List ℕ) → IsName name → Cut room (name ++ 40 ∷ text)
 index_cut room name text is = let found = inner_cuts room index text in at found.0 found.1 found.2
   where
-    at : (ending : Ending) → IsInnerOf room index text ending → IsInnerCut index text ending → Cut room (name ++ 40 ∷ text)
+    at : (ending : TextEnding) → IsInnerOf room index text ending → IsInnerCut index text ending → Cut room (name ++ 40 ∷ text)
     at (leaves left) h (own, rest, e, f) =
         let inner : IsInnerOf room index (own ++ 41 ∷ rest) (leaves (41 ∷ rest)) = subst (λ t. IsInnerOf room index t (leaves (41 ∷ rest))) e (subst (λ l. IsInnerOf room index text (leaves l)) f h) in
         let count : suc (suc (length name) + length own) + length rest ≡ length (name ++ 40 ∷ (own ++ 41 ∷ rest)) = omega (arith, length-append name (40 ∷ (own ++ 41 ∷ rest)), length-append own (41 ∷ rest)) in
@@ -153,7 +153,7 @@ substitution_is room text result e =
 
 -- ── in the pieces of a body ──
 
-pub substitution_begun : (room : ℕ) (inside : Bool) (mode : Mode) {text : List ℕ} {piece : Piece} {rest : List ℕ} (pieces : List Piece) (ending : Ending) → IsSubstitution room text piece rest →
+pub substitution_begun : (room : ℕ) (inside : Bool) (mode : Mode) {text : List ℕ} {piece : Piece} {rest : List ℕ} (pieces : List Piece) (ending : TextEnding) → IsSubstitution room text piece rest →
     ArePieces (IsInnerOf room) inside mode rest pieces ending → ArePieces (IsInnerOf room) inside mode (36 ∷ text) (piece ∷ pieces) ending
 substitution_begun room inside mode pieces ending (variable name is h k) more = body_variable name is h k more
 substitution_begun room inside mode pieces ending (braced_name name h) more = body_braced_name name h more

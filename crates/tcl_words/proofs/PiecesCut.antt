@@ -1,8 +1,8 @@
 -- Each text begins with the pieces of a body.
 use Rattle.std.proofs.Common.{◌≡◌, ℕ, zero, suc, ◌≤◌, inl, inr, Bool, true, false, List, [], ◌∷◌, ◌++◌, length, take, drop, refl, sym, ap, subst, ◌∙◌, eqb-true, append_assoc, length-append, length-drop, take-append-drop, arith}
 use Rattle.tcl_text.specs.Backslash.{escape}
-use Rattle.tcl_words.specs.Kinds.{class_of}
-use Rattle.tcl_words.specs.Grammar.{Ending, leaves, fails, Inner, script, index, stops, is_plain, unended_fault, with_bytes, begins, begins_letter, begins_name, IsName, ArePieces, IsInnerOf}
+use Rattle.tcl_words.specs.Classes.{class_of}
+use Rattle.tcl_words.specs.Grammar.{TextEnding, leaves, fails, Inner, script, index, stops, is_plain, unended_fault, with_bytes, begins, begins_letter, begins_name, IsName, ArePieces, IsInnerOf}
 use Rattle.tcl_words.specs.Grammar.ArePieces.{stop, unended, byte, backslash, dollar, variable, braced_name, unclosed_name, element, faulty_index, bracket, faulty_script}
 use Rattle.tcl_words.specs.declared.kind.Mode.{Mode}
 use Rattle.tcl_words.specs.declared.kind.Kind.{Kind}
@@ -20,30 +20,30 @@ abbrev pub closer : Inner → ℕ
 closer script = 93
 closer index = 41
 
-abbrev pub IsInnerCut : Inner → List ℕ → Ending → Type 0
+abbrev pub IsInnerCut : Inner → List ℕ → TextEnding → Type 0
 IsInnerCut inner text (leaves left) = (own : List ℕ) × (rest : List ℕ) × (text ≡ own ++ closer inner ∷ rest) × (left ≡ closer inner ∷ rest)
 IsInnerCut inner text (fails fault) = Unit {0}
 
 -- scripts in brackets and indices are cut where so many may be opened
 abbrev pub InnerCuts : ℕ → Type 0
-InnerCuts room = (inner : Inner) (text : List ℕ) → (ending : Ending) × IsInnerOf room inner text ending × IsInnerCut inner text ending
+InnerCuts room = (inner : Inner) (text : List ℕ) → (ending : TextEnding) × IsInnerOf room inner text ending × IsInnerCut inner text ending
 
-abbrev pub IsPiecesCut : Bool → Mode → List ℕ → Ending → Type 0
+abbrev pub IsPiecesCut : Bool → Mode → List ℕ → TextEnding → Type 0
 IsPiecesCut inside mode text (leaves left) = (own : List ℕ) × (text ≡ own ++ left) × (stops inside mode left ≡ true)
 IsPiecesCut inside mode text (fails fault) = Unit {0}
 
 pub record FoundPieces (room : ℕ) (inside : Bool) (mode : Mode) (text : List ℕ) : Type 0 where
   pub pieces : List Piece
-  pub ending : Ending
+  pub ending : TextEnding
   pub are : ArePieces (IsInnerOf room) inside mode text pieces ending
   pub cut : IsPiecesCut inside mode text ending
 
-cut_onto : (inside : Bool) (mode : Mode) (whole front text : List ℕ) (ending : Ending) → whole ≡ front ++ text → IsPiecesCut inside mode text ending → IsPiecesCut inside mode whole ending
+cut_onto : (inside : Bool) (mode : Mode) (whole front text : List ℕ) (ending : TextEnding) → whole ≡ front ++ text → IsPiecesCut inside mode text ending → IsPiecesCut inside mode whole ending
 cut_onto inside mode whole front text (leaves left) e (own, f, h) = (front ++ own, e ∙ ap (λ t. front ++ t) f ∙ sym (append_assoc front own left), h)
 cut_onto inside mode whole front text (fails fault) e h = tt
 
 found_onto : (room : ℕ) (inside : Bool) (mode : Mode) (whole front text : List ℕ) → whole ≡ front ++ text →
-    ((pieces : List Piece) (ending : Ending) → ArePieces (IsInnerOf room) inside mode text pieces ending → (more : List Piece) × ArePieces (IsInnerOf room) inside mode whole more ending) →
+    ((pieces : List Piece) (ending : TextEnding) → ArePieces (IsInnerOf room) inside mode text pieces ending → (more : List Piece) × ArePieces (IsInnerOf room) inside mode whole more ending) →
     FoundPieces room inside mode text → FoundPieces room inside mode whole
 found_onto room inside mode whole front text e make found =
     let more = make found.pieces found.ending found.are in
@@ -55,7 +55,7 @@ faulty_found room inside mode text fault h = record { pieces = []; ending = fail
 abbrev Finds : ℕ → Bool → Mode → ℕ → Type 0
 Finds room inside mode n = (text : List ℕ) → length text ≤ n → FoundPieces room inside mode text
 
-bracket_found : (room : ℕ) (inside : Bool) (mode : Mode) (n : ℕ) (text : List ℕ) → Finds room inside mode n → length text ≤ n → (ending : Ending) → IsInnerOf room script text ending → IsInnerCut script text ending →
+bracket_found : (room : ℕ) (inside : Bool) (mode : Mode) (n : ℕ) (text : List ℕ) → Finds room inside mode n → length text ≤ n → (ending : TextEnding) → IsInnerOf room script text ending → IsInnerCut script text ending →
     FoundPieces room inside mode (91 ∷ text)
 bracket_found room inside mode n text ih fits (fails fault) h cut = faulty_found room inside mode (91 ∷ text) fault (faulty_script h)
 bracket_found room inside mode n text ih fits (leaves left) h (own, rest, e, f) =
@@ -65,7 +65,7 @@ bracket_found room inside mode n text ih fits (leaves left) h (own, rest, e, f) 
     (found_onto room inside mode (91 ∷ (own ++ 93 ∷ rest)) (91 ∷ (own ++ 93 ∷ [])) rest (ap (λ t. 91 ∷ t) (sym (append_assoc own (93 ∷ []) rest)))
     (λ pieces ending are. (Bracket own ∷ pieces, bracket own is are)) (ih rest short))
 
-index_found : (room : ℕ) (inside : Bool) (mode : Mode) (n : ℕ) (name text : List ℕ) → Finds room inside mode n → length text ≤ n → IsName name → (ending : Ending) → IsInnerOf room index text ending → IsInnerCut index text ending →
+index_found : (room : ℕ) (inside : Bool) (mode : Mode) (n : ℕ) (name text : List ℕ) → Finds room inside mode n → length text ≤ n → IsName name → (ending : TextEnding) → IsInnerOf room index text ending → IsInnerCut index text ending →
     FoundPieces room inside mode (36 ∷ (name ++ 40 ∷ text))
 index_found room inside mode n name text ih fits is (fails fault) h cut = faulty_found room inside mode (36 ∷ (name ++ 40 ∷ text)) fault (faulty_index name is h)
 index_found room inside mode n name text ih fits is (leaves left) h (own, rest, e, f) =

@@ -2,8 +2,8 @@
 use Rattle.std.proofs.Common.{◌≡◌, ℕ, zero, suc, ◌<◌, ◌≤◌, true, false, List, [], ◌∷◌, ◌++◌, length, take, drop, refl, sym, ap, subst, ◌∙◌, append_assoc, length-take, take-append-drop, arith}
 use Rattle.tcl_text.specs.Backslash.{escape}
 use Rattle.tcl_text.proofs.BackslashLemmas.{escape_within}
-use Rattle.tcl_words.specs.Kinds.{class_of, begins_newline}
-use Rattle.tcl_words.specs.Grammar.{Ending, leaves, fails, stops, is_plain, with_bytes, begins, begins_letter, begins_name, begins_space, class_ends, ArePieces, IsInnerOf}
+use Rattle.tcl_words.specs.Classes.{class_of, begins_newline}
+use Rattle.tcl_words.specs.Grammar.{TextEnding, leaves, fails, stops, is_plain, with_bytes, begins, begins_letter, begins_name, begins_space, class_ends, ArePieces, IsInnerOf}
 use Rattle.tcl_words.specs.Grammar.ArePieces.{stop, unended, byte, backslash, dollar, variable, braced_name, unclosed_name, element, faulty_index, bracket, faulty_script}
 use Rattle.tcl_words.specs.declared.kind.Mode.{Mode}
 use Rattle.tcl_words.specs.declared.kind.Mode.TheVariants.{Bare, Quotes, Parens}
@@ -33,7 +33,7 @@ pub record MovedPieces (mode : Mode) (text : List ℕ) (pieces : List Piece) (le
   pub cut : text ≡ own ++ left
   pub again : (other : List ℕ) → Tail mode left other → ArePieces (IsInnerOf 200) false mode (own ++ other) pieces (leaves other)
 
-abbrev pub Moved : Mode → List ℕ → List Piece → Ending → Type 0
+abbrev pub Moved : Mode → List ℕ → List Piece → TextEnding → Type 0
 Moved mode text pieces (leaves left) = Tail mode left left → MovedPieces mode text pieces left
 Moved mode text pieces (fails fault) = Unit {0}
 
@@ -60,7 +60,7 @@ plain_stops Quotes b s t h k = k
 plain_stops Parens b s t h k = k
 
 -- more in front
-moved_on : (mode : Mode) (front text whole : List ℕ) (pieces more : List Piece) (ending : Ending) → whole ≡ front ++ text →
+moved_on : (mode : Mode) (front text whole : List ℕ) (pieces more : List Piece) (ending : TextEnding) → whole ≡ front ++ text →
     ((left own : List ℕ) → text ≡ own ++ left → Tail mode left left → (other : List ℕ) → Tail mode left other → ArePieces (IsInnerOf 200) false mode (own ++ other) pieces (leaves other) → ArePieces (IsInnerOf 200) false mode ((front ++ own) ++ other) more (leaves other)) →
     Moved mode text pieces ending → Moved mode whole more ending
 moved_on mode front text whole pieces more (leaves left) e make moved = λ self. (
@@ -160,7 +160,7 @@ regrouped : (mode : Mode) (a : ℕ) (front own other : List ℕ) (pieces : List 
     ArePieces (IsInnerOf 200) false mode (((a ∷ front) ++ own) ++ other) pieces (leaves other)
 regrouped mode a front own other pieces are = subst (λ t. ArePieces (IsInnerOf 200) false mode (a ∷ t) pieces (leaves other)) (sym (append_assoc front own other)) are
 
-pub pieces_moved : (mode : Mode) {text : List ℕ} {pieces : List Piece} {ending : Ending} → ArePieces (IsInnerOf 200) false mode text pieces ending → Moved mode text pieces ending
+pub pieces_moved : (mode : Mode) {text : List ℕ} {pieces : List Piece} {ending : TextEnding} → ArePieces (IsInnerOf 200) false mode text pieces ending → Moved mode text pieces ending
 pieces_moved mode (stop {text} h) = λ self. record { own = []; cut = refl; again = λ other tail. stop tail.stops_too }
 pieces_moved mode (unended h) = tt
 pieces_moved mode (byte {b} {text} {pieces} {ending} h p more) =

@@ -8,11 +8,11 @@ use Rattle.tcl_words.specs.Changes.{Rest, Read, put, literal_before, piece_befor
 use Rattle.tcl_words.specs.Changes.Change.{bytes as put_bytes}
 use Rattle.tcl_words.specs.Moves.{on, at_dollar}
 use Rattle.tcl_words.specs.Reading.{Level, rest_of, past, within}
-use Rattle.tcl_words.specs.Grammar.{Ending, leaves, fails, script, index, with_bytes, ArePieces, IsInnerOf}
+use Rattle.tcl_words.specs.Grammar.{TextEnding, leaves, fails, script, index, with_bytes, ArePieces, IsInnerOf}
 use Rattle.tcl_words.specs.Grammar.ArePieces.{stop, unended, byte, backslash, dollar, variable, braced_name, unclosed_name, element, faulty_index, bracket, faulty_script}
 use Rattle.tcl_words.specs.declared.kind.Mode.{Mode}
-use Rattle.tcl_words.specs.declared.kind.Place.{Place}
-use Rattle.tcl_words.specs.declared.kind.Place.TheVariants.{Text}
+use Rattle.tcl_words.specs.declared.kind.BytePlace.{BytePlace}
+use Rattle.tcl_words.specs.declared.kind.BytePlace.TheVariants.{Text}
 use Rattle.tcl_words.specs.declared.kind.Dollar.{Dollar as DollarForm}
 use Rattle.tcl_words.specs.declared.kind.Opener.{Opener}
 use Rattle.tcl_words.specs.declared.kind.Opener.TheVariants.{Bracket as BracketOpener, Index as IndexOpener}
@@ -47,7 +47,7 @@ pub record GivesBefore (r : Read) (go : ℕ → Read) (total : ℕ) (pieces : Li
   pub is : r ≡ put (with_text bytes after) (go end)
 
 -- and what a text gives with an ending, where `go` reads texts
-abbrev pub GivesAll : (List ℕ → ℕ → Read) → Read → ℕ → List Piece → Ending → Type 0
+abbrev pub GivesAll : (List ℕ → ℕ → Read) → Read → ℕ → List Piece → TextEnding → Type 0
 GivesAll go r total pieces (leaves left) = GivesBefore r (go left) total pieces left
 GivesAll go r total pieces (fails fault) = r ≡ Err fault
 
@@ -57,22 +57,22 @@ text_read level mode text at = rest_of text level 0 (Text mode) at
 abbrev pub GivesText : Level → Mode → ℕ → List ℕ → List Piece → List ℕ → Type 0
 GivesText level mode at text pieces left = GivesBefore (text_read level mode text at) (text_read level mode left) (at + length text) pieces left
 
-abbrev pub GivesPieces : Level → Mode → ℕ → List ℕ → List Piece → Ending → Type 0
+abbrev pub GivesPieces : Level → Mode → ℕ → List ℕ → List Piece → TextEnding → Type 0
 GivesPieces level mode at text pieces ending = GivesAll (text_read level mode) (text_read level mode text at) (at + length text) pieces ending
 
 -- what an opener before this text gives, where `go` reads on
-abbrev pub opened : Opener → Mode → ℕ → ℕ → List ℕ → (ℕ → Place → Read) → Read
+abbrev pub opened : Opener → Mode → ℕ → ℕ → List ℕ → (ℕ → BytePlace → Read) → Read
 opened opener mode room at behind go = past (Ok (Within opener mode)) room at behind go (λ next skip first. rest_of behind (within next) skip first 0)
 
 -- brackets and indices are read as the grammar says where so many may be opened
 pub record InnerReads (room : ℕ) : Type 0 where
-  pub closed_script : (own text : List ℕ) → IsInnerOf room script (own ++ 93 ∷ text) (leaves (93 ∷ text)) → (mode : Mode) (at : ℕ) (go : ℕ → Place → Read) →
+  pub closed_script : (own text : List ℕ) → IsInnerOf room script (own ++ 93 ∷ text) (leaves (93 ∷ text)) → (mode : Mode) (at : ℕ) (go : ℕ → BytePlace → Read) →
       opened BracketOpener mode room at (own ++ 93 ∷ text) go ≡ put (piece_before (Bracket own)) (go (suc (length own)) (Text mode))
-  pub script_fault : (text : List ℕ) (fault : ParseFault) → IsInnerOf room script text (fails fault) → (mode : Mode) (at : ℕ) (go : ℕ → Place → Read) →
+  pub script_fault : (text : List ℕ) (fault : ParseFault) → IsInnerOf room script text (fails fault) → (mode : Mode) (at : ℕ) (go : ℕ → BytePlace → Read) →
       opened BracketOpener mode room at text go ≡ Err fault
-  pub closed_index : (name own text : List ℕ) → IsInnerOf room index (own ++ 41 ∷ text) (leaves (41 ∷ text)) → (mode : Mode) (at : ℕ) (go : ℕ → Place → Read) →
+  pub closed_index : (name own text : List ℕ) → IsInnerOf room index (own ++ 41 ∷ text) (leaves (41 ∷ text)) → (mode : Mode) (at : ℕ) (go : ℕ → BytePlace → Read) →
       opened (IndexOpener (length name)) mode room at (name ++ 40 ∷ (own ++ 41 ∷ text)) go ≡ put (piece_before (Element name own)) (go (suc (suc (length name) + length own)) (Text mode))
-  pub index_fault : (name text : List ℕ) (fault : ParseFault) → IsInnerOf room index text (fails fault) → (mode : Mode) (at : ℕ) (go : ℕ → Place → Read) →
+  pub index_fault : (name text : List ℕ) (fault : ParseFault) → IsInnerOf room index text (fails fault) → (mode : Mode) (at : ℕ) (go : ℕ → BytePlace → Read) →
       opened (IndexOpener (length name)) mode room at (name ++ 40 ∷ text) go ≡ Err fault
 
 joined_first : (b : ℕ) (own : List ℕ) (after : List Piece) → NoLiteral after → Literal (b ∷ own) ∷ after ≡ with_bytes (b ∷ own) after
@@ -96,7 +96,7 @@ piece_over p bytes after (Ok rest) = refl
 piece_over p bytes after (Err fault) = refl
 
 module _ (go : List ℕ → ℕ → Read) (r behind : Read) (total next : ℕ) (same : next ≡ total) where
-  pub bytes_before : (own : List ℕ) (pieces : List Piece) (ending : Ending) → r ≡ put (changed (put_bytes own ∷ [])) behind → GivesAll go behind next pieces ending → GivesAll go r total (with_bytes own pieces) ending
+  pub bytes_before : (own : List ℕ) (pieces : List Piece) (ending : TextEnding) → r ≡ put (changed (put_bytes own ∷ [])) behind → GivesAll go behind next pieces ending → GivesAll go r total (with_bytes own pieces) ending
   bytes_before own pieces (leaves left) e g = record {
     bytes = own ++ g.bytes;
     after = g.after;
@@ -108,7 +108,7 @@ module _ (go : List ℕ → ℕ → Read) (r behind : Read) (total next : ℕ) (
   }
   bytes_before own pieces (fails fault) e g = e ∙ ap (put (changed (put_bytes own ∷ []))) g
 
-  pub piece_front : (p : Piece) (pieces : List Piece) (ending : Ending) → NoLiteral (p ∷ []) → r ≡ put (piece_before p) behind → GivesAll go behind next pieces ending → GivesAll go r total (p ∷ pieces) ending
+  pub piece_front : (p : Piece) (pieces : List Piece) (ending : TextEnding) → NoLiteral (p ∷ []) → r ≡ put (piece_before p) behind → GivesAll go behind next pieces ending → GivesAll go r total (p ∷ pieces) ending
   piece_front p pieces (leaves left) n e g = record {
     bytes = [];
     after = p ∷ literal_before g.bytes g.after;
@@ -126,13 +126,13 @@ module _ (go : List ℕ → ℕ → Read) (r behind : Read) (total next : ℕ) (
       no_literal (Bracket own) more h = h
   piece_front p pieces (fails fault) n e g = e ∙ ap (put (piece_before p)) g
 
-bytes_onto : (level : Level) (mode : Mode) (own text behind : List ℕ) (at next : ℕ) (pieces : List Piece) (ending : Ending) →
+bytes_onto : (level : Level) (mode : Mode) (own text behind : List ℕ) (at next : ℕ) (pieces : List Piece) (ending : TextEnding) →
     rest_of text level 0 (Text mode) at ≡ put (changed (put_bytes own ∷ [])) (rest_of behind level 0 (Text mode) next) →
     next + length behind ≡ at + length text → GivesPieces level mode next behind pieces ending → GivesPieces level mode at text (with_bytes own pieces) ending
 bytes_onto level mode own text behind at next pieces ending e m g =
     bytes_before (text_read level mode) (text_read level mode text at) (text_read level mode behind next) (at + length text) (next + length behind) m own pieces ending e g
 
-piece_onto : (level : Level) (mode : Mode) (p : Piece) (text behind : List ℕ) (at next : ℕ) (pieces : List Piece) (ending : Ending) → NoLiteral (p ∷ []) →
+piece_onto : (level : Level) (mode : Mode) (p : Piece) (text behind : List ℕ) (at next : ℕ) (pieces : List Piece) (ending : TextEnding) → NoLiteral (p ∷ []) →
     rest_of text level 0 (Text mode) at ≡ put (piece_before p) (rest_of behind level 0 (Text mode) next) →
     next + length behind ≡ at + length text → GivesPieces level mode next behind pieces ending → GivesPieces level mode at text (p ∷ pieces) ending
 piece_onto level mode p text behind at next pieces ending n e m g =
@@ -143,7 +143,7 @@ dollar_step : (level : Level) (mode : Mode) (text : List ℕ) (at : ℕ) (form :
     rest_of (36 ∷ text) level 0 (Text mode) at ≡ after_move (at_dollar mode form 36 text) level at text
 dollar_step level mode text at form e = moved_by (at_dollar mode form 36 text) (Text mode) 36 text level at (dollar_move level.inside mode at text ∙ ap (λ f. at_dollar mode f 36 text) e)
 
-pub pieces_read : (inside : Bool) (room : ℕ) (mode : Mode) → InnerReads room → {text : List ℕ} {pieces : List Piece} {ending : Ending} →
+pub pieces_read : (inside : Bool) (room : ℕ) (mode : Mode) → InnerReads room → {text : List ℕ} {pieces : List Piece} {ending : TextEnding} →
     ArePieces (IsInnerOf room) inside mode text pieces ending → (at : ℕ) → GivesPieces (record { inside = inside; room = room }) mode at text pieces ending
 pieces_read inside room mode inner (stop {text} h) at = record {
   bytes = [];

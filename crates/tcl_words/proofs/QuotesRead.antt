@@ -3,13 +3,14 @@ use Rattle.std.proofs.Common.{◌≡◌, ◌≢◌, ℕ, suc, ◌+◌, ◌≤◌
 use Rattle.std.specs.List.{slice_range}
 use Rattle.tcl_text.specs.Backslash.{escape}
 use Rattle.tcl_text.proofs.BackslashLemmas.{escape_within}
-use Rattle.tcl_words.specs.Kinds.{class_of, class_means, dollar_of, begins_newline, begins_expansion}
+use Rattle.tcl_words.specs.Kinds.{class_means, dollar_of}
+use Rattle.tcl_words.specs.Classes.{class_of, begins_newline, begins_expansion}
 use Rattle.tcl_words.specs.Changes.{Read, put, last_rest, literal_before, piece_before, changed}
 use Rattle.tcl_words.specs.Changes.Change.{bytes as put_bytes}
 use Rattle.tcl_words.specs.Moves.{Move, in_text, at_dollar}
 use Rattle.tcl_words.specs.Reading.{rest_of, past, within}
 use Rattle.tcl_words.specs.Operands.{at_quote, quoted_rest, pieces_found, quoted_of}
-use Rattle.tcl_words.specs.Grammar.{Ending, leaves, fails, with_bytes, stops, is_plain, begins, ArePieces, IsInnerOf}
+use Rattle.tcl_words.specs.Grammar.{TextEnding, leaves, fails, with_bytes, stops, is_plain, begins, ArePieces, IsInnerOf}
 use Rattle.tcl_words.specs.Grammar.ArePieces.{stop, unended, byte, backslash, dollar, variable, braced_name, unclosed_name, element, faulty_index, bracket, faulty_script}
 use Rattle.tcl_words.specs.OperandGrammar.{IsBehindQuote}
 use Rattle.tcl_words.specs.declared.kind.Mode.TheVariants.{Quotes, Parens}
@@ -116,22 +117,22 @@ skip_index room name own text at =
     ∙ skip_closed room (name ++ 40 ∷ own) 41 (suc (suc (length name) + length own)) text at (omega (arith, length-append name (40 ∷ own)))
 
 -- what a text in quotes gives from a position
-abbrev Quoted : ℕ → ℕ → List ℕ → List Piece → Ending → Type 0
+abbrev Quoted : ℕ → ℕ → List ℕ → List Piece → TextEnding → Type 0
 Quoted room at text pieces ending = GivesAll (quotes_read room) (quotes_read room text at) (at + length text) pieces ending
 
 module _ (room : ℕ) (inner : InnerReads room) where
-  bytes_onto : (own text behind : List ℕ) (at next : ℕ) (pieces : List Piece) (ending : Ending) → quotes_read room text at ≡ onto_bytes own (quotes_read room behind next) →
+  bytes_onto : (own text behind : List ℕ) (at next : ℕ) (pieces : List Piece) (ending : TextEnding) → quotes_read room text at ≡ onto_bytes own (quotes_read room behind next) →
       next + length behind ≡ at + length text → Quoted room next behind pieces ending → Quoted room at text (with_bytes own pieces) ending
   bytes_onto own text behind at next pieces ending e m g =
       bytes_before (quotes_read room) (quotes_read room text at) (quotes_read room behind next) (at + length text) (next + length behind) m own pieces ending e g
 
-  piece_onto : (p : Piece) (text behind : List ℕ) (at next : ℕ) (pieces : List Piece) (ending : Ending) → NoLiteral (p ∷ []) → quotes_read room text at ≡ put (piece_before p) (quotes_read room behind next) →
+  piece_onto : (p : Piece) (text behind : List ℕ) (at next : ℕ) (pieces : List Piece) (ending : TextEnding) → NoLiteral (p ∷ []) → quotes_read room text at ≡ put (piece_before p) (quotes_read room behind next) →
       next + length behind ≡ at + length text → Quoted room next behind pieces ending → Quoted room at text (p ∷ pieces) ending
   piece_onto p text behind at next pieces ending n e m g =
       piece_front (quotes_read room) (quotes_read room text at) (quotes_read room behind next) (at + length text) (next + length behind) m p pieces ending n e g
 
   -- the pieces of a text in quotes
-  pieces_given : {text : List ℕ} {pieces : List Piece} {ending : Ending} → ArePieces (IsInnerOf room) true Quotes text pieces ending → (at : ℕ) → Quoted room at text pieces ending
+  pieces_given : {text : List ℕ} {pieces : List Piece} {ending : TextEnding} → ArePieces (IsInnerOf room) true Quotes text pieces ending → (at : ℕ) → Quoted room at text pieces ending
   pieces_given (stop {text} h) at = record { bytes = []; after = []; end = at; joined = refl; none = tt; at_end = refl; is = stop_step room text at h }
   pieces_given (unended h) at = refl
   pieces_given (byte {b} {text} {pieces} {ending} h p more) at =
@@ -205,7 +206,7 @@ quotes_given room text (Err fault) (pieces, are) = ap pieces_found (pieces_given
 quotes_cut : (room : ℕ) (text : List ℕ) → (result : Found) × IsBehindQuote room text result
 quotes_cut room text = let found = pieces_cut room true Quotes (inner_cuts room) text in at found.pieces found.ending found.are found.cut
   where
-    at : (pieces : List Piece) (ending : Ending) → ArePieces (IsInnerOf room) true Quotes text pieces ending → IsPiecesCut true Quotes text ending → (result : Found) × IsBehindQuote room text result
+    at : (pieces : List Piece) (ending : TextEnding) → ArePieces (IsInnerOf room) true Quotes text pieces ending → IsPiecesCut true Quotes text ending → (result : Found) × IsBehindQuote room text result
     at pieces (leaves left) are (own, e, h) =
         let more = quote_left left h in
         let cut : text ≡ own ++ 34 ∷ more.0 = e ∙ ap (λ t. own ++ t) more.1 in

@@ -4,15 +4,15 @@ use Rattle.std.specs.List.{slice_range}
 use Rattle.std.specs.Str.{IsCharBoundary, IsUtf8}
 use Rattle.std.proofs.lemmas.List.{drop-drop, length-drop, get_or-drop, length-take}
 use Rattle.std.proofs.lemmas.Str.{IsCharBoundary-start, IsCharBoundary-from_rest, IsUtf8-take, IsUtf8-drop}
-use Rattle.tcl_words.specs.Kinds.{class_of}
+use Rattle.tcl_words.specs.Classes.{class_of}
 use Rattle.tcl_words.specs.Changes.{Read}
 use Rattle.tcl_words.specs.declared.script.Command.{Command}
 use Rattle.tcl_words.specs.Moves.{move_at}
 use Rattle.tcl_words.specs.Reading.{Level, rest_of, at_end, within, first_place, first_skip, opened_piece, commands_in, index_pieces_of, outermost}
 use Rattle.tcl_words.specs.Parts.{Parts, joined, no_parts, with_piece, script_whole, is_index, ended, Does, IsFine, IsOpenerCut, name_before}
 use Rattle.tcl_words.specs.Chain.{outset, level_of, own, opened, waits_for, IsWaiting, IsChain, IsReading, IsOpening, IsEnding, IsParse}
-use Rattle.tcl_words.specs.declared.kind.Place.{Place}
-use Rattle.tcl_words.specs.declared.kind.Place.TheVariants.{Start, Comment, Between, Expanded, Text, PastQuotes, InBraces, PastBraces}
+use Rattle.tcl_words.specs.declared.kind.BytePlace.{BytePlace}
+use Rattle.tcl_words.specs.declared.kind.BytePlace.TheVariants.{Start, Comment, Between, Expanded, Text, PastQuotes, InBraces, PastBraces}
 use Rattle.tcl_words.specs.declared.kind.Mode.{Mode}
 use Rattle.tcl_words.specs.declared.kind.Mode.TheVariants.{Bare, Quotes, Parens}
 use Rattle.tcl_words.specs.declared.kind.Opener.{Opener}
@@ -44,7 +44,7 @@ moved_cut s i j e cut = subst (IsCharBoundary s) e cut
 
 -- ── a byte further ──
 
-pub read_on : {first : Origin} (s : List ℕ) (ws : List Waiting) (o : Origin) (p new : Parts) (place next : Place) (n skip : ℕ) → IsReading first s ws o p place n → n < length (drop o.base s) →
+pub read_on : {first : Origin} (s : List ℕ) (ws : List Waiting) (o : Origin) (p new : Parts) (place next : BytePlace) (n skip : ℕ) → IsReading first s ws o p place n → n < length (drop o.base s) →
     Does p new (drop o.base s) n place (move_at (drop o.base s) n o.inside place) (Ok (On skip next)) → IsReading first s ws o new next (n + 1 + skip) × (o.base + n < o.base + (n + 1 + skip))
 read_on s ws o p new place next n skip r here does = (
   record {
@@ -59,7 +59,7 @@ read_on s ws o p new place next n skip r here does = (
   omega arith,
 )
 
-pub read_fault : {first : Origin} (s : List ℕ) (ws : List Waiting) (o : Origin) (p new : Parts) (place : Place) (n : ℕ) (fault : ParseFault) → IsReading first s ws o p place n → n < length (drop o.base s) →
+pub read_fault : {first : Origin} (s : List ℕ) (ws : List Waiting) (o : Origin) (p new : Parts) (place : BytePlace) (n : ℕ) (fault : ParseFault) → IsReading first s ws o p place n → n < length (drop o.base s) →
     Does p new (drop o.base s) n place (move_at (drop o.base s) n o.inside place) (Err fault) → (own s first ≡ Err fault) ⊎ (fault ≡ NoMemory)
 read_fault {first} s ws o p new place n fault r here (inl e) = inl (chain_fault s first o ws fault r.chain (fault_read p (drop o.base s) (level_of o) place n (own s o) fault here r.reads e))
 read_fault {first} s ws o p new place n fault r here (inr e) = inr e
@@ -75,7 +75,7 @@ opener_cut s base at opener within cut =
       first = moved_cut s _ _ g (from_base s base (at + 1 + first_skip opener) within cut.first);
     }
 
-pub read_opening : {first : Origin} (s : List ℕ) (ws : List Waiting) (o : Origin) (p new : Parts) (place : Place) (n : ℕ) (opener : Opener) (mode : Mode) → IsReading first s ws o p place n → n < length (drop o.base s) →
+pub read_opening : {first : Origin} (s : List ℕ) (ws : List Waiting) (o : Origin) (p new : Parts) (place : BytePlace) (n : ℕ) (opener : Opener) (mode : Mode) → IsReading first s ws o p place n → n < length (drop o.base s) →
     Does p new (drop o.base s) n place (move_at (drop o.base s) n o.inside place) (Ok (Within opener mode)) → IsOpening first s ws o new n opener mode
 read_opening s ws o p new place n opener mode r here does = record {
   chain = r.chain;
@@ -92,11 +92,11 @@ read_opening s ws o p new place n opener mode r here does = record {
   cut = opener_cut s o.base n opener r.base.0 does.3;
 }
 
-inside_ends : (inside : Bool) (s : List ℕ) (place : Place) (n : ℕ) → (move_at s n inside place).step ≡ Ok Ends → inside ≡ true
+inside_ends : (inside : Bool) (s : List ℕ) (place : BytePlace) (n : ℕ) → (move_at s n inside place).step ≡ Ok Ends → inside ≡ true
 inside_ends true s place n e = refl
 inside_ends false s place n e = absurd (none_outside (class_of (slice_index s n)) place (slice_index s n) n (drop (n + 1) s) e)
 
-pub read_ending : {first : Origin} (s : List ℕ) (ws : List Waiting) (o : Origin) (p new : Parts) (place : Place) (n : ℕ) → IsReading first s ws o p place n → n < length (drop o.base s) →
+pub read_ending : {first : Origin} (s : List ℕ) (ws : List Waiting) (o : Origin) (p new : Parts) (place : BytePlace) (n : ℕ) → IsReading first s ws o p place n → n < length (drop o.base s) →
     Does p new (drop o.base s) n place (move_at (drop o.base s) n o.inside place) (Ok Ends) → IsEnding first s ws o new place n
 read_ending s ws o p new place n r here does =
     let e : o.base + (n + 1) ≡ o.base + n + 1 = omega arith in
@@ -141,7 +141,7 @@ opening_reads {first} s ws o p n opener mode r some =
 
 -- ── out of what ends ──
 
-pub ended_close : (place : Place) (p : Parts) (n : ℕ) → (ended place p n).close ≡ n
+pub ended_close : (place : BytePlace) (p : Parts) (n : ℕ) → (ended place p n).close ≡ n
 ended_close Start p n = refl
 ended_close Comment p n = refl
 ended_close Between p n = refl
@@ -153,7 +153,7 @@ ended_close PastQuotes p n = refl
 ended_close (InBraces depth) p n = refl
 ended_close PastBraces p n = refl
 
-ended_script : (place : Place) (p : Parts) (n : ℕ) → is_index place ≡ false → (ended place p n).commands ≡ p.commands
+ended_script : (place : BytePlace) (p : Parts) (n : ℕ) → is_index place ≡ false → (ended place p n).commands ≡ p.commands
 ended_script Start p n e = refl
 ended_script Comment p n e = refl
 ended_script Between p n e = refl
@@ -165,7 +165,7 @@ ended_script PastQuotes p n e = refl
 ended_script (InBraces depth) p n e = refl
 ended_script PastBraces p n e = refl
 
-ended_index : (place : Place) (p : Parts) (n : ℕ) → is_index place ≡ true → (ended place p n).pieces ≡ p.pieces
+ended_index : (place : BytePlace) (p : Parts) (n : ℕ) → is_index place ≡ true → (ended place p n).pieces ≡ p.pieces
 ended_index Start p n e = absurd (let h : false ≡ true = e in cc)
 ended_index Comment p n e = absurd (let h : false ≡ true = e in cc)
 ended_index Between p n e = absurd (let h : false ≡ true = e in cc)
@@ -177,7 +177,7 @@ ended_index PastQuotes p n e = absurd (let h : false ≡ true = e in cc)
 ended_index (InBraces depth) p n e = absurd (let h : false ≡ true = e in cc)
 ended_index PastBraces p n e = absurd (let h : false ≡ true = e in cc)
 
-pub parse_found : (opener : Opener) (s : List ℕ) (o : Origin) (at n : ℕ) (place : Place) (p : Parts) → IsUtf8 s → length s ≤ 65536 → o.room ≤ 200 → own s (opened o at opener) ≡ Ok (ended place p n) → is_index place ≡ is_index (first_place opener) →
+pub parse_found : (opener : Opener) (s : List ℕ) (o : Origin) (at n : ℕ) (place : BytePlace) (p : Parts) → IsUtf8 s → length s ≤ 65536 → o.room ≤ 200 → own s (opened o at opener) ≡ Ok (ended place p n) → is_index place ≡ is_index (first_place opener) →
     IsCharBoundary s (o.base + (at + 1)) → IsCharBoundary s (o.base + (at + 1) + n) → IsParse opener (drop (o.base + (at + 1)) s) n p × (suc n ≤ length (drop (o.base + (at + 1)) s))
 parse_found Bracket s o at n place p utf8 short room e index base here =
     let text : List ℕ = drop (o.base + (at + 1)) s in
@@ -207,7 +207,7 @@ pub record Popped (first : Origin) (s : List ℕ) (ws : List Waiting) (w : Waiti
   pub ends : IsCharBoundary s (w.origin.base + w.at + 1 + n)
   pub past : IsCharBoundary s (w.origin.base + w.at + 1 + n + 1)
 
-pub popped : {first : Origin} (s : List ℕ) (ws : List Waiting) (w : Waiting) (o : Origin) (p : Parts) (place : Place) (n : ℕ) → IsUtf8 s → length s ≤ 65536 → IsEnding first s (ws ++ w ∷ []) o p place n → Popped first s ws w p n
+pub popped : {first : Origin} (s : List ℕ) (ws : List Waiting) (w : Waiting) (o : Origin) (p : Parts) (place : BytePlace) (n : ℕ) → IsUtf8 s → length s ≤ 65536 → IsEnding first s (ws ++ w ∷ []) o p place n → Popped first s ws w p n
 popped {first} s ws w o p place n utf8 short r =
     let q : IsChain s first ws w.origin × IsWaiting s w × (opened w.origin w.at w.opener ≡ o) = chain_pop s first o ws w r.chain in
     let waiting : IsWaiting s w = q.1 in
@@ -229,7 +229,7 @@ popped {first} s ws w o p place n utf8 short r =
       past = moved_cut s _ _ k r.past;
     }
 
-pub ending_reads : {first : Origin} (s : List ℕ) (ws : List Waiting) (w : Waiting) (o : Origin) (p : Parts) (place : Place) (n : ℕ) → IsUtf8 s → length s ≤ 65536 → IsEnding first s (ws ++ w ∷ []) o p place n →
+pub ending_reads : {first : Origin} (s : List ℕ) (ws : List Waiting) (w : Waiting) (o : Origin) (p : Parts) (place : BytePlace) (n : ℕ) → IsUtf8 s → length s ≤ 65536 → IsEnding first s (ws ++ w ∷ []) o p place n →
     IsReading first s ws w.origin (with_piece w.parts (opened_piece w.opener (drop (w.origin.base + w.at + 1) s) n) (w.at + 1 + n + 1)) (Text w.mode) (w.at + 1 + n + 1) × (o.base + n < w.origin.base + (w.at + 1 + n + 1))
 ending_reads {first} s ws w o p place n utf8 short r =
     let q : IsChain s first ws w.origin × IsWaiting s w × (opened w.origin w.at w.opener ≡ o) = chain_pop s first o ws w r.chain in
@@ -266,15 +266,15 @@ pub opening_as : {first : Origin} (s : List ℕ) (ws : List Waiting) (o : Origin
     ws' ≡ ws ++ waits_for o q n opener mode ∷ [] → q ≡ p → o' ≡ opened o n opener → p' ≡ no_parts o'.skip → IsReading first s ws' o' p' o'.place o'.skip × (o.base + n < o'.base + o'.skip)
 opening_as s ws o p n opener mode ws' o' p' q r some ew eq eo ep = rw (ep, eo, ew, eq) (opening_reads s ws o p n opener mode r some)
 
-pub popped_as : {first : Origin} (s : List ℕ) (ws ws' : List Waiting) (w : Waiting) (o : Origin) (p : Parts) (place : Place) (n : ℕ) → ws ≡ ws' ++ w ∷ [] → IsUtf8 s → length s ≤ 65536 → IsEnding first s ws o p place n → Popped first s ws' w p n
+pub popped_as : {first : Origin} (s : List ℕ) (ws ws' : List Waiting) (w : Waiting) (o : Origin) (p : Parts) (place : BytePlace) (n : ℕ) → ws ≡ ws' ++ w ∷ [] → IsUtf8 s → length s ≤ 65536 → IsEnding first s ws o p place n → Popped first s ws' w p n
 popped_as {first} s ws ws' w o p place n e utf8 short r = popped s ws' w o p place n utf8 short (subst (λ x. IsEnding first s x o p place n) e r)
 
-pub ending_as : {first : Origin} (s : List ℕ) (ws ws' : List Waiting) (w : Waiting) (o : Origin) (p : Parts) (place : Place) (n : ℕ) (p' dest : Parts) (x : Piece) → ws ≡ ws' ++ w ∷ [] → IsUtf8 s → length s ≤ 65536 → IsEnding first s ws o p place n →
+pub ending_as : {first : Origin} (s : List ℕ) (ws ws' : List Waiting) (w : Waiting) (o : Origin) (p : Parts) (place : BytePlace) (n : ℕ) (p' dest : Parts) (x : Piece) → ws ≡ ws' ++ w ∷ [] → IsUtf8 s → length s ≤ 65536 → IsEnding first s ws o p place n →
     p' ≡ with_piece dest x (w.at + 1 + n + 1) → dest ≡ w.parts → x ≡ opened_piece w.opener (drop (w.origin.base + w.at + 1) s) n →
     IsReading first s ws' w.origin p' (Text w.mode) (w.at + 1 + n + 1) × (o.base + n < w.origin.base + (w.at + 1 + n + 1))
 ending_as {first} s ws ws' w o p place n p' dest x e utf8 short r ep ed ex = rw (ep, ed, ex) (ending_reads s ws' w o p place n utf8 short (subst (λ y. IsEnding first s y o p place n) e r))
 
-pub step_as : (p new : Parts) (t t' : List ℕ) (n : ℕ) (inside : Bool) (place : Place) (step step' : Step) → t ≡ t' → step ≡ step' → Does p new t n place (move_at t n inside place) (Ok step) → Does p new t' n place (move_at t' n inside place) (Ok step')
+pub step_as : (p new : Parts) (t t' : List ℕ) (n : ℕ) (inside : Bool) (place : BytePlace) (step step' : Step) → t ≡ t' → step ≡ step' → Does p new t n place (move_at t n inside place) (Ok step) → Does p new t' n place (move_at t' n inside place) (Ok step')
 step_as p new t t' n inside place step step' e f does =
     subst (λ x. Does p new t' n place (move_at t' n inside place) (Ok x)) f (subst (λ x. Does p new x n place (move_at x n inside place) (Ok step)) e does)
 
@@ -315,12 +315,12 @@ drop_all (x ∷ xs) zero h = absurd (omega (arith, h))
 drop_all (x ∷ xs) (suc n) h = drop_all xs n (omega (arith, h))
 
 -- where nothing is left to read
-pub end_reads : {first : Origin} (s : List ℕ) (ws : List Waiting) (o : Origin) (p : Parts) (place : Place) (n : ℕ) → IsReading first s ws o p place n → length s ≤ o.base + n → joined p (drop o.base s) place n (at_end o.inside place n) ≡ own s o
+pub end_reads : {first : Origin} (s : List ℕ) (ws : List Waiting) (o : Origin) (p : Parts) (place : BytePlace) (n : ℕ) → IsReading first s ws o p place n → length s ≤ o.base + n → joined p (drop o.base s) place n (at_end o.inside place n) ≡ own s o
 end_reads s ws o p place n r end =
     let none : drop n (drop o.base s) ≡ [] = drop_all (drop o.base s) n (omega (arith, end, length-drop o.base s)) in
     ap (λ t. joined p (drop o.base s) place n (rest_of t (level_of o) 0 place n)) (sym none) ∙ r.reads
 
-pub unfinished_fault : (s : List ℕ) (ws : List Waiting) (o : Origin) (p : Parts) (place : Place) (n : ℕ) (fault : ParseFault) → IsReading outset s ws o p place n → length s ≤ o.base + n → o.inside ≡ true → ((at : ℕ) → at_end true place at ≡ Err fault) →
+pub unfinished_fault : (s : List ℕ) (ws : List Waiting) (o : Origin) (p : Parts) (place : BytePlace) (n : ℕ) (fault : ParseFault) → IsReading outset s ws o p place n → length s ≤ o.base + n → o.inside ≡ true → ((at : ℕ) → at_end true place at ≡ Err fault) →
     commands_in (rest_of s outermost 0 Start 0) ≡ Err fault
 unfinished_fault s ws o p place n fault r end inside told =
     let here : own s o ≡ Err fault = sym (end_reads s ws o p place n r end) ∙ ap (λ b. joined p (drop o.base s) place n (at_end b place n)) inside ∙ ap (joined p (drop o.base s) place n) (told n) in
@@ -335,12 +335,12 @@ outside_first s [] o chain e = sym chain
 outside_first s (w ∷ ws) o chain e = absurd (let h : o.inside ≡ true = chain_inside s outset o w ws chain in let k : true ≡ false = sym h ∙ e in cc)
 
 -- the whole text is read, and nothing waits
-pub record Finishing (s : List ℕ) (p : Parts) (place : Place) : Type 0 where
+pub record Finishing (s : List ℕ) (p : Parts) (place : BytePlace) : Type 0 where
   pub fine : IsFine p s place (length s)
   pub script : is_index place ≡ false
   pub reads : joined p s place (length s) (at_end false place (length s)) ≡ own s outset
 
-pub finishing : (s : List ℕ) (ws : List Waiting) (o : Origin) (p : Parts) (place : Place) (n : ℕ) → IsReading outset s ws o p place n → length s ≤ o.base + n → o.inside ≡ false → Finishing s p place
+pub finishing : (s : List ℕ) (ws : List Waiting) (o : Origin) (p : Parts) (place : BytePlace) (n : ℕ) → IsReading outset s ws o p place n → length s ≤ o.base + n → o.inside ≡ false → Finishing s p place
 finishing s ws o p place n r end outside =
     let first : o ≡ outset = outside_first s ws o r.chain outside in
     let base : o.base ≡ 0 = ap (λ x. x.base) first in
@@ -356,9 +356,9 @@ finishing s ws o p place n r end outside =
           ∙ ap (own s) first;
     }
 
-pub finished : (s : List ℕ) (p new : Parts) (place : Place) → Finishing s p place → joined p s place (length s) (at_end false place (length s)) ≡ Ok (script_whole new.commands (length s)) → commands_in (rest_of s outermost 0 Start 0) ≡ Ok new.commands
+pub finished : (s : List ℕ) (p new : Parts) (place : BytePlace) → Finishing s p place → joined p s place (length s) (at_end false place (length s)) ≡ Ok (script_whole new.commands (length s)) → commands_in (rest_of s outermost 0 Start 0) ≡ Ok new.commands
 finished s p new place f e = found_commands s new.commands (length s) (rest_of s outermost 0 Start 0) (sym f.reads ∙ e)
 
-pub finish_fault : (s : List ℕ) (p : Parts) (place : Place) (fault : ParseFault) → Finishing s p place → (at_end false place (length s) ≡ Err fault) ⊎ (fault ≡ NoMemory) → (commands_in (rest_of s outermost 0 Start 0) ≡ Err fault) ⊎ (fault ≡ NoMemory)
+pub finish_fault : (s : List ℕ) (p : Parts) (place : BytePlace) (fault : ParseFault) → Finishing s p place → (at_end false place (length s) ≡ Err fault) ⊎ (fault ≡ NoMemory) → (commands_in (rest_of s outermost 0 Start 0) ≡ Err fault) ⊎ (fault ≡ NoMemory)
 finish_fault s p place fault f (inl e) = inl (outset_fault s fault (sym f.reads ∙ ap (joined p s place (length s)) e))
 finish_fault s p place fault f (inr e) = inr e

@@ -2,10 +2,11 @@
 use lib.Utf8.{encode}
 use Rattle.std.proofs.Common.{◌≡◌, refl, ℕ, [], ◌∷◌, List, Ok, Err, codes, false, true}
 use Rattle.tcl_text.specs.Backslash.{escape}
-use Rattle.tcl_words.specs.Kinds.{class_of, dollar_of}
-use Rattle.tcl_words.specs.Changes.{word_of, command_of}
+use Rattle.tcl_words.specs.Kinds.{dollar_of}
+use Rattle.tcl_words.specs.Classes.{class_of}
+use Rattle.tcl_words.specs.Spans.{word_of, command_of}
 use Rattle.tcl_words.specs.Reading.{rest_of, commands_in, index_pieces_of, outermost}
-use Rattle.tcl_words.specs.declared.kind.Place.TheVariants.{Start}
+use Rattle.tcl_words.specs.declared.kind.BytePlace.TheVariants.{Start}
 use Rattle.tcl_words.specs.declared.script.WordForm.TheVariants.{Bare, Quoted, Braced}
 use Rattle.tcl_words.specs.declared.script.Piece.TheVariants.{Literal, Variable, Element, Bracket}
 use Rattle.tcl_words.specs.declared.script.Command.{Command}

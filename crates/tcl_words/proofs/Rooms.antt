@@ -1,15 +1,13 @@
 -- How deep the parts of what was read go into one another, by the length of the text.
-use Rattle.std.proofs.Common.{◌≡◌, ℕ, zero, suc, ◌+◌, ◌-◌, ◌*◌, ◌<◌, ◌≤◌, Bool, true, false, max, List, [], ◌∷◌, length, drop, take, refl, sym, ap, subst, ◌∙◌, arith, Ok, Err, Result}
-use Rattle.std.specs.List.{slice_range}
+use Rattle.std.proofs.Common.{◌≡◌, ℕ, zero, suc, ◌+◌, ◌-◌, ◌*◌, ◌<◌, ◌≤◌, Bool, true, false, List, [], ◌∷◌, length, drop, refl, subst, arith, Ok, Err, Result}
 use Rattle.std.proofs.lemmas.List.{length-take, length-drop}
-use Rattle.tcl_words.specs.Kinds.{kind_of}
+use Rattle.tcl_words.specs.Kinds.{kind_before}
 use Rattle.tcl_words.specs.Changes.{Rest, Read, put, piece_before, last_rest, literal_before, pieces_of, Change, bytes, name, text_ends, word_ends, command_ends, word_begins, command_begins, changed, changed_by}
-use Rattle.tcl_words.specs.Moves.{Move, move_of, lone}
-use Rattle.tcl_words.specs.Reading.{Level, within, rest_of, at_end, past, past_opened, first_place, first_skip, opened_piece, commands_of, commands_in, pieces_in, index_pieces_of, outermost}
+use Rattle.tcl_words.specs.Moves.{move_of, lone}
+use Rattle.tcl_words.specs.Reading.{Level, within, rest_of, at_end, past, past_opened, first_place, first_skip, opened_piece, commands_in, pieces_in, index_pieces_of, outermost}
 use Rattle.tcl_words.specs.Room.{text_room, piece_room, pieces_room, words_room, commands_room}
-use Rattle.tcl_words.specs.declared.kind.Place.{Place}
-use Rattle.tcl_words.specs.declared.kind.Place.TheVariants.{Start, Comment, Between, Expanded, Text, PastQuotes, InBraces, PastBraces}
-use Rattle.tcl_words.specs.declared.kind.Mode.{Mode}
+use Rattle.tcl_words.specs.declared.kind.BytePlace.{BytePlace}
+use Rattle.tcl_words.specs.declared.kind.BytePlace.TheVariants.{Start, Comment, Between, Expanded, Text, PastQuotes, InBraces, PastBraces}
 use Rattle.tcl_words.specs.declared.kind.Mode.TheVariants.{Bare, Quotes, Parens}
 use Rattle.tcl_words.specs.declared.kind.Opener.{Opener}
 use Rattle.tcl_words.specs.declared.kind.Opener.TheVariants.{Bracket, Index}
@@ -66,7 +64,7 @@ piece_roomy opener behind close rest r = record {
   commands = omega (arith, r.commands);
 }
 
-end_roomy : (inside : Bool) (place : Place) (at : ℕ) (rest : Rest) → at_end inside place at ≡ Ok rest → Roomy 0 rest
+end_roomy : (inside : Bool) (place : BytePlace) (at : ℕ) (rest : Rest) → at_end inside place at ≡ Ok rest → Roomy 0 rest
 end_roomy inside (Text Quotes) at rest e = absurd (let h : at_end inside (Text Quotes) at ≡ Ok rest = e in cc)
 end_roomy inside (InBraces depth) at rest e = absurd (let h : at_end inside (InBraces depth) at ≡ Ok rest = e in cc)
 end_roomy true Start at rest e = absurd (let h : at_end true Start at ≡ Ok rest = e in cc)
@@ -87,7 +85,7 @@ end_roomy false PastQuotes at rest e = let is : last_rest at ≡ rest = (let h :
 end_roomy false PastBraces at rest e = let is : last_rest at ≡ rest = (let h : Ok (last_rest at) ≡ Ok rest = e in cc) in subst (Roomy 0) is (last_roomy 0 at)
 
 stepped : (text : List ℕ) (level : Level) (at : ℕ) (cs : List Change) (rest : Rest) →
-    ((level : Level) (skip : ℕ) (place : Place) (at : ℕ) (rest : Rest) → rest_of text level skip place at ≡ Ok rest → Roomy (length text) rest) →
+    ((level : Level) (skip : ℕ) (place : BytePlace) (at : ℕ) (rest : Rest) → rest_of text level skip place at ≡ Ok rest → Roomy (length text) rest) →
     (step : Result Step ParseFault) →
     put (changed cs) (past step level.room at text (λ skip next. rest_of text level skip next (at + 1)) (λ room skip next. rest_of text (within room) skip next 0)) ≡ Ok rest → Roomy (suc (length text)) rest
 stepped text level at cs rest known (Err fault) e = absurd (let h : put (changed cs) (Err fault) ≡ Ok rest = e in cc)
@@ -97,8 +95,8 @@ stepped text level at cs rest known (Ok (On skip next)) e =
     let p : (found : Rest) × ((rest_of text level skip next (at + 1) ≡ Ok found) × (changed cs found ≡ rest)) = put_ok (changed cs) (rest_of text level skip next (at + 1)) rest e in
     subst (Roomy (suc (length text))) p.1.1 (changed_roomy (suc (length text)) cs p.0 (more_roomy (length text) p.0 (known level skip next (at + 1) p.0 p.1.0)))
 stepped text level at cs rest known (Ok (Within opener mode)) e =
-    let go : ℕ → Place → Read = λ skip next. rest_of text level skip next (at + 1) in
-    let inner : ℕ → ℕ → Place → Read = λ room skip next. rest_of text (within room) skip next 0 in
+    let go : ℕ → BytePlace → Read = λ skip next. rest_of text level skip next (at + 1) in
+    let inner : ℕ → ℕ → BytePlace → Read = λ room skip next. rest_of text (within room) skip next 0 in
     let p : (third : Rest) × ((past (Ok (Within opener mode)) level.room at text go inner ≡ Ok third) × (changed cs third ≡ rest)) = put_ok (changed cs) (past (Ok (Within opener mode)) level.room at text go inner) rest e in
     let q : (0 < level.room) × (past_opened opener mode text go (inner (level.room - 1) (first_skip opener) (first_place opener)) ≡ Ok p.0) = room_left level.room at opener mode text go inner p.0 p.1.0 in
     let r : (first : Rest) × ((inner (level.room - 1) (first_skip opener) (first_place opener) ≡ Ok first) × (put (piece_before (opened_piece opener text first.close)) (go (suc first.close) (Text mode)) ≡ Ok p.0)) =
@@ -107,11 +105,11 @@ stepped text level at cs rest known (Ok (Within opener mode)) e =
     subst (Roomy (suc (length text))) p.1.1
     (changed_roomy (suc (length text)) cs p.0 (subst (Roomy (suc (length text))) s.1.1 (piece_roomy opener text r.0.close s.0 (known level (suc r.0.close) (Text mode) (at + 1) s.0 s.1.0))))
 
-roomy : (text : List ℕ) (level : Level) (skip : ℕ) (place : Place) (at : ℕ) (rest : Rest) → rest_of text level skip place at ≡ Ok rest → Roomy (length text) rest
+roomy : (text : List ℕ) (level : Level) (skip : ℕ) (place : BytePlace) (at : ℕ) (rest : Rest) → rest_of text level skip place at ≡ Ok rest → Roomy (length text) rest
 roomy [] level skip place at rest e = end_roomy level.inside place at rest e
 roomy (b ∷ text) level (suc skip) place at rest e = more_roomy (length text) rest (roomy text level skip place (at + 1) rest e)
 roomy (b ∷ text) level zero place at rest e =
-    stepped text level at (move_of place (kind_of level.inside b text) b at text).changes rest (λ level skip place at rest. roomy text level skip place at rest) (move_of place (kind_of level.inside b text) b at text).step e
+    stepped text level at (move_of place (kind_before level.inside b text) b at text).changes rest (λ level skip place at rest. roomy text level skip place at rest) (move_of place (kind_before level.inside b text) b at text).step e
 
 read_room : (n : ℕ) (r : Read) (commands : List Command) → commands_in r ≡ Ok commands → ((rest : Rest) → r ≡ Ok rest → Roomy n rest) → commands_room commands ≤ 3 * n + 3
 read_room n (Ok rest) commands e known = let is : rest.commands ≡ commands = (let h : Ok rest.commands ≡ Ok commands = e in cc) in subst (λ c. commands_room c ≤ 3 * n + 3) is (known rest refl).commands

@@ -1,9 +1,9 @@
 -- Each text is a script or has a fault.
 use Rattle.std.proofs.Common.{◌≡◌, ℕ, zero, suc, ◌+◌, ◌≤◌, ◌⊎◌, inl, inr, Bool, true, false, List, [], ◌∷◌, ◌++◌, length, refl, sym, ap, subst, ◌∙◌, eqb-true, append_assoc, append-nil, length-append, arith}
-use Rattle.tcl_words.specs.Kinds.{class_of}
+use Rattle.tcl_words.specs.Classes.{class_of}
 use Rattle.tcl_words.specs.Grammar.{class_ends, ends_word}
-use Rattle.tcl_words.specs.Changes.{command_of}
-use Rattle.tcl_words.specs.Grammar.{Ending, leaves, fails, script, index, stops, begins, ArePieces, IsInnerOf, IsWord, IsSeparator, AreBlanks, IsNote, IsLastNote, IsGap, IsEnding, IsLast, AreFurther, IsRest, IsScript, end_of_text}
+use Rattle.tcl_words.specs.Spans.{command_of}
+use Rattle.tcl_words.specs.Grammar.{TextEnding, leaves, fails, script, index, stops, begins, ArePieces, IsInnerOf, IsWord, IsSeparator, AreBlanks, IsNote, IsLastNote, IsGap, IsEnding, IsLast, AreFurther, IsRest, IsScript, end_of_text}
 use Rattle.tcl_words.specs.Grammar.AreBlanks.{none as no_blanks, blank as one_blank, continuation as continued_blanks}
 use Rattle.tcl_words.specs.Grammar.IsNote.{none as no_note, byte as note_byte, pair as note_pair}
 use Rattle.tcl_words.specs.Grammar.IsGap.{none as no_gap, blank, continuation, separator, comment as gap_comment}
@@ -29,35 +29,35 @@ abbrev pub IsBehind : Bool → List ℕ → Type 0
 IsBehind true left = (rest : List ℕ) × (left ≡ 93 ∷ rest)
 IsBehind false left = left ≡ []
 
-abbrev pub IsScriptCut : Bool → List ℕ → Ending → Type 0
+abbrev pub IsScriptCut : Bool → List ℕ → TextEnding → Type 0
 IsScriptCut inside text (leaves left) = (own : List ℕ) × (text ≡ own ++ left) × IsBehind inside left
 IsScriptCut inside text (fails fault) = Unit {0}
 
-cut_onto : (inside : Bool) (whole front text : List ℕ) (ending : Ending) → whole ≡ front ++ text → IsScriptCut inside text ending → IsScriptCut inside whole ending
+cut_onto : (inside : Bool) (whole front text : List ℕ) (ending : TextEnding) → whole ≡ front ++ text → IsScriptCut inside text ending → IsScriptCut inside whole ending
 cut_onto inside whole front text (leaves left) e (own, f, h) = (front ++ own, e ∙ ap (λ t. front ++ t) f ∙ sym (append_assoc front own left), h)
 cut_onto inside whole front text (fails fault) e h = tt
 
 pub record FoundScript (room : ℕ) (inside : Bool) (at : ℕ) (text : List ℕ) : Type 0 where
   pub commands : List Command
-  pub ending : Ending
+  pub ending : TextEnding
   pub is : IsScript (IsInnerOf room) inside at text commands ending
   pub cut : IsScriptCut inside text ending
 
 -- what comes after a command
-abbrev pub AfterCommand : ℕ → Bool → List Command → Ending → ℕ → List ℕ → Type 0
+abbrev pub AfterCommand : ℕ → Bool → List Command → TextEnding → ℕ → List ℕ → Type 0
 AfterCommand room inside commands ending =
     IsRest (λ next after. IsScript (IsInnerOf room) inside next after commands ending) (λ last. (commands ≡ []) × IsEnding (IsInnerOf room) inside last ending)
 
 pub record FoundFurther (room : ℕ) (inside : Bool) (at : ℕ) (text : List ℕ) : Type 0 where
   pub commands : List Command
-  pub ending : Ending
+  pub ending : TextEnding
   pub words : List Word
   pub are : AreFurther (IsInnerOf room) inside (AfterCommand room inside commands ending) at text words
   pub cut : IsScriptCut inside text ending
 
 -- The rest of a command.
 
-further_ended : (room : ℕ) (inside : Bool) (at : ℕ) (text : List ℕ) (ending : Ending) → IsEnding (IsInnerOf room) inside text ending → IsScriptCut inside text ending → FoundFurther room inside at text
+further_ended : (room : ℕ) (inside : Bool) (at : ℕ) (text : List ℕ) (ending : TextEnding) → IsEnding (IsInnerOf room) inside text ending → IsScriptCut inside text ending → FoundFurther room inside at text
 further_ended room inside at text ending h cut = record { commands = []; ending = ending; words = []; are = ([], text, refl, no_blanks, inr (refl, h)); cut = cut }
 
 end_cut : (inside : Bool) → IsScriptCut inside [] (end_of_text inside)
@@ -78,7 +78,7 @@ further_separated room inside at b text s found =
       cut = cut_onto inside (b ∷ text) (b ∷ []) text found.ending refl found.cut;
     }
 
-blanks_front : (room : ℕ) (inside : Bool) (at next : ℕ) (front text : List ℕ) (words : List Word) (commands : List Command) (ending : Ending) →
+blanks_front : (room : ℕ) (inside : Bool) (at next : ℕ) (front text : List ℕ) (words : List Word) (commands : List Command) (ending : TextEnding) →
     ((blanks : List ℕ) → AreBlanks blanks → AreBlanks (front ++ blanks)) → next ≡ at + length front →
     AreFurther (IsInnerOf room) inside (AfterCommand room inside commands ending) next text words → AreFurther (IsInnerOf room) inside (AfterCommand room inside commands ending) at (front ++ text) words
 blanks_front room inside at next front text [] commands ending make m (blanks, rest, e, b, inl (c, after, f, s, h)) =
@@ -173,10 +173,10 @@ further_cut room inside n at b text inner ih fits = elim (decided (ends_word ins
 
 -- Where a command could begin.
 
-script_ended : (room : ℕ) (inside : Bool) (at : ℕ) (text : List ℕ) (ending : Ending) → IsLast (IsInnerOf room) inside text ending → IsScriptCut inside text ending → FoundScript room inside at text
+script_ended : (room : ℕ) (inside : Bool) (at : ℕ) (text : List ℕ) (ending : TextEnding) → IsLast (IsInnerOf room) inside text ending → IsScriptCut inside text ending → FoundScript room inside at text
 script_ended room inside at text ending h cut = record { commands = []; ending = ending; is = ([], text, refl, no_gap, h); cut = cut }
 
-gap_front : (room : ℕ) (inside : Bool) (at next : ℕ) (front text : List ℕ) (commands : List Command) (ending : Ending) → ((gap : List ℕ) → IsGap gap → IsGap (front ++ gap)) → next ≡ at + length front →
+gap_front : (room : ℕ) (inside : Bool) (at next : ℕ) (front text : List ℕ) (commands : List Command) (ending : TextEnding) → ((gap : List ℕ) → IsGap gap → IsGap (front ++ gap)) → next ≡ at + length front →
     IsScript (IsInnerOf room) inside next text commands ending → IsScript (IsInnerOf room) inside at (front ++ text) commands ending
 gap_front room inside at next front text [] ending make m (gap, rest, e, g, h) = (front ++ gap, rest, ap (λ t. front ++ t) e ∙ sym (append_assoc front gap rest), make gap g, h)
 gap_front room inside at next front text (command ∷ commands) ending make m (gap, own, rest, word, words, e, g, hash, is, h, same) =
@@ -337,13 +337,13 @@ pub index_left : (left : List ℕ) → stops true Parens left ≡ true → (rest
 index_left [] h = cc
 index_left (b ∷ rest) h = (rest, ap (λ c. c ∷ rest) (eqb-true b 41 h))
 
-script_inner : (room : ℕ) (text : List ℕ) (commands : List Command) (ending : Ending) → IsScript (IsInnerOf room) true 0 text commands ending → IsScriptCut true text ending →
-    (found : Ending) × IsInnerOf (suc room) script text found × IsInnerCut script text found
+script_inner : (room : ℕ) (text : List ℕ) (commands : List Command) (ending : TextEnding) → IsScript (IsInnerOf room) true 0 text commands ending → IsScriptCut true text ending →
+    (found : TextEnding) × IsInnerOf (suc room) script text found × IsInnerCut script text found
 script_inner room text commands (leaves left) is (own, e, (rest, f)) = (leaves left, (commands, is), (own, rest, e ∙ ap (λ t. own ++ t) f, f))
 script_inner room text commands (fails fault) is cut = (fails fault, (commands, is), tt)
 
-index_inner : (room : ℕ) (text : List ℕ) (pieces : List Piece) (ending : Ending) → ArePieces (IsInnerOf room) true Parens text pieces ending → IsPiecesCut true Parens text ending →
-    (found : Ending) × IsInnerOf (suc room) index text found × IsInnerCut index text found
+index_inner : (room : ℕ) (text : List ℕ) (pieces : List Piece) (ending : TextEnding) → ArePieces (IsInnerOf room) true Parens text pieces ending → IsPiecesCut true Parens text ending →
+    (found : TextEnding) × IsInnerOf (suc room) index text found × IsInnerCut index text found
 index_inner room text pieces (leaves left) are (own, e, h) = let more = index_left left h in (leaves left, (pieces, are), (own, more.0, e ∙ ap (λ t. own ++ t) more.1, more.1))
 index_inner room text pieces (fails fault) are cut = (fails fault, (pieces, are), tt)
 

@@ -1,8 +1,8 @@
 -- A script's commands as lines of their own are a script of the same commands.
 use Rattle.std.proofs.Common.{◌≡◌, ℕ, ◌+◌, ◌-◌, inl, inr, true, false, List, [], ◌∷◌, ◌++◌, length, take, drop, refl, sym, ap, subst, ◌∙◌, append_assoc, append-nil, length-append, arith}
 use Rattle.std.specs.List.{slice_range}
-use Rattle.tcl_words.specs.Kinds.{class_of}
-use Rattle.tcl_words.specs.Changes.{command_of, words_end}
+use Rattle.tcl_words.specs.Classes.{class_of}
+use Rattle.tcl_words.specs.Spans.{command_of, words_end}
 use Rattle.tcl_words.specs.Grammar.{leaves, begins, class_ends, ends_word, IsInnerOf, IsWord, AreBlanks, IsEnding, AreFurther, IsRest, IsScript}
 use Rattle.tcl_words.specs.Grammar.AreBlanks.{none as no_blanks, blank as one_blank, continuation as continued_blanks}
 use Rattle.tcl_words.specs.Grammar.IsGap.{none as no_gap}

@@ -1,18 +1,19 @@
 -- Scripts are read as the grammar says.
 use Rattle.std.proofs.Common.{◌≡◌, ℕ, zero, suc, ◌+◌, inl, inr, Bool, true, false, List, [], ◌∷◌, ◌++◌, length, take, refl, sym, ap, subst, ◌∙◌, length-append, arith, Ok, Err}
 use Rattle.std.specs.List.{slice_range}
-use Rattle.tcl_words.specs.Kinds.{class_of}
-use Rattle.tcl_words.specs.Changes.{Rest, Read, put, piece_before, changed, last_rest, command_of}
+use Rattle.tcl_words.specs.Classes.{class_of}
+use Rattle.tcl_words.specs.Changes.{Rest, Read, put, piece_before, changed, last_rest}
+use Rattle.tcl_words.specs.Spans.{command_of}
 use Rattle.tcl_words.specs.Changes.Change.{command_begins, command_ends}
 use Rattle.tcl_words.specs.Reading.{Level, rest_of, past_opened, within, end_of}
-use Rattle.tcl_words.specs.Grammar.{Ending, leaves, fails, script, index, IsInnerOf, IsSeparator, IsEnd, IsEnding, IsLast, AreFurther, IsRest, IsScript, end_of_text}
+use Rattle.tcl_words.specs.Grammar.{TextEnding, leaves, fails, script, index, IsInnerOf, IsSeparator, IsEnd, IsEnding, IsLast, AreFurther, IsRest, IsScript, end_of_text}
 use Rattle.tcl_words.specs.Grammar.IsEnd.{closes, stands}
 use Rattle.tcl_words.specs.Grammar.IsEnding.{ends as ends_command, faulty as faulty_word}
 use Rattle.tcl_words.specs.Grammar.IsLast.{ends, comment, faulty}
 use Rattle.tcl_words.specs.declared.kind.Mode.{Mode}
 use Rattle.tcl_words.specs.declared.kind.Mode.TheVariants.{Parens}
-use Rattle.tcl_words.specs.declared.kind.Place.{Place}
-use Rattle.tcl_words.specs.declared.kind.Place.TheVariants.{Text, Start, Between}
+use Rattle.tcl_words.specs.declared.kind.BytePlace.{BytePlace}
+use Rattle.tcl_words.specs.declared.kind.BytePlace.TheVariants.{Text, Start, Between}
 use Rattle.tcl_words.specs.declared.kind.Opener.TheVariants.{Bracket as BracketOpener, Index as IndexOpener}
 use Rattle.tcl_words.specs.declared.script.Piece.TheVariants.{Element, Bracket}
 use Rattle.tcl_words.specs.declared.script.Word.{Word}
@@ -34,20 +35,20 @@ pub record GivesLeft (r : Read) (stop : ℕ) (words : List Word) (commands : Lis
   pub commands_are : rest.commands ≡ commands
   pub at_close : rest.close + length left ≡ stop
 
-abbrev pub Gives : Read → ℕ → List Word → List Command → Ending → Type 0
-Gives r stop words commands (leaves left) = GivesLeft r stop words commands left
-Gives r stop words commands (fails fault) = r ≡ Err fault
+abbrev pub GivesCommands : Read → ℕ → List Word → List Command → TextEnding → Type 0
+GivesCommands r stop words commands (leaves left) = GivesLeft r stop words commands left
+GivesCommands r stop words commands (fails fault) = r ≡ Err fault
 
-given_as : (r s : Read) (m n : ℕ) (words : List Word) (commands : List Command) (ending : Ending) → r ≡ s → m ≡ n → Gives s m words commands ending → Gives r n words commands ending
+given_as : (r s : Read) (m n : ℕ) (words : List Word) (commands : List Command) (ending : TextEnding) → r ≡ s → m ≡ n → GivesCommands s m words commands ending → GivesCommands r n words commands ending
 given_as r s m n words commands (leaves left) e k g = record { rest = g.rest; is = e ∙ g.is; words_are = g.words_are; commands_are = g.commands_are; at_close = g.at_close ∙ k }
 given_as r s m n words commands (fails fault) e k g = e ∙ g
 
-end_given : (inside : Bool) (at : ℕ) → Gives (end_of inside MissingBracket at) at [] [] (end_of_text inside)
+end_given : (inside : Bool) (at : ℕ) → GivesCommands (end_of inside MissingBracket at) at [] [] (end_of_text inside)
 end_given true at = refl
 end_given false at = record { rest = last_rest at; is = refl; words_are = refl; commands_are = refl; at_close = omega arith }
 
-end_read : (inside : Bool) (room : ℕ) (text : List ℕ) (ending : Ending) (at : ℕ) (place : Place) → IsOpen place → IsEnd inside text ending →
-    Gives (rest_of text (record { inside = inside; room = room }) 0 place at) (at + length text) [] [] ending
+end_read : (inside : Bool) (room : ℕ) (text : List ℕ) (ending : TextEnding) (at : ℕ) (place : BytePlace) → IsOpen place → IsEnd inside text ending →
+    GivesCommands (rest_of text (record { inside = inside; room = room }) 0 place at) (at + length text) [] [] ending
 end_read inside room text ending at place here (closes {text = after} e) =
     record {
       rest = last_rest at;
@@ -60,7 +61,7 @@ end_read inside room text ending at place at_start stands = given_as (end_of ins
 end_read inside room text ending at place at_between stands = given_as (end_of inside MissingBracket at) (end_of inside MissingBracket at) at (at + 0) [] [] (end_of_text inside) refl (omega arith) (end_given inside at)
 
 -- a word was read, and then its command, and the one that began before
-with_word : (r s : Read) (stop : ℕ) (word : Word) (words : List Word) (commands : List Command) (ending : Ending) → r ≡ put (word_front word) s → Gives s stop words commands ending → Gives r stop (word ∷ words) commands ending
+with_word : (r s : Read) (stop : ℕ) (word : Word) (words : List Word) (commands : List Command) (ending : TextEnding) → r ≡ put (word_front word) s → GivesCommands s stop words commands ending → GivesCommands r stop (word ∷ words) commands ending
 with_word r s stop word words commands (leaves left) e g = record {
   rest = word_front word g.rest;
   is = e ∙ ap (put (word_front word)) g.is;
@@ -70,7 +71,7 @@ with_word r s stop word words commands (leaves left) e g = record {
 }
 with_word r s stop word words commands (fails fault) e g = e ∙ ap (put (word_front word)) g
 
-command_ended : (r s : Read) (stop : ℕ) (words : List Word) (commands : List Command) (ending : Ending) → r ≡ put (changed (command_ends ∷ [])) s → Gives s stop words commands ending → Gives r stop [] commands ending
+command_ended : (r s : Read) (stop : ℕ) (words : List Word) (commands : List Command) (ending : TextEnding) → r ≡ put (changed (command_ends ∷ [])) s → GivesCommands s stop words commands ending → GivesCommands r stop [] commands ending
 command_ended r s stop words commands (leaves left) e g = record {
   rest = changed (command_ends ∷ []) g.rest;
   is = e ∙ ap (put (changed (command_ends ∷ []))) g.is;
@@ -80,8 +81,8 @@ command_ended r s stop words commands (leaves left) e g = record {
 }
 command_ended r s stop words commands (fails fault) e g = e ∙ ap (put (changed (command_ends ∷ []))) g
 
-command_begun : (r s : Read) (stop start : ℕ) (command : Command) (words : List Word) (commands : List Command) (ending : Ending) → r ≡ put (changed (command_begins start ∷ [])) s →
-    command ≡ command_of start words → Gives s stop words commands ending → Gives r stop [] (command ∷ commands) ending
+command_begun : (r s : Read) (stop start : ℕ) (command : Command) (words : List Word) (commands : List Command) (ending : TextEnding) → r ≡ put (changed (command_begins start ∷ [])) s →
+    command ≡ command_of start words → GivesCommands s stop words commands ending → GivesCommands r stop [] (command ∷ commands) ending
 command_begun r s stop start command words commands (leaves left) e same g = record {
   rest = changed (command_begins start ∷ []) g.rest;
   is = e ∙ ap (put (changed (command_begins start ∷ []))) g.is;
@@ -103,13 +104,13 @@ separated : (level : Level) (b : ℕ) (text : List ℕ) (at : ℕ) → IsSeparat
 separated level b text at (inl e) = ap (λ c. rest_of (c ∷ text) level 0 Between at) e ∙ newline_ends level text at
 separated level b text at (inr e) = ap (λ c. rest_of (c ∷ text) level 0 Between at) e ∙ semicolon_ends level text at
 
-ending_read : (inside : Bool) (room : ℕ) → InnerReads room → (text : List ℕ) (ending : Ending) (at : ℕ) → IsEnding (IsInnerOf room) inside text ending →
-    Gives (rest_of text (record { inside = inside; room = room }) 0 Between at) (at + length text) [] [] ending
+ending_read : (inside : Bool) (room : ℕ) → InnerReads room → (text : List ℕ) (ending : TextEnding) (at : ℕ) → IsEnding (IsInnerOf room) inside text ending →
+    GivesCommands (rest_of text (record { inside = inside; room = room }) 0 Between at) (at + length text) [] [] ending
 ending_read inside room inner text ending at (ends_command h) = end_read inside room text ending at Between at_between h
 ending_read inside room inner text ending at (faulty_word {text = same} {fault} h) = faulty_word_read inside room inner at text fault h
 
-last_read : (inside : Bool) (room : ℕ) → InnerReads room → (text : List ℕ) (ending : Ending) (at : ℕ) → IsLast (IsInnerOf room) inside text ending →
-    Gives (rest_of text (record { inside = inside; room = room }) 0 Start at) (at + length text) [] [] ending
+last_read : (inside : Bool) (room : ℕ) → InnerReads room → (text : List ℕ) (ending : TextEnding) (at : ℕ) → IsLast (IsInnerOf room) inside text ending →
+    GivesCommands (rest_of text (record { inside = inside; room = room }) 0 Start at) (at + length text) [] [] ending
 last_read inside room inner text ending at (ends h) = end_read inside room text ending at Start at_start h
 last_read inside room inner text ending at (comment {note} h) =
     let level : Level = record { inside = inside; room = room } in
@@ -119,10 +120,10 @@ last_read inside room inner text ending at (faulty {text = same} {fault} hash h)
     let level : Level = record { inside = inside; room = room } in
     start_read level text at (faulty_word_open (IsInnerOf room) inside text fault h) hash ∙ ap (put (changed (command_begins at ∷ []))) (faulty_word_read inside room inner at text fault h)
 
-further_read : (inside : Bool) (room : ℕ) → InnerReads room → (IsAfter : ℕ → List ℕ → Type 0) (commands : List Command) (ending : Ending) →
-    ((at : ℕ) (text : List ℕ) → IsAfter at text → Gives (rest_of text (record { inside = inside; room = room }) 0 Between at) (at + length text) [] commands ending) →
+further_read : (inside : Bool) (room : ℕ) → InnerReads room → (IsAfter : ℕ → List ℕ → Type 0) (commands : List Command) (ending : TextEnding) →
+    ((at : ℕ) (text : List ℕ) → IsAfter at text → GivesCommands (rest_of text (record { inside = inside; room = room }) 0 Between at) (at + length text) [] commands ending) →
     (at : ℕ) (text : List ℕ) (words : List Word) → AreFurther (IsInnerOf room) inside IsAfter at text words →
-    Gives (rest_of text (record { inside = inside; room = room }) 0 Between at) (at + length text) words commands ending
+    GivesCommands (rest_of text (record { inside = inside; room = room }) 0 Between at) (at + length text) words commands ending
 further_read inside room inner IsAfter commands ending given at text [] h = given at text h
 further_read inside room inner IsAfter commands ending given at text (word ∷ words) (blanks, own, rest, e, b, is, h) =
     let level : Level = record { inside = inside; room = room } in
@@ -133,10 +134,10 @@ further_read inside room inner IsAfter commands ending given at text (word ∷ w
     (given_as (rest_of rest level 0 Between (next + length own)) (rest_of rest level 0 Between (next + length own)) (next + length own + length rest) (at + length text) words commands ending refl m
     (further_read inside room inner IsAfter commands ending given (next + length own) rest words h))
 
-rest_read : (inside : Bool) (room : ℕ) → InnerReads room → (commands : List Command) (ending : Ending) →
-    ((at : ℕ) (text : List ℕ) → IsScript (IsInnerOf room) inside at text commands ending → Gives (rest_of text (record { inside = inside; room = room }) 0 Start at) (at + length text) [] commands ending) →
+rest_read : (inside : Bool) (room : ℕ) → InnerReads room → (commands : List Command) (ending : TextEnding) →
+    ((at : ℕ) (text : List ℕ) → IsScript (IsInnerOf room) inside at text commands ending → GivesCommands (rest_of text (record { inside = inside; room = room }) 0 Start at) (at + length text) [] commands ending) →
     (at : ℕ) (text : List ℕ) → IsRest (λ next after. IsScript (IsInnerOf room) inside next after commands ending) (λ last. (commands ≡ []) × IsEnding (IsInnerOf room) inside last ending) at text →
-    Gives (rest_of text (record { inside = inside; room = room }) 0 Between at) (at + length text) [] commands ending
+    GivesCommands (rest_of text (record { inside = inside; room = room }) 0 Between at) (at + length text) [] commands ending
 rest_read inside room inner commands ending given at text (blanks, rest, e, b, inl (c, after, f, s, h)) =
     let level : Level = record { inside = inside; room = room } in
     let next : ℕ = at + length blanks in
@@ -150,11 +151,11 @@ rest_read inside room inner commands ending given at text (blanks, rest, e, b, i
     let m : next + length rest ≡ at + length text = omega (arith, ap length e, length-append blanks rest) in
     given_as (rest_of text level 0 Between at) (rest_of rest level 0 Between next) (next + length rest) (at + length text) [] commands ending
     (ap (λ t. rest_of t level 0 Between at) e ∙ blanks_read level b rest at) m
-    (subst (λ c. Gives (rest_of rest level 0 Between next) (next + length rest) [] c ending) (sym none) (ending_read inside room inner rest ending next h))
+    (subst (λ c. GivesCommands (rest_of rest level 0 Between next) (next + length rest) [] c ending) (sym none) (ending_read inside room inner rest ending next h))
 
 -- a script is read
-pub script_read : (inside : Bool) (room : ℕ) → InnerReads room → (commands : List Command) (ending : Ending) (at : ℕ) (text : List ℕ) → IsScript (IsInnerOf room) inside at text commands ending →
-    Gives (rest_of text (record { inside = inside; room = room }) 0 Start at) (at + length text) [] commands ending
+pub script_read : (inside : Bool) (room : ℕ) → InnerReads room → (commands : List Command) (ending : TextEnding) (at : ℕ) (text : List ℕ) → IsScript (IsInnerOf room) inside at text commands ending →
+    GivesCommands (rest_of text (record { inside = inside; room = room }) 0 Start at) (at + length text) [] commands ending
 script_read inside room inner [] ending at text (gap, rest, e, g, h) =
     let level : Level = record { inside = inside; room = room } in
     let next : ℕ = at + length gap in
@@ -177,7 +178,7 @@ script_read inside room inner (command ∷ commands) ending at text (gap, own, r
 
 -- Brackets and indices.
 
-script_closed : (room : ℕ) → InnerReads room → (own text : List ℕ) → IsInnerOf (suc room) script (own ++ 93 ∷ text) (leaves (93 ∷ text)) → (mode : Mode) (at : ℕ) (go : ℕ → Place → Read) →
+script_closed : (room : ℕ) → InnerReads room → (own text : List ℕ) → IsInnerOf (suc room) script (own ++ 93 ∷ text) (leaves (93 ∷ text)) → (mode : Mode) (at : ℕ) (go : ℕ → BytePlace → Read) →
     opened BracketOpener mode (suc room) at (own ++ 93 ∷ text) go ≡ put (piece_before (Bracket own)) (go (suc (length own)) (Text mode))
 script_closed room inner own text (commands, h) mode at go =
     let behind : List ℕ = own ++ 93 ∷ text in
@@ -187,14 +188,14 @@ script_closed room inner own text (commands, h) mode at go =
     ∙ ap (λ n. put (piece_before (Bracket (take n behind))) (go (suc n) (Text mode))) m
     ∙ ap (λ t. put (piece_before (Bracket t)) (go (suc (length own)) (Text mode))) (take_front own (93 ∷ text))
 
-script_told : (room : ℕ) → InnerReads room → (text : List ℕ) (fault : ParseFault) → IsInnerOf (suc room) script text (fails fault) → (mode : Mode) (at : ℕ) (go : ℕ → Place → Read) →
+script_told : (room : ℕ) → InnerReads room → (text : List ℕ) (fault : ParseFault) → IsInnerOf (suc room) script text (fails fault) → (mode : Mode) (at : ℕ) (go : ℕ → BytePlace → Read) →
     opened BracketOpener mode (suc room) at text go ≡ Err fault
 script_told room inner text fault (commands, h) mode at go = ap (past_opened BracketOpener mode text go) (script_read true room inner commands (fails fault) 0 text h)
 
 pub skip_name : (name text : List ℕ) (level : Level) → rest_of (name ++ 40 ∷ text) level (suc (length name)) (Text Parens) 0 ≡ rest_of text level 0 (Text Parens) (suc (length name))
 skip_name name text level = let e : 0 + suc (length name) ≡ suc (length name) = omega arith in skip_past name 40 text level (Text Parens) 0 ∙ read_at text level (Text Parens) (0 + suc (length name)) (suc (length name)) e
 
-index_closed : (room : ℕ) → InnerReads room → (name own text : List ℕ) → IsInnerOf (suc room) index (own ++ 41 ∷ text) (leaves (41 ∷ text)) → (mode : Mode) (at : ℕ) (go : ℕ → Place → Read) →
+index_closed : (room : ℕ) → InnerReads room → (name own text : List ℕ) → IsInnerOf (suc room) index (own ++ 41 ∷ text) (leaves (41 ∷ text)) → (mode : Mode) (at : ℕ) (go : ℕ → BytePlace → Read) →
     opened (IndexOpener (length name)) mode (suc room) at (name ++ 40 ∷ (own ++ 41 ∷ text)) go ≡ put (piece_before (Element name own)) (go (suc (suc (length name) + length own)) (Text mode))
 index_closed room inner name own text (pieces, h) mode at go =
     let behind : List ℕ = name ++ 40 ∷ (own ++ 41 ∷ text) in
@@ -208,7 +209,7 @@ index_closed room inner name own text (pieces, h) mode at go =
     ∙ ap (λ t. put (piece_before (Element t (slice_range behind start (start + length own)))) (go (suc (start + length own)) (Text mode))) (take_front name (40 ∷ (own ++ 41 ∷ text)))
     ∙ ap (λ t. put (piece_before (Element name t)) (go (suc (start + length own)) (Text mode))) (slice_index_text name own text)
 
-index_told : (room : ℕ) → InnerReads room → (name text : List ℕ) (fault : ParseFault) → IsInnerOf (suc room) index text (fails fault) → (mode : Mode) (at : ℕ) (go : ℕ → Place → Read) →
+index_told : (room : ℕ) → InnerReads room → (name text : List ℕ) (fault : ParseFault) → IsInnerOf (suc room) index text (fails fault) → (mode : Mode) (at : ℕ) (go : ℕ → BytePlace → Read) →
     opened (IndexOpener (length name)) mode (suc room) at (name ++ 40 ∷ text) go ≡ Err fault
 index_told room inner name text fault (pieces, h) mode at go =
     ap (past_opened (IndexOpener (length name)) mode (name ++ 40 ∷ text) go) (skip_name name text (within room) ∙ pieces_read true room Parens inner h (suc (length name)))

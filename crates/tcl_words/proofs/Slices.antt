@@ -1,7 +1,7 @@
 -- The spans of words and commands are where their texts stand.
 use Rattle.std.proofs.Common.{false, ◌≡◌, ℕ, ◌+◌, inl, inr, List, [], ◌∷◌, ◌++◌, length, refl, sym, ap, subst, ◌∙◌, append_assoc, length-append, arith}
-use Rattle.tcl_words.specs.Changes.{command_of, words_end}
-use Rattle.tcl_words.specs.Grammar.{Ending, IsInnerOf, IsWord, AreFurther, IsRest, IsEnding, IsScript, IsSlice, WordsAreSlices, CommandsAreSlices}
+use Rattle.tcl_words.specs.Spans.{command_of, words_end}
+use Rattle.tcl_words.specs.Grammar.{TextEnding, IsInnerOf, IsWord, AreFurther, IsRest, IsEnding, IsScript, IsSlice, WordsAreSlices, CommandsAreSlices}
 use Rattle.tcl_words.specs.declared.script.Word.{Word}
 use Rattle.tcl_words.specs.declared.script.Command.{Command}
 
@@ -59,11 +59,11 @@ further_slices source IsAfter at text (word ∷ words) stands (blanks, own, rest
     }
 
 -- what comes after a command
-abbrev After : List Command → Ending → ℕ → List ℕ → Type 0
+abbrev After : List Command → TextEnding → ℕ → List ℕ → Type 0
 After commands ending = IsRest (λ next after. IsScript (IsInnerOf 200) false next after commands ending) (λ last. (commands ≡ []) × IsEnding (IsInnerOf 200) false last ending)
 
 -- the commands after a command
-rest_slices : (source : List ℕ) (commands : List Command) (ending : Ending) →
+rest_slices : (source : List ℕ) (commands : List Command) (ending : TextEnding) →
     ((at : ℕ) (text : List ℕ) → Stands source at text → IsScript (IsInnerOf 200) false at text commands ending → CommandsAreSlices source commands) →
     (at : ℕ) (text : List ℕ) → Stands source at text → After commands ending at text → CommandsAreSlices source commands
 rest_slices source commands ending ih at text stands (blanks, rest, e, b, inl (c, after, f, s, h)) =
@@ -71,7 +71,7 @@ rest_slices source commands ending ih at text stands (blanks, rest, e, b, inl (c
     ih (at + length blanks + 1) after (stands_on source (c ∷ []) after (at + length blanks) (stands_as source rest (c ∷ after) (at + length blanks) f here)) h
 rest_slices source commands ending ih at text stands (blanks, rest, e, b, inr (none, h)) = subst (CommandsAreSlices source) (sym none) tt
 
-pub script_slices : (source : List ℕ) (commands : List Command) (ending : Ending) (at : ℕ) (text : List ℕ) → Stands source at text → IsScript (IsInnerOf 200) false at text commands ending → CommandsAreSlices source commands
+pub script_slices : (source : List ℕ) (commands : List Command) (ending : TextEnding) (at : ℕ) (text : List ℕ) → Stands source at text → IsScript (IsInnerOf 200) false at text commands ending → CommandsAreSlices source commands
 script_slices source [] ending at text stands h = tt
 script_slices source (command ∷ commands) ending at text stands (gap, own, rest, word, words, e, g, hash, is, h, same) =
     let start : ℕ = at + length gap in

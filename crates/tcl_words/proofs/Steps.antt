@@ -8,20 +8,21 @@ use Rattle.std.proofs.lemmas.Bool.Decides.{nat_tests}
 use Rattle.std.specs.Prelude.{nat_eq, nat_lt, ◌&&◌, ◌≢◌, IsTrue}
 use Rattle.std.proofs.lemmas.Str.{IsCharBoundary-before_ascii, IsCharBoundary-after_ascii}
 use Rattle.tcl_text.specs.Backslash.{escape}
-use Rattle.tcl_words.specs.Changes.{Rest, Read, put, piece_before, last_rest, Change, bytes, name, text_ends, word_ends, command_ends, word_begins, command_begins, changed, changed_by, literal_before}
-use Rattle.tcl_words.specs.Moves.{Move, on, ends, fails, before, word_over, at_brace, at_dollar, in_braces, in_expanded, in_text, lone}
-use Rattle.tcl_words.specs.Reading.{first_skip, at_end}
-use Rattle.tcl_words.specs.Parts.{Parts, joined, with_text, with_word, with_command, with_piece, with_literal, with_braced, so_far, ended, script_whole, IsFine, IsCut, StandsAt, Escaped, EndsWord, DollarFits, Does, is_index, IsExpansion, IsOpenerCut}
+use Rattle.tcl_words.specs.Changes.{Rest, Read, put, piece_before, last_rest, Change, bytes, name, text_ends, word_ends, command_ends, changed, changed_by}
+use Rattle.tcl_words.specs.Moves.{Move, on, ends, before, word_over, at_brace, at_dollar, in_braces, in_expanded, in_text, lone}
+use Rattle.tcl_words.specs.Reading.{at_end}
+use Rattle.tcl_words.specs.Parts.{Parts, joined, with_word, with_command, with_piece, with_literal, with_braced, so_far, ended, script_whole, IsCut, StandsAt, Escaped, EndsWord, DollarFits, Does, is_index, IsExpansion, IsOpenerCut}
 use Rattle.tcl_words.specs.declared.kind.Kind.{Kind}
-use Rattle.tcl_words.specs.declared.kind.Kind.TheVariants.{Blank, Newline, Semicolon, Dollar, OpenBracket, CloseBracket, Backslash, Continuation, OpenBrace, Expansion, Other}
+use Rattle.tcl_words.specs.declared.kind.Kind.TheVariants.{Dollar, OpenBracket, Backslash, Continuation, OpenBrace, Expansion, Other}
 use Rattle.tcl_words.specs.declared.kind.Dollar.{Dollar as DollarForm}
-use Rattle.tcl_words.specs.declared.kind.Dollar.TheVariants.{Alone, Named, Indexed, Braced, Unclosed}
+use Rattle.tcl_words.specs.declared.kind.Dollar.TheVariants.{Named, Indexed, Braced}
 use Rattle.tcl_words.specs.declared.kind.Opener.TheVariants.{Bracket, Index}
-use Rattle.tcl_words.specs.Kinds.{dollar_of, begins_expansion, begins_newline}
+use Rattle.tcl_words.specs.Kinds.{dollar_of}
+use Rattle.tcl_words.specs.Classes.{begins_expansion, begins_newline}
 use Rattle.tcl_words.specs.declared.script.Piece.TheVariants.{Variable}
 use Rattle.tcl_words.specs.declared.script.WordForm.TheVariants.{Braced as BracedForm}
-use Rattle.tcl_words.specs.declared.kind.Place.{Place}
-use Rattle.tcl_words.specs.declared.kind.Place.TheVariants.{Start, Comment, Between, Expanded, Text, PastQuotes, InBraces, PastBraces}
+use Rattle.tcl_words.specs.declared.kind.BytePlace.{BytePlace}
+use Rattle.tcl_words.specs.declared.kind.BytePlace.TheVariants.{Start, Comment, Between, Expanded, Text, PastQuotes, InBraces, PastBraces}
 use Rattle.tcl_words.specs.declared.kind.Mode.{Mode}
 use Rattle.tcl_words.specs.declared.kind.Mode.TheVariants.{Bare, Quotes, Parens}
 use Rattle.tcl_words.specs.declared.kind.Opener.{Opener}
@@ -31,10 +32,10 @@ use Rattle.tcl_words.specs.declared.script.Piece.{Piece}
 use Rattle.tcl_words.specs.declared.fault.ParseFault.{ParseFault}
 use Rattle.tcl_words.proofs.Escapes.{cut_past, escape_ascii, escape_itself}
 use Rattle.tcl_text.proofs.BackslashLemmas.{escape_short, escape_within}
-use Rattle.tcl_words.proofs.Joins.{slice_none, slice_one, slice_split, slice_behind, text_bytes, brace_bytes, text_piece, text_opened, bare_ended, quotes_ended, braces_ended, word_ended, command_ended}
+use Rattle.tcl_words.proofs.Joins.{slice_none, slice_one, slice_split, slice_behind, text_bytes, brace_bytes, text_piece, text_opened, bare_ended, word_ended, command_ended}
 
 -- the move is given otherwise
-pub same_move : (old new : Parts) (s : List ℕ) (at : ℕ) (place : Place) (m m' : Move) (result : Result Step ParseFault) → m ≡ m' → Does old new s at place m' result → Does old new s at place m result
+pub same_move : (old new : Parts) (s : List ℕ) (at : ℕ) (place : BytePlace) (m m' : Move) (result : Result Step ParseFault) → m ≡ m' → Does old new s at place m' result → Does old new s at place m result
 same_move old new s at place m m' result e does = let P : Move → Type 0 = λ x. Does old new s at place x result in subst P (sym e) does
 
 put_first : (c : Change) (cs : List Change) (r : Read) → put (changed (c ∷ cs)) r ≡ put (changed_by c) (put (changed cs) r)
@@ -46,7 +47,7 @@ put_none (Ok rest) = refl
 put_none (Err fault) = refl
 
 -- a first change of the parts, and then what the byte does
-pub first : (old mid new : Parts) (s : List ℕ) (at : ℕ) (place place' : Place) (c : Change) (m : Move) (result : Result Step ParseFault) →
+pub first : (old mid new : Parts) (s : List ℕ) (at : ℕ) (place place' : BytePlace) (c : Change) (m : Move) (result : Result Step ParseFault) →
     ((r : Read) → joined old s place at (put (changed_by c) r) ≡ joined mid s place' at r) → ended place' new at ≡ ended place new at → is_index place' ≡ is_index place →
     Does mid new s at place' m result → Does old new s at place (before c m) result
 first old mid new s at place place' c m (Ok (On skip next)) over same index does =
@@ -217,7 +218,7 @@ put_after : (lead cs : List Change) (r : Read) → put (changed (lead ++ cs)) r 
 put_after lead cs (Ok rest) = ap (λ t. Ok t) (changed_after lead cs rest)
 put_after lead cs (Err fault) = refl
 
-module _ (p mid new : Parts) (s : List ℕ) (at : ℕ) (place : Place) (lead : List Change)
+module _ (p mid new : Parts) (s : List ℕ) (at : ℕ) (place : BytePlace) (lead : List Change)
     (over : (r : Read) → joined p s place at (put (changed lead) (put (changed_by text_ends) r)) ≡ joined mid s PastBraces at r)
     (whole : ended PastBraces new at ≡ ended place new at) (index : is_index PastBraces ≡ is_index place)
   where
@@ -493,10 +494,10 @@ lone_finish p s at expansion = over ∙ word_finish (with_braced (record p { wor
     over : joined p s Expanded at (put (changed (lone at)) (Ok (last_rest at))) ≡ joined (with_braced (record p { word_start = at - 3; form = BracedForm; expand = false; pieces = []; literal = []; mark = at - 2 }) s (at - 1)) s PastBraces at (Ok (last_rest at))
     over = rw expansion.star refl
 
-pub start_any : (p : Parts) (s : List ℕ) (place : Place) (at : ℕ) → (place ≡ Start) ⊎ (place ≡ Comment) → joined p s place at (at_end false place at) ≡ Ok (script_whole p.commands at)
+pub start_any : (p : Parts) (s : List ℕ) (place : BytePlace) (at : ℕ) → (place ≡ Start) ⊎ (place ≡ Comment) → joined p s place at (at_end false place at) ≡ Ok (script_whole p.commands at)
 start_any p s place at (inl e) = rw e (start_finish p s at)
 start_any p s place at (inr e) = rw e (start_finish p s at)
 
-pub past_any : (p : Parts) (s : List ℕ) (place : Place) (at : ℕ) → (place ≡ PastQuotes) ⊎ (place ≡ PastBraces) → joined p s place at (at_end false place at) ≡ Ok (script_whole (with_command (with_word p at)).commands at)
+pub past_any : (p : Parts) (s : List ℕ) (place : BytePlace) (at : ℕ) → (place ≡ PastQuotes) ⊎ (place ≡ PastBraces) → joined p s place at (at_end false place at) ≡ Ok (script_whole (with_command (with_word p at)).commands at)
 past_any p s place at (inl e) = rw e (word_finish p s at)
 past_any p s place at (inr e) = rw e (word_finish p s at)

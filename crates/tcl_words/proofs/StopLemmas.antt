@@ -1,6 +1,7 @@
 -- What is read where a word or another body ends.
 use Rattle.std.proofs.Common.{◌≡◌, ℕ, Bool, true, false, List, [], ◌∷◌, refl, sym, ap, ◌∙◌, eqb-true, ◌+◌, Ok, Err}
-use Rattle.tcl_words.specs.Kinds.{kind_of, class_of, class_means}
+use Rattle.tcl_words.specs.Kinds.{kind_before, class_means}
+use Rattle.tcl_words.specs.Classes.{class_of}
 use Rattle.tcl_words.specs.Grammar.{class_ends, ends_word}
 use Rattle.tcl_words.specs.Changes.{Rest, Read, put, changed, last_rest}
 use Rattle.tcl_text.specs.Backslash.{escape}
@@ -14,13 +15,13 @@ use Rattle.tcl_words.specs.Reading.{Level, rest_of, end_of}
 use Rattle.tcl_words.specs.Grammar.{stops, unended_fault}
 use Rattle.tcl_words.specs.declared.kind.Kind.{Kind}
 use Rattle.tcl_words.specs.declared.kind.Kind.TheVariants.{Blank, Newline, Semicolon, Hash, Dollar, Quote, OpenBracket, CloseBracket, OpenBrace, Expansion, CloseBrace, CloseParen, Backslash, Continuation, Other}
-use Rattle.tcl_words.specs.declared.kind.Place.{Place}
-use Rattle.tcl_words.specs.declared.kind.Place.TheVariants.{Text, Start, Between, PastQuotes, PastBraces}
+use Rattle.tcl_words.specs.declared.kind.BytePlace.{BytePlace}
+use Rattle.tcl_words.specs.declared.kind.BytePlace.TheVariants.{Text, Start, Between, PastQuotes, PastBraces}
 use Rattle.tcl_words.proofs.ClassLemmas.{}
 use Rattle.tcl_words.proofs.StepLemmas.{after_move, put-put, put-none}
 
 -- where words end
-pub data EndsWords : Place → Type 0 where
+pub data EndsWords : BytePlace → Type 0 where
   bare_word : EndsWords (Text Bare)
   quotes : EndsWords PastQuotes
   braces : EndsWords PastBraces
@@ -48,12 +49,12 @@ end_over : (t : Bool) (fault : ParseFault) (at : ℕ) → end_of t fault at ≡ 
 end_over true fault at = refl
 end_over false fault at = refl
 
-pub word_stops : (level : Level) (place : Place) (text : List ℕ) (at : ℕ) → EndsWords place → ends_word level.inside text ≡ true →
+pub word_stops : (level : Level) (place : BytePlace) (text : List ℕ) (at : ℕ) → EndsWords place → ends_word level.inside text ≡ true →
     rest_of text level 0 place at ≡ put (changed (word_ends at ∷ [])) (rest_of text level 0 Between at)
 word_stops level place [] at bare_word e = end_over level.inside MissingBracket at
 word_stops level place [] at quotes e = end_over level.inside MissingBracket at
 word_stops level place [] at braces e = end_over level.inside MissingBracket at
-word_stops level place (b ∷ text) at bare_word e = over_kind (in_text Bare (kind_of level.inside b text) b text) level.inside (class_of b) b at text level e
+word_stops level place (b ∷ text) at bare_word e = over_kind (in_text Bare (kind_before level.inside b text) b text) level.inside (class_of b) b at text level e
 word_stops level place (b ∷ text) at quotes e = over_kind (fails ExtraAfterQuote) level.inside (class_of b) b at text level e
 word_stops level place (b ∷ text) at braces e = over_kind (fails ExtraAfterBrace) level.inside (class_of b) b at text level e
 

@@ -1,12 +1,12 @@
 -- The commands of a text by its length and its bytes.
-use Rattle.std.proofs.Common.{◌≡◌, ◌≤◌, ℕ, true, false, not, List, length, nat_lt, refl, sym, ap, ◌∙◌, ◌⊎◌, inl, inr, arith, Ok, Err, Result}
+use Rattle.std.proofs.Common.{◌≡◌, ◌≤◌, ℕ, true, false, List, length, nat_lt, refl, sym, ap, ◌∙◌, ◌⊎◌, inl, inr, arith, Ok, Err, Result}
 use Rattle.std.proofs.lemmas.Bool.{cases_Bool}
 use Rattle.std.proofs.lemmas.Bool.Decides.{nat_tests}
 use Rattle.std.specs.Str.{IsUtf8, is_utf8}
 use Rattle.std.proofs.lemmas.Str.{is_utf8-from_IsUtf8, IsUtf8-from_is_utf8}
 use Rattle.tcl_words.specs.Reading.{commands_of, commands_in, rest_of, outermost}
 use Rattle.tcl_words.specs.Room.{text_room, commands_room}
-use Rattle.tcl_words.specs.declared.kind.Place.TheVariants.{Start}
+use Rattle.tcl_words.specs.declared.kind.BytePlace.TheVariants.{Start}
 use Rattle.tcl_words.specs.declared.script.Command.{Command}
 use Rattle.tcl_words.specs.declared.fault.ParseFault.{ParseFault}
 use Rattle.tcl_words.specs.declared.fault.ParseFault.TheVariants.{TooLong, NoMemory}

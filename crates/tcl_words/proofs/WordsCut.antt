@@ -1,9 +1,9 @@
 -- Each text at which a word could begin has a word at its front, or a fault.
 use Rattle.std.proofs.Common.{◌≡◌, ℕ, ◌+◌, ◌<◌, ◌⊎◌, inl, inr, Bool, true, false, not, ◌==◌, ◌&&◌, List, [], ◌∷◌, ◌++◌, length, drop, nat_eq, refl, sym, ap, subst, ◌∙◌, eqb-true, append_assoc, length-append, arith}
-use Rattle.tcl_words.specs.Kinds.{begins_expansion}
+use Rattle.tcl_words.specs.Classes.{begins_expansion}
 use Rattle.tcl_words.specs.Grammar.{ends_word}
-use Rattle.tcl_words.specs.Changes.{word_of}
-use Rattle.tcl_words.specs.Grammar.{ArePieces, Ending, leaves, fails, begins, begins_bare, begins_mark, IsInnerOf, IsOwnWord, IsFaultyOwn, IsMark, IsWord, IsFaultyWord}
+use Rattle.tcl_words.specs.Spans.{word_of}
+use Rattle.tcl_words.specs.Grammar.{ArePieces, TextEnding, leaves, fails, begins, begins_bare, begins_mark, IsInnerOf, IsOwnWord, IsFaultyOwn, IsMark, IsWord, IsFaultyWord}
 use Rattle.tcl_words.specs.Grammar.IsOwnWord.{bare_word, quoted_word, braced_word}
 use Rattle.tcl_words.specs.Grammar.IsFaultyOwn.{faulty_bare, faulty_quoted, followed_quoted, unclosed_braced, followed_braced}
 use Rattle.tcl_words.specs.declared.kind.Mode.TheVariants.{Bare, Quotes}
@@ -36,7 +36,7 @@ bare_cut room inside text inner first =
     let found = pieces_found room inside Bare inner text in
     go found.pieces found.ending found.are found.cut
   where
-    go : (pieces : List Piece) (ending : Ending) → ArePieces (IsInnerOf room) inside Bare text pieces ending → IsPiecesCut inside Bare text ending → OwnCut room inside text
+    go : (pieces : List Piece) (ending : TextEnding) → ArePieces (IsInnerOf room) inside Bare text pieces ending → IsPiecesCut inside Bare text ending → OwnCut room inside text
     go pieces (leaves left) are (own, e, ends) = inl (record {
       own = own;
       rest = left;
@@ -73,7 +73,7 @@ quoted_cut room inside text inner =
     let found = pieces_found room inside Quotes inner text in
     go found.pieces found.ending found.are found.cut
   where
-    go : (pieces : List Piece) (ending : Ending) → ArePieces (IsInnerOf room) inside Quotes text pieces ending → IsPiecesCut inside Quotes text ending → OwnCut room inside (34 ∷ text)
+    go : (pieces : List Piece) (ending : TextEnding) → ArePieces (IsInnerOf room) inside Quotes text pieces ending → IsPiecesCut inside Quotes text ending → OwnCut room inside (34 ∷ text)
     go pieces (leaves left) are (own, e, ends) = quote_cut room inside text own left pieces are e ends
     go pieces (fails fault) are cut = inr (fault, faulty_quoted are)
 

@@ -1,8 +1,8 @@
 -- Words are the same before another text that ends them, wherever they stand.
 use Rattle.std.proofs.Common.{◌≡◌, ℕ, ◌+◌, ◌<◌, Bool, true, false, not, ◌==◌, ◌&&◌, List, [], ◌∷◌, ◌++◌, length, drop, refl, sym, ap, subst, ◌∙◌, append_assoc, length-append, arith}
-use Rattle.tcl_words.specs.Kinds.{class_of, begins_expansion}
-use Rattle.tcl_words.specs.Changes.{word_of}
-use Rattle.tcl_words.specs.Grammar.{Ending, leaves, begins, begins_bare, begins_mark, ends_word, ArePieces, IsBraced, IsInnerOf, IsOwnWord, IsMark, IsWord}
+use Rattle.tcl_words.specs.Classes.{class_of, begins_expansion}
+use Rattle.tcl_words.specs.Spans.{word_of}
+use Rattle.tcl_words.specs.Grammar.{TextEnding, leaves, begins, begins_bare, begins_mark, ends_word, ArePieces, IsBraced, IsInnerOf, IsOwnWord, IsMark, IsWord}
 use Rattle.tcl_words.specs.Grammar.ArePieces.{stop, unended, byte, backslash, dollar, variable, braced_name, unclosed_name, element, faulty_index, bracket, faulty_script}
 use Rattle.tcl_words.specs.Grammar.IsOwnWord.{bare_word, quoted_word, braced_word}
 use Rattle.tcl_words.specs.declared.kind.Mode.TheVariants.{Bare, Quotes}
@@ -28,7 +28,7 @@ quote_tail : (left other : List ℕ) → Tail Quotes (34 ∷ left) (34 ∷ other
 quote_tail left other = record { stops_too = refl; none = λ e. cc; inert = inert_quote other; blanks = refl }
 
 -- pieces that leave less than the whole begin with no end of a word
-pieces_open : {text : List ℕ} {pieces : List Piece} {ending : Ending} → ArePieces (IsInnerOf 200) false Bare text pieces ending → (left : List ℕ) → ending ≡ leaves left → length left < length text → ends_word false text ≡ false
+pieces_open : {text : List ℕ} {pieces : List Piece} {ending : TextEnding} → ArePieces (IsInnerOf 200) false Bare text pieces ending → (left : List ℕ) → ending ≡ leaves left → length left < length text → ends_word false text ≡ false
 unfolding class_of
 pieces_open (stop {text} h) left e m = let k : text ≡ left = cc in absurd (omega (arith, m, ap length k))
 pieces_open (unended h) left e m = cc

@@ -1,22 +1,24 @@
 -- Words are read as the grammar says.
 use Rattle.std.proofs.Common.{eqb-true, ◌≡◌, ◌≢◌, ℕ, ◌+◌, ◌-◌, Bool, true, false, if◌then◌else◌, not, ◌==◌, ◌&&◌, List, [], ◌∷◌, ◌++◌, length, nat_eq, refl, sym, ap, subst, ◌∙◌, append-nil, append_assoc, length-append, arith, Ok, Err}
 use Rattle.std.proofs.lemmas.Bool.Decides.{nat_tests}
-use Rattle.tcl_words.specs.Kinds.{kind_of, class_of, class_means, begins_expansion}
+use Rattle.tcl_words.specs.Kinds.{kind_before, class_means}
+use Rattle.tcl_words.specs.Classes.{class_of, begins_expansion}
 use Rattle.tcl_words.specs.Grammar.{class_ends, ends_word}
 use Rattle.tcl_text.specs.Backslash.{escape}
-use Rattle.tcl_words.specs.Changes.{Rest, Read, put, changed, word_of, pieces_of}
+use Rattle.tcl_words.specs.Changes.{Rest, Read, put, changed, pieces_of}
+use Rattle.tcl_words.specs.Spans.{word_of}
 use Rattle.tcl_words.specs.Changes.Change.{bytes as put_bytes, text_ends, word_ends, word_begins, command_ends}
 use Rattle.tcl_words.specs.Moves.{Move, move_of, on, lone, in_expanded, in_between, before, word_over}
 use Rattle.tcl_words.specs.Moves.{fails as fails_with}
 use Rattle.tcl_words.specs.Reading.{Level, rest_of, past, within, end_of}
-use Rattle.tcl_words.specs.Grammar.{Ending, fails, Inner, IsInnerOf, begins_bare, begins_mark, IsBraced, IsUnclosed, IsOwnWord, IsFaultyOwn, IsMark, IsWord, IsFaultyWord}
+use Rattle.tcl_words.specs.Grammar.{TextEnding, fails, Inner, IsInnerOf, begins_bare, begins_mark, IsBraced, IsUnclosed, IsOwnWord, IsFaultyOwn, IsMark, IsWord, IsFaultyWord}
 use Rattle.tcl_words.specs.Grammar.IsOwnWord.{bare_word, quoted_word, braced_word}
 use Rattle.tcl_words.specs.Grammar.IsFaultyOwn.{faulty_bare, faulty_quoted, followed_quoted, unclosed_braced, followed_braced}
 use Rattle.tcl_words.specs.declared.kind.Mode.TheVariants.{Bare, Quotes}
 use Rattle.tcl_words.specs.declared.kind.Kind.{Kind}
 use Rattle.tcl_words.specs.declared.kind.Kind.TheVariants.{Blank, Newline, Semicolon, Hash, Dollar, Quote, OpenBracket, CloseBracket, OpenBrace, Expansion, CloseBrace, CloseParen, Backslash, Continuation, Other}
-use Rattle.tcl_words.specs.declared.kind.Place.{Place}
-use Rattle.tcl_words.specs.declared.kind.Place.TheVariants.{Text, Start, Between, Expanded, PastQuotes, InBraces, PastBraces}
+use Rattle.tcl_words.specs.declared.kind.BytePlace.{BytePlace}
+use Rattle.tcl_words.specs.declared.kind.BytePlace.TheVariants.{Text, Start, Between, Expanded, PastQuotes, InBraces, PastBraces}
 use Rattle.tcl_words.specs.declared.script.WordForm.{WordForm}
 use Rattle.tcl_words.specs.declared.script.WordForm.TheVariants.{Bare as BareForm, Quoted as QuotedForm, Braced as BracedForm}
 use Rattle.tcl_words.specs.declared.script.Piece.{Piece}
@@ -32,7 +34,7 @@ use Rattle.tcl_words.proofs.PiecesRead.{GivesText, GivesPieces, InnerReads, with
 use Rattle.tcl_words.proofs.BracesRead.{braces_read, unclosed_read, last_step, star_only, star_closed}
 
 -- where a word's own text is read, and where the word began
-abbrev pub word_place : Bool → Place
+abbrev pub word_place : Bool → BytePlace
 word_place true = Expanded
 word_place false = Between
 
@@ -98,7 +100,7 @@ bare_begins level expand [] at h = cc
 bare_begins level expand (b ∷ text) at h =
     let two = both (not (class_ends level.inside (class_of b) text)) (not (b == 123) && not (b == 34)) h in
     let more = both (not (b == 123)) (not (b == 34)) two.1 in
-    let move : Move = move_of (Text Bare) (kind_of level.inside b text) b at text in
+    let move : Move = move_of (Text Bare) (kind_before level.inside b text) b at text in
     moved_by (before (word_begins BareForm expand (word_start expand at)) move) (word_place expand) b text level at
     (bare_kinds expand level.inside (class_of b) b at text (not_true (class_ends level.inside (class_of b) text) two.0)
     (other_class b 123 OpenBrace (not_true (b == 123) more.0) (byte_is b OpenBrace)) (λ e. byte_is b Expansion e)
@@ -408,13 +410,13 @@ faulty_word_read inside room inner at text fault is = marked is.expand is.marked
 
 -- A word's first byte ends no word.
 
-pub own_open : (IsInner : Inner → List ℕ → Ending → Type 0) (inside : Bool) {rest own : List ℕ} {form : WordForm} {pieces : List Piece} → IsOwnWord IsInner inside rest own form pieces → ends_word inside (own ++ rest) ≡ false
+pub own_open : (IsInner : Inner → List ℕ → TextEnding → Type 0) (inside : Bool) {rest own : List ℕ} {form : WordForm} {pieces : List Piece} → IsOwnWord IsInner inside rest own form pieces → ends_word inside (own ++ rest) ≡ false
 unfolding class_of
 own_open IsInner inside {rest} (bare_word {own} {pieces} first are) = not_true (ends_word inside (own ++ rest)) (both (not (ends_word inside (own ++ rest))) _ first).0
 own_open IsInner inside {rest} (quoted_word own are) = refl
 own_open IsInner inside {rest} (braced_word own are) = refl
 
-faulty_open : (IsInner : Inner → List ℕ → Ending → Type 0) (inside : Bool) {text : List ℕ} {fault : ParseFault} → IsFaultyOwn IsInner inside text fault → ends_word inside text ≡ false
+faulty_open : (IsInner : Inner → List ℕ → TextEnding → Type 0) (inside : Bool) {text : List ℕ} {fault : ParseFault} → IsFaultyOwn IsInner inside text fault → ends_word inside text ≡ false
 unfolding class_of
 faulty_open IsInner inside (faulty_bare {text} first are) = not_true (ends_word inside text) (both (not (ends_word inside text)) _ first).0
 faulty_open IsInner inside (faulty_quoted are) = refl
@@ -430,10 +432,10 @@ marked_open : (inside expand : Bool) (mark own rest text : List ℕ) → text �
 marked_open inside false mark own rest text cut (e, none) h = ap (λ t. ends_word inside (t ++ rest)) (cut ∙ ap (λ t. t ++ own) e) ∙ h
 marked_open inside true mark own rest text cut (e, other) h = ap (λ t. ends_word inside (t ++ rest)) (cut ∙ ap (λ t. t ++ own) e) ∙ brace_open inside (42 ∷ 125 ∷ (own ++ rest))
 
-pub word_open : (IsInner : Inner → List ℕ → Ending → Type 0) (inside : Bool) (rest : List ℕ) (at : ℕ) (text : List ℕ) (word : Word) → IsWord IsInner inside rest at text word → ends_word inside (text ++ rest) ≡ false
+pub word_open : (IsInner : Inner → List ℕ → TextEnding → Type 0) (inside : Bool) (rest : List ℕ) (at : ℕ) (text : List ℕ) (word : Word) → IsWord IsInner inside rest at text word → ends_word inside (text ++ rest) ≡ false
 word_open IsInner inside rest at text word is = marked_open inside is.expand is.mark is.own rest text is.cut is.marked (own_open IsInner inside is.is)
 
-pub faulty_word_open : (IsInner : Inner → List ℕ → Ending → Type 0) (inside : Bool) (text : List ℕ) (fault : ParseFault) → IsFaultyWord IsInner inside text fault → ends_word inside text ≡ false
+pub faulty_word_open : (IsInner : Inner → List ℕ → TextEnding → Type 0) (inside : Bool) (text : List ℕ) (fault : ParseFault) → IsFaultyWord IsInner inside text fault → ends_word inside text ≡ false
 faulty_word_open IsInner inside text fault is =
     ap (ends_word inside) (sym (append-nil text))
     ∙ marked_open inside is.expand is.mark is.own [] text is.cut (subst (IsMark inside is.expand is.mark) (sym (append-nil is.own)) is.marked) (ap (ends_word inside) (append-nil is.own) ∙ faulty_open IsInner inside is.is)

@@ -1,11 +1,11 @@
--- Scripts and indices within one another: what each gives by itself, and what waits for it.
+-- Steps. Scripts and indices within one another: what each gives by itself, and what waits for it.
 use Rattle.std.specs.Prelude.{ℕ, suc, ◌+◌, ◌-◌, ◌≡◌, ◌<◌, ◌≤◌, Bool, true, false, List, [], ◌∷◌, length, drop, take, Result, Ok, Err}
 use Rattle.std.specs.List.{slice_range}
 use Rattle.std.specs.Str.{IsCharBoundary}
 use Rattle.tcl_words.specs.Reading.{Level, rest_of, first_place, first_skip, opened_piece, commands_of, index_pieces_of}
 use Rattle.tcl_words.specs.Parts.{Parts, Whole, joined, no_parts, with_piece, is_index, ended, IsFine, IsOpenerCut}
-use Rattle.tcl_words.specs.declared.kind.Place.{Place}
-use Rattle.tcl_words.specs.declared.kind.Place.TheVariants.{Start, Text}
+use Rattle.tcl_words.specs.declared.kind.BytePlace.{BytePlace}
+use Rattle.tcl_words.specs.declared.kind.BytePlace.TheVariants.{Start, Text}
 use Rattle.tcl_words.specs.declared.kind.Opener.{Opener}
 use Rattle.tcl_words.specs.declared.kind.Mode.{Mode}
 use Rattle.tcl_words.specs.declared.nesting.Origin.{Origin}
@@ -54,7 +54,7 @@ IsChain source first (waiting ∷ others) origin = (waiting.origin ≡ first) ×
 
 -- What is open gives, with the rest of the text, what it gives by itself. It began so, and reading goes on at this place of
 -- it, at this position from its base; these wait for it, the outermost of which began first.
-pub record IsReading (first : Origin) (source : List ℕ) (others : List Waiting) (origin : Origin) (parts : Parts) (place : Place) (next : ℕ) : Type 0 where
+pub record IsReading (first : Origin) (source : List ℕ) (others : List Waiting) (origin : Origin) (parts : Parts) (place : BytePlace) (next : ℕ) : Type 0 where
   pub chain : IsChain source first others origin
   pub reads : joined parts (drop origin.base source) place next (rest_of (drop next (drop origin.base source)) (level_of origin) 0 place next) ≡ own source origin
   pub fine : IsFine parts (drop origin.base source) place next
@@ -76,7 +76,7 @@ pub record IsOpening (first : Origin) (source : List ℕ) (others : List Waiting
   pub cut : IsOpenerCut source (origin.base + at) opener
 
 -- what is open ends at this position
-pub record IsEnding (first : Origin) (source : List ℕ) (others : List Waiting) (origin : Origin) (parts : Parts) (place : Place) (at : ℕ) : Type 0 where
+pub record IsEnding (first : Origin) (source : List ℕ) (others : List Waiting) (origin : Origin) (parts : Parts) (place : BytePlace) (at : ℕ) : Type 0 where
   pub chain : IsChain source first others origin
   pub inside : origin.inside ≡ true
   pub ends : own source origin ≡ Ok (ended place parts at)
@@ -85,7 +85,7 @@ pub record IsEnding (first : Origin) (source : List ℕ) (others : List Waiting)
   pub past : IsCharBoundary source (origin.base + at + 1)
 
 -- Past a byte: reading goes on, further than before, or what began first has ended there.
-abbrev pub Goes : Bool → Origin → List ℕ → List Waiting → Origin → Parts → Place → ℕ → ℕ → Type 0
+abbrev pub Goes : Bool → Origin → List ℕ → List Waiting → Origin → Parts → BytePlace → ℕ → ℕ → Type 0
 Goes false first source others origin parts place next before = IsReading first source others origin parts place next × (before < origin.base + next)
 Goes true first source others origin parts place next before = (others ≡ []) × IsEnding first source others origin parts place next
 

@@ -1,5 +1,6 @@
--- What the rest of a text gives to the parts of a script that are open before it, and what a byte puts in front of that.
+-- Steps. What the rest of a text gives to the parts of a script that are open before it, and what a byte puts in front of that.
 use Rattle.std.specs.Prelude.{ℕ, Bool, List, [], ◌∷◌, ◌++◌, Result, Ok, Err}
+use Rattle.tcl_words.specs.Spans.{word_of, command_of}
 use Rattle.tcl_words.specs.declared.script.WordForm.{WordForm}
 use Rattle.tcl_words.specs.declared.script.WordForm.TheVariants.{Bare, Quoted, Braced}
 use Rattle.tcl_words.specs.declared.script.Piece.{Piece}
@@ -43,17 +44,6 @@ abbrev pub pieces_of : WordForm → List ℕ → List Piece → List Piece
 pieces_of Bare bytes pieces = literal_before bytes pieces
 pieces_of Quoted bytes pieces = literal_before bytes pieces
 pieces_of Braced bytes pieces = Literal bytes ∷ []
-
-abbrev pub word_of : WordForm → Bool → ℕ → List Piece → ℕ → Word
-word_of form expand start pieces end = record { form = form; expand = expand; pieces = pieces; span = record { start = start; end = end } }
-
--- where the last of the words ends
-abbrev pub words_end : ℕ → List Word → ℕ
-words_end end [] = end
-words_end end (word ∷ words) = words_end word.span.end words
-
-abbrev pub command_of : ℕ → List Word → Command
-command_of start words = record { words = words; span = record { start = start; end = words_end start words } }
 
 -- a piece, and then a literal
 abbrev pub piece_before : Piece → Rest → Rest

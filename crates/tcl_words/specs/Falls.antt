@@ -1,4 +1,4 @@
--- Each script in brackets and each index is of less room than what holds it.
+-- Steps. Each script in brackets and each index is of less room than what holds it.
 use Rattle.std.specs.Prelude.{◌≤◌, ◌<◌, List, [], ◌∷◌}
 use Rattle.std.proofs.Common.{arith}
 use denote.Param.Weighed.{most}

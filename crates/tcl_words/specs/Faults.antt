@@ -1,5 +1,5 @@
--- The faults of a script, and of a text that is to be one.
-use Rattle.std.specs.Prelude.{ℕ, List, [], codes}
+-- Meaning. The faults of a script, and of a text that is to be one.
+use Rattle.std.specs.Prelude.{ℕ, List, [], Option, Some, None, codes}
 use Rattle.tcl_text.specs.declared.text.TextFault.{TextFault}
 use Rattle.tcl_text.specs.declared.text.TextFault.TheVariants.{TooLong as TextTooLong, NoMemory as TextNoMemory}
 use Rattle.tcl_words.specs.declared.fault.ParseFault.{ParseFault}
@@ -8,6 +8,17 @@ use Rattle.tcl_words.specs.declared.fault.ParseFault.TheVariants.{TooLong, Missi
 abbrev pub fault_of : TextFault → ParseFault
 fault_of TextTooLong = TooLong
 fault_of TextNoMemory = NoMemory
+
+-- its number
+abbrev pub number_of : ParseFault → Option ℕ
+number_of TooLong = Some 4
+number_of MissingBrace = Some 5
+number_of MissingBracket = Some 6
+number_of MissingQuote = Some 7
+number_of ExtraAfterBrace = Some 8
+number_of ExtraAfterQuote = Some 9
+number_of MissingParen = Some 10
+number_of NoMemory = None
 
 -- what an application is told
 abbrev pub text_of : ParseFault → List ℕ

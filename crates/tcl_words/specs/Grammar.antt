@@ -1,12 +1,12 @@
--- The grammar of scripts, as a relation between a text and its commands. It cuts texts into gaps, commands, words and
+-- Meaning. The grammar of scripts, as a relation between a text and its commands. It cuts texts into gaps, commands, words and
 -- pieces, and says nothing of how a text is read. What stands at the front of a text is read with how that goes on: with
 -- a text that is left behind it, or with the fault of the text.
-use Rattle.std.specs.Prelude.{ℕ, zero, suc, ◌+◌, ◌≡◌, ◌≢◌, ◌≤◌, ◌⊎◌, Bool, true, false, not, ◌&&◌, ◌||◌, ◌==◌, nat_eq, List, [], ◌∷◌, ◌++◌, length, drop}
+use Rattle.std.specs.Prelude.{ℕ, zero, suc, ◌+◌, ◌≡◌, ◌≢◌, ◌≤◌, ◌⊎◌, Bool, true, false, not, ◌&&◌, ◌||◌, ◌==◌, nat_eq, List, [], ◌∷◌, ◌++◌, length, drop, Result, Ok, Err}
 use Rattle.std.specs.List.{starts_with}
 use Rattle.std.specs.Str.{IsUtf8}
 use Rattle.tcl_text.specs.Backslash.{escape}
-use Rattle.tcl_words.specs.Kinds.{class_of, is_letter, begins_newline, begins_expansion}
-use Rattle.tcl_words.specs.Changes.{command_of, word_of}
+use Rattle.tcl_words.specs.Classes.{class_of, is_letter, begins_newline, begins_expansion}
+use Rattle.tcl_words.specs.Spans.{command_of, word_of}
 use Rattle.tcl_words.specs.declared.kind.Mode.{Mode}
 use Rattle.tcl_words.specs.declared.kind.Mode.TheVariants.{Bare, Quotes, Parens}
 use Rattle.tcl_words.specs.declared.kind.Kind.{Kind}
@@ -22,11 +22,11 @@ use Rattle.tcl_words.specs.declared.fault.ParseFault.{ParseFault}
 use Rattle.tcl_words.specs.declared.fault.ParseFault.TheVariants.{TooLong, MissingBrace, MissingBracket, MissingQuote, ExtraAfterBrace, ExtraAfterQuote, MissingParen}
 
 -- How a text goes on behind what stands at its front.
-pub data Ending : Type 0 where
+pub data TextEnding : Type 0 where
   -- this is left of it
-  leaves : List ℕ → Ending
+  leaves : List ℕ → TextEnding
   -- it has this fault
-  fails : ParseFault → Ending
+  fails : ParseFault → TextEnding
 
 -- What is read by itself within a script: a script in brackets, or the index of an element.
 pub data Inner : Type 0 where
@@ -116,34 +116,34 @@ with_bytes (b ∷ bytes) (Bracket own ∷ pieces) = Literal (b ∷ bytes) ∷ Br
 
 -- The pieces of a body at the front of a text, where `IsInner` says how scripts in brackets and indices are read. With a
 -- fault the pieces are those before it.
-pub data ArePieces (IsInner : Inner → List ℕ → Ending → Type 0) (inside : Bool) (mode : Mode) : List ℕ → List Piece → Ending → Type 0 where
+pub data ArePieces (IsInner : Inner → List ℕ → TextEnding → Type 0) (inside : Bool) (mode : Mode) : List ℕ → List Piece → TextEnding → Type 0 where
   -- it ends before this text
   stop : {text : List ℕ} → stops inside mode text ≡ true → ArePieces IsInner inside mode text [] (leaves text)
   -- it should have ended
   unended : stops inside mode [] ≡ false → ArePieces IsInner inside mode [] [] (fails (unended_fault mode))
   -- a byte that stands for itself
-  byte : {b : ℕ} {text : List ℕ} {pieces : List Piece} {ending : Ending} → stops inside mode (b ∷ text) ≡ false → is_plain (class_of b) ≡ true →
+  byte : {b : ℕ} {text : List ℕ} {pieces : List Piece} {ending : TextEnding} → stops inside mode (b ∷ text) ≡ false → is_plain (class_of b) ≡ true →
       ArePieces IsInner inside mode text pieces ending → ArePieces IsInner inside mode (b ∷ text) (with_bytes (b ∷ []) pieces) ending
   -- a backslash, with as much of the text behind it as it takes
-  backslash : {text : List ℕ} {pieces : List Piece} {ending : Ending} → stops inside mode (92 ∷ text) ≡ false →
+  backslash : {text : List ℕ} {pieces : List Piece} {ending : TextEnding} → stops inside mode (92 ∷ text) ≡ false →
       ArePieces IsInner inside mode (drop (escape text).length text) pieces ending → ArePieces IsInner inside mode (92 ∷ text) (with_bytes (escape text).meaning pieces) ending
   -- a `$` that stands for itself
-  dollar : {text : List ℕ} {pieces : List Piece} {ending : Ending} → begins_name text ≡ false → begins 123 text ≡ false →
+  dollar : {text : List ℕ} {pieces : List Piece} {ending : TextEnding} → begins_name text ≡ false → begins 123 text ≡ false →
       ArePieces IsInner inside mode text pieces ending → ArePieces IsInner inside mode (36 ∷ text) (with_bytes (36 ∷ []) pieces) ending
   -- `$name`: the name goes as far as it can
-  variable : (name : List ℕ) {text : List ℕ} {pieces : List Piece} {ending : Ending} → IsName name → begins_letter text ≡ false → begins 40 text ≡ false →
+  variable : (name : List ℕ) {text : List ℕ} {pieces : List Piece} {ending : TextEnding} → IsName name → begins_letter text ≡ false → begins 40 text ≡ false →
       ArePieces IsInner inside mode text pieces ending → ArePieces IsInner inside mode (36 ∷ (name ++ text)) (Variable name ∷ pieces) ending
   -- `${name}`: any text up to the first brace
-  braced_name : (name : List ℕ) {text : List ℕ} {pieces : List Piece} {ending : Ending} → HasNoBrace name →
+  braced_name : (name : List ℕ) {text : List ℕ} {pieces : List Piece} {ending : TextEnding} → HasNoBrace name →
       ArePieces IsInner inside mode text pieces ending → ArePieces IsInner inside mode (36 ∷ 123 ∷ (name ++ 125 ∷ text)) (Variable name ∷ pieces) ending
   unclosed_name : {text : List ℕ} → HasNoBrace text → ArePieces IsInner inside mode (36 ∷ 123 ∷ text) [] (fails MissingBrace)
   -- `$name(index)`
-  element : (name own : List ℕ) {text : List ℕ} {pieces : List Piece} {ending : Ending} → IsName name → IsInner index (own ++ 41 ∷ text) (leaves (41 ∷ text)) →
+  element : (name own : List ℕ) {text : List ℕ} {pieces : List Piece} {ending : TextEnding} → IsName name → IsInner index (own ++ 41 ∷ text) (leaves (41 ∷ text)) →
       ArePieces IsInner inside mode text pieces ending → ArePieces IsInner inside mode (36 ∷ (name ++ 40 ∷ (own ++ 41 ∷ text))) (Element name own ∷ pieces) ending
   faulty_index : (name : List ℕ) {text : List ℕ} {fault : ParseFault} → IsName name → IsInner index text (fails fault) →
       ArePieces IsInner inside mode (36 ∷ (name ++ 40 ∷ text)) [] (fails fault)
   -- a script in brackets
-  bracket : (own : List ℕ) {text : List ℕ} {pieces : List Piece} {ending : Ending} → IsInner script (own ++ 93 ∷ text) (leaves (93 ∷ text)) →
+  bracket : (own : List ℕ) {text : List ℕ} {pieces : List Piece} {ending : TextEnding} → IsInner script (own ++ 93 ∷ text) (leaves (93 ∷ text)) →
       ArePieces IsInner inside mode text pieces ending → ArePieces IsInner inside mode (91 ∷ (own ++ 93 ∷ text)) (Bracket own ∷ pieces) ending
   faulty_script : {text : List ℕ} {fault : ParseFault} → IsInner script text (fails fault) → ArePieces IsInner inside mode (91 ∷ text) [] (fails fault)
 
@@ -176,7 +176,7 @@ abbrev pub begins_bare : Bool → List ℕ → Bool
 begins_bare inside text = not (ends_word inside text) && (not (begins 123 text) && not (begins 34 text))
 
 -- A word's own text, without a `{*}`, where `rest` follows it.
-pub data IsOwnWord (IsInner : Inner → List ℕ → Ending → Type 0) (inside : Bool) (rest : List ℕ) : List ℕ → WordForm → List Piece → Type 0 where
+pub data IsOwnWord (IsInner : Inner → List ℕ → TextEnding → Type 0) (inside : Bool) (rest : List ℕ) : List ℕ → WordForm → List Piece → Type 0 where
   bare_word : {own : List ℕ} {pieces : List Piece} → begins_bare inside (own ++ rest) ≡ true → ArePieces IsInner inside Bare (own ++ rest) pieces (leaves rest) →
       IsOwnWord IsInner inside rest own BareForm pieces
   quoted_word : (own : List ℕ) {pieces : List Piece} → ArePieces IsInner inside Quotes (own ++ 34 ∷ rest) pieces (leaves (34 ∷ rest)) →
@@ -185,7 +185,7 @@ pub data IsOwnWord (IsInner : Inner → List ℕ → Ending → Type 0) (inside 
 
 -- The fault of a text at whose front a word's own text would stand: the word never ends, something in it is at fault, or
 -- something follows the quote or the brace that ends it.
-pub data IsFaultyOwn (IsInner : Inner → List ℕ → Ending → Type 0) (inside : Bool) : List ℕ → ParseFault → Type 0 where
+pub data IsFaultyOwn (IsInner : Inner → List ℕ → TextEnding → Type 0) (inside : Bool) : List ℕ → ParseFault → Type 0 where
   faulty_bare : {text : List ℕ} {pieces : List Piece} {fault : ParseFault} → begins_bare inside text ≡ true → ArePieces IsInner inside Bare text pieces (fails fault) →
       IsFaultyOwn IsInner inside text fault
   faulty_quoted : {text : List ℕ} {pieces : List Piece} {fault : ParseFault} → ArePieces IsInner inside Quotes text pieces (fails fault) →
@@ -201,7 +201,7 @@ IsMark inside false mark text = (mark ≡ []) × (begins_mark inside text ≡ fa
 IsMark inside true mark text = (mark ≡ 123 ∷ 42 ∷ 125 ∷ []) × (ends_word inside text ≡ false)
 
 -- A word at this position, where `rest` follows it.
-pub record IsWord (IsInner : Inner → List ℕ → Ending → Type 0) (inside : Bool) (rest : List ℕ) (at : ℕ) (text : List ℕ) (word : Word) : Type 0 where
+pub record IsWord (IsInner : Inner → List ℕ → TextEnding → Type 0) (inside : Bool) (rest : List ℕ) (at : ℕ) (text : List ℕ) (word : Word) : Type 0 where
   pub expand : Bool
   pub mark : List ℕ
   pub own : List ℕ
@@ -214,7 +214,7 @@ pub record IsWord (IsInner : Inner → List ℕ → Ending → Type 0) (inside :
   pub same : word ≡ word_of form expand at pieces (at + length text)
 
 -- A text at whose front a word would stand, with `{*}` or without, has this fault.
-pub record IsFaultyWord (IsInner : Inner → List ℕ → Ending → Type 0) (inside : Bool) (text : List ℕ) (fault : ParseFault) : Type 0 where
+pub record IsFaultyWord (IsInner : Inner → List ℕ → TextEnding → Type 0) (inside : Bool) (text : List ℕ) (fault : ParseFault) : Type 0 where
   pub expand : Bool
   pub mark : List ℕ
   pub own : List ℕ
@@ -251,29 +251,29 @@ pub data IsGap : List ℕ → Type 0 where
   comment : (note text : List ℕ) → IsNote note → IsGap text → IsGap (35 ∷ (note ++ 10 ∷ text))
 
 -- how a script goes on at the end of the text
-abbrev pub end_of_text : Bool → Ending
+abbrev pub end_of_text : Bool → TextEnding
 end_of_text true = fails MissingBracket
 end_of_text false = leaves []
 
 -- The end of a script: the bracket that closes it, or the end of the text.
-pub data IsEnd (inside : Bool) : List ℕ → Ending → Type 0 where
+pub data IsEnd (inside : Bool) : List ℕ → TextEnding → Type 0 where
   closes : {text : List ℕ} → inside ≡ true → IsEnd inside (93 ∷ text) (leaves (93 ∷ text))
   stands : IsEnd inside [] (end_of_text inside)
 
 -- How a script ends where a word could begin.
-pub data IsEnding (IsInner : Inner → List ℕ → Ending → Type 0) (inside : Bool) : List ℕ → Ending → Type 0 where
-  ends : {text : List ℕ} {ending : Ending} → IsEnd inside text ending → IsEnding IsInner inside text ending
+pub data IsEnding (IsInner : Inner → List ℕ → TextEnding → Type 0) (inside : Bool) : List ℕ → TextEnding → Type 0 where
+  ends : {text : List ℕ} {ending : TextEnding} → IsEnd inside text ending → IsEnding IsInner inside text ending
   faulty : {text : List ℕ} {fault : ParseFault} → IsFaultyWord IsInner inside text fault → IsEnding IsInner inside text (fails fault)
 
 -- How a script ends where a command could begin.
-pub data IsLast (IsInner : Inner → List ℕ → Ending → Type 0) (inside : Bool) : List ℕ → Ending → Type 0 where
-  ends : {text : List ℕ} {ending : Ending} → IsEnd inside text ending → IsLast IsInner inside text ending
+pub data IsLast (IsInner : Inner → List ℕ → TextEnding → Type 0) (inside : Bool) : List ℕ → TextEnding → Type 0 where
+  ends : {text : List ℕ} {ending : TextEnding} → IsEnd inside text ending → IsLast IsInner inside text ending
   -- a comment holds all that is left, a bracket too
   comment : {note : List ℕ} → IsLastNote note → IsLast IsInner inside (35 ∷ note) (end_of_text inside)
   faulty : {text : List ℕ} {fault : ParseFault} → begins 35 text ≡ false → IsFaultyWord IsInner inside text fault → IsLast IsInner inside text (fails fault)
 
 -- The further words of a command, and then what comes after it.
-abbrev pub AreFurther : (Inner → List ℕ → Ending → Type 0) → Bool → (ℕ → List ℕ → Type 0) → ℕ → List ℕ → List Word → Type 0
+abbrev pub AreFurther : (Inner → List ℕ → TextEnding → Type 0) → Bool → (ℕ → List ℕ → Type 0) → ℕ → List ℕ → List Word → Type 0
 AreFurther IsInner inside IsAfter at text [] = IsAfter at text
 AreFurther IsInner inside IsAfter at text (word ∷ words) =
     (blanks : List ℕ) × (own : List ℕ) × (rest : List ℕ) × (text ≡ blanks ++ (own ++ rest)) × AreBlanks blanks
@@ -287,7 +287,7 @@ IsRest IsNext IsLastOf at text =
 
 -- The commands of a script at the front of a text that begins at this position. Where there is a fault in a command, that
 -- command has the words before the fault.
-abbrev pub IsScript : (Inner → List ℕ → Ending → Type 0) → Bool → ℕ → List ℕ → List Command → Ending → Type 0
+abbrev pub IsScript : (Inner → List ℕ → TextEnding → Type 0) → Bool → ℕ → List ℕ → List Command → TextEnding → Type 0
 IsScript IsInner inside at text [] ending = (gap : List ℕ) × (rest : List ℕ) × (text ≡ gap ++ rest) × IsGap gap × IsLast IsInner inside rest ending
 IsScript IsInner inside at text (command ∷ commands) ending =
     (gap : List ℕ) × (own : List ℕ) × (rest : List ℕ) × (word : Word) × (words : List Word)
@@ -298,7 +298,7 @@ IsScript IsInner inside at text (command ∷ commands) ending =
 
 -- What brackets and indices hold where so many may still be opened in one another: a script, or the pieces of an index,
 -- with positions counted from its own first byte. Where none may be opened, that is a fault at the opener.
-abbrev pub IsInnerOf : ℕ → Inner → List ℕ → Ending → Type 0
+abbrev pub IsInnerOf : ℕ → Inner → List ℕ → TextEnding → Type 0
 IsInnerOf zero inner text ending = ending ≡ fails TooLong
 IsInnerOf (suc room) script text ending = (commands : List Command) × IsScript (IsInnerOf room) true 0 text commands ending
 IsInnerOf (suc room) index text ending = (pieces : List Piece) × ArePieces (IsInnerOf room) true Parens text pieces ending
@@ -312,16 +312,30 @@ pub record IsScriptOf (text : List ℕ) (commands : List Command) : Type 0 where
   pub is_text : IsText text
   pub cut : IsScript (IsInnerOf 200) false 0 text commands (leaves [])
 
--- The text is no script, and this is its first fault from the left. That it is no text of a script counts before all else.
-abbrev pub IsFaultOf : List ℕ → ParseFault → Type 0
-IsFaultOf text fault = ((fault ≡ TooLong) × (¬ IsText text)) ⊎ (IsText text × (commands : List Command) × IsScript (IsInnerOf 200) false 0 text commands (fails fault))
+-- The text is no script, and this is its first fault from the left.
+pub data IsScriptFault (text : List ℕ) : ParseFault → Type 0 where
+  -- that it is no text of a script counts before all else
+  no_text : ¬ IsText text → IsScriptFault text TooLong
+  faulty_text : {fault : ParseFault} (commands : List Command) → IsText text → IsScript (IsInnerOf 200) false 0 text commands (fails fault) → IsScriptFault text fault
 
--- The text, read by itself, is an index of these pieces, or has this fault.
-abbrev pub IsIndexOf : List ℕ → List Piece → Type 0
-IsIndexOf text pieces = ArePieces (IsInnerOf 200) false Parens text pieces (leaves [])
+-- What the text is: a script of these commands, or none, with this fault. Each text is one of both, and in one way alone.
+abbrev pub IsScriptParse : List ℕ → Result (List Command) ParseFault → Type 0
+IsScriptParse text (Ok commands) = IsScriptOf text commands
+IsScriptParse text (Err fault) = IsScriptFault text fault
 
-abbrev pub IsIndexFaultOf : List ℕ → ParseFault → Type 0
-IsIndexFaultOf text fault = (pieces : List Piece) × ArePieces (IsInnerOf 200) false Parens text pieces (fails fault)
+-- The text, read by itself, is an index of these pieces.
+pub record IsIndexOf (text : List ℕ) (pieces : List Piece) : Type 0 where
+  pub cut : ArePieces (IsInnerOf 200) false Parens text pieces (leaves [])
+
+-- The text, read by itself, is no index, and this is its first fault from the left.
+pub record IsIndexFault (text : List ℕ) (fault : ParseFault) : Type 0 where
+  pub pieces : List Piece
+  pub cut : ArePieces (IsInnerOf 200) false Parens text pieces (fails fault)
+
+-- What the text is as an index, likewise.
+abbrev pub IsIndexParse : List ℕ → Result (List Piece) ParseFault → Type 0
+IsIndexParse text (Ok pieces) = IsIndexOf text pieces
+IsIndexParse text (Err fault) = IsIndexFault text fault
 
 -- the span is where this part stands in the text
 abbrev pub IsSlice : List ℕ → Span → List ℕ → Type 0

@@ -1,4 +1,4 @@
--- A script's commands as lines of their own.
+-- Meaning. A script's commands as lines of their own.
 use Rattle.std.specs.Prelude.{ℕ, ◌≡◌, List, [], ◌∷◌, ◌++◌}
 use Rattle.std.specs.List.{slice_range}
 use Rattle.tcl_words.specs.declared.script.Word.{Word}

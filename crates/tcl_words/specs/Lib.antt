@@ -1,6 +1,7 @@
 -- What the contracts cite.
 pub mod Chain
 pub mod Changes
+pub mod Classes
 pub mod Faults
 pub mod Kinds
 pub mod Moves
@@ -10,5 +11,7 @@ pub mod Reading
 pub mod Falls
 pub mod Parts
 pub mod Room
+pub mod Spans
 pub mod Grammar
+pub mod One
 pub mod Joining

@@ -1,13 +1,13 @@
--- What a byte means in each place: what it puts in front of the rest, and how reading goes on.
+-- Steps. What a byte means in each place: what it puts in front of the rest, and how reading goes on.
 use Rattle.std.specs.Prelude.{ℕ, zero, suc, ◌+◌, ◌-◌, Bool, true, false, List, [], ◌∷◌, ◌++◌, length, take, drop, slice_index, Result, Ok, Err}
 use Rattle.std.specs.List.{slice_range}
 use Rattle.tcl_text.specs.Backslash.{escape}
-use Rattle.tcl_words.specs.Kinds.{dollar_of, kind_of}
+use Rattle.tcl_words.specs.Kinds.{dollar_of, kind_before}
 use Rattle.tcl_words.specs.Changes.{Change, bytes, name, text_ends, word_ends, command_ends, word_begins, command_begins}
 use Rattle.tcl_words.specs.declared.kind.Kind.{Kind}
-use Rattle.tcl_words.specs.declared.kind.Kind.TheVariants.{Blank, Newline, Semicolon, Hash, Dollar, Quote, OpenBracket, CloseBracket, OpenBrace, Expansion, CloseBrace, CloseParen, Backslash, Continuation, Other}
-use Rattle.tcl_words.specs.declared.kind.Place.{Place}
-use Rattle.tcl_words.specs.declared.kind.Place.TheVariants.{Start, Comment, Between, Expanded, Text, PastQuotes, InBraces, PastBraces}
+use Rattle.tcl_words.specs.declared.kind.Kind.TheVariants.{Blank, Newline, Semicolon, Hash, Dollar, Quote, OpenBracket, CloseBracket, OpenBrace, Expansion, CloseBrace, CloseParen, Backslash, Continuation}
+use Rattle.tcl_words.specs.declared.kind.BytePlace.{BytePlace}
+use Rattle.tcl_words.specs.declared.kind.BytePlace.TheVariants.{Start, Comment, Between, Expanded, Text, PastQuotes, InBraces, PastBraces}
 use Rattle.tcl_words.specs.declared.kind.Mode.{Mode}
 use Rattle.tcl_words.specs.declared.kind.Mode.TheVariants.{Bare, Quotes, Parens}
 use Rattle.tcl_words.specs.declared.kind.Dollar.{Dollar as DollarForm}
@@ -24,7 +24,7 @@ pub record Move : Type 0 where
   pub step : Result Step ParseFault
 
 -- so many further bytes are taken, and reading goes on
-abbrev pub on : List Change → ℕ → Place → Move
+abbrev pub on : List Change → ℕ → BytePlace → Move
 on changes skip place = record { changes = changes; step = Ok (On skip place) }
 
 -- what was read within ends
@@ -133,7 +133,7 @@ in_comment Backslash behind = on [] (length (take 1 behind)) Comment
 in_comment Continuation behind = on [] (length (take 1 behind)) Comment
 in_comment kind behind = on [] 0 Comment
 
-abbrev pub move_of : Place → Kind → ℕ → ℕ → List ℕ → Move
+abbrev pub move_of : BytePlace → Kind → ℕ → ℕ → List ℕ → Move
 move_of Start kind b at behind = in_start kind b at behind
 move_of Comment kind b at behind = in_comment kind behind
 move_of Between kind b at behind = in_between kind b at behind
@@ -146,5 +146,5 @@ move_of PastBraces kind b at behind = word_over kind at behind (fails ExtraAfter
 move_of (Text Parens) kind b at behind = in_parens kind b behind
 
 -- the move at this position of a text
-abbrev pub move_at : List ℕ → ℕ → Bool → Place → Move
-move_at text at inside place = move_of place (kind_of inside (slice_index text at) (drop (at + 1) text)) (slice_index text at) at (drop (at + 1) text)
+abbrev pub move_at : List ℕ → ℕ → Bool → BytePlace → Move
+move_at text at inside place = move_of place (kind_before inside (slice_index text at) (drop (at + 1) text)) (slice_index text at) at (drop (at + 1) text)

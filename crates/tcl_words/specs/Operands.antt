@@ -1,8 +1,8 @@
--- What a `$`, a bracket or a quote begins in a text that is no script, as an expression: it is read as in a script, where so many
+-- Steps. What a `$`, a bracket or a quote begins in a text that is no script, as an expression: it is read as in a script, where so many
 -- brackets and indices may be opened in one another. What it gives, and how many of the bytes behind its opener are its own.
 use Rattle.std.specs.Prelude.{ℕ, zero, suc, ◌+◌, ◌≡◌, ◌≤◌, ◌<◌, ◌⊎◌, true, false, List, [], ◌∷◌, length, take, drop, Option, Some, None, Result, Ok, Err}
 use Rattle.std.specs.List.{slice_range}
-use Rattle.tcl_words.specs.Kinds.{kind_of, dollar_of}
+use Rattle.tcl_words.specs.Kinds.{kind_before, dollar_of}
 use Rattle.tcl_words.specs.Changes.{Read, put, last_rest, literal_before, changed}
 use Rattle.tcl_words.specs.Moves.{Move, in_text}
 use Rattle.tcl_words.specs.Parts.{Parts, Whole, joined, IsCut}
@@ -10,8 +10,8 @@ use Rattle.tcl_words.specs.Reading.{within, rest_of, past, first_place, first_sk
 use Rattle.tcl_words.specs.Chain.{IsEnding}
 use Rattle.tcl_words.specs.declared.kind.Kind.{Kind}
 use Rattle.tcl_words.specs.declared.kind.Kind.TheVariants.{Quote}
-use Rattle.tcl_words.specs.declared.kind.Place.{Place}
-use Rattle.tcl_words.specs.declared.kind.Place.TheVariants.{Start, Text}
+use Rattle.tcl_words.specs.declared.kind.BytePlace.{BytePlace}
+use Rattle.tcl_words.specs.declared.kind.BytePlace.TheVariants.{Start, Text}
 use Rattle.tcl_words.specs.declared.kind.Mode.TheVariants.{Parens}
 use Rattle.tcl_words.specs.declared.kind.Dollar.{Dollar as DollarForm}
 use Rattle.tcl_words.specs.declared.kind.Dollar.TheVariants.{Alone, Named, Indexed, Braced, Unclosed}
@@ -64,8 +64,8 @@ abbrev pub quoted_rest : ℕ → List ℕ → ℕ → ℕ → Read
 quoted_rest room [] skip at = Err MissingQuote
 quoted_rest room (b ∷ text) (suc skip) at = quoted_rest room text skip (at + 1)
 quoted_rest room (b ∷ text) zero at =
-    let move : Move = in_text Parens (kind_of false b text) b text in
-    at_quote (kind_of false b text) at
+    let move : Move = in_text Parens (kind_before false b text) b text in
+    at_quote (kind_before false b text) at
     (put (changed move.changes) (past move.step room at text (λ skip next. quoted_rest room text skip (at + 1)) (λ room skip next. rest_of text (within room) skip next 0)))
 
 abbrev pub pieces_found : Read → Result (List Piece × ℕ) ParseFault
@@ -79,9 +79,9 @@ quoted_of room behind = pieces_found (quoted_rest room behind 0 0)
 -- ── the code ──
 
 -- the answer is what it should be, unless memory was refused
-abbrev pub Gives : {T : Type 0} → Result T ParseFault → Result T ParseFault → Type 0
-Gives (Ok found) expected = expected ≡ Ok found
-Gives (Err fault) expected = (expected ≡ Err fault) ⊎ (fault ≡ NoMemory)
+abbrev pub IsReadAs : {T : Type 0} → Result T ParseFault → Result T ParseFault → Type 0
+IsReadAs (Ok found) expected = expected ≡ Ok found
+IsReadAs (Err fault) expected = (expected ≡ Err fault) ⊎ (fault ≡ NoMemory)
 
 -- an origin of which only the room counts
 abbrev pub outer : ℕ → Origin
@@ -89,7 +89,7 @@ outer room = record { base = 0; inside = true; room = room; skip = 0; place = St
 
 -- what began so ends here, with these parts
 abbrev pub EndsAt : Origin → List ℕ → Parts → ℕ → Type 0
-EndsAt first source parts close = (place : Place) × IsEnding first source [] first parts place close
+EndsAt first source parts close = (place : BytePlace) × IsEnding first source [] first parts place close
 
 -- what was read of a text in quotes, with the rest of it
 abbrev pub quoted_whole : ℕ → List ℕ → Parts → ℕ → Result Whole ParseFault

@@ -1,17 +1,18 @@
--- What was read of a script or an index so far, and what it gives with the rest of the text.
-use Rattle.std.specs.Prelude.{ℕ, suc, ◌+◌, ◌-◌, ◌≡◌, ◌≢◌, ◌<◌, ◌≤◌, ◌⊎◌, Bool, true, false, List, [], ◌∷◌, ◌++◌, length, drop, slice_index, Result, Ok, Err}
+-- Steps. What was read of a script or an index so far, and what it gives with the rest of the text.
+use Rattle.std.specs.Prelude.{ℕ, ◌+◌, ◌-◌, ◌≡◌, ◌≢◌, ◌<◌, ◌≤◌, ◌⊎◌, Bool, true, false, List, [], ◌∷◌, ◌++◌, length, drop, slice_index, Result, Ok, Err}
 use Rattle.std.specs.List.{slice_range}
 use Rattle.std.specs.Str.{IsCharBoundary}
 use Rattle.tcl_text.specs.Backslash.{escape}
-use Rattle.tcl_words.specs.Changes.{Rest, Read, put, last_rest, literal_before, command_of, word_of, changed, piece_before}
+use Rattle.tcl_words.specs.Changes.{Rest, Read, put, last_rest, literal_before, changed, piece_before}
+use Rattle.tcl_words.specs.Spans.{command_of, word_of}
 use Rattle.tcl_words.specs.Moves.{Move}
 use Rattle.tcl_words.specs.Reading.{first_skip, at_end}
 use Rattle.tcl_words.specs.declared.kind.Kind.{Kind}
 use Rattle.tcl_words.specs.declared.kind.Kind.TheVariants.{Blank, Newline, Semicolon, Continuation, CloseBracket, Expansion, Other}
 use Rattle.tcl_words.specs.declared.kind.Dollar.{Dollar}
 use Rattle.tcl_words.specs.declared.kind.Dollar.TheVariants.{Alone, Named, Indexed, Braced, Unclosed}
-use Rattle.tcl_words.specs.declared.kind.Place.{Place}
-use Rattle.tcl_words.specs.declared.kind.Place.TheVariants.{Start, Comment, Between, Expanded, Text, PastQuotes, InBraces, PastBraces}
+use Rattle.tcl_words.specs.declared.kind.BytePlace.{BytePlace}
+use Rattle.tcl_words.specs.declared.kind.BytePlace.TheVariants.{Start, Comment, Between, Expanded, Text, PastQuotes, InBraces, PastBraces}
 use Rattle.tcl_words.specs.declared.kind.Mode.{Mode}
 use Rattle.tcl_words.specs.declared.kind.Mode.TheVariants.{Bare, Quotes, Parens}
 use Rattle.tcl_words.specs.declared.kind.Opener.{Opener}
@@ -98,7 +99,7 @@ with_text Quotes parts pieces rest = with_pieces parts pieces rest
 with_text Parens parts pieces rest = index_whole (parts.pieces ++ pieces) rest.close
 
 -- the whole, with what the rest of the text gives to a place at this position
-abbrev pub with_rest : Parts → List ℕ → Place → ℕ → Rest → Whole
+abbrev pub with_rest : Parts → List ℕ → BytePlace → ℕ → Rest → Whole
 with_rest parts source Start at rest = script_whole (parts.commands ++ rest.commands) rest.close
 with_rest parts source Comment at rest = script_whole (parts.commands ++ rest.commands) rest.close
 with_rest parts source Between at rest = with_words parts rest.words rest
@@ -108,7 +109,7 @@ with_rest parts source (InBraces depth) at rest = with_pieces parts (Literal (so
 with_rest parts source PastQuotes at rest = with_pieces parts [] rest
 with_rest parts source PastBraces at rest = with_pieces parts [] rest
 
-abbrev pub joined : Parts → List ℕ → Place → ℕ → Read → Result Whole ParseFault
+abbrev pub joined : Parts → List ℕ → BytePlace → ℕ → Read → Result Whole ParseFault
 joined parts source place at (Ok rest) = Ok (with_rest parts source place at rest)
 joined parts source place at (Err fault) = Err fault
 
@@ -127,7 +128,7 @@ pub record IsExpansion (source : List ℕ) (at : ℕ) : Type 0 where
   pub cut_after : IsCharBoundary source at
 
 -- what holds of the open parts at each place
-abbrev pub IsFine : Parts → List ℕ → Place → ℕ → Type 0
+abbrev pub IsFine : Parts → List ℕ → BytePlace → ℕ → Type 0
 IsFine parts source Start at = IsCharBoundary source at
 IsFine parts source Comment at = Unit {0}
 IsFine parts source Between at = IsCharBoundary source at
@@ -181,17 +182,17 @@ pub record IsOpenerCut (source : List ℕ) (at : ℕ) (opener : Opener) : Type 0
   pub first : IsCharBoundary source (at + 1 + first_skip opener)
 
 -- an index is read here, and no script
-abbrev pub is_index : Place → Bool
+abbrev pub is_index : BytePlace → Bool
 is_index (Text Parens) = true
 is_index place = false
 
 -- what was read, where it ends in this place
-abbrev pub ended : Place → Parts → ℕ → Whole
+abbrev pub ended : BytePlace → Parts → ℕ → Whole
 ended (Text Parens) parts at = index_whole parts.pieces at
 ended place parts at = script_whole parts.commands at
 
 -- The code has done a move: what is open, joined with any rest, is what it was before the byte.
-abbrev pub Does : Parts → Parts → List ℕ → ℕ → Place → Move → Result Step ParseFault → Type 0
+abbrev pub Does : Parts → Parts → List ℕ → ℕ → BytePlace → Move → Result Step ParseFault → Type 0
 Does old new source at place move (Ok (On skip next)) =
     (move.step ≡ Ok (On skip next))
     × ((rest : Read) → joined old source place at (put (changed move.changes) rest) ≡ joined new source next (at + 1 + skip) rest)
@@ -212,6 +213,6 @@ Does old new source at place move (Ok Ends) =
 Does old new source at place move (Err fault) = (move.step ≡ Err fault) ⊎ (fault ≡ NoMemory)
 
 -- the text ends, and these are the commands of its script
-abbrev pub Finishes : Parts → Parts → List ℕ → Place → ℕ → Result (Unit {0}) ParseFault → Type 0
+abbrev pub Finishes : Parts → Parts → List ℕ → BytePlace → ℕ → Result (Unit {0}) ParseFault → Type 0
 Finishes old new source place at (Ok done) = joined old source place at (at_end false place at) ≡ Ok (script_whole new.commands at)
 Finishes old new source place at (Err fault) = (at_end false place at ≡ Err fault) ⊎ (fault ≡ NoMemory)

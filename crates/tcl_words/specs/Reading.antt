@@ -1,15 +1,15 @@
--- The commands of a script, by recursion on its bytes: what a byte means where it stands, and what it puts
+-- Steps. The commands of a script, by recursion on its bytes: what a byte means where it stands, and what it puts
 -- in front of what the rest of the text gives. The first fault from the left is thereby the one that counts.
 use Rattle.std.specs.Prelude.{ℕ, suc, zero, ◌+◌, Bool, true, false, not, nat_lt, if◌then◌else◌, List, [], ◌∷◌, length, take, Result, Ok, Err}
 use Rattle.std.specs.List.{slice_range}
 use Rattle.std.specs.Str.{is_utf8}
-use Rattle.tcl_words.specs.Kinds.{kind_of}
-use Rattle.tcl_words.specs.Changes.{Rest, Read, put, last_rest, literal_before, piece_before, changed}
+use Rattle.tcl_words.specs.Kinds.{kind_before}
+use Rattle.tcl_words.specs.Changes.{Read, put, last_rest, literal_before, piece_before, changed}
 use Rattle.tcl_words.specs.Moves.{Move, lone, move_of}
-use Rattle.tcl_words.specs.declared.kind.Place.{Place}
-use Rattle.tcl_words.specs.declared.kind.Place.TheVariants.{Start, Comment, Between, Expanded, Text, PastQuotes, InBraces, PastBraces}
+use Rattle.tcl_words.specs.declared.kind.BytePlace.{BytePlace}
+use Rattle.tcl_words.specs.declared.kind.BytePlace.TheVariants.{Start, Expanded, Text, InBraces}
 use Rattle.tcl_words.specs.declared.kind.Mode.{Mode}
-use Rattle.tcl_words.specs.declared.kind.Mode.TheVariants.{Bare, Quotes, Parens}
+use Rattle.tcl_words.specs.declared.kind.Mode.TheVariants.{Quotes, Parens}
 use Rattle.tcl_words.specs.declared.kind.Opener.{Opener}
 use Rattle.tcl_words.specs.declared.kind.Opener.TheVariants.{Bracket as BracketOpener, Index as IndexOpener}
 use Rattle.tcl_words.specs.declared.kind.Step.{Step}
@@ -35,7 +35,7 @@ abbrev pub within : ℕ → Level
 within room = record { inside = true; room = room }
 
 -- what a bracket opens is a script; an index begins past the name before it
-abbrev pub first_place : Opener → Place
+abbrev pub first_place : Opener → BytePlace
 first_place BracketOpener = Start
 first_place (IndexOpener n) = Text Parens
 
@@ -49,12 +49,12 @@ opened_piece BracketOpener behind close = Bracket (take close behind)
 opened_piece (IndexOpener n) behind close = Element (take n behind) (slice_range behind (suc n) close)
 
 -- what the text behind an opener gives, by how it is read within; `go` reads on past what it took
-abbrev pub past_opened : Opener → Mode → List ℕ → (ℕ → Place → Read) → Read → Read
+abbrev pub past_opened : Opener → Mode → List ℕ → (ℕ → BytePlace → Read) → Read → Read
 past_opened opener mode behind go (Ok rest) = put (piece_before (opened_piece opener behind rest.close)) (go (suc rest.close) (Text mode))
 past_opened opener mode behind go (Err fault) = Err fault
 
 -- Past a byte at this position, where `go` reads the text behind it further and `inner` reads it by itself.
-abbrev pub past : Result Step ParseFault → ℕ → ℕ → List ℕ → (ℕ → Place → Read) → (ℕ → ℕ → Place → Read) → Read
+abbrev pub past : Result Step ParseFault → ℕ → ℕ → List ℕ → (ℕ → BytePlace → Read) → (ℕ → ℕ → BytePlace → Read) → Read
 past (Ok (On skip place)) room at behind go inner = go skip place
 past (Ok (Within opener mode)) zero at behind go inner = Err TooLong
 past (Ok (Within opener mode)) (suc room) at behind go inner = past_opened opener mode behind go (inner room (first_skip opener) (first_place opener))
@@ -66,7 +66,7 @@ abbrev pub end_of : Bool → ParseFault → ℕ → Read
 end_of true fault at = Err fault
 end_of false fault at = Ok (last_rest at)
 
-abbrev pub at_end : Bool → Place → ℕ → Read
+abbrev pub at_end : Bool → BytePlace → ℕ → Read
 at_end inside (Text Quotes) at = Err MissingQuote
 at_end inside (InBraces depth) at = Err MissingBrace
 at_end inside (Text Parens) at = end_of inside MissingParen at
@@ -74,11 +74,11 @@ at_end inside Expanded at = put (changed (lone at)) (end_of inside MissingBracke
 at_end inside place at = end_of inside MissingBracket at
 
 -- what a text gives past so many bytes of it to a place, where it begins at this position
-abbrev pub rest_of : List ℕ → Level → ℕ → Place → ℕ → Read
+abbrev pub rest_of : List ℕ → Level → ℕ → BytePlace → ℕ → Read
 rest_of [] level skip place at = at_end level.inside place at
 rest_of (b ∷ text) level (suc skip) place at = rest_of text level skip place (at + 1)
 rest_of (b ∷ text) level zero place at =
-    let move : Move = move_of place (kind_of level.inside b text) b at text in
+    let move : Move = move_of place (kind_before level.inside b text) b at text in
     put (changed move.changes)
     (past move.step level.room at text (λ skip next. rest_of text level skip next (at + 1)) (λ room skip next. rest_of text (within room) skip next 0))
 

@@ -1,4 +1,4 @@
--- How deep the parts of a script go into one another, for the scripts in brackets and the indices that
+-- Steps. How deep the parts of a script go into one another, for the scripts in brackets and the indices that
 -- they hold: each is read from a shorter text than the script that holds it.
 use Rattle.std.specs.Prelude.{ℕ, ◌+◌, ◌*◌, ◌≡◌, ◌≤◌, max, List, [], ◌∷◌, length}
 use Rattle.tcl_words.specs.declared.script.Piece.{Piece}

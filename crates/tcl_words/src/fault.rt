@@ -33,7 +33,23 @@ pub enum ParseFault {
 
 impl ParseFault {
     ghost use Rattle.std.specs.Prelude.{◌≡◌};
-    ghost use Rattle.tcl_words.specs.Faults.{text_of};
+    ghost use Rattle.tcl_words.specs.Faults.{number_of, text_of};
+
+    /// Its number; none where memory was refused.
+    pub fn number(&self) -> Option<u32>
+        ensures { result ≡ number_of self.now }
+    {
+        match self {
+            ParseFault::TooLong => Some(4),
+            ParseFault::MissingBrace => Some(5),
+            ParseFault::MissingBracket => Some(6),
+            ParseFault::MissingQuote => Some(7),
+            ParseFault::ExtraAfterBrace => Some(8),
+            ParseFault::ExtraAfterQuote => Some(9),
+            ParseFault::MissingParen => Some(10),
+            ParseFault::NoMemory => None,
+        }
+    }
 
     /// The fault as an application is told of it. Refused memory has no such text: it is empty.
     pub fn text(&self) -> &'static str

@@ -28,7 +28,7 @@ pub enum Kind {
 
 /// Where in a script a byte stands.
 #[derive(Clone, Copy, Debug, PartialEq, Eq, Drop)]
-pub enum Place {
+pub enum BytePlace {
     /// A command may begin.
     Start,
     /// In a comment.
@@ -86,7 +86,7 @@ pub enum Opener {
 #[derive(Clone, Copy, Debug, PartialEq, Eq, Drop)]
 pub enum Step {
     /// At a place, past so many further bytes.
-    On(usize, Place),
+    On(usize, BytePlace),
     /// In what this opens; then, past that, in the text that holds it.
     Within(Opener, Mode),
     /// No further: what was read within ends here.

@@ -2,7 +2,7 @@
 
 ghost use Rattle.std.specs.Prelude.{◌≡◌, ◌↔◌, ◌⊎◌, ℕ, Bool, List, [], ◌∷◌, ◌++◌, Option, Result, Ok, Err};
 ghost use Rattle.tcl_words.specs.Reading.{commands_of, index_pieces_of};
-ghost use Rattle.tcl_words.specs.Grammar.{IsScriptOf, IsFaultOf, IsIndexOf, IsIndexFaultOf, CommandsAreSlices, IsBraced, IsUnclosed, Ending, fails, ArePieces, IsInnerOf};
+ghost use Rattle.tcl_words.specs.Grammar.{IsScriptOf, IsScriptFault, IsIndexOf, IsIndexFault, CommandsAreSlices, IsBraced, IsUnclosed, TextEnding, fails, ArePieces, IsInnerOf};
 ghost use Rattle.tcl_words.specs.Operands.{bracket_of, substitution_of, quoted_of};
 ghost use Rattle.tcl_words.specs.OperandGrammar.{IsBehindBracket, IsSubstitution, IsFaultySubstitution, IsBehindDollar, IsBehindQuote};
 ghost use Rattle.tcl_words.specs.Joining.{lines_of, CommandsAlike};
@@ -19,23 +19,23 @@ pub fn commands_are_read()
 
 /// The faults of the function that reads a text's commands are those of the grammar, both ways.
 pub fn faults_are_told()
-    ensures fault { (text : List ℕ) (fault : ParseFault) → IsFaultOf text fault → commands_of text ≡ Err fault }
-    ensures only { (text : List ℕ) (fault : ParseFault) → commands_of text ≡ Err fault → IsFaultOf text fault }
+    ensures fault { (text : List ℕ) (fault : ParseFault) → IsScriptFault text fault → commands_of text ≡ Err fault }
+    ensures only { (text : List ℕ) (fault : ParseFault) → commands_of text ≡ Err fault → IsScriptFault text fault }
 {}
 
 /// The function that reads an index by itself is the grammar too, both ways.
 pub fn indices_are_read()
     ensures index { (text : List ℕ) (pieces : List Piece) → IsIndexOf text pieces → index_pieces_of text ≡ Ok pieces }
     ensures only_index { (text : List ℕ) (pieces : List Piece) → index_pieces_of text ≡ Ok pieces → IsIndexOf text pieces }
-    ensures fault { (text : List ℕ) (fault : ParseFault) → IsIndexFaultOf text fault → index_pieces_of text ≡ Err fault }
-    ensures only_fault { (text : List ℕ) (fault : ParseFault) → index_pieces_of text ≡ Err fault → IsIndexFaultOf text fault }
+    ensures fault { (text : List ℕ) (fault : ParseFault) → IsIndexFault text fault → index_pieces_of text ≡ Err fault }
+    ensures only_fault { (text : List ℕ) (fault : ParseFault) → index_pieces_of text ≡ Err fault → IsIndexFault text fault }
 {}
 
 /// At most one script belongs to a text, or one fault, and never both.
 pub fn one_script_or_fault()
     ensures one_script { (text : List ℕ) (commands others : List Command) → IsScriptOf text commands → IsScriptOf text others → commands ≡ others }
-    ensures one_fault { (text : List ℕ) (fault other : ParseFault) → IsFaultOf text fault → IsFaultOf text other → fault ≡ other }
-    ensures not_both { (text : List ℕ) (commands : List Command) (fault : ParseFault) → IsScriptOf text commands → ¬ IsFaultOf text fault }
+    ensures one_fault { (text : List ℕ) (fault other : ParseFault) → IsScriptFault text fault → IsScriptFault text other → fault ≡ other }
+    ensures not_both { (text : List ℕ) (commands : List Command) (fault : ParseFault) → IsScriptOf text commands → ¬ IsScriptFault text fault }
 {}
 
 /// Each command and each word of a script stands in the text where its span says.
@@ -59,7 +59,7 @@ pub fn operands_are_read()
     ensures bracket { (room : ℕ) (text : List ℕ) (result : Result (Piece × ℕ) ParseFault) → IsBehindBracket room text result ↔ (bracket_of room text ≡ result) }
     ensures substitution { (room : ℕ) (text : List ℕ) (result : Result (Option (Piece × ℕ)) ParseFault) → IsBehindDollar room text result ↔ (substitution_of room text ≡ result) }
     ensures quotes { (room : ℕ) (text : List ℕ) (result : Result (List Piece × ℕ) ParseFault) → IsBehindQuote room text result ↔ (quoted_of room text ≡ result) }
-    ensures begun { (room : ℕ) (inside : Bool) (mode : Mode) (text rest : List ℕ) (piece : Piece) (pieces : List Piece) (ending : Ending) → IsSubstitution room text piece rest
+    ensures begun { (room : ℕ) (inside : Bool) (mode : Mode) (text rest : List ℕ) (piece : Piece) (pieces : List Piece) (ending : TextEnding) → IsSubstitution room text piece rest
         → ArePieces (IsInnerOf room) inside mode rest pieces ending → ArePieces (IsInnerOf room) inside mode (36 ∷ text) (piece ∷ pieces) ending }
     ensures faulty { (room : ℕ) (inside : Bool) (mode : Mode) (text : List ℕ) (fault : ParseFault) → IsFaultySubstitution room text fault → ArePieces (IsInnerOf room) inside mode (36 ∷ text) [] (fails fault) }
 {}

@@ -1,13 +1,14 @@
 //! What stands in front of a text, of which only as much is looked at as a script then takes.
 
 ghost use Rattle.std.specs.Prelude.{◌≡◌, ◌≢◌, ◌<◌, ◌≤◌, ◌+◌, ◌-◌, ℕ, length, slice_index, MatchOption, IsTrue, true};
-ghost use Rattle.tcl_words.specs.Kinds.{class_of, begins_newline, begins_expansion, kind_of, is_letter, letters, name_length, to_brace, dollar_of};
+ghost use Rattle.tcl_words.specs.Kinds.{kind_before, letters, name_length, to_brace, dollar_of};
+ghost use Rattle.tcl_words.specs.Classes.{class_of, begins_newline, begins_expansion, is_letter};
 ghost use Rattle.tcl_words.specs.Parts.{DollarFits};
 
 use crate::kind::{Dollar, Kind};
 
 /// What a byte can mean by itself.
-#[tactic(auto, unfolding(crate::specs::Kinds::class_of))]
+#[tactic(auto, unfolding(crate::specs::Classes::class_of))]
 fn class_of(byte: u8) -> Kind
     ensures class { result ≡ class_of byte }
     ensures ascii { result ≢ Kind.Other → byte < 128 }
@@ -45,8 +46,8 @@ fn begins_expansion(behind: &[u8]) -> bool
 }
 
 /// What a byte means before the text behind it; `inside` says that a `]` or a `)` ends what is read.
-pub fn kind_of(inside: bool, byte: u8, behind: &[u8]) -> Kind
-    ensures kind { result ≡ kind_of inside byte behind.now }
+pub fn kind_before(inside: bool, byte: u8, behind: &[u8]) -> Kind
+    ensures kind { result ≡ kind_before inside byte behind.now }
     ensures ascii { result ≢ Kind.Other → byte < 128 }
     ensures expansion { result ≡ Kind.Expansion → begins_expansion behind.now ≡ true }
     ensures continuation { result ≡ Kind.Continuation → begins_newline behind.now ≡ true }

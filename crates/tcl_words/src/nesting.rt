@@ -1,4 +1,4 @@
-use crate::kind::{Mode, Opener, Place};
+use crate::kind::{BytePlace, Mode, Opener};
 use crate::open::Open;
 
 /// Where and how the reading of a script or an index begins: at a place of the whole source, and past so many
@@ -11,7 +11,7 @@ pub struct Origin {
     /// How many brackets and indices may be opened in it, one within the other.
     pub room: usize,
     pub skip: usize,
-    pub place: Place,
+    pub place: BytePlace,
 }
 
 /// A script or an index that waits for what was opened in it, at a place counted from its base.
@@ -32,6 +32,6 @@ pub struct Reader {
     pub waiting: Vec<Waiting>,
     pub origin: Origin,
     pub parts: Open,
-    pub place: Place,
+    pub place: BytePlace,
     pub next: usize,
 }

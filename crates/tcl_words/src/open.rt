@@ -28,7 +28,7 @@ pub struct Open {
 impl Model for Open {
     ghost use Rattle.tcl_words.specs.Parts.{Parts};
     ghost use Rattle.std.specs.Prelude.{◌≡◌, string_bytes};
-    ghost use Rattle.tcl_words.specs.Changes.{words_end};
+    ghost use Rattle.tcl_words.specs.Spans.{words_end};
 
     ghost Value = { Parts };
 

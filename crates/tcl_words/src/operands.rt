@@ -2,14 +2,14 @@
 
 ghost use Rattle.std.specs.Prelude.{◌≡◌, ◌≢◌, ◌<◌, ◌≤◌, ◌+◌, ◌⊎◌, [], length, drop, slice_index, Err, true, false, IfOk, IfErr};
 ghost use Rattle.std.specs.Str.{IsCharBoundary};
-ghost use Rattle.tcl_words.specs.Kinds.{kind_of as kind_meant};
+ghost use Rattle.tcl_words.specs.Kinds.{kind_before as kind_meant};
 ghost use Rattle.tcl_words.specs.Parts.{IsCut, IsOpenerCut, StandsAt, no_parts};
 ghost use Rattle.tcl_words.specs.Reading.{first_skip};
 ghost use Rattle.tcl_words.specs.Chain.{own, opened as opened_origin, IsReading};
-ghost use Rattle.tcl_words.specs.Operands.{opened_of, bracket_of, substitution_of, quoted_of, quoted_rest, outer, Gives, EndsAt, GoesOn};
+ghost use Rattle.tcl_words.specs.Operands.{opened_of, bracket_of, substitution_of, quoted_of, quoted_rest, outer, IsReadAs, EndsAt, GoesOn};
 
 use crate::fault::ParseFault;
-use crate::kind::{Dollar, Kind, Mode, Opener, Place, Step};
+use crate::kind::{BytePlace, Dollar, Kind, Mode, Opener, Step};
 use crate::nesting::{Origin, Reader};
 use crate::open::{Open, text_of};
 use crate::read::{dollar_at, look, read_text, unfinished};
@@ -29,7 +29,7 @@ fn opened_at(at: usize, opener: Opener, room: usize) -> Origin
         inside: true,
         room,
         skip: 0,
-        place: Place::Start,
+        place: BytePlace::Start,
     };
     opened(outer, at, opener)
 }
@@ -63,7 +63,7 @@ fn read_opened(
     requires within { at < length source.now }
     requires room { room ≤ 200 }
     requires cut { IsOpenerCut source.now at opener }
-    ensures found { Gives result (opened_of room opener (drop (at + 1) source.now)) }
+    ensures found { IsReadAs result (opened_of room opener (drop (at + 1) source.now)) }
     ensures past { IfOk result (λ found. IsCharBoundary source.now (at + 1 + found.1)) }
 {
     if room == 0 {
@@ -87,7 +87,7 @@ pub fn bracket_behind(
     requires within { at < length source.now }
     requires ascii { slice_index source.now at < 128 }
     requires room { room ≤ 200 }
-    ensures { Gives result (bracket_of room (drop (at + 1) source.now)) }
+    ensures { IsReadAs result (bracket_of room (drop (at + 1) source.now)) }
 {
     let found = read_opened(alloc, source, at, Opener::Bracket, room)?;
     Ok(found)
@@ -106,7 +106,7 @@ pub fn substitution_behind(
     requires within { at < length source.now }
     requires ascii { slice_index source.now at < 128 }
     requires room { room ≤ 200 }
-    ensures { Gives result (substitution_of room (drop (at + 1) source.now)) }
+    ensures { IsReadAs result (substitution_of room (drop (at + 1) source.now)) }
 {
     let start = at + 1;
     match dollar_at(source, at) {
@@ -170,7 +170,7 @@ pub fn quotes_behind(
     requires within { at < length source.now }
     requires ascii { slice_index source.now at < 128 }
     requires room { room ≤ 200 }
-    ensures { Gives result (quoted_of room (drop (at + 1) source.now)) }
+    ensures { IsReadAs result (quoted_of room (drop (at + 1) source.now)) }
 {
     let text = &source[at + 1..];
     let mut parts = Open::new(alloc, 0);

@@ -5,15 +5,16 @@ ghost use Rattle.std.specs.List.{slice_range};
 ghost use Rattle.std.specs.Str.{IsCharBoundary};
 ghost use Rattle.tcl_text.specs.Backslash.{escape};
 ghost use Rattle.tcl_text.specs.Escaped.{bytes_meant};
-ghost use Rattle.tcl_words.specs.Kinds.{kind_of as kind_meant, dollar_of as dollar_meant, begins_expansion, begins_newline};
+ghost use Rattle.tcl_words.specs.Kinds.{kind_before as kind_meant, dollar_of as dollar_meant};
+ghost use Rattle.tcl_words.specs.Classes.{begins_expansion, begins_newline};
 ghost use Rattle.tcl_words.specs.Moves.{Move, word_over, in_text, at_dollar, in_bare, in_quotes, in_parens, in_braces, at_word, in_expanded, in_between, in_start, in_comment, move_of, move_at, fails};
 ghost use Rattle.tcl_words.specs.Parts.{Does, DollarFits, IsFine, IsCut, IsExpansion, StandsAt, EndsWord, Escaped, Finishes, is_index, with_piece, with_literal};
 ghost use Rattle.tcl_words.specs.Reading.{at_end};
 ghost use Rattle.tcl_words.specs.declared.script.Piece.TheVariants.{Variable};
 
 use crate::fault::ParseFault;
-use crate::kind::{Dollar, Kind, Mode, Opener, Place, Step};
-use crate::look::{dollar_of, kind_of};
+use crate::kind::{BytePlace, Dollar, Kind, Mode, Opener, Step};
+use crate::look::{dollar_of, kind_before};
 use crate::open::{Open, text_of};
 use crate::script::{Piece, WordForm};
 use std::alloc::{AllocError, Global};
@@ -139,10 +140,10 @@ fn read_dollar(
 ) -> Result<Step, ParseFault>
     requires stands { StandsAt source.now at byte Kind.Dollar }
     requires fine { IsCut parts.old source.now at }
-    ensures { Does parts.old parts.new source.now at (Place.Text mode) (in_text mode Kind.Dollar byte (drop (at + 1) source.now)) result }
+    ensures { Does parts.old parts.new source.now at (BytePlace.Text mode) (in_text mode Kind.Dollar byte (drop (at + 1) source.now)) result }
 {
     match dollar_at(source, at) {
-        Dollar::Alone => Ok(Step::On(0, Place::Text(mode))),
+        Dollar::Alone => Ok(Step::On(0, BytePlace::Text(mode))),
         Dollar::Named(count) => {
             let start = at + 1;
             push_name(
@@ -154,7 +155,7 @@ fn read_dollar(
                 start + count,
                 start + count,
             )?;
-            Ok(Step::On(count, Place::Text(mode)))
+            Ok(Step::On(count, BytePlace::Text(mode)))
         }
         Dollar::Indexed(count) => {
             parts.end_literal(alloc, source, at)?;
@@ -171,7 +172,7 @@ fn read_dollar(
                 start + count,
                 start + count + 1,
             )?;
-            Ok(Step::On(count + 2, Place::Text(mode)))
+            Ok(Step::On(count + 2, BytePlace::Text(mode)))
         }
         Dollar::Unclosed => Err(ParseFault::MissingBrace),
     }
@@ -189,7 +190,7 @@ pub fn read_text(
 ) -> Result<Step, ParseFault>
     requires stands { StandsAt source.now at byte kind }
     requires fine { IsCut parts.old source.now at }
-    ensures { Does parts.old parts.new source.now at (Place.Text mode) (in_text mode kind byte (drop (at + 1) source.now)) result }
+    ensures { Does parts.old parts.new source.now at (BytePlace.Text mode) (in_text mode kind byte (drop (at + 1) source.now)) result }
 {
     match kind {
         Kind::Dollar => {
@@ -202,9 +203,9 @@ pub fn read_text(
         }
         Kind::Backslash | Kind::Continuation => {
             let taken = push_escape(parts, source, at)?;
-            Ok(Step::On(taken, Place::Text(mode)))
+            Ok(Step::On(taken, BytePlace::Text(mode)))
         }
-        _ => Ok(Step::On(0, Place::Text(mode))),
+        _ => Ok(Step::On(0, BytePlace::Text(mode))),
     }
 }
 
@@ -219,20 +220,20 @@ fn end_word(
 ) -> Result<Step, ParseFault>
     requires stands { StandsAt source.now at byte kind }
     requires ends { EndsWord kind }
-    ensures { (other : Move) → Does parts.old parts.new source.now at Place.PastBraces (word_over kind at (drop (at + 1) source.now) other) result }
+    ensures { (other : Move) → Does parts.old parts.new source.now at BytePlace.PastBraces (word_over kind at (drop (at + 1) source.now) other) result }
 {
     parts.end_word(alloc, at)?;
     match kind {
         Kind::Newline | Kind::Semicolon => {
             parts.end_command(alloc)?;
-            Ok(Step::On(0, Place::Start))
+            Ok(Step::On(0, BytePlace::Start))
         }
         Kind::CloseBracket => {
             parts.end_command(alloc)?;
             Ok(Step::Ends)
         }
-        Kind::Continuation => Ok(Step::On(blanks_behind(source, at), Place::Between)),
-        _ => Ok(Step::On(0, Place::Between)),
+        Kind::Continuation => Ok(Step::On(blanks_behind(source, at), BytePlace::Between)),
+        _ => Ok(Step::On(0, BytePlace::Between)),
     }
 }
 
@@ -247,7 +248,7 @@ fn read_past(
     fault: ParseFault,
 ) -> Result<Step, ParseFault>
     requires stands { StandsAt source.now at byte kind }
-    ensures { Does parts.old parts.new source.now at Place.PastBraces (word_over kind at (drop (at + 1) source.now) (fails fault)) result }
+    ensures { Does parts.old parts.new source.now at BytePlace.PastBraces (word_over kind at (drop (at + 1) source.now) (fails fault)) result }
 {
     match kind {
         Kind::Blank | Kind::Newline | Kind::Semicolon | Kind::Continuation | Kind::CloseBracket => {
@@ -269,7 +270,7 @@ fn read_bare(
 ) -> Result<Step, ParseFault>
     requires stands { StandsAt source.now at byte kind }
     requires fine { IsCut parts.old source.now at }
-    ensures { Does parts.old parts.new source.now at (Place.Text Mode.Bare) (in_bare kind byte at (drop (at + 1) source.now)) result }
+    ensures { Does parts.old parts.new source.now at (BytePlace.Text Mode.Bare) (in_bare kind byte at (drop (at + 1) source.now)) result }
 {
     match kind {
         Kind::Blank | Kind::Newline | Kind::Semicolon | Kind::Continuation | Kind::CloseBracket => {
@@ -295,12 +296,12 @@ fn read_quotes(
 ) -> Result<Step, ParseFault>
     requires stands { StandsAt source.now at byte kind }
     requires fine { IsCut parts.old source.now at }
-    ensures { Does parts.old parts.new source.now at (Place.Text Mode.Quotes) (in_quotes kind byte (drop (at + 1) source.now)) result }
+    ensures { Does parts.old parts.new source.now at (BytePlace.Text Mode.Quotes) (in_quotes kind byte (drop (at + 1) source.now)) result }
 {
     match kind {
         Kind::Quote => {
             parts.end_literal(alloc, source, at)?;
-            Ok(Step::On(0, Place::PastQuotes))
+            Ok(Step::On(0, BytePlace::PastQuotes))
         }
         _ => {
             let step = read_text(parts, alloc, source, at, byte, kind, Mode::Quotes)?;
@@ -320,7 +321,7 @@ fn read_parens(
 ) -> Result<Step, ParseFault>
     requires stands { StandsAt source.now at byte kind }
     requires fine { IsCut parts.old source.now at }
-    ensures { Does parts.old parts.new source.now at (Place.Text Mode.Parens) (in_parens kind byte (drop (at + 1) source.now)) result }
+    ensures { Does parts.old parts.new source.now at (BytePlace.Text Mode.Parens) (in_parens kind byte (drop (at + 1) source.now)) result }
 {
     match kind {
         Kind::CloseParen => {
@@ -345,24 +346,24 @@ fn read_braces(
     depth: usize,
 ) -> Result<Step, ParseFault>
     requires stands { StandsAt source.now at byte kind }
-    requires fine { IsFine parts.old source.now (Place.InBraces depth) at }
-    ensures { Does parts.old parts.new source.now at (Place.InBraces depth) (in_braces depth kind byte (drop (at + 1) source.now)) result }
+    requires fine { IsFine parts.old source.now (BytePlace.InBraces depth) at }
+    ensures { Does parts.old parts.new source.now at (BytePlace.InBraces depth) (in_braces depth kind byte (drop (at + 1) source.now)) result }
 {
     match kind {
         Kind::CloseBrace => {
             if depth > 0 {
-                return Ok(Step::On(0, Place::InBraces(depth - 1)));
+                return Ok(Step::On(0, BytePlace::InBraces(depth - 1)));
             }
             parts.end_braced(alloc, source, at)?;
-            Ok(Step::On(0, Place::PastBraces))
+            Ok(Step::On(0, BytePlace::PastBraces))
         }
-        Kind::OpenBrace | Kind::Expansion => Ok(Step::On(0, Place::InBraces(depth + 1))),
-        Kind::Backslash => Ok(Step::On(one_behind(source, at), Place::InBraces(depth))),
+        Kind::OpenBrace | Kind::Expansion => Ok(Step::On(0, BytePlace::InBraces(depth + 1))),
+        Kind::Backslash => Ok(Step::On(one_behind(source, at), BytePlace::InBraces(depth))),
         Kind::Continuation => {
             let taken = push_escape(parts, source, at)?;
-            Ok(Step::On(taken, Place::InBraces(depth)))
+            Ok(Step::On(taken, BytePlace::InBraces(depth)))
         }
-        _ => Ok(Step::On(0, Place::InBraces(depth))),
+        _ => Ok(Step::On(0, BytePlace::InBraces(depth))),
     }
 }
 
@@ -379,16 +380,16 @@ fn read_word(
 ) -> Result<Step, ParseFault>
     requires stands { StandsAt source.now at byte kind }
     requires begins { IsCharBoundary source.now at }
-    ensures { Does parts.old parts.new source.now at Place.Between (at_word expand start kind byte at (drop (at + 1) source.now)) result }
+    ensures { Does parts.old parts.new source.now at BytePlace.Between (at_word expand start kind byte at (drop (at + 1) source.now)) result }
 {
     match kind {
         Kind::OpenBrace | Kind::Expansion => {
             parts.begin_word(alloc, WordForm::Braced, expand, start, at + 1);
-            Ok(Step::On(0, Place::InBraces(0)))
+            Ok(Step::On(0, BytePlace::InBraces(0)))
         }
         Kind::Quote => {
             parts.begin_word(alloc, WordForm::Quoted, expand, start, at + 1);
-            Ok(Step::On(0, Place::Text(Mode::Quotes)))
+            Ok(Step::On(0, BytePlace::Text(Mode::Quotes)))
         }
         _ => {
             parts.begin_word(alloc, WordForm::Bare, expand, start, at);
@@ -409,7 +410,7 @@ fn read_expanded(
 ) -> Result<Step, ParseFault>
     requires stands { StandsAt source.now at byte kind }
     requires expansion { IsExpansion source.now at }
-    ensures { Does parts.old parts.new source.now at Place.Expanded (in_expanded kind byte at (drop (at + 1) source.now)) result }
+    ensures { Does parts.old parts.new source.now at BytePlace.Expanded (in_expanded kind byte at (drop (at + 1) source.now)) result }
 {
     match kind {
         Kind::Blank | Kind::Newline | Kind::Semicolon | Kind::Continuation | Kind::CloseBracket => {
@@ -432,20 +433,20 @@ fn read_between(
 ) -> Result<Step, ParseFault>
     requires stands { StandsAt source.now at byte kind }
     requires begins { IsCharBoundary source.now at }
-    ensures { Does parts.old parts.new source.now at Place.Between (in_between kind byte at (drop (at + 1) source.now)) result }
+    ensures { Does parts.old parts.new source.now at BytePlace.Between (in_between kind byte at (drop (at + 1) source.now)) result }
 {
     match kind {
-        Kind::Blank => Ok(Step::On(0, Place::Between)),
+        Kind::Blank => Ok(Step::On(0, BytePlace::Between)),
         Kind::Newline | Kind::Semicolon => {
             parts.end_command(alloc)?;
-            Ok(Step::On(0, Place::Start))
+            Ok(Step::On(0, BytePlace::Start))
         }
-        Kind::Continuation => Ok(Step::On(blanks_behind(source, at), Place::Between)),
+        Kind::Continuation => Ok(Step::On(blanks_behind(source, at), BytePlace::Between)),
         Kind::CloseBracket => {
             parts.end_command(alloc)?;
             Ok(Step::Ends)
         }
-        Kind::Expansion => Ok(Step::On(2, Place::Expanded)),
+        Kind::Expansion => Ok(Step::On(2, BytePlace::Expanded)),
         _ => {
             let step = read_word(parts, alloc, source, at, byte, kind, false, at)?;
             Ok(step)
@@ -464,13 +465,13 @@ fn read_start(
 ) -> Result<Step, ParseFault>
     requires stands { StandsAt source.now at byte kind }
     requires begins { IsCharBoundary source.now at }
-    ensures { Does parts.old parts.new source.now at Place.Start (in_start kind byte at (drop (at + 1) source.now)) result }
+    ensures { Does parts.old parts.new source.now at BytePlace.Start (in_start kind byte at (drop (at + 1) source.now)) result }
 {
     match kind {
-        Kind::Blank | Kind::Newline | Kind::Semicolon => Ok(Step::On(0, Place::Start)),
-        Kind::Continuation => Ok(Step::On(blanks_behind(source, at), Place::Start)),
+        Kind::Blank | Kind::Newline | Kind::Semicolon => Ok(Step::On(0, BytePlace::Start)),
+        Kind::Continuation => Ok(Step::On(blanks_behind(source, at), BytePlace::Start)),
         Kind::CloseBracket => Ok(Step::Ends),
-        Kind::Hash => Ok(Step::On(0, Place::Comment)),
+        Kind::Hash => Ok(Step::On(0, BytePlace::Comment)),
         _ => {
             parts.begin_command(alloc, at);
             let step = read_between(parts, alloc, source, at, byte, kind)?;
@@ -488,14 +489,14 @@ fn read_comment(
     kind: Kind,
 ) -> Result<Step, ParseFault>
     requires stands { StandsAt source.now at byte kind }
-    ensures { Does parts.now parts.now source.now at Place.Comment (in_comment kind (drop (at + 1) source.now)) result }
+    ensures { Does parts.now parts.now source.now at BytePlace.Comment (in_comment kind (drop (at + 1) source.now)) result }
 {
     match kind {
-        Kind::Newline => Ok(Step::On(0, Place::Start)),
+        Kind::Newline => Ok(Step::On(0, BytePlace::Start)),
         Kind::Backslash | Kind::Continuation => {
-            Ok(Step::On(one_behind(source, at), Place::Comment))
+            Ok(Step::On(one_behind(source, at), BytePlace::Comment))
         }
-        _ => Ok(Step::On(0, Place::Comment)),
+        _ => Ok(Step::On(0, BytePlace::Comment)),
     }
 }
 
@@ -507,7 +508,7 @@ fn kind_at(source: &str, at: usize, byte: u8, inside: bool) -> Kind
     ensures expansion { result ≡ Kind.Expansion → begins_expansion (drop (at + 1) source.now) ≡ true }
     ensures continuation { result ≡ Kind.Continuation → begins_newline (drop (at + 1) source.now) ≡ true }
 {
-    kind_of(inside, byte, &source.as_bytes()[at + 1..])
+    kind_before(inside, byte, &source.as_bytes()[at + 1..])
 }
 
 /// The byte at a place, and what it means there.
@@ -530,7 +531,7 @@ pub fn read_byte(
     source: &str,
     at: usize,
     inside: bool,
-    place: Place,
+    place: BytePlace,
 ) -> Result<Step, ParseFault>
     requires within { at < length source.now }
     requires short { length source.now ≤ 65536 }
@@ -539,14 +540,14 @@ pub fn read_byte(
 {
     let (byte, kind) = look(source, at, inside);
     match place {
-        Place::Start => read_start(parts, alloc, source, at, byte, kind),
-        Place::Comment => read_comment(parts, source, at, byte, kind),
-        Place::Between => read_between(parts, alloc, source, at, byte, kind),
-        Place::Expanded => read_expanded(parts, alloc, source, at, byte, kind),
-        Place::Text(Mode::Bare) => read_bare(parts, alloc, source, at, byte, kind),
-        Place::Text(Mode::Quotes) => read_quotes(parts, alloc, source, at, byte, kind),
-        Place::Text(Mode::Parens) => read_parens(parts, alloc, source, at, byte, kind),
-        Place::PastQuotes => read_past(
+        BytePlace::Start => read_start(parts, alloc, source, at, byte, kind),
+        BytePlace::Comment => read_comment(parts, source, at, byte, kind),
+        BytePlace::Between => read_between(parts, alloc, source, at, byte, kind),
+        BytePlace::Expanded => read_expanded(parts, alloc, source, at, byte, kind),
+        BytePlace::Text(Mode::Bare) => read_bare(parts, alloc, source, at, byte, kind),
+        BytePlace::Text(Mode::Quotes) => read_quotes(parts, alloc, source, at, byte, kind),
+        BytePlace::Text(Mode::Parens) => read_parens(parts, alloc, source, at, byte, kind),
+        BytePlace::PastQuotes => read_past(
             parts,
             alloc,
             source,
@@ -555,8 +556,8 @@ pub fn read_byte(
             kind,
             ParseFault::ExtraAfterQuote,
         ),
-        Place::InBraces(depth) => read_braces(parts, alloc, source, at, byte, kind, depth),
-        Place::PastBraces => read_past(
+        BytePlace::InBraces(depth) => read_braces(parts, alloc, source, at, byte, kind, depth),
+        BytePlace::PastBraces => read_past(
             parts,
             alloc,
             source,
@@ -569,7 +570,12 @@ pub fn read_byte(
 }
 
 /// The text of a script ends, and what is open of it: not in quotes, braces or an index.
-pub fn finish(parts: &mut Open, alloc: Global, source: &str, place: Place) -> Result<(), ParseFault>
+pub fn finish(
+    parts: &mut Open,
+    alloc: Global,
+    source: &str,
+    place: BytePlace,
+) -> Result<(), ParseFault>
     requires short { length source.now ≤ 65536 }
     requires fine { IsFine parts.old source.now place (length source.now) }
     requires script { is_index place ≡ false }
@@ -577,43 +583,43 @@ pub fn finish(parts: &mut Open, alloc: Global, source: &str, place: Place) -> Re
 {
     let at = source.len();
     match place {
-        Place::Start | Place::Comment => Ok(()),
-        Place::Between => {
+        BytePlace::Start | BytePlace::Comment => Ok(()),
+        BytePlace::Between => {
             parts.end_command(alloc)?;
             Ok(())
         }
-        Place::Expanded => {
+        BytePlace::Expanded => {
             parts.begin_word(alloc, WordForm::Braced, false, at - 3, at - 2);
             parts.end_braced(alloc, source, at - 1)?;
             parts.end_word(alloc, at)?;
             parts.end_command(alloc)?;
             Ok(())
         }
-        Place::Text(Mode::Bare) => {
+        BytePlace::Text(Mode::Bare) => {
             parts.end_literal(alloc, source, at)?;
             parts.end_word(alloc, at)?;
             parts.end_command(alloc)?;
             Ok(())
         }
-        Place::PastQuotes | Place::PastBraces => {
+        BytePlace::PastQuotes | BytePlace::PastBraces => {
             parts.end_word(alloc, at)?;
             parts.end_command(alloc)?;
             Ok(())
         }
-        Place::Text(Mode::Quotes) => Err(ParseFault::MissingQuote),
-        Place::Text(Mode::Parens) => unreachable!(),
-        Place::InBraces(_) => Err(ParseFault::MissingBrace),
+        BytePlace::Text(Mode::Quotes) => Err(ParseFault::MissingQuote),
+        BytePlace::Text(Mode::Parens) => unreachable!(),
+        BytePlace::InBraces(_) => Err(ParseFault::MissingBrace),
     }
 }
 
 /// The fault of a text that ends where a bracket or a parenthesis is to come.
-pub fn unfinished(place: Place) -> ParseFault
+pub fn unfinished(place: BytePlace) -> ParseFault
     ensures { (at : ℕ) → at_end true place at ≡ Err result }
 {
     match place {
-        Place::Text(Mode::Quotes) => ParseFault::MissingQuote,
-        Place::Text(Mode::Parens) => ParseFault::MissingParen,
-        Place::InBraces(_) => ParseFault::MissingBrace,
+        BytePlace::Text(Mode::Quotes) => ParseFault::MissingQuote,
+        BytePlace::Text(Mode::Parens) => ParseFault::MissingParen,
+        BytePlace::InBraces(_) => ParseFault::MissingBrace,
         _ => ParseFault::MissingBracket,
     }
 }

@@ -7,7 +7,7 @@ ghost use Rattle.tcl_words.specs.Parts.{IsOpenerCut, no_parts};
 ghost use Rattle.tcl_words.specs.Chain.{outset, own, opened as opened_origin, IsReading, IsOpening, IsEnding, IsParse, Goes};
 
 use crate::fault::ParseFault;
-use crate::kind::{Mode, Opener, Place, Step};
+use crate::kind::{BytePlace, Mode, Opener, Step};
 use crate::nesting::{Origin, Reader, Waiting};
 use crate::open::{Open, text_of};
 use crate::read::{finish, read_byte, unfinished};
@@ -27,7 +27,7 @@ fn outermost() -> Origin
         inside: false,
         room: MAX_DEPTH,
         skip: 0,
-        place: Place::Start,
+        place: BytePlace::Start,
     }
 }
 
@@ -39,8 +39,8 @@ pub fn opened(origin: Origin, at: usize, opener: Opener) -> Origin
     ensures { result ≡ opened_origin origin at opener }
 {
     let (skip, place) = match opener {
-        Opener::Bracket => (0, Place::Start),
-        Opener::Index(count) => (count + 1, Place::Text(Mode::Parens)),
+        Opener::Bracket => (0, BytePlace::Start),
+        Opener::Index(count) => (count + 1, BytePlace::Text(Mode::Parens)),
     };
     Origin {
         base: origin.base + (at + 1),
@@ -154,7 +154,7 @@ impl Reader {
         let next = waiting.at + 1 + close + 1;
         self.parts.push_piece(piece, next)?;
         self.origin = waiting.origin;
-        self.place = Place::Text(waiting.mode);
+        self.place = BytePlace::Text(waiting.mode);
         self.next = next;
         Ok(())
     }
@@ -196,8 +196,8 @@ impl Reader {
         requires short { length source.now ≤ 65536 }
         requires reading { IsReading outset source.now self.waiting.items self.origin self.parts self.place self.next }
         requires end { length source.now ≤ self.origin.base + self.next }
-        ensures commands { IfOk result (λ commands. commands_in (rest_of source.now outermost_level 0 Place.Start 0) ≡ Ok commands.items) }
-        ensures fault { IfErr result (λ fault. (commands_in (rest_of source.now outermost_level 0 Place.Start 0) ≡ Err fault) ⊎ (fault ≡ ParseFault.NoMemory)) }
+        ensures commands { IfOk result (λ commands. commands_in (rest_of source.now outermost_level 0 BytePlace.Start 0) ≡ Ok commands.items) }
+        ensures fault { IfErr result (λ fault. (commands_in (rest_of source.now outermost_level 0 BytePlace.Start 0) ≡ Err fault) ⊎ (fault ≡ ParseFault.NoMemory)) }
     {
         if self.origin.inside {
             return Err(unfinished(self.place));
@@ -210,8 +210,8 @@ impl Reader {
 /// The commands of a text, in one pass over its bytes.
 pub fn read_all(alloc: Global, source: &str) -> Result<Vec<Command>, ParseFault>
     requires { length source.now ≤ 65536 }
-    ensures commands { IfOk result (λ commands. commands_in (rest_of source.now outermost_level 0 Place.Start 0) ≡ Ok commands.items) }
-    ensures fault { IfErr result (λ fault. (commands_in (rest_of source.now outermost_level 0 Place.Start 0) ≡ Err fault) ⊎ (fault ≡ ParseFault.NoMemory)) }
+    ensures commands { IfOk result (λ commands. commands_in (rest_of source.now outermost_level 0 BytePlace.Start 0) ≡ Ok commands.items) }
+    ensures fault { IfErr result (λ fault. (commands_in (rest_of source.now outermost_level 0 BytePlace.Start 0) ≡ Err fault) ⊎ (fault ≡ ParseFault.NoMemory)) }
 {
     let mut reader = Reader::new(alloc, outermost());
     while reader.origin.base + reader.next < source.len() {

@@ -213,13 +213,17 @@ impl Pieces {
 }
 
 impl Script {
-    ghost use Rattle.std.specs.Prelude.{◌≡◌, ◌≤◌, Ok, IfOk};
-    ghost use Rattle.tcl_words.specs.Room.{text_room, commands_room};
+    ghost use Rattle.std.specs.Prelude.{◌≡◌, List, Ok, IfOk};
+    ghost use Rattle.tcl_words.specs.Grammar.{IsScriptOf};
     ghost use Rattle.tcl_words.specs.Reading.{commands_of};
+    ghost use Rattle.tcl_words.specs.declared.script.Command.{Command};
 
     /// The commands, in order.
+    #[tactic(auto, using(crate::proofs::Parses::walk_is_script, crate::proofs::Parses::script_is_walk))]
     pub fn commands(&self) -> &[Command]
-        ensures { commands_of self.now ≡ Ok result.now }
+        ensures script { IsScriptOf self.now result.now }
+        ensures only { (commands : List Command) → IsScriptOf self.now commands → commands ≡ result.now }
+        ensures walk { commands_of self.now ≡ Ok result.now }
     {
         self.parsed.commands.as_slice()
     }
@@ -257,8 +261,10 @@ impl Script {
 }
 
 impl Index {
-    ghost use Rattle.std.specs.Prelude.{◌≡◌, Ok, IfOk};
+    ghost use Rattle.std.specs.Prelude.{◌≡◌, List, Ok, IfOk};
+    ghost use Rattle.tcl_words.specs.Grammar.{IsIndexOf};
     ghost use Rattle.tcl_words.specs.Reading.{index_pieces_of};
+    ghost use Rattle.tcl_words.specs.declared.script.Piece.{Piece};
 
     /// The source, that is what stands between the parentheses.
     pub fn text(&self) -> &Text
@@ -268,8 +274,11 @@ impl Index {
     }
 
     /// Its pieces, in order.
+    #[tactic(auto, using(crate::proofs::Parses::walk_is_index, crate::proofs::Parses::index_is_walk))]
     pub fn pieces(&self) -> &[Piece]
-        ensures { index_pieces_of self.now ≡ Ok result.now }
+        ensures index { IsIndexOf self.now result.now }
+        ensures only { (pieces : List Piece) → IsIndexOf self.now pieces → pieces ≡ result.now }
+        ensures walk { index_pieces_of self.now ≡ Ok result.now }
     {
         Pieces::as_slice(&self.parsed.pieces)
     }

@@ -68,7 +68,7 @@ pub fn call(
 }
 
 /// The commands of a script's text (Tcl(n)), or its fault (4 to 10): what was read last for any application isn't read again.
-#[tactic(auto, unfolding(tcl_table::specs::Source::script_of))]
+#[tactic(auto, using(tcl_table::proofs::SourceLemmas::script_walk))]
 pub fn parsed(tables: &mut Tables, text: &Text) -> Result<Script, ParseFault>
     ensures text { IfOk result (λ script. script ≡ text.now) }
     ensures ok { IfOk result (λ _. IsOk (script_of text.now)) }

@@ -1,5 +1,5 @@
 use Rattle.std.proofs.Common.{◌≡◌, is_some}
-use Rattle.tcl_expr.specs.Evaluation.{is_waiting}
+use Rattle.tcl_expr.specs.Resuming.{is_waiting}
 use Rattle.expression_tables.proofs.told.Given as goal
 
 -- a text is given where one was asked for

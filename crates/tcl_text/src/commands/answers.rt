@@ -71,6 +71,15 @@ pub fn copy_answer(text: &Text) -> Result<Text, Refusal>
     Ok(text.copy()?)
 }
 
+/// A text that is given away, as it is.
+#[tactic(auto, using(crate::proofs::AnswerLemmas::bounds))]
+pub fn own_answer(text: Text) -> Result<Text, Refusal>
+    ensures { Gives result (answers text) }
+{
+    let _characters = text.as_str();
+    Ok(text)
+}
+
 /// A number in decimal.
 pub fn decimal_answer(alloc: Global, number: usize) -> Result<Text, Refusal>
     ensures { Gives result (answers (decimal number)) }
@@ -106,15 +115,13 @@ pub fn limit_reached(alloc: Global) -> Refusal
     }
 }
 
-#[tactic(auto, using(crate::proofs::AnswerLemmas::bounds))]
 /// An error with this text, or with the limit's (4) where the text is past 65,536 bytes.
 pub fn error(alloc: Global, message: &str) -> Refusal
     ensures { Refuses result (bounded message.now) }
 {
-    match Text::new(alloc, message) {
+    match Text::of_message(alloc, message) {
         Ok(text) => Refusal::Error(text),
-        Err(TextFault::TooLong) => limit_reached(alloc),
-        Err(TextFault::NoMemory) => Refusal::NoMemory,
+        Err(AllocError) => Refusal::NoMemory,
     }
 }
 

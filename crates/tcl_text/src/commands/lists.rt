@@ -8,12 +8,13 @@ ghost use Rattle.tcl_text.specs.ListCommands as spec;
 ghost use Rattle.tcl_text.specs.ListSteps.{behind};
 
 use crate::commands::answers::{
-    Refusal, bad_option, copy_answer, decimal_answer, place_answer, string_answer, text_answer,
-    wrong_args,
+    Refusal, bad_option, copy_answer, decimal_answer, limit_reached, own_answer, place_answer,
+    string_answer, text_answer, wrong_args,
 };
 use crate::commands::indices::{Index, index_in};
 use crate::commands::items::{items_in, list_answer};
-use crate::text::Text;
+use crate::list_string::ListString;
+use crate::text::{Text, TextFault};
 use std::alloc::{AllocError, Global};
 
 /// `list ?value ..?`: the list of the words.
@@ -29,11 +30,22 @@ pub fn llength_words(alloc: Global, words: &[Text]) -> Result<Text, Refusal>
 {
     match words {
         [list] => {
-            let items = items_in(alloc, list)?;
-            decimal_answer(alloc, items.len())
+            let count = item_count(alloc, list)?;
+            decimal_answer(alloc, count)
         }
         _ => wrong_args(alloc, "llength list"),
     }
+}
+
+/// How many items the list has that a word is.
+fn item_count(alloc: Global, list: &Text) -> Result<usize, Refusal>
+    ensures { Gives result (spec.count_in list.now) }
+{
+    if let Some(kept) = list.as_list(alloc) {
+        return Ok(kept.len());
+    }
+    let items = items_in(alloc, list)?;
+    Ok(items.len())
 }
 
 /// `lindex list ?index?`: the item at the index, or the empty text where there is none. Without an
@@ -43,19 +55,48 @@ pub fn lindex_words(alloc: Global, words: &[Text]) -> Result<Text, Refusal>
 {
     match words {
         [list] => copy_answer(list),
-        [list, index] => {
-            let items = items_in(alloc, list)?;
-            let index = index_in(alloc, index)?;
-            item_answer(alloc, items.as_slice(), index)
-        }
+        [list, index] => item_of_word(alloc, list, index),
         _ => wrong_args(alloc, "lindex list ?index?"),
     }
 }
 
-/// The item at an index, or the empty text where there is none.
-fn item_answer(alloc: Global, items: &[Text], index: Index) -> Result<Text, Refusal>
-    ensures { Gives result (answers (spec.item_or_empty (part index index items.now))) }
+/// The item at an index of the list that a word is.
+fn item_of_word(alloc: Global, list: &Text, index: &Text) -> Result<Text, Refusal>
+    ensures { Gives result (spec.of_items (spec.item_at index.now) list.now) }
 {
+    if let Some(kept) = list.as_list(alloc) {
+        return item_of_kept(alloc, kept, index);
+    }
+    let items = items_in(alloc, list)?;
+    item_of_items(alloc, items.as_slice(), index)
+}
+
+fn item_of_kept(alloc: Global, list: &ListString, index: &Text) -> Result<Text, Refusal>
+    ensures { Gives result (spec.item_at index.now list.now) }
+{
+    let index = index_in(alloc, index)?;
+    kept_item_answer(alloc, list, index)
+}
+
+/// The item of a kept list at an index, or the empty text where there is none.
+fn kept_item_answer(alloc: Global, list: &ListString, index: Index) -> Result<Text, Refusal>
+    ensures { Gives result (answers (spec.item_or_empty (part index index list.now))) }
+{
+    let count = list.len();
+    let number = index.before(count);
+    let end = index.through(count);
+    if number < end {
+        let item = list.item(alloc, number)?;
+        own_answer(item)
+    } else {
+        text_answer(alloc, "")
+    }
+}
+
+fn item_of_items(alloc: Global, items: &[Text], index: &Text) -> Result<Text, Refusal>
+    ensures { Gives result (spec.item_at index.now items.now) }
+{
+    let index = index_in(alloc, index)?;
     match items_between(items, index, index) {
         [item, ..] => copy_answer(item),
         [] => text_answer(alloc, ""),
@@ -76,14 +117,66 @@ pub fn lrange_words(alloc: Global, words: &[Text]) -> Result<Text, Refusal>
     ensures { Gives result (spec.lrange_words words.now) }
 {
     match words {
-        [list, first, last] => {
-            let items = items_in(alloc, list)?;
-            let first = index_in(alloc, first)?;
-            let last = index_in(alloc, last)?;
-            list_answer(alloc, items_between(items.as_slice(), first, last))
-        }
+        [list, first, last] => range_of_word(alloc, list, first, last),
         _ => wrong_args(alloc, "lrange list first last"),
     }
+}
+
+/// The list of the items from one index to another of the list that a word is.
+fn range_of_word(alloc: Global, list: &Text, first: &Text, last: &Text) -> Result<Text, Refusal>
+    ensures { Gives result (spec.of_items (spec.range_of first.now last.now) list.now) }
+{
+    if let Some(kept) = list.as_list(alloc) {
+        return range_of_kept(alloc, kept, first, last);
+    }
+    let items = items_in(alloc, list)?;
+    range_of_items(alloc, items.as_slice(), first, last)
+}
+
+fn range_of_kept(
+    alloc: Global,
+    list: &ListString,
+    first: &Text,
+    last: &Text,
+) -> Result<Text, Refusal>
+    ensures { Gives result (spec.range_of first.now last.now list.now) }
+{
+    let first = index_in(alloc, first)?;
+    let last = index_in(alloc, last)?;
+    kept_range_answer(alloc, list, first, last)
+}
+
+/// The list of the items of a kept list from one index to another.
+fn kept_range_answer(
+    alloc: Global,
+    list: &ListString,
+    first: Index,
+    last: Index,
+) -> Result<Text, Refusal>
+    ensures { Gives result (answers (list_form (part first last list.now))) }
+{
+    let count = list.len();
+    let end = last.through(count);
+    let begin = first.before(count);
+    let start = begin.min(end);
+    let part = list.part(alloc, start, end)?;
+    kept_answer(alloc, part)
+}
+
+fn range_of_items(alloc: Global, items: &[Text], first: &Text, last: &Text) -> Result<Text, Refusal>
+    ensures { Gives result (spec.range_of first.now last.now items.now) }
+{
+    let first = index_in(alloc, first)?;
+    let last = index_in(alloc, last)?;
+    list_answer(alloc, items_between(items, first, last))
+}
+
+/// A list that is kept, as an answer.
+#[tactic(auto, using(crate::proofs::AnswerLemmas::bounds))]
+fn kept_answer(alloc: Global, list: ListString) -> Result<Text, Refusal>
+    ensures { Gives result (answers (list_form list)) }
+{
+    Ok(Text::of_list(alloc, list)?)
 }
 
 /// `linsert list index ?value ..?`: the list with the values put in before the item at the index;
@@ -92,14 +185,51 @@ pub fn linsert_words(alloc: Global, words: &[Text]) -> Result<Text, Refusal>
     ensures { Gives result (spec.linsert_words words.now) }
 {
     match words {
-        [list, index, values @ ..] => {
-            let items = items_in(alloc, list)?;
-            let index = index_in(alloc, index)?;
-            let place = index.before_inserted(items.len());
-            splice_answer(alloc, items.as_slice(), place, place, values)
-        }
+        [list, index, values @ ..] => insert_into_word(alloc, list, index, values),
         _ => wrong_args(alloc, "linsert list index ?value ..?"),
     }
+}
+
+/// The list that a word is, with values put in before an index.
+fn insert_into_word(
+    alloc: Global,
+    list: &Text,
+    index: &Text,
+    values: &[Text],
+) -> Result<Text, Refusal>
+    ensures { Gives result (spec.of_items (spec.inserted index.now values.now) list.now) }
+{
+    if let Some(kept) = list.as_list(alloc) {
+        return insert_into_kept(alloc, kept, index, values);
+    }
+    let items = items_in(alloc, list)?;
+    insert_into_items(alloc, items.as_slice(), index, values)
+}
+
+fn insert_into_kept(
+    alloc: Global,
+    list: &ListString,
+    index: &Text,
+    values: &[Text],
+) -> Result<Text, Refusal>
+    ensures { Gives result (spec.inserted index.now values.now list.now) }
+{
+    let index = index_in(alloc, index)?;
+    let place = index.before_inserted(list.len());
+    splice_of_kept(alloc, list, place, place, values)
+}
+
+fn insert_into_items(
+    alloc: Global,
+    items: &[Text],
+    index: &Text,
+    values: &[Text],
+) -> Result<Text, Refusal>
+    ensures { Gives result (spec.inserted index.now values.now items.now) }
+{
+    let index = index_in(alloc, index)?;
+    let place = index.before_inserted(items.len());
+    splice_answer(alloc, items, place, place, values)
 }
 
 /// `lreplace list first last ?value ..?`: the list with the values in place of the items from one
@@ -108,15 +238,77 @@ pub fn lreplace_words(alloc: Global, words: &[Text]) -> Result<Text, Refusal>
     ensures { Gives result (spec.lreplace_words words.now) }
 {
     match words {
-        [list, first, last, values @ ..] => {
-            let items = items_in(alloc, list)?;
-            let first = index_in(alloc, first)?;
-            let last = index_in(alloc, last)?;
-            let from = first.before(items.len());
-            let to = from.max(last.through(items.len()));
-            splice_answer(alloc, items.as_slice(), from, to, values)
-        }
+        [list, first, last, values @ ..] => replace_in_word(alloc, list, first, last, values),
         _ => wrong_args(alloc, "lreplace list first last ?value ..?"),
+    }
+}
+
+/// The list that a word is, with values in place of the items from one index to another.
+fn replace_in_word(
+    alloc: Global,
+    list: &Text,
+    first: &Text,
+    last: &Text,
+    values: &[Text],
+) -> Result<Text, Refusal>
+    ensures { Gives result (spec.of_items (spec.replaced first.now last.now values.now) list.now) }
+{
+    if let Some(kept) = list.as_list(alloc) {
+        return replace_in_kept(alloc, kept, first, last, values);
+    }
+    let items = items_in(alloc, list)?;
+    replace_in_items(alloc, items.as_slice(), first, last, values)
+}
+
+fn replace_in_kept(
+    alloc: Global,
+    list: &ListString,
+    first: &Text,
+    last: &Text,
+    values: &[Text],
+) -> Result<Text, Refusal>
+    ensures { Gives result (spec.replaced first.now last.now values.now list.now) }
+{
+    let first = index_in(alloc, first)?;
+    let last = index_in(alloc, last)?;
+    let from = first.before(list.len());
+    let to = from.max(last.through(list.len()));
+    splice_of_kept(alloc, list, from, to, values)
+}
+
+fn replace_in_items(
+    alloc: Global,
+    items: &[Text],
+    first: &Text,
+    last: &Text,
+    values: &[Text],
+) -> Result<Text, Refusal>
+    ensures { Gives result (spec.replaced first.now last.now values.now items.now) }
+{
+    let first = index_in(alloc, first)?;
+    let last = index_in(alloc, last)?;
+    let from = first.before(items.len());
+    let to = from.max(last.through(items.len()));
+    splice_answer(alloc, items, from, to, values)
+}
+
+/// The list with the values in place of the items between two places.
+#[tactic(auto, using(crate::proofs::AnswerLemmas::bounds))]
+fn splice_of_kept(
+    alloc: Global,
+    list: &ListString,
+    from: usize,
+    to: usize,
+    values: &[Text],
+) -> Result<Text, Refusal>
+    requires in_order { from ≤ to }
+    requires within { to ≤ length list.now }
+    ensures { Gives result (answers (list_form (spec.spliced list.now from to values.now))) }
+{
+    match list.spliced(alloc, from, to, values) {
+        Ok(list) => kept_answer(alloc, list),
+        Err(TextFault::TooLong) => Err(limit_reached(alloc)),
+        Err(TextFault::NoMemory) => Err(Refusal::NoMemory),
     }
 }
 

@@ -1,6 +1,6 @@
 use Rattle.std.proofs.Common.{true, refl}
 use Rattle.tcl_expr.proofs.StandLemmas.{infix_stands}
-use Rattle.tcl_expr.specs.Reading.{level_of}
+use Rattle.tcl_expr.specs.Operators.{level_of}
 use Rattle.tcl_expr.proofs.parser.take_infix.Goals as goal
 
 pub returns : goal.returns

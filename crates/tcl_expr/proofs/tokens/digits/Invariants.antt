@@ -1,5 +1,5 @@
 use Rattle.std.proofs.Common.{◌≡◌, ◌+◌, drop}
-use Rattle.tcl_expr.specs.Tokens.{digits}
+use Rattle.tcl_expr.specs.Counts.{digits}
 use Rattle.tcl_expr.proofs.tokens.digits.Given as goal
 
 abbrev pub invariant-loop-count : goal.invariant-loop-count

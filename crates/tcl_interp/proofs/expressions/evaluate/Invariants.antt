@@ -1,5 +1,5 @@
 use Rattle.std.proofs.Common.{◌≡◌, is_some}
-use Rattle.tcl_expr.specs.Evaluation.{is_waiting}
+use Rattle.tcl_expr.specs.Resuming.{is_waiting}
 use Rattle.tcl_interp.specs.Finish.{Evaluates}
 use Rattle.tcl_interp.specs.Moves.{moved, standing}
 use Rattle.tcl_interp.specs.Quiet.{Leads}

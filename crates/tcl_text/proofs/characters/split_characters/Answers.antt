@@ -1,6 +1,6 @@
-use Rattle.std.proofs.Common.{rules, ◌≡◌, ◌∙◌, sym, inl, inr, arith}
+use Rattle.std.proofs.Common.{rules, ◌∙◌, sym, inl, inr, arith}
 use Rattle.std.specs.Str.{chars}
-use Rattle.tcl_text.proofs.CharacterLemmas.{ascii_front, ascii_back, IsEnd-whole, IsEnd-past, IsEnd-boundary, IsEnd-front, IsEnd-back, at_count}
+use Rattle.tcl_text.proofs.CharacterLemmas.{ascii_front, ascii_back, IsEnd-past, IsEnd-boundary, IsEnd-front, IsEnd-back, at_count}
 use Rattle.tcl_text.proofs.GlobLemmas.{drop_past}
 use Rattle.tcl_text.proofs.characters.split_characters.Goals as goal
 use Rattle.tcl_text.proofs.characters.split_characters.Goals.{else-loop-passed-test, then-loop-passed-test+in-None}

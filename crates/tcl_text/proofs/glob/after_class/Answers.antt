@@ -1,4 +1,4 @@
-use Rattle.std.proofs.Common.{rules, ◌∙◌, sym, List, ℕ, subst, ap, true}
+use Rattle.std.proofs.Common.{rules, ◌∙◌, sym}
 use Rattle.std.specs.Str.{chars}
 use Rattle.std.proofs.lemmas.Bool.{false≢true}
 use Rattle.tcl_text.proofs.GlobLemmas.{AllowsByClass-unclosed, AllowsByClass-first, class_split, IfSome-then_some, IfNone-then_some}

@@ -1,4 +1,4 @@
-use Rattle.std.proofs.Common.{ℕ, List, ◌+◌, rules, subst, sym, ◌∙◌, ap, drop}
+use Rattle.std.proofs.Common.{ℕ, List, ◌+◌, rules, subst, sym, ◌∙◌, drop}
 use Rattle.std.specs.Str.{chars}
 use borrow.Author.Count.{below_more}
 use Rattle.tcl_text.specs.Glob.{GlobMatches}

@@ -2,7 +2,7 @@ use Rattle.std.proofs.Common.{◌+◌, drop, subst, Ok}
 use Rattle.std.proofs.lemmas.Result.{err_from_is_err_and}
 use Rattle.tcl_words.specs.Moves.{in_text}
 use Rattle.tcl_words.specs.Parts.{Does}
-use Rattle.tcl_words.specs.declared.kind.Place.TheVariants.{Text}
+use Rattle.tcl_words.specs.declared.kind.BytePlace.TheVariants.{Text}
 use Rattle.tcl_words.specs.declared.kind.Mode.TheVariants.{Parens}
 use Rattle.tcl_words.proofs.OperandLemmas.{quoted_on, quoted_within, quoted_opening}
 use Rattle.tcl_words.proofs.operands.read_quoted.Goals as goal

@@ -1,4 +1,4 @@
-use Rattle.std.proofs.Common.{◌≡◌, ◌+◌, ◌<◌, ◌∙◌, [], ◌∷◌, ap, sym, drop}
+use Rattle.std.proofs.Common.{◌≡◌, ◌+◌, ◌∙◌, [], ◌∷◌, ap, sym, drop}
 use Rattle.std.proofs.lemmas.Str.{encode_ascii}
 use Rattle.tcl_text.specs.Backslash.{escape}
 use Rattle.tcl_text.specs.Escaped.{bytes_meant}

@@ -1,5 +1,5 @@
 use Rattle.std.proofs.Common.{length}
-use Rattle.tcl_words.proofs.Steps.{start_any, past_any, command_finish, bare_finish, lone_finish}
+use Rattle.tcl_words.proofs.Steps.{start_any, command_finish}
 use Rattle.tcl_words.proofs.read.finish.Goals as goal
 
 pub returns-in-Start : goal.returns-in-Start

@@ -2,7 +2,7 @@ use Rattle.std.proofs.Common.{◌+◌, drop, subst, Ok}
 use Rattle.tcl_words.specs.Moves.{in_text, in_bare, word_over}
 use Rattle.tcl_words.specs.Parts.{Does}
 use Rattle.tcl_words.specs.declared.kind.Mode.TheVariants.{Bare}
-use Rattle.tcl_words.specs.declared.kind.Place.TheVariants.{Text, PastBraces}
+use Rattle.tcl_words.specs.declared.kind.BytePlace.TheVariants.{Text, PastBraces}
 use Rattle.tcl_words.proofs.KindLemmas.{word_kinds}
 use Rattle.tcl_words.proofs.Steps.{bare_ends, same_move}
 use Rattle.tcl_words.proofs.read.read_bare.Goals as goal

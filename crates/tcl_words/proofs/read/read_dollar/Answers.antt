@@ -1,5 +1,4 @@
-use Rattle.std.proofs.Common.{◌+◌, arith, ap, drop}
-use Rattle.std.proofs.lemmas.List.{length-drop}
+use Rattle.std.proofs.Common.{◌+◌, drop}
 use Rattle.tcl_words.specs.Moves.{in_text}
 use Rattle.tcl_words.specs.declared.kind.Kind.TheVariants.{Dollar}
 use Rattle.tcl_words.specs.declared.kind.Dollar.TheVariants.{Alone}

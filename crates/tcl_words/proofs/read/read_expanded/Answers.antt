@@ -1,7 +1,7 @@
 use Rattle.std.proofs.Common.{◌+◌, ◌-◌, ◌∙◌, ap, drop, subst, true}
 use Rattle.tcl_words.specs.Moves.{at_word, in_expanded, word_over, ends}
 use Rattle.tcl_words.specs.Parts.{Does, with_braced}
-use Rattle.tcl_words.specs.declared.kind.Place.TheVariants.{Expanded, PastBraces}
+use Rattle.tcl_words.specs.declared.kind.BytePlace.TheVariants.{Expanded, PastBraces}
 use Rattle.tcl_words.proofs.KindLemmas.{expanded_kinds}
 use Rattle.tcl_words.proofs.Steps.{lone_ends, past_expansion, same_move}
 use Rattle.tcl_words.proofs.read.read_expanded.Goals as goal

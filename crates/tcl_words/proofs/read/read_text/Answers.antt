@@ -1,7 +1,7 @@
-use Rattle.std.proofs.Common.{◌+◌, arith, drop, refl, sym, ◌≡◌, ◌∙◌, Ok}
+use Rattle.std.proofs.Common.{◌+◌, drop, refl, sym, ◌≡◌, ◌∙◌, Ok}
 use Rattle.tcl_words.specs.Moves.{in_text}
 use Rattle.tcl_words.specs.declared.kind.Kind.TheVariants.{Dollar, OpenBracket, Other}
-use Rattle.tcl_words.specs.declared.kind.Place.TheVariants.{Text}
+use Rattle.tcl_words.specs.declared.kind.BytePlace.TheVariants.{Text}
 use Rattle.tcl_words.specs.declared.kind.Opener.TheVariants.{Bracket}
 use Rattle.tcl_words.proofs.KindLemmas.{text_kinds}
 use Rattle.tcl_words.proofs.Steps.{text_goes_on, text_opens, escape_goes_on, text_escapes, same_move, text_bracket, cut_bracket}

@@ -8,7 +8,7 @@ pub returns-in_ok-copy-in-Some : goal.returns-in_ok-copy-in-Some
 returns-in_ok-copy-in-Some c =
     let entries = c.self.inside.scripts.entries in
     let same = theirs_found c.args.text.now c.in-Some.script.now entries c.self.invariant.0 (sym c.in-Some.ensures) in
-    let ok : IsOk (commands_of c.in-Some.script.now) = rw c.commands-commands.ensures refl in (
+    let ok : IsOk (commands_of c.in-Some.script.now) = rw c.commands-commands.ensures.walk refl in (
       c.in_ok-copy-in-Some.ensures.ok ∙ same,
       subst (λ t. IsOk (commands_of t)) same ok,
       sym (ap (is_kept c.args.text.now) c.self.view_is) ∙ any_lookup c.args.text.now entries ∙ ap is_some (sym c.in-Some.ensures),

@@ -1,6 +1,7 @@
 use Rattle.std.proofs.Common.{◌≡◌, ◌-◌, false, string_bytes, bytes_eq, sym, ap, ◌∙◌}
 use Rattle.std.specs.List.{list_any}
-use Rattle.tcl_cache.specs.Kept.{Kept, is_kept, texts_of}
+use Rattle.tcl_cache.specs.Kept.{Kept, is_kept}
+use Rattle.tcl_cache.specs.Entries.{texts_of}
 use Rattle.tcl_cache.proofs.KeptLemmas.{put_is, put_new, theirs_taken}
 use Rattle.tcl_cache.proofs.cache.ScriptCache.keep.Goals as goal
 

@@ -1,6 +1,7 @@
 use Rattle.std.proofs.Common.{bytes_eq, sym, ap, ◌∙◌}
 use Rattle.std.specs.List.{list_any}
-use Rattle.tcl_cache.specs.Kept.{is_kept, texts_of}
+use Rattle.tcl_cache.specs.Kept.{is_kept}
+use Rattle.tcl_cache.specs.Entries.{texts_of}
 use Rattle.tcl_cache.proofs.KeptLemmas.{any_lookup}
 use Rattle.tcl_cache.proofs.cache.ScriptCache.kept.Goals as goal
 

@@ -1,4 +1,4 @@
-use Rattle.std.proofs.Common.{◌≡◌, sym, ap, ◌∙◌, ◌++◌, ℕ, List}
+use Rattle.std.proofs.Common.{sym, ap, ◌∙◌, ◌++◌, ℕ, List}
 use Rattle.tcl_text.specs.ListCommands.{joined}
 use Rattle.tcl_text.specs.ListSteps.{behind}
 use Rattle.tcl_text.proofs.ListLemmas.{joined-behind}

@@ -1,4 +1,4 @@
-use Rattle.std.proofs.Common.{◌≡◌, sym, ap, ◌∙◌, ◌++◌, ℕ, List, arith, take}
+use Rattle.std.proofs.Common.{sym, ap, ◌∙◌, ◌++◌, ℕ, List, arith, take}
 use Rattle.std.specs.String.{string_bytes}
 use Rattle.tcl_text.specs.ListSteps.{behind}
 use Rattle.tcl_text.proofs.ListLemmas.{behind_step, regroup}

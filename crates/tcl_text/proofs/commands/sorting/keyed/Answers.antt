@@ -1,4 +1,4 @@
-use Rattle.std.proofs.Common.{List, ℕ, ℤ, arith}
+use Rattle.std.proofs.Common.{arith}
 use Rattle.std.proofs.lemmas.Result.{err_from_is_err_and}
 use Rattle.tcl_text.proofs.SortLemmas.{keyed-refused}
 use Rattle.tcl_text.proofs.commands.sorting.keyed.Goals as goal

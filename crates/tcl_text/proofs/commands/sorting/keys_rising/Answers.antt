@@ -1,7 +1,7 @@
 use Rattle.std.proofs.Common.{rules, List, ℕ, ℤ}
-use Rattle.std.proofs.lemmas.Cmp.{nat_list_cmp_total, int_cmp_total}
-use Rattle.std.proofs.lemmas.List.Sorted.{ranks_by, IsStrictWeakOrder-flip, answers_always}
-use Rattle.tcl_text.specs.ListCommands.{bytes_less, key_less}
+use Rattle.std.proofs.lemmas.Cmp.{int_cmp_total}
+use Rattle.std.proofs.lemmas.List.Sorted.{ranks_by, answers_always}
+use Rattle.tcl_text.specs.ListCommands.{key_less}
 use Rattle.tcl_text.proofs.SortLemmas.{stable_sort-is}
 use Rattle.tcl_text.proofs.commands.sorting.keys_rising.Goals as goal
 

@@ -1,4 +1,4 @@
-use Rattle.std.proofs.Common.{rules, arith, ◌∙◌, ◌++◌, ◌∷◌, [], ap, sym, List, ℕ}
+use Rattle.std.proofs.Common.{rules, arith, ◌∙◌, ◌++◌, ◌∷◌, [], ap, List, ℕ}
 use Rattle.std.specs.Str.{chars}
 use Rattle.tcl_text.specs.ListCommands.{pieces_of}
 use Rattle.tcl_text.proofs.ListLemmas.{pieces-more, pieces-last}

@@ -1,4 +1,4 @@
-use Rattle.std.proofs.Common.{rules, arith, ◌∙◌, sym, List, ℕ, subst}
+use Rattle.std.proofs.Common.{arith, ◌∙◌, sym, List, ℕ, subst}
 use Rattle.std.specs.Str.{chars}
 use Rattle.std.proofs.lemmas.Bool.Decides.{nat_tests}
 use Rattle.tcl_text.specs.Answers.{Gives, answers}

@@ -1,4 +1,4 @@
-use Rattle.std.proofs.Common.{rules, arith, ◌∙◌, sym, ap, length, Some, List, ℕ}
+use Rattle.std.proofs.Common.{arith, ◌∙◌, ap, length, Some, List, ℕ}
 use Rattle.std.specs.Str.{chars}
 use Rattle.std.proofs.lemmas.Bool.Decides.{nat_tests}
 use Rattle.tcl_text.proofs.FindLemmas.{OccursAt-boundary}

@@ -1,4 +1,4 @@
-use Rattle.std.proofs.Common.{◌+◌, ◌≤◌, length, arith, sym}
+use Rattle.std.proofs.Common.{◌+◌, ◌≤◌, length, arith}
 use Rattle.tcl_words.proofs.Readers.{popped_as, ending_as}
 use Rattle.tcl_words.proofs.nesting.Reader.end_within.Goals as goal
 

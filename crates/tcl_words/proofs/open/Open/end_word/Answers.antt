@@ -1,4 +1,4 @@
-use Rattle.std.proofs.Common.{◌≡◌, refl, sym}
+use Rattle.std.proofs.Common.{refl}
 use Rattle.tcl_words.proofs.Ends.{words_end-append}
 use Rattle.tcl_words.proofs.open.Open.end_word.Goals as goal
 

@@ -1,6 +1,7 @@
 //! A few outside commands: enough to see each kind of act, and tasks of several steps and scripts.
 ghost use Rattle.std.specs.Prelude.{◌≡◌, ◌≤◌, length, IfOk};
 ghost use Rattle.interpreter_tables.specs.Sample.{alone_act, resumed_act, sample_act};
+ghost use Rattle.tcl_text.specs.Limits.{most_bytes};
 
 use std::alloc::{AllocError, Global};
 use tcl_control::texts::fixed;
@@ -10,7 +11,7 @@ use tcl_vars::Scopes;
 use tcl_words::{ParseFault, Script, parse};
 
 fn done(alloc: Global, code: Code, text: &str) -> Result<Act<u64>, AllocError>
-    requires { length text.now ≤ 65536 }
+    requires { length text.now ≤ most_bytes }
     ensures { IfOk result (λ act. act ≡ Act.Done code text.now) }
 {
     Ok(Act::Done(code, fixed(alloc, text)?))

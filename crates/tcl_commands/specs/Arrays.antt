@@ -16,6 +16,7 @@ use Rattle.tcl_commands.specs.Done.{Done, keeps, one_done, each_done, pairs}
 use Rattle.tcl_commands.specs.Texts.{cannot_set, missing_value}
 use Rattle.tcl_commands.specs.Unset.{unset_told, unset_step}
 use Rattle.tcl_commands.specs.Usages.{usage_text}
+use Rattle.tcl_text.specs.Limits.{most_bytes}
 
 -- the elements of what a name means
 abbrev pub elements_named : ℕ → List ℕ → Store → Table (List ℕ)
@@ -90,7 +91,7 @@ set_told name (Err fault) = cannot_set name fault
 -- the element of a key is set to the value beside it. A name that would be too long can't be set
 abbrev pub set_element : ℕ → List ℕ → List ℕ × List ℕ → Store → Result Store (List ℕ)
 set_element level name pair store =
-    if nat_le (length (element_name name pair.0)) 65536
+    if nat_le (length (element_name name pair.0)) most_bytes
     then set_told (element_name name pair.0) (with_element store level name pair.0 pair.1)
     else Err limit_text
 

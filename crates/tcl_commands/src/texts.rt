@@ -2,6 +2,7 @@
 ghost use Rattle.std.specs.Prelude.{◌≡◌, ◌≤◌, [], ◌++◌, length, Ok, IfOk, string_bytes};
 ghost use Rattle.tcl_text.specs.Answers.{Gives, Refuses, bounded, quoted};
 ghost use Rattle.tcl_commands.specs.Texts as spec;
+ghost use Rattle.tcl_text.specs.Limits.{most_bytes};
 
 use std::alloc::{AllocError, Global};
 use tcl_text::answers::{Refusal, error, quoting_error};
@@ -86,7 +87,7 @@ pub fn empty_answer(alloc: Global) -> Result<Text, Refusal>
 
 /// A text of characters that are known to be few enough.
 pub fn short_text(alloc: Global, characters: &str) -> Result<Text, AllocError>
-    requires { length characters.now ≤ 65536 }
+    requires { length characters.now ≤ most_bytes }
     ensures { IfOk result (λ text. text ≡ characters.now) }
 {
     match Text::new(alloc, characters) {

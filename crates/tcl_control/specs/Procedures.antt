@@ -16,6 +16,7 @@ use Rattle.tcl_table.specs.Levels.{popped}
 use Rattle.tcl_table.specs.Names.{is_dotted, plain_name}
 use Rattle.tcl_table.specs.Table.{Table, is_procedure, procedure_count, value_at, with_value, without}
 use Rattle.tcl_table.specs.Texts.{about, limit_text, message, wrong_words}
+use Rattle.tcl_text.specs.Limits.{most_bytes, most_procedures}
 
 -- ── calls ──
 
@@ -39,7 +40,7 @@ value_for fallback (word ∷ words) = word
 
 abbrev pub rest_set : ℕ → List ℕ → Store → List ℕ → Assigned
 rest_set level name store form =
-    if nat_le (length form) 65536 then on_set name store done (with_variable store level name form)
+    if nat_le (length form) most_bytes then on_set name store done (with_variable store level name form)
     else record { store = store; refused = Some limit_text }
 
 -- the parameters are given their words, up to the first that is refused
@@ -88,7 +89,7 @@ holds_procedure (Some command) = is_procedure command
 
 -- at most 1,024 procedures
 abbrev pub has_room : Table → List ℕ → Bool
-has_room table name = holds_procedure (value_at table name) || nat_lt (procedure_count table) 1024
+has_room table name = holds_procedure (value_at table name) || nat_lt (procedure_count table) most_procedures
 
 abbrev pub cannot_use : List ℕ → List ℕ
 cannot_use name = about (codes "can't use name \"") name

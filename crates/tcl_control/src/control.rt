@@ -7,6 +7,7 @@ ghost use Rattle.tcl_vars.specs.Store.{with_variable};
 ghost use Rattle.tcl_control.specs.Commands.{code_number, stored_ending, caught_ending, break_plan, catch_plan, continue_plan, error_plan, eval_plan, expr_plan, for_plan, foreach_plan, info_plan, return_plan, texts_plan, uplevel_plan, while_plan, fails, misused, on_joined, code_of, code_of_integer, code_numbered, unsigned_of, absolute, relative, runs_up, uplevel_usage, returns_as, returns_code, is_level, levels_left, runs_at, level_plan, exists_plan};
 ghost use Rattle.tcl_vars.specs.Store.{Store};
 ghost use Rattle.tcl_control.specs.Control.{recorded_plan, proc_call, rename_call, builtin_call, by_command, call_of, keeps};
+ghost use Rattle.tcl_text.specs.Limits.{most_bytes};
 
 use crate::choices::{if_plan, switch_plan};
 use crate::code::{Code, ReturnCode};
@@ -584,7 +585,7 @@ pub fn call_command(
 
 fn code_number(code: Code) -> &'static str
     ensures number { result.now ≡ code_number code }
-    ensures short { length result.now ≤ 65536 }
+    ensures short { length result.now ≤ most_bytes }
 {
     match code {
         Code::Normal => "0",

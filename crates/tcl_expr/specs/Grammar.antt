@@ -23,6 +23,7 @@ use Rattle.tcl_expr.specs.Faults.{script_fault}
 use Rattle.tcl_expr.specs.Operators.{level_of, between}
 use Rattle.tcl_expr.specs.Tokens.{mark_of, begins_newline, link_at, is_name_byte, begins_name_byte, ends_number}
 use Rattle.tcl_expr.specs.Trees.{Tree, Integer, Plain, Variable, Element, Command, Joined, Unary, Choice}
+use Rattle.tcl_text.specs.Limits.{most_bytes, most_nested}
 
 -- ── what stands between operands and operators ──
 
@@ -232,12 +233,12 @@ whole_of (fails fault) = Err fault
 
 -- an expression's text: at most 65,536 bytes of UTF-8
 abbrev pub IsText : List ℕ → Type 0
-IsText text = (length text ≤ 65536) × IsUtf8 text
+IsText text = (length text ≤ most_bytes) × IsUtf8 text
 
 -- The text as a whole is of this tree, or has this fault, as the levels of operators cut it. At most 200 parentheses, brackets and
 -- indices stand in one another.
 abbrev pub IsWholeExpr : List ℕ → Result Tree ExprFault → Type 0
-IsWholeExpr text whole = (ending : ExprEnding) × IsExpr 200 0 text ending × (stops ending ≡ true) × (whole_of ending ≡ whole)
+IsWholeExpr text whole = (ending : ExprEnding) × IsExpr most_nested 0 text ending × (stops ending ≡ true) × (whole_of ending ≡ whole)
 
 -- The text is an expression with this tree.
 pub record IsTreeOf (text : List ℕ) (tree : Tree) : Type 0 where

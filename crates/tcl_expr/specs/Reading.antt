@@ -24,6 +24,7 @@ use Rattle.tcl_expr.specs.Substitution.{piece_tree, text_tree}
 use Rattle.tcl_words.specs.Operands.{bracket_of, substitution_of, quoted_of}
 use Rattle.tcl_words.specs.declared.script.Piece.{Piece}
 use Rattle.tcl_words.specs.declared.fault.ParseFault.{ParseFault}
+use Rattle.tcl_text.specs.Limits.{most_bytes, most_nested}
 
 -- ── what stands open ──
 
@@ -97,7 +98,7 @@ abbrev pub at_sign : UnaryOperator → List Opened → Result Move ExprFault
 at_sign operator opened = move 0 AtOperand (Before operator ∷ opened)
 
 abbrev pub at_paren : List Opened → Result Move ExprFault
-at_paren opened = if nat_lt (parens opened) 200 then move 0 AtOperand (Paren ∷ opened) else Err TooLong
+at_paren opened = if nat_lt (parens opened) most_nested then move 0 AtOperand (Paren ∷ opened) else Err TooLong
 
 abbrev pub at_number : ℕ → List Opened → List ℕ → Result Move ExprFault
 at_number n opened text = if ends_number (drop n text) then move (n - 1) (AtOperator (Integer (take n text))) opened else Err Syntax
@@ -111,7 +112,7 @@ at_word n opened text = word_or_fault n opened (take n text) (boolean_of (take n
 
 -- how many parentheses, brackets and indices may still be opened in one another
 abbrev pub room_in : List Opened → ℕ
-room_in opened = 200 - parens opened
+room_in opened = most_nested - parens opened
 
 abbrev pub with_operand : ℕ → List Opened → Result Tree ExprFault → Result Move ExprFault
 with_operand skip opened (Ok tree) = move skip (AtOperator tree) opened
@@ -232,7 +233,7 @@ reading zero place opened (b ∷ text) = on_move (move_of place opened (b ∷ te
 
 -- The tree of a text, or its fault.
 unfoldable pub tree_of : List ℕ → Result Tree ExprFault
-tree_of text = if nat_lt 65536 (length text) then Err TooLong else if not (is_utf8 text) then Err TooLong else reading 0 AtOperand [] text
+tree_of text = if nat_lt most_bytes (length text) then Err TooLong else if not (is_utf8 text) then Err TooLong else reading 0 AtOperand [] text
 
 -- and its steps
 abbrev pub compiled_by : Result Tree ExprFault → Result (List Step) ExprFault

@@ -10,6 +10,7 @@ use Rattle.tcl_expr.specs.declared.value.Value.{Value}
 use Rattle.tcl_expr.specs.declared.value.Value.TheVariants.{Number, Words}
 use Rattle.tcl_expr.specs.Values.{truth_value, text_of, unary_value, binary_value}
 use Rattle.tcl_expr.specs.Run.{Run, AsksVariable, AsksElement, AsksCommand, Ends, on_result, on_truth}
+use Rattle.tcl_text.specs.Limits.{most_bytes}
 
 pub data Tree : Type 0 where
   -- an integer as it is spelled
@@ -37,7 +38,7 @@ literal spelling None = Err Overflow
 
 -- two texts, one after the other
 abbrev pub joined : Value → Value → Result Value EvalFault
-joined x y = if nat_le (length (text_of x ++ text_of y)) 65536 then Ok (Words (text_of x ++ text_of y)) else Err TooLong
+joined x y = if nat_le (length (text_of x ++ text_of y)) most_bytes then Ok (Words (text_of x ++ text_of y)) else Err TooLong
 
 -- The value of a tree, and what it leads to. Operands come from the left to the right; `&&`, `||` and a choice take only those that they need.
 abbrev pub value : Tree → (Value → Run) → Run

@@ -1,6 +1,7 @@
 //! A text in braces, where only a backslash before a newline is substituted.
 ghost use Rattle.std.specs.Prelude.{◌≡◌, ◌⊎◌, ◌≤◌, ◌<◌, ◌+◌, ◌++◌, length, true, IfOk, IfErr, OnOk, Ok, Err};
 ghost use Rattle.tcl_expr.specs.Braces as braces;
+ghost use Rattle.tcl_text.specs.Limits.{most_bytes};
 
 use crate::fault::ExprFault;
 use std::alloc::{AllocError, Global};
@@ -30,7 +31,7 @@ fn place_behind(place: BracePlace, byte: u8) -> BracePlace
 
 /// How many braces more are open behind a byte.
 fn depth_behind(place: BracePlace, depth: usize, byte: u8) -> usize
-    requires { depth < 65536 }
+    requires { depth < most_bytes }
     ensures depth { result ≡ braces.depth_behind place depth byte }
     ensures most { result ≤ depth + 1 }
 {
@@ -71,7 +72,7 @@ fn push_byte(bytes: &mut Vec<u8>, place: BracePlace, byte: u8) -> Result<(), All
 
 /// What a text stands for up to the brace that closes, and how many bytes stand before that.
 pub fn braced(alloc: Global, text: &[u8]) -> Result<(Vec<u8>, usize), ExprFault>
-    requires { length text.now ≤ 65536 }
+    requires { length text.now ≤ most_bytes }
     ensures found { IfOk result (λ found. braces.braced BracePlace.Plain 0 text.now ≡ Ok (found.0.items, found.1)) }
     ensures short { IfOk result (λ found. length found.0.items ≤ found.1) }
     ensures within { IfOk result (λ found. found.1 < length text.now) }

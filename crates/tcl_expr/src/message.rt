@@ -2,6 +2,7 @@
 ghost use Rattle.std.specs.Prelude.{◌≡◌, ◌≤◌, ◌++◌, length, codes, IfOk};
 ghost use Rattle.tcl_expr.specs.Messages.{message, limit_text, unary_name, arithmetic_name, operator_name};
 ghost use Rattle.tcl_text.specs.Splitting.{fault_text};
+ghost use Rattle.tcl_text.specs.Limits.{most_bytes};
 
 use crate::fault::{EvalFault, ExprFault};
 use crate::operators::{ArithmeticOperator, NumberOperator, UnaryOperator};
@@ -10,7 +11,7 @@ use tcl_text::{ListFault, Text, TextFault};
 
 /// A text of these characters, which are few enough.
 fn fixed(alloc: Global, characters: &str) -> Result<Text, AllocError>
-    requires { length characters.now ≤ 65536 }
+    requires { length characters.now ≤ most_bytes }
     ensures { IfOk result (λ text. text ≡ characters.now) }
 {
     match Text::new(alloc, characters) {
@@ -79,7 +80,7 @@ fn operator_name(operator: NumberOperator) -> &'static str
 
 fn list_message(fault: ListFault) -> &'static str
     ensures text { result.now ≡ fault_text fault }
-    ensures short { length result.now ≤ 65536 }
+    ensures short { length result.now ≤ most_bytes }
 {
     match fault {
         ListFault::OpenBrace => "unmatched open brace in list",

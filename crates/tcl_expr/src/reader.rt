@@ -9,6 +9,7 @@ ghost use Rattle.tcl_expr.specs.Counts as counts;
 ghost use Rattle.tcl_expr.specs.Tokens as tokens;
 ghost use Rattle.tcl_expr.specs.Braces.{braced as braced_text};
 ghost use Rattle.tcl_expr.specs.declared.braces.BracePlace.TheVariants.{Plain};
+ghost use Rattle.tcl_text.specs.Limits.{most_bytes, most_nested};
 
 use crate::braces::braced;
 use crate::fault::ExprFault;
@@ -29,7 +30,7 @@ const MAX_DEPTH: usize = 200;
 
 /// The text of some bytes, which are characters.
 fn text_of(alloc: Global, bytes: &[u8]) -> Result<Text, ExprFault>
-    requires short { length bytes.now ≤ 65536 }
+    requires short { length bytes.now ≤ most_bytes }
     requires utf8 { IsUtf8 bytes.now }
     ensures ok { IfOk result (λ text. text ≡ bytes.now) }
     ensures err { IfErr result (λ fault. fault ≡ ExprFault.NoMemory) }
@@ -80,7 +81,7 @@ fn take_paren(parser: &mut Parser) -> Result<usize, ExprFault>
 
 /// An integer.
 fn take_number(alloc: Global, parser: &mut Parser, text: &[u8]) -> Result<usize, ExprFault>
-    requires { length text.now ≤ 65536 }
+    requires { length text.now ≤ most_bytes }
     ensures { standing.Takes parser.old result parser.new (λ before. reading.at_number (counts.number_length text.now) before text.now) }
 {
     let count = number_length(text);
@@ -94,7 +95,7 @@ fn take_number(alloc: Global, parser: &mut Parser, text: &[u8]) -> Result<usize,
 
 /// A boolean word.
 fn take_word(alloc: Global, parser: &mut Parser, text: &[u8]) -> Result<usize, ExprFault>
-    requires { length text.now ≤ 65536 }
+    requires { length text.now ≤ most_bytes }
     ensures { standing.Takes parser.old result parser.new (λ before. reading.at_word (counts.name_bytes text.now) before text.now) }
 {
     let count = name_bytes(text);
@@ -110,8 +111,8 @@ fn take_word(alloc: Global, parser: &mut Parser, text: &[u8]) -> Result<usize, E
 
 /// How many parentheses, brackets and indices may still be opened in one another.
 fn room_in(parser: &Parser) -> usize
-    ensures room { result ≡ 200 - parser.now.parens }
-    ensures most { result ≤ 200 }
+    ensures room { result ≡ most_nested - parser.now.parens }
+    ensures most { result ≤ most_nested }
 {
     MAX_DEPTH.saturating_sub(parser.parens)
 }
@@ -123,7 +124,7 @@ fn take_dollar(
     source: &str,
     at: usize,
 ) -> Result<usize, ExprFault>
-    requires short { length source.now ≤ 65536 }
+    requires short { length source.now ≤ most_bytes }
     requires within { at < length source.now }
     requires ascii { slice_index source.now at < 128 }
     ensures { standing.Takes parser.old result parser.new (λ before. reading.at_dollar before (drop (at + 1) source.now)) }
@@ -144,7 +145,7 @@ fn take_bracket(
     source: &str,
     at: usize,
 ) -> Result<usize, ExprFault>
-    requires short { length source.now ≤ 65536 }
+    requires short { length source.now ≤ most_bytes }
     requires within { at < length source.now }
     requires ascii { slice_index source.now at < 128 }
     ensures { standing.Takes parser.old result parser.new (λ before. reading.at_bracket before (drop (at + 1) source.now)) }
@@ -163,7 +164,7 @@ fn take_quotes(
     source: &str,
     at: usize,
 ) -> Result<usize, ExprFault>
-    requires short { length source.now ≤ 65536 }
+    requires short { length source.now ≤ most_bytes }
     requires within { at < length source.now }
     requires ascii { slice_index source.now at < 128 }
     ensures { standing.Takes parser.old result parser.new (λ before. reading.at_quote before (drop (at + 1) source.now)) }
@@ -178,7 +179,7 @@ fn take_quotes(
 /// A text in braces, behind the opening one.
 #[tactic(auto, using(crate::proofs::OperandBytes::found_utf8))]
 fn take_braces(alloc: Global, parser: &mut Parser, behind: &[u8]) -> Result<usize, ExprFault>
-    requires short { length behind.now ≤ 65536 }
+    requires short { length behind.now ≤ most_bytes }
     requires utf8 { IsUtf8 behind.now }
     ensures { standing.Takes parser.old result parser.new (λ before. reading.at_brace before (braced_text Plain 0 behind.now)) }
 {
@@ -195,7 +196,7 @@ fn take_operand(
     source: &str,
     at: usize,
 ) -> Result<usize, ExprFault>
-    requires short { length source.now ≤ 65536 }
+    requires short { length source.now ≤ most_bytes }
     requires within { at < length source.now }
     ensures { standing.Takes parser.old result parser.new (standing.operand_at (drop at source.now)) }
 {
@@ -265,7 +266,7 @@ fn take_token(
     source: &str,
     at: usize,
 ) -> Result<usize, ExprFault>
-    requires short { length source.now ≤ 65536 }
+    requires short { length source.now ≤ most_bytes }
     requires within { at < length source.now }
     ensures { standing.TakesToken parser.old result parser.new (drop at source.now) }
 {
@@ -312,7 +313,7 @@ fn finish(parser: Parser) -> Result<Vec<Step>, ExprFault>
 
 /// The steps of a text's tree, in one pass over its bytes.
 pub fn read_all(alloc: Global, source: &str) -> Result<Vec<Step>, ExprFault>
-    requires { length source.now ≤ 65536 }
+    requires { length source.now ≤ most_bytes }
     ensures steps { IfOk result (λ steps. reading.compiled_by (reading.reading 0 reading.AtOperand [] source.now) ≡ Ok steps.items) }
     ensures fault { IfErr result (λ fault. standing.IsFaultOrMemory (reading.reading 0 reading.AtOperand [] source.now) fault) }
 {

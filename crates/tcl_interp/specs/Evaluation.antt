@@ -18,6 +18,7 @@ use Rattle.tcl_control.specs.declared.code.Code.TheVariants.{Normal, Error}
 use Rattle.tcl_control.specs.declared.context.Context.{Context}
 use Rattle.tcl_control.specs.Levels.{here}
 use Rattle.tcl_control.specs.Texts.{limit_text, message, cannot_read, element_name}
+use Rattle.tcl_text.specs.Limits.{most_bytes, most_nested}
 
 -- What the object of the outside commands shows, the variables, the levels and the commands, and how many steps are left.
 pub record State (S : Type 0) : Type 0 where
@@ -63,7 +64,7 @@ with_value_of name state after = on_read name state after (variable_in state.sto
 
 -- with the text so far of a word and one piece more, where that isn't too long for a value
 abbrev pub with_joined : {S : Type 0} → List ℕ → List ℕ → State S → (State S → List ℕ → Outcome S) → Outcome S
-with_joined so_far text state after = if nat_le (length (so_far ++ text)) 65536 then after state (so_far ++ text) else Ended state Error limit_text
+with_joined so_far text state after = if nat_le (length (so_far ++ text)) most_bytes then after state (so_far ++ text) else Ended state Error limit_text
 
 -- The words that a word's text gives: itself, or the elements of the list that it is, where `{*}` stands before it.
 abbrev pub split_words : Result (List (List ℕ)) ListFault → Result (List (List ℕ)) (List ℕ)
@@ -107,7 +108,7 @@ module _ {S : Type 0} (run : List ℕ → State S → Outcome S) (element : List
 
 -- how many indices stand in one another at most, in a script that can be read
 unfoldable pub index_depth : ℕ
-index_depth = 200
+index_depth = most_nested
 
 module _ {S : Type 0} (run : List ℕ → State S → Outcome S) where
   -- An element: its index is put together, and then it is read. No script is read where more than so many indices stand in one another.

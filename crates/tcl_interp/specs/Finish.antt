@@ -13,6 +13,7 @@ use Rattle.tcl_interp.specs.Evaluation.{State, Outcome, Ended, OutOfSteps, and_t
 use Rattle.tcl_interp.specs.Expressions.{value_ended, on_value, if_holds, run_meaning, otherwise_meaning, choices_meaning}
 use Rattle.tcl_interp.specs.Plans.{levels_back, procedure_ended, caught, loop_ended, after_body, after_next, next_turn, turn_meaning, loop_meaning}
 use Rattle.tcl_interp.specs.Scripts.{script_meaning, call_meaning, task_meaning, after_step, out_of_global}
+use Rattle.tcl_text.specs.Limits.{most_running}
 
 -- a command whose words are being put together: the commands after it, the words that are whole, what there is of the next
 -- one, whether that is a list of words, and what is left of it and after it
@@ -87,11 +88,11 @@ pub data Rest (K : Type 0) : Type 0 where
 
 -- a script alone at global level, with room for 200 scripts one in another
 abbrev pub rest_of_script : {K : Type 0} → List ℕ → Rest K
-rest_of_script text = Running (Begins 200 text) (ForAll ∷ [])
+rest_of_script text = Running (Begins most_running text) (ForAll ∷ [])
 
 -- a task alone
 abbrev pub rest_of_task : {K : Type 0} → K → Rest K
-rest_of_task task = Running (Resumes 200 task Normal []) []
+rest_of_task task = Running (Resumes most_running task Normal []) []
 
 -- how a script at global level ends: there is no loop around it, and a return has become its -code
 abbrev pub at_global : {S : Type 0} → State S → Code → List ℕ → Outcome S

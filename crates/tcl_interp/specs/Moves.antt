@@ -36,6 +36,7 @@ use Rattle.tcl_interp.specs.Evaluation.{index_pieces, index_depth, words_of}
 use Rattle.tcl_interp.specs.Plans.{cut, others, joined, callers, procedure_code, procedure_text}
 use Rattle.tcl_interp.specs.Scripts.{out_of_global}
 use Rattle.tcl_interp.specs.Finish.{Wording, Indexing, Doing, Begins, GoesOn, Indexes, Evaluates, Calls, Tests, Steps, Resumes, Ends, Waiting, ForCommand, ForPart, ForIndex, ForValue, ForTest, ForChoice, ForBody, ForNext, ForStart, ForCatch, ForLevels, ForProcedure, ForScript, ForAll}
+use Rattle.tcl_text.specs.Limits.{most_bytes}
 
 -- what is done, and what waits
 pub record Moved (K : Type 0) : Type 0 where
@@ -79,7 +80,7 @@ pub data WordEnd : Type 0 where
   AtPart : Part → List Piece → List ℕ → WordEnd
 
 abbrev pub join_end : List ℕ → List ℕ → (List ℕ → WordEnd) → WordEnd
-join_end so_far text go = if nat_le (length (so_far ++ text)) 65536 then go (so_far ++ text) else Failed limit_text
+join_end so_far text go = if nat_le (length (so_far ++ text)) most_bytes then go (so_far ++ text) else Failed limit_text
 
 abbrev pub piece_end : PieceText → List Piece → List ℕ → (List ℕ → WordEnd) → WordEnd
 piece_end (Plain text) pieces so_far go = join_end so_far text go
@@ -219,7 +220,7 @@ module _ {K : Type 0} where
 
   -- an index with one piece more
   abbrev pub longer_index : Indexing → List ℕ → Doing K
-  longer_index x text = if nat_le (length (x.so_far ++ text)) 65536 then Indexes (record x { so_far = x.so_far ++ text }) else Ends Error limit_text
+  longer_index x text = if nat_le (length (x.so_far ++ text)) most_bytes then Indexes (record x { so_far = x.so_far ++ text }) else Ends Error limit_text
 
   abbrev pub after_index : Indexing → List (Waiting K) → Code → List ℕ → Moved K
   after_index x waits Normal text = moved (longer_index x text) waits

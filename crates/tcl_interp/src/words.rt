@@ -6,6 +6,7 @@ ghost use Rattle.tcl_control.specs.Texts.{element_name};
 ghost use Rattle.tcl_interp.specs.Evaluation.{index_depth, split_words, words_of};
 ghost use Rattle.tcl_interp.specs.Moves.{with_more, piece_text, word_end, called_move, words_move, element_begins, element_end, indexes_move, longer_index, part_begins, part_move, word_part, go_on_move};
 ghost use Rattle.tcl_interp.specs.Rests.{commands_in, doing_of, expand_in_front, indexing_of, IsSingle, left_in, moved_of, part_of, pieces_in, pieces_in_front, put_end, value_of, waiting_of, waits_of, wording_of, words_in_front};
+ghost use Rattle.tcl_text.specs.Limits.{most_bytes};
 
 use crate::machine::{Frame, Indexing, Now, ScriptPlace, Wording};
 use std::alloc::{AllocError, Global};
@@ -70,7 +71,7 @@ fn piece_value(
 
 /// A word's text with one more piece, none where it is too long.
 fn joined(alloc: Global, so_far: Text, text: Text) -> Result<Option<Text>, AllocError>
-    ensures { IfOk result (λ joined. joined ≡ (if nat_le (length (so_far ++ text)) 65536 then Some (so_far ++ text) else None)) }
+    ensures { IfOk result (λ joined. joined ≡ (if nat_le (length (so_far ++ text)) most_bytes then Some (so_far ++ text) else None)) }
 {
     if so_far.as_str().is_empty() {
         let _short = text.as_str();

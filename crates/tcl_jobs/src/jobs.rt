@@ -2,6 +2,7 @@
 
 ghost use Rattle.std.specs.Prelude.{◌≡◌, ◌≤◌, length, IfOk};
 ghost use Rattle.tcl_jobs.specs.Tasks.{act_of, ended_told, global_act, looked_told, resumes_of, started_told};
+ghost use Rattle.tcl_text.specs.Limits.{most_bytes};
 
 use crate::job::{Looked, Started, Task};
 use std::alloc::{AllocError, Global};
@@ -107,7 +108,7 @@ fn go_on<T: Jobs>(
 
 /// A text of a few characters.
 fn short_text(alloc: Global, characters: &str) -> Result<Text, AllocError>
-    requires { length characters.now ≤ 65536 }
+    requires { length characters.now ≤ most_bytes }
     ensures { IfOk result (λ text. text ≡ characters.now) }
 {
     match Text::new(alloc, characters) {

@@ -1,13 +1,14 @@
 ghost use Rattle.std.specs.Prelude.{◌≡◌, ◌≤◌, length, IfOk};
 ghost use Rattle.tcl_text.specs.Splitting.{fault_text as list_text};
 ghost use Rattle.tcl_shapes.specs.Texts.{message};
+ghost use Rattle.tcl_text.specs.Limits.{most_bytes};
 
 use std::alloc::{AllocError, Global};
 use tcl_text::{ListFault, Text, TextFault};
 
 /// A text of these characters, which are few enough.
 pub fn fixed(alloc: Global, characters: &str) -> Result<Text, AllocError>
-    requires { length characters.now ≤ 65536 }
+    requires { length characters.now ≤ most_bytes }
     ensures { IfOk result (λ text. text ≡ characters.now) }
 {
     match Text::new(alloc, characters) {

@@ -3,6 +3,7 @@ ghost use Rattle.std.specs.Prelude.{◌≡◌, ◌≤◌, ◌++◌, length, IfOk
 ghost use Rattle.tcl_text.specs.Splitting.{fault_text as list_text};
 ghost use Rattle.tcl_words.specs.Faults.{text_of};
 ghost use Rattle.tcl_table.specs.Texts.{message, limit_text, read_reason, cannot_read, cannot_set, element_name, not_boolean, unknown_command, about};
+ghost use Rattle.tcl_text.specs.Limits.{most_bytes};
 
 use std::alloc::{AllocError, Global};
 use tcl_text::{ListFault, Text, TextFault};
@@ -11,7 +12,7 @@ use tcl_words::ParseFault;
 
 /// A text of these characters, which are 65,536 bytes at most.
 pub fn fixed(alloc: Global, characters: &str) -> Result<Text, AllocError>
-    requires { length characters.now ≤ 65536 }
+    requires { length characters.now ≤ most_bytes }
     ensures { IfOk result (λ text. text ≡ characters.now) }
 {
     match Text::new(alloc, characters) {

@@ -6,6 +6,7 @@ use Rattle.tcl_text.specs.declared.splitting.ListFault.{ListFault}
 use Rattle.tcl_text.specs.declared.splitting.ListFault.TheVariants.{OpenBrace, OpenQuote, ExtraCharacters}
 use Rattle.tcl_text.specs.declared.commands.answers.Refusal.{Refusal}
 use Rattle.tcl_text.specs.declared.commands.answers.Refusal.TheVariants.{Error, NoMemory}
+use Rattle.tcl_text.specs.Limits.{most_bytes}
 
 -- a command's result, or the text of its error
 abbrev pub Answer : Type 0
@@ -21,9 +22,13 @@ Err text >>= rest = Err text
 abbrev pub limit_text : List ℕ
 limit_text = codes "limit reached: value"
 
--- the text, or the limit's where it is past it
+-- the text of a message, or the limit's where it is past it
+abbrev pub message : List ℕ → List ℕ
+message text = if nat_le (length text) most_bytes then text else limit_text
+
+-- the same, by its name alone
 unfoldable pub bounded : List ℕ → List ℕ
-bounded text = if nat_le (length text) 65536 then text else limit_text
+bounded text = message text
 
 -- an error with this text
 abbrev pub fails : {T : Type 0} → List ℕ → Result T (List ℕ)
@@ -31,7 +36,7 @@ fails text = Err (bounded text)
 
 -- this result
 unfoldable pub answers : List ℕ → Answer
-answers text = if nat_le (length text) 65536 then Ok text else Err limit_text
+answers text = if nat_le (length text) most_bytes then Ok text else Err limit_text
 
 -- a text in quotation marks
 abbrev pub quoted : List ℕ → List ℕ

@@ -6,10 +6,11 @@ use Rattle.tcl_text.specs.declared.edit.Edit.{Edit}
 use Rattle.tcl_text.specs.declared.edit.Edit.TheVariants.{Characters, Items}
 use Rattle.tcl_text.specs.declared.edit.EditFault.{EditFault}
 use Rattle.tcl_text.specs.declared.edit.EditFault.TheVariants.{TooLong, BadList}
+use Rattle.tcl_text.specs.Limits.{most_bytes}
 
 -- a value, where it isn't too long
 unfoldable pub within_limit : List ℕ → Result (List ℕ) EditFault
-within_limit text = if nat_le (length text) 65536 then Ok text else Err TooLong
+within_limit text = if nat_le (length text) most_bytes then Ok text else Err TooLong
 
 -- the items of a list with more behind them
 abbrev pub with_more : List (List ℕ) → Result (List (List ℕ)) ListFault → Result (List (List ℕ)) EditFault

@@ -7,6 +7,7 @@ pub mod ListForm
 pub mod Readings
 pub mod ListFaults
 pub mod Faults
+pub mod Limits
 pub mod Answers
 pub mod Indices
 pub mod Commands

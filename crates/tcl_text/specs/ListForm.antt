@@ -5,11 +5,12 @@ use Rattle.tcl_text.specs.declared.list_form.ElementForm.{ElementForm}
 use Rattle.tcl_text.specs.declared.list_form.ElementForm.TheVariants.{Empty, Bare, Braced, Comment, Backslashed}
 use Rattle.tcl_text.specs.declared.text.TextFault.{TextFault}
 use Rattle.tcl_text.specs.declared.text.TextFault.TheVariants.{TooLong, NoMemory}
+use Rattle.tcl_text.specs.Limits.{most_bytes}
 
 -- the answer is the form, which is refused exactly where it is too long, unless memory was refused
 abbrev pub Joins : Result (List ℕ) TextFault → List ℕ → Type 0
-Joins (Ok text) form = (text ≡ form) × (length form ≤ 65536)
-Joins (Err TooLong) form = 65536 < length form
+Joins (Ok text) form = (text ≡ form) × (length form ≤ most_bytes)
+Joins (Err TooLong) form = most_bytes < length form
 Joins (Err NoMemory) form = ⊤
 
 -- no special byte stands before the place, and one stands there where it isn't the end

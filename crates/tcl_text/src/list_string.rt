@@ -3,6 +3,7 @@ ghost use Rattle.tcl_text.specs.ListCommands.{spliced};
 ghost use Rattle.tcl_text.specs.ListForm.{others_form};
 ghost use Rattle.tcl_text.specs.ListString.{AreEnds, ends_behind};
 ghost use Rattle.tcl_text.specs.Readings.{element_form, list_form};
+ghost use Rattle.tcl_text.specs.Limits.{most_bytes};
 
 use crate::list_form::push_element;
 use crate::splitting::first_element;
@@ -93,7 +94,7 @@ impl ListString {
     /// The list of these items. `TooLong` where its form passes 65,536 bytes; it stops soon after that.
     pub fn new(alloc: Global, items: &[Text]) -> Result<ListString, TextFault>
         ensures ok { IfOk result (λ list. list ≡ items.now) }
-        ensures too_long { IfErr result (λ fault. fault ≢ TextFault.NoMemory → 65536 < length (list_form items.now)) }
+        ensures too_long { IfErr result (λ fault. fault ≢ TextFault.NoMemory → most_bytes < length (list_form items.now)) }
     {
         let mut string = String::new(alloc);
         let mut ends = Vec::with_capacity(alloc, items.len())?;
@@ -105,7 +106,7 @@ impl ListString {
     /// The form of the list.
     pub fn as_str(&self) -> &str
         ensures form { result.now ≡ list_form self.now }
-        ensures short { length (list_form self.now) ≤ 65536 }
+        ensures short { length (list_form self.now) ≤ most_bytes }
     {
         let string = self.string.as_str();
         if string.is_empty() {
@@ -147,7 +148,7 @@ impl ListString {
     fn form(&self, number: usize) -> &str
         requires { number < length self.now }
         ensures value { result.now ≡ element_form (slice_index_or self.now number []) }
-        ensures short { length result.now ≤ 65536 }
+        ensures short { length result.now ≤ most_bytes }
     {
         let string = self.string.as_str();
         let start = self.place(number);
@@ -196,7 +197,7 @@ impl ListString {
         requires in_order { from ≤ to }
         requires within { to ≤ length self.now }
         ensures ok { IfOk result (λ list. list ≡ spliced self.now from to values.now) }
-        ensures too_long { IfErr result (λ fault. fault ≢ TextFault.NoMemory → 65536 < length (list_form (spliced self.now from to values.now))) }
+        ensures too_long { IfErr result (λ fault. fault ≢ TextFault.NoMemory → most_bytes < length (list_form (spliced self.now from to values.now))) }
     {
         let values = ListString::new(alloc, values)?;
         let mut list = self.part(alloc, 0, from)?;
@@ -258,7 +259,7 @@ impl ListString {
         items: &[Text],
     ) -> Result<(), TextFault>
         ensures ok { OnOk result (list.new.value ≡ list.old.value ++ items.now) }
-        ensures too_long { IfErr result (λ fault. fault ≢ TextFault.NoMemory → 65536 < length (list_form (list.old.value ++ items.now))) }
+        ensures too_long { IfErr result (λ fault. fault ≢ TextFault.NoMemory → most_bytes < length (list_form (list.old.value ++ items.now))) }
         ensures err { OnErr result (list.new.value ≡ list.old.value) }
     {
         let more = ListString::new(alloc, items)?;

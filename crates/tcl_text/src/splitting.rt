@@ -3,6 +3,7 @@ ghost use Rattle.tcl_text.specs.Backslash as backslash;
 ghost use Rattle.tcl_text.specs.Escaped.{bytes_meant};
 ghost use Rattle.tcl_text.specs.Readings as readings;
 ghost use Rattle.tcl_text.specs.Splitting.{FindsBrace, GivesBehind, GivesElement, GivesItem, IsAtEnd, IsAtStop, KeepsBalance, ReadsTo, Splits, StepsInBraces, Unescapes, ends, is_behind_element, begins_bare, fault_text, within};
+ghost use Rattle.tcl_text.specs.Limits.{most_bytes};
 
 use crate::backslash::{Meaning, escape_behind};
 use crate::list::TextList;
@@ -205,7 +206,7 @@ fn unescaped(alloc: Global, text: &[u8], quoted: bool) -> Result<(Vec<u8>, usize
 
 /// What an element in quotes or a bare one is, and how many bytes it is written in up to its end.
 fn item_in(alloc: Global, text: &str, quoted: bool) -> Result<(Text, usize), AllocError>
-    requires { length text.now ≤ 65536 }
+    requires { length text.now ≤ most_bytes }
     ensures read { IfOk result (λ r. Unescapes quoted text.now r.0 r.1) }
     ensures end { IfOk result (λ r. IsAtEnd quoted text.now r.1) }
 {
@@ -244,7 +245,7 @@ fn behind_closing(text: &str, at: usize) -> Option<&str>
 
 /// The item that stands in braces, from behind the opening one, and the text behind it.
 fn braced(alloc: Global, text: &str) -> Result<(Text, &str), SplitFault>
-    requires { length text.now ≤ 65536 }
+    requires { length text.now ≤ most_bytes }
     ensures { GivesItem (readings.in_braces 0) text.now result }
 {
     let Some(length) = braced_len(text.as_bytes()) else {
@@ -258,7 +259,7 @@ fn braced(alloc: Global, text: &str) -> Result<(Text, &str), SplitFault>
 
 /// The item that stands in quotes, from behind the opening one, and the text behind it.
 fn quoted(alloc: Global, text: &str) -> Result<(Text, &str), SplitFault>
-    requires { length text.now ≤ 65536 }
+    requires { length text.now ≤ most_bytes }
     ensures { GivesItem readings.in_quotes text.now result }
 {
     let (item, length) = item_in(alloc, text, true)?;
@@ -274,7 +275,7 @@ fn quoted(alloc: Global, text: &str) -> Result<(Text, &str), SplitFault>
 /// The bare item in front, and the text behind it.
 fn bare(alloc: Global, text: &str) -> Result<(Text, &str), SplitFault>
     requires some { 0 < length text.now }
-    requires short { length text.now ≤ 65536 }
+    requires short { length text.now ≤ most_bytes }
     requires begins { begins_bare (backslash.kind_of (slice_index text.now 0)) ≡ true }
     ensures { GivesElement text.now result }
 {
@@ -285,7 +286,7 @@ fn bare(alloc: Global, text: &str) -> Result<(Text, &str), SplitFault>
 /// The first element of a list, and the text behind it.
 pub fn first_element(alloc: Global, text: &str) -> Result<(Text, &str), SplitFault>
     requires some { 0 < length text.now }
-    requires short { length text.now ≤ 65536 }
+    requires short { length text.now ≤ most_bytes }
     requires black { backslash.is_white (slice_index text.now 0) ≡ false }
     ensures { GivesElement text.now result }
 {
@@ -306,7 +307,7 @@ fn trimmed(text: &str) -> &str
 
 /// The items of the list that the text is.
 pub fn items_of(alloc: Global, text: &str) -> Result<TextList, SplitFault>
-    requires { length text.now ≤ 65536 }
+    requires { length text.now ≤ most_bytes }
     ensures { Splits result (readings.list_of text.now) }
 {
     let mut items = TextList::new(alloc);

@@ -3,6 +3,7 @@ ghost use Rattle.std.specs.Fmt.{signed_decimal};
 ghost use Rattle.tcl_text.specs.Answers.{bounded};
 ghost use Rattle.tcl_text.specs.Edit.{with_more, written_anew};
 ghost use Rattle.tcl_text.specs.Readings.{list_form, list_of};
+ghost use Rattle.tcl_text.specs.Limits.{most_bytes};
 
 use crate::edit::EditFault;
 use crate::list_string::ListString;
@@ -90,16 +91,18 @@ impl Model for Text {
     ghost Value = { List ℕ };
 
     ghost use Rattle.tcl_text.specs.TextForm.{form_bytes};
+    ghost use Rattle.tcl_text.specs.Limits.{most_bytes};
 
     ghost view = { λ t. form_bytes t.form };
 
-    ghost invariant = { λ t. length (form_bytes t.form) ≤ 65536 };
+    ghost invariant = { λ t. length (form_bytes t.form) ≤ most_bytes };
 }
 
 impl TextForm {
     ghost use Rattle.tcl_text.specs.Edit.{with_more, written_anew};
     ghost use Rattle.tcl_text.specs.Readings.{list_form, list_of};
     ghost use Rattle.tcl_text.specs.TextForm.{form_bytes};
+    ghost use Rattle.tcl_text.specs.Limits.{most_bytes};
 
     /// These characters, which it takes over.
     fn of(alloc: Global, string: String) -> Result<TextForm, AllocError>
@@ -114,7 +117,7 @@ impl TextForm {
     /// The form of this list, which it takes over.
     fn of_list(alloc: Global, list: ListString) -> Result<TextForm, AllocError>
         ensures form { IfOk result (λ form. form_bytes form ≡ list_form list) }
-        ensures short { length (list_form list) ≤ 65536 }
+        ensures short { length (list_form list) ≤ most_bytes }
     {
         let form = list.as_str();
         if form.len() <= SHORT_BYTES {
@@ -164,13 +167,13 @@ impl TextForm {
     /// Adds items to a text that was made as a list; in place, where no copy shares it. False, and nothing is done, for another text.
     #[tactic(auto, using(crate::proofs::EditLemmas::kept_lists))]
     fn push_items(&mut self, alloc: Global, items: &[Text]) -> Result<bool, TextFault>
-        requires { length (form_bytes self.old) ≤ 65536 }
+        requires { length (form_bytes self.old) ≤ most_bytes }
         ensures ok { IfOk result (λ done. MatchBool done
             (written_anew (with_more items.now (list_of (form_bytes self.old))) ≡ Ok (form_bytes self.new))
             (form_bytes self.new ≡ form_bytes self.old)) }
         ensures too_long { IfErr result (λ fault. fault ≢ TextFault.NoMemory → written_anew (with_more items.now (list_of (form_bytes self.old))) ≡ Err EditFault.TooLong) }
         ensures err { OnErr result (form_bytes self.new ≡ form_bytes self.old) }
-        ensures short { length (form_bytes self.new) ≤ 65536 }
+        ensures short { length (form_bytes self.new) ≤ most_bytes }
     {
         match self {
             TextForm::Listed(list) => {
@@ -202,7 +205,7 @@ impl Text {
     /// A text of these characters. `TooLong` (4) where they are more than 65,536 bytes.
     pub fn new(alloc: Global, characters: &str) -> Result<Text, TextFault>
         ensures ok { IfOk result (λ text. text ≡ characters.now) }
-        ensures too_long { IsErrOf result TextFault.TooLong ↔ (65536 < length characters.now) }
+        ensures too_long { IsErrOf result TextFault.TooLong ↔ (most_bytes < length characters.now) }
     {
         if characters.len() > MAX_BYTES {
             return Err(TextFault::TooLong);
@@ -212,7 +215,7 @@ impl Text {
 
     /// A text of characters that are known to be 65,536 bytes at most.
     pub fn of_short(alloc: Global, characters: &str) -> Result<Text, AllocError>
-        requires { length characters.now ≤ 65536 }
+        requires { length characters.now ≤ most_bytes }
         ensures { IfOk result (λ text. text ≡ characters.now) }
     {
         if characters.len() <= SHORT_BYTES {
@@ -240,7 +243,7 @@ impl Text {
     /// A text of the characters of a string, which it takes over. `TooLong` (4) where they are more than 65,536 bytes.
     pub fn from_string(alloc: Global, string: String) -> Result<Text, TextFault>
         ensures ok { IfOk result (λ text. text ≡ string_bytes string) }
-        ensures too_long { IsErrOf result TextFault.TooLong ↔ (65536 < length (string_bytes string)) }
+        ensures too_long { IsErrOf result TextFault.TooLong ↔ (most_bytes < length (string_bytes string)) }
     {
         if string.len() > MAX_BYTES {
             return Err(TextFault::TooLong);
@@ -251,7 +254,7 @@ impl Text {
     /// A text of bytes that are known to be one, and few enough.
     pub(crate) fn of_bytes(alloc: Global, bytes: Vec<u8>) -> Result<Text, AllocError>
         requires utf8 { IsUtf8 bytes.items }
-        requires short { length bytes.items ≤ 65536 }
+        requires short { length bytes.items ≤ most_bytes }
         ensures { IfOk result (λ text. text ≡ bytes.items) }
     {
         Text::of_string(alloc, String::from_utf8(bytes).unwrap())
@@ -259,7 +262,7 @@ impl Text {
 
     /// A text of the characters of a string, which are known to be few enough.
     pub(crate) fn of_string(alloc: Global, string: String) -> Result<Text, AllocError>
-        requires { string_len string ≤ 65536 }
+        requires { string_len string ≤ most_bytes }
         ensures { IfOk result (λ text. text ≡ string_bytes string) }
     {
         Ok(Text {
@@ -270,7 +273,7 @@ impl Text {
     /// The text that is the form of a list, which it takes over.
     pub(crate) fn of_list(alloc: Global, list: ListString) -> Result<Text, AllocError>
         ensures form { IfOk result (λ text. text ≡ list_form list) }
-        ensures short { length (list_form list) ≤ 65536 }
+        ensures short { length (list_form list) ≤ most_bytes }
     {
         Ok(Text {
             form: TextForm::of_list(alloc, list)?,
@@ -307,7 +310,7 @@ impl Text {
     /// The characters. It takes no memory.
     pub fn as_str(&self) -> &str
         ensures bytes { result.now ≡ self.now }
-        ensures short { length self.now ≤ 65536 }
+        ensures short { length self.now ≤ most_bytes }
     {
         self.form.as_str()
     }
@@ -316,8 +319,8 @@ impl Text {
     /// nothing is added, where the text would pass 65,536 bytes.
     pub fn push_str(&mut self, alloc: Global, characters: &str) -> Result<(), TextFault>
         ensures ok { OnOk result (self.new ≡ self.old ++ characters.now) }
-        ensures short { OnOk result (length (self.old ++ characters.now) ≤ 65536) }
-        ensures too_long { IfErr result (λ fault. fault ≢ TextFault.NoMemory → 65536 < length (self.old ++ characters.now)) }
+        ensures short { OnOk result (length (self.old ++ characters.now) ≤ most_bytes) }
+        ensures too_long { IfErr result (λ fault. fault ≢ TextFault.NoMemory → most_bytes < length (self.old ++ characters.now)) }
         ensures err { OnErr result (self.new ≡ self.old) }
     {
         let length = self.as_str().len();

@@ -2,9 +2,10 @@
 use Rattle.std.specs.Prelude.{ℕ, ◌≤◌, List, [], ◌∷◌, length, IfSome}
 use Rattle.tcl_vars.specs.Name.{Place}
 use Rattle.tcl_vars.specs.Table.{Table}
+use Rattle.tcl_text.specs.Limits.{most_bytes}
 
 abbrev pub IsShort : List ℕ → Type 0
-IsShort name = length name ≤ 65536
+IsShort name = length name ≤ most_bytes
 
 abbrev pub ShortNames : {V : Type 0} → Table V → Type 0
 ShortNames [] = Unit {0}

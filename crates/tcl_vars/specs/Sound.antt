@@ -4,6 +4,7 @@ use Rattle.tcl_vars.specs.declared.content.Content.{Content}
 use Rattle.tcl_vars.specs.declared.content.Content.TheVariants.{Scalar, Array, Link}
 use Rattle.tcl_vars.specs.Name.{Place}
 use Rattle.tcl_vars.specs.Store.{Store, Frame, frame_at, content_at, link_of, variable_count}
+use Rattle.tcl_text.specs.Limits.{most_variables}
 
 -- a content may stand in the frame at a level: a link leads to an earlier one
 abbrev pub IsBelow : ℕ → Content → Type 0
@@ -27,5 +28,5 @@ pub record IsSound (store : Store) (count : ℕ) : Type 0 where
   -- the global frame is there
   pub rooted : 0 < length store
   pub counted : count ≡ variable_count store
-  pub limited : count ≤ 4096
+  pub limited : count ≤ most_variables
   pub descending : FramesDescend store

@@ -13,6 +13,7 @@ use Rattle.tcl_vars.specs.declared.fault.UnsetFault.{UnsetFault}
 use Rattle.tcl_vars.specs.declared.fault.UnsetFault.TheVariants as unsets
 use Rattle.tcl_vars.specs.Name.{Place, element_of, place_of}
 use Rattle.tcl_vars.specs.Table.{Table, value_at, with_value, without}
+use Rattle.tcl_text.specs.Limits.{most_variables}
 
 -- what the names of one procedure's call, or the global ones, stand for
 abbrev pub Frame : Type 0
@@ -167,7 +168,7 @@ content_with (Some (Link level name)) element value = Err sets.NotArray
 
 -- a store of at most 4,096 variables
 abbrev pub within_limit : {F : Type 0} → F → Store → Result Store F
-within_limit full store = if nat_le (variable_count store) 4096 then Ok store else Err full
+within_limit full store = if nat_le (variable_count store) most_variables then Ok store else Err full
 
 abbrev pub with_new_content : Store → Place → Result Content SetFault → Result Store SetFault
 with_new_content store place (Ok content) = within_limit sets.Full (with_content store place content)

@@ -1,5 +1,6 @@
 ghost use Rattle.std.specs.Prelude.{◌≡◌, ◌≤◌, length, map, IfOk};
 ghost use Rattle.tcl_vars.specs.Store.{pairs_of};
+ghost use Rattle.tcl_text.specs.Limits.{most_bytes};
 
 use crate::table::Table;
 use std::alloc::{AllocError, Global};
@@ -32,7 +33,7 @@ pub(crate) fn pairs_of(alloc: Global, elements: &Table<Text>) -> Result<TextList
 
 // A text of an index, which is short enough.
 fn text_from(alloc: Global, index: &str) -> Result<Text, AllocError>
-    requires { length index.now ≤ 65536 }
+    requires { length index.now ≤ most_bytes }
     ensures { IfOk result (λ text. text ≡ index.now) }
 {
     match Text::new(alloc, index) {

@@ -7,6 +7,7 @@ ghost use Rattle.tcl_vars.specs.Shown.{shown};
 ghost use Rattle.tcl_vars.specs.Store.{content_count, content_with, frame_count, link_of};
 ghost use Rattle.tcl_vars.specs.Unset.{UnsetsText, RefusesUnset};
 ghost use Rattle.tcl_vars.specs.Table.{value_at, with_value, weight_of};
+ghost use Rattle.tcl_text.specs.Limits.{most_variables};
 
 use crate::content::{Content, Outcome, Removal};
 use crate::fault::{ChangeFault, ReadFault, SetFault, UnsetFault};
@@ -20,7 +21,7 @@ pub(crate) type Frame = Table<Content>;
 
 /// How many variables a frame has.
 pub(crate) fn variable_count(frame: &Frame) -> usize
-    requires { frame_count frame.now ≤ 4096 }
+    requires { frame_count frame.now ≤ most_variables }
     ensures { result ≡ frame_count frame.now }
 {
     let mut count = 0;

@@ -9,6 +9,7 @@ ghost use Rattle.tcl_vars.specs.Sound.{IsBelow};
 ghost use Rattle.tcl_vars.specs.Table.{weight_of};
 ghost use Rattle.tcl_vars.specs.Unset.{IsGone, Unsets};
 ghost use Rattle.tcl_vars.specs.Store.{content_at, link_of, end_of, text_at, variable_in, element_in, with_text_at, with_variable, with_element, without_text_at, without_variable, without_element, is_there_at, content_count, variable_count, with_content, with_link, with_array, has_variable, is_element_in, elements_in, pairs_of};
+ghost use Rattle.tcl_text.specs.Limits.{most_variables};
 
 use crate::arrays::{names_of, pairs_of};
 use crate::content::{
@@ -357,8 +358,8 @@ impl Scopes {
         requires replaceable { weight_of content_count (content_at self.old (shown place)) ≤ 1 }
         requires below { IsBelow place.level content }
         ensures ok { IfOk result (λ given. MatchBool given
-            ((self.new ≡ with_content self.old (shown place.entry) content) × (variable_count self.new ≤ 4096))
-            ((self.new ≡ self.old) × (4096 < variable_count (with_content self.old (shown place.entry) content)))) }
+            ((self.new ≡ with_content self.old (shown place.entry) content) × (variable_count self.new ≤ most_variables))
+            ((self.new ≡ self.old) × (most_variables < variable_count (with_content self.old (shown place.entry) content)))) }
         ensures err { OnErr result (self.new ≡ self.old) }
     {
         let room = MAX_VARIABLES - self.count;

@@ -13,10 +13,11 @@ use Rattle.tcl_words.specs.declared.nesting.Waiting.{Waiting}
 use Rattle.tcl_words.specs.declared.kind.Opener.TheVariants.{Bracket, Index}
 use Rattle.tcl_words.specs.declared.fault.ParseFault.{ParseFault}
 use Rattle.tcl_words.specs.declared.fault.ParseFault.TheVariants.{TooLong}
+use Rattle.tcl_text.specs.Limits.{most_nested}
 
 -- the whole text is a script
 abbrev pub outset : Origin
-outset = record { base = 0; inside = false; room = 200; skip = 0; place = Start }
+outset = record { base = 0; inside = false; room = most_nested; skip = 0; place = Start }
 
 abbrev pub level_of : Origin → Level
 level_of origin = record { inside = origin.inside; room = origin.room }
@@ -45,7 +46,7 @@ pub record IsWaiting (source : List ℕ) (waiting : Waiting) : Type 0 where
   pub index : is_index (Text waiting.mode) ≡ is_index waiting.origin.place
   pub base : IsCharBoundary source waiting.origin.base
   pub cut : IsOpenerCut source (waiting.origin.base + waiting.at) waiting.opener
-  pub room : waiting.origin.room ≤ 200
+  pub room : waiting.origin.room ≤ most_nested
 
 -- each waits for the next, the last for what begins so
 abbrev pub IsChain : List ℕ → Origin → List Waiting → Origin → Type 0
@@ -61,7 +62,7 @@ pub record IsReading (first : Origin) (source : List ℕ) (others : List Waiting
   pub base : IsCharBoundary source origin.base
   pub within : origin.base + next ≤ length source
   pub index : is_index place ≡ is_index origin.place
-  pub room : origin.room ≤ 200
+  pub room : origin.room ≤ most_nested
 
 -- what is open waits for what an opener at this position opens
 abbrev pub waits_for : Origin → Parts → ℕ → Opener → Mode → Waiting
@@ -72,7 +73,7 @@ pub record IsOpening (first : Origin) (source : List ℕ) (others : List Waiting
   pub chain : IsChain source first others origin
   pub waits : 0 < origin.room → IsWaiting source (waits_for origin parts at opener mode)
   pub full : origin.room ≡ 0 → own source origin ≡ Err TooLong
-  pub room : origin.room ≤ 200
+  pub room : origin.room ≤ most_nested
   pub cut : IsOpenerCut source (origin.base + at) opener
 
 -- what is open ends at this position

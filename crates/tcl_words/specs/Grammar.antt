@@ -20,6 +20,7 @@ use Rattle.tcl_words.specs.declared.script.Word.{Word}
 use Rattle.tcl_words.specs.declared.script.Command.{Command}
 use Rattle.tcl_words.specs.declared.fault.ParseFault.{ParseFault}
 use Rattle.tcl_words.specs.declared.fault.ParseFault.TheVariants.{TooLong, MissingBrace, MissingBracket, MissingQuote, ExtraAfterBrace, ExtraAfterQuote, MissingParen}
+use Rattle.tcl_text.specs.Limits.{most_bytes, most_nested}
 
 -- How a text goes on behind what stands at its front.
 pub data TextEnding : Type 0 where
@@ -305,18 +306,18 @@ IsInnerOf (suc room) index text ending = (pieces : List Piece) × ArePieces (IsI
 
 -- a script's text: at most 65,536 bytes of UTF-8
 abbrev pub IsText : List ℕ → Type 0
-IsText text = (length text ≤ 65536) × IsUtf8 text
+IsText text = (length text ≤ most_bytes) × IsUtf8 text
 
 -- The text is a script of these commands. At most 200 brackets and indices stand in one another.
 pub record IsScriptOf (text : List ℕ) (commands : List Command) : Type 0 where
   pub is_text : IsText text
-  pub cut : IsScript (IsInnerOf 200) false 0 text commands (leaves [])
+  pub cut : IsScript (IsInnerOf most_nested) false 0 text commands (leaves [])
 
 -- The text is no script, and this is its first fault from the left.
 pub data IsScriptFault (text : List ℕ) : ParseFault → Type 0 where
   -- that it is no text of a script counts before all else
   no_text : ¬ IsText text → IsScriptFault text TooLong
-  faulty_text : {fault : ParseFault} (commands : List Command) → IsText text → IsScript (IsInnerOf 200) false 0 text commands (fails fault) → IsScriptFault text fault
+  faulty_text : {fault : ParseFault} (commands : List Command) → IsText text → IsScript (IsInnerOf most_nested) false 0 text commands (fails fault) → IsScriptFault text fault
 
 -- What the text is: a script of these commands, or none, with this fault. Each text is one of both, and in one way alone.
 abbrev pub IsScriptParse : List ℕ → Result (List Command) ParseFault → Type 0
@@ -325,12 +326,12 @@ IsScriptParse text (Err fault) = IsScriptFault text fault
 
 -- The text, read by itself, is an index of these pieces.
 pub record IsIndexOf (text : List ℕ) (pieces : List Piece) : Type 0 where
-  pub cut : ArePieces (IsInnerOf 200) false Parens text pieces (leaves [])
+  pub cut : ArePieces (IsInnerOf most_nested) false Parens text pieces (leaves [])
 
 -- The text, read by itself, is no index, and this is its first fault from the left.
 pub record IsIndexFault (text : List ℕ) (fault : ParseFault) : Type 0 where
   pub pieces : List Piece
-  pub cut : ArePieces (IsInnerOf 200) false Parens text pieces (fails fault)
+  pub cut : ArePieces (IsInnerOf most_nested) false Parens text pieces (fails fault)
 
 -- What the text is as an index, likewise.
 abbrev pub IsIndexParse : List ℕ → Result (List Piece) ParseFault → Type 0
@@ -345,7 +346,7 @@ IsSlice text span own = (before : List ℕ) × (after : List ℕ) × (text ≡ b
 abbrev pub WordsAreSlices : List ℕ → List Word → Type 0
 WordsAreSlices text [] = Unit {0}
 WordsAreSlices text (word ∷ words) =
-    ((own : List ℕ) × (rest : List ℕ) × IsSlice text word.span own × IsWord (IsInnerOf 200) false rest word.span.start own word) × WordsAreSlices text words
+    ((own : List ℕ) × (rest : List ℕ) × IsSlice text word.span own × IsWord (IsInnerOf most_nested) false rest word.span.start own word) × WordsAreSlices text words
 
 -- likewise in each command, whose span goes from its first word to the end of its last
 abbrev pub CommandsAreSlices : List ℕ → List Command → Type 0

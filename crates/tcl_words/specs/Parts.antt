@@ -27,6 +27,7 @@ use Rattle.tcl_words.specs.declared.script.Word.{Word}
 use Rattle.tcl_words.specs.declared.script.Command.{Command}
 use Rattle.tcl_words.specs.declared.fault.ParseFault.{ParseFault}
 use Rattle.tcl_words.specs.declared.fault.ParseFault.TheVariants.{NoMemory}
+use Rattle.tcl_text.specs.Limits.{most_bytes}
 
 pub record Parts : Type 0 where
   -- the commands that have ended
@@ -141,7 +142,7 @@ IsFine parts source PastBraces at = Unit {0}
 -- a byte of this kind stands at this position of a source that is short enough for a script
 pub record StandsAt (source : List ℕ) (at byte : ℕ) (kind : Kind) : Type 0 where
   pub within : at < length source
-  pub short : length source ≤ 65536
+  pub short : length source ≤ most_bytes
   pub byte_is : slice_index source at ≡ byte
   -- the source can be cut before and after an ASCII byte
   pub cut : kind ≢ Other → IsCharBoundary source at

@@ -19,6 +19,7 @@ use Rattle.tcl_words.specs.declared.script.Piece.TheVariants.{Element, Bracket}
 use Rattle.tcl_words.specs.declared.script.Command.{Command}
 use Rattle.tcl_words.specs.declared.fault.ParseFault.{ParseFault}
 use Rattle.tcl_words.specs.declared.fault.ParseFault.TheVariants.{TooLong, MissingBrace, MissingBracket, MissingQuote, MissingParen}
+use Rattle.tcl_text.specs.Limits.{most_bytes, most_nested}
 
 -- How what is read stands in other scripts: whether it ends at a closing bracket or parenthesis, and how many
 -- brackets and indices may still be opened in it, one within the other.
@@ -28,7 +29,7 @@ pub record Level : Type 0 where
 
 -- a whole text, which ends where its bytes do
 abbrev pub outermost : Level
-outermost = record { inside = false; room = 200 }
+outermost = record { inside = false; room = most_nested }
 
 -- what a bracket or a parenthesis opens
 abbrev pub within : ℕ → Level
@@ -93,7 +94,7 @@ pieces_in (Err fault) = Err fault
 -- The commands of a text, or its fault.
 abbrev pub commands_of : List ℕ → Result (List Command) ParseFault
 commands_of text =
-    if nat_lt 65536 (length text) then Err TooLong
+    if nat_lt most_bytes (length text) then Err TooLong
     else if not (is_utf8 text) then Err TooLong
     else commands_in (rest_of text outermost 0 Start 0)
 

@@ -2,6 +2,7 @@ ghost use Rattle.std.specs.Prelude.{◌≡◌, ◌<◌, ◌≤◌, ◌+◌, ◌-
 ghost use Rattle.std.specs.List.{slice_range};
 ghost use Rattle.std.specs.Str.{IsCharBoundary};
 ghost use Rattle.tcl_words.specs.Parts.{with_word, with_command, with_piece, with_literal, with_braced, so_far, no_parts};
+ghost use Rattle.tcl_text.specs.Limits.{most_bytes};
 
 use crate::script::{Command, Piece, Pieces, Span, Word, WordForm, Words};
 use std::alloc::{AllocError, Global};
@@ -151,7 +152,7 @@ impl Open {
     fn take_literal(&mut self, alloc: Global, source: &str, end: usize) -> Result<Text, AllocError>
         requires ordered { self.old.mark ≤ end }
         requires within { end ≤ length source.now }
-        requires short { length source.now ≤ 65536 }
+        requires short { length source.now ≤ most_bytes }
         requires kept { length self.old.literal ≤ self.old.mark }
         requires begins { IsCharBoundary source.now self.old.mark }
         requires ends { IsCharBoundary source.now end }
@@ -173,7 +174,7 @@ impl Open {
     pub fn end_literal(&mut self, alloc: Global, source: &str, end: usize) -> Result<(), AllocError>
         requires ordered { self.old.mark ≤ end }
         requires within { end ≤ length source.now }
-        requires short { length source.now ≤ 65536 }
+        requires short { length source.now ≤ most_bytes }
         requires kept { length self.old.literal ≤ self.old.mark }
         requires begins { IsCharBoundary source.now self.old.mark }
         requires ends { IsCharBoundary source.now end }
@@ -191,7 +192,7 @@ impl Open {
     pub fn end_braced(&mut self, alloc: Global, source: &str, end: usize) -> Result<(), AllocError>
         requires ordered { self.old.mark ≤ end }
         requires within { end ≤ length source.now }
-        requires short { length source.now ≤ 65536 }
+        requires short { length source.now ≤ most_bytes }
         requires kept { length self.old.literal ≤ self.old.mark }
         requires begins { IsCharBoundary source.now self.old.mark }
         requires ends { IsCharBoundary source.now end }
@@ -239,7 +240,7 @@ impl Open {
 
 /// These characters, as a text.
 fn short_text(alloc: Global, characters: &str) -> Result<Text, AllocError>
-    requires { length characters.now ≤ 65536 }
+    requires { length characters.now ≤ most_bytes }
     ensures ok { IfOk result (λ text. text ≡ characters.now) }
 {
     match Text::new(alloc, characters) {
@@ -253,7 +254,7 @@ fn short_text(alloc: Global, characters: &str) -> Result<Text, AllocError>
 pub fn text_of(alloc: Global, source: &str, start: usize, end: usize) -> Result<Text, AllocError>
     requires ordered { start ≤ end }
     requires within { end ≤ length source.now }
-    requires short { length source.now ≤ 65536 }
+    requires short { length source.now ≤ most_bytes }
     requires begins { IsCharBoundary source.now start }
     requires ends { IsCharBoundary source.now end }
     ensures ok { IfOk result (λ text. text ≡ slice_range source.now start end) }

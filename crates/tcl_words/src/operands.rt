@@ -7,6 +7,7 @@ ghost use Rattle.tcl_words.specs.Parts.{IsCut, IsOpenerCut, StandsAt, no_parts};
 ghost use Rattle.tcl_words.specs.Reading.{first_skip};
 ghost use Rattle.tcl_words.specs.Chain.{own, opened as opened_origin, IsReading};
 ghost use Rattle.tcl_words.specs.Operands.{opened_of, bracket_of, substitution_of, quoted_of, quoted_rest, outer, IsReadAs, EndsAt, GoesOn};
+ghost use Rattle.tcl_text.specs.Limits.{most_bytes, most_nested};
 
 use crate::fault::ParseFault;
 use crate::kind::{BytePlace, Dollar, Kind, Mode, Opener, Step};
@@ -20,8 +21,8 @@ use std::alloc::Global;
 /// How what an opener at a place opens begins, where so many may be opened in one another.
 fn opened_at(at: usize, opener: Opener, room: usize) -> Origin
     requires room { 0 < room }
-    requires within { at < 65536 }
-    requires name { first_skip opener ≤ 65536 }
+    requires within { at < most_bytes }
+    requires name { first_skip opener ≤ most_bytes }
     ensures { result ≡ opened_origin (outer room) at opener }
 {
     let outer = Origin {
@@ -36,7 +37,7 @@ fn opened_at(at: usize, opener: Opener, room: usize) -> Origin
 
 /// What begins so, up to the bracket or the parenthesis that ends it, and how many bytes behind its base that stands.
 fn read_inside(alloc: Global, source: &str, first: Origin) -> Result<(Open, usize), ParseFault>
-    requires short { length source.now ≤ 65536 }
+    requires short { length source.now ≤ most_bytes }
     requires inside { first.inside ≡ true }
     requires begins { IsReading first source.now [] first (no_parts first.skip) first.place first.skip }
     ensures ends { IfOk result (λ found. EndsAt first source.now found.0 found.1) }
@@ -59,9 +60,9 @@ fn read_opened(
     opener: Opener,
     room: usize,
 ) -> Result<(Piece, usize), ParseFault>
-    requires short { length source.now ≤ 65536 }
+    requires short { length source.now ≤ most_bytes }
     requires within { at < length source.now }
-    requires room { room ≤ 200 }
+    requires room { room ≤ most_nested }
     requires cut { IsOpenerCut source.now at opener }
     ensures found { IsReadAs result (opened_of room opener (drop (at + 1) source.now)) }
     ensures past { IfOk result (λ found. IsCharBoundary source.now (at + 1 + found.1)) }
@@ -83,10 +84,10 @@ pub fn bracket_behind(
     at: usize,
     room: usize,
 ) -> Result<(Piece, usize), ParseFault>
-    requires short { length source.now ≤ 65536 }
+    requires short { length source.now ≤ most_bytes }
     requires within { at < length source.now }
     requires ascii { slice_index source.now at < 128 }
-    requires room { room ≤ 200 }
+    requires room { room ≤ most_nested }
     ensures { IsReadAs result (bracket_of room (drop (at + 1) source.now)) }
 {
     let found = read_opened(alloc, source, at, Opener::Bracket, room)?;
@@ -102,10 +103,10 @@ pub fn substitution_behind(
     at: usize,
     room: usize,
 ) -> Result<Option<(Piece, usize)>, ParseFault>
-    requires short { length source.now ≤ 65536 }
+    requires short { length source.now ≤ most_bytes }
     requires within { at < length source.now }
     requires ascii { slice_index source.now at < 128 }
-    requires room { room ≤ 200 }
+    requires room { room ≤ most_nested }
     ensures { IsReadAs result (substitution_of room (drop (at + 1) source.now)) }
 {
     let start = at + 1;
@@ -141,7 +142,7 @@ fn read_quoted(
     requires kind { kind ≡ kind_meant false byte (drop (at + 1) source.now) }
     requires text { kind ≢ Kind.Quote }
     requires fine { IsCut parts.old source.now at }
-    requires room { room ≤ 200 }
+    requires room { room ≤ most_nested }
     ensures ok { IfOk result (λ next. GoesOn room source.now parts.old at parts.new next) }
     ensures fault { IfErr result (λ fault. (quoted_rest room (drop at source.now) 0 at ≡ Err fault) ⊎ (fault ≡ ParseFault.NoMemory)) }
 {
@@ -166,10 +167,10 @@ pub fn quotes_behind(
     at: usize,
     room: usize,
 ) -> Result<(Pieces, usize), ParseFault>
-    requires short { length source.now ≤ 65536 }
+    requires short { length source.now ≤ most_bytes }
     requires within { at < length source.now }
     requires ascii { slice_index source.now at < 128 }
-    requires room { room ≤ 200 }
+    requires room { room ≤ most_nested }
     ensures { IsReadAs result (quoted_of room (drop (at + 1) source.now)) }
 {
     let text = &source[at + 1..];

@@ -11,6 +11,7 @@ ghost use Rattle.tcl_words.specs.Moves.{Move, word_over, in_text, at_dollar, in_
 ghost use Rattle.tcl_words.specs.Parts.{Does, DollarFits, IsFine, IsCut, IsExpansion, StandsAt, EndsWord, Escaped, Finishes, is_index, with_piece, with_literal};
 ghost use Rattle.tcl_words.specs.Reading.{at_end};
 ghost use Rattle.tcl_words.specs.declared.script.Piece.TheVariants.{Variable};
+ghost use Rattle.tcl_text.specs.Limits.{most_bytes};
 
 use crate::fault::ParseFault;
 use crate::kind::{BytePlace, Dollar, Kind, Mode, Opener, Step};
@@ -86,7 +87,7 @@ fn escaped_char(source: &str, at: usize) -> (char, usize)
 /// What a backslash stands for is part of the literal that is open.
 fn push_escape(parts: &mut Open, source: &str, at: usize) -> Result<usize, AllocError>
     requires within { at < length source.now }
-    requires short { length source.now ≤ 65536 }
+    requires short { length source.now ≤ most_bytes }
     requires cut { IsCut parts.old source.now at }
     requires begins { IsCharBoundary source.now at }
     requires behind { IsCharBoundary source.now (at + 1) }
@@ -114,7 +115,7 @@ fn push_name(
     mark: usize,
 ) -> Result<(), AllocError>
     requires within { at ≤ length source.now }
-    requires short { length source.now ≤ 65536 }
+    requires short { length source.now ≤ most_bytes }
     requires cut { IsCut parts.old source.now at }
     requires ends { IsCharBoundary source.now at }
     requires name_ordered { start ≤ end }
@@ -514,7 +515,7 @@ fn kind_at(source: &str, at: usize, byte: u8, inside: bool) -> Kind
 /// The byte at a place, and what it means there.
 pub fn look(source: &str, at: usize, inside: bool) -> (u8, Kind)
     requires within { at < length source.now }
-    requires short { length source.now ≤ 65536 }
+    requires short { length source.now ≤ most_bytes }
     ensures stands { StandsAt source.now at result.0 result.1 }
     ensures byte { result.0 ≡ slice_index source.now at }
     ensures kind { result.1 ≡ kind_meant inside result.0 (drop (at + 1) source.now) }
@@ -534,7 +535,7 @@ pub fn read_byte(
     place: BytePlace,
 ) -> Result<Step, ParseFault>
     requires within { at < length source.now }
-    requires short { length source.now ≤ 65536 }
+    requires short { length source.now ≤ most_bytes }
     requires fine { IsFine parts.old source.now place at }
     ensures { Does parts.old parts.new source.now at place (move_at source.now at inside place) result }
 {
@@ -576,7 +577,7 @@ pub fn finish(
     source: &str,
     place: BytePlace,
 ) -> Result<(), ParseFault>
-    requires short { length source.now ≤ 65536 }
+    requires short { length source.now ≤ most_bytes }
     requires fine { IsFine parts.old source.now place (length source.now) }
     requires script { is_index place ≡ false }
     ensures { Finishes parts.old parts.new source.now place (length source.now) result }

@@ -5,6 +5,7 @@ ghost use Rattle.std.specs.Str.{IsCharBoundary};
 ghost use Rattle.tcl_words.specs.Reading.{commands_in, rest_of, outermost as outermost_level, opened_piece, first_skip};
 ghost use Rattle.tcl_words.specs.Parts.{IsOpenerCut, no_parts};
 ghost use Rattle.tcl_words.specs.Chain.{outset, own, opened as opened_origin, IsReading, IsOpening, IsEnding, IsParse, Goes};
+ghost use Rattle.tcl_text.specs.Limits.{most_bytes};
 
 use crate::fault::ParseFault;
 use crate::kind::{BytePlace, Mode, Opener, Step};
@@ -34,8 +35,8 @@ fn outermost() -> Origin
 /// How what is opened at a place begins.
 pub fn opened(origin: Origin, at: usize, opener: Opener) -> Origin
     requires room { 0 < origin.room }
-    requires within { origin.base + at < 65536 }
-    requires name { first_skip opener ≤ 65536 }
+    requires within { origin.base + at < most_bytes }
+    requires name { first_skip opener ≤ most_bytes }
     ensures { result ≡ opened_origin origin at opener }
 {
     let (skip, place) = match opener {
@@ -60,7 +61,7 @@ pub fn piece_of(
     opener: Opener,
     parts: Open,
 ) -> Result<Piece, ParseFault>
-    requires short { length source.now ≤ 65536 }
+    requires short { length source.now ≤ most_bytes }
     requires cut { IsOpenerCut source.now at opener }
     requires ends { IsCharBoundary source.now (at + 1 + close) }
     requires parse { IsParse opener (drop (at + 1) source.now) close parts }
@@ -111,7 +112,7 @@ impl Reader {
         opener: Opener,
         mode: Mode,
     ) -> Result<(), ParseFault>
-        requires short { length source.now ≤ 65536 }
+        requires short { length source.now ≤ most_bytes }
         requires opening { IsOpening self.old.first source.now self.old.waiting.items self.old.origin self.old.parts self.old.next opener mode }
         ensures ok { OnOk result (IsReading self.old.first source.now self.new.waiting.items self.new.origin self.new.parts self.new.place self.new.next × (self.old.origin.base + self.old.next < self.new.origin.base + self.new.next)) }
         ensures fault { IfErr result (λ fault. (own source.now self.old.first ≡ Err fault) ⊎ (fault ≡ ParseFault.NoMemory)) }
@@ -137,7 +138,7 @@ impl Reader {
 
     /// What is open ends at the next byte, and what waits for it goes on.
     fn end_within(&mut self, alloc: Global, source: &str) -> Result<(), ParseFault>
-        requires short { length source.now ≤ 65536 }
+        requires short { length source.now ≤ most_bytes }
         requires waits { 0 < length self.old.waiting.items }
         requires ending { IsEnding self.old.first source.now self.old.waiting.items self.old.origin self.old.parts self.old.place self.old.next }
         ensures ok { OnOk result (IsReading self.old.first source.now self.new.waiting.items self.new.origin self.new.parts self.new.place self.new.next × (self.old.origin.base + self.old.next < self.new.origin.base + self.new.next)) }
@@ -161,7 +162,7 @@ impl Reader {
 
     /// The next byte, and whether what began first has ended there.
     pub fn read_next(&mut self, alloc: Global, source: &str) -> Result<bool, ParseFault>
-        requires short { length source.now ≤ 65536 }
+        requires short { length source.now ≤ most_bytes }
         requires reading { IsReading self.old.first source.now self.old.waiting.items self.old.origin self.old.parts self.old.place self.old.next }
         requires within { self.old.origin.base + self.old.next < length source.now }
         ensures ok { IfOk result (λ ended. Goes ended self.old.first source.now self.new.waiting.items self.new.origin self.new.parts self.new.place self.new.next (self.old.origin.base + self.old.next)) }
@@ -193,7 +194,7 @@ impl Reader {
 
     /// The source ends.
     fn finish(mut self, alloc: Global, source: &str) -> Result<Vec<Command>, ParseFault>
-        requires short { length source.now ≤ 65536 }
+        requires short { length source.now ≤ most_bytes }
         requires reading { IsReading outset source.now self.waiting.items self.origin self.parts self.place self.next }
         requires end { length source.now ≤ self.origin.base + self.next }
         ensures commands { IfOk result (λ commands. commands_in (rest_of source.now outermost_level 0 BytePlace.Start 0) ≡ Ok commands.items) }
@@ -209,7 +210,7 @@ impl Reader {
 
 /// The commands of a text, in one pass over its bytes.
 pub fn read_all(alloc: Global, source: &str) -> Result<Vec<Command>, ParseFault>
-    requires { length source.now ≤ 65536 }
+    requires { length source.now ≤ most_bytes }
     ensures commands { IfOk result (λ commands. commands_in (rest_of source.now outermost_level 0 BytePlace.Start 0) ≡ Ok commands.items) }
     ensures fault { IfErr result (λ fault. (commands_in (rest_of source.now outermost_level 0 BytePlace.Start 0) ≡ Err fault) ⊎ (fault ≡ ParseFault.NoMemory)) }
 {

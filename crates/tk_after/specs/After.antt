@@ -8,6 +8,7 @@ use Rattle.tcl_text.specs.Readings.{integer_of, list_form}
 use Rattle.tcl_text.specs.StringCommands.{concat_words}
 use Rattle.tk_after.specs.declared.entry.Entry.{Entry}
 use Rattle.tk_after.specs.Timers.{Own, is_full, with_entry, without, ids}
+use Rattle.tcl_text.specs.Limits.{last_moment}
 
 -- what the application has after the command, and the command's answer
 abbrev pub Told : Type 0
@@ -67,7 +68,7 @@ info_words (name ∷ other ∷ words) entries = wrong_args (codes "after info ?i
 
 -- milliseconds from now: none below 0, and no more than 10^12
 abbrev pub delay_of : ℤ → ℕ
-delay_of (pos ms) = min ms 1000000000000
+delay_of (pos ms) = min ms last_moment
 delay_of (negsuc n) = 0
 
 abbrev pub delay_words : ℕ → List ℕ → Option ℤ → List (List ℕ) → Own → Told

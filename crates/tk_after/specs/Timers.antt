@@ -6,6 +6,7 @@ use Rattle.std.specs.Option.{option_map_or}
 use Rattle.tk_bag.specs.Bag.{Item, listed}
 use Rattle.tk_after.specs.declared.counter.Counter.{Counter}
 use Rattle.tk_after.specs.declared.entry.Entry.{Entry}
+use Rattle.tcl_text.specs.Limits.{most_waiting}
 
 -- what one application has waiting, in the order of its numbers, and the number that comes next
 pub record Own : Type 0 where
@@ -38,7 +39,7 @@ own_of owner held = record { next_number = next_of owner held.counters; entries 
 
 -- 256 are listed, or the last number, 2^64 - 2, was given
 abbrev pub is_full : Own → Bool
-is_full own = nat_le 256 (length own.entries) || nat_le (2 ^ 64 - 1) own.next_number
+is_full own = nat_le most_waiting (length own.entries) || nat_le (2 ^ 64 - 1) own.next_number
 
 -- one more at the end, with the next number; an idle script has no due moment
 abbrev pub with_entry : Option ℕ → List ℕ → Own → Own
@@ -129,4 +130,4 @@ IsNumbered low (entry ∷ entries) next_number = (low ≤ entry.id) × IsNumbere
 
 pub record IsKept (own : Own) : Type 0 where
   pub numbered : IsNumbered 0 own.entries own.next_number
-  pub few : length own.entries ≤ 256
+  pub few : length own.entries ≤ most_waiting

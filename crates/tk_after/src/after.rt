@@ -5,6 +5,7 @@ ghost use Rattle.tcl_text.specs.Readings.{integer_of, list_form};
 ghost use Rattle.tcl_text.specs.StringCommands.{concat_words};
 ghost use Rattle.tk_after.specs.Timers.{own_of, entries_of, ids, LeavesOthers};
 ghost use Rattle.tk_after.specs.After.{after_words, add_words, add_script, cancel_words, cancel_text, info_words, kind_of, name_of, delay_of, delay_words};
+ghost use Rattle.tcl_text.specs.Limits.{last_moment};
 
 use crate::answers::{Answer, bad_option, error_text, name_of, no_event, short_text, wrong_args};
 use crate::entry::Entry;
@@ -35,7 +36,7 @@ pub fn after_command(
     moment: u64,
     words: &[Text],
 ) -> Result<Result<Text, Text>, AllocError>
-    requires { moment ≤ 1000000000000 }
+    requires { moment ≤ last_moment }
     ensures answer { IfOk result (λ answer.
         answer ≡ (after_words moment words.now (own_of owner timers.old)).1) }
     ensures own { OnOk result (own_of owner timers.new
@@ -63,7 +64,7 @@ fn add_delayed(
     delay: &Text,
     scripts: &[Text],
 ) -> Result<Answer, AllocError>
-    requires { moment ≤ 1000000000000 }
+    requires { moment ≤ last_moment }
     ensures answer { IfOk result (λ answer.
         answer ≡ (delay_words moment delay.now (integer_of delay.now) scripts.now (own_of owner timers.old)).1) }
     ensures own { OnOk result (own_of owner timers.new
@@ -83,7 +84,7 @@ fn add_delayed(
 /// How long to wait: not less than no time, and not more than `LATEST`.
 fn delay_of(ms: i64) -> u64
     ensures value { result ≡ delay_of ms }
-    ensures bound { result ≤ 1000000000000 }
+    ensures bound { result ≤ last_moment }
 {
     u64::try_from(ms).map_or(0, |ms| ms.min(LATEST))
 }

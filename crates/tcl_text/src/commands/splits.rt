@@ -6,6 +6,7 @@ ghost use Rattle.memchr.specs.Find.{IsFirstByte, is_byte};
 ghost use Rattle.tcl_text.specs.Answers.{Gives};
 ghost use Rattle.tcl_text.specs.ListCommands as spec;
 ghost use Rattle.tcl_text.specs.ListSteps.{cut_once};
+ghost use Rattle.tcl_text.specs.Limits.{most_bytes};
 
 use crate::characters::split_first_char;
 use crate::commands::answers::{Refusal, wrong_args};
@@ -27,14 +28,14 @@ pub fn split_words(alloc: Global, words: &[Text]) -> Result<Text, Refusal>
 }
 
 fn split_at_white(alloc: Global, text: &str) -> Result<Text, Refusal>
-    requires { length text.now ≤ 65536 }
+    requires { length text.now ≤ most_bytes }
     ensures { Gives result (spec.split_text text.now spec.white_characters) }
 {
     split_text(alloc, text, " \t\n\u{b}\u{c}\r")
 }
 
 fn split_text(alloc: Global, text: &str, separators: &str) -> Result<Text, Refusal>
-    requires { length text.now ≤ 65536 }
+    requires { length text.now ≤ most_bytes }
     ensures { Gives result (spec.split_text text.now (chars separators.now)) }
 {
     if text.is_empty() {
@@ -50,7 +51,7 @@ fn split_text(alloc: Global, text: &str, separators: &str) -> Result<Text, Refus
 
 /// Each character as a text.
 fn characters_of(alloc: Global, text: &str) -> Result<Vec<Text>, AllocError>
-    requires { length text.now ≤ 65536 }
+    requires { length text.now ≤ most_bytes }
     ensures { IfOk result (λ pieces. pieces.items ≡ spec.characters_of text.now) }
 {
     let mut pieces = Vec::new(alloc);
@@ -65,7 +66,7 @@ fn characters_of(alloc: Global, text: &str) -> Result<Vec<Text>, AllocError>
 
 /// The parts of the text between separators.
 fn pieces_of(alloc: Global, text: &str, separators: &str) -> Result<Vec<Text>, AllocError>
-    requires { length text.now ≤ 65536 }
+    requires { length text.now ≤ most_bytes }
     ensures { IfOk result (λ pieces. pieces.items ≡ spec.pieces_of text.now (chars separators.now)) }
 {
     let mut pieces = Vec::new(alloc);

@@ -3,10 +3,10 @@ use Rattle.std.specs.Prelude.{◌≡◌, ℕ, ℤ, Bool, nat_le, if◌then◌els
 use Rattle.std.specs.Fmt.{decimal}
 use Rattle.tcl_text.specs.Readings.{integer_of, list_of}
 use Rattle.tcl_text.specs.declared.splitting.ListFault.{ListFault}
-use Rattle.tcl_text.specs.declared.splitting.ListFault.TheVariants.{OpenBrace, OpenQuote, ExtraCharacters}
 use Rattle.tcl_text.specs.declared.commands.answers.Refusal.{Refusal}
 use Rattle.tcl_text.specs.declared.commands.answers.Refusal.TheVariants.{Error, NoMemory}
 use Rattle.tcl_text.specs.Limits.{most_bytes}
+use Rattle.tcl_text.specs.Splitting.{fault_text}
 
 -- a command's result, or the text of its error
 abbrev pub Answer : Type 0
@@ -64,11 +64,6 @@ bad_option word = fails (bad_option_text word)
 abbrev pub bad_index : {T : Type 0} → List ℕ → Result T (List ℕ)
 bad_index word = fails (bad_index_text word)
 
-abbrev pub list_fault_text : ListFault → List ℕ
-list_fault_text OpenBrace = codes "unmatched open brace in list"
-list_fault_text OpenQuote = codes "unmatched open quote in list"
-list_fault_text ExtraCharacters = codes "extra characters after list element"
-
 abbrev pub expected_integer : {T : Type 0} → List ℕ → Result T (List ℕ)
 expected_integer word = fails (expected_integer_text word)
 
@@ -83,7 +78,7 @@ integer_in word = integer_or_error word (integer_of word)
 -- the items of the list that a word is
 abbrev pub items_or_error : Result (List (List ℕ)) ListFault → Result (List (List ℕ)) (List ℕ)
 items_or_error (Ok items) = Ok items
-items_or_error (Err fault) = fails (list_fault_text fault)
+items_or_error (Err fault) = fails (fault_text fault)
 
 unfoldable pub items_in : List ℕ → Result (List (List ℕ)) (List ℕ)
 items_in word = items_or_error (list_of word)

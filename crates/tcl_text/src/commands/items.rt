@@ -1,11 +1,11 @@
 //! Lists among the words of a command and as its answer.
 ghost use Rattle.std.specs.Prelude.{◌≡◌};
-ghost use Rattle.tcl_text.specs.Answers.{Gives, answers, list_fault_text, items_in as items_of};
+ghost use Rattle.tcl_text.specs.Answers.{Gives, answers, items_in as items_of};
 ghost use Rattle.tcl_text.specs.Readings.{list_form};
 
 use crate::commands::answers::{Refusal, error, limit_reached};
 use crate::list::TextList;
-use crate::splitting::{ListFault, SplitFault};
+use crate::splitting::SplitFault;
 use crate::text::{Text, TextFault};
 use std::alloc::Global;
 
@@ -16,19 +16,8 @@ pub fn items_in(alloc: Global, list: &Text) -> Result<TextList, Refusal>
 {
     match list.split_list(alloc) {
         Ok(items) => Ok(items),
-        Err(SplitFault::BadList(fault)) => Err(error(alloc, fault_text(fault))),
+        Err(SplitFault::BadList(fault)) => Err(error(alloc, fault.text())),
         Err(SplitFault::NoMemory) => Err(Refusal::NoMemory),
-    }
-}
-
-/// The error's text for what keeps a text from being a list.
-fn fault_text(fault: ListFault) -> &'static str
-    ensures { result.now ≡ list_fault_text fault }
-{
-    match fault {
-        ListFault::OpenBrace => "unmatched open brace in list",
-        ListFault::OpenQuote => "unmatched open quote in list",
-        ListFault::ExtraCharacters => "extra characters after list element",
     }
 }
 

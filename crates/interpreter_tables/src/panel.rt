@@ -4,7 +4,6 @@ ghost use Rattle.interpreter_tables.specs.Sample.{alone_act, resumed_act, sample
 ghost use Rattle.tcl_text.specs.Limits.{most_bytes};
 
 use std::alloc::{AllocError, Global};
-use tcl_control::texts::fixed;
 use tcl_interp::{Act, Code, ReturnCode, Tasks};
 use tcl_text::{Text, TextFault, TextList};
 use tcl_vars::Scopes;
@@ -14,7 +13,7 @@ fn done(alloc: Global, code: Code, text: &str) -> Result<Act<u64>, AllocError>
     requires { length text.now ≤ most_bytes }
     ensures { IfOk result (λ act. act ≡ Act.Done code text.now) }
 {
-    Ok(Act::Done(code, fixed(alloc, text)?))
+    Ok(Act::Done(code, Text::of_short(alloc, text)?))
 }
 
 fn alone(alloc: Global, name: &str) -> Result<Act<u64>, AllocError>
@@ -63,7 +62,7 @@ fn resumed(alloc: Global, task: u64, code: Code, text: Text) -> Result<Act<u64>,
         Ok(Act::Done(code, text))
     } else if task < 10 {
         Ok(Act::Run {
-            script: fixed(alloc, "ask")?,
+            script: Text::of_short(alloc, "ask")?,
             task: task - 1,
         })
     } else if task < 12 {

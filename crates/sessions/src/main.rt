@@ -1,7 +1,7 @@
 //! Plays stored sessions, and tells of each whether what came out is what is stored beside it.
 //!
 //! Each argument names a session `NAME.session`. Beside it lies `NAME.expected`, the bytes that it writes, or `NAME.fault`, its exit
-//! status and its line on standard error.
+//! status and its line on standard error. `--once` before the names plays each at one slice alone, for a run without proof.
 #![tactic(auto)]
 
 use anyhow::{Context, Result, bail};
@@ -35,12 +35,17 @@ fn told(alloc: Global, session: &[u8]) -> Result<(Vec<u8>, Vec<u8>)> {
     Ok((sections, fault))
 }
 
-/// Whether the session's sections are the same at each slice.
-fn same_at_each_slice(alloc: Global, session: &[u8], expected: &[u8]) -> Result<bool> {
+/// Whether the session's sections are the same at each of these slices.
+fn same_at_each_slice(
+    alloc: Global,
+    session: &[u8],
+    slices: &[u64],
+    expected: &[u8],
+) -> Result<bool> {
     let Ok(session) = read_session(alloc, session) else {
         return Ok(false);
     };
-    for slice in SLICES {
+    for &slice in slices {
         let mut sections = Vec::new(alloc);
         let aliases = services_of(alloc, &session)?;
         if play(alloc, &session, aliases, slice, &mut sections).is_err()
@@ -53,7 +58,7 @@ fn same_at_each_slice(alloc: Global, session: &[u8], expected: &[u8]) -> Result<
 }
 
 /// Whether a session writes what is stored beside it.
-fn is_as_expected<R: Files + AllocGlobal>(rt: &R, name: &str) -> Result<bool> {
+fn is_as_expected<R: Files + AllocGlobal>(rt: &R, name: &str, slices: &[u64]) -> Result<bool> {
     let Some(session) = stored(rt, name, "session")? else {
         bail!("no such session");
     };
@@ -62,7 +67,7 @@ fn is_as_expected<R: Files + AllocGlobal>(rt: &R, name: &str) -> Result<bool> {
         return Ok(
             fault.is_empty()
                 && sections == expected
-                && same_at_each_slice(rt.alloc(), session.as_slice(), expected.as_slice())?,
+                && same_at_each_slice(rt.alloc(), session.as_slice(), slices, expected.as_slice())?,
         );
     }
     let Some(expected) = stored(rt, name, "fault")? else {
@@ -73,8 +78,13 @@ fn is_as_expected<R: Files + AllocGlobal>(rt: &R, name: &str) -> Result<bool> {
 
 fn main(rt: HostRuntime) -> Result<()> {
     let mut differs = false;
+    let mut slices = SLICES.as_slice();
     for name in env::args(&rt)?.skip(1) {
-        let as_expected = is_as_expected(&rt, name.as_str()).context(format_args!(
+        if name.as_str() == "--once" {
+            slices = &[];
+            continue;
+        }
+        let as_expected = is_as_expected(&rt, name.as_str(), slices).context(format_args!(
             "session {name}"
         ))?;
         let verdict = if as_expected {

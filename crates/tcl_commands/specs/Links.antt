@@ -1,7 +1,8 @@
 -- The commands of global(n) and upvar(n), with the frame that is linked to given by its level.
-use Rattle.std.specs.Prelude.{ℕ, ◌==◌, nat_eq, if◌then◌else◌, List, [], ◌∷◌, length, drop, Result, Ok, Err, codes, ◌%◌}
+use Rattle.std.specs.Prelude.{ℕ, ◌==◌, nat_eq, if◌then◌else◌, List, [], ◌∷◌, length, drop, is_none, Result, Ok, Err, codes, ◌%◌}
 use Rattle.std.specs.List.{starts_with}
 use Rattle.tcl_text.specs.Answers.{wrong_args}
+use Rattle.tcl_vars.specs.Name.{element_of}
 use Rattle.tcl_vars.specs.Store.{Store, with_link}
 use Rattle.tcl_vars.specs.declared.fault.LinkFault.{LinkFault}
 use Rattle.tcl_vars.specs.declared.fault.LinkFault.TheVariants.{BadName, Exists, Full, NoMemory}
@@ -14,10 +15,13 @@ use Rattle.tcl_commands.specs.declared.usages.Usage.TheVariants as usage
 abbrev pub global_name : List ℕ → List ℕ
 global_name name = if starts_with nat_eq name (codes "::") then drop 2 name else name
 
--- a name that can't be used is told as it is written
+-- a name that can't be used is told as it is used, but an element as it is written
+abbrev pub name_told : List ℕ → List ℕ
+name_told name = if is_none (element_of (global_name name)) then global_name name else name
+
 abbrev pub global_told : List ℕ → Result Store LinkFault → Result Store (List ℕ)
 global_told name (Ok new) = Ok new
-global_told name (Err BadName) = cannot_link name BadName
+global_told name (Err BadName) = cannot_link (name_told name) BadName
 global_told name (Err Exists) = cannot_link (global_name name) Exists
 global_told name (Err Full) = cannot_link (global_name name) Full
 global_told name (Err NoMemory) = cannot_link (global_name name) NoMemory

@@ -1,9 +1,10 @@
 //! The commands of global(n) and upvar(n).
-ghost use Rattle.std.specs.Prelude.{◌≡◌, ◌<◌, length, IfOk};
+ghost use Rattle.std.specs.Prelude.{◌≡◌, ◌<◌, length, is_some, IfOk};
 ghost use Rattle.tcl_commands.specs.Done.{Does, Steps};
 ghost use Rattle.tcl_commands.specs.Links as spec;
+ghost use Rattle.tcl_vars.specs.Name.{element_of};
 
-use crate::texts::{cannot_link, empty_answer, short_text};
+use crate::texts::{cannot_link, empty_answer};
 use crate::usages::{Usage, wrong_words};
 use std::alloc::{AllocError, Global};
 use tcl_text::Text;
@@ -62,8 +63,20 @@ fn link_global(alloc: Global, scopes: &mut Scopes, level: usize, name: &Text) ->
     match scopes.link(level, &global, 0, &global) {
         Ok(()) => Ok(()),
         Err(LinkFault::NoMemory) => Err(Refusal::NoMemory),
-        Err(LinkFault::BadName) => cannot_link(alloc, name.as_str(), LinkFault::BadName),
+        Err(LinkFault::BadName) if is_element(global.as_str()) => {
+            cannot_link(alloc, name.as_str(), LinkFault::BadName)
+        }
         Err(fault) => cannot_link(alloc, global.as_str(), fault),
+    }
+}
+
+/// Whether a name behind its leading `::` means an element.
+fn is_element(name: &str) -> bool
+    ensures { result ≡ is_some (element_of name.now) }
+{
+    match name.strip_suffix(')') {
+        Some(front) => front.split_once('(').is_some(),
+        None => false,
     }
 }
 
@@ -74,7 +87,7 @@ fn global_name(alloc: Global, name: &Text) -> Result<Text, AllocError>
     let Some(rest) = name.as_str().strip_prefix("::") else {
         return name.copy();
     };
-    short_text(alloc, rest)
+    Text::of_short(alloc, rest)
 }
 
 /// `upvar ?level? other mine ?other mine ..?` behind its level: each second name of the frame becomes a link to the

@@ -82,19 +82,7 @@ pub fn missing_value<T>(alloc: Global, key: &str) -> Result<T, Refusal>
 pub fn empty_answer(alloc: Global) -> Result<Text, Refusal>
     ensures { Gives result (Ok []) }
 {
-    Ok(short_text(alloc, "")?)
-}
-
-/// A text of characters that are known to be few enough.
-pub fn short_text(alloc: Global, characters: &str) -> Result<Text, AllocError>
-    requires { length characters.now ≤ most_bytes }
-    ensures { IfOk result (λ text. text ≡ characters.now) }
-{
-    match Text::new(alloc, characters) {
-        Ok(text) => Ok(text),
-        Err(TextFault::NoMemory) => Err(AllocError),
-        Err(TextFault::TooLong) => unreachable!(),
-    }
+    Ok(Text::of_short(alloc, "")?)
 }
 
 // The error that there are as many variables as there may be (19).

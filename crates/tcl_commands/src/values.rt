@@ -8,7 +8,7 @@ ghost use Rattle.tcl_commands.specs.Done.{Does, IfNoMemory};
 ghost use Rattle.tcl_commands.specs.Edits.{edit_answer};
 ghost use Rattle.tcl_commands.specs.Values as spec;
 
-use crate::texts::{cannot_read, cannot_set, short_text, too_large};
+use crate::texts::{cannot_read, cannot_set, too_large};
 use crate::usages::{Usage, wrong_words};
 use std::alloc::{AllocError, Global};
 use tcl_text::answers::{Refusal, error, limit_reached, truth_answer};
@@ -163,8 +163,8 @@ fn value_or(
 {
     match scopes.get(level, name) {
         Ok(value) => Ok(value.copy()?),
-        Err(ReadFault::NoVariable) => Ok(short_text(alloc, absent)?),
-        Err(ReadFault::NoElement) => Ok(short_text(alloc, absent)?),
+        Err(ReadFault::NoVariable) => Ok(Text::of_short(alloc, absent)?),
+        Err(ReadFault::NoElement) => Ok(Text::of_short(alloc, absent)?),
         Err(fault) => cannot_read(alloc, name.as_str(), fault),
     }
 }
@@ -270,7 +270,7 @@ fn set_edited(
 fn edited_empty(alloc: Global, edit: Edit<'_>) -> Result<Text, Refusal>
     ensures { Gives result (edit_answer edit.entry []) }
 {
-    let mut text = short_text(alloc, "")?;
+    let mut text = Text::of_short(alloc, "")?;
     match text.edit(alloc, edit) {
         Ok(()) => Ok(text),
         Err(EditFault::TooLong) => Err(limit_reached(alloc)),

@@ -14,7 +14,8 @@ use Rattle.tcl_control.specs.declared.code.Code.TheVariants.{Normal}
 use Rattle.tcl_control.specs.declared.plan.Plan.{Plan}
 use Rattle.tcl_control.specs.declared.plan.Plan.TheVariants.{Ends, Runs, Chooses}
 use Rattle.tcl_control.specs.Commands.{fails, misused}
-use Rattle.tcl_table.specs.Texts.{about, message}
+use Rattle.tcl_table.specs.Texts.{about}
+use Rattle.tcl_text.specs.Answers.{message}
 
 -- ── if ──
 

@@ -17,7 +17,8 @@ use Rattle.tcl_control.specs.declared.turns.Test.TheVariants.{Holds, Items}
 use Rattle.tcl_control.specs.declared.turns.Turning.{Turning}
 use Rattle.tcl_shapes.specs.Groups.{groups_of, has_body}
 use Rattle.tcl_shapes.specs.declared.groups.Group.{Group}
-use Rattle.tcl_table.specs.Texts.{about, message, wrong_words, cannot_set}
+use Rattle.tcl_table.specs.Texts.{about, wrong_words, cannot_set}
+use Rattle.tcl_text.specs.Answers.{message}
 
 abbrev pub fails : List ℕ → Plan
 fails text = Ends Error text

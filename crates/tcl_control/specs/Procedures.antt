@@ -15,7 +15,8 @@ use Rattle.tcl_control.specs.Commands.{fails}
 use Rattle.tcl_table.specs.Levels.{popped}
 use Rattle.tcl_table.specs.Names.{is_dotted, plain_name}
 use Rattle.tcl_table.specs.Table.{Table, is_procedure, procedure_count, value_at, with_value, without}
-use Rattle.tcl_table.specs.Texts.{about, limit_text, message, wrong_words}
+use Rattle.tcl_table.specs.Texts.{about, wrong_words}
+use Rattle.tcl_text.specs.Answers.{limit_text, message}
 use Rattle.tcl_text.specs.Limits.{most_bytes, most_procedures}
 
 -- ── calls ──

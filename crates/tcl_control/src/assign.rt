@@ -4,7 +4,7 @@ ghost use Rattle.tcl_control.specs.Assign.{done, on_set, first_of, assigned, gro
 
 use std::alloc::{AllocError, Global};
 use tcl_shapes::Group;
-use tcl_table::texts::{cannot_set, fixed};
+use tcl_table::texts::cannot_set;
 use tcl_text::Text;
 use tcl_vars::{Scopes, SetFault};
 
@@ -33,7 +33,7 @@ fn item_at(alloc: Global, items: &[Text], at: usize) -> Result<Text, AllocError>
 {
     match items.get(at) {
         Some(item) => item.copy(),
-        None => fixed(alloc, ""),
+        None => Text::of_short(alloc, ""),
     }
 }
 

@@ -8,7 +8,7 @@ use crate::plan::Plan;
 use std::alloc::{AllocError, Global};
 use tcl_shapes::{Branch, if_choices, switch_arms};
 use tcl_table::Source;
-use tcl_table::texts::{about, fixed, list_fault};
+use tcl_table::texts::{about, list_fault};
 use tcl_text::{SplitFault, Text};
 
 fn fails(text: Text) -> Plan
@@ -23,7 +23,7 @@ pub fn if_plan(alloc: Global, words: &[Text]) -> Result<Plan, AllocError>
 {
     match if_choices(alloc, words)? {
         Some(choices) => Ok(Plan::Chooses(choices)),
-        None => Ok(fails(fixed(
+        None => Ok(fails(Text::of_short(
             alloc,
             "wrong # args: should be \"if cond ?then? body ?elseif cond ?then? body ..? ?else? ?body?\"",
         )?)),
@@ -77,7 +77,7 @@ fn body_of(alloc: Global, arms: &[Branch]) -> Result<Plan, AllocError>
             return Ok(Plan::Runs(Source::of_text(arm.body.copy()?)));
         }
     }
-    Ok(Plan::Ends(Code::Normal, fixed(alloc, "")?))
+    Ok(Plan::Ends(Code::Normal, Text::of_short(alloc, "")?))
 }
 
 /// The body of the first arm that takes a value.
@@ -96,13 +96,13 @@ fn arm_for(
         }
         rest = behind;
     }
-    Ok(Plan::Ends(Code::Normal, fixed(alloc, "")?))
+    Ok(Plan::Ends(Code::Normal, Text::of_short(alloc, "")?))
 }
 
 fn no_body(alloc: Global) -> Result<Plan, AllocError>
     ensures { IfOk result (λ plan. plan ≡ no_body) }
 {
-    Ok(fails(fixed(alloc, "extra switch pattern with no body")?))
+    Ok(fails(Text::of_short(alloc, "extra switch pattern with no body")?))
 }
 
 fn by_arms(
@@ -149,7 +149,7 @@ fn bad_option(alloc: Global, word: &Text) -> Result<Plan, AllocError>
 fn switch_usage(alloc: Global) -> Result<Plan, AllocError>
     ensures { IfOk result (λ plan. plan ≡ switch_usage) }
 {
-    Ok(fails(fixed(
+    Ok(fails(Text::of_short(
         alloc,
         "wrong # args: should be \"switch ?-exact|-glob? ?--? value pairs\"",
     )?))

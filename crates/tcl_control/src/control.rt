@@ -20,7 +20,7 @@ use crate::turns::{Looping, Test, Turning};
 use crate::variables::{upvar_end, variable_end};
 use std::alloc::{AllocError, Global};
 use tcl_shapes::{foreach_groups, has_body};
-use tcl_table::texts::{about, cannot_set, fixed, told};
+use tcl_table::texts::{about, cannot_set, told};
 use tcl_table::{Builtin, Command, CommandTable, Source, is_dotted, plain_name};
 use tcl_text::{Text, TextCommand};
 use tcl_vars::{Scopes, SetFault};
@@ -47,8 +47,8 @@ fn break_plan(alloc: Global, words: &[Text]) -> Result<Plan, AllocError>
     ensures { IfOk result (λ plan. plan ≡ break_plan words.now) }
 {
     match words {
-        [] => Ok(Plan::Ends(Code::Break, fixed(alloc, "")?)),
-        _ => Ok(fails(fixed(alloc, "wrong # args: should be \"break\"")?)),
+        [] => Ok(Plan::Ends(Code::Break, Text::of_short(alloc, "")?)),
+        _ => Ok(fails(Text::of_short(alloc, "wrong # args: should be \"break\"")?)),
     }
 }
 
@@ -57,8 +57,8 @@ fn continue_plan(alloc: Global, words: &[Text]) -> Result<Plan, AllocError>
     ensures { IfOk result (λ plan. plan ≡ continue_plan words.now) }
 {
     match words {
-        [] => Ok(Plan::Ends(Code::Continue, fixed(alloc, "")?)),
-        _ => Ok(fails(fixed(alloc, "wrong # args: should be \"continue\"")?)),
+        [] => Ok(Plan::Ends(Code::Continue, Text::of_short(alloc, "")?)),
+        _ => Ok(fails(Text::of_short(alloc, "wrong # args: should be \"continue\"")?)),
     }
 }
 
@@ -68,7 +68,7 @@ fn error_plan(alloc: Global, words: &[Text]) -> Result<Plan, AllocError>
 {
     match words {
         [text] => Ok(fails(text.copy()?)),
-        _ => Ok(fails(fixed(alloc, "wrong # args: should be \"error message\"")?)),
+        _ => Ok(fails(Text::of_short(alloc, "wrong # args: should be \"error message\"")?)),
     }
 }
 
@@ -79,7 +79,7 @@ fn catch_plan(alloc: Global, words: &[Text]) -> Result<Plan, AllocError>
     match words {
         [script] => Ok(Plan::Catches(Source::of_text(script.copy()?), None)),
         [script, name] => Ok(Plan::Catches(Source::of_text(script.copy()?), Some(name.copy()?))),
-        _ => Ok(fails(fixed(alloc, "wrong # args: should be \"catch script ?name?\"")?)),
+        _ => Ok(fails(Text::of_short(alloc, "wrong # args: should be \"catch script ?name?\"")?)),
     }
 }
 
@@ -113,7 +113,7 @@ fn while_plan(alloc: Global, table: &mut CommandTable, words: &[Text]) -> Result
             let turning = conditional(alloc, table, condition, body, None)?;
             Ok(Plan::Turns(turning))
         }
-        _ => Ok(fails(fixed(alloc, "wrong # args: should be \"while cond body\"")?)),
+        _ => Ok(fails(Text::of_short(alloc, "wrong # args: should be \"while cond body\"")?)),
     }
 }
 
@@ -127,7 +127,7 @@ fn for_plan(alloc: Global, table: &mut CommandTable, words: &[Text]) -> Result<P
             let turning = conditional(alloc, table, condition, body, Some(next))?;
             Ok(Plan::Starts(Source::of_text(start.copy()?), turning))
         }
-        _ => Ok(fails(fixed(
+        _ => Ok(fails(Text::of_short(
             alloc,
             "wrong # args: should be \"for start cond next body\"",
         )?)),
@@ -140,7 +140,7 @@ fn foreach_plan(alloc: Global, table: &mut CommandTable, words: &[Text]) -> Resu
     ensures plan { IfOk result (λ plan. plan ≡ foreach_plan words.now) }
 {
     if !(has_body(words) && words.len() > 2) {
-        return Ok(fails(fixed(
+        return Ok(fails(Text::of_short(
             alloc,
             "wrong # args: should be \"foreach names list ?names list ..? body\"",
         )?));
@@ -164,7 +164,7 @@ fn recorded(alloc: Global, refused: Option<Text>) -> Result<Plan, AllocError>
     ensures { IfOk result (λ plan. plan ≡ recorded_plan refused) }
 {
     match refused {
-        None => Ok(Plan::Ends(Code::Normal, fixed(alloc, "")?)),
+        None => Ok(Plan::Ends(Code::Normal, Text::of_short(alloc, "")?)),
         Some(text) => Ok(fails(text)),
     }
 }
@@ -179,7 +179,7 @@ fn proc_plan(alloc: Global, context: &mut Context, words: &[Text]) -> Result<Pla
             let plan = recorded(alloc, refused)?;
             Ok(plan)
         }
-        _ => Ok(fails(fixed(alloc, "wrong # args: should be \"proc name params body\"")?)),
+        _ => Ok(fails(Text::of_short(alloc, "wrong # args: should be \"proc name params body\"")?)),
     }
 }
 
@@ -193,7 +193,7 @@ fn rename_plan(alloc: Global, context: &mut Context, words: &[Text]) -> Result<P
             let plan = recorded(alloc, refused)?;
             Ok(plan)
         }
-        _ => Ok(fails(fixed(alloc, "wrong # args: should be \"rename old new\"")?)),
+        _ => Ok(fails(Text::of_short(alloc, "wrong # args: should be \"rename old new\"")?)),
     }
 }
 
@@ -209,7 +209,7 @@ fn eval_plan(alloc: Global, words: &[Text]) -> Result<Plan, AllocError>
     ensures { IfOk result (λ plan. plan ≡ eval_plan words.now) }
 {
     match words {
-        [] => Ok(fails(fixed(alloc, "wrong # args: should be \"eval arg ?arg ..?\"")?)),
+        [] => Ok(fails(Text::of_short(alloc, "wrong # args: should be \"eval arg ?arg ..?\"")?)),
         [_, ..] => match concatenated(alloc, words)? {
             Ok(script) => Ok(Plan::Runs(Source::of_text(script))),
             Err(text) => Ok(fails(text)),
@@ -223,7 +223,7 @@ fn expr_plan(alloc: Global, table: &mut CommandTable, words: &[Text]) -> Result<
     ensures plan { IfOk result (λ plan. plan ≡ expr_plan words.now) }
 {
     match words {
-        [] => Ok(fails(fixed(alloc, "wrong # args: should be \"expr arg ?arg ..?\"")?)),
+        [] => Ok(fails(Text::of_short(alloc, "wrong # args: should be \"expr arg ?arg ..?\"")?)),
         [_, ..] => match concatenated(alloc, words)? {
             Ok(text) => Ok(Plan::Evaluates(Expression::read_by(alloc, table, &text)?)),
             Err(text) => Ok(fails(text)),
@@ -298,7 +298,7 @@ fn returns_value(alloc: Global, text: &Text) -> Result<Plan, AllocError>
     ensures { IfOk result (λ plan. plan ≡ return_plan (text.now ∷ [])) }
 {
     if text.as_str() == "-code" {
-        Ok(fails(fixed(alloc, "value for \"-code\" missing")?))
+        Ok(fails(Text::of_short(alloc, "value for \"-code\" missing")?))
     } else {
         Ok(Plan::Ends(Code::Return(ReturnCode::Normal), text.copy()?))
     }
@@ -309,17 +309,17 @@ fn return_plan(alloc: Global, words: &[Text]) -> Result<Plan, AllocError>
     ensures { IfOk result (λ plan. plan ≡ return_plan words.now) }
 {
     match words {
-        [] => Ok(Plan::Ends(Code::Return(ReturnCode::Normal), fixed(alloc, "")?)),
+        [] => Ok(Plan::Ends(Code::Return(ReturnCode::Normal), Text::of_short(alloc, "")?)),
         [text] => returns_value(alloc, text),
         [option, word] => {
-            let plan = returns_as(alloc, option, word, fixed(alloc, "")?)?;
+            let plan = returns_as(alloc, option, word, Text::of_short(alloc, "")?)?;
             Ok(plan)
         }
         [option, word, text] => {
             let plan = returns_as(alloc, option, word, text.copy()?)?;
             Ok(plan)
         }
-        _ => Ok(fails(fixed(
+        _ => Ok(fails(Text::of_short(
             alloc,
             "wrong # args: should be \"return ?-code code? ?value?\"",
         )?)),
@@ -418,7 +418,7 @@ fn uplevel_plan(alloc: Global, count: usize, words: &[Text]) -> Result<Plan, All
 fn uplevel_usage(alloc: Global) -> Result<Plan, AllocError>
     ensures { IfOk result (λ plan. plan ≡ misused uplevel_usage) }
 {
-    Ok(fails(fixed(
+    Ok(fails(Text::of_short(
         alloc,
         "wrong # args: should be \"uplevel ?level? arg ?arg ..?\"",
     )?))
@@ -434,7 +434,7 @@ fn level_plan(alloc: Global, count: usize, words: &[Text]) -> Result<Plan, Alloc
             let digits = format!(in alloc; "{number}")?;
             Ok(Plan::Ends(Code::Normal, told(alloc, digits.as_str())?))
         }
-        _ => Ok(fails(fixed(alloc, "wrong # args: should be \"info level\"")?)),
+        _ => Ok(fails(Text::of_short(alloc, "wrong # args: should be \"info level\"")?)),
     }
 }
 
@@ -453,7 +453,7 @@ fn exists_plan(
             let answer = if scopes.exists(level, name) { "1" } else { "0" };
             Ok(Plan::Ends(Code::Normal, told(alloc, answer)?))
         }
-        _ => Ok(fails(fixed(alloc, "wrong # args: should be \"info exists name\"")?)),
+        _ => Ok(fails(Text::of_short(alloc, "wrong # args: should be \"info exists name\"")?)),
     }
 }
 
@@ -469,7 +469,10 @@ fn info_plan(
     ensures { IfOk result (λ plan. plan ≡ info_plan count level scopes.now words.now) }
 {
     let [option, rest @ ..] = words else {
-        return Ok(fails(fixed(alloc, "wrong # args: should be \"info option ?arg ..?\"")?));
+        return Ok(fails(Text::of_short(
+            alloc,
+            "wrong # args: should be \"info option ?arg ..?\"",
+        )?));
     };
     if option.as_str() == "level" {
         level_plan(alloc, count, rest)
@@ -631,7 +634,7 @@ pub fn caught(
     requires { level < length scopes.old }
     ensures { IfOk result (λ end. record { store = scopes.new; code = end.code; text = end.text } ≡ caught_ending level name code text scopes.old) }
 {
-    let number = fixed(alloc, code_number(code))?;
+    let number = Text::of_short(alloc, code_number(code))?;
     match name {
         None => Ok(End {
             code: Code::Normal,

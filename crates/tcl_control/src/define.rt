@@ -9,7 +9,7 @@ ghost use Rattle.tcl_table.specs.declared.command.Command.{Command as CommandVal
 
 use std::alloc::{AllocError, Global};
 use tcl_shapes::{Parameters, parameters_in};
-use tcl_table::texts::{about, fixed, message};
+use tcl_table::texts::{about, message};
 use tcl_table::{Command, CommandTable, Procedure, Source, is_dotted, plain_name};
 use tcl_text::Text;
 
@@ -40,7 +40,7 @@ fn define(
     ensures { IfOk result (λ refused. record { table = table.new; refused = refused } ≡ changed table.old (defined table.old name.now body.now (Ok parameters))) }
 {
     if !has_room(table, name) {
-        return Ok(Some(fixed(alloc, "limit reached: procedures")?));
+        return Ok(Some(Text::of_short(alloc, "limit reached: procedures")?));
     }
     let procedure = Procedure {
         parameters,

@@ -10,7 +10,7 @@ use crate::code::Code;
 use crate::plan::Plan;
 use std::alloc::{AllocError, Global};
 use tcl_shapes::Parameter;
-use tcl_table::texts::{fixed, limit, message};
+use tcl_table::texts::{limit, message};
 use tcl_table::{Levels, Procedure, plain_name};
 use tcl_text::{Text, TextFault};
 use tcl_vars::Scopes;
@@ -53,7 +53,7 @@ fn value_for(alloc: Global, fallback: &Option<Text>, words: &[Text]) -> Result<T
         [word, ..] => word.copy(),
         [] => match fallback {
             Some(value) => value.copy(),
-            None => fixed(alloc, ""),
+            None => Text::of_short(alloc, ""),
         },
     }
 }

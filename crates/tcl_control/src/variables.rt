@@ -8,7 +8,7 @@ use crate::control::{End, error_end, levels_left};
 use std::alloc::{AllocError, Global};
 use tcl_commands::{VariableCommand, call_variable_command, upvar_command};
 use tcl_table::Levels;
-use tcl_table::texts::{about, fixed};
+use tcl_table::texts::about;
 use tcl_text::Text;
 use tcl_vars::Scopes;
 
@@ -83,7 +83,7 @@ fn upvar_at(
 fn upvar_misused(alloc: Global) -> Result<End, AllocError>
     ensures { IfOk result (λ end. end ≡ record { code = Code.Error; text = wrong_words spec.upvar_usage }) }
 {
-    Ok(error_end(fixed(
+    Ok(error_end(Text::of_short(
         alloc,
         "wrong # args: should be \"upvar ?level? other mine ?other mine ..?\"",
     )?))
@@ -105,7 +105,7 @@ pub fn upvar_end(
         return upvar_misused(alloc);
     }
     if words.len() % 2 == 0 {
-        let one_up = fixed(alloc, "1")?;
+        let one_up = Text::of_short(alloc, "1")?;
         upvar_at(alloc, scopes, levels, &one_up, words)
     } else {
         upvar_at(alloc, scopes, levels, word, names)

@@ -11,14 +11,7 @@ use Rattle.tcl_expr.specs.declared.fault.ExprFault.{ExprFault}
 use Rattle.tcl_expr.specs.declared.fault.ExprFault.TheVariants as parse
 use Rattle.tcl_expr.specs.declared.fault.EvalFault.{EvalFault}
 use Rattle.tcl_expr.specs.declared.fault.EvalFault.TheVariants as eval
-use Rattle.tcl_text.specs.Limits.{most_bytes}
-
--- in place of a message past 65,536 bytes too
-abbrev pub limit_text : List ℕ
-limit_text = codes "limit reached: value"
-
-abbrev pub message : List ℕ → List ℕ
-message text = if nat_le (length text) most_bytes then text else limit_text
+use Rattle.tcl_text.specs.Answers.{limit_text, message}
 
 abbrev pub unary_name : UnaryOperator → List ℕ
 unary_name Negate = codes "-"

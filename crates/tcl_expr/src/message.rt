@@ -1,6 +1,7 @@
 //! What an application is told of a fault.
 ghost use Rattle.std.specs.Prelude.{◌≡◌, ◌≤◌, ◌++◌, length, codes, IfOk};
-ghost use Rattle.tcl_expr.specs.Messages.{message, limit_text, unary_name, arithmetic_name, operator_name};
+ghost use Rattle.tcl_expr.specs.Messages.{unary_name, arithmetic_name, operator_name};
+ghost use Rattle.tcl_text.specs.Answers.{message, limit_text};
 ghost use Rattle.tcl_text.specs.Splitting.{fault_text};
 ghost use Rattle.tcl_text.specs.Limits.{most_bytes};
 
@@ -9,36 +10,22 @@ use crate::operators::{ArithmeticOperator, NumberOperator, UnaryOperator};
 use std::alloc::{AllocError, Global};
 use tcl_text::{ListFault, Text, TextFault};
 
-/// A text of these characters, which are few enough.
-fn fixed(alloc: Global, characters: &str) -> Result<Text, AllocError>
-    requires { length characters.now ≤ most_bytes }
-    ensures { IfOk result (λ text. text ≡ characters.now) }
-{
-    match Text::new(alloc, characters) {
-        Ok(text) => Ok(text),
-        Err(_) => Err(AllocError),
-    }
-}
-
 /// The text that stands in place of one past 65,536 bytes.
 fn limit(alloc: Global) -> Result<Text, AllocError>
     ensures { IfOk result (λ text. text ≡ limit_text) }
 {
-    fixed(alloc, "limit reached: value")
+    Text::of_short(alloc, "limit reached: value")
 }
 
 /// A message about a subject, between what stands before it and a quote.
+#[tactic(auto, unfolding(tcl_text::specs::Answers::bounded))]
 fn message_about(alloc: Global, before: &str, subject: &str) -> Result<Text, AllocError>
     ensures { IfOk result (λ text. text ≡ message (before.now ++ subject.now ++ codes "\"")) }
 {
     let mut characters = String::from_str(alloc, before)?;
     characters.push_str(subject)?;
     characters.push_str("\"")?;
-    match Text::new(alloc, characters.as_str()) {
-        Ok(text) => Ok(text),
-        Err(TextFault::TooLong) => limit(alloc),
-        Err(TextFault::NoMemory) => Err(AllocError),
-    }
+    Text::of_message(alloc, characters.as_str())
 }
 
 fn unary_name(operator: UnaryOperator) -> &'static str
@@ -100,14 +87,20 @@ impl ExprFault {
     {
         match self {
             ExprFault::TooLong => limit(alloc),
-            ExprFault::MissingBrace => fixed(alloc, "missing close-brace"),
-            ExprFault::MissingBracket => fixed(alloc, "missing close-bracket"),
-            ExprFault::MissingQuote => fixed(alloc, "missing \""),
-            ExprFault::ExtraAfterBrace => fixed(alloc, "extra characters after close-brace"),
-            ExprFault::ExtraAfterQuote => fixed(alloc, "extra characters after close-quote"),
-            ExprFault::MissingParen => fixed(alloc, "missing )"),
+            ExprFault::MissingBrace => Text::of_short(alloc, "missing close-brace"),
+            ExprFault::MissingBracket => Text::of_short(alloc, "missing close-bracket"),
+            ExprFault::MissingQuote => Text::of_short(alloc, "missing \""),
+            ExprFault::ExtraAfterBrace => Text::of_short(
+                alloc,
+                "extra characters after close-brace",
+            ),
+            ExprFault::ExtraAfterQuote => Text::of_short(
+                alloc,
+                "extra characters after close-quote",
+            ),
+            ExprFault::MissingParen => Text::of_short(alloc, "missing )"),
             ExprFault::Syntax => message_about(alloc, "syntax error in expression \"", source),
-            ExprFault::NoMemory => fixed(alloc, ""),
+            ExprFault::NoMemory => Text::of_short(alloc, ""),
         }
     }
 }
@@ -125,16 +118,16 @@ impl EvalFault {
             EvalFault::NotBoolean(text) => {
                 message_about(alloc, "expected boolean value but got \"", text.as_str())
             }
-            EvalFault::BadList(fault) => fixed(alloc, list_message(*fault)),
+            EvalFault::BadList(fault) => Text::of_short(alloc, list_message(*fault)),
             EvalFault::TooLong => limit(alloc),
-            EvalFault::DivideByZero => fixed(alloc, "divide by zero"),
-            EvalFault::Overflow => fixed(alloc, "integer value too large to represent"),
+            EvalFault::DivideByZero => Text::of_short(alloc, "divide by zero"),
+            EvalFault::Overflow => Text::of_short(alloc, "integer value too large to represent"),
             EvalFault::NotNumber(operator) => message_about(
                 alloc,
                 "can't use non-numeric string as operand of \"",
                 operator_name(*operator),
             ),
-            EvalFault::NoMemory => fixed(alloc, ""),
+            EvalFault::NoMemory => Text::of_short(alloc, ""),
         }
     }
 }

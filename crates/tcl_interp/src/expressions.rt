@@ -16,7 +16,7 @@ ghost use Rattle.tcl_interp.specs.Rests.{doing_of, moved_of, standing_of, waits_
 use crate::machine::{Answered, Asking, Choosing, Frame, Now};
 use crate::words::wait;
 use std::alloc::{AllocError, Global};
-use tcl_control::texts::{cannot_read, cannot_read_element, fixed};
+use tcl_control::texts::{cannot_read, cannot_read_element};
 use tcl_control::{Choices, Code, CommandTable, Context, Expression, Looping, Source, truth};
 use tcl_expr::{Ask, Eval, EvalFault};
 use tcl_text::Text;
@@ -199,7 +199,7 @@ pub fn turn<K: Drop>(
         }
         Ok(false) => Ok(Now::Ends {
             code: Code::Normal,
-            text: fixed(alloc, "")?,
+            text: Text::of_short(alloc, "")?,
         }),
         Err(text) => Ok(Now::Ends {
             code: Code::Error,
@@ -219,7 +219,7 @@ fn otherwise<K: Drop>(alloc: Global, room: u64, body: &Option<Text>) -> Result<N
         }),
         None => Ok(Now::Ends {
             code: Code::Normal,
-            text: fixed(alloc, "")?,
+            text: Text::of_short(alloc, "")?,
         }),
     }
 }

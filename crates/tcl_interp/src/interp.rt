@@ -6,7 +6,6 @@ use crate::slices::{Ran, run};
 use crate::tasks::Tasks;
 use std::alloc::{AllocError, Global};
 use std::mem::replace;
-use tcl_control::texts::fixed;
 use tcl_control::{Code, Context, Levels, Source, first_commands};
 use tcl_text::Text;
 use tcl_vars::Scopes;
@@ -99,7 +98,7 @@ impl<K: Drop> Interp<K> {
         ensures kept { OnErr result (context_of self.new ≡ context_of self.old) }
         ensures budget { budget_of self.new ≡ budget_of self.old }
     {
-        let text = fixed(self.alloc, "")?;
+        let text = Text::of_short(self.alloc, "")?;
         let task = Box::new(self.alloc, task)?;
         let levels = Levels::global(self.alloc)?;
         self.frames.clear();

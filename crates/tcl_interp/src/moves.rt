@@ -14,7 +14,7 @@ use crate::expressions::{chosen, evaluate, turn};
 use crate::machine::{Answered, Asking, Frame, Now, ScriptPlace};
 use crate::words::{after_part, go_on, longer_index, put_index, wait};
 use std::alloc::{AllocError, Global};
-use tcl_control::texts::{fault_text, fixed};
+use tcl_control::texts::fault_text;
 use tcl_control::{Code, CommandTable, Context, End, Looping, ReturnCode, Source, caught};
 use tcl_text::Text;
 use tcl_vars::Scopes;
@@ -51,7 +51,7 @@ fn first_command<K>(alloc: Global, script: Script, room: u64) -> Result<Now<K>, 
             next: 0,
             room,
         },
-        result: fixed(alloc, "")?,
+        result: Text::of_short(alloc, "")?,
     })
 }
 
@@ -68,7 +68,7 @@ pub fn begun<K: Drop>(
     if room == 0 {
         return Ok(Now::Ends {
             code: Code::Error,
-            text: fixed(alloc, "too many nested evaluations (infinite loop?)")?,
+            text: Text::of_short(alloc, "too many nested evaluations (infinite loop?)")?,
         });
     }
     match script.read(table)? {
@@ -114,7 +114,7 @@ fn after_body<K: Drop>(
         Code::Continue => next_turn(frames, room, turning),
         Code::Break => Ok(Now::Ends {
             code: Code::Normal,
-            text: fixed(alloc, "")?,
+            text: Text::of_short(alloc, "")?,
         }),
         Code::Error => Ok(Now::Ends { code, text }),
         Code::Return(_) => Ok(Now::Ends { code, text }),
@@ -135,7 +135,7 @@ fn after_next<K: Drop>(
         Code::Normal => Ok(Now::Tests { room, turning }),
         Code::Break => Ok(Now::Ends {
             code: Code::Normal,
-            text: fixed(alloc, "")?,
+            text: Text::of_short(alloc, "")?,
         }),
         Code::Continue => Ok(Now::Ends { code, text }),
         Code::Error => Ok(Now::Ends { code, text }),
@@ -193,8 +193,8 @@ fn procedure_text(alloc: Global, code: Code, text: Text) -> Result<Text, AllocEr
     ensures { IfOk result (λ told. told ≡ procedure_text code text) }
 {
     match code {
-        Code::Break => fixed(alloc, "invoked \"break\" outside of a loop"),
-        Code::Continue => fixed(alloc, "invoked \"continue\" outside of a loop"),
+        Code::Break => Text::of_short(alloc, "invoked \"break\" outside of a loop"),
+        Code::Continue => Text::of_short(alloc, "invoked \"continue\" outside of a loop"),
         Code::Normal => Ok(text),
         Code::Error => Ok(text),
         Code::Return(_) => Ok(text),
@@ -228,11 +228,11 @@ fn global_end<K: Drop>(alloc: Global, code: Code, text: Text) -> Result<Now<K>, 
     match out_of_global(code) {
         Code::Break => Ok(Now::Ends {
             code: Code::Error,
-            text: fixed(alloc, "invoked \"break\" outside of a loop")?,
+            text: Text::of_short(alloc, "invoked \"break\" outside of a loop")?,
         }),
         Code::Continue => Ok(Now::Ends {
             code: Code::Error,
-            text: fixed(alloc, "invoked \"continue\" outside of a loop")?,
+            text: Text::of_short(alloc, "invoked \"continue\" outside of a loop")?,
         }),
         code => Ok(Now::Ends { code, text }),
     }

@@ -11,7 +11,6 @@ use crate::moves::{begun, quiet};
 use crate::steps::{call, resume, test};
 use crate::tasks::Tasks;
 use std::alloc::{AllocError, Global};
-use tcl_control::texts::fixed;
 use tcl_control::{Code, Context, Source};
 use tcl_text::Text;
 use tcl_vars::Scopes;
@@ -142,7 +141,7 @@ fn take_step<T: Tasks>(
             room,
             task,
             code: Code::Normal,
-            text: fixed(alloc, "")?,
+            text: Text::of_short(alloc, "")?,
         }),
         _ => unreachable!(),
     }

@@ -13,7 +13,7 @@ use crate::machine::{Frame, Now};
 use crate::tasks::{Act, Tasks};
 use crate::words::wait;
 use std::alloc::{AllocError, Global};
-use tcl_control::texts::{fixed, unknown_command};
+use tcl_control::texts::unknown_command;
 use tcl_control::{
     Call, Code, Context, Looping, Plan, Source, Test, Turning, Verdict, call_command, items_tested,
 };
@@ -133,7 +133,7 @@ fn test_items<K: Drop>(
         }
         Verdict::NoMore => Ok(Now::Ends {
             code: Code::Normal,
-            text: fixed(alloc, "")?,
+            text: Text::of_short(alloc, "")?,
         }),
         Verdict::Fails(text) => Ok(Now::Ends {
             code: Code::Error,
@@ -263,7 +263,7 @@ pub fn call<T: Tasks>(
     match words {
         [] => Ok(Now::Ends {
             code: Code::Normal,
-            text: fixed(alloc, "")?,
+            text: Text::of_short(alloc, "")?,
         }),
         [name, arguments @ ..] => {
             let now = call_named(alloc, tasks, scopes, context, frames, name, arguments, room)?;

@@ -10,7 +10,7 @@ ghost use Rattle.tcl_text.specs.Limits.{most_bytes};
 
 use crate::machine::{Frame, Indexing, Now, ScriptPlace, Wording};
 use std::alloc::{AllocError, Global};
-use tcl_control::texts::{cannot_read, cannot_read_element, fault_text, fixed, limit, list_fault};
+use tcl_control::texts::{cannot_read, cannot_read_element, fault_text, limit, list_fault};
 use tcl_control::{Code, Source};
 use tcl_text::{SplitFault, Text, TextFault, TextList};
 use tcl_vars::Scopes;
@@ -244,7 +244,7 @@ fn called<K: Drop>(
     if whole.is_empty() {
         return Ok(Now::GoesOn {
             place,
-            result: fixed(alloc, "")?,
+            result: Text::of_short(alloc, "")?,
         });
     }
     wait(frames, Frame::ForCommand(place))?;
@@ -298,7 +298,7 @@ fn put_words<K: Drop>(
             continue;
         }
         let pieces = pieces_at(words, word);
-        match put_pieces(alloc, scopes, level, pieces, 0, fixed(alloc, "")?)? {
+        match put_pieces(alloc, scopes, level, pieces, 0, Text::of_short(alloc, "")?)? {
             Put::Whole(text) => {
                 let more = with_word(alloc, whole, words, word, text)?;
                 match more {
@@ -370,7 +370,7 @@ fn element_begins<K: Drop>(
         name,
         index,
         piece: 0,
-        so_far: fixed(alloc, "")?,
+        so_far: Text::of_short(alloc, "")?,
     };
     Ok(Now::Indexes(Box::new(alloc, indexing)?))
 }

@@ -106,29 +106,17 @@ fn go_on<T: Jobs>(
     Ok(act)
 }
 
-/// A text of a few characters.
-fn short_text(alloc: Global, characters: &str) -> Result<Text, AllocError>
-    requires { length characters.now ≤ most_bytes }
-    ensures { IfOk result (λ text. text ≡ characters.now) }
-{
-    match Text::new(alloc, characters) {
-        Ok(text) => Ok(text),
-        Err(TextFault::NoMemory) => Err(AllocError),
-        Err(TextFault::TooLong) => unreachable!(),
-    }
-}
-
 /// The answer of a script at global level, where there is no loop that a break or a continue could act on.
 fn end_at_global<J: Drop>(alloc: Global, code: Code, text: Text) -> Result<Act<Task<J>>, AllocError>
     ensures { IfOk result (λ act. act ≡ global_act code text) }
 {
     match code {
         Code::Break => {
-            let fault = short_text(alloc, "invoked \"break\" outside of a loop")?;
+            let fault = Text::of_short(alloc, "invoked \"break\" outside of a loop")?;
             Ok(Act::Done(Code::Error, fault))
         }
         Code::Continue => {
-            let fault = short_text(alloc, "invoked \"continue\" outside of a loop")?;
+            let fault = Text::of_short(alloc, "invoked \"continue\" outside of a loop")?;
             Ok(Act::Done(Code::Error, fault))
         }
         other => Ok(Act::Done(other, text)),

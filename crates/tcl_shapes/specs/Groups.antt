@@ -5,7 +5,7 @@ use Rattle.tcl_text.specs.Splitting.{fault_text as list_text}
 use Rattle.tcl_text.specs.declared.splitting.ListFault.{ListFault}
 use Rattle.tcl_shapes.specs.declared.groups.Group.{Group}
 use Rattle.tcl_shapes.specs.Ahead.{ahead}
-use Rattle.tcl_shapes.specs.Texts.{message}
+use Rattle.tcl_text.specs.Answers.{message}
 
 abbrev pub group_named : List (List ℕ) → Result (List (List ℕ)) ListFault → Result Group (List ℕ)
 group_named names (Ok items) = Ok (record { names = names; items = items; next = 0 })

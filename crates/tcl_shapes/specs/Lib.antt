@@ -4,4 +4,3 @@ pub mod Branches
 pub mod Groups
 pub mod Parameters
 pub mod Shapes
-pub mod Texts

@@ -6,7 +6,7 @@ use Rattle.tcl_text.specs.Splitting.{fault_text as list_text}
 use Rattle.tcl_text.specs.declared.splitting.ListFault.{ListFault}
 use Rattle.tcl_vars.specs.Name.{element_of}
 use Rattle.tcl_shapes.specs.declared.parameters.Parameter.{Parameter}
-use Rattle.tcl_shapes.specs.Texts.{message}
+use Rattle.tcl_text.specs.Answers.{message}
 
 -- `::` stands in a name
 abbrev pub has_colons : List ℕ → Bool

@@ -8,7 +8,7 @@ use Rattle.tcl_shapes.specs.declared.branches.Branch.{Branch}
 use Rattle.tcl_shapes.specs.declared.branches.Choices.{Choices}
 use Rattle.tcl_shapes.specs.declared.groups.Group.{Group}
 use Rattle.tcl_shapes.specs.Groups.{advanced}
-use Rattle.tcl_shapes.specs.Texts.{message}
+use Rattle.tcl_text.specs.Answers.{message}
 
 -- cond ?then? body: a `then` right behind the condition is never the body
 abbrev pub IsBranch : List (List ℕ) → Branch → Type 0

@@ -3,7 +3,7 @@ ghost use Rattle.std.specs.List.{list_any};
 ghost use Rattle.tcl_text.specs.Readings.{list_of};
 ghost use Rattle.tcl_shapes.specs.Groups.{group_named, group_of, groups_from, groups_of, has_body, next_place, advanced, has_more, FollowsGroup};
 
-use crate::texts::{fixed, list_fault};
+use crate::texts::list_fault;
 use std::alloc::{AllocError, Global};
 use std::marker::Model;
 use tcl_text::{SplitFault, Text, TextList};
@@ -125,7 +125,7 @@ fn group_of(alloc: Global, names: &Text, items: &Text) -> Result<Result<Group, T
     match names.split_list(alloc) {
         Ok(names) => {
             if names.is_empty() {
-                return Ok(Err(fixed(alloc, "foreach varlist is empty")?));
+                return Ok(Err(Text::of_short(alloc, "foreach varlist is empty")?));
             }
             let group = group_named(alloc, names, items)?;
             Ok(group)

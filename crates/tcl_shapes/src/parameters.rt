@@ -3,7 +3,7 @@ ghost use Rattle.tcl_vars.specs.Name.{element_of};
 ghost use Rattle.tcl_text.specs.Readings.{list_of};
 ghost use Rattle.tcl_shapes.specs.Parameters.{has_colons, is_element, is_parameter_name, parameter_named, parameter_parts, parameter_of, parameters_of, parameters_in};
 
-use crate::texts::{fixed, list_fault};
+use crate::texts::list_fault;
 use std::alloc::{AllocError, Global};
 use std::marker::Model;
 use tcl_text::{SplitFault, Text};
@@ -102,7 +102,7 @@ fn parameter_named(
             fallback,
         }))
     } else {
-        Ok(Err(fixed(alloc, "bad parameter list")?))
+        Ok(Err(Text::of_short(alloc, "bad parameter list")?))
     }
 }
 
@@ -118,7 +118,7 @@ fn parameter_parts(alloc: Global, parts: &[Text]) -> Result<Result<Parameter, Te
             let parameter = parameter_named(alloc, name, Some(fallback.copy()?))?;
             Ok(parameter)
         }
-        _ => Ok(Err(fixed(alloc, "bad parameter list")?)),
+        _ => Ok(Err(Text::of_short(alloc, "bad parameter list")?)),
     }
 }
 

@@ -4,15 +4,7 @@ use Rattle.tcl_vars.specs.declared.fault.ReadFault.{ReadFault}
 use Rattle.tcl_vars.specs.declared.fault.ReadFault.TheVariants.{NoVariable, NoElement, IsArray, NotArray}
 use Rattle.tcl_vars.specs.declared.fault.SetFault.{SetFault}
 use Rattle.tcl_vars.specs.declared.fault.SetFault.TheVariants.{IsArray as SetArray, NotArray as SetNotArray, Full, NoMemory as SetNoMemory}
-use Rattle.tcl_text.specs.Limits.{most_bytes}
-
--- in place of a value, or of a message, past 65,536 bytes
-abbrev pub limit_text : List ℕ
-limit_text = codes "limit reached: value"
-
--- a message, where it isn't too long
-abbrev pub message : List ℕ → List ℕ
-message text = if nat_le (length text) most_bytes then text else limit_text
+pub use Rattle.tcl_text.specs.Answers.{limit_text, message}
 
 abbrev pub nesting_text : List ℕ
 nesting_text = codes "too many nested evaluations (infinite loop?)"

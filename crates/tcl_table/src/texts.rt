@@ -2,7 +2,8 @@
 ghost use Rattle.std.specs.Prelude.{◌≡◌, ◌≤◌, ◌++◌, length, IfOk, string_bytes};
 ghost use Rattle.tcl_text.specs.Splitting.{fault_text as list_text};
 ghost use Rattle.tcl_words.specs.Faults.{text_of};
-ghost use Rattle.tcl_table.specs.Texts.{message, limit_text, read_reason, cannot_read, cannot_set, element_name, not_boolean, unknown_command, about};
+ghost use Rattle.tcl_table.specs.Texts.{read_reason, cannot_read, cannot_set, element_name, not_boolean, unknown_command, about};
+ghost use Rattle.tcl_text.specs.Answers.{message, limit_text};
 ghost use Rattle.tcl_text.specs.Limits.{most_bytes};
 
 use std::alloc::{AllocError, Global};
@@ -10,36 +11,22 @@ use tcl_text::{ListFault, Text, TextFault};
 use tcl_vars::{ReadFault, SetFault};
 use tcl_words::ParseFault;
 
-/// A text of these characters, which are 65,536 bytes at most.
-pub fn fixed(alloc: Global, characters: &str) -> Result<Text, AllocError>
-    requires { length characters.now ≤ most_bytes }
-    ensures { IfOk result (λ text. text ≡ characters.now) }
-{
-    match Text::new(alloc, characters) {
-        Ok(text) => Ok(text),
-        Err(_) => Err(AllocError),
-    }
-}
-
 /// The error that a value would pass 65,536 bytes (4).
 pub fn limit(alloc: Global) -> Result<Text, AllocError>
     ensures { IfOk result (λ text. text ≡ limit_text) }
 {
-    fixed(alloc, "limit reached: value")
+    Text::of_short(alloc, "limit reached: value")
 }
 
 /// A message about a subject, between what stands before and after it; that of the limit (4) where it would pass 65,536 bytes.
+#[tactic(auto, unfolding(tcl_text::specs::Answers::bounded))]
 pub fn message(alloc: Global, before: &str, subject: &str, after: &str) -> Result<Text, AllocError>
     ensures { IfOk result (λ text. text ≡ message (before.now ++ subject.now ++ after.now)) }
 {
     let mut characters = String::from_str(alloc, before)?;
     characters.push_str(subject)?;
     characters.push_str(after)?;
-    match Text::new(alloc, characters.as_str()) {
-        Ok(text) => Ok(text),
-        Err(TextFault::TooLong) => limit(alloc),
-        Err(TextFault::NoMemory) => Err(AllocError),
-    }
+    Text::of_message(alloc, characters.as_str())
 }
 
 /// Why a variable can't be read, as its script is told of it: `NoVariable` (15), `NoElement` (16), `IsArray` (17) or `NotArray` (18).
@@ -102,8 +89,8 @@ pub fn cannot_set(alloc: Global, name: &Text, fault: SetFault) -> Result<Text, A
             name.as_str(),
             "\": variable isn't array",
         ),
-        SetFault::Full => fixed(alloc, "limit reached: variables"),
-        SetFault::NoMemory => fixed(alloc, ""),
+        SetFault::Full => Text::of_short(alloc, "limit reached: variables"),
+        SetFault::NoMemory => Text::of_short(alloc, ""),
     }
 }
 

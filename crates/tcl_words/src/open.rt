@@ -166,7 +166,7 @@ impl Open {
         }
         self.keep_literal(source, end)?;
         let literal = mem::replace(&mut self.literal, String::new(alloc));
-        let text = short_text(alloc, literal.as_str())?;
+        let text = Text::of_short(alloc, literal.as_str())?;
         Ok(text)
     }
 
@@ -238,18 +238,6 @@ impl Open {
     }
 }
 
-/// These characters, as a text.
-fn short_text(alloc: Global, characters: &str) -> Result<Text, AllocError>
-    requires { length characters.now ≤ most_bytes }
-    ensures ok { IfOk result (λ text. text ≡ characters.now) }
-{
-    match Text::new(alloc, characters) {
-        Ok(text) => Ok(text),
-        Err(TextFault::NoMemory) => Err(AllocError),
-        Err(TextFault::TooLong) => unreachable!(),
-    }
-}
-
 /// The bytes of the source from one place up to another, as a text.
 pub fn text_of(alloc: Global, source: &str, start: usize, end: usize) -> Result<Text, AllocError>
     requires ordered { start ≤ end }
@@ -259,5 +247,5 @@ pub fn text_of(alloc: Global, source: &str, start: usize, end: usize) -> Result<
     requires ends { IsCharBoundary source.now end }
     ensures ok { IfOk result (λ text. text ≡ slice_range source.now start end) }
 {
-    short_text(alloc, &source[start..end])
+    Text::of_short(alloc, &source[start..end])
 }

@@ -20,8 +20,10 @@ use Rattle.tk_tree.specs.Own.{Own as Tree}
 use Rattle.tk_tree.specs.Path.{parent_and_name}
 use Rattle.tk_widgets.specs.Commands.{variable_write, with_options}
 use Rattle.tk_widgets.specs.declared.outcome.Change.TheVariants.{Configure}
+use Rattle.tk_widgets.specs.declared.widget.Widget.{Widget}
 use Rattle.tk_widgets.specs.Sizes.{new_widget}
 use Rattle.tk_window_commands.specs.Answers.{Done, keeps}
+use Rattle.tk_window_commands.specs.declared.create.Ready.{Ready}
 
 -- the usage of the command that makes widgets of a kind
 abbrev pub usage_of : Kind → List ℕ
@@ -52,20 +54,27 @@ path_refusal path tree = if bytes_eq path (codes ".") then Some BadPath else ref
 
 -- ---- the window
 
--- the window is made with its options set, once the variable that they ask for is
-abbrev pub made_after : Kind → List ℕ → List Setting → Own → Store → Result Store (List ℕ) → Done
-made_after kind path all own store (Ok new) =
-    record { own = with_made path kind (with_options (with_settings all) (new_widget kind)) own; store = new; answer = Ok path }
-made_after kind path all own store (Err text) = keeps own store (Err text)
+-- a widget with options set, and what they write into its variable
+abbrev pub ready : List Setting → Widget → Ready
+ready all widget = record { widget = with_options (with_settings all) widget; write = variable_write (Configure all) widget }
 
-abbrev pub made_with : Kind → List ℕ → Own → Store → Result (List Setting) OptionFault → Done
-made_with kind path own store (Ok all) = made_after kind path all own store (wrote (variable_write (Configure all) (new_widget kind)) store)
-made_with kind path own store (Err fault) = keeps own store (fails (option_text fault))
+abbrev pub ready_with : Kind → Result (List Setting) OptionFault → Result Ready (List ℕ)
+ready_with kind (Ok all) = Ok (ready all (new_widget kind))
+ready_with kind (Err fault) = fails (option_text fault)
+
+-- the window is made of the widget, once its variable is written
+abbrev pub made_after : Kind → List ℕ → Widget → Own → Store → Result Store (List ℕ) → Done
+made_after kind path widget own store (Ok new) = record { own = with_made path kind widget own; store = new; answer = Ok path }
+made_after kind path widget own store (Err text) = keeps own store (Err text)
+
+abbrev pub made_with : Kind → List ℕ → Own → Store → Result Ready (List ℕ) → Done
+made_with kind path own store (Ok ready) = made_after kind path ready.widget own store (wrote ready.write store)
+made_with kind path own store (Err text) = keeps own store (Err text)
 
 -- the path is tested before the options
 abbrev pub made_unless : Kind → List ℕ → List (List ℕ) → Own → Store → Option WindowFault → Done
 made_unless kind path options own store (Some fault) = keeps own store (fails (refusal_text path fault))
-made_unless kind path options own store None = made_with kind path own store (settings options (options_of kind))
+made_unless kind path options own store None = made_with kind path own store (ready_with kind (settings options (options_of kind)))
 
 -- KIND path ?option value ..?: the answer is the path; a refused command changes nothing
 unfoldable pub create_words : Kind → List (List ℕ) → Own → Store → Done

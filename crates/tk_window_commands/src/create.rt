@@ -20,7 +20,7 @@ use tk_base::Kind;
 use tk_options::{OptionFault, Settings};
 use tk_screen::{Screen, write_variable};
 use tk_tree::{WindowFault, Windows};
-use tk_widgets::{Change, Widget};
+use tk_widgets::{Change, VariableWrite, Widget};
 
 /// The command `frame`, `label`, `button`, `entry` or `listbox` (frame(n), ..), from the words behind its name: makes a window of a path with its
 /// options set, and answers the path. Refused are a path (24 to 28), then options (20 to 23), then a variable that can't be set (19); a command
@@ -84,6 +84,13 @@ fn path_refusal(windows: &Windows, slot: usize, path: &Text) -> Option<WindowFau
     windows.refusal(slot, path.as_str())
 }
 
+/// A widget with its options set, and what they write into its variable.
+#[derive(Drop)]
+pub struct Ready {
+    widget: Widget,
+    write: Option<VariableWrite>,
+}
+
 /// Makes a window of a path that may be made.
 fn make(
     alloc: Global,
@@ -96,20 +103,36 @@ fn make(
 ) -> Result<Text, Refusal>
     requires { spec.path_refusal path.now (own_of slot screen.old).tree ≡ None }
     ensures own { Does result (own_of slot screen.new) scopes.new
-        (spec.made_with kind path.now (own_of slot screen.old) scopes.old (settings options.now (options_of kind))) }
+        (spec.made_with kind path.now (own_of slot screen.old) scopes.old (spec.ready_with kind (settings options.now (options_of kind)))) }
     ensures others { LeavesOthers slot screen.old screen.new }
 {
-    let mut widget = Widget::new(alloc, kind)?;
-    let all = settings_of(alloc, &widget, options)?;
-    let change = Change::Configure(all);
-    let write = widget.variable_write(alloc, &change)?;
     let answer = path.copy()?;
-    widget.make(alloc, change)?;
+    let Ready { widget, write } = ready_with(alloc, kind, options)?;
     write_variable(alloc, scopes, write)?;
     match screen.create(slot, path, kind, widget) {
         Ok(_) => Ok(answer),
         Err(_) => Err(Refusal::NoMemory),
     }
+}
+
+/// A new widget with options set, or the error of one that is refused (20 to 23).
+fn ready_with(alloc: Global, kind: Kind, options: &[Text]) -> Result<Ready, Refusal>
+    ensures { Gives result (spec.ready_with kind (settings options.now (options_of kind))) }
+{
+    let widget = Widget::new(alloc, kind)?;
+    let all = settings_of(alloc, &widget, options)?;
+    Ok(ready(alloc, widget, all)?)
+}
+
+/// A widget with these options set.
+#[tactic(auto, using(crate::proofs::Made::set_by))]
+fn ready(alloc: Global, mut widget: Widget, all: Settings) -> Result<Ready, AllocError>
+    ensures { IfOk result (λ ready. ready ≡ spec.ready all widget) }
+{
+    let change = Change::Configure(all);
+    let write = widget.variable_write(alloc, &change)?;
+    widget.make(alloc, change)?;
+    Ok(Ready { widget, write })
 }
 
 /// What options and values set of a new widget, or the error of one that is refused (20 to 23).

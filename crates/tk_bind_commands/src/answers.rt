@@ -33,7 +33,17 @@ pub fn answered(given: Result<Text, Refusal>) -> Result<Answer, AllocError>
 pub fn nothing(alloc: Global) -> Result<Text, AllocError>
     ensures { IfOk result (λ text. text ≡ []) }
 {
-    Text::of_short(alloc, "")
+    short_text(alloc, "")
+}
+
+/// A text of characters that are known to be few enough.
+pub fn short_text(alloc: Global, characters: &str) -> Result<Text, AllocError>
+    ensures { IfOk result (λ text. text ≡ characters.now) }
+{
+    match Text::new(alloc, characters) {
+        Ok(text) => Ok(text),
+        Err(_) => Err(AllocError),
+    }
 }
 
 /// The error for a path that no window has (24).

@@ -1,12 +1,11 @@
 //! The errors of commands on variables.
-ghost use Rattle.std.specs.Prelude.{◌≡◌, ◌≤◌, [], ◌++◌, length, Ok, IfOk, string_bytes};
+ghost use Rattle.std.specs.Prelude.{◌≡◌, [], ◌++◌, Ok, IfOk, string_bytes};
 ghost use Rattle.tcl_text.specs.Answers.{Gives, Refuses, bounded, quoted};
 ghost use Rattle.tcl_commands.specs.Texts as spec;
-ghost use Rattle.tcl_text.specs.Limits.{most_bytes};
 
 use std::alloc::{AllocError, Global};
+use tcl_text::Text;
 use tcl_text::answers::{Refusal, error, quoting_error};
-use tcl_text::{Text, TextFault};
 use tcl_vars::{LinkFault, ReadFault, SetFault, UnsetFault};
 
 /// Why a variable can't be read (15 to 18), as its script is told of it. A text past 65,536 bytes is that of the limit (4).

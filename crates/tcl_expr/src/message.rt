@@ -8,7 +8,7 @@ ghost use Rattle.tcl_text.specs.Limits.{most_bytes};
 use crate::fault::{EvalFault, ExprFault};
 use crate::operators::{ArithmeticOperator, NumberOperator, UnaryOperator};
 use std::alloc::{AllocError, Global};
-use tcl_text::{ListFault, Text, TextFault};
+use tcl_text::{ListFault, Text};
 
 /// The text that stands in place of one past 65,536 bytes.
 fn limit(alloc: Global) -> Result<Text, AllocError>

@@ -1,13 +1,12 @@
 //! How the tasks of an interpreter do jobs.
 
-ghost use Rattle.std.specs.Prelude.{◌≡◌, ◌≤◌, length, IfOk};
+ghost use Rattle.std.specs.Prelude.{◌≡◌, IfOk};
 ghost use Rattle.tcl_jobs.specs.Tasks.{act_of, ended_told, global_act, looked_told, resumes_of, started_told};
-ghost use Rattle.tcl_text.specs.Limits.{most_bytes};
 
 use crate::job::{Looked, Started, Task};
 use std::alloc::{AllocError, Global};
 use tcl_interp::{Act, Code};
-use tcl_text::{Text, TextFault};
+use tcl_text::Text;
 use tcl_vars::Scopes;
 
 /// Says of its jobs what comes next, what that starts, and what the end of its script makes of them. None of the three runs a script or takes a

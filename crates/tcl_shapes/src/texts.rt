@@ -1,10 +1,9 @@
-ghost use Rattle.std.specs.Prelude.{◌≡◌, ◌≤◌, length, IfOk};
+ghost use Rattle.std.specs.Prelude.{◌≡◌, IfOk};
 ghost use Rattle.tcl_text.specs.Splitting.{fault_text as list_text};
 ghost use Rattle.tcl_text.specs.Answers.{message};
-ghost use Rattle.tcl_text.specs.Limits.{most_bytes};
 
 use std::alloc::{AllocError, Global};
-use tcl_text::{ListFault, Text, TextFault};
+use tcl_text::{ListFault, Text};
 
 /// Why a text is no list, as its script is told of it.
 #[tactic(auto, unfolding(tcl_text::specs::Answers::bounded))]

@@ -1,5 +1,5 @@
 -- Meaning. The texts of errors.
-use Rattle.std.specs.Prelude.{ℕ, List, [], ◌++◌, length, nat_le, if◌then◌else◌, codes}
+use Rattle.std.specs.Prelude.{ℕ, List, [], ◌++◌, codes}
 use Rattle.tcl_vars.specs.declared.fault.ReadFault.{ReadFault}
 use Rattle.tcl_vars.specs.declared.fault.ReadFault.TheVariants.{NoVariable, NoElement, IsArray, NotArray}
 use Rattle.tcl_vars.specs.declared.fault.SetFault.{SetFault}

@@ -1,13 +1,12 @@
 //! The texts of errors, as scripts are told of them. In place of one past 65,536 bytes stands that of the limit (4).
-ghost use Rattle.std.specs.Prelude.{◌≡◌, ◌≤◌, ◌++◌, length, IfOk, string_bytes};
+ghost use Rattle.std.specs.Prelude.{◌≡◌, ◌++◌, IfOk, string_bytes};
 ghost use Rattle.tcl_text.specs.Splitting.{fault_text as list_text};
 ghost use Rattle.tcl_words.specs.Faults.{text_of};
 ghost use Rattle.tcl_table.specs.Texts.{read_reason, cannot_read, cannot_set, element_name, not_boolean, unknown_command, about};
 ghost use Rattle.tcl_text.specs.Answers.{message, limit_text};
-ghost use Rattle.tcl_text.specs.Limits.{most_bytes};
 
 use std::alloc::{AllocError, Global};
-use tcl_text::{ListFault, Text, TextFault};
+use tcl_text::{ListFault, Text};
 use tcl_vars::{ReadFault, SetFault};
 use tcl_words::ParseFault;
 

@@ -8,7 +8,7 @@ use crate::script::{Command, Piece, Pieces, Span, Word, WordForm, Words};
 use std::alloc::{AllocError, Global};
 use std::marker::Model;
 use std::mem;
-use tcl_text::{Text, TextFault};
+use tcl_text::Text;
 
 /// What was read of a script or an index so far: its commands, and the parts that are still open. Places are
 /// counted from where the script begins.

@@ -1,7 +1,7 @@
 //! Asks the commands on texts and variables for their answers, and tells of each that isn't the one in a table (`tables` says what stands in one).
 //!
 //! A question `LEVEL WORD|WORD|..` calls a command at level 0, or at 1 or 2, as a procedure does that was called at the level below. It is answered
-//! `=` and the command's result, or `!` and its error.
+//! `=` and the command's result, or `!` and its error. A word `@NAME` is the text that the variable of that name holds, and not a text that is read anew.
 #![tactic(auto)]
 
 use anyhow::{Result, bail};
@@ -20,10 +20,23 @@ struct Frames {
     scopes: Scopes,
 }
 
-fn texts_of(alloc: Global, words: &[&str]) -> Result<TextList> {
+/// The text that a variable holds.
+fn held(alloc: Global, scopes: &mut Scopes, level: usize, name: &str) -> Result<Text> {
+    let words = [Text::new(alloc, "set")?, Text::new(alloc, name)?];
+    match variable_answer(alloc, scopes, level, &words)? {
+        Some(Ok(text)) => Ok(text),
+        _ => bail!("no such variable"),
+    }
+}
+
+fn texts_of(alloc: Global, scopes: &mut Scopes, level: usize, words: &[&str]) -> Result<TextList> {
     let mut texts = TextList::new(alloc);
     for word in words {
-        texts.push(Text::new(alloc, word)?)?;
+        let text = match word.strip_prefix('@') {
+            Some(name) => held(alloc, scopes, level, name)?,
+            None => Text::new(alloc, word)?,
+        };
+        texts.push(text)?;
     }
     Ok(texts)
 }
@@ -81,9 +94,10 @@ impl Fixture for Frames {
 
     fn answer(&mut self, alloc: Global, question: &str) -> Result<String> {
         let (level, words) = first_word(question);
+        let level = number(level)?;
         let words = words_of(alloc, words, '|')?;
-        let words = texts_of(alloc, words.as_slice())?;
-        let answer = answer_of(alloc, &mut self.scopes, number(level)?, words.as_slice())?;
+        let words = texts_of(alloc, &mut self.scopes, level, words.as_slice())?;
+        let answer = answer_of(alloc, &mut self.scopes, level, words.as_slice())?;
         told(alloc, &answer)
     }
 }

@@ -15,16 +15,16 @@ use Rattle.tcl_commands.specs.declared.usages.Usage.TheVariants as usage
 abbrev pub global_name : List ℕ → List ℕ
 global_name name = if starts_with nat_eq name (codes "::") then drop 2 name else name
 
--- a name that can't be used is told as it is used, but an element as it is written
-abbrev pub name_told : List ℕ → List ℕ
-name_told name = if is_none (element_of (global_name name)) then global_name name else name
+-- how a name is told that can't be linked: as it is used, but an element as it is written
+abbrev pub name_told : List ℕ → List ℕ → LinkFault → List ℕ
+name_told written global BadName = if is_none (element_of global) then global else written
+name_told written global Exists = global
+name_told written global Full = global
+name_told written global NoMemory = global
 
 abbrev pub global_told : List ℕ → Result Store LinkFault → Result Store (List ℕ)
 global_told name (Ok new) = Ok new
-global_told name (Err BadName) = cannot_link (name_told name) BadName
-global_told name (Err Exists) = cannot_link (global_name name) Exists
-global_told name (Err Full) = cannot_link (global_name name) Full
-global_told name (Err NoMemory) = cannot_link (global_name name) NoMemory
+global_told name (Err fault) = cannot_link (name_told name (global_name name) fault) fault
 
 -- the name of a frame is linked to the global variable of that name
 abbrev pub global_step : ℕ → List ℕ → Store → Result Store (List ℕ)

@@ -1,5 +1,5 @@
 //! The commands of global(n) and upvar(n).
-ghost use Rattle.std.specs.Prelude.{◌≡◌, ◌<◌, length, is_some, IfOk};
+ghost use Rattle.std.specs.Prelude.{◌≡◌, ◌<◌, length, option_map, IfOk};
 ghost use Rattle.tcl_commands.specs.Done.{Does, Steps};
 ghost use Rattle.tcl_commands.specs.Links as spec;
 ghost use Rattle.tcl_vars.specs.Name.{element_of};
@@ -63,21 +63,28 @@ fn link_global(alloc: Global, scopes: &mut Scopes, level: usize, name: &Text) ->
     match scopes.link(level, &global, 0, &global) {
         Ok(()) => Ok(()),
         Err(LinkFault::NoMemory) => Err(Refusal::NoMemory),
-        Err(LinkFault::BadName) if is_element(global.as_str()) => {
-            cannot_link(alloc, name.as_str(), LinkFault::BadName)
+        Err(fault) => {
+            let told = name_told(name.as_str(), global.as_str(), fault);
+            cannot_link(alloc, told, fault)
         }
-        Err(fault) => cannot_link(alloc, global.as_str(), fault),
     }
 }
 
-/// Whether a name behind its leading `::` means an element.
-fn is_element(name: &str) -> bool
-    ensures { result ≡ is_some (element_of name.now) }
+/// How a name is told that can't be linked: as it is used, but an element as it is written.
+fn name_told<'a>(written: &'a str, global: &'a str, fault: LinkFault) -> &'a str
+    ensures { result.now ≡ spec.name_told written.now global.now fault }
 {
-    match name.strip_suffix(')') {
-        Some(front) => front.split_once('(').is_some(),
-        None => false,
+    match (fault, element_of(global)) {
+        (LinkFault::BadName, Some(_)) => written,
+        _ => global,
     }
+}
+
+/// The array and the index of a name `array(index)`, none where the name means a variable.
+fn element_of<'a>(name: &'a str) -> Option<(&'a str, &'a str)>
+    ensures { option_map (λ p. (p.0.now, p.1.now)) result ≡ element_of name.now }
+{
+    name.strip_suffix(')')?.split_once('(')
 }
 
 /// A global variable's name without a leading `::`.

@@ -113,14 +113,11 @@ pub fn unknown_command(alloc: Global, name: &str) -> Result<Text, AllocError>
 }
 
 /// A message of these characters; that of the limit (4) where they pass 65,536 bytes.
+#[tactic(auto, unfolding(tcl_text::specs::Answers::bounded))]
 pub fn told(alloc: Global, characters: &str) -> Result<Text, AllocError>
     ensures { IfOk result (λ text. text ≡ message characters.now) }
 {
-    match Text::new(alloc, characters) {
-        Ok(text) => Ok(text),
-        Err(TextFault::TooLong) => limit(alloc),
-        Err(TextFault::NoMemory) => Err(AllocError),
-    }
+    Text::of_message(alloc, characters)
 }
 
 /// Why a text is no script (4 to 10), as its script is told of it. Refused memory has no such text: it is empty.

@@ -78,7 +78,6 @@ pub(crate) fn place_of(text: &Text) -> usize
 }
 
 /// The script that is kept at a place, if it is that of a text.
-#[tactic(auto, using(crate::proofs::SourceLemmas::script_walk))]
 pub(crate) fn script_at(
     places: &[Option<Script>],
     place: usize,

@@ -1,7 +1,6 @@
 -- A window that is made, and one that isn't, since its variable can't be set.
-use Rattle.std.proofs.Common.{◌≡◌, ℕ, List, Option, refl, sym, ap, ◌∙◌, subst}
+use Rattle.std.proofs.Common.{◌≡◌, ℕ, List, refl, sym, ap, ◌∙◌, subst}
 use Rattle.std.specs.Prelude.{Result, Ok, Err}
-use Rattle.tcl_commands.specs.Done.{Steps}
 use Rattle.tcl_text.specs.Answers.{Gives, bounded}
 use Rattle.tcl_text.specs.declared.commands.answers.Refusal.{Refusal}
 use Rattle.tcl_text.specs.declared.commands.answers.Refusal.TheVariants.{Error, NoMemory}
@@ -15,15 +14,13 @@ use Rattle.tk_options.specs.Options.{settings, with_settings}
 use Rattle.tk_options.specs.Rows.{options_of}
 use Rattle.tk_screen.specs.Changes.{wrote}
 use Rattle.tk_screen.specs.Own.{Own, with_made}
-use Rattle.tk_widgets.specs.Commands.{Told, made, options_in, variable_write, with_options}
+use Rattle.tk_widgets.specs.Commands.{Told, made, options_in, with_options}
 use Rattle.tk_widgets.specs.declared.outcome.Change.TheVariants.{Configure}
-use Rattle.tk_widgets.specs.declared.outcome.VariableWrite.{VariableWrite}
 use Rattle.tk_widgets.specs.declared.outcome.WidgetAct.{WidgetAct}
 use Rattle.tk_widgets.specs.declared.widget.Widget.{Widget}
 use Rattle.tk_widgets.specs.Outcomes.{or_fault}
 use Rattle.tk_widgets.specs.Sizes.{new_widget}
-use Rattle.tk_window_commands.specs.Answers.{Done, Does, keeps}
-use Rattle.tk_window_commands.specs.Create.{made_after, made_with, ready, ready_with}
+use Rattle.tk_window_commands.specs.Create.{made_after, made_with, configured, configured_new}
 use Rattle.tk_window_commands.specs.declared.create.Ready.{Ready}
 
 options_new : (kind : Kind) → options_in (new_widget kind) ≡ options_of kind
@@ -42,7 +39,7 @@ given_ok kind widget options all new is =
     ap (settings options) (sym (options_new kind) ∙ ap options_in (sym new)) ∙ ok_settings (settings options (options_in widget)) all is
 
 fault_told : (refusal : Refusal) (kind : Kind) (given : Result (List Setting) OptionFault)
-    → Gives {T = List Setting} (Err refusal) (or_fault given) → Gives {T = Ready} (Err refusal) (ready_with kind given)
+    → Gives {T = List Setting} (Err refusal) (or_fault given) → Gives {T = Ready} (Err refusal) (configured_new kind given)
 fault_told NoMemory kind given gives = tt
 fault_told (Error message) kind (Ok all) gives = absurd (cc)
 fault_told (Error message) kind (Err fault) gives =
@@ -51,38 +48,19 @@ fault_told (Error message) kind (Err fault) gives =
 
 -- options that are refused
 pub given_refused : (refusal : Refusal) (kind : Kind) (widget : Widget) (options : List (List ℕ)) → widget ≡ new_widget kind
-    → Gives {T = List Setting} (Err refusal) (or_fault (settings options (options_in widget))) → Gives {T = Ready} (Err refusal) (ready_with kind (settings options (options_of kind)))
+    → Gives {T = List Setting} (Err refusal) (or_fault (settings options (options_in widget))) → Gives {T = Ready} (Err refusal) (configured_new kind (settings options (options_of kind)))
 given_refused refusal kind widget options new gives =
     let same : settings options (options_in widget) ≡ settings options (options_of kind) = ap (settings options) (ap options_in new ∙ options_new kind) in
     fault_told refusal kind (settings options (options_of kind)) (subst (λ given. Gives {T = List Setting} (Err refusal) (or_fault given)) same gives)
 
 -- options that are set
 pub given_set : (kind : Kind) (widget : Widget) (options : List (List ℕ)) (all : List Setting) (done : Ready) → widget ≡ new_widget kind → or_fault (settings options (options_in widget)) ≡ Ok all
-    → done ≡ ready all widget → ready_with kind (settings options (options_of kind)) ≡ Ok done
+    → done ≡ configured all widget → configured_new kind (settings options (options_of kind)) ≡ Ok done
 given_set kind widget options all done new is set =
-    ap (ready_with kind) (given_ok kind widget options all new is) ∙ ap Ok (ap (ready all) (sym new) ∙ sym set)
+    ap (configured_new kind) (given_ok kind widget options all new is) ∙ ap Ok (ap (configured all) (sym new) ∙ sym set)
 
 pub set_by : (all : List Setting) (widget widget' : Widget) (act : WidgetAct) → made (Configure all) widget ≡ record { widget = widget'; act = act } → with_options (with_settings all) widget ≡ widget'
 set_by all widget widget' act is = ap (λ (t : Told). t.widget) is
-
--- a widget that isn't ready leaves all as it was
-pub not_ready : (refusal : Refusal) (own : Own) (kind : Kind) (path : List ℕ) (store : Store) (given : Result Ready (List ℕ))
-    → Gives {T = Ready} (Err refusal) given → Does (Err refusal) own store (made_with kind path own store given)
-not_ready NoMemory own kind path store given gives = tt
-not_ready (Error message) own kind path store given gives = ap (made_with kind path own store) gives
-
--- so does a variable that can't be set
-not_written : (refusal : Refusal) (own : Own) (kind : Kind) (path : List ℕ) (widget : Widget) (store new : Store) (wanted : Result Store (List ℕ)) → Steps {U = Unit {0}} (Err refusal) store new wanted
-    → Does (Err refusal) own new (made_after kind path widget own store wanted)
-not_written (Error message) own kind path widget store new wanted steps =
-    let kept : Store → Done = λ s. record { own = own; store = s; answer = Err message } in
-    ap (made_after kind path widget own store) steps.0 ∙ ap kept (sym steps.1)
-not_written NoMemory own kind path widget store new wanted steps = tt
-
-pub write_refused : (refusal : Refusal) (own : Own) (kind : Kind) (path : List ℕ) (store new : Store) (done : Ready) (given : Result Ready (List ℕ))
-    → given ≡ Ok done → Steps {U = Unit {0}} (Err refusal) store new (wrote done.write store) → Does (Err refusal) own new (made_with kind path own store given)
-write_refused refusal own kind path store new done given given_is steps =
-    subst (λ g. Does (Err refusal) own new (made_with kind path own store g)) (sym given_is) (not_written refusal own kind path done.widget store new (wrote done.write store) steps)
 
 -- the window is made of the widget, and its variable was written
 pub window_made : (own own' : Own) (kind : Kind) (path answer : List ℕ) (store new : Store) (done : Ready) (given : Result Ready (List ℕ))

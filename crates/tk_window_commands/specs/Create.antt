@@ -55,12 +55,12 @@ path_refusal path tree = if bytes_eq path (codes ".") then Some BadPath else ref
 -- ---- the window
 
 -- a widget with options set, and what they write into its variable
-abbrev pub ready : List Setting → Widget → Ready
-ready all widget = record { widget = with_options (with_settings all) widget; write = variable_write (Configure all) widget }
+abbrev pub configured : List Setting → Widget → Ready
+configured all widget = record { widget = with_options (with_settings all) widget; write = variable_write (Configure all) widget }
 
-abbrev pub ready_with : Kind → Result (List Setting) OptionFault → Result Ready (List ℕ)
-ready_with kind (Ok all) = Ok (ready all (new_widget kind))
-ready_with kind (Err fault) = fails (option_text fault)
+abbrev pub configured_new : Kind → Result (List Setting) OptionFault → Result Ready (List ℕ)
+configured_new kind (Ok all) = Ok (configured all (new_widget kind))
+configured_new kind (Err fault) = fails (option_text fault)
 
 -- the window is made of the widget, once its variable is written
 abbrev pub made_after : Kind → List ℕ → Widget → Own → Store → Result Store (List ℕ) → Done
@@ -74,7 +74,7 @@ made_with kind path own store (Err text) = keeps own store (Err text)
 -- the path is tested before the options
 abbrev pub made_unless : Kind → List ℕ → List (List ℕ) → Own → Store → Option WindowFault → Done
 made_unless kind path options own store (Some fault) = keeps own store (fails (refusal_text path fault))
-made_unless kind path options own store None = made_with kind path own store (ready_with kind (settings options (options_of kind)))
+made_unless kind path options own store None = made_with kind path own store (configured_new kind (settings options (options_of kind)))
 
 -- KIND path ?option value ..?: the answer is the path; a refused command changes nothing
 unfoldable pub create_words : Kind → List (List ℕ) → Own → Store → Done

@@ -103,11 +103,11 @@ fn make(
 ) -> Result<Text, Refusal>
     requires { spec.path_refusal path.now (own_of slot screen.old).tree ≡ None }
     ensures own { Does result (own_of slot screen.new) scopes.new
-        (spec.made_with kind path.now (own_of slot screen.old) scopes.old (spec.ready_with kind (settings options.now (options_of kind)))) }
+        (spec.made_with kind path.now (own_of slot screen.old) scopes.old (spec.configured_new kind (settings options.now (options_of kind)))) }
     ensures others { LeavesOthers slot screen.old screen.new }
 {
     let answer = path.copy()?;
-    let Ready { widget, write } = ready_with(alloc, kind, options)?;
+    let Ready { widget, write } = configured_new(alloc, kind, options)?;
     write_variable(alloc, scopes, write)?;
     match screen.create(slot, path, kind, widget) {
         Ok(_) => Ok(answer),
@@ -116,18 +116,18 @@ fn make(
 }
 
 /// A new widget with options set, or the error of one that is refused (20 to 23).
-fn ready_with(alloc: Global, kind: Kind, options: &[Text]) -> Result<Ready, Refusal>
-    ensures { Gives result (spec.ready_with kind (settings options.now (options_of kind))) }
+fn configured_new(alloc: Global, kind: Kind, options: &[Text]) -> Result<Ready, Refusal>
+    ensures { Gives result (spec.configured_new kind (settings options.now (options_of kind))) }
 {
     let widget = Widget::new(alloc, kind)?;
     let all = settings_of(alloc, &widget, options)?;
-    Ok(ready(alloc, widget, all)?)
+    Ok(configured(alloc, widget, all)?)
 }
 
 /// A widget with these options set.
 #[tactic(auto, using(crate::proofs::Made::set_by))]
-fn ready(alloc: Global, mut widget: Widget, all: Settings) -> Result<Ready, AllocError>
-    ensures { IfOk result (λ ready. ready ≡ spec.ready all widget) }
+fn configured(alloc: Global, mut widget: Widget, all: Settings) -> Result<Ready, AllocError>
+    ensures { IfOk result (λ ready. ready ≡ spec.configured all widget) }
 {
     let change = Change::Configure(all);
     let write = widget.variable_write(alloc, &change)?;

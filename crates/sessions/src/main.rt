@@ -35,17 +35,12 @@ fn told(alloc: Global, session: &[u8]) -> Result<(Vec<u8>, Vec<u8>)> {
     Ok((sections, fault))
 }
 
-/// Whether the session's sections are the same at each of these slices.
-fn same_at_each_slice(
-    alloc: Global,
-    session: &[u8],
-    slices: &[u64],
-    expected: &[u8],
-) -> Result<bool> {
+/// Whether the session's sections are the same at each slice.
+fn same_at_each_slice(alloc: Global, session: &[u8], expected: &[u8]) -> Result<bool> {
     let Ok(session) = read_session(alloc, session) else {
         return Ok(false);
     };
-    for &slice in slices {
+    for slice in SLICES {
         let mut sections = Vec::new(alloc);
         let aliases = services_of(alloc, &session)?;
         if play(alloc, &session, aliases, slice, &mut sections).is_err()
@@ -57,8 +52,8 @@ fn same_at_each_slice(
     Ok(true)
 }
 
-/// Whether a session writes what is stored beside it.
-fn is_as_expected<R: Files + AllocGlobal>(rt: &R, name: &str, slices: &[u64]) -> Result<bool> {
+/// Whether a session writes what is stored beside it, once or at each slice.
+fn is_as_expected<R: Files + AllocGlobal>(rt: &R, name: &str, once: bool) -> Result<bool> {
     let Some(session) = stored(rt, name, "session")? else {
         bail!("no such session");
     };
@@ -67,7 +62,8 @@ fn is_as_expected<R: Files + AllocGlobal>(rt: &R, name: &str, slices: &[u64]) ->
         return Ok(
             fault.is_empty()
                 && sections == expected
-                && same_at_each_slice(rt.alloc(), session.as_slice(), slices, expected.as_slice())?,
+                && (once
+                    || same_at_each_slice(rt.alloc(), session.as_slice(), expected.as_slice())?),
         );
     }
     let Some(expected) = stored(rt, name, "fault")? else {
@@ -78,13 +74,13 @@ fn is_as_expected<R: Files + AllocGlobal>(rt: &R, name: &str, slices: &[u64]) ->
 
 fn main(rt: HostRuntime) -> Result<()> {
     let mut differs = false;
-    let mut slices = SLICES.as_slice();
+    let mut once = false;
     for name in env::args(&rt)?.skip(1) {
         if name.as_str() == "--once" {
-            slices = &[];
+            once = true;
             continue;
         }
-        let as_expected = is_as_expected(&rt, name.as_str(), slices).context(format_args!(
+        let as_expected = is_as_expected(&rt, name.as_str(), once).context(format_args!(
             "session {name}"
         ))?;
         let verdict = if as_expected {

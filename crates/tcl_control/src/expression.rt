@@ -19,9 +19,15 @@ pub enum ExpressionForm {
 }
 
 /// An expression that a command was given, read once. Contracts see its text.
-#[derive(Drop)]
 pub struct Expression {
     form: ExpressionForm,
+}
+
+/// One call where it is dropped, by hand: a proof needn't look at its parts there.
+impl Drop for Expression {
+    fn drop(self) {
+        let Expression { form: _form } = self;
+    }
 }
 
 impl Model for Expression {

@@ -22,7 +22,6 @@ pub enum SliceEnd {
 }
 
 /// An interpreter of Tcl scripts (Tcl(n)), with a budget of steps and tasks of the type `K`.
-#[derive(Drop)]
 pub struct Interp<K> {
     alloc: Global,
     context: Context,
@@ -32,6 +31,20 @@ pub struct Interp<K> {
     frames: Vec<Frame<K>>,
     ghost within: { left ≤ budget },
     ghost spent: { machine ≡ MachineSpent → left ≡ 0 },
+}
+
+/// One call where it is dropped, by hand: a proof needn't look at its parts there.
+impl<K: Drop> Drop for Interp<K> {
+    fn drop(self) {
+        let Interp {
+            alloc: _alloc,
+            context: _context,
+            budget: _budget,
+            left: _left,
+            machine: _machine,
+            frames: _frames,
+        } = self;
+    }
 }
 
 impl<K: Drop> Interp<K> {

@@ -29,7 +29,6 @@ pub enum Progress {
 }
 
 /// What of an application isn't in the tables: its name, its aliases, its variables, and its interpreter with what it still has to do.
-#[derive(Drop)]
 pub struct Runner<M: AliasMeaning> {
     name: Text,
     aliases: Aliases<M>,
@@ -38,6 +37,21 @@ pub struct Runner<M: AliasMeaning> {
     interp: Interp<Task<Job>>,
     state: AppState,
     progress: Progress,
+}
+
+/// One call where it is dropped, by hand: a proof needn't look at its parts there.
+impl<M: AliasMeaning> Drop for Runner<M> {
+    fn drop(self) {
+        let Runner {
+            name: _name,
+            aliases: _aliases,
+            budget: _budget,
+            scopes: _scopes,
+            interp: _interp,
+            state: _state,
+            progress: _progress,
+        } = self;
+    }
 }
 
 impl<M: AliasMeaning> Model for Runner<M> {

@@ -20,12 +20,23 @@ pub const MAX_APPLICATIONS: usize = 16;
 
 /// All applications, at one moment, in milliseconds: the tables that they have in common, and what each has by itself. An application is known by its
 /// slot, from 0 on, and each call on one goes through its view.
-#[derive(Drop)]
 pub struct Shared<M: AliasMeaning> {
     pub(crate) tables: Tables,
     pub(crate) runners: Vec<Runner<M>>,
     pub(crate) turns: Vec<Turn>,
     pub(crate) refused: bool,
+}
+
+/// One call where it is dropped, by hand: a proof needn't look at its parts there.
+impl<M: AliasMeaning> Drop for Shared<M> {
+    fn drop(self) {
+        let Shared {
+            tables: _tables,
+            runners: _runners,
+            turns: _turns,
+            refused: _refused,
+        } = self;
+    }
 }
 
 impl<M: AliasMeaning> Model for Shared<M> {

@@ -13,7 +13,6 @@ pub enum EventKind {
 }
 
 /// An event of a window. The fields behind `moment` are what bind(n) lets a script substitute; one that an event lacks is none.
-#[derive(Drop)]
 pub struct Event {
     pub kind: EventKind,
     /// The window's number in its application.
@@ -41,6 +40,28 @@ pub struct Event {
     pub height: Option<u32>,
     /// The detail of a crossing event, as `NotifyAncestor`, or the data of a generated event, `%d`.
     pub detail: Option<Text>,
+}
+
+/// One call where it is dropped, by hand: a proof needn't look at its parts there.
+impl Drop for Event {
+    fn drop(self) {
+        let Event {
+            kind: _kind,
+            number: _number,
+            path: _path,
+            moment: _moment,
+            state: _state,
+            x: _x,
+            y: _y,
+            root_x: _root_x,
+            root_y: _root_y,
+            button: _button,
+            key: _key,
+            width: _width,
+            height: _height,
+            detail: _detail,
+        } = self;
+    }
 }
 
 impl EventKind {

@@ -32,14 +32,12 @@ fn place_of(x: u32) -> Option<i32>
 fn configure_event(window: &Window, rect: Rect, moment: u64) -> Result<Event, AllocError>
     ensures { IfOk result (λ event. event ≡ configure_event window.now rect moment) }
 {
-    let event = window_event(EventType::Configure, window, moment)?;
-    Ok(Event {
-        x: place_of(rect.x),
-        y: place_of(rect.y),
-        width: Some(rect.width),
-        height: Some(rect.height),
-        ..event
-    })
+    let mut event = window_event(EventType::Configure, window, moment)?;
+    event.x = place_of(rect.x);
+    event.y = place_of(rect.y);
+    event.width = Some(rect.width);
+    event.height = Some(rect.height);
+    Ok(event)
 }
 
 /// The event of what became of a window.

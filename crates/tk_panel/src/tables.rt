@@ -18,7 +18,6 @@ use tk_virtual::VirtualTable;
 const KEPT_SCRIPTS: usize = 256;
 
 /// The tables of all applications. What one application has in each is told apart by its slot.
-#[derive(Drop)]
 pub struct Tables {
     pub alloc: Global,
     pub clock: Clock,
@@ -32,6 +31,25 @@ pub struct Tables {
     pub transcripts: Transcripts,
     /// What was read of scripts, which no application can tell.
     pub scripts: ScriptCache,
+}
+
+/// One call where it is dropped, by hand: a proof needn't look at its parts there.
+impl Drop for Tables {
+    fn drop(self) {
+        let Tables {
+            alloc: _alloc,
+            clock: _clock,
+            screen: _screen,
+            bindings: _bindings,
+            virtuals: _virtuals,
+            histories: _histories,
+            queue: _queue,
+            inputs: _inputs,
+            timers: _timers,
+            transcripts: _transcripts,
+            scripts: _scripts,
+        } = self;
+    }
 }
 
 impl Tables {

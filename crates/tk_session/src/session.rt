@@ -33,7 +33,6 @@ pub(crate) struct Head {
 }
 
 /// An application of a session.
-#[derive(Drop)]
 pub struct AppBlock {
     pub name: Text,
     /// Its place on the screen, in pixels.
@@ -42,6 +41,19 @@ pub struct AppBlock {
     pub aliases: Listing<AliasLine>,
     /// What it runs at moment 0.
     pub script: Text,
+}
+
+/// One call where it is dropped, by hand: a proof needn't look at its parts there.
+impl Drop for AppBlock {
+    fn drop(self) {
+        let AppBlock {
+            name: _name,
+            rect: _rect,
+            budget: _budget,
+            aliases: _aliases,
+            script: _script,
+        } = self;
+    }
 }
 
 /// What happens at the screen or the keyboard, and when.
@@ -54,11 +66,21 @@ pub struct EventLine {
 }
 
 /// What a session says: its applications, which may stand side by side, what happens, and the moment at which it ends.
-#[derive(Drop)]
 pub struct Session {
     apps: Listing<AppBlock>,
     events: Listing<EventLine>,
     end: u64,
+}
+
+/// One call where it is dropped, by hand: a proof needn't look at its parts there.
+impl Drop for Session {
+    fn drop(self) {
+        let Session {
+            apps: _apps,
+            events: _events,
+            end: _end,
+        } = self;
+    }
 }
 
 impl Model for Session {

@@ -10,13 +10,23 @@ use tcl_text::Text;
 use tk_sequences::{Sequence, VirtualName};
 
 /// A virtual event and a sequence that stands for it.
-#[derive(Drop)]
 pub struct Pair {
     pub name: VirtualName,
     /// A physical one.
     pub sequence: Sequence,
     /// The sequence in its canonical form.
     pub written: Text,
+}
+
+/// One call where it is dropped, by hand: a proof needn't look at its parts there.
+impl Drop for Pair {
+    fn drop(self) {
+        let Pair {
+            name: _name,
+            sequence: _sequence,
+            written: _written,
+        } = self;
+    }
 }
 
 /// The name that a word has in its brackets. `BadName` (33) where it has none.

@@ -30,17 +30,35 @@ pub struct Button {
 }
 
 /// An entry (entry(n)).
-#[derive(Drop)]
 pub struct EntryWidget {
     pub options: OptionTable,
     pub entry: Entry,
 }
 
+/// One call where it is dropped, by hand: a proof needn't look at its parts there.
+impl Drop for EntryWidget {
+    fn drop(self) {
+        let EntryWidget {
+            options: _options,
+            entry: _entry,
+        } = self;
+    }
+}
+
 /// A listbox (listbox(n)).
-#[derive(Drop)]
 pub struct ListboxWidget {
     pub options: OptionTable,
     pub listbox: Listbox,
+}
+
+/// One call where it is dropped, by hand: a proof needn't look at its parts there.
+impl Drop for ListboxWidget {
+    fn drop(self) {
+        let ListboxWidget {
+            options: _options,
+            listbox: _listbox,
+        } = self;
+    }
 }
 
 /// A widget of one of the five kinds. The calls take the text of the variable that `-textvariable` names, where it can be read, as `variable`.

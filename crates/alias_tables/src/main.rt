@@ -82,9 +82,15 @@ fn call(alloc: Global, called: &Option<Called>, list: &str) -> Result<String> {
 }
 
 /// The alias that was set up last.
-#[derive(Drop)]
 struct Caller {
     called: Option<Called>,
+}
+
+/// One call where it is dropped, by hand: a proof needn't look at its parts there.
+impl Drop for Caller {
+    fn drop(self) {
+        let Caller { called: _called } = self;
+    }
 }
 
 impl Fixture for Caller {

@@ -12,9 +12,15 @@ use tcl_text::{Text, TextList};
 use tk_after::{Timers, after_command};
 
 /// The timers of all applications.
-#[derive(Drop)]
 struct Kept {
     timers: Timers,
+}
+
+/// One call where it is dropped, by hand: a proof needn't look at its parts there.
+impl Drop for Kept {
+    fn drop(self) {
+        let Kept { timers: _timers } = self;
+    }
 }
 
 fn texts_of(alloc: Global, words: &[&str]) -> Result<TextList> {

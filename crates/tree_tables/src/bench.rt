@@ -19,10 +19,19 @@ const APPLICATIONS: usize = 16;
 const COUNTS: [usize; 3] = [8, 64, 512];
 
 /// The tables of all applications.
-#[derive(Drop)]
 struct Tables {
     windows: Windows,
     packs: PackTable,
+}
+
+/// One call where it is dropped, by hand: a proof needn't look at its parts there.
+impl Drop for Tables {
+    fn drop(self) {
+        let Tables {
+            windows: _windows,
+            packs: _packs,
+        } = self;
+    }
 }
 
 impl Tables {

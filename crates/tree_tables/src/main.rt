@@ -20,11 +20,21 @@ use tables::{Fixture, arguments, ask_tables, first_word, result_of, words_of};
 use trees::Trees;
 
 /// What the questions are put to.
-#[derive(Drop)]
 struct Screen {
     trees: Trees,
     packings: Packings,
     layouts: Layouts,
+}
+
+/// One call where it is dropped, by hand: a proof needn't look at its parts there.
+impl Drop for Screen {
+    fn drop(self) {
+        let Screen {
+            trees: _trees,
+            packings: _packings,
+            layouts: _layouts,
+        } = self;
+    }
 }
 
 impl Fixture for Screen {

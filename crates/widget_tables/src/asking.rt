@@ -13,11 +13,21 @@ use tk_base::Kind;
 use tk_widgets::{Asked, Widget, WidgetAct};
 
 /// A widget, the variables, and the relief of a pressed button.
-#[derive(Drop)]
 pub struct Session {
     widget: Widget,
     scopes: Scopes,
     saved: Option<Text>,
+}
+
+/// One call where it is dropped, by hand: a proof needn't look at its parts there.
+impl Drop for Session {
+    fn drop(self) {
+        let Session {
+            widget: _widget,
+            scopes: _scopes,
+            saved: _saved,
+        } = self;
+    }
 }
 
 impl Session {

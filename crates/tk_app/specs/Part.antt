@@ -18,6 +18,7 @@ use Rattle.tk_app.specs.Outside.{outside}
 use Rattle.tk_app.specs.Seen.{Meaning, Seen, meanings}
 use Rattle.tk_app.specs.Settle.{settle_meaning, settling, start_meaning}
 use Rattle.tk_app.specs.Spec.{Spec}
+use Rattle.tcl_text.specs.Limits.{most_running}
 
 -- What is under way: nothing, or what is done now, with the levels that it is done at, and what waits for it, innermost first.
 pub data Work : Type 0 where
@@ -30,7 +31,7 @@ pub record Part (M : Type 0) : Type 0 where
 
 -- a task alone, at global level
 abbrev pub task_begins : Task Job → Work
-task_begins task = Goes (0 ∷ []) (Resumes 200 task Normal []) []
+task_begins task = Goes (0 ∷ []) (Resumes most_running task Normal []) []
 
 -- settling begins, where nothing is under way and the application runs
 abbrev pub settling_as : AppState → Work → Work

@@ -16,10 +16,11 @@ use Rattle.tk_panel.specs.Start.{alone, start}
 use Rattle.tk_panel_jobs.specs.Course.{ended, with_end}
 use Rattle.tk_app.specs.Outside.{calls, course, outside}
 use Rattle.tk_app.specs.Seen.{Seen, with_panel}
+use Rattle.tcl_text.specs.Limits.{most_running}
 
 -- a script at global level, where the first of the levels is alone, with room for 200 scripts one in another
 abbrev pub at_global : List ℕ → State Seen → Outcome Seen
-at_global script state = run_at (script_meaning outside 200) 1 script state
+at_global script state = run_at (script_meaning outside most_running) 1 script state
 
 -- a state in which the panel is another
 abbrev pub in_panel : Panel → State Seen → State Seen
@@ -27,7 +28,7 @@ in_panel panel state = record state { shows = with_panel panel state.shows }
 
 -- what a job comes to
 abbrev pub meaning : Job → State Seen → Outcome Seen
-meaning job state = job_meaning course calls 200 job state
+meaning job state = job_meaning course calls most_running job state
 
 -- ── a moment ──
 

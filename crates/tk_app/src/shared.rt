@@ -55,6 +55,7 @@ impl<M: AliasMeaning> Shared<M> {
     ghost use Rattle.tk_app.specs.Application.{next_due};
     ghost use Rattle.tk_app.specs.Part.{added, is_under_way};
     ghost use Rattle.tk_app.specs.Section.{section};
+    ghost use Rattle.tcl_text.specs.Limits.{last_moment};
 
     /// No application, at moment 0.
     #[tactic(auto, unfolding(crate::specs::Turns::parts_from))]
@@ -111,7 +112,7 @@ impl<M: AliasMeaning> Shared<M> {
     /// All go on to a moment, in milliseconds, at which nothing has been done yet. It takes no memory.
     pub fn set_moment(&mut self, moment: u64)
         requires later { self.old.moment ≤ moment }
-        requires in_time { moment ≤ 1000000000000 }
+        requires in_time { moment ≤ last_moment }
         ensures { self.new ≡ record self.old { moment = moment } }
     {
         self.tables.clock.set(moment);

@@ -33,17 +33,7 @@ pub fn answered(given: Result<Text, Refusal>) -> Result<Answer, AllocError>
 pub fn nothing(alloc: Global) -> Result<Text, AllocError>
     ensures { IfOk result (λ text. text ≡ []) }
 {
-    short_text(alloc, "")
-}
-
-/// A text of characters that are known to be few enough.
-pub fn short_text(alloc: Global, characters: &str) -> Result<Text, AllocError>
-    ensures { IfOk result (λ text. text ≡ characters.now) }
-{
-    match Text::new(alloc, characters) {
-        Ok(text) => Ok(text),
-        Err(_) => Err(AllocError),
-    }
+    Text::of_short(alloc, "")
 }
 
 /// The error for a path that no window has (24).

@@ -7,7 +7,7 @@ ghost use Rattle.tk_inputs.specs.Inputs as inputs_of;
 ghost use Rattle.tk_screen.specs.Own.{LeavesOthers, own_of};
 
 use crate::changes::make;
-use crate::outcome::{ClassOutcome, nothing, short_text};
+use crate::outcome::{ClassOutcome, nothing};
 use crate::refusals::number_of;
 use std::alloc::{AllocError, Global};
 use tcl_text::answers::{Refusal, wrong_args};
@@ -284,7 +284,7 @@ fn sink(alloc: Global, screen: &mut Screen, win: Win) -> Result<(), AllocError>
     ensures own { OnOk result (own_of win.owner screen.new ≡ spec.with_relief win.number (codes "sunken") (own_of win.owner screen.old)) }
     ensures others { LeavesOthers win.owner screen.old screen.new }
 {
-    put_relief(alloc, screen, win, short_text(alloc, "sunken")?)
+    put_relief(alloc, screen, win, Text::of_short(alloc, "sunken")?)
 }
 
 /// Gives a button the relief again that it had when it was pressed.
@@ -323,7 +323,7 @@ fn relief_settings(
     ensures { IfOk result (λ all. all ≡ spec.relief_settings relief widget.now) }
 {
     let mut words = TextList::new(alloc);
-    words.push(short_text(alloc, "-relief")?)?;
+    words.push(Text::of_short(alloc, "-relief")?)?;
     words.push(relief)?;
     match widget.options().settings(alloc, words.as_slice()) {
         Ok(all) => Ok(Some(all)),

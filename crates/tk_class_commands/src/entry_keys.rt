@@ -14,7 +14,7 @@ ghost use Rattle.tk_widgets.specs.Classes.{columns_to};
 ghost use Rattle.tk_widgets.specs.Outcomes.{asked_by};
 
 use crate::changes::make;
-use crate::outcome::{ClassOutcome, nothing, outcome_of, short_text};
+use crate::outcome::{ClassOutcome, nothing, outcome_of};
 use std::alloc::{AllocError, Global};
 use tcl_text::Text;
 use tcl_vars::Scopes;
@@ -113,7 +113,7 @@ fn asked_of(
 {
     match widget {
         Widget::Entry(entry) => key_asked(alloc, entry, variable_text(widget, scopes), key),
-        _ => Ok(Asked::Done(WidgetAct::Answer(short_text(alloc, "")?))),
+        _ => Ok(Asked::Done(WidgetAct::Answer(Text::of_short(alloc, "")?))),
     }
 }
 

@@ -18,21 +18,11 @@ pub enum ClassOutcome {
     Selects(u64),
 }
 
-/// A text of characters that are known to be few enough.
-pub fn short_text(alloc: Global, characters: &str) -> Result<Text, AllocError>
-    ensures { IfOk result (λ text. text ≡ characters.now) }
-{
-    match Text::new(alloc, characters) {
-        Ok(text) => Ok(text),
-        Err(_) => Err(AllocError),
-    }
-}
-
 /// The empty result.
 pub fn nothing(alloc: Global) -> Result<ClassOutcome, AllocError>
     ensures { IfOk result (λ outcome. outcome ≡ Answers (Ok [])) }
 {
-    Ok(ClassOutcome::Answers(Ok(short_text(alloc, "")?)))
+    Ok(ClassOutcome::Answers(Ok(Text::of_short(alloc, "")?)))
 }
 
 /// What was told of a widget; the empty result where there is none.

@@ -1,6 +1,7 @@
 ghost use Rattle.std.specs.Prelude.{◌≡◌, ◌≢◌, ◌<◌, ◌≤◌, ◌++◌, [], min, max, length, IfOk, IfErr, IfSome, string_bytes};
 ghost use Rattle.std.specs.Option.{option_copied};
 ghost use Rattle.tk_entry.specs.Entries.{size, front, behind, shown, cursor_in, index_in, inserted, deleted, edited};
+ghost use Rattle.tcl_text.specs.Limits.{most_bytes};
 
 use crate::characters::{character_count, cut_behind};
 use crate::index::index_in;
@@ -50,7 +51,7 @@ impl Entry {
     pub fn index(&self, variable: Option<&Text>, word: &Text) -> Option<usize>
         ensures value { result ≡ index_in word.now (size (shown (option_copied variable.entry) self.now))
             (cursor_in (shown (option_copied variable.entry) self.now) self.now) }
-        ensures bound { IfSome result (λ at. at ≤ 65536) }
+        ensures bound { IfSome result (λ at. at ≤ most_bytes) }
     {
         let size = character_count(self.shown(variable).as_str());
         index_in(word, size, self.cursor.min(size))
@@ -72,9 +73,9 @@ impl Entry {
         new: &Text,
     ) -> Result<Entry, TextFault>
         ensures ok { IfOk result (λ entry. entry ≡ edited (inserted at new.now) (option_copied variable.entry) self.now) }
-        ensures short { IfOk result (λ entry. length entry.text ≤ 65536) }
+        ensures short { IfOk result (λ entry. length entry.text ≤ most_bytes) }
         ensures too_long { IfErr result (λ fault. fault ≢ TextFault.NoMemory
-            → 65536 < length (edited (inserted at new.now) (option_copied variable.entry) self.now).text) }
+            → most_bytes < length (edited (inserted at new.now) (option_copied variable.entry) self.now).text) }
     {
         with_inserted(alloc, self.shown(variable), self.cursor, at, new)
     }
@@ -89,9 +90,9 @@ impl Entry {
         last: usize,
     ) -> Result<Entry, TextFault>
         ensures ok { IfOk result (λ entry. entry ≡ edited (deleted first last) (option_copied variable.entry) self.now) }
-        ensures short { IfOk result (λ entry. length entry.text ≤ 65536) }
+        ensures short { IfOk result (λ entry. length entry.text ≤ most_bytes) }
         ensures too_long { IfErr result (λ fault. fault ≢ TextFault.NoMemory
-            → 65536 < length (edited (deleted first last) (option_copied variable.entry) self.now).text) }
+            → most_bytes < length (edited (deleted first last) (option_copied variable.entry) self.now).text) }
     {
         without(alloc, self.shown(variable), self.cursor, first, last)
     }
@@ -106,9 +107,9 @@ fn with_inserted(
     new: &Text,
 ) -> Result<Entry, TextFault>
     ensures ok { IfOk result (λ entry. entry ≡ inserted at new.now text.now (min cursor (size text.now))) }
-    ensures short { IfOk result (λ entry. length entry.text ≤ 65536) }
+    ensures short { IfOk result (λ entry. length entry.text ≤ most_bytes) }
     ensures too_long { IfErr result (λ fault. fault ≢ TextFault.NoMemory
-        → 65536 < length (inserted at new.now text.now (min cursor (size text.now))).text) }
+        → most_bytes < length (inserted at new.now text.now (min cursor (size text.now))).text) }
 {
     let cursor = cursor.min(character_count(text.as_str()));
     let (before, after) = cut_behind(text.as_str(), at);
@@ -132,9 +133,9 @@ fn without(
     last: usize,
 ) -> Result<Entry, TextFault>
     ensures ok { IfOk result (λ entry. entry ≡ deleted first last text.now (min cursor (size text.now))) }
-    ensures short { IfOk result (λ entry. length entry.text ≤ 65536) }
+    ensures short { IfOk result (λ entry. length entry.text ≤ most_bytes) }
     ensures too_long { IfErr result (λ fault. fault ≢ TextFault.NoMemory
-        → 65536 < length (deleted first last text.now (min cursor (size text.now))).text) }
+        → most_bytes < length (deleted first last text.now (min cursor (size text.now))).text) }
 {
     let cursor = cursor.min(character_count(text.as_str()));
     let (before, _) = cut_behind(text.as_str(), first);
@@ -148,8 +149,8 @@ fn without(
 /// Texts one behind the other.
 fn joined(alloc: Global, before: &str, between: &str, after: &str) -> Result<Text, TextFault>
     ensures ok { IfOk result (λ text. text ≡ before.now ++ (between.now ++ after.now)) }
-    ensures short { IfOk result (λ text. length text ≤ 65536) }
-    ensures too_long { IfErr result (λ fault. fault ≢ TextFault.NoMemory → 65536 < length (before.now ++ (between.now ++ after.now))) }
+    ensures short { IfOk result (λ text. length text ≤ most_bytes) }
+    ensures too_long { IfErr result (λ fault. fault ≢ TextFault.NoMemory → most_bytes < length (before.now ++ (between.now ++ after.now))) }
 {
     let mut string = String::from_str(alloc, before)?;
     string.push_str(between)?;

@@ -4,6 +4,7 @@ ghost use Rattle.std.specs.Option.{option_copied};
 ghost use Rattle.std.specs.Str.{chars};
 ghost use Rattle.tk_entry.specs.Columns.{characters_within};
 ghost use Rattle.tk_entry.specs.Entries.{size, shown, is_typed, by_text, by_backspace, by_delete, moved, move_named};
+ghost use Rattle.tcl_text.specs.Limits.{most_bytes};
 
 use crate::characters::{character_count, split_first_char};
 use crate::columns::characters_within;
@@ -46,9 +47,9 @@ impl Entry {
         new: &Text,
     ) -> Result<Option<Entry>, TextFault>
         ensures ok { IfOk result (λ entry. entry ≡ by_text new.now (option_copied variable.entry) self.now) }
-        ensures short { IfOk result (λ entry. IfSome entry (λ edited. length edited.text ≤ 65536)) }
+        ensures short { IfOk result (λ entry. IfSome entry (λ edited. length edited.text ≤ most_bytes)) }
         ensures too_long { IfErr result (λ fault. fault ≢ TextFault.NoMemory
-            → IsSomeAnd (by_text new.now (option_copied variable.entry) self.now) (λ entry. 65536 < length entry.text)) }
+            → IsSomeAnd (by_text new.now (option_copied variable.entry) self.now) (λ entry. most_bytes < length entry.text)) }
     {
         if !is_typed(new) {
             return Ok(None);
@@ -64,9 +65,9 @@ impl Entry {
         variable: Option<&Text>,
     ) -> Result<Option<Entry>, TextFault>
         ensures ok { IfOk result (λ entry. entry ≡ by_backspace (option_copied variable.entry) self.now) }
-        ensures short { IfOk result (λ entry. IfSome entry (λ edited. length edited.text ≤ 65536)) }
+        ensures short { IfOk result (λ entry. IfSome entry (λ edited. length edited.text ≤ most_bytes)) }
         ensures too_long { IfErr result (λ fault. fault ≢ TextFault.NoMemory
-            → IsSomeAnd (by_backspace (option_copied variable.entry) self.now) (λ entry. 65536 < length entry.text)) }
+            → IsSomeAnd (by_backspace (option_copied variable.entry) self.now) (λ entry. most_bytes < length entry.text)) }
     {
         let cursor = self.cursor(variable);
         if cursor == 0 {
@@ -82,9 +83,9 @@ impl Entry {
         variable: Option<&Text>,
     ) -> Result<Option<Entry>, TextFault>
         ensures ok { IfOk result (λ entry. entry ≡ by_delete (option_copied variable.entry) self.now) }
-        ensures short { IfOk result (λ entry. IfSome entry (λ edited. length edited.text ≤ 65536)) }
+        ensures short { IfOk result (λ entry. IfSome entry (λ edited. length edited.text ≤ most_bytes)) }
         ensures too_long { IfErr result (λ fault. fault ≢ TextFault.NoMemory
-            → IsSomeAnd (by_delete (option_copied variable.entry) self.now) (λ entry. 65536 < length entry.text)) }
+            → IsSomeAnd (by_delete (option_copied variable.entry) self.now) (λ entry. most_bytes < length entry.text)) }
     {
         let cursor = self.cursor(variable);
         if cursor >= self.size(variable) {

@@ -12,6 +12,7 @@ use Rattle.tk_route.specs.Values.{Values}
 use Rattle.tk_route.specs.declared.line.HostLine.{HostLine}
 use Rattle.tk_host.specs.Spec.{Given, IsInRange, are_aliases, have_one_name, rect_of}
 use Rattle.tk_host.specs.Held.{Held, Hosted, reached}
+use Rattle.tcl_text.specs.Limits.{last_moment}
 
 -- the first of these faults that applies is this one
 abbrev pub IsFirst : (HostFault → Type 0) → List HostFault → HostFault → Type 0
@@ -69,7 +70,7 @@ abbrev pub moment_faults : List HostFault
 moment_faults = Broken ∷ Ended ∷ BadValue ∷ TimeBack ∷ []
 
 abbrev pub RefusesMoment : {M : Type 0} → Held M → ℕ → HostFault → Type 0
-RefusesMoment held moment BadValue = 1000000000000 < moment
+RefusesMoment held moment BadValue = last_moment < moment
 RefusesMoment held moment TimeBack = moment < reached held.phase
 RefusesMoment held moment found = PhaseRefuses held.phase found
 
@@ -78,7 +79,7 @@ abbrev pub line_faults : List HostFault
 line_faults = Broken ∷ Ended ∷ BadValue ∷ TimeBack ∷ NoApp ∷ RectOverlap ∷ []
 
 abbrev pub RefusesLine : {M : Type 0} → Held M → ℕ → HostLine → HostFault → Type 0
-RefusesLine held moment line BadValue = ¬ ((moment ≤ 1000000000000) × IsLineInRange line)
+RefusesLine held moment line BadValue = ¬ ((moment ≤ last_moment) × IsLineInRange line)
 RefusesLine held moment line TimeBack = moment < reached held.phase
 RefusesLine held moment line NoApp = NamesNobody held.known.rects line
 RefusesLine held moment line RectOverlap = Covers held.known.rects line
@@ -93,7 +94,7 @@ abbrev pub route_faults : List HostFault
 route_faults = BadValue ∷ TimeBack ∷ NoApp ∷ RectOverlap ∷ []
 
 abbrev pub RefusesRoute : Values → ℕ → HostLine → HostFault → Type 0
-RefusesRoute known moment line BadValue = ¬ ((moment ≤ 1000000000000) × IsLineInRange line)
+RefusesRoute known moment line BadValue = ¬ ((moment ≤ last_moment) × IsLineInRange line)
 RefusesRoute known moment line TimeBack = moment < known.moment
 RefusesRoute known moment line NoApp = NamesNobody known.rects line
 RefusesRoute known moment line RectOverlap = Covers known.rects line

@@ -10,6 +10,7 @@ ghost use Rattle.tk_host.specs.Alone.{passed};
 ghost use Rattle.tk_host.specs.Ready.{AllRest};
 ghost use Rattle.tk_host.specs.Slots.{BeginsAt, TakesTurn, begun_at};
 ghost use Rattle.tk_host.specs.Turns.{applications, turns_on_the_way};
+ghost use Rattle.tcl_text.specs.Limits.{last_moment};
 
 use std::alloc::AllocError;
 use tk_app::{AliasMeaning, AppEnd, Shared};
@@ -22,7 +23,7 @@ pub fn advance<M: AliasMeaning>(
     slice: u64,
 ) -> Result<(), AllocError>
     requires slice { 0 < slice }
-    requires in_time { target ≤ 1000000000000 }
+    requires in_time { target ≤ last_moment }
     requires rest { AllRest shared.old.parts }
     requires past { IsPast shared.old.moment (first_due next_due (settled M.answer) (applications shared.old.parts)) }
     requires ahead { shared.old.moment ≤ target }

@@ -4,6 +4,7 @@ ghost use Rattle.tk_listbox.specs.Indices.{from_zero};
 ghost use Rattle.tk_listbox.specs.Items.{texts, new_items, chosen_from};
 ghost use Rattle.tk_listbox.specs.Kept.{IsLengthened, IsFull};
 ghost use Rattle.tk_listbox.specs.Listboxes.{part, kept, active_inserted, active_deleted, inserted, deleted, activated, chosen_by, selected, has_chosen, row_at};
+ghost use Rattle.tcl_text.specs.Limits.{most_bytes};
 
 use crate::choice::Choice;
 use crate::items::{Item, first_items, items_behind, texts_of, with_copies, with_new};
@@ -80,9 +81,9 @@ impl Listbox {
     /// list of all items would pass 65,536 bytes.
     pub fn insert(&mut self, alloc: Global, at: usize, new: &[Text]) -> Result<(), TextFault>
         ensures ok { OnOk result (self.new ≡ inserted at new.now self.old) }
-        ensures short { OnOk result (length (list_form (texts (inserted at new.now self.old).items)) ≤ 65536) }
+        ensures short { OnOk result (length (list_form (texts (inserted at new.now self.old).items)) ≤ most_bytes) }
         ensures too_long { IfErr result (λ fault. fault ≢ TextFault.NoMemory
-            → 65536 < length (list_form (texts (inserted at new.now self.old).items))) }
+            → most_bytes < length (list_form (texts (inserted at new.now self.old).items))) }
         ensures err { OnErr result (self.new ≡ self.old) }
     {
         if at < self.size() {
@@ -95,9 +96,9 @@ impl Listbox {
     /// Inserts items before the one at a place; all that are there are gone over.
     fn insert_before(&mut self, alloc: Global, at: usize, new: &[Text]) -> Result<(), TextFault>
         ensures ok { OnOk result (self.new ≡ inserted at new.now self.old) }
-        ensures short { OnOk result (length (list_form (texts (inserted at new.now self.old).items)) ≤ 65536) }
+        ensures short { OnOk result (length (list_form (texts (inserted at new.now self.old).items)) ≤ most_bytes) }
         ensures too_long { IfErr result (λ fault. fault ≢ TextFault.NoMemory
-            → 65536 < length (list_form (texts (inserted at new.now self.old).items))) }
+            → most_bytes < length (list_form (texts (inserted at new.now self.old).items))) }
         ensures err { OnErr result (self.new ≡ self.old) }
     {
         let items = spliced(alloc, &self.items, at, new)?;
@@ -115,9 +116,9 @@ impl Listbox {
     fn push(&mut self, alloc: Global, at: usize, new: &[Text]) -> Result<(), TextFault>
         requires { length self.old.items ≤ at }
         ensures ok { OnOk result (self.new ≡ inserted at new.now self.old) }
-        ensures short { OnOk result (length (list_form (texts (inserted at new.now self.old).items)) ≤ 65536) }
+        ensures short { OnOk result (length (list_form (texts (inserted at new.now self.old).items)) ≤ most_bytes) }
         ensures too_long { IfErr result (λ fault. fault ≢ TextFault.NoMemory
-            → 65536 < length (list_form (texts (inserted at new.now self.old).items))) }
+            → most_bytes < length (list_form (texts (inserted at new.now self.old).items))) }
         ensures err { OnErr result (self.new ≡ self.old) }
     {
         push_items(alloc, &mut self.items, &mut self.list, new)?;
@@ -195,8 +196,8 @@ fn spliced(alloc: Global, items: &[Item], at: usize, new: &[Text]) -> Result<Vec
 /// The list of items.
 fn listed(alloc: Global, items: &[Item]) -> Result<Text, TextFault>
     ensures ok { IfOk result (λ list. list ≡ list_form (texts items.now)) }
-    ensures short { OnOk result (length (list_form (texts items.now)) ≤ 65536) }
-    ensures too_long { IfErr result (λ fault. fault ≢ TextFault.NoMemory → 65536 < length (list_form (texts items.now))) }
+    ensures short { OnOk result (length (list_form (texts items.now)) ≤ most_bytes) }
+    ensures too_long { IfErr result (λ fault. fault ≢ TextFault.NoMemory → most_bytes < length (list_form (texts items.now))) }
 {
     let texts = texts_of(alloc, items)?;
     let list = Text::join_list(alloc, texts.as_slice())?;
@@ -246,9 +247,9 @@ fn push_items(
     requires { list.old ≡ list_form (texts items.old.items) }
     ensures items { OnOk result (items.new.items ≡ items.old.items ++ new_items new.now) }
     ensures list { OnOk result (list.new ≡ list_form (texts (items.old.items ++ new_items new.now))) }
-    ensures short { OnOk result (length (list_form (texts (items.old.items ++ new_items new.now))) ≤ 65536) }
+    ensures short { OnOk result (length (list_form (texts (items.old.items ++ new_items new.now))) ≤ most_bytes) }
     ensures too_long { IfErr result (λ fault. fault ≢ TextFault.NoMemory
-        → 65536 < length (list_form (texts (items.old.items ++ new_items new.now)))) }
+        → most_bytes < length (list_form (texts (items.old.items ++ new_items new.now)))) }
     ensures items_stay { OnErr result (items.new.items ≡ items.old.items) }
     ensures list_stays { OnErr result (list.new ≡ list.old) }
 {

@@ -10,6 +10,7 @@ use Rattle.tk_options.specs.declared.fault.OptionFault.TheVariants.{UnknownOptio
 use Rattle.tk_options.specs.declared.option.OptionName.{OptionName}
 use Rattle.tk_options.specs.declared.option.OptionEntry.{OptionEntry}
 use Rattle.tk_options.specs.declared.settings.Setting.{Setting}
+use Rattle.tcl_text.specs.Limits.{most_bytes}
 
 -- a call's outcome, or why it was refused
 abbrev pub Outcome : Type 0 → Type 0
@@ -121,4 +122,4 @@ description entry = list_form (name_of entry.option ∷ entry.default ∷ entry.
 
 -- a description that is too long for a text
 abbrev pub IsTooLong : OptionEntry → Type 0
-IsTooLong entry = 65536 < length (description entry)
+IsTooLong entry = most_bytes < length (description entry)

@@ -1,4 +1,5 @@
 ghost use Rattle.std.specs.Prelude.{◌≡◌, ◌≤◌};
+ghost use Rattle.tcl_text.specs.Limits.{last_moment};
 
 use std::marker::Model;
 
@@ -13,12 +14,13 @@ pub struct Clock {
 
 impl Model for Clock {
     ghost use Rattle.std.specs.Prelude.{ℕ, ◌≤◌};
+    ghost use Rattle.tcl_text.specs.Limits.{last_moment};
 
     ghost Value = { ℕ };
 
     ghost view = { λ c. c.moment };
 
-    ghost invariant = { λ c. c.moment ≤ 1000000000000 };
+    ghost invariant = { λ c. c.moment ≤ last_moment };
 }
 
 impl Clock {
@@ -32,14 +34,14 @@ impl Clock {
     /// The moment, which is no later than the last one.
     pub fn moment(&self) -> u64
         ensures moment { result ≡ self.now }
-        ensures in_time { result ≤ 1000000000000 }
+        ensures in_time { result ≤ last_moment }
     {
         self.moment
     }
 
     /// Goes on to a moment.
     pub fn set(&mut self, moment: u64)
-        requires { moment ≤ 1000000000000 }
+        requires { moment ≤ last_moment }
         ensures { self.new ≡ moment }
     {
         self.moment = moment;

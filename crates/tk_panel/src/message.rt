@@ -18,24 +18,12 @@ pub fn short_text(alloc: Global, characters: &str) -> Result<Text, AllocError>
     }
 }
 
-/// The text of an error, or the limit's where it is past 65,536 bytes (4).
-#[tactic(auto, using(crate::proofs::Bounds::bounds))]
-fn error_text(alloc: Global, message: &str) -> Result<Text, AllocError>
-    ensures { IfOk result (λ text. text ≡ bounded message.now) }
-{
-    match Text::new(alloc, message) {
-        Ok(text) => Ok(text),
-        Err(TextFault::TooLong) => short_text(alloc, "limit reached: value"),
-        Err(TextFault::NoMemory) => Err(AllocError),
-    }
-}
-
 /// The error for a wrong number of words.
 pub fn wrong_args(alloc: Global, usage: &str) -> Result<Answer, AllocError>
     ensures { IfOk result (λ answer. answer ≡ wrong_args_of usage.now) }
 {
     let message = with_quoted(alloc, "wrong # args: should be ", usage)?;
-    Ok(Err(error_text(alloc, message.as_str())?))
+    Ok(Err(Text::of_message(alloc, message.as_str())?))
 }
 
 /// The error for a word that is none of those that may stand in its place.
@@ -43,7 +31,7 @@ pub fn bad_option(alloc: Global, word: &str) -> Result<Answer, AllocError>
     ensures { IfOk result (λ answer. answer ≡ bad_option_of word.now) }
 {
     let message = with_quoted(alloc, "bad option ", word)?;
-    Ok(Err(error_text(alloc, message.as_str())?))
+    Ok(Err(Text::of_message(alloc, message.as_str())?))
 }
 
 /// The message followed by a word in quotation marks.

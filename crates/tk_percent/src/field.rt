@@ -1,6 +1,7 @@
 //! The fields of events as scripts see them.
 ghost use Rattle.std.specs.Prelude.{◌≡◌, ◌≢◌, ◌<◌, ◌++◌, ◌∷◌, [], length, IfErr, OnOk};
 ghost use Rattle.tk_percent.specs.Percent.{field_named, field_shown, number_of_kind, replacement};
+ghost use Rattle.tcl_text.specs.Limits.{most_bytes};
 
 use crate::numbers::{from_i32, from_u8, from_u16, from_u32};
 use crate::push::{
@@ -65,7 +66,7 @@ fn number_of(kind: &EventKind) -> Option<u64>
 /// Adds a field, or what stands for one that is lacking.
 fn push_field(alloc: Global, text: &mut Text, event: &Event, field: Field) -> Result<(), TextFault>
     ensures ok { OnOk result (text.new ≡ text.old ++ field_shown event.now field) }
-    ensures too_long { IfErr result (λ fault. fault ≢ TextFault.NoMemory → 65536 < length (text.old ++ field_shown event.now field)) }
+    ensures too_long { IfErr result (λ fault. fault ≢ TextFault.NoMemory → most_bytes < length (text.old ++ field_shown event.now field)) }
 {
     match field {
         Field::Path => push_element(alloc, text, &event.path),
@@ -89,7 +90,7 @@ fn push_field(alloc: Global, text: &mut Text, event: &Event, field: Field) -> Re
 fn push_character(alloc: Global, text: &mut Text, character: u8) -> Result<(), TextFault>
     requires { character < 128 }
     ensures ok { OnOk result (text.new ≡ text.old ++ character ∷ []) }
-    ensures too_long { IfErr result (λ fault. fault ≢ TextFault.NoMemory → 65536 < length (text.old ++ character ∷ [])) }
+    ensures too_long { IfErr result (λ fault. fault ≢ TextFault.NoMemory → most_bytes < length (text.old ++ character ∷ [])) }
 {
     let mut buffer = [0; 4];
     text.push_str(alloc, char::from(character).encode_utf8(&mut buffer))
@@ -105,7 +106,7 @@ pub fn push_replacement(
 ) -> Result<(), TextFault>
     requires { character < 128 }
     ensures ok { OnOk result (text.new ≡ text.old ++ replacement event.now character) }
-    ensures too_long { IfErr result (λ fault. fault ≢ TextFault.NoMemory → 65536 < length (text.old ++ replacement event.now character)) }
+    ensures too_long { IfErr result (λ fault. fault ≢ TextFault.NoMemory → most_bytes < length (text.old ++ replacement event.now character)) }
 {
     match field_named(character) {
         Some(field) => push_field(alloc, text, event, field),

@@ -4,6 +4,7 @@ ghost use Rattle.std.specs.Fmt.{decimal, signed_decimal};
 ghost use Rattle.tcl_text.specs.ListForm.{Joins};
 ghost use Rattle.tk_keys.specs.Names.{name_of};
 ghost use Rattle.tk_percent.specs.Percent.{element, key_text, number_shown, place_shown, text_shown};
+ghost use Rattle.tcl_text.specs.Limits.{most_bytes};
 
 use itoa::Buffer;
 use std::alloc::{AllocError, Global};
@@ -13,7 +14,7 @@ use tk_keys::Keysym;
 /// A text as an element of a list.
 fn element_of(alloc: Global, item: &Text) -> Result<Text, TextFault>
     ensures ok { IfOk result (λ text. text ≡ element item.now) }
-    ensures too_long { IfErr result (λ fault. fault ≢ TextFault.NoMemory → 65536 < length (element item.now)) }
+    ensures too_long { IfErr result (λ fault. fault ≢ TextFault.NoMemory → most_bytes < length (element item.now)) }
 {
     Text::join_list(alloc, &[item.copy()?])
 }
@@ -21,7 +22,7 @@ fn element_of(alloc: Global, item: &Text) -> Result<Text, TextFault>
 /// Adds a text as an element of a list.
 pub fn push_element(alloc: Global, text: &mut Text, item: &Text) -> Result<(), TextFault>
     ensures ok { OnOk result (text.new ≡ text.old ++ element item.now) }
-    ensures too_long { IfErr result (λ fault. fault ≢ TextFault.NoMemory → 65536 < length (text.old ++ element item.now)) }
+    ensures too_long { IfErr result (λ fault. fault ≢ TextFault.NoMemory → most_bytes < length (text.old ++ element item.now)) }
 {
     match element_of(alloc, item) {
         Ok(element) => text.push_str(alloc, element.as_str()),
@@ -32,7 +33,7 @@ pub fn push_element(alloc: Global, text: &mut Text, item: &Text) -> Result<(), T
 /// Adds a text as an element of a list, or what stands for one that is lacking.
 pub fn push_text(alloc: Global, text: &mut Text, item: &Option<Text>) -> Result<(), TextFault>
     ensures ok { OnOk result (text.new ≡ text.old ++ text_shown item.now) }
-    ensures too_long { IfErr result (λ fault. fault ≢ TextFault.NoMemory → 65536 < length (text.old ++ text_shown item.now)) }
+    ensures too_long { IfErr result (λ fault. fault ≢ TextFault.NoMemory → most_bytes < length (text.old ++ text_shown item.now)) }
 {
     match item {
         Some(item) => push_element(alloc, text, item),
@@ -43,7 +44,7 @@ pub fn push_text(alloc: Global, text: &mut Text, item: &Option<Text>) -> Result<
 /// Adds a number in decimal.
 pub fn push_decimal(alloc: Global, text: &mut Text, number: u64) -> Result<(), TextFault>
     ensures ok { OnOk result (text.new ≡ text.old ++ decimal number) }
-    ensures too_long { IfErr result (λ fault. fault ≢ TextFault.NoMemory → 65536 < length (text.old ++ decimal number)) }
+    ensures too_long { IfErr result (λ fault. fault ≢ TextFault.NoMemory → most_bytes < length (text.old ++ decimal number)) }
 {
     let mut buffer = Buffer::new();
     text.push_str(alloc, buffer.format(number))
@@ -52,7 +53,7 @@ pub fn push_decimal(alloc: Global, text: &mut Text, number: u64) -> Result<(), T
 /// Adds a number in decimal, or what stands for one that is lacking.
 pub fn push_number(alloc: Global, text: &mut Text, number: Option<u64>) -> Result<(), TextFault>
     ensures ok { OnOk result (text.new ≡ text.old ++ number_shown number) }
-    ensures too_long { IfErr result (λ fault. fault ≢ TextFault.NoMemory → 65536 < length (text.old ++ number_shown number)) }
+    ensures too_long { IfErr result (λ fault. fault ≢ TextFault.NoMemory → most_bytes < length (text.old ++ number_shown number)) }
 {
     match number {
         Some(number) => push_decimal(alloc, text, number),
@@ -63,7 +64,7 @@ pub fn push_number(alloc: Global, text: &mut Text, number: Option<u64>) -> Resul
 /// Adds a signed number in decimal.
 fn push_signed(alloc: Global, text: &mut Text, number: i64) -> Result<(), TextFault>
     ensures ok { OnOk result (text.new ≡ text.old ++ signed_decimal number) }
-    ensures too_long { IfErr result (λ fault. fault ≢ TextFault.NoMemory → 65536 < length (text.old ++ signed_decimal number)) }
+    ensures too_long { IfErr result (λ fault. fault ≢ TextFault.NoMemory → most_bytes < length (text.old ++ signed_decimal number)) }
 {
     let mut buffer = Buffer::new();
     text.push_str(alloc, buffer.format(number))
@@ -72,7 +73,7 @@ fn push_signed(alloc: Global, text: &mut Text, number: i64) -> Result<(), TextFa
 /// Adds a number of pixels in decimal, or what stands for one that is lacking.
 pub fn push_place(alloc: Global, text: &mut Text, place: Option<i64>) -> Result<(), TextFault>
     ensures ok { OnOk result (text.new ≡ text.old ++ place_shown place) }
-    ensures too_long { IfErr result (λ fault. fault ≢ TextFault.NoMemory → 65536 < length (text.old ++ place_shown place)) }
+    ensures too_long { IfErr result (λ fault. fault ≢ TextFault.NoMemory → most_bytes < length (text.old ++ place_shown place)) }
 {
     match place {
         Some(place) => push_signed(alloc, text, place),
@@ -126,7 +127,7 @@ fn typed(alloc: Global, key: Option<Keysym>) -> Result<Option<Text>, AllocError>
 /// Adds a key's name, or what stands for it.
 pub fn push_key(alloc: Global, text: &mut Text, key: Option<Keysym>) -> Result<(), TextFault>
     ensures ok { OnOk result (text.new ≡ text.old ++ text_shown (option_map name_of key)) }
-    ensures too_long { IfErr result (λ fault. fault ≢ TextFault.NoMemory → 65536 < length (text.old ++ text_shown (option_map name_of key))) }
+    ensures too_long { IfErr result (λ fault. fault ≢ TextFault.NoMemory → most_bytes < length (text.old ++ text_shown (option_map name_of key))) }
 {
     let name = name_of(alloc, key)?;
     push_text(alloc, text, &name)
@@ -135,7 +136,7 @@ pub fn push_key(alloc: Global, text: &mut Text, key: Option<Keysym>) -> Result<(
 /// Adds what a key types, or what stands for it.
 pub fn push_typed(alloc: Global, text: &mut Text, key: Option<Keysym>) -> Result<(), TextFault>
     ensures ok { OnOk result (text.new ≡ text.old ++ text_shown (option_map key_text key)) }
-    ensures too_long { IfErr result (λ fault. fault ≢ TextFault.NoMemory → 65536 < length (text.old ++ text_shown (option_map key_text key))) }
+    ensures too_long { IfErr result (λ fault. fault ≢ TextFault.NoMemory → most_bytes < length (text.old ++ text_shown (option_map key_text key))) }
 {
     let typed = typed(alloc, key)?;
     push_text(alloc, text, &typed)

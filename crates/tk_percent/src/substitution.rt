@@ -2,6 +2,7 @@
 ghost use Rattle.std.specs.Prelude.{◌≡◌, ◌≢◌, ◌+◌, ◌<◌, ◌++◌, ◌≤◌, true, false, length, drop, IfOk, IfErr, IfSome, MatchOption};
 ghost use Rattle.std.specs.Str.{IsCharBoundary};
 ghost use Rattle.tk_percent.specs.Percent.{substituted, substituted_from};
+ghost use Rattle.tcl_text.specs.Limits.{most_bytes};
 
 use crate::field::push_replacement;
 use crate::push::short_text;
@@ -21,7 +22,7 @@ fn push_behind_percent(
     ensures ok { IfOk result (λ taken. text.new ++ substituted_from event.now false (drop taken behind.now) ≡ text.old ++ substituted_from event.now true behind.now) }
     ensures cut { IfOk result (λ taken. IsCharBoundary behind.now taken) }
     ensures shorter { IfOk result (λ taken. taken ≤ length behind.now) }
-    ensures too_long { IfErr result (λ fault. fault ≢ TextFault.NoMemory → 65536 < length (text.old ++ substituted_from event.now true behind.now)) }
+    ensures too_long { IfErr result (λ fault. fault ≢ TextFault.NoMemory → most_bytes < length (text.old ++ substituted_from event.now true behind.now)) }
 {
     match behind.as_bytes() {
         [] => {
@@ -42,7 +43,7 @@ fn push_behind_percent(
 /// lacks. `TooLong` (4) where that passes 65,536 bytes.
 pub fn substitute(alloc: Global, script: &Text, event: &Event) -> Result<Text, TextFault>
     ensures ok { IfOk result (λ text. text ≡ substituted event.now script.now) }
-    ensures too_long { IfErr result (λ fault. fault ≢ TextFault.NoMemory → 65536 < length (substituted event.now script.now)) }
+    ensures too_long { IfErr result (λ fault. fault ≢ TextFault.NoMemory → most_bytes < length (substituted event.now script.now)) }
 {
     let mut text = short_text(alloc, "")?;
     let mut rest = script.as_str();

@@ -39,7 +39,7 @@ impl SequenceFault {
         ensures { IfOk result (λ text. text ≡ bounded (fault_text self.now)) }
     {
         let message = self.written(alloc)?;
-        error_text(alloc, message.as_str())
+        Text::of_message(alloc, message.as_str())
     }
 
     /// The text of the error, however long.
@@ -64,18 +64,6 @@ fn quoting(alloc: Global, before: &str, word: &Text) -> Result<String, AllocErro
     message.push_str(word.as_str())?;
     message.push_str("\"")?;
     Ok(message)
-}
-
-/// The text of an error, or the limit's where it is past 65,536 bytes (4).
-#[tactic(auto, unfolding(tcl_text::specs::Answers::bounded))]
-fn error_text(alloc: Global, message: &str) -> Result<Text, AllocError>
-    ensures { IfOk result (λ text. text ≡ bounded message.now) }
-{
-    match Text::new(alloc, message) {
-        Ok(text) => Ok(text),
-        Err(TextFault::TooLong) => short_text(alloc, "limit reached: value"),
-        Err(TextFault::NoMemory) => Err(AllocError),
-    }
 }
 
 /// A text of characters that are known to be few enough.

@@ -2,6 +2,7 @@ ghost use Rattle.std.specs.Prelude.{◌≡◌, ◌≤◌, ◌↔◌, length, IfO
 ghost use Rattle.std.specs.Option.{option_copied};
 ghost use Rattle.tk_sequences.specs.Names.{IsName};
 ghost use Rattle.tk_sequences.specs.Reading.{has_no_closing, is_name, name_in};
+ghost use Rattle.tcl_text.specs.Limits.{most_bytes};
 
 use crate::fault::short_text;
 use crate::written::name_written;
@@ -98,7 +99,7 @@ fn is_name(name: &str) -> bool
 
 /// What stands between the brackets of a virtual event's name.
 fn name_in(text: &str) -> Option<&str>
-    requires { length text.now ≤ 65536 }
+    requires { length text.now ≤ most_bytes }
     ensures value { option_copied result ≡ name_in text.now }
     ensures kept { IfSome result (λ name. IsName name.now) }
 {

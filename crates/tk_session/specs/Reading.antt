@@ -31,6 +31,7 @@ use Rattle.tk_session.specs.declared.stage.Stage.{Stage}
 use Rattle.tk_session.specs.declared.stage.Stage.TheVariants as stages
 use Rattle.tk_session.specs.Names.{is_command_name, slot_of}
 use Rattle.tk_session.specs.Session.{heading, events, Plan, rects_of}
+use Rattle.tcl_text.specs.Limits.{most_bytes, last_moment}
 
 infixl 10 ◌>>=◌
 abbrev pub ◌>>=◌ : {A B : Type 0} → Option A → (A → Option B) → Option B
@@ -147,7 +148,7 @@ kind_of word =
 abbrev pub config_of : List ℕ → Option (List ℕ)
 config_of text = do
   config ← utf8_of text
-  if nat_le (length config) 65536 then Some config else None
+  if nat_le (length config) most_bytes then Some config else None
 
 -- the kind and the configuration of a text that was cut at its blank, if it has one
 abbrev pub cut_service : List ℕ → Option (List ℕ × List ℕ) → Option (ServiceKind × List ℕ)
@@ -219,7 +220,7 @@ event_of format apps word fields =
 
 unfoldable pub event_line_of : Format → List AppBlock → List ℕ → Option EventLine
 event_line_of format apps line = do
-  moment ← number_field 0 1000000000000 line
+  moment ← number_field 0 last_moment line
   parts ← cut_at 32 moment.1
   event ← event_of format apps parts.0 parts.1
   Some (record { moment = moment.0; line = event })
@@ -232,7 +233,7 @@ script_line_of line = do
 unfoldable pub end_line_of : List ℕ → Option ℕ
 end_line_of line = do
   parts ← cut_at 32 line
-  moment ← number_of 0 1000000000000 parts.0
+  moment ← number_of 0 last_moment parts.0
   if bytes_eq parts.1 (codes "end") then Some moment else None
 
 -- some place lies in both spans
@@ -349,7 +350,7 @@ text_read format apps head left script =
 
 abbrev pub text_step : Format → List AppBlock → Head → ℕ → Option (List ℕ) → List ℕ → Result Stage LineFault
 text_step format apps head left script line =
-    if is_utf8 line && nat_le (length (with_line script line)) 65536
+    if is_utf8 line && nat_le (length (with_line script line)) most_bytes
     then Ok (text_read format apps head left (with_line script line)) else Err BadLine
 
 abbrev pub moment_step : List AppBlock → Screen → List EventLine → Option ℕ → Result Stage LineFault

@@ -24,6 +24,7 @@ use Rattle.tk_session.specs.declared.fault.LineFault.TheVariants.{BadLine, TooMa
 use Rattle.tk_session.specs.declared.fault.LineFault.TheVariants as faults
 use Rattle.tk_session.specs.declared.fault.SessionFault.{SessionFault}
 use Rattle.tk_session.specs.declared.fault.SessionFault.TheVariants.{Refused, NoMemory}
+use Rattle.tcl_text.specs.Limits.{most_bytes, last_moment}
 
 -- ---- lines
 
@@ -77,7 +78,7 @@ SpellsAlias line alias =
 pub record IsAliasInRange (alias : AliasLine) : Type 0 where
   pub named : is_command_name alias.name ≡ true
   pub utf8 : IsUtf8 alias.service.config
-  pub short : length alias.service.config ≤ 65536
+  pub short : length alias.service.config ≤ most_bytes
 
 pub record IsAliasLine (line : List ℕ) (alias : AliasLine) : Type 0 where
   pub spelling : SpellsAlias line alias
@@ -92,7 +93,7 @@ pub record IsScriptLine (line : List ℕ) (count : ℕ) : Type 0 where
 pub record IsScript (lines : List (List ℕ)) (script : List ℕ) : Type 0 where
   pub joined : script ≡ join_with_byte 10 lines
   pub utf8 : AllByRecursion IsUtf8 lines
-  pub short : length script ≤ 65536
+  pub short : length script ≤ most_bytes
 
 -- One line after another says one thing more. What a line may say rests on what was said before it.
 abbrev pub AreSaid : {A : Type 0} → (List A → List ℕ → A → Type 0) → List A → List (List ℕ) → List A → Type 0
@@ -194,7 +195,7 @@ pub record IsEventLine (format : Format) (apps : List AppBlock) (line : List ℕ
   pub fields : List (List ℕ)
   pub spelling : line ≡ spelled (decimal event.moment ∷ fields)
   pub says : SayEvent format apps fields event.line
-  pub moment_range : event.moment ≤ 1000000000000
+  pub moment_range : event.moment ≤ last_moment
   pub range : IsLineInRange event.line
 
 -- what the router is told of events, the newest first
@@ -234,7 +235,7 @@ SaysEvent format apps before line event = IsEventLine format apps line event × 
 -- `MOMENT end`
 pub record IsEndLine (line : List ℕ) (moment : ℕ) : Type 0 where
   pub spelling : line ≡ spelled (decimal moment ∷ codes "end" ∷ [])
-  pub moment_range : moment ≤ 1000000000000
+  pub moment_range : moment ≤ last_moment
 
 -- ---- sessions
 
@@ -318,14 +319,14 @@ AreAllowed before (app ∷ apps) =
 abbrev pub MayHappen : List AppBlock → List EventLine → List EventLine → Type 0
 MayHappen apps before [] = Unit {0}
 MayHappen apps before (event ∷ told) =
-    (event.moment ≤ 1000000000000) × IsLineInRange event.line × MayCome apps before event × MayHappen apps (before ++ event ∷ []) told
+    (event.moment ≤ last_moment) × IsLineInRange event.line × MayCome apps before event × MayHappen apps (before ++ event ∷ []) told
 
 -- what a session may say
 pub record IsAllowed (plan : Plan) : Type 0 where
   pub apps_may : AreAllowed [] plan.apps
   pub events_may : MayHappen plan.apps [] plan.events
   pub in_order : moment_at plan.events ≤ plan.end
-  pub end_range : plan.end ≤ 1000000000000
+  pub end_range : plan.end ≤ last_moment
 
 -- the bytes are a session, and this is what it says
 abbrev pub IsSession : List ℕ → Plan → Type 0

@@ -3,6 +3,7 @@ ghost use Rattle.std.specs.Prelude.{◌≡◌, ◌≤◌, length, option_map, If
 ghost use Rattle.std.specs.List.{list_all};
 ghost use Rattle.tk_session.specs.Names.{begins_apart, is_command_name, is_printing};
 ghost use Rattle.tk_session.specs.Reading.{alias_line_of, command_name_of, config_of, cut_service, kind_of, service_of};
+ghost use Rattle.tcl_text.specs.Limits.{most_bytes};
 
 use crate::line::{as_text, cut, fields_behind, utf8};
 use tk_services::ServiceKind;
@@ -79,7 +80,7 @@ fn kind(word: &[u8]) -> Option<ServiceKind>
 }
 
 fn config(text: &[u8]) -> Option<&str>
-    ensures short { IfSome result (λ config. length config.now ≤ 65536) }
+    ensures short { IfSome result (λ config. length config.now ≤ most_bytes) }
     ensures config { option_map (λ config. config.now) result ≡ config_of text.now }
 {
     let config = utf8(text)?;
@@ -93,7 +94,7 @@ fn config(text: &[u8]) -> Option<&str>
 /// Reads `KIND CONFIGURATION`, or `KIND` where the configuration is empty.
 #[tactic(auto, unfolding(crate::specs::Reading::service_of))]
 fn service(text: &[u8]) -> Option<(ServiceKind, &str)>
-    ensures short { IfSome result (λ service. length service.1.now ≤ 65536) }
+    ensures short { IfSome result (λ service. length service.1.now ≤ most_bytes) }
     ensures service { option_map (λ service. (service.0, service.1.now)) result ≡ service_of text.now }
 {
     match cut(text, b' ') {
@@ -110,7 +111,7 @@ fn service(text: &[u8]) -> Option<(ServiceKind, &str)>
 #[tactic(auto, unfolding(crate::specs::Reading::alias_line_of))]
 pub(crate) fn alias_line(line: &[u8]) -> Option<AliasFields<'_>>
     ensures name_fits { IfSome result (λ alias. length alias.name.now ≤ 64) }
-    ensures config_fits { IfSome result (λ alias. length alias.config.now ≤ 65536) }
+    ensures config_fits { IfSome result (λ alias. length alias.config.now ≤ most_bytes) }
     ensures alias { option_map (λ alias. (alias.name.now, alias.kind, alias.config.now)) result ≡ alias_line_of line.now }
 {
     let fields = fields_behind(b"alias", line)?;

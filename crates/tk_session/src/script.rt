@@ -1,5 +1,6 @@
 ghost use Rattle.std.specs.Prelude.{◌≡◌, [], None, Some, nat_le, length, IfOk, unwrap_or};
 ghost use Rattle.tk_session.specs.Reading.{with_line};
+ghost use Rattle.tcl_text.specs.Limits.{most_bytes};
 
 use std::alloc::{AllocError, Global};
 use std::marker::Model;
@@ -30,7 +31,7 @@ impl ScriptText {
 
     /// Whether the script with one more line is no longer than a text may be.
     pub(crate) fn has_room(&self, line: &str) -> bool
-        ensures { result ≡ nat_le (length (with_line self.now line.now)) 65536 }
+        ensures { result ≡ nat_le (length (with_line self.now line.now)) most_bytes }
     {
         match &self.text {
             None => line.len() <= MAX_BYTES,

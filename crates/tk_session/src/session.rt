@@ -96,6 +96,7 @@ impl Model for Session {
 impl Session {
     ghost use Rattle.std.specs.Prelude.{[]};
     ghost use Rattle.tk_session.specs.Session.{IsAllowed, AreAllowed, MayHappen, moment_at};
+    ghost use Rattle.tcl_text.specs.Limits.{last_moment};
 
     /// What may stand in a session.
     pub(crate) fn new(apps: Listing<AppBlock>, events: Listing<EventLine>, end: u64) -> Session
@@ -125,7 +126,7 @@ impl Session {
     pub fn end(&self) -> u64
         ensures end { result ≡ self.now.end }
         ensures last { moment_at self.now.events ≤ self.now.end }
-        ensures range { result ≤ 1000000000000 }
+        ensures range { result ≤ last_moment }
     {
         self.end
     }

@@ -2,6 +2,7 @@
 
 ghost use Rattle.std.specs.Prelude.{◌≡◌, ◌≤◌, length, IfOk, IfErr, Ok};
 ghost use Rattle.tk_session.specs.Reading.{Gives, overlap, is_taken, is_covered, hindrance, is_served, alias_hindrance, alias_of, app_line_of, closed, count_step, end_line_of, event_hindrance, joined, script_line_of, heading_step, app_step, block_step, script_step, text_step, moment_step, event_admitted, event_step, step};
+ghost use Rattle.tcl_text.specs.Limits.{most_bytes};
 
 use crate::alias_line::{AliasFields, alias_line};
 use crate::event_line::event_line;
@@ -200,7 +201,7 @@ fn read_app(
 
 /// A text of characters that a text has room for.
 fn short_text(alloc: Global, characters: &str) -> Result<Text, LineError>
-    requires { length characters.now ≤ 65536 }
+    requires { length characters.now ≤ most_bytes }
     ensures ok { IfOk result (λ text. text ≡ characters.now) }
     ensures err { IfErr result (λ error. error ≡ LineError.NoMemory) }
 {
@@ -239,7 +240,7 @@ fn close(
 /// The alias of these fields.
 fn alias_of(alloc: Global, fields: &AliasFields<'_>) -> Result<AliasLine, LineError>
     requires name { length fields.now.name.now ≤ 64 }
-    requires config { length fields.now.config.now ≤ 65536 }
+    requires config { length fields.now.config.now ≤ most_bytes }
     ensures ok { IfOk result (λ alias. alias ≡ alias_of (fields.now.name.now, fields.now.kind, fields.now.config.now)) }
     ensures err { IfErr result (λ error. error ≡ LineError.NoMemory) }
 {

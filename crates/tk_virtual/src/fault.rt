@@ -52,7 +52,7 @@ impl VirtualFault {
         ensures { IfOk result (λ text. text ≡ bounded (fault_text self.now)) }
     {
         let message = self.written(alloc)?;
-        error_text(alloc, message.as_str())
+        Text::of_message(alloc, message.as_str())
     }
 
     /// The text of the error, however long.
@@ -89,28 +89,6 @@ fn quoting(alloc: Global, before: &str, word: &Text, behind: &str) -> Result<Str
     message.push_str("\"")?;
     message.push_str(behind)?;
     Ok(message)
-}
-
-/// The text of an error, or the limit's where it is past 65,536 bytes (4).
-#[tactic(auto, unfolding(tcl_text::specs::Answers::bounded))]
-fn error_text(alloc: Global, message: &str) -> Result<Text, AllocError>
-    ensures { IfOk result (λ text. text ≡ bounded message.now) }
-{
-    match Text::new(alloc, message) {
-        Ok(text) => Ok(text),
-        Err(TextFault::TooLong) => short_text(alloc, "limit reached: value"),
-        Err(TextFault::NoMemory) => Err(AllocError),
-    }
-}
-
-/// A text of characters that are known to be few enough.
-fn short_text(alloc: Global, characters: &str) -> Result<Text, AllocError>
-    ensures { IfOk result (λ text. text ≡ characters.now) }
-{
-    match Text::new(alloc, characters) {
-        Ok(text) => Ok(text),
-        Err(_) => Err(AllocError),
-    }
 }
 
 impl VirtualFault {

@@ -27,6 +27,7 @@ use Rattle.tk_widgets.specs.EntryCommands.{entry_words}
 use Rattle.tk_widgets.specs.ListboxCommands.{listbox_words}
 use Rattle.tk_widgets.specs.Outcomes.{Wanted, asked_by, change, or_fault, script, told}
 use Rattle.tk_widgets.specs.Sizes.{or_empty}
+use Rattle.tcl_text.specs.Limits.{most_bytes}
 
 -- ---- what the words ask for
 
@@ -103,7 +104,7 @@ with_listbox edit widget = widget
 
 -- `insert` of a listbox is refused where the list of all items would be past the limit
 unfoldable pub if_listed : ListboxWidget → Result Widget (List ℕ)
-if_listed widget = if nat_le (length (list_form (texts widget.listbox.items))) 65536 then Ok (Listbox widget) else Err limit_text
+if_listed widget = if nat_le (length (list_form (texts widget.listbox.items))) most_bytes then Ok (Listbox widget) else Err limit_text
 
 abbrev pub within_list : Widget → Result Widget (List ℕ)
 within_list (Listbox widget) = if_listed widget

@@ -10,6 +10,7 @@ use Rattle.tk_widgets.specs.declared.outcome.Asked.TheVariants.{Done, Wants}
 use Rattle.tk_widgets.specs.declared.outcome.Change.{Change}
 use Rattle.tk_widgets.specs.declared.outcome.Change.TheVariants.{Edit}
 use Rattle.tk_widgets.specs.declared.outcome.WidgetAct.TheVariants as act
+use Rattle.tcl_text.specs.Limits.{most_bytes}
 
 -- what a sub-command asks for, or the text of its error
 abbrev pub Wanted : Type 0
@@ -35,7 +36,7 @@ change what = Ok (Wants what)
 
 -- an entry's edit, which is refused where the text is past the limit
 unfoldable pub edit : Entry → Wanted
-edit edited = if nat_le (length edited.text) 65536 then change (Edit edited) else Err limit_text
+edit edited = if nat_le (length edited.text) most_bytes then change (Edit edited) else Err limit_text
 
 abbrev pub edit_if : Option Entry → Wanted
 edit_if (Some edited) = edit edited

@@ -5,6 +5,7 @@ ghost use Rattle.tcl_text.specs.Answers.{Gives};
 ghost use Rattle.tk_entry.specs.Entries.{inserted, deleted, edited};
 ghost use Rattle.tk_widgets.specs.EntryCommands as spec;
 ghost use Rattle.tk_widgets.specs.Outcomes.{IsAskedBy, asked_by, edit, nothing};
+ghost use Rattle.tcl_text.specs.Limits.{most_bytes};
 
 use crate::outcome::{Asked, Change, WidgetAct};
 use crate::widget::EntryWidget;
@@ -178,7 +179,7 @@ fn place_in(
     word: &Text,
 ) -> Result<usize, Refusal>
     ensures place { Gives result (spec.place_in word.now (option_copied variable.entry) entry.now) }
-    ensures bound { IfOk result (λ at. at ≤ 65536) }
+    ensures bound { IfOk result (λ at. at ≤ most_bytes) }
 {
     match entry.index(variable, word) {
         Some(at) => Ok(at),

@@ -3,6 +3,7 @@ ghost use Rattle.std.specs.Prelude.{◌≡◌, ◌≤◌, length};
 ghost use Rattle.std.specs.Option.{option_copied};
 ghost use Rattle.tk_options.specs.Options.{value_of};
 ghost use Rattle.tk_widgets.specs.Sizes.{text_shown, or_empty, or_else, frame_size, text_size, entry_size, listbox_size};
+ghost use Rattle.tcl_text.specs.Limits.{most_bytes};
 
 use crate::measure::measure;
 use tcl_text::Text;
@@ -17,7 +18,7 @@ const LINE: u32 = 16;
 /// What a label or a button shows: the variable's text, or else its own.
 pub fn text_shown<'a>(variable: Option<&'a Text>, options: &'a OptionTable) -> &'a str
     ensures text { result.now ≡ text_shown (option_copied variable.entry) options.now }
-    ensures short { length result.now ≤ 65536 }
+    ensures short { length result.now ≤ most_bytes }
 {
     match variable {
         Some(text) => text.as_str(),
@@ -28,7 +29,7 @@ pub fn text_shown<'a>(variable: Option<&'a Text>, options: &'a OptionTable) -> &
 /// The value of `-text`.
 fn own_text(options: &OptionTable) -> &str
     ensures text { result.now ≡ or_empty (value_of OptionName.Text options.now) }
-    ensures short { length result.now ≤ 65536 }
+    ensures short { length result.now ≤ most_bytes }
 {
     match options.value(OptionName::Text) {
         Some(text) => text.as_str(),
@@ -47,7 +48,7 @@ pub fn frame_size(options: &OptionTable) -> (u32, u32)
 
 /// The size of a label or a button with a text of at most 65,536 bytes.
 pub fn text_size(options: &OptionTable, text: &str) -> (u32, u32)
-    requires { length text.now ≤ 65536 }
+    requires { length text.now ≤ most_bytes }
     ensures { result ≡ text_size options.now text.now }
 {
     let (columns, lines) = measure(text);

@@ -2,6 +2,7 @@ ghost use Rattle.std.specs.Prelude.{◌≡◌, ◌≢◌, ◌<◌, [], length, S
 ghost use Rattle.tk_widgets.specs.Classes.{value_told};
 ghost use Rattle.std.specs.Option.{option_copied};
 ghost use Rattle.tk_widgets.specs.Sizes.{requested, new_widget, text_size, text_shown};
+ghost use Rattle.tcl_text.specs.Limits.{most_bytes};
 
 use crate::size::{entry_size, frame_size, listbox_size, text_shown, text_size};
 use std::alloc::{AllocError, Global};
@@ -97,7 +98,7 @@ impl Widget {
     pub fn value(&self, alloc: Global, variable: Option<&Text>) -> Result<Option<Text>, TextFault>
         ensures ok { IfOk result (λ value. value ≡ value_told self.now (option_copied variable.entry)) }
         ensures too_long { IfErr result (λ fault. fault ≢ TextFault.NoMemory
-            → IfSome (value_told self.now (option_copied variable.entry)) (λ text. 65536 < length text)) }
+            → IfSome (value_told self.now (option_copied variable.entry)) (λ text. most_bytes < length text)) }
     {
         match self {
             Widget::Frame(_) => Ok(None),
@@ -137,7 +138,7 @@ fn shown_value(
 ) -> Result<Option<Text>, TextFault>
     ensures ok { IfOk result (λ value. value ≡ Some (text_shown (option_copied variable.entry) options.now)) }
     ensures too_long { IfErr result (λ fault. fault ≢ TextFault.NoMemory
-        → 65536 < length (text_shown (option_copied variable.entry) options.now)) }
+        → most_bytes < length (text_shown (option_copied variable.entry) options.now)) }
 {
     let text = Text::new(alloc, text_shown(variable, options))?;
     Ok(Some(text))

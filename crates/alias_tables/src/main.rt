@@ -89,13 +89,20 @@ struct Caller {
 /// One call where it is dropped, by hand: a proof needn't look at its parts there.
 impl Drop for Caller {
     fn drop(self) {
-        let Caller { called: _called } = self;
+        let Caller { called: _ } = self;
+    }
+}
+
+impl Caller {
+    fn new(_alloc: Global) -> Result<Caller> {
+        Ok(Caller { called: None })
     }
 }
 
 impl Fixture for Caller {
-    fn new(_alloc: Global) -> Result<Caller> {
-        Ok(Caller { called: None })
+    fn begin(&mut self, alloc: Global) -> Result<()> {
+        *self = Caller::new(alloc)?;
+        Ok(())
     }
 
     fn answer(&mut self, alloc: Global, question: &str) -> Result<String> {
@@ -110,5 +117,5 @@ impl Fixture for Caller {
 }
 
 fn main(rt: HostRuntime) -> Result<()> {
-    ask_tables::<Caller, _>(&rt)
+    ask_tables(&rt, Caller::new(rt.alloc())?)
 }

@@ -44,9 +44,9 @@ struct Asked {
 impl Drop for Asked {
     fn drop(self) {
         let Asked {
-            table: _table,
-            history: _history,
-            virtuals: _virtuals,
+            table: _,
+            history: _,
+            virtuals: _,
         } = self;
     }
 }

@@ -19,6 +19,6 @@ use tables::{arguments, ask_tables};
 fn main(rt: HostRuntime) -> Result<()> {
     match arguments(&rt)?.as_slice() {
         [word] if word.as_str() == "bench" => bench::run(&rt),
-        _ => ask_tables::<State, _>(&rt),
+        _ => ask_tables(&rt, State::new(rt.alloc())?),
     }
 }

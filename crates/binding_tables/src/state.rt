@@ -16,9 +16,9 @@ pub struct State {
 impl Drop for State {
     fn drop(self) {
         let State {
-            bindings: _bindings,
-            history: _history,
-            virtuals: _virtuals,
+            bindings: _,
+            history: _,
+            virtuals: _,
         } = self;
     }
 }
@@ -109,6 +109,14 @@ fn binding_answer(alloc: Global, bindings: &mut BindTable, words: &[&str]) -> Re
 }
 
 impl State {
+    pub fn new(alloc: Global) -> Result<State> {
+        Ok(State {
+            bindings: BindTable::new(alloc),
+            history: History::new(alloc)?,
+            virtuals: VirtualPairs::new(alloc),
+        })
+    }
+
     fn add_virtual(&mut self, alloc: Global, name: &str, sequence: &str) -> Result<String> {
         let name = text_of(alloc, name)?;
         let sequence = text_of(alloc, sequence)?;
@@ -128,12 +136,9 @@ impl State {
 }
 
 impl Fixture for State {
-    fn new(alloc: Global) -> Result<State> {
-        Ok(State {
-            bindings: BindTable::new(alloc),
-            history: History::new(alloc)?,
-            virtuals: VirtualPairs::new(alloc),
-        })
+    fn begin(&mut self, alloc: Global) -> Result<()> {
+        *self = State::new(alloc)?;
+        Ok(())
     }
 
     fn answer(&mut self, alloc: Global, question: &str) -> Result<String> {

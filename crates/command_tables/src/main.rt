@@ -84,12 +84,19 @@ fn told(alloc: Global, answer: &Answer) -> Result<String> {
     }
 }
 
-impl Fixture for Frames {
+impl Frames {
     fn new(alloc: Global) -> Result<Frames> {
         let mut scopes = Scopes::new(alloc)?;
         scopes.push_frame()?;
         scopes.push_frame()?;
         Ok(Frames { scopes })
+    }
+}
+
+impl Fixture for Frames {
+    fn begin(&mut self, alloc: Global) -> Result<()> {
+        *self = Frames::new(alloc)?;
+        Ok(())
     }
 
     fn answer(&mut self, alloc: Global, question: &str) -> Result<String> {
@@ -103,5 +110,5 @@ impl Fixture for Frames {
 }
 
 fn main(rt: HostRuntime) -> Result<()> {
-    ask_tables::<Frames, _>(&rt)
+    ask_tables(&rt, Frames::new(rt.alloc())?)
 }

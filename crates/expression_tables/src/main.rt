@@ -101,10 +101,6 @@ fn told(alloc: Global, source: &str, by_text: bool) -> Result<String> {
 struct Evaluator;
 
 impl Fixture for Evaluator {
-    fn new(_alloc: Global) -> Result<Evaluator> {
-        Ok(Evaluator)
-    }
-
     fn answer(&mut self, alloc: Global, question: &str) -> Result<String> {
         match first_word(question) {
             ("value", source) => told(alloc, source, false),
@@ -115,5 +111,5 @@ impl Fixture for Evaluator {
 }
 
 fn main(rt: HostRuntime) -> Result<()> {
-    ask_tables::<Evaluator, _>(&rt)
+    ask_tables(&rt, Evaluator)
 }

@@ -43,10 +43,6 @@ fn ending_of(alloc: Global, script: &str, budget: u64) -> Result<String> {
 struct Scripts;
 
 impl Fixture for Scripts {
-    fn new(_alloc: Global) -> Result<Scripts> {
-        Ok(Scripts)
-    }
-
     fn answer(&mut self, alloc: Global, question: &str) -> Result<String> {
         let (budget, script) = first_word(question);
         ending_of(alloc, script, number(budget)?)
@@ -55,5 +51,5 @@ impl Fixture for Scripts {
 
 fn main(rt: HostRuntime) -> Result<()> {
     slices::show(&rt)?;
-    ask_tables::<Scripts, _>(&rt)
+    ask_tables(&rt, Scripts)
 }

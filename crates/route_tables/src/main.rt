@@ -141,9 +141,16 @@ struct Host {
     router: Option<Router>,
 }
 
-impl Fixture for Host {
+impl Host {
     fn new(_alloc: Global) -> Result<Host> {
         Ok(Host { router: None })
+    }
+}
+
+impl Fixture for Host {
+    fn begin(&mut self, alloc: Global) -> Result<()> {
+        *self = Host::new(alloc)?;
+        Ok(())
     }
 
     fn answer(&mut self, alloc: Global, question: &str) -> Result<String> {
@@ -156,5 +163,5 @@ impl Fixture for Host {
 }
 
 fn main(rt: HostRuntime) -> Result<()> {
-    ask_tables::<Host, _>(&rt)
+    ask_tables(&rt, Host::new(rt.alloc())?)
 }

@@ -21,10 +21,6 @@ use tcl_words::parse;
 struct Scripts;
 
 impl Fixture for Scripts {
-    fn new(_alloc: Global) -> Result<Scripts> {
-        Ok(Scripts)
-    }
-
     fn answer(&mut self, alloc: Global, question: &str) -> Result<String> {
         match first_word(question) {
             ("commands", script) => commands_told(alloc, script),
@@ -51,6 +47,6 @@ fn main(rt: HostRuntime) -> Result<()> {
         [mode, count, path] if mode.as_str() == "repeat" => {
             repeat(&rt, count.as_str(), path.as_str())
         }
-        _ => ask_tables::<Scripts, _>(&rt),
+        _ => ask_tables(&rt, Scripts),
     }
 }

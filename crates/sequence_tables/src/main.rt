@@ -33,10 +33,6 @@ fn fault_told(alloc: Global, fault: &SequenceFault) -> Result<String> {
 struct Sequences;
 
 impl Fixture for Sequences {
-    fn new(_alloc: Global) -> Result<Sequences> {
-        Ok(Sequences)
-    }
-
     /// A canonical form that isn't read as itself is an error.
     fn answer(&mut self, alloc: Global, question: &str) -> Result<String> {
         let text = text_of(alloc, question)?;
@@ -58,5 +54,5 @@ impl Fixture for Sequences {
 }
 
 fn main(rt: HostRuntime) -> Result<()> {
-    ask_tables::<Sequences, _>(&rt)
+    ask_tables(&rt, Sequences)
 }

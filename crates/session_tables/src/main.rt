@@ -166,11 +166,18 @@ struct Given {
     bytes: Vec<u8>,
 }
 
-impl Fixture for Given {
+impl Given {
     fn new(alloc: Global) -> Result<Given> {
         Ok(Given {
             bytes: Vec::new(alloc),
         })
+    }
+}
+
+impl Fixture for Given {
+    fn begin(&mut self, alloc: Global) -> Result<()> {
+        *self = Given::new(alloc)?;
+        Ok(())
     }
 
     fn answer(&mut self, alloc: Global, question: &str) -> Result<String> {
@@ -189,5 +196,5 @@ impl Fixture for Given {
 }
 
 fn main(rt: HostRuntime) -> Result<()> {
-    ask_tables::<Given, _>(&rt)
+    ask_tables(&rt, Given::new(rt.alloc())?)
 }

@@ -8,11 +8,18 @@ struct Echo {
     before: String,
 }
 
-impl Fixture for Echo {
+impl Echo {
     fn new(alloc: Global) -> Result<Echo> {
         Ok(Echo {
             before: String::from_str(alloc, "=")?,
         })
+    }
+}
+
+impl Fixture for Echo {
+    fn begin(&mut self, alloc: Global) -> Result<()> {
+        *self = Echo::new(alloc)?;
+        Ok(())
     }
 
     fn answer(&mut self, alloc: Global, question: &str) -> Result<String> {
@@ -23,6 +30,12 @@ impl Fixture for Echo {
         self.before = format!(in alloc; "={question}")?;
         Ok(answer)
     }
+}
+
+/// Whether each answer of a table is what the fixture gives.
+fn agrees<R: Print + AllocGlobal>(rt: &R, name: &str, table: &str) -> Result<bool> {
+    let mut echo = Echo::new(rt.alloc())?;
+    ask_table(rt, &mut echo, name, table)
 }
 
 #[test]
@@ -36,7 +49,7 @@ fn answers_agree(rt: HostRuntime) -> Result<()> {
         "? a␊b\n=\n?  \t\n=a␊b\n?\n= ␉\n? d\n=\n",
     ];
     for table in tables {
-        assert!(rt; ask_table::<Echo, _>(&rt, "agrees", table)?, "{table}");
+        assert!(rt; agrees(&rt, "agrees", table)?, "{table}");
     }
     Ok(())
 }
@@ -50,7 +63,7 @@ fn answers_differ(rt: HostRuntime) -> Result<()> {
         "? a\n!\n",
     ];
     for table in tables {
-        assert!(rt; !ask_table::<Echo, _>(&rt, "differs", table)?, "{table}");
+        assert!(rt; !agrees(&rt, "differs", table)?, "{table}");
     }
     Ok(())
 }
@@ -65,10 +78,7 @@ fn faults_are_told(rt: HostRuntime) -> Result<()> {
         "? none\n",
     ];
     for table in tables {
-        assert!(rt;
-            ask_table::<Echo, _>(&rt, "fault", table).is_err(),
-            "{table}"
-        );
+        assert!(rt; agrees(&rt, "fault", table).is_err(), "{table}");
     }
     Ok(())
 }

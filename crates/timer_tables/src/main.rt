@@ -19,7 +19,7 @@ struct Kept {
 /// One call where it is dropped, by hand: a proof needn't look at its parts there.
 impl Drop for Kept {
     fn drop(self) {
-        let Kept { timers: _timers } = self;
+        let Kept { timers: _ } = self;
     }
 }
 
@@ -136,11 +136,18 @@ fn answer_of(
     }
 }
 
-impl Fixture for Kept {
+impl Kept {
     fn new(alloc: Global) -> Result<Kept> {
         Ok(Kept {
             timers: Timers::new(alloc),
         })
+    }
+}
+
+impl Fixture for Kept {
+    fn begin(&mut self, alloc: Global) -> Result<()> {
+        *self = Kept::new(alloc)?;
+        Ok(())
     }
 
     fn answer(&mut self, alloc: Global, question: &str) -> Result<String> {
@@ -158,5 +165,5 @@ impl Fixture for Kept {
 }
 
 fn main(rt: HostRuntime) -> Result<()> {
-    ask_tables::<Kept, _>(&rt)
+    ask_tables(&rt, Kept::new(rt.alloc())?)
 }

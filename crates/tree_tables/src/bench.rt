@@ -28,8 +28,8 @@ struct Tables {
 impl Drop for Tables {
     fn drop(self) {
         let Tables {
-            windows: _windows,
-            packs: _packs,
+            windows: _,
+            packs: _,
         } = self;
     }
 }

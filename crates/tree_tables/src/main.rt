@@ -30,20 +30,27 @@ struct Screen {
 impl Drop for Screen {
     fn drop(self) {
         let Screen {
-            trees: _trees,
-            packings: _packings,
-            layouts: _layouts,
+            trees: _,
+            packings: _,
+            layouts: _,
         } = self;
     }
 }
 
-impl Fixture for Screen {
+impl Screen {
     fn new(alloc: Global) -> Result<Screen> {
         Ok(Screen {
             trees: Trees::new(alloc),
             packings: Packings::new(alloc),
             layouts: Layouts::new(alloc),
         })
+    }
+}
+
+impl Fixture for Screen {
+    fn begin(&mut self, alloc: Global) -> Result<()> {
+        *self = Screen::new(alloc)?;
+        Ok(())
     }
 
     fn answer(&mut self, alloc: Global, question: &str) -> Result<String> {
@@ -65,6 +72,6 @@ impl Fixture for Screen {
 fn main(rt: HostRuntime) -> Result<()> {
     match arguments(&rt)?.as_slice() {
         [word] if word.as_str() == "bench" => bench::run(&rt),
-        _ => ask_tables::<Screen, _>(&rt),
+        _ => ask_tables(&rt, Screen::new(rt.alloc())?),
     }
 }

@@ -23,16 +23,16 @@ pub struct Session {
 impl Drop for Session {
     fn drop(self) {
         let Session {
-            widget: _widget,
-            scopes: _scopes,
-            saved: _saved,
+            widget: _,
+            scopes: _,
+            saved: _,
         } = self;
     }
 }
 
 impl Session {
     /// A new widget of the kind of a name.
-    fn of(alloc: Global, kind: &str) -> Result<Session> {
+    pub fn of(alloc: Global, kind: &str) -> Result<Session> {
         let kind = match kind {
             "frame" => Kind::Frame,
             "label" => Kind::Label,
@@ -154,8 +154,9 @@ impl Session {
 }
 
 impl Fixture for Session {
-    fn new(alloc: Global) -> Result<Session> {
-        Session::of(alloc, "frame")
+    fn begin(&mut self, alloc: Global) -> Result<()> {
+        *self = Session::of(alloc, "frame")?;
+        Ok(())
     }
 
     fn answer(&mut self, alloc: Global, question: &str) -> Result<String> {

@@ -24,6 +24,7 @@ pub mod PartLemmas
 pub mod KeptLists
 pub mod KeptViews
 pub mod KeptSteps
+mod ItemLemmas
 pub mod KeptItems
 pub mod KeptGrown
 pub mod SortLemmas

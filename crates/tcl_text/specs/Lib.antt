@@ -19,3 +19,4 @@ pub mod Splitting
 pub mod Edit
 pub mod TextForm
 pub mod ListString
+pub mod ItemsForm

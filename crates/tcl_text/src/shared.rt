@@ -13,8 +13,8 @@ use std::rc::Rc;
 #[derive(Drop)]
 struct ReadList {
     text: String,
-    list: ListString,
-    ghost read: { list_of (string_bytes text) ≡ Ok list },
+    list: Rc<ListString>,
+    ghost read: { list_of (string_bytes text) ≡ Ok list.value },
 }
 
 /// A text that copies share, and the list that it is, once it was read as one a second time.
@@ -46,6 +46,7 @@ impl ReadList {
             return Err(AllocError);
         };
         let text = String::from_str(alloc, text)?;
+        let list = Rc::new(alloc, list)?;
         Ok(Box::new(alloc, ReadList { text, list })?)
     }
 }
@@ -70,8 +71,8 @@ impl SharedText {
     }
 
     /// The list that the text is, where it is kept. What a cell has is known by its text alone, which is compared.
-    pub fn as_list(&self, alloc: Global) -> Option<&ListString>
-        ensures { IfSome result (λ list. list_of self.now ≡ Ok list.now) }
+    pub fn as_kept(&self, alloc: Global) -> Option<&Rc<ListString>>
+        ensures { IfSome result (λ list. list_of self.now ≡ Ok list.now.value) }
     {
         if !self.was_read.get() {
             self.was_read.set(true);

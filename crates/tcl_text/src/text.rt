@@ -145,14 +145,14 @@ impl TextForm {
     }
 
     /// The list that the text is, where it is kept.
-    fn as_list(&self, alloc: Global) -> Option<&ListString>
-        ensures { IfSome result (λ list. list_of (form_bytes self.now) ≡ Ok list.now) }
+    fn as_kept(&self, alloc: Global) -> Option<&Rc<ListString>>
+        ensures { IfSome result (λ list. list_of (form_bytes self.now) ≡ Ok list.now.value) }
     {
         match self {
             TextForm::Short(_) => None,
             TextForm::Number(_) => None,
-            TextForm::Shared(text) => text.as_ref().as_list(alloc),
-            TextForm::Listed(list) => Some(list.as_ref()),
+            TextForm::Shared(text) => text.as_ref().as_kept(alloc),
+            TextForm::Listed(list) => Some(list),
         }
     }
 
@@ -307,10 +307,20 @@ impl Text {
 
     /// The list that the text is, where it is kept: of a text past 22 bytes that was made as a list, or is read as one a second time. So
     /// none says nothing.
+    pub(crate) fn as_kept(&self, alloc: Global) -> Option<&Rc<ListString>>
+        ensures { IfSome result (λ list. list_of self.now ≡ Ok list.now.value) }
+    {
+        self.form.as_kept(alloc)
+    }
+
+    /// The same, to look at.
     pub(crate) fn as_list(&self, alloc: Global) -> Option<&ListString>
         ensures { IfSome result (λ list. list_of self.now ≡ Ok list.now) }
     {
-        self.form.as_list(alloc)
+        match self.as_kept(alloc) {
+            Some(list) => Some(list.as_ref()),
+            None => None,
+        }
     }
 
     /// The characters. It takes no memory.

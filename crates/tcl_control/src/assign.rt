@@ -5,7 +5,7 @@ ghost use Rattle.tcl_control.specs.Assign.{done, on_set, first_of, assigned, gro
 use std::alloc::{AllocError, Global};
 use tcl_shapes::Group;
 use tcl_table::texts::cannot_set;
-use tcl_text::Text;
+use tcl_text::{ListItems, Text};
 use tcl_vars::{Scopes, SetFault};
 
 /// Sets a variable of a level, or gives the error's text.
@@ -28,17 +28,17 @@ pub fn set_one(
 }
 
 /// The item at a place, or the empty text.
-fn item_at(alloc: Global, items: &[Text], at: usize) -> Result<Text, AllocError>
+fn item_at(alloc: Global, items: &ListItems, at: usize) -> Result<Text, AllocError>
     ensures { IfOk result (λ item. item ≡ first_of (drop at items.now)) }
 {
-    match items.get(at) {
-        Some(item) => item.copy(),
+    match items.get(alloc, at)? {
+        Some(item) => Ok(item),
         None => Text::of_short(alloc, ""),
     }
 }
 
 /// The place behind an item, where there is one.
-fn behind_item(items: &[Text], at: usize) -> usize
+fn behind_item(items: &ListItems, at: usize) -> usize
     ensures { drop result items.now ≡ drop 1 (drop at items.now) }
 {
     if at < items.len() { at + 1 } else { at }
@@ -50,7 +50,7 @@ fn assign_names(
     scopes: &mut Scopes,
     level: usize,
     names: &[Text],
-    items: &[Text],
+    items: &ListItems,
     from: usize,
 ) -> Result<Option<Text>, AllocError>
     requires { level < length scopes.old }
@@ -85,7 +85,7 @@ pub fn assign_groups(
             scopes,
             level,
             group.names.as_slice(),
-            group.items.as_slice(),
+            &group.items,
             group.next,
         )?;
         if let Some(text) = refused {

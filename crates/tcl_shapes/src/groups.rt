@@ -6,15 +6,15 @@ ghost use Rattle.tcl_shapes.specs.Groups.{group_named, group_of, groups_from, gr
 use crate::texts::list_fault;
 use std::alloc::{AllocError, Global};
 use std::marker::Model;
-use tcl_text::{SplitFault, Text, TextList};
+use tcl_text::{ListItems, SplitFault, Text, TextList};
 
 /// A list of names of `foreach`, and its list of items (foreach(n)).
 #[derive(Drop)]
 pub struct Group {
     /// The variables that take the items, one each in a turn.
     pub names: TextList,
-    /// The items of all turns.
-    pub items: TextList,
+    /// The items of all turns, shared with the text where it keeps them.
+    pub items: ListItems,
     /// How many of the items were taken in the turns before.
     pub next: usize,
 }
@@ -107,7 +107,7 @@ fn group_named(
 ) -> Result<Result<Group, Text>, AllocError>
     ensures { IfOk result (λ group. group ≡ group_named names (list_of items.now)) }
 {
-    match items.split_list(alloc) {
+    match items.list_items(alloc) {
         Ok(items) => Ok(Ok(Group {
             names,
             items,

@@ -86,7 +86,7 @@ struct Caller {
     called: Option<Called>,
 }
 
-/// One call where it is dropped, by hand: a proof needn't look at its parts there.
+/// By hand: a proof sees one call where it is dropped, and not its parts.
 impl Drop for Caller {
     fn drop(self) {
         let Caller { called: _ } = self;

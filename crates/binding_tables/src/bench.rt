@@ -40,7 +40,7 @@ struct Asked {
     virtuals: VirtualPairs,
 }
 
-/// One call where it is dropped, by hand: a proof needn't look at its parts there.
+/// By hand: a proof sees one call where it is dropped, and not its parts.
 impl Drop for Asked {
     fn drop(self) {
         let Asked {

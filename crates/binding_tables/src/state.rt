@@ -12,7 +12,7 @@ pub struct State {
     virtuals: VirtualPairs,
 }
 
-/// One call where it is dropped, by hand: a proof needn't look at its parts there.
+/// By hand: a proof sees one call where it is dropped, and not its parts.
 impl Drop for State {
     fn drop(self) {
         let State {

@@ -6,12 +6,12 @@ pub struct Context {
     pub commands: CommandTable,
 }
 
-/// One call where it is dropped, by hand: a proof needn't look at its parts there.
+/// By hand: a proof sees one call where it is dropped, and not its parts.
 impl Drop for Context {
     fn drop(self) {
         let Context {
-            levels: _levels,
-            commands: _commands,
+            levels: _,
+            commands: _,
         } = self;
     }
 }

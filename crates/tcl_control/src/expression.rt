@@ -23,10 +23,10 @@ pub struct Expression {
     form: ExpressionForm,
 }
 
-/// One call where it is dropped, by hand: a proof needn't look at its parts there.
+/// By hand: a proof sees one call where it is dropped, and not its parts.
 impl Drop for Expression {
     fn drop(self) {
-        let Expression { form: _form } = self;
+        let Expression { form: _ } = self;
     }
 }
 

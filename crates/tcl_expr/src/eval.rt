@@ -23,15 +23,15 @@ pub struct Eval {
     state: State,
 }
 
-/// One call where it is dropped, by hand: a proof needn't look at its parts there.
+/// By hand: a proof sees one call where it is dropped, and not its parts.
 impl Drop for Eval {
     fn drop(self) {
         let Eval {
-            alloc: _alloc,
-            expr: _expr,
-            place: _place,
-            stack: _stack,
-            state: _state,
+            alloc: _,
+            expr: _,
+            place: _,
+            stack: _,
+            state: _,
         } = self;
     }
 }

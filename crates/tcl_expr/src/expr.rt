@@ -5,9 +5,15 @@ use std::rc::Rc;
 use tcl_text::Text;
 
 /// An expression, read and shared by its copies. Contracts see its source alone, of which the steps are those of its tree.
-#[derive(Drop)]
 pub struct Expr {
     parsed: Rc<ParsedExpr>,
+}
+
+/// By hand: a proof sees one call where it is dropped, and not its parts.
+impl Drop for Expr {
+    fn drop(self) {
+        let Expr { parsed: _ } = self;
+    }
 }
 
 #[derive(Drop)]

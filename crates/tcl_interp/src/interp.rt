@@ -33,16 +33,16 @@ pub struct Interp<K> {
     ghost spent: { machine ≡ MachineSpent → left ≡ 0 },
 }
 
-/// One call where it is dropped, by hand: a proof needn't look at its parts there.
+/// By hand: a proof sees one call where it is dropped, and not its parts.
 impl<K: Drop> Drop for Interp<K> {
     fn drop(self) {
         let Interp {
-            alloc: _alloc,
-            context: _context,
-            budget: _budget,
-            left: _left,
-            machine: _machine,
-            frames: _frames,
+            alloc: _,
+            context: _,
+            budget: _,
+            left: _,
+            machine: _,
+            frames: _,
         } = self;
     }
 }

@@ -17,9 +17,15 @@ pub struct Parameter {
 }
 
 /// Parameters in order.
-#[derive(Drop)]
 pub struct Parameters {
     list: Vec<Parameter>,
+}
+
+/// By hand: a proof sees one call where it is dropped, and not its parts.
+impl Drop for Parameters {
+    fn drop(self) {
+        let Parameters { list: _ } = self;
+    }
 }
 
 impl Model for Parameters {

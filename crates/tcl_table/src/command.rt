@@ -48,12 +48,23 @@ pub fn is_dotted(name: &str) -> bool
 
 /// The commands by their names, and beside them what was read of the scripts and expressions that they run. Contracts see the
 /// commands alone: what is kept of a text is what that text says, whether or not it is kept.
-#[derive(Drop)]
 pub struct CommandTable {
     entries: IndexMap<String, Command>,
     scripts: Vec<Option<Script>>,
     expressions: Vec<Option<Expr>>,
     alloc: Global,
+}
+
+/// By hand: a proof sees one call where it is dropped, and not its parts.
+impl Drop for CommandTable {
+    fn drop(self) {
+        let CommandTable {
+            entries: _,
+            scripts: _,
+            expressions: _,
+            alloc: _,
+        } = self;
+    }
 }
 
 impl Model for CommandTable {

@@ -7,9 +7,15 @@ use tcl_vars::Scopes;
 
 /// The places, among the frames of the variables, of the frames of the callers of a script, the global one first, and of its own, the last:
 /// the levels that uplevel(n), upvar(n) and info(n) count.
-#[derive(Drop)]
 pub struct Levels {
     places: Vec<usize>,
+}
+
+/// By hand: a proof sees one call where it is dropped, and not its parts.
+impl Drop for Levels {
+    fn drop(self) {
+        let Levels { places: _ } = self;
+    }
 }
 
 impl Model for Levels {

@@ -7,12 +7,12 @@ pub struct Procedure {
     pub body: Source,
 }
 
-/// One call where it is dropped, by hand: a proof needn't look at its parts there.
+/// By hand: a proof sees one call where it is dropped, and not its parts.
 impl Drop for Procedure {
     fn drop(self) {
         let Procedure {
-            parameters: _parameters,
-            body: _body,
+            parameters: _,
+            body: _,
         } = self;
     }
 }

@@ -23,10 +23,10 @@ pub struct Source {
     form: SourceForm,
 }
 
-/// One call where it is dropped, by hand: a proof needn't look at its parts there.
+/// By hand: a proof sees one call where it is dropped, and not its parts.
 impl Drop for Source {
     fn drop(self) {
-        let Source { form: _form } = self;
+        let Source { form: _ } = self;
     }
 }
 

@@ -26,7 +26,7 @@ pub struct ListItems {
     form: ItemsForm,
 }
 
-/// One call where it is dropped, by hand: a proof needn't look at its parts there.
+/// By hand: a proof sees one call where it is dropped, and not its parts.
 impl Drop for ListItems {
     fn drop(self) {
         let ListItems { form: _ } = self;

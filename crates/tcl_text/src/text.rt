@@ -84,10 +84,10 @@ pub struct Text {
     form: TextForm,
 }
 
-/// By hand, so that a proof sees one call where a text is dropped, and not each of its forms.
+/// By hand: a proof sees one call where it is dropped, and not its forms.
 impl Drop for Text {
     fn drop(self) {
-        let Text { form: _form } = self;
+        let Text { form: _ } = self;
     }
 }
 

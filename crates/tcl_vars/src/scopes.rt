@@ -30,11 +30,21 @@ pub const MAX_VARIABLES: usize = 4096;
 
 /// The variables of one application: the global frame, and one for each procedure that runs. A level counts the frames before its
 /// own, so that 0 is that of the global one.
-#[derive(Drop)]
 pub struct Scopes {
     frames: Vec<Frame>,
     count: usize,
     alloc: Global,
+}
+
+/// By hand: a proof sees one call where it is dropped, and not its parts.
+impl Drop for Scopes {
+    fn drop(self) {
+        let Scopes {
+            frames: _,
+            count: _,
+            alloc: _,
+        } = self;
+    }
 }
 
 impl Model for Scopes {

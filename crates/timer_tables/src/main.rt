@@ -16,7 +16,7 @@ struct Kept {
     timers: Timers,
 }
 
-/// One call where it is dropped, by hand: a proof needn't look at its parts there.
+/// By hand: a proof sees one call where it is dropped, and not its parts.
 impl Drop for Kept {
     fn drop(self) {
         let Kept { timers: _ } = self;

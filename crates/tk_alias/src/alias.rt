@@ -59,9 +59,15 @@ impl<M: AliasMeaning> Alias<M> {
 }
 
 /// The aliases of an application, in order.
-#[derive(Drop)]
 pub struct Aliases<M: AliasMeaning> {
     aliases: Vec<Alias<M>>,
+}
+
+/// By hand: a proof sees one call where it is dropped, and not its parts.
+impl<M: AliasMeaning> Drop for Aliases<M> {
+    fn drop(self) {
+        let Aliases { aliases: _ } = self;
+    }
 }
 
 impl<M: AliasMeaning> Model for Aliases<M> {

@@ -39,17 +39,17 @@ pub struct Runner<M: AliasMeaning> {
     progress: Progress,
 }
 
-/// One call where it is dropped, by hand: a proof needn't look at its parts there.
+/// By hand: a proof sees one call where it is dropped, and not its parts.
 impl<M: AliasMeaning> Drop for Runner<M> {
     fn drop(self) {
         let Runner {
-            name: _name,
-            aliases: _aliases,
-            budget: _budget,
-            scopes: _scopes,
-            interp: _interp,
-            state: _state,
-            progress: _progress,
+            name: _,
+            aliases: _,
+            budget: _,
+            scopes: _,
+            interp: _,
+            state: _,
+            progress: _,
         } = self;
     }
 }

@@ -27,14 +27,14 @@ pub struct Shared<M: AliasMeaning> {
     pub(crate) refused: bool,
 }
 
-/// One call where it is dropped, by hand: a proof needn't look at its parts there.
+/// By hand: a proof sees one call where it is dropped, and not its parts.
 impl<M: AliasMeaning> Drop for Shared<M> {
     fn drop(self) {
         let Shared {
-            tables: _tables,
-            runners: _runners,
-            turns: _turns,
-            refused: _refused,
+            tables: _,
+            runners: _,
+            turns: _,
+            refused: _,
         } = self;
     }
 }

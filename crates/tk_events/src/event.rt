@@ -42,24 +42,24 @@ pub struct Event {
     pub detail: Option<Text>,
 }
 
-/// One call where it is dropped, by hand: a proof needn't look at its parts there.
+/// By hand: a proof sees one call where it is dropped, and not its parts.
 impl Drop for Event {
     fn drop(self) {
         let Event {
-            kind: _kind,
-            number: _number,
-            path: _path,
-            moment: _moment,
-            state: _state,
-            x: _x,
-            y: _y,
-            root_x: _root_x,
-            root_y: _root_y,
-            button: _button,
-            key: _key,
-            width: _width,
-            height: _height,
-            detail: _detail,
+            kind: _,
+            number: _,
+            path: _,
+            moment: _,
+            state: _,
+            x: _,
+            y: _,
+            root_x: _,
+            root_y: _,
+            button: _,
+            key: _,
+            width: _,
+            height: _,
+            detail: _,
         } = self;
     }
 }

@@ -34,16 +34,16 @@ pub struct Host<M: AliasMeaning> {
     shared: Shared<M>,
 }
 
-/// One call where it is dropped, by hand: a proof needn't look at its parts there.
+/// By hand: a proof sees one call where it is dropped, and not its parts.
 impl<M: AliasMeaning> Drop for Host<M> {
     fn drop(self) {
         let Host {
-            alloc: _alloc,
-            slice: _slice,
-            phase: _phase,
-            rects: _rects,
-            router: _router,
-            shared: _shared,
+            alloc: _,
+            slice: _,
+            phase: _,
+            rects: _,
+            router: _,
+            shared: _,
         } = self;
     }
 }

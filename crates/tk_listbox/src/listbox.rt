@@ -17,11 +17,21 @@ const ROW: usize = 16;
 
 /// The items of a listbox with their selection, and which is active (listbox(n)). Places count from 0. In an empty listbox the place 0 is
 /// active. The list of all items is kept beside them, so that items added behind the last don't cost what stands before them.
-#[derive(Drop)]
 pub struct Listbox {
     items: Vec<Item>,
     list: Text,
     active: usize,
+}
+
+/// By hand: a proof sees one call where it is dropped, and not its parts.
+impl Drop for Listbox {
+    fn drop(self) {
+        let Listbox {
+            items: _,
+            list: _,
+            active: _,
+        } = self;
+    }
 }
 
 impl Model for Listbox {

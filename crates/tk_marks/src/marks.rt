@@ -14,9 +14,15 @@ pub struct Mark {
 }
 
 /// The marks of all applications. `slot` is an application's number.
-#[derive(Drop)]
 pub struct Marks {
     rows: HashMap<usize, Mark>,
+}
+
+/// By hand: a proof sees one call where it is dropped, and not its parts.
+impl Drop for Marks {
+    fn drop(self) {
+        let Marks { rows: _ } = self;
+    }
 }
 
 impl Marks {

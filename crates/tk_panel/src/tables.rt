@@ -33,21 +33,21 @@ pub struct Tables {
     pub scripts: ScriptCache,
 }
 
-/// One call where it is dropped, by hand: a proof needn't look at its parts there.
+/// By hand: a proof sees one call where it is dropped, and not its parts.
 impl Drop for Tables {
     fn drop(self) {
         let Tables {
-            alloc: _alloc,
-            clock: _clock,
-            screen: _screen,
-            bindings: _bindings,
-            virtuals: _virtuals,
-            histories: _histories,
-            queue: _queue,
-            inputs: _inputs,
-            timers: _timers,
-            transcripts: _transcripts,
-            scripts: _scripts,
+            alloc: _,
+            clock: _,
+            screen: _,
+            bindings: _,
+            virtuals: _,
+            histories: _,
+            queue: _,
+            inputs: _,
+            timers: _,
+            transcripts: _,
+            scripts: _,
         } = self;
     }
 }

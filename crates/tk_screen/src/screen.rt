@@ -26,15 +26,15 @@ pub struct Screen {
     pub arrangements: HashMap<usize, Arrangements>,
 }
 
-/// One call where it is dropped, by hand: a proof needn't look at its parts there.
+/// By hand: a proof sees one call where it is dropped, and not its parts.
 impl Drop for Screen {
     fn drop(self) {
         let Screen {
-            windows: _windows,
-            packs: _packs,
-            widgets: _widgets,
-            toplevels: _toplevels,
-            arrangements: _arrangements,
+            windows: _,
+            packs: _,
+            widgets: _,
+            toplevels: _,
+            arrangements: _,
         } = self;
     }
 }

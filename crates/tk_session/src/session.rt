@@ -43,15 +43,15 @@ pub struct AppBlock {
     pub script: Text,
 }
 
-/// One call where it is dropped, by hand: a proof needn't look at its parts there.
+/// By hand: a proof sees one call where it is dropped, and not its parts.
 impl Drop for AppBlock {
     fn drop(self) {
         let AppBlock {
-            name: _name,
-            rect: _rect,
-            budget: _budget,
-            aliases: _aliases,
-            script: _script,
+            name: _,
+            rect: _,
+            budget: _,
+            aliases: _,
+            script: _,
         } = self;
     }
 }
@@ -72,13 +72,13 @@ pub struct Session {
     end: u64,
 }
 
-/// One call where it is dropped, by hand: a proof needn't look at its parts there.
+/// By hand: a proof sees one call where it is dropped, and not its parts.
 impl Drop for Session {
     fn drop(self) {
         let Session {
-            apps: _apps,
-            events: _events,
-            end: _end,
+            apps: _,
+            events: _,
+            end: _,
         } = self;
     }
 }

@@ -18,13 +18,13 @@ pub struct Pair {
     pub written: Text,
 }
 
-/// One call where it is dropped, by hand: a proof needn't look at its parts there.
+/// By hand: a proof sees one call where it is dropped, and not its parts.
 impl Drop for Pair {
     fn drop(self) {
         let Pair {
-            name: _name,
-            sequence: _sequence,
-            written: _written,
+            name: _,
+            sequence: _,
+            written: _,
         } = self;
     }
 }

@@ -36,12 +36,12 @@ pub struct EntryWidget {
     pub entry: Entry,
 }
 
-/// One call where it is dropped, by hand: a proof needn't look at its parts there.
+/// By hand: a proof sees one call where it is dropped, and not its parts.
 impl Drop for EntryWidget {
     fn drop(self) {
         let EntryWidget {
-            options: _options,
-            entry: _entry,
+            options: _,
+            entry: _,
         } = self;
     }
 }
@@ -52,12 +52,12 @@ pub struct ListboxWidget {
     pub listbox: Listbox,
 }
 
-/// One call where it is dropped, by hand: a proof needn't look at its parts there.
+/// By hand: a proof sees one call where it is dropped, and not its parts.
 impl Drop for ListboxWidget {
     fn drop(self) {
         let ListboxWidget {
-            options: _options,
-            listbox: _listbox,
+            options: _,
+            listbox: _,
         } = self;
     }
 }

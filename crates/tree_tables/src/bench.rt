@@ -24,7 +24,7 @@ struct Tables {
     packs: PackTable,
 }
 
-/// One call where it is dropped, by hand: a proof needn't look at its parts there.
+/// By hand: a proof sees one call where it is dropped, and not its parts.
 impl Drop for Tables {
     fn drop(self) {
         let Tables {

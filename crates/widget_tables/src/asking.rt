@@ -19,7 +19,7 @@ pub struct Session {
     saved: Option<Text>,
 }
 
-/// One call where it is dropped, by hand: a proof needn't look at its parts there.
+/// By hand: a proof sees one call where it is dropped, and not its parts.
 impl Drop for Session {
     fn drop(self) {
         let Session {

@@ -86,13 +86,6 @@ struct Caller {
     called: Option<Called>,
 }
 
-/// By hand: a proof sees one call where it is dropped, and not its parts.
-impl Drop for Caller {
-    fn drop(self) {
-        let Caller { called: _ } = self;
-    }
-}
-
 impl Caller {
     fn new(_alloc: Global) -> Result<Caller> {
         Ok(Caller { called: None })
@@ -118,4 +111,11 @@ impl Fixture for Caller {
 
 fn main(rt: HostRuntime) -> Result<()> {
     ask_tables(&rt, Caller::new(rt.alloc())?)
+}
+
+/// By hand: a proof sees one call where it is dropped, and not its parts.
+impl Drop for Caller {
+    fn drop(self) {
+        let Caller { called: _ } = self;
+    }
 }

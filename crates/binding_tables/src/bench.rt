@@ -40,17 +40,6 @@ struct Asked {
     virtuals: VirtualPairs,
 }
 
-/// By hand: a proof sees one call where it is dropped, and not its parts.
-impl Drop for Asked {
-    fn drop(self) {
-        let Asked {
-            table: _,
-            history: _,
-            virtuals: _,
-        } = self;
-    }
-}
-
 impl Asked {
     fn new(alloc: Global, owners: usize, count: usize) -> Result<Asked> {
         Ok(Asked {
@@ -111,4 +100,15 @@ pub fn run(rt: &(impl Print + AllocGlobal + Clock)) -> Result<()> {
         time_events(rt, owners, count)?;
     }
     Ok(())
+}
+
+/// By hand: a proof sees one call where it is dropped, and not its parts.
+impl Drop for Asked {
+    fn drop(self) {
+        let Asked {
+            table: _,
+            history: _,
+            virtuals: _,
+        } = self;
+    }
 }

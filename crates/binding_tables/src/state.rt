@@ -12,17 +12,6 @@ pub struct State {
     virtuals: VirtualPairs,
 }
 
-/// By hand: a proof sees one call where it is dropped, and not its parts.
-impl Drop for State {
-    fn drop(self) {
-        let State {
-            bindings: _,
-            history: _,
-            virtuals: _,
-        } = self;
-    }
-}
-
 fn bind(
     alloc: Global,
     bindings: &mut BindTable,
@@ -153,5 +142,16 @@ impl Fixture for State {
             ["winner", owner, tag, event @ ..] => self.winner(alloc, number(owner)?, tag, event),
             words => binding_answer(alloc, &mut self.bindings, words),
         }
+    }
+}
+
+/// By hand: a proof sees one call where it is dropped, and not its parts.
+impl Drop for State {
+    fn drop(self) {
+        let State {
+            bindings: _,
+            history: _,
+            virtuals: _,
+        } = self;
     }
 }

@@ -17,16 +17,6 @@ pub struct ScriptCache {
     scripts: LruCache<String, Script>,
 }
 
-/// By hand: a proof sees one call where it is dropped, and not its parts.
-impl Drop for ScriptCache {
-    fn drop(self) {
-        let ScriptCache {
-            alloc: _,
-            scripts: _,
-        } = self;
-    }
-}
-
 impl Model for ScriptCache {
     ghost use Rattle.std.specs.Prelude.{◌<◌};
     ghost use Rattle.tcl_cache.specs.Kept.{Kept};
@@ -129,5 +119,15 @@ impl ScriptCache {
         let script = script.copy()?;
         self.scripts.put(key, script)?;
         Ok(())
+    }
+}
+
+/// By hand: a proof sees one call where it is dropped, and not its parts.
+impl Drop for ScriptCache {
+    fn drop(self) {
+        let ScriptCache {
+            alloc: _,
+            scripts: _,
+        } = self;
     }
 }

@@ -23,13 +23,6 @@ pub struct Expression {
     form: ExpressionForm,
 }
 
-/// By hand: a proof sees one call where it is dropped, and not its parts.
-impl Drop for Expression {
-    fn drop(self) {
-        let Expression { form: _ } = self;
-    }
-}
-
 impl Model for Expression {
     ghost use Rattle.std.specs.Prelude.{ℕ, List};
     ghost use Rattle.tcl_control.specs.ExpressionForms.{expression_text, HasFault};
@@ -118,5 +111,12 @@ pub fn truth(alloc: Global, value: &Text) -> Result<Result<bool, Text>, AllocErr
     match value.boolean() {
         Ok(truth) => Ok(Ok(truth)),
         Err(_) => Ok(Err(not_boolean(alloc, value)?)),
+    }
+}
+
+/// By hand: a proof sees one call where it is dropped, and not its parts.
+impl Drop for Expression {
+    fn drop(self) {
+        let Expression { form: _ } = self;
     }
 }

@@ -32,13 +32,6 @@ pub struct Looping {
     turning: Box<Turning>,
 }
 
-/// By hand: a proof sees one call where it is dropped, and not its parts.
-impl Drop for Looping {
-    fn drop(self) {
-        let Looping { turning: _ } = self;
-    }
-}
-
 impl Model for Looping {
     ghost use Rattle.tcl_control.specs.declared.turns.Turning.{Turning};
 
@@ -101,5 +94,12 @@ pub fn items_tested(
     match assign_groups(alloc, scopes, level, groups.as_slice())? {
         Some(text) => Ok(Verdict::Fails(text)),
         None => Ok(Verdict::More(groups.advanced(alloc)?)),
+    }
+}
+
+/// By hand: a proof sees one call where it is dropped, and not its parts.
+impl Drop for Looping {
+    fn drop(self) {
+        let Looping { turning: _ } = self;
     }
 }

@@ -23,19 +23,6 @@ pub struct Eval {
     state: State,
 }
 
-/// By hand: a proof sees one call where it is dropped, and not its parts.
-impl Drop for Eval {
-    fn drop(self) {
-        let Eval {
-            alloc: _,
-            expr: _,
-            place: _,
-            stack: _,
-            state: _,
-        } = self;
-    }
-}
-
 impl Model for Eval {
     ghost use Rattle.tcl_expr.specs.Resuming.{Resumption, evaluation_at};
     ghost use Rattle.tcl_expr.specs.Reading.{compiled};
@@ -157,5 +144,18 @@ impl Eval {
             }
             Err(fault) => self.fail(fault),
         }
+    }
+}
+
+/// By hand: a proof sees one call where it is dropped, and not its parts.
+impl Drop for Eval {
+    fn drop(self) {
+        let Eval {
+            alloc: _,
+            expr: _,
+            place: _,
+            stack: _,
+            state: _,
+        } = self;
     }
 }

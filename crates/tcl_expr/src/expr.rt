@@ -9,13 +9,6 @@ pub struct Expr {
     parsed: Rc<ParsedExpr>,
 }
 
-/// By hand: a proof sees one call where it is dropped, and not its parts.
-impl Drop for Expr {
-    fn drop(self) {
-        let Expr { parsed: _ } = self;
-    }
-}
-
 #[derive(Drop)]
 struct ParsedExpr {
     text: Text,
@@ -73,5 +66,12 @@ impl Expr {
         Ok(Expr {
             parsed: self.parsed.clone()?,
         })
+    }
+}
+
+/// By hand: a proof sees one call where it is dropped, and not its parts.
+impl Drop for Expr {
+    fn drop(self) {
+        let Expr { parsed: _ } = self;
     }
 }

@@ -33,20 +33,6 @@ pub struct Interp<K> {
     ghost spent: { machine ≡ MachineSpent → left ≡ 0 },
 }
 
-/// By hand: a proof sees one call where it is dropped, and not its parts.
-impl<K: Drop> Drop for Interp<K> {
-    fn drop(self) {
-        let Interp {
-            alloc: _,
-            context: _,
-            budget: _,
-            left: _,
-            machine: _,
-            frames: _,
-        } = self;
-    }
-}
-
 impl<K: Drop> Interp<K> {
     ghost use Rattle.std.specs.Prelude.{◌≡◌, ◌≢◌, ◌⊎◌, ◌<◌, ◌≤◌, ◌+◌, [], Ok, IfOk, OnOk, OnErr, IsErr, All, sum};
     ghost use Rattle.tcl_interp.specs.Finish.{finish, Idle, Running, Spent, Broken, rest_of_script, rest_of_task};
@@ -292,5 +278,19 @@ impl<K: Drop> Interp<K> {
                 end => return Ok(end),
             }
         }
+    }
+}
+
+/// By hand: a proof sees one call where it is dropped, and not its parts.
+impl<K: Drop> Drop for Interp<K> {
+    fn drop(self) {
+        let Interp {
+            alloc: _,
+            context: _,
+            budget: _,
+            left: _,
+            machine: _,
+            frames: _,
+        } = self;
     }
 }

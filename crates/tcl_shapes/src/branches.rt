@@ -19,13 +19,6 @@ pub struct Branches {
     list: Vec<Branch>,
 }
 
-/// By hand: a proof sees one call where it is dropped, and not its parts.
-impl Drop for Branches {
-    fn drop(self) {
-        let Branches { list: _ } = self;
-    }
-}
-
 impl Model for Branches {
     ghost use Rattle.std.specs.Prelude.{List};
     ghost use Rattle.tcl_shapes.specs.declared.branches.Branch.{Branch};
@@ -65,16 +58,6 @@ pub struct Choices {
     pub branches: Branches,
     /// The body that runs where no condition holds, if there is one.
     pub otherwise: Option<Text>,
-}
-
-/// By hand: a proof sees one call where it is dropped, and not its parts.
-impl Drop for Choices {
-    fn drop(self) {
-        let Choices {
-            branches: _,
-            otherwise: _,
-        } = self;
-    }
 }
 
 /// Where the words of `if` have come to.
@@ -187,5 +170,22 @@ pub fn switch_arms(alloc: Global, items: &[Text]) -> Result<Option<Branches>, Al
     match held {
         None => Ok(Some(arms)),
         Some(_) => Ok(None),
+    }
+}
+
+/// By hand: a proof sees one call where it is dropped, and not its parts.
+impl Drop for Branches {
+    fn drop(self) {
+        let Branches { list: _ } = self;
+    }
+}
+
+/// By hand: a proof sees one call where it is dropped, and not its parts.
+impl Drop for Choices {
+    fn drop(self) {
+        let Choices {
+            branches: _,
+            otherwise: _,
+        } = self;
     }
 }

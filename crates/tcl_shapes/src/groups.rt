@@ -24,13 +24,6 @@ pub struct Groups {
     list: Vec<Group>,
 }
 
-/// By hand: a proof sees one call where it is dropped, and not its parts.
-impl Drop for Groups {
-    fn drop(self) {
-        let Groups { list: _ } = self;
-    }
-}
-
 impl Model for Groups {
     ghost use Rattle.std.specs.Prelude.{List};
     ghost use Rattle.tcl_shapes.specs.declared.groups.Group.{Group};
@@ -184,4 +177,11 @@ pub fn has_body(words: &[Text]) -> bool
     ensures { result ≡ has_body words.now }
 {
     words.len() % 2 == 1
+}
+
+/// By hand: a proof sees one call where it is dropped, and not its parts.
+impl Drop for Groups {
+    fn drop(self) {
+        let Groups { list: _ } = self;
+    }
 }

@@ -21,13 +21,6 @@ pub struct Parameters {
     list: Vec<Parameter>,
 }
 
-/// By hand: a proof sees one call where it is dropped, and not its parts.
-impl Drop for Parameters {
-    fn drop(self) {
-        let Parameters { list: _ } = self;
-    }
-}
-
 impl Model for Parameters {
     ghost use Rattle.std.specs.Prelude.{List};
     ghost use Rattle.tcl_shapes.specs.declared.parameters.Parameter.{Parameter};
@@ -166,5 +159,12 @@ pub fn parameters_in(alloc: Global, list: &Text) -> Result<Result<Parameters, Te
         Ok(items) => parameters_of(alloc, items.as_slice()),
         Err(SplitFault::BadList(fault)) => Ok(Err(list_fault(alloc, fault)?)),
         Err(SplitFault::NoMemory) => Err(AllocError),
+    }
+}
+
+/// By hand: a proof sees one call where it is dropped, and not its parts.
+impl Drop for Parameters {
+    fn drop(self) {
+        let Parameters { list: _ } = self;
     }
 }

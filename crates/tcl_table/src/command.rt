@@ -55,18 +55,6 @@ pub struct CommandTable {
     alloc: Global,
 }
 
-/// By hand: a proof sees one call where it is dropped, and not its parts.
-impl Drop for CommandTable {
-    fn drop(self) {
-        let CommandTable {
-            entries: _,
-            scripts: _,
-            expressions: _,
-            alloc: _,
-        } = self;
-    }
-}
-
 impl Model for CommandTable {
     ghost use Rattle.std.specs.Prelude.{ℕ, List};
     ghost use Rattle.tcl_table.specs.declared.command.Command.{Command};
@@ -288,4 +276,16 @@ fn add_texts(table: &mut CommandTable) -> Result<(), AllocError>
     add_text(table, "concat", TextCommand::Concat)?;
     add_text(table, "string", TextCommand::String)?;
     Ok(())
+}
+
+/// By hand: a proof sees one call where it is dropped, and not its parts.
+impl Drop for CommandTable {
+    fn drop(self) {
+        let CommandTable {
+            entries: _,
+            scripts: _,
+            expressions: _,
+            alloc: _,
+        } = self;
+    }
 }

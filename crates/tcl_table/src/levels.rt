@@ -11,13 +11,6 @@ pub struct Levels {
     places: Vec<usize>,
 }
 
-/// By hand: a proof sees one call where it is dropped, and not its parts.
-impl Drop for Levels {
-    fn drop(self) {
-        let Levels { places: _ } = self;
-    }
-}
-
 impl Model for Levels {
     ghost use Rattle.std.specs.Prelude.{ℕ, List};
 
@@ -106,5 +99,12 @@ impl Levels {
     {
         self.places.extend_from_slice(others.places.as_slice())?;
         Ok(())
+    }
+}
+
+/// By hand: a proof sees one call where it is dropped, and not its parts.
+impl Drop for Levels {
+    fn drop(self) {
+        let Levels { places: _ } = self;
     }
 }

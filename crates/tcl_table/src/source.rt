@@ -23,13 +23,6 @@ pub struct Source {
     form: SourceForm,
 }
 
-/// By hand: a proof sees one call where it is dropped, and not its parts.
-impl Drop for Source {
-    fn drop(self) {
-        let Source { form: _ } = self;
-    }
-}
-
 impl Model for Source {
     ghost use Rattle.std.specs.Prelude.{ℕ, List};
     ghost use Rattle.tcl_table.specs.SourceForms.{source_text, HasFault};
@@ -169,5 +162,12 @@ impl Source {
             }
             SourceForm::Faulty(fault, _) => Ok(Err(fault)),
         }
+    }
+}
+
+/// By hand: a proof sees one call where it is dropped, and not its parts.
+impl Drop for Source {
+    fn drop(self) {
+        let Source { form: _ } = self;
     }
 }

@@ -9,13 +9,6 @@ pub struct TextList {
     texts: Vec<Text>,
 }
 
-/// By hand: a proof sees one call where it is dropped, and not its parts.
-impl Drop for TextList {
-    fn drop(self) {
-        let TextList { texts: _ } = self;
-    }
-}
-
 impl Model for TextList {
     ghost use Rattle.std.specs.Prelude.{ℕ, List};
 
@@ -86,5 +79,12 @@ impl TextList {
     {
         self.texts.push(text)?;
         Ok(())
+    }
+}
+
+/// By hand: a proof sees one call where it is dropped, and not its parts.
+impl Drop for TextList {
+    fn drop(self) {
+        let TextList { texts: _ } = self;
     }
 }

@@ -26,13 +26,6 @@ pub struct ListItems {
     form: ItemsForm,
 }
 
-/// By hand: a proof sees one call where it is dropped, and not its parts.
-impl Drop for ListItems {
-    fn drop(self) {
-        let ListItems { form: _ } = self;
-    }
-}
-
 impl Model for ListItems {
     ghost use Rattle.std.specs.Prelude.{ℕ, List};
 
@@ -95,5 +88,12 @@ impl Text {
         Ok(ListItems {
             form: ItemsForm::Read(items),
         })
+    }
+}
+
+/// By hand: a proof sees one call where it is dropped, and not its parts.
+impl Drop for ListItems {
+    fn drop(self) {
+        let ListItems { form: _ } = self;
     }
 }

@@ -84,13 +84,6 @@ pub struct Text {
     form: TextForm,
 }
 
-/// By hand: a proof sees one call where it is dropped, and not its forms.
-impl Drop for Text {
-    fn drop(self) {
-        let Text { form: _ } = self;
-    }
-}
-
 impl Model for Text {
     ghost use Rattle.std.specs.Prelude.{ℕ, List, ◌≤◌, length};
 
@@ -370,5 +363,12 @@ impl Text {
             TextForm::Listed(list) => TextForm::Listed(list.clone()?),
         };
         Ok(Text { form })
+    }
+}
+
+/// By hand: a proof sees one call where it is dropped, and not its forms.
+impl Drop for Text {
+    fn drop(self) {
+        let Text { form: _ } = self;
     }
 }

@@ -36,17 +36,6 @@ pub struct Scopes {
     alloc: Global,
 }
 
-/// By hand: a proof sees one call where it is dropped, and not its parts.
-impl Drop for Scopes {
-    fn drop(self) {
-        let Scopes {
-            frames: _,
-            count: _,
-            alloc: _,
-        } = self;
-    }
-}
-
 impl Model for Scopes {
     ghost use Rattle.std.specs.Prelude.{ℕ, List};
     ghost use Rattle.tcl_vars.specs.declared.content.Content.{Content};
@@ -585,5 +574,16 @@ impl Scopes {
             }
             None => Ok(false),
         }
+    }
+}
+
+/// By hand: a proof sees one call where it is dropped, and not its parts.
+impl Drop for Scopes {
+    fn drop(self) {
+        let Scopes {
+            frames: _,
+            count: _,
+            alloc: _,
+        } = self;
     }
 }

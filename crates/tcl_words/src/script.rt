@@ -115,13 +115,6 @@ pub struct Index {
     parsed: Rc<ParsedIndex>,
 }
 
-/// By hand: a proof sees one call where it is dropped, and not its parts.
-impl Drop for Index {
-    fn drop(self) {
-        let Index { parsed: _ } = self;
-    }
-}
-
 #[derive(Drop)]
 #[cycle(script)]
 struct ParsedIndex {
@@ -155,13 +148,6 @@ impl Model for Index {
 #[cycle(script)]
 pub struct Script {
     parsed: Rc<Parsed>,
-}
-
-/// By hand: a proof sees one call where it is dropped, and not its parts.
-impl Drop for Script {
-    fn drop(self) {
-        let Script { parsed: _ } = self;
-    }
 }
 
 #[derive(Drop)]
@@ -313,5 +299,19 @@ impl Index {
         Ok(Index {
             parsed: self.parsed.clone()?,
         })
+    }
+}
+
+/// By hand: a proof sees one call where it is dropped, and not its parts.
+impl Drop for Index {
+    fn drop(self) {
+        let Index { parsed: _ } = self;
+    }
+}
+
+/// By hand: a proof sees one call where it is dropped, and not its parts.
+impl Drop for Script {
+    fn drop(self) {
+        let Script { parsed: _ } = self;
     }
 }

@@ -16,13 +16,6 @@ struct Kept {
     timers: Timers,
 }
 
-/// By hand: a proof sees one call where it is dropped, and not its parts.
-impl Drop for Kept {
-    fn drop(self) {
-        let Kept { timers: _ } = self;
-    }
-}
-
 fn texts_of(alloc: Global, words: &[&str]) -> Result<TextList> {
     let mut texts = TextList::new(alloc);
     for word in words {
@@ -166,4 +159,11 @@ impl Fixture for Kept {
 
 fn main(rt: HostRuntime) -> Result<()> {
     ask_tables(&rt, Kept::new(rt.alloc())?)
+}
+
+/// By hand: a proof sees one call where it is dropped, and not its parts.
+impl Drop for Kept {
+    fn drop(self) {
+        let Kept { timers: _ } = self;
+    }
 }

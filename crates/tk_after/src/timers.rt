@@ -30,17 +30,6 @@ pub struct Timers {
     counters: HashMap<usize, Counter>,
 }
 
-/// By hand: a proof sees one call where it is dropped, and not its parts.
-impl Drop for Timers {
-    fn drop(self) {
-        let Timers {
-            scripts: _,
-            index: _,
-            counters: _,
-        } = self;
-    }
-}
-
 impl Model for Timers {
     ghost use Rattle.tk_after.specs.Timers.{Held};
     ghost use Rattle.tk_after.specs.Keys.{held_by, AreKept};
@@ -320,4 +309,15 @@ fn entry_with_script<'a>(
         }
     }
     None
+}
+
+/// By hand: a proof sees one call where it is dropped, and not its parts.
+impl Drop for Timers {
+    fn drop(self) {
+        let Timers {
+            scripts: _,
+            index: _,
+            counters: _,
+        } = self;
+    }
 }

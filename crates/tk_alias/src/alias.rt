@@ -63,13 +63,6 @@ pub struct Aliases<M: AliasMeaning> {
     aliases: Vec<Alias<M>>,
 }
 
-/// By hand: a proof sees one call where it is dropped, and not its parts.
-impl<M: AliasMeaning> Drop for Aliases<M> {
-    fn drop(self) {
-        let Aliases { aliases: _ } = self;
-    }
-}
-
 impl<M: AliasMeaning> Model for Aliases<M> {
     ghost use Rattle.std.specs.Prelude.{ℕ, List};
 
@@ -104,5 +97,12 @@ impl<M: AliasMeaning> Aliases<M> {
     {
         self.aliases.push(alias)?;
         Ok(())
+    }
+}
+
+/// By hand: a proof sees one call where it is dropped, and not its parts.
+impl<M: AliasMeaning> Drop for Aliases<M> {
+    fn drop(self) {
+        let Aliases { aliases: _ } = self;
     }
 }

@@ -39,21 +39,6 @@ pub struct Runner<M: AliasMeaning> {
     progress: Progress,
 }
 
-/// By hand: a proof sees one call where it is dropped, and not its parts.
-impl<M: AliasMeaning> Drop for Runner<M> {
-    fn drop(self) {
-        let Runner {
-            name: _,
-            aliases: _,
-            budget: _,
-            scopes: _,
-            interp: _,
-            state: _,
-            progress: _,
-        } = self;
-    }
-}
-
 impl<M: AliasMeaning> Model for Runner<M> {
     ghost use Rattle.std.specs.Prelude.{◌≡◌};
     ghost use Rattle.tcl_interp.specs.Interp.{budget_of, context_of, left_of, rest_of};
@@ -275,5 +260,20 @@ impl<M: AliasMeaning> Runner<M> {
                 Ok(AppEnd::Stopped)
             }
         }
+    }
+}
+
+/// By hand: a proof sees one call where it is dropped, and not its parts.
+impl<M: AliasMeaning> Drop for Runner<M> {
+    fn drop(self) {
+        let Runner {
+            name: _,
+            aliases: _,
+            budget: _,
+            scopes: _,
+            interp: _,
+            state: _,
+            progress: _,
+        } = self;
     }
 }

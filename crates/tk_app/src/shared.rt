@@ -27,18 +27,6 @@ pub struct Shared<M: AliasMeaning> {
     pub(crate) refused: bool,
 }
 
-/// By hand: a proof sees one call where it is dropped, and not its parts.
-impl<M: AliasMeaning> Drop for Shared<M> {
-    fn drop(self) {
-        let Shared {
-            tables: _,
-            runners: _,
-            turns: _,
-            refused: _,
-        } = self;
-    }
-}
-
 impl<M: AliasMeaning> Model for Shared<M> {
     ghost use Rattle.std.specs.Prelude.{◌≡◌, ◌≤◌, length};
     ghost use Rattle.tk_app.specs.Turns.{Applications, IsVacantFrom, parts_from};
@@ -211,4 +199,16 @@ fn have_name<M: AliasMeaning>(runners: &[Runner<M>], name: &Text) -> bool
     ensures { IsTrue result ↔ Any (λ program. program.name ≡ name.now) runners.now }
 {
     runners.iter().any(|runner| runner.has_name(name))
+}
+
+/// By hand: a proof sees one call where it is dropped, and not its parts.
+impl<M: AliasMeaning> Drop for Shared<M> {
+    fn drop(self) {
+        let Shared {
+            tables: _,
+            runners: _,
+            turns: _,
+            refused: _,
+        } = self;
+    }
 }

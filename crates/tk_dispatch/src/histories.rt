@@ -15,17 +15,6 @@ pub struct Histories {
     alloc: Global,
 }
 
-/// By hand: a proof sees one call where it is dropped, and not its parts.
-impl Drop for Histories {
-    fn drop(self) {
-        let Histories {
-            owners: _,
-            none: _,
-            alloc: _,
-        } = self;
-    }
-}
-
 impl Model for Histories {
     ghost use Rattle.std.specs.Prelude.{◌≡◌, []};
     ghost use Rattle.tk_dispatch.specs.Histories.{Held};
@@ -76,5 +65,16 @@ impl Histories {
             Ok(_) => Ok(()),
             Err(_) => Err(AllocError),
         }
+    }
+}
+
+/// By hand: a proof sees one call where it is dropped, and not its parts.
+impl Drop for Histories {
+    fn drop(self) {
+        let Histories {
+            owners: _,
+            none: _,
+            alloc: _,
+        } = self;
     }
 }

@@ -17,13 +17,6 @@ pub struct Entry {
     pub cursor: usize,
 }
 
-/// By hand: a proof sees one call where it is dropped, and not its parts.
-impl Drop for Entry {
-    fn drop(self) {
-        let Entry { text: _, cursor: _ } = self;
-    }
-}
-
 impl Entry {
     /// An empty entry.
     pub fn new(alloc: Global) -> Result<Entry, AllocError>
@@ -164,4 +157,11 @@ fn joined(alloc: Global, before: &str, between: &str, after: &str) -> Result<Tex
     let text = Text::new(alloc, string.as_str())?;
     let _characters = text.as_str();
     Ok(text)
+}
+
+/// By hand: a proof sees one call where it is dropped, and not its parts.
+impl Drop for Entry {
+    fn drop(self) {
+        let Entry { text: _, cursor: _ } = self;
+    }
 }

@@ -42,28 +42,6 @@ pub struct Event {
     pub detail: Option<Text>,
 }
 
-/// By hand: a proof sees one call where it is dropped, and not its parts.
-impl Drop for Event {
-    fn drop(self) {
-        let Event {
-            kind: _,
-            number: _,
-            path: _,
-            moment: _,
-            state: _,
-            x: _,
-            y: _,
-            root_x: _,
-            root_y: _,
-            button: _,
-            key: _,
-            width: _,
-            height: _,
-            detail: _,
-        } = self;
-    }
-}
-
 impl EventKind {
     ghost use Rattle.std.specs.Prelude.{◌≡◌, IfOk};
     ghost use Rattle.tk_events.specs.Event.{is_input};
@@ -145,5 +123,27 @@ impl Event {
             height: self.height,
             detail,
         })
+    }
+}
+
+/// By hand: a proof sees one call where it is dropped, and not its parts.
+impl Drop for Event {
+    fn drop(self) {
+        let Event {
+            kind: _,
+            number: _,
+            path: _,
+            moment: _,
+            state: _,
+            x: _,
+            y: _,
+            root_x: _,
+            root_y: _,
+            button: _,
+            key: _,
+            width: _,
+            height: _,
+            detail: _,
+        } = self;
     }
 }

@@ -22,13 +22,6 @@ pub struct History {
     events: HeapCircularBuffer<Event>,
 }
 
-/// By hand: a proof sees one call where it is dropped, and not its parts.
-impl Drop for History {
-    fn drop(self) {
-        let History { events: _ } = self;
-    }
-}
-
 impl Model for History {
     ghost use Rattle.std.specs.Prelude.{◌≡◌, List};
     ghost use Rattle.tk_events.specs.declared.event.Event.{Event};
@@ -149,4 +142,11 @@ fn nearest<'a>(
         }
     }
     None
+}
+
+/// By hand: a proof sees one call where it is dropped, and not its parts.
+impl Drop for History {
+    fn drop(self) {
+        let History { events: _ } = self;
+    }
 }

@@ -34,20 +34,6 @@ pub struct Host<M: AliasMeaning> {
     shared: Shared<M>,
 }
 
-/// By hand: a proof sees one call where it is dropped, and not its parts.
-impl<M: AliasMeaning> Drop for Host<M> {
-    fn drop(self) {
-        let Host {
-            alloc: _,
-            slice: _,
-            phase: _,
-            rects: _,
-            router: _,
-            shared: _,
-        } = self;
-    }
-}
-
 impl<M: AliasMeaning> Model for Host<M> {
     ghost use Rattle.std.specs.Prelude.{◌≤◌};
     ghost use Rattle.tk_host.specs.Held.{Hosted, known_by};
@@ -408,5 +394,19 @@ fn route(router: &mut Router, moment: u64, line: HostLine) -> Result<Routed, Hos
         Err(LineFault::TimeBack) => Err(HostFault::TimeBack),
         Err(LineFault::NoApp) => Err(HostFault::NoApp),
         Err(LineFault::RectOverlap) => Err(HostFault::RectOverlap),
+    }
+}
+
+/// By hand: a proof sees one call where it is dropped, and not its parts.
+impl<M: AliasMeaning> Drop for Host<M> {
+    fn drop(self) {
+        let Host {
+            alloc: _,
+            slice: _,
+            phase: _,
+            rects: _,
+            router: _,
+            shared: _,
+        } = self;
     }
 }

@@ -34,13 +34,6 @@ pub struct Inputs {
     rows: HashMap<usize, Input>,
 }
 
-/// By hand: a proof sees one call where it is dropped, and not its parts.
-impl Drop for Inputs {
-    fn drop(self) {
-        let Inputs { rows: _ } = self;
-    }
-}
-
 impl Model for Inputs {
     ghost use Rattle.tk_inputs.specs.Inputs.{Held};
 
@@ -275,4 +268,11 @@ fn forget_in(input: &mut Input, number: u64)
     }
     input.over = put_away(number, input.over);
     input.pressed = put_away(number, input.pressed);
+}
+
+/// By hand: a proof sees one call where it is dropped, and not its parts.
+impl Drop for Inputs {
+    fn drop(self) {
+        let Inputs { rows: _ } = self;
+    }
 }

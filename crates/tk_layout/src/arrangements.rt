@@ -11,13 +11,6 @@ pub struct Arrangements {
     alloc: Global,
 }
 
-/// By hand: a proof sees one call where it is dropped, and not its parts.
-impl Drop for Arrangements {
-    fn drop(self) {
-        let Arrangements { rows: _, alloc: _ } = self;
-    }
-}
-
 impl Arrangements {
     ghost use Rattle.tk_layout.specs.Kept.{inputs_at};
     ghost use Rattle.tk_packer.specs.Kept.{Inputs};
@@ -76,5 +69,12 @@ impl Arrangements {
             Some(kept) => kept.places(),
             None => &[],
         }
+    }
+}
+
+/// By hand: a proof sees one call where it is dropped, and not its parts.
+impl Drop for Arrangements {
+    fn drop(self) {
+        let Arrangements { rows: _, alloc: _ } = self;
     }
 }

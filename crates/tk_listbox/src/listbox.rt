@@ -23,17 +23,6 @@ pub struct Listbox {
     active: usize,
 }
 
-/// By hand: a proof sees one call where it is dropped, and not its parts.
-impl Drop for Listbox {
-    fn drop(self) {
-        let Listbox {
-            items: _,
-            list: _,
-            active: _,
-        } = self;
-    }
-}
-
 impl Model for Listbox {
     ghost use Rattle.tk_listbox.specs.Listboxes.{Held};
     ghost use Rattle.tk_listbox.specs.Kept.{IsKept};
@@ -351,4 +340,15 @@ fn chosen_places(alloc: Global, items: &[Item]) -> Result<Vec<usize>, AllocError
         }
     }
     Ok(list)
+}
+
+/// By hand: a proof sees one call where it is dropped, and not its parts.
+impl Drop for Listbox {
+    fn drop(self) {
+        let Listbox {
+            items: _,
+            list: _,
+            active: _,
+        } = self;
+    }
 }

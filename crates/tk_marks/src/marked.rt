@@ -22,16 +22,6 @@ pub struct MarkedScreen {
     pub marks: Marks,
 }
 
-/// By hand: a proof sees one call where it is dropped, and not its parts.
-impl Drop for MarkedScreen {
-    fn drop(self) {
-        let MarkedScreen {
-            screen: _,
-            marks: _,
-        } = self;
-    }
-}
-
 impl Model for MarkedScreen {
     ghost use Rattle.tk_screen.specs.contracts.screen.Screen as of_screen;
     ghost use Rattle.tk_screen.specs.declared.screen.Screen.{Screen};
@@ -149,4 +139,14 @@ fn mark(
 {
     let reads = reads(alloc, screen, slot, scopes)?;
     marks.put(slot, Mark { reads })
+}
+
+/// By hand: a proof sees one call where it is dropped, and not its parts.
+impl Drop for MarkedScreen {
+    fn drop(self) {
+        let MarkedScreen {
+            screen: _,
+            marks: _,
+        } = self;
+    }
 }

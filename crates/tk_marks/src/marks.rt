@@ -18,13 +18,6 @@ pub struct Marks {
     rows: HashMap<usize, Mark>,
 }
 
-/// By hand: a proof sees one call where it is dropped, and not its parts.
-impl Drop for Marks {
-    fn drop(self) {
-        let Marks { rows: _ } = self;
-    }
-}
-
 impl Marks {
     /// No marks. It takes no memory.
     pub fn new(alloc: Global) -> Marks
@@ -58,5 +51,12 @@ impl Marks {
     {
         self.rows.insert(slot, mark)?;
         Ok(())
+    }
+}
+
+/// By hand: a proof sees one call where it is dropped, and not its parts.
+impl Drop for Marks {
+    fn drop(self) {
+        let Marks { rows: _ } = self;
     }
 }

@@ -19,13 +19,6 @@ pub struct Settings {
     all: Vec<Setting>,
 }
 
-/// By hand: a proof sees one call where it is dropped, and not its parts.
-impl Drop for Settings {
-    fn drop(self) {
-        let Settings { all: _ } = self;
-    }
-}
-
 impl Model for Settings {
     ghost use Rattle.std.specs.Prelude.{List};
     ghost use Rattle.tk_options.specs.declared.settings.Setting.{Setting};
@@ -76,5 +69,12 @@ fn value_for(setting: &Setting, option: OptionName) -> Option<&Text>
         Some(&setting.value)
     } else {
         None
+    }
+}
+
+/// By hand: a proof sees one call where it is dropped, and not its parts.
+impl Drop for Settings {
+    fn drop(self) {
+        let Settings { all: _ } = self;
     }
 }

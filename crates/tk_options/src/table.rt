@@ -22,13 +22,6 @@ pub struct OptionTable {
     entries: IndexMap<&'static str, OptionEntry>,
 }
 
-/// By hand: a proof sees one call where it is dropped, and not its parts.
-impl Drop for OptionTable {
-    fn drop(self) {
-        let OptionTable { entries: _ } = self;
-    }
-}
-
 impl Model for OptionTable {
     ghost use Rattle.std.specs.Prelude.{List};
     ghost use Rattle.tk_options.specs.declared.option.OptionEntry.{OptionEntry};
@@ -301,5 +294,12 @@ fn tested(
             value: value.copy()?,
             option: word.copy()?,
         }),
+    }
+}
+
+/// By hand: a proof sees one call where it is dropped, and not its parts.
+impl Drop for OptionTable {
+    fn drop(self) {
+        let OptionTable { entries: _ } = self;
     }
 }

@@ -17,16 +17,6 @@ pub struct PackTable {
     alloc: Global,
 }
 
-/// By hand: a proof sees one call where it is dropped, and not its parts.
-impl Drop for PackTable {
-    fn drop(self) {
-        let PackTable {
-            owners: _,
-            alloc: _,
-        } = self;
-    }
-}
-
 impl Model for PackTable {
     ghost use Rattle.tk_packer.specs.Packs.{Held};
 
@@ -178,4 +168,14 @@ fn wins_of(alloc: Global, owner: usize, packs: &[Packed]) -> Result<Vec<Win>, Al
         number: packed.number,
     });
     wins.collect(alloc)
+}
+
+/// By hand: a proof sees one call where it is dropped, and not its parts.
+impl Drop for PackTable {
+    fn drop(self) {
+        let PackTable {
+            owners: _,
+            alloc: _,
+        } = self;
+    }
 }

@@ -33,25 +33,6 @@ pub struct Tables {
     pub scripts: ScriptCache,
 }
 
-/// By hand: a proof sees one call where it is dropped, and not its parts.
-impl Drop for Tables {
-    fn drop(self) {
-        let Tables {
-            alloc: _,
-            clock: _,
-            screen: _,
-            bindings: _,
-            virtuals: _,
-            histories: _,
-            queue: _,
-            inputs: _,
-            timers: _,
-            transcripts: _,
-            scripts: _,
-        } = self;
-    }
-}
-
 impl Tables {
     /// No application has anything, at moment 0.
     pub fn new(alloc: Global) -> Result<Tables, AllocError>
@@ -71,5 +52,24 @@ impl Tables {
             transcripts: Transcripts::new(alloc),
             scripts: ScriptCache::new(alloc, KEPT_SCRIPTS)?,
         })
+    }
+}
+
+/// By hand: a proof sees one call where it is dropped, and not its parts.
+impl Drop for Tables {
+    fn drop(self) {
+        let Tables {
+            alloc: _,
+            clock: _,
+            screen: _,
+            bindings: _,
+            virtuals: _,
+            histories: _,
+            queue: _,
+            inputs: _,
+            timers: _,
+            transcripts: _,
+            scripts: _,
+        } = self;
     }
 }

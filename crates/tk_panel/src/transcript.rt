@@ -48,13 +48,6 @@ pub struct Transcripts {
     log: Vec<Written>,
 }
 
-/// By hand: a proof sees one call where it is dropped, and not its parts.
-impl Drop for Transcripts {
-    fn drop(self) {
-        let Transcripts { log: _ } = self;
-    }
-}
-
 impl Model for Transcripts {
     ghost use Rattle.std.specs.Prelude.{List};
     ghost use Rattle.tk_panel.specs.declared.transcript.Written.{Written};
@@ -88,5 +81,12 @@ impl Transcripts {
         ensures err { OnErr result (self.new ≡ self.old) }
     {
         Ok(self.log.push(Written { owner, line })?)
+    }
+}
+
+/// By hand: a proof sees one call where it is dropped, and not its parts.
+impl Drop for Transcripts {
+    fn drop(self) {
+        let Transcripts { log: _ } = self;
     }
 }

@@ -24,16 +24,6 @@ pub struct BindTable {
     alloc: Global,
 }
 
-/// By hand: a proof sees one call where it is dropped, and not its parts.
-impl Drop for BindTable {
-    fn drop(self) {
-        let BindTable {
-            owners: _,
-            alloc: _,
-        } = self;
-    }
-}
-
 impl Model for BindTable {
     ghost use Rattle.tk_patterns.specs.Own.{Held};
 
@@ -150,5 +140,15 @@ impl BindTable {
     {
         let own = self.owners.get(&owner)?;
         own.winner(tag, event, history, virtuals)
+    }
+}
+
+/// By hand: a proof sees one call where it is dropped, and not its parts.
+impl Drop for BindTable {
+    fn drop(self) {
+        let BindTable {
+            owners: _,
+            alloc: _,
+        } = self;
     }
 }

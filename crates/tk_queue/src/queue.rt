@@ -15,16 +15,6 @@ pub struct EventQueue {
     alloc: Global,
 }
 
-/// By hand: a proof sees one call where it is dropped, and not its parts.
-impl Drop for EventQueue {
-    fn drop(self) {
-        let EventQueue {
-            owners: _,
-            alloc: _,
-        } = self;
-    }
-}
-
 impl Model for EventQueue {
     ghost use Rattle.tk_queue.specs.Queue.{Held};
 
@@ -100,5 +90,15 @@ impl EventQueue {
             Some(own) => own.count(),
             None => 0,
         }
+    }
+}
+
+/// By hand: a proof sees one call where it is dropped, and not its parts.
+impl Drop for EventQueue {
+    fn drop(self) {
+        let EventQueue {
+            owners: _,
+            alloc: _,
+        } = self;
     }
 }

@@ -26,19 +26,6 @@ pub struct Screen {
     pub arrangements: HashMap<usize, Arrangements>,
 }
 
-/// By hand: a proof sees one call where it is dropped, and not its parts.
-impl Drop for Screen {
-    fn drop(self) {
-        let Screen {
-            windows: _,
-            packs: _,
-            widgets: _,
-            toplevels: _,
-            arrangements: _,
-        } = self;
-    }
-}
-
 impl Screen {
     /// Nothing is on the screen. It takes no memory.
     pub fn new(alloc: Global) -> Screen
@@ -169,5 +156,18 @@ fn main_path(alloc: Global) -> Result<Text, AllocError>
     match Text::new(alloc, ".") {
         Ok(path) => Ok(path),
         Err(_) => Err(AllocError),
+    }
+}
+
+/// By hand: a proof sees one call where it is dropped, and not its parts.
+impl Drop for Screen {
+    fn drop(self) {
+        let Screen {
+            windows: _,
+            packs: _,
+            widgets: _,
+            toplevels: _,
+            arrangements: _,
+        } = self;
     }
 }

@@ -16,13 +16,6 @@ pub struct Widgets {
     alloc: Global,
 }
 
-/// By hand: a proof sees one call where it is dropped, and not its parts.
-impl Drop for Widgets {
-    fn drop(self) {
-        let Widgets { rows: _, alloc: _ } = self;
-    }
-}
-
 impl Widgets {
     /// No widgets. It takes no memory.
     pub fn new(alloc: Global) -> Widgets
@@ -109,5 +102,12 @@ impl Widgets {
             return Ok(Some(act));
         }
         Ok(None)
+    }
+}
+
+/// By hand: a proof sees one call where it is dropped, and not its parts.
+impl Drop for Widgets {
+    fn drop(self) {
+        let Widgets { rows: _, alloc: _ } = self;
     }
 }

@@ -72,13 +72,6 @@ pub struct Patterns {
     list: Vec<Pattern>,
 }
 
-/// By hand: a proof sees one call where it is dropped, and not its parts.
-impl Drop for Patterns {
-    fn drop(self) {
-        let Patterns { list: _ } = self;
-    }
-}
-
 impl Model for Patterns {
     ghost use Rattle.std.specs.Prelude.{List};
     ghost use Rattle.tk_sequences.specs.declared.pattern.Pattern.{Pattern};
@@ -118,5 +111,12 @@ impl Patterns {
         Ok(Patterns {
             list: self.list.as_slice().to_vec(alloc)?,
         })
+    }
+}
+
+/// By hand: a proof sees one call where it is dropped, and not its parts.
+impl Drop for Patterns {
+    fn drop(self) {
+        let Patterns { list: _ } = self;
     }
 }

@@ -15,13 +15,6 @@ pub struct VirtualName {
     name: Text,
 }
 
-/// By hand: a proof sees one call where it is dropped, and not its parts.
-impl Drop for VirtualName {
-    fn drop(self) {
-        let VirtualName { name: _ } = self;
-    }
-}
-
 impl Model for VirtualName {
     ghost use Rattle.std.specs.Prelude.{ℕ, List};
     ghost use Rattle.tk_sequences.specs.Names.{IsName};
@@ -116,5 +109,12 @@ fn name_in(text: &str) -> Option<&str>
             None => None,
         },
         None => None,
+    }
+}
+
+/// By hand: a proof sees one call where it is dropped, and not its parts.
+impl Drop for VirtualName {
+    fn drop(self) {
+        let VirtualName { name: _ } = self;
     }
 }

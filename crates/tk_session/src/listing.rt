@@ -8,13 +8,6 @@ pub struct Listing<T: Drop> {
     parts: Vec<T>,
 }
 
-/// By hand: a proof sees one call where it is dropped, and not its parts.
-impl<T: Drop> Drop for Listing<T> {
-    fn drop(self) {
-        let Listing { parts: _ } = self;
-    }
-}
-
 impl<T: Drop> Model for Listing<T> {
     ghost use Rattle.std.specs.Prelude.{List};
 
@@ -55,5 +48,12 @@ impl<T: Drop> Listing<T> {
         ensures { self.new ≡ slice_set self.old place part }
     {
         self.parts[place] = part;
+    }
+}
+
+/// By hand: a proof sees one call where it is dropped, and not its parts.
+impl<T: Drop> Drop for Listing<T> {
+    fn drop(self) {
+        let Listing { parts: _ } = self;
     }
 }

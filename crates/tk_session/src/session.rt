@@ -43,19 +43,6 @@ pub struct AppBlock {
     pub script: Text,
 }
 
-/// By hand: a proof sees one call where it is dropped, and not its parts.
-impl Drop for AppBlock {
-    fn drop(self) {
-        let AppBlock {
-            name: _,
-            rect: _,
-            budget: _,
-            aliases: _,
-            script: _,
-        } = self;
-    }
-}
-
 /// What happens at the screen or the keyboard, and when.
 #[derive(Clone, Copy, Debug, PartialEq, Eq)]
 pub struct EventLine {
@@ -70,17 +57,6 @@ pub struct Session {
     apps: Listing<AppBlock>,
     events: Listing<EventLine>,
     end: u64,
-}
-
-/// By hand: a proof sees one call where it is dropped, and not its parts.
-impl Drop for Session {
-    fn drop(self) {
-        let Session {
-            apps: _,
-            events: _,
-            end: _,
-        } = self;
-    }
 }
 
 impl Model for Session {
@@ -129,5 +105,29 @@ impl Session {
         ensures range { result ≤ last_moment }
     {
         self.end
+    }
+}
+
+/// By hand: a proof sees one call where it is dropped, and not its parts.
+impl Drop for AppBlock {
+    fn drop(self) {
+        let AppBlock {
+            name: _,
+            rect: _,
+            budget: _,
+            aliases: _,
+            script: _,
+        } = self;
+    }
+}
+
+/// By hand: a proof sees one call where it is dropped, and not its parts.
+impl Drop for Session {
+    fn drop(self) {
+        let Session {
+            apps: _,
+            events: _,
+            end: _,
+        } = self;
     }
 }

@@ -46,18 +46,6 @@ pub struct Windows {
     alloc: Global,
 }
 
-/// By hand: a proof sees one call where it is dropped, and not its parts.
-impl Drop for Windows {
-    fn drop(self) {
-        let Windows {
-            slab: _,
-            index: _,
-            counters: _,
-            alloc: _,
-        } = self;
-    }
-}
-
 impl Model for Windows {
     ghost use Rattle.tk_tree.specs.Own.{Held};
 
@@ -541,5 +529,17 @@ impl Windows {
         }
         self.slab.insert_reserved(Node { owner, window });
         Ok(number)
+    }
+}
+
+/// By hand: a proof sees one call where it is dropped, and not its parts.
+impl Drop for Windows {
+    fn drop(self) {
+        let Windows {
+            slab: _,
+            index: _,
+            counters: _,
+            alloc: _,
+        } = self;
     }
 }

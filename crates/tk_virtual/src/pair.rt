@@ -18,17 +18,6 @@ pub struct Pair {
     pub written: Text,
 }
 
-/// By hand: a proof sees one call where it is dropped, and not its parts.
-impl Drop for Pair {
-    fn drop(self) {
-        let Pair {
-            name: _,
-            sequence: _,
-            written: _,
-        } = self;
-    }
-}
-
 /// The name that a word has in its brackets. `BadName` (33) where it has none.
 pub fn name_meant(alloc: Global, word: &Text) -> Result<VirtualName, VirtualFault>
     ensures ok { IfOk result (λ name. name_or_fault word.now (name_in word.now) ≡ Ok name) }
@@ -148,5 +137,16 @@ impl Hash for Pair {
     fn hash<H: Hasher>(&self, state: &mut H) {
         self.name.as_str().hash(state);
         self.written.as_str().hash(state);
+    }
+}
+
+/// By hand: a proof sees one call where it is dropped, and not its parts.
+impl Drop for Pair {
+    fn drop(self) {
+        let Pair {
+            name: _,
+            sequence: _,
+            written: _,
+        } = self;
     }
 }

@@ -24,13 +24,6 @@ pub struct VirtualPairs {
     named: HashMap<String, Vec<Pair>>,
 }
 
-/// By hand: a proof sees one call where it is dropped, and not its parts.
-impl Drop for VirtualPairs {
-    fn drop(self) {
-        let VirtualPairs { pairs: _, named: _ } = self;
-    }
-}
-
 impl Model for VirtualPairs {
     ghost use Rattle.std.specs.Prelude.{◌≡◌, ℕ, List, filter};
     ghost use Rattle.tk_virtual.specs.declared.pair.Pair.{Pair};
@@ -254,4 +247,11 @@ fn has_among(names: &[VirtualName], name: &VirtualName) -> bool
     ensures { result ≡ list_any (λ other. bytes_eq other name.now) names.now }
 {
     names.iter().any(|other| other.as_str() == name.as_str())
+}
+
+/// By hand: a proof sees one call where it is dropped, and not its parts.
+impl Drop for VirtualPairs {
+    fn drop(self) {
+        let VirtualPairs { pairs: _, named: _ } = self;
+    }
 }

@@ -23,17 +23,6 @@ pub struct VirtualTable {
     alloc: Global,
 }
 
-/// By hand: a proof sees one call where it is dropped, and not its parts.
-impl Drop for VirtualTable {
-    fn drop(self) {
-        let VirtualTable {
-            owners: _,
-            none: _,
-            alloc: _,
-        } = self;
-    }
-}
-
 impl Model for VirtualTable {
     ghost use Rattle.std.specs.Prelude.{◌≡◌, []};
     ghost use Rattle.tk_virtual.specs.Virtual.{Held};
@@ -210,5 +199,16 @@ impl VirtualTable {
         ensures { IfOk result (λ list. list ≡ written_of name.now (own_of owner self.now)) }
     {
         self.of(owner).sequences_of(alloc, name)
+    }
+}
+
+/// By hand: a proof sees one call where it is dropped, and not its parts.
+impl Drop for VirtualTable {
+    fn drop(self) {
+        let VirtualTable {
+            owners: _,
+            none: _,
+            alloc: _,
+        } = self;
     }
 }

@@ -36,30 +36,10 @@ pub struct EntryWidget {
     pub entry: Entry,
 }
 
-/// By hand: a proof sees one call where it is dropped, and not its parts.
-impl Drop for EntryWidget {
-    fn drop(self) {
-        let EntryWidget {
-            options: _,
-            entry: _,
-        } = self;
-    }
-}
-
 /// A listbox (listbox(n)).
 pub struct ListboxWidget {
     pub options: OptionTable,
     pub listbox: Listbox,
-}
-
-/// By hand: a proof sees one call where it is dropped, and not its parts.
-impl Drop for ListboxWidget {
-    fn drop(self) {
-        let ListboxWidget {
-            options: _,
-            listbox: _,
-        } = self;
-    }
 }
 
 /// A widget of one of the five kinds. The calls take the text of the variable that `-textvariable` names, where it can be read, as `variable`.
@@ -142,4 +122,24 @@ fn shown_value(
 {
     let text = Text::new(alloc, text_shown(variable, options))?;
     Ok(Some(text))
+}
+
+/// By hand: a proof sees one call where it is dropped, and not its parts.
+impl Drop for EntryWidget {
+    fn drop(self) {
+        let EntryWidget {
+            options: _,
+            entry: _,
+        } = self;
+    }
+}
+
+/// By hand: a proof sees one call where it is dropped, and not its parts.
+impl Drop for ListboxWidget {
+    fn drop(self) {
+        let ListboxWidget {
+            options: _,
+            listbox: _,
+        } = self;
+    }
 }

@@ -24,16 +24,6 @@ struct Tables {
     packs: PackTable,
 }
 
-/// By hand: a proof sees one call where it is dropped, and not its parts.
-impl Drop for Tables {
-    fn drop(self) {
-        let Tables {
-            windows: _,
-            packs: _,
-        } = self;
-    }
-}
-
 impl Tables {
     fn new(alloc: Global) -> Tables {
         Tables {
@@ -273,4 +263,14 @@ pub fn run(rt: &(impl Print + AllocGlobal + Clock)) -> Result<()> {
     slaves_rounds(rt, Order::Forward)?;
     slaves_rounds(rt, Order::Reverse)?;
     slaves_rounds(rt, Order::Middle)
+}
+
+/// By hand: a proof sees one call where it is dropped, and not its parts.
+impl Drop for Tables {
+    fn drop(self) {
+        let Tables {
+            windows: _,
+            packs: _,
+        } = self;
+    }
 }

@@ -26,17 +26,6 @@ struct Screen {
     layouts: Layouts,
 }
 
-/// By hand: a proof sees one call where it is dropped, and not its parts.
-impl Drop for Screen {
-    fn drop(self) {
-        let Screen {
-            trees: _,
-            packings: _,
-            layouts: _,
-        } = self;
-    }
-}
-
 impl Screen {
     fn new(alloc: Global) -> Result<Screen> {
         Ok(Screen {
@@ -73,5 +62,16 @@ fn main(rt: HostRuntime) -> Result<()> {
     match arguments(&rt)?.as_slice() {
         [word] if word.as_str() == "bench" => bench::run(&rt),
         _ => ask_tables(&rt, Screen::new(rt.alloc())?),
+    }
+}
+
+/// By hand: a proof sees one call where it is dropped, and not its parts.
+impl Drop for Screen {
+    fn drop(self) {
+        let Screen {
+            trees: _,
+            packings: _,
+            layouts: _,
+        } = self;
     }
 }

@@ -19,17 +19,6 @@ pub struct Session {
     saved: Option<Text>,
 }
 
-/// By hand: a proof sees one call where it is dropped, and not its parts.
-impl Drop for Session {
-    fn drop(self) {
-        let Session {
-            widget: _,
-            scopes: _,
-            saved: _,
-        } = self;
-    }
-}
-
 impl Session {
     /// A new widget of the kind of a name.
     pub fn of(alloc: Global, kind: &str) -> Result<Session> {
@@ -175,5 +164,16 @@ fn act_told(alloc: Global, act: &WidgetAct) -> Result<String> {
         WidgetAct::Answer(text) => result_of(alloc, text.as_str()),
         WidgetAct::Fault(text) => error_of(alloc, text.as_str()),
         WidgetAct::Script(text) => Ok(format!(in alloc; ">{}", text.as_str())?),
+    }
+}
+
+/// By hand: a proof sees one call where it is dropped, and not its parts.
+impl Drop for Session {
+    fn drop(self) {
+        let Session {
+            widget: _,
+            scopes: _,
+            saved: _,
+        } = self;
     }
 }

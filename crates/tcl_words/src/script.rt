@@ -110,6 +110,7 @@ impl Model for Pieces {
 
 /// What stands between the parentheses of `$name(index)`, read and shared by its copies. Contracts see its source, of which
 /// the pieces are the parse.
+#[derive(Drop)]
 #[cycle(script)]
 pub struct Index {
     parsed: Rc<ParsedIndex>,
@@ -145,6 +146,7 @@ impl Model for Index {
 
 /// A script, read and shared by its copies. Contracts see its source alone, of which the commands are the parse:
 /// the script in a bracket is as its text, also where that text is read by itself.
+#[derive(Drop)]
 #[cycle(script)]
 pub struct Script {
     parsed: Rc<Parsed>,
@@ -299,19 +301,5 @@ impl Index {
         Ok(Index {
             parsed: self.parsed.clone()?,
         })
-    }
-}
-
-/// By hand: a proof sees one call where it is dropped, and not its parts.
-impl Drop for Index {
-    fn drop(self) {
-        let Index { parsed: _ } = self;
-    }
-}
-
-/// By hand: a proof sees one call where it is dropped, and not its parts.
-impl Drop for Script {
-    fn drop(self) {
-        let Script { parsed: _ } = self;
     }
 }

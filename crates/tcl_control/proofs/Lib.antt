@@ -1,2 +1,3 @@
+pub mod AssignLemmas
 pub mod CallLemmas
 pub mod ExpressionLemmas

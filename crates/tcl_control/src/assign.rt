@@ -28,6 +28,7 @@ pub fn set_one(
 }
 
 /// The item at a place, or the empty text.
+#[tactic(auto, using(crate::proofs::AssignLemmas::item_there, crate::proofs::AssignLemmas::no_item_there))]
 fn item_at(alloc: Global, items: &ListItems, at: usize) -> Result<Text, AllocError>
     ensures { IfOk result (λ item. item ≡ first_of (drop at items.now)) }
 {

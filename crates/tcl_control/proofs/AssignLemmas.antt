@@ -1,5 +1,5 @@
 -- The item at a place of a list, and the empty text where there is none.
-use Rattle.std.proofs.Common.{◌≡◌, ℕ, zero, suc, List, [], ◌∷◌, drop, slice_get, Option, Some, None, refl, sym, ap}
+use Rattle.std.proofs.Common.{◌≡◌, ℕ, zero, suc, List, [], ◌∷◌, drop, slice_get, Some, None, refl}
 use Rattle.tcl_control.specs.Assign.{first_of}
 
 pub item_there : (items : List (List ℕ)) (at : ℕ) (item : List ℕ) → Some item ≡ slice_get items at → item ≡ first_of (drop at items)

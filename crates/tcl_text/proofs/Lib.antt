@@ -5,6 +5,7 @@ pub mod IntegerLemmas
 pub mod AnswerLemmas
 pub mod EditLemmas
 pub mod CharacterLemmas
+pub mod IndexLemmas
 pub mod GlobFunction
 pub mod FindLemmas
 pub mod StringLemmas

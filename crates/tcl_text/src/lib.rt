@@ -14,6 +14,7 @@ mod list;
 mod list_form;
 mod list_items;
 mod list_string;
+pub mod message;
 mod number;
 mod shared;
 mod short;

@@ -7,10 +7,11 @@ ghost use Rattle.tk_after.specs.Timers.{own_of, entries_of, ids, LeavesOthers};
 ghost use Rattle.tk_after.specs.After.{after_words, add_words, add_script, cancel_words, cancel_text, info_words, kind_of, name_of, delay_of, delay_words};
 ghost use Rattle.tcl_text.specs.Limits.{last_moment};
 
-use crate::answers::{Answer, bad_option, name_of, no_event, short_text, wrong_args};
+use crate::answers::{name_of, no_event};
 use crate::entry::Entry;
 use crate::timers::Timers;
 use std::alloc::{AllocError, Global};
+use tcl_text::message::{Answer, bad_option, short_text, wrong_args};
 use tcl_text::{Text, TextCommand, TextFault};
 
 /// The most milliseconds that a timer waits, and the latest moment of a session.

@@ -7,9 +7,7 @@ ghost use Rattle.tk_after.specs.After.{name_of};
 use itoa::Buffer;
 use std::alloc::{AllocError, Global};
 use tcl_text::Text;
-
-/// A command's result, or the text of its error.
-pub type Answer = Result<Text, Text>;
+use tcl_text::message::{Answer, short_text, with_quoted};
 
 /// The name that scripts have for a number.
 #[tactic(auto, unfolding(crate::specs::After::name_of))]
@@ -35,32 +33,6 @@ pub fn is_name_of(characters: &str, id: u64) -> bool
     }
 }
 
-/// A text of characters that are known to be few enough.
-pub fn short_text(alloc: Global, characters: &str) -> Result<Text, AllocError>
-    ensures { IfOk result (λ text. text ≡ characters.now) }
-{
-    match Text::new(alloc, characters) {
-        Ok(text) => Ok(text),
-        Err(_) => Err(AllocError),
-    }
-}
-
-/// The error for a wrong number of words.
-pub fn wrong_args(alloc: Global, usage: &str) -> Result<Answer, AllocError>
-    ensures { IfOk result (λ answer. answer ≡ wrong_args_of usage.now) }
-{
-    let message = with_quoted(alloc, "wrong # args: should be ", usage)?;
-    Ok(Err(Text::of_message(alloc, message.as_str())?))
-}
-
-/// The error for a first word that is neither a sub-command nor an integer.
-pub fn bad_option(alloc: Global, word: &str) -> Result<Answer, AllocError>
-    ensures { IfOk result (λ answer. answer ≡ bad_option_of word.now) }
-{
-    let message = with_quoted(alloc, "bad option ", word)?;
-    Ok(Err(Text::of_message(alloc, message.as_str())?))
-}
-
 /// The error for a name under which nothing is listed.
 pub fn no_event(alloc: Global, name: &str) -> Result<Answer, AllocError>
     ensures { IfOk result (λ answer.
@@ -69,15 +41,4 @@ pub fn no_event(alloc: Global, name: &str) -> Result<Answer, AllocError>
     let mut message = with_quoted(alloc, "event ", name)?;
     message.push_str(" doesn't exist")?;
     Ok(Err(Text::of_message(alloc, message.as_str())?))
-}
-
-/// The message followed by a word in quotation marks.
-fn with_quoted(alloc: Global, message: &str, word: &str) -> Result<String, AllocError>
-    ensures { IfOk result (λ string. string_bytes string ≡ message.now ++ quoted word.now) }
-{
-    let mut string = String::from_str(alloc, message)?;
-    string.push_str("\"")?;
-    string.push_str(word)?;
-    string.push_str("\"")?;
-    Ok(string)
 }

@@ -4,7 +4,7 @@ ghost use Rattle.tk_app.specs.Names.{binding_names, button_names, class_names, c
 
 use std::alloc::{AllocError, Global};
 use tcl_text::Text;
-use tk_panel::short_text;
+use tcl_text::message::short_text;
 
 /// Adds a name.
 fn push_name(alloc: Global, names: &mut Vec<Text>, name: &str) -> Result<(), AllocError>

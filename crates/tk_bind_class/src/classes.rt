@@ -6,6 +6,7 @@ ghost use Rattle.tk_patterns.specs.Own.{LeavesOthers, own_of, without_tag};
 use crate::rows::{Row, rows_of};
 use std::alloc::{AllocError, Global};
 use tcl_text::Text;
+use tcl_text::message::short_text;
 use tk_base::Kind;
 use tk_patterns::{BindFault, BindTable};
 use tk_sequences::{Sequence, SequenceFault};
@@ -123,15 +124,5 @@ fn bind(
         Ok(()) => Ok(()),
         Err(BindFault::Full) => Ok(()),
         Err(BindFault::NoMemory) => Err(AllocError),
-    }
-}
-
-/// A text of characters that are known to be few enough.
-fn short_text(alloc: Global, characters: &str) -> Result<Text, AllocError>
-    ensures { IfOk result (λ text. text ≡ characters.now) }
-{
-    match Text::new(alloc, characters) {
-        Ok(text) => Ok(text),
-        Err(_) => Err(AllocError),
     }
 }

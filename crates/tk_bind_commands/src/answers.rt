@@ -10,13 +10,11 @@ ghost use Rattle.tk_virtual.specs.FaultTexts as virtual_faults;
 use std::alloc::{AllocError, Global};
 use tcl_text::Text;
 use tcl_text::answers::{Refusal, quoting_error};
+use tcl_text::message::Answer;
 use tk_dispatch::is_live;
 use tk_sequences::{Sequence, SequenceFault};
 use tk_tree::Windows;
 use tk_virtual::VirtualFault;
-
-/// A command's result, or the text of its error.
-pub type Answer = Result<Text, Text>;
 
 /// What a step gave or refused, as the answer.
 pub fn answered(given: Result<Text, Refusal>) -> Result<Answer, AllocError>

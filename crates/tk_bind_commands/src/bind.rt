@@ -7,10 +7,11 @@ ghost use Rattle.tk_patterns.specs.Own.{LeavesAll, LeavesOthers, own_of, script_
 ghost use Rattle.tk_sequences.specs.Writing.{canonical};
 ghost use Rattle.tk_tree.specs.Own as windows_of;
 
-use crate::answers::{Answer, answered, nothing, sequence_in, test_tag};
+use crate::answers::{answered, nothing, sequence_in, test_tag};
 use std::alloc::{AllocError, Global};
 use tcl_text::answers::{Refusal, copy_answer, limit_reached, text_answer, wrong_args};
 use tcl_text::items::list_answer;
+use tcl_text::message::Answer;
 use tcl_text::{Text, TextFault, TextList};
 use tk_patterns::{BindFault, BindTable, Sequence};
 use tk_tree::Windows;

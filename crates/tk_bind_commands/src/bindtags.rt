@@ -4,10 +4,11 @@ ghost use Rattle.tcl_text.specs.Answers.{Gives, items_in as items_of};
 ghost use Rattle.tk_bind_commands.specs.Bindtags as spec;
 ghost use Rattle.tk_tree.specs.Own.{LeavesOthers, at_path, own_of, window_at};
 
-use crate::answers::{Answer, answered, bad_path, nothing};
+use crate::answers::{answered, bad_path, nothing};
 use std::alloc::{AllocError, Global};
 use tcl_text::answers::{Refusal, wrong_args};
 use tcl_text::items::{items_in, list_answer};
+use tcl_text::message::Answer;
 use tcl_text::{Text, TextList};
 use tk_base::Win;
 use tk_tree::Windows;

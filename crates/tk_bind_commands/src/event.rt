@@ -6,11 +6,12 @@ ghost use Rattle.tk_bind_commands.specs.Words.{or_virtual_fault};
 ghost use Rattle.tk_sequences.specs.Reading.{name_in};
 ghost use Rattle.tk_virtual.specs.Virtual.{LeavesOthers, name_or_fault, own_of};
 
-use crate::answers::{Answer, answered, nothing, virtual_refusal, virtual_refused};
+use crate::answers::{answered, nothing, virtual_refusal, virtual_refused};
 use std::alloc::{AllocError, Global};
 use tcl_text::Text;
 use tcl_text::answers::{Refusal, bad_option, wrong_args};
 use tcl_text::items::list_answer;
+use tcl_text::message::Answer;
 use tk_sequences::VirtualName;
 use tk_virtual::{VirtualFault, VirtualTable, name_meant};
 

@@ -5,6 +5,7 @@ ghost use Rattle.tk_options.specs.FaultTexts.{bad_value_text, fault_text};
 
 use std::alloc::{AllocError, AllocFailed, Global};
 use std::fmt::{self, Debug, Formatter, Write};
+use tcl_text::message::{push_quoted, quoting};
 use tcl_text::{Text, TextFault};
 use thiserror::Error;
 
@@ -34,7 +35,7 @@ impl OptionFault {
         ensures { IfOk result (λ text. text ≡ bounded (fault_text self.now)) }
     {
         let message = self.written(alloc)?;
-        error_text(alloc, message.as_str())
+        Text::of_message(alloc, message.as_str())
     }
 
     /// The text of the error, however long.
@@ -43,10 +44,20 @@ impl OptionFault {
         ensures { IfOk result (λ string. string_bytes string ≡ fault_text self.now) }
     {
         match self {
-            OptionFault::UnknownOption(word) => quoting(alloc, "unknown option ", word, ""),
-            OptionFault::AmbiguousOption(word) => quoting(alloc, "ambiguous option ", word, ""),
+            OptionFault::UnknownOption(word) => quoting(
+                alloc,
+                "unknown option ",
+                word.as_str(),
+                "",
+            ),
+            OptionFault::AmbiguousOption(word) => quoting(
+                alloc,
+                "ambiguous option ",
+                word.as_str(),
+                "",
+            ),
             OptionFault::BadValue { value, option } => bad_value(alloc, value, option),
-            OptionFault::NoValue(word) => quoting(alloc, "value for ", word, " missing"),
+            OptionFault::NoValue(word) => quoting(alloc, "value for ", word.as_str(), " missing"),
             OptionFault::NoMemory => String::from_str(alloc, "out of memory"),
         }
     }
@@ -56,51 +67,9 @@ impl OptionFault {
 fn bad_value(alloc: Global, value: &Text, option: &Text) -> Result<String, AllocError>
     ensures { IfOk result (λ string. string_bytes string ≡ bad_value_text value.now option.now) }
 {
-    let mut message = quoting(alloc, "bad value ", value, " for option ")?;
-    push_quoted(&mut message, option)?;
+    let mut message = quoting(alloc, "bad value ", value.as_str(), " for option ")?;
+    push_quoted(&mut message, option.as_str())?;
     Ok(message)
-}
-
-/// A word in quotation marks with what stands before and behind it.
-fn quoting(alloc: Global, before: &str, word: &Text, behind: &str) -> Result<String, AllocError>
-    ensures { IfOk result (λ string. string_bytes string ≡ before.now ++ (quoted word.now ++ behind.now)) }
-{
-    let mut message = String::from_str(alloc, before)?;
-    push_quoted(&mut message, word)?;
-    message.push_str(behind)?;
-    Ok(message)
-}
-
-/// Adds a word in quotation marks.
-fn push_quoted(message: &mut String, word: &Text) -> Result<(), AllocError>
-    ensures { OnOk result (string_bytes message.new ≡ string_bytes message.old ++ quoted word.now) }
-{
-    message.push_str("\"")?;
-    message.push_str(word.as_str())?;
-    message.push_str("\"")?;
-    Ok(())
-}
-
-/// The text of an error, or the limit's where it is past 65,536 bytes (4).
-#[tactic(auto, unfolding(tcl_text::specs::Answers::bounded))]
-fn error_text(alloc: Global, message: &str) -> Result<Text, AllocError>
-    ensures { IfOk result (λ text. text ≡ bounded message.now) }
-{
-    match Text::new(alloc, message) {
-        Ok(text) => Ok(text),
-        Err(TextFault::TooLong) => limit_reached(alloc),
-        Err(TextFault::NoMemory) => Err(AllocError),
-    }
-}
-
-/// The text of a value past 65,536 bytes (4).
-fn limit_reached(alloc: Global) -> Result<Text, AllocError>
-    ensures { IfOk result (λ text. text ≡ limit_text) }
-{
-    match Text::new(alloc, "limit reached: value") {
-        Ok(text) => Ok(text),
-        Err(_) => Err(AllocError),
-    }
 }
 
 impl Debug for OptionFault {

@@ -13,6 +13,7 @@ use crate::settings::{Setting, Settings};
 use indexmap::IndexMap;
 use std::alloc::{AllocError, Global};
 use std::marker::Model;
+use tcl_text::message::short_text;
 use tcl_text::{Text, TextFault, TextList};
 use tk_base::Kind;
 
@@ -190,16 +191,6 @@ fn new_entry(alloc: Global, row: Row) -> Result<OptionEntry, AllocError>
         default: short_text(alloc, default)?,
         value: short_text(alloc, default)?,
     })
-}
-
-/// A text of characters that are known to be few enough.
-fn short_text(alloc: Global, characters: &str) -> Result<Text, AllocError>
-    ensures { IfOk result (λ text. text ≡ characters.now) }
-{
-    match Text::new(alloc, characters) {
-        Ok(text) => Ok(text),
-        Err(_) => Err(AllocError),
-    }
 }
 
 /// The name that a short name stands for, or the word itself.

@@ -5,9 +5,7 @@ ghost use Rattle.tcl_text.specs.Answers.{Answer as Wanted, Gives};
 use std::alloc::{AllocError, Global};
 use tcl_text::Text;
 use tcl_text::answers::Refusal;
-
-/// A command's result, or the text of its error.
-pub type Answer = Result<Text, Text>;
+use tcl_text::message::Answer;
 
 /// What the steps of a command gave, as its answer.
 pub fn answered(told: Result<Text, Refusal>) -> Result<Answer, AllocError>

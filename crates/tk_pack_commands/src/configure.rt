@@ -5,7 +5,7 @@ ghost use Rattle.tk_pack_commands.specs.Pack as spec;
 ghost use Rattle.tk_packer.specs.Packs.{own_of as packs_of, LeavesOthers};
 ghost use Rattle.tk_tree.specs.Own.{own_of};
 
-use crate::answers::{Answer, answered, nothing};
+use crate::answers::{answered, nothing};
 use crate::asked::Asked;
 use crate::options::options_in;
 use crate::pack::PACK_USAGE;
@@ -16,6 +16,7 @@ use std::alloc::{AllocError, Global};
 use std::marker::Model;
 use tcl_text::Text;
 use tcl_text::answers::{Refusal, wrong_args};
+use tcl_text::message::Answer;
 use tk_packer::PackTable;
 use tk_tree::Windows;
 

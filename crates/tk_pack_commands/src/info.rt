@@ -10,6 +10,7 @@ use itoa::Buffer;
 use std::alloc::{AllocError, Global};
 use tcl_text::answers::Refusal;
 use tcl_text::items::list_answer;
+use tcl_text::message::short_text;
 use tcl_text::{Text, TextList};
 use tk_base::Win;
 use tk_packer::{Anchor, Fill, Packed, Pads, Request, Side};
@@ -57,16 +58,6 @@ fn truth_word(truth: bool) -> &'static str
     ensures { result.now ≡ spec.truth_word truth }
 {
     if truth { "1" } else { "0" }
-}
-
-/// A text of characters that are known to be few enough.
-fn short_text(alloc: Global, characters: &str) -> Result<Text, AllocError>
-    ensures { IfOk result (λ text. text ≡ characters.now) }
-{
-    match Text::new(alloc, characters) {
-        Ok(text) => Ok(text),
-        Err(_) => Err(AllocError),
-    }
 }
 
 fn amount_text(alloc: Global, amount: u32) -> Result<Text, AllocError>

@@ -5,7 +5,7 @@ ghost use Rattle.tk_pack_commands.specs.Pack as spec;
 ghost use Rattle.tk_packer.specs.Packs.{own_of as packs_of, LeavesOthers};
 ghost use Rattle.tk_tree.specs.Own.{own_of};
 
-use crate::answers::{Answer, answered, nothing};
+use crate::answers::{answered, nothing};
 use crate::configure::configure;
 use crate::errors::not_boolean;
 use crate::info::{info_of, paths_of};
@@ -14,6 +14,7 @@ use std::alloc::{AllocError, Global};
 use tcl_text::Text;
 use tcl_text::answers::{Refusal, bad_option, truth_answer, wrong_args};
 use tcl_text::items::list_answer;
+use tcl_text::message::Answer;
 use tk_base::Win;
 use tk_packer::PackTable;
 use tk_tree::Windows;

@@ -6,10 +6,10 @@ ghost use Rattle.tk_base.specs.declared.kind.Kind.TheVariants.{Frame};
 ghost use Rattle.tk_screen.specs.Own as screens;
 ghost use Rattle.tk_widgets.specs.Sizes.{new_widget};
 
-use crate::message::short_text;
 use crate::tables::Tables;
 use std::alloc::{AllocError, Global};
 use tcl_text::Text;
+use tcl_text::message::short_text;
 use tk_base::Kind;
 use tk_bind_class::{bind_classes, unbind_classes};
 use tk_marks::MarkedScreen;

@@ -4,13 +4,13 @@ ghost use Rattle.tcl_text.specs.Answers.{wrong_args as wrong_args_of};
 ghost use Rattle.tk_panel.specs.Commands.{after_told, clock_words, milliseconds, put_to, puts_words, written};
 ghost use Rattle.tk_panel.specs.Panel.{LeavesOthers, panel_of};
 
-use crate::message::{Answer, bad_option, short_text, wrong_args};
 use crate::report::write;
 use crate::tables::Tables;
 use crate::transcript::Stream;
 use itoa::Buffer;
 use std::alloc::{AllocError, Global};
 use tcl_text::Text;
+use tcl_text::message::{Answer, bad_option, short_text, wrong_args};
 
 /// Writes a line, and answers the empty text.
 fn write_out(tables: &mut Tables, slot: usize, text: &Text) -> Result<Answer, AllocError>

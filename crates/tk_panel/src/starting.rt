@@ -5,10 +5,10 @@ ghost use Rattle.tk_panel.specs.Start.{alone, idle_taken, start, start_rest, tim
 ghost use Rattle.tk_after.specs.Timers.{entry_with, first_due};
 
 use crate::job::{Home, Job, Rest};
-use crate::message::short_text;
 use crate::tables::Tables;
 use std::alloc::AllocError;
 use tcl_text::Text;
+use tcl_text::message::short_text;
 use tk_upcoming::Numbers;
 
 /// A script that is no event's, and the job behind it.

@@ -9,8 +9,9 @@ use crate::dispatch::generate;
 use crate::outcome::Outcome;
 use std::alloc::{AllocError, Global};
 use tcl_text::Text;
+use tcl_text::message::Answer;
 use tk_marks::MarkedScreen;
-use tk_panel::{Answer, Tables};
+use tk_panel::Tables;
 
 /// A command on what events do.
 #[derive(Clone, Copy, Debug, PartialEq, Eq)]

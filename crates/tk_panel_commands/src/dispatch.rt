@@ -8,10 +8,11 @@ ghost use Rattle.tk_tree.specs.Own as windows_of;
 use crate::outcome::Outcome;
 use std::alloc::{AllocError, Global};
 use tcl_text::Text;
+use tcl_text::message::short_text;
 use tk_base::Win;
 use tk_events::{Event, EventKind};
 use tk_generate::{Generated, When, generate_command};
-use tk_panel::{Job, Rest, Tables, choose, short_text};
+use tk_panel::{Job, Rest, Tables, choose};
 use tk_sequences::VirtualName;
 use tk_tree::Windows;
 

@@ -8,9 +8,9 @@ ghost use Rattle.tk_panel_commands.specs.Outcomes.{told};
 use crate::outcome::Outcome;
 use std::alloc::{AllocError, Global};
 use tcl_text::Text;
+use tcl_text::message::{bad_option, wrong_args};
 use tk_panel::{
-    Home, Job, Numbers, Rest, Scripts, Tables, after_command, bad_option, clock_command,
-    puts_command, wrong_args,
+    Home, Job, Numbers, Rest, Scripts, Tables, after_command, clock_command, puts_command,
 };
 
 /// A command on what an application writes and what it does at a moment.

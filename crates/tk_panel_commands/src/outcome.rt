@@ -1,5 +1,6 @@
 use tcl_text::Text;
-use tk_panel::{Answer, Job};
+use tcl_text::message::Answer;
+use tk_panel::Job;
 
 /// What comes of a command.
 #[derive(Drop)]

@@ -9,9 +9,10 @@ ghost use Rattle.tk_window_commands.specs.Commands as windows_of;
 use crate::outcome::Outcome;
 use std::alloc::{AllocError, Global};
 use tcl_text::Text;
+use tcl_text::message::Answer;
 use tcl_vars::Scopes;
 use tk_marks::MarkedScreen;
-use tk_panel::{Answer, Tables};
+use tk_panel::Tables;
 use tk_screen::Screen;
 use tk_window_commands::{WindowCommand, window_command_done, window_command_named, winfo_command};
 

@@ -9,9 +9,10 @@ use std::alloc::AllocError;
 use tcl_interp::{Act, Code};
 use tcl_jobs::Task;
 use tcl_text::Text;
+use tcl_text::message::Answer;
 use tcl_vars::Scopes;
 use tcl_words::{ParseFault, Script};
-use tk_panel::{Answer, Job, Tables};
+use tk_panel::{Job, Tables};
 use tk_panel_commands::{Outcome, panel_command};
 
 /// The act of a command that answers.

@@ -11,8 +11,9 @@ use std::alloc::{AllocError, Global};
 use tcl_interp::{Act, Code};
 use tcl_jobs::{Looked, Started, Task};
 use tcl_text::Text;
+use tcl_text::message::short_text;
 use tcl_vars::Scopes;
-use tk_panel::{Home, Job, Numbers, Rest, Scripts, Stream, Tables, next, short_text, write};
+use tk_panel::{Home, Job, Numbers, Rest, Scripts, Stream, Tables, next, write};
 
 /// The job whose next script waits for its step; a job that has nothing more ends with the empty text.
 fn looked_of(alloc: Global, job: Option<Job>) -> Result<Looked<Job>, AllocError>

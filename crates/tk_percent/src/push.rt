@@ -8,6 +8,7 @@ ghost use Rattle.tcl_text.specs.Limits.{most_bytes};
 
 use itoa::Buffer;
 use std::alloc::{AllocError, Global};
+use tcl_text::message::short_text;
 use tcl_text::{Text, TextFault};
 use tk_keys::Keysym;
 
@@ -78,16 +79,6 @@ pub fn push_place(alloc: Global, text: &mut Text, place: Option<i64>) -> Result<
     match place {
         Some(place) => push_signed(alloc, text, place),
         None => text.push_str(alloc, "??"),
-    }
-}
-
-/// A text of characters that are known to be few enough.
-pub fn short_text(alloc: Global, characters: &str) -> Result<Text, AllocError>
-    ensures { IfOk result (λ text. text ≡ characters.now) }
-{
-    match Text::new(alloc, characters) {
-        Ok(text) => Ok(text),
-        Err(_) => Err(AllocError),
     }
 }
 

@@ -5,9 +5,9 @@ ghost use Rattle.tk_percent.specs.Percent.{substituted, substituted_from};
 ghost use Rattle.tcl_text.specs.Limits.{most_bytes};
 
 use crate::field::push_replacement;
-use crate::push::short_text;
 use memchr::memchr;
 use std::alloc::Global;
+use tcl_text::message::short_text;
 use tcl_text::{Text, TextFault};
 use tk_events::Event;
 

@@ -5,6 +5,7 @@ ghost use Rattle.tk_sequences.specs.FaultTexts.{fault_number, fault_text};
 
 use std::alloc::{AllocError, AllocFailed, Global};
 use std::fmt::{self, Debug, Formatter, Write};
+use tcl_text::message::with_quoted;
 use tcl_text::{Text, TextFault};
 use thiserror::Error;
 
@@ -48,31 +49,18 @@ impl SequenceFault {
         ensures { IfOk result (λ string. string_bytes string ≡ fault_text self.now) }
     {
         match self {
-            SequenceFault::BadSequence(text) => quoting(alloc, "bad event sequence ", text),
-            SequenceFault::BadKeysym(word) => quoting(alloc, "bad event type or keysym ", word),
+            SequenceFault::BadSequence(text) => with_quoted(
+                alloc,
+                "bad event sequence ",
+                text.as_str(),
+            ),
+            SequenceFault::BadKeysym(word) => with_quoted(
+                alloc,
+                "bad event type or keysym ",
+                word.as_str(),
+            ),
             SequenceFault::NoMemory => String::from_str(alloc, "out of memory"),
         }
-    }
-}
-
-/// A word in quotation marks with what stands before it.
-fn quoting(alloc: Global, before: &str, word: &Text) -> Result<String, AllocError>
-    ensures { IfOk result (λ string. string_bytes string ≡ before.now ++ quoted word.now) }
-{
-    let mut message = String::from_str(alloc, before)?;
-    message.push_str("\"")?;
-    message.push_str(word.as_str())?;
-    message.push_str("\"")?;
-    Ok(message)
-}
-
-/// A text of characters that are known to be few enough.
-pub(crate) fn short_text(alloc: Global, characters: &str) -> Result<Text, AllocError>
-    ensures { IfOk result (λ text. text ≡ characters.now) }
-{
-    match Text::new(alloc, characters) {
-        Ok(text) => Ok(text),
-        Err(_) => Err(AllocError),
     }
 }
 

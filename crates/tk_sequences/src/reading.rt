@@ -7,12 +7,13 @@ ghost use Rattle.tk_sequences.specs.Patterns.{count_of};
 
 use crate::detail::Detail;
 use crate::event_type::EventType;
-use crate::fault::{SequenceFault, short_text};
+use crate::fault::SequenceFault;
 use crate::fields::{behind_white, first_field};
 use crate::modifier::{Modifier, Modifiers};
 use crate::pattern::{Pattern, Repetition};
 use std::alloc::Global;
 use tcl_text::Text;
+use tcl_text::message::short_text;
 use tk_keys::Keysym;
 
 /// What may stand in front of a type or a detail.

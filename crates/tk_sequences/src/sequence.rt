@@ -3,13 +3,14 @@ ghost use Rattle.tk_sequences.specs.Patterns.{count_of};
 ghost use Rattle.tk_sequences.specs.Reading.{begins_with_bracket, has_brackets, named_or_physical, parsed, some_patterns};
 ghost use Rattle.tk_sequences.specs.Writing.{canonical};
 
-use crate::fault::{SequenceFault, short_text};
+use crate::fault::SequenceFault;
 use crate::pattern::{Pattern, Patterns};
 use crate::reading::patterns_of;
 use crate::virtual_name::VirtualName;
 use crate::written::patterns_written;
 use std::alloc::{AllocError, Global};
 use tcl_text::Text;
+use tcl_text::message::short_text;
 
 /// What a binding waits for (bind(n), EVENT PATTERNS).
 #[derive(Drop)]

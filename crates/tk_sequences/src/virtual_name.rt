@@ -4,11 +4,11 @@ ghost use Rattle.tk_sequences.specs.Names.{IsName};
 ghost use Rattle.tk_sequences.specs.Reading.{has_no_closing, is_name, name_in};
 ghost use Rattle.tcl_text.specs.Limits.{most_bytes};
 
-use crate::fault::short_text;
 use crate::written::name_written;
 use std::alloc::{AllocError, Global};
 use std::marker::Model;
 use tcl_text::Text;
+use tcl_text::message::short_text;
 
 /// The name of a virtual event (event(n)): what stands between `<<` and `>>`. It isn't empty, and has no `>`.
 pub struct VirtualName {

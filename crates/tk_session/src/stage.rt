@@ -191,25 +191,12 @@ fn read_app(
         return Err(LineError::Faulty(fault));
     }
     let head = Head {
-        name: short_text(alloc, app.name)?,
+        name: Text::of_short(alloc, app.name)?,
         rect: app.rect,
         budget: app.budget,
         aliases: Listing::new(alloc),
     };
     Ok(Stage::Script { format, apps, head })
-}
-
-/// A text of characters that a text has room for.
-fn short_text(alloc: Global, characters: &str) -> Result<Text, LineError>
-    requires { length characters.now ≤ most_bytes }
-    ensures ok { IfOk result (λ text. text ≡ characters.now) }
-    ensures err { IfErr result (λ error. error ≡ LineError.NoMemory) }
-{
-    match Text::new(alloc, characters) {
-        Ok(text) => Ok(text),
-        Err(TextFault::NoMemory) => Err(LineError::NoMemory),
-        Err(TextFault::TooLong) => unreachable!(),
-    }
 }
 
 /// The stage behind an application's last line.
@@ -244,8 +231,8 @@ fn alias_of(alloc: Global, fields: &AliasFields<'_>) -> Result<AliasLine, LineEr
     ensures ok { IfOk result (λ alias. alias ≡ alias_of (fields.now.name.now, fields.now.kind, fields.now.config.now)) }
     ensures err { IfErr result (λ error. error ≡ LineError.NoMemory) }
 {
-    let name = short_text(alloc, fields.name)?;
-    let config = short_text(alloc, fields.config)?;
+    let name = Text::of_short(alloc, fields.name)?;
+    let config = Text::of_short(alloc, fields.config)?;
     Ok(AliasLine {
         name,
         service: Service {
@@ -300,7 +287,7 @@ fn read_count(
 {
     match script_line(line) {
         None => Err(LineError::Faulty(LineFault::BadLine)),
-        Some(0) => close(format, apps, head, short_text(alloc, "")?),
+        Some(0) => close(format, apps, head, Text::of_short(alloc, "")?),
         Some(left) => Ok(Stage::Text {
             format,
             apps,
@@ -339,7 +326,7 @@ fn read_text(
             script,
         });
     }
-    close(format, apps, head, short_text(alloc, script.as_str())?)
+    close(format, apps, head, Text::of_short(alloc, script.as_str())?)
 }
 
 fn read_event(

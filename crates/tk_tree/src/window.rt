@@ -4,6 +4,7 @@ ghost use Rattle.tk_tree.specs.Ways.{has_point};
 ghost use Rattle.tk_tree.specs.Window.{default_tags, new_window};
 
 use std::alloc::{AllocError, Global};
+use tcl_text::message::short_text;
 use tcl_text::{Text, TextList};
 use tk_base::{Kind, Rect};
 
@@ -114,14 +115,4 @@ fn copies(alloc: Global, texts: &[Text]) -> Result<TextList, AllocError>
         list.push(text.copy()?)?;
     }
     Ok(list)
-}
-
-/// A text of characters that are known to be few enough.
-fn short_text(alloc: Global, characters: &str) -> Result<Text, AllocError>
-    ensures { IfOk result (λ text. text ≡ characters.now) }
-{
-    match Text::new(alloc, characters) {
-        Ok(text) => Ok(text),
-        Err(_) => Err(AllocError),
-    }
 }

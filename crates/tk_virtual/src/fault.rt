@@ -5,6 +5,7 @@ ghost use Rattle.tk_virtual.specs.FaultTexts.{fault_number, fault_text};
 
 use std::alloc::{AllocError, AllocFailed, Global};
 use std::fmt::{self, Debug, Formatter, Write};
+use tcl_text::message::quoting;
 use tcl_text::{Text, TextFault};
 use thiserror::Error;
 use tk_sequences::SequenceFault;
@@ -64,11 +65,21 @@ impl VirtualFault {
             VirtualFault::BadName(name) => quoting(
                 alloc,
                 "virtual event ",
-                name,
+                name.as_str(),
                 " is badly formed",
             ),
-            VirtualFault::BadSequence(text) => quoting(alloc, "bad event sequence ", text, ""),
-            VirtualFault::BadKeysym(word) => quoting(alloc, "bad event type or keysym ", word, ""),
+            VirtualFault::BadSequence(text) => quoting(
+                alloc,
+                "bad event sequence ",
+                text.as_str(),
+                "",
+            ),
+            VirtualFault::BadKeysym(word) => quoting(
+                alloc,
+                "bad event type or keysym ",
+                word.as_str(),
+                "",
+            ),
             VirtualFault::VirtualInVirtual => String::from_str(
                 alloc,
                 "virtual event not allowed in definition of another virtual event",
@@ -77,18 +88,6 @@ impl VirtualFault {
             VirtualFault::NoMemory => String::from_str(alloc, "out of memory"),
         }
     }
-}
-
-/// A word in quotation marks with what stands before and behind it.
-fn quoting(alloc: Global, before: &str, word: &Text, behind: &str) -> Result<String, AllocError>
-    ensures { IfOk result (λ string. string_bytes string ≡ before.now ++ (quoted word.now ++ behind.now)) }
-{
-    let mut message = String::from_str(alloc, before)?;
-    message.push_str("\"")?;
-    message.push_str(word.as_str())?;
-    message.push_str("\"")?;
-    message.push_str(behind)?;
-    Ok(message)
 }
 
 impl VirtualFault {

@@ -7,11 +7,9 @@ ghost use Rattle.tk_window_commands.specs.Answers.{IsAnsweredBy};
 use std::alloc::{AllocError, Global};
 use tcl_text::Text;
 use tcl_text::answers::Refusal;
+use tcl_text::message::{Answer, short_text};
 use tk_base::Win;
 use tk_tree::{Window, Windows};
-
-/// A command's result, or the text of its error.
-pub type Answer = Result<Text, Text>;
 
 /// A command's answer from what its steps gave.
 pub fn answered(given: Result<Text, Refusal>) -> Result<Answer, AllocError>
@@ -41,14 +39,4 @@ pub fn empty_text(alloc: Global) -> Result<Text, AllocError>
     ensures { IfOk result (λ text. text ≡ []) }
 {
     short_text(alloc, "")
-}
-
-/// A text of characters that are known to be few enough.
-pub fn short_text(alloc: Global, characters: &str) -> Result<Text, AllocError>
-    ensures { IfOk result (λ text. text ≡ characters.now) }
-{
-    match Text::new(alloc, characters) {
-        Ok(text) => Ok(text),
-        Err(_) => Err(AllocError),
-    }
 }

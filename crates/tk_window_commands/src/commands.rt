@@ -3,12 +3,12 @@ ghost use Rattle.std.specs.Prelude.{◌≡◌, IfOk};
 ghost use Rattle.tk_screen.specs.Own.{own_of, LeavesOthers};
 ghost use Rattle.tk_window_commands.specs.Commands as spec;
 
-use crate::answers::Answer;
 use crate::create::create_command;
 use crate::winfo::winfo_command;
 use crate::wm::wm_command;
 use std::alloc::{AllocError, Global};
 use tcl_text::Text;
+use tcl_text::message::Answer;
 use tcl_vars::Scopes;
 use tk_base::Kind;
 use tk_screen::Screen;

@@ -10,11 +10,12 @@ ghost use Rattle.tk_widgets.specs.Outcomes.{or_fault};
 ghost use Rattle.tk_window_commands.specs.Answers.{Does};
 ghost use Rattle.tk_window_commands.specs.Create as spec;
 
-use crate::answers::{Answer, answered};
+use crate::answers::answered;
 use crate::refusals::path_refused;
 use std::alloc::{AllocError, Global};
 use tcl_text::Text;
 use tcl_text::answers::{Refusal, wrong_args};
+use tcl_text::message::Answer;
 use tcl_vars::Scopes;
 use tk_base::Kind;
 use tk_options::{OptionFault, Settings};

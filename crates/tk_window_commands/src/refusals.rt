@@ -7,6 +7,7 @@ ghost use Rattle.tk_window_commands.specs.Create.{name_in, refusal_text};
 use std::alloc::{AllocError, Global};
 use tcl_text::Text;
 use tcl_text::answers::{Refusal, error, quoting_error};
+use tcl_text::message::quoting;
 use tk_tree::{WindowFault, parent_and_name};
 
 /// The error for what is no path of a window that is there (24).
@@ -53,24 +54,4 @@ fn name_taken(alloc: Global, name: &str) -> Refusal
         Ok(text) => error(alloc, text.as_str()),
         Err(AllocError) => Refusal::NoMemory,
     }
-}
-
-/// A word in quotation marks with what stands before and behind it.
-fn quoting(alloc: Global, before: &str, word: &str, behind: &str) -> Result<String, AllocError>
-    ensures { IfOk result (λ string. string_bytes string ≡ before.now ++ (quoted word.now ++ behind.now)) }
-{
-    let mut message = String::from_str(alloc, before)?;
-    push_quoted(&mut message, word)?;
-    message.push_str(behind)?;
-    Ok(message)
-}
-
-/// Adds a word in quotation marks.
-fn push_quoted(message: &mut String, word: &str) -> Result<(), AllocError>
-    ensures { OnOk result (string_bytes message.new ≡ string_bytes message.old ++ quoted word.now) }
-{
-    message.push_str("\"")?;
-    message.push_str(word)?;
-    message.push_str("\"")?;
-    Ok(())
 }

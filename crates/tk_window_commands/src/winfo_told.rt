@@ -6,12 +6,12 @@ ghost use Rattle.tk_screen.specs.Own.{own_of};
 ghost use Rattle.tk_tree.specs.Own.{own_of as tree_of, window_at};
 ghost use Rattle.tk_window_commands.specs.Winfo as spec;
 
-use crate::answers::short_text;
 use crate::refusals::name_in;
 use crate::winfo::Question;
 use std::alloc::{AllocError, Global};
 use tcl_text::answers::{Refusal, copy_answer, decimal_answer, text_answer, truth_answer};
 use tcl_text::items::list_answer;
+use tcl_text::message::short_text;
 use tcl_text::{Text, TextList};
 use tcl_vars::Scopes;
 use tk_base::Win;

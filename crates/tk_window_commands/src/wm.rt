@@ -5,11 +5,12 @@ ghost use Rattle.tk_screen.specs.Own.{own_of, LeavesOthers};
 ghost use Rattle.tk_window_commands.specs.Answers.{DoesThere};
 ghost use Rattle.tk_window_commands.specs.Wm as spec;
 
-use crate::answers::{Answer, answered, empty_text};
+use crate::answers::{answered, empty_text};
 use crate::refusals::bad_path;
 use std::alloc::{AllocError, Global};
 use tcl_text::Text;
 use tcl_text::answers::{Refusal, bad_option, wrong_args};
+use tcl_text::message::Answer;
 use tk_screen::Screen;
 
 /// `wm title . ?text?` (wm(n)), from the words behind `wm`: the application's title, or sets it. Another path is refused (24).

@@ -3,6 +3,7 @@ ghost use Rattle.std.specs.Prelude.{◌≡◌, ◌++◌, IfOk, string_bytes};
 ghost use Rattle.std.specs.Fmt.{decimal};
 ghost use Rattle.tcl_text.specs.Answers.{Gives, Refuses, answers, bounded, truth as truth_of, place as place_of, limit_text, quoted, wrong_args as wrong_args_of, bad_option as bad_option_of, bad_index as bad_index_of, expected_integer};
 
+use crate::message::with_quoted;
 use crate::text::{Text, TextFault};
 use itoa::Buffer;
 use std::alloc::{AllocError, AllocFailed, Global};
@@ -161,15 +162,4 @@ pub fn quoting_error(alloc: Global, message: &str, word: &str) -> Refusal
         Ok(text) => error(alloc, text.as_str()),
         Err(AllocError) => Refusal::NoMemory,
     }
-}
-
-/// The message followed by the word in quotation marks.
-fn with_quoted(alloc: Global, message: &str, word: &str) -> Result<String, AllocError>
-    ensures { IfOk result (λ string. string_bytes string ≡ message.now ++ quoted word.now) }
-{
-    let mut string = String::from_str(alloc, message)?;
-    string.push_str("\"")?;
-    string.push_str(word)?;
-    string.push_str("\"")?;
-    Ok(string)
 }

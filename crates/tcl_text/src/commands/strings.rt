@@ -1,12 +1,12 @@
 //! The commands of string(n), and concat(n).
-ghost use Rattle.std.specs.Prelude.{◌≡◌, min, replicate, IfOk, OnOk, string_bytes, length, ◌≤◌, ◌*◌};
+ghost use Rattle.std.specs.Prelude.{◌≡◌, min, replicate, IfOk, IfSome, OnOk, string_bytes, length, ◌≤◌, ◌*◌};
 ghost use Rattle.std.specs.List.{concat};
 ghost use Rattle.std.specs.Str.{chars, encode_utf8_all, IsAscii};
 ghost use Rattle.memchr.specs.Find.{FindsNeedle};
 ghost use Rattle.tcl_text.specs.Answers.{Gives, answers};
 ghost use Rattle.tcl_text.specs.Indices.{part, from_zero};
 ghost use Rattle.tcl_text.specs.StringCommands as spec;
-ghost use Rattle.tcl_text.specs.StringSteps.{with_word};
+ghost use Rattle.tcl_text.specs.StringSteps.{reach, with_word};
 
 use crate::characters::{character_count, split_characters, trimmed};
 use crate::commands::answers::{
@@ -71,17 +71,37 @@ fn string_range(alloc: Global, words: &[Text]) -> Result<Text, Refusal>
 }
 
 /// The characters from the first index to the last, as far as they are there. It walks over them
-/// unless all are ASCII.
+/// unless all that have to be looked at are ASCII.
 fn characters_in(text: &str, first: Index, last: Index) -> &str
     ensures { result.now ≡ encode_utf8_all (part first last (chars text.now)) }
 {
-    if text.is_ascii() {
-        return bytes_in(text, first, last);
+    if let Some(front) = ascii_front(text, first, last) {
+        return bytes_in(front, first, last);
     }
     let count = character_count(text);
     let (front, _behind) = split_characters(text, last.through(count));
     let (_before, part) = split_characters(front, first.before(count));
     part
+}
+
+/// The front of a text that has the characters from the first index to the last, if it is ASCII: up
+/// to the last, where both count from the start, and else the whole.
+fn ascii_front(text: &str, first: Index, last: Index) -> Option<&str>
+    ensures ascii { IfSome result (λ front. IsAscii front.now) }
+    ensures part { IfSome result (λ front. part first last (chars front.now) ≡ part first last (chars text.now)) }
+{
+    let (front, _behind) = text.split_at_checked(reach(first, last, text.len()))?;
+    if front.is_ascii() { Some(front) } else { None }
+}
+
+/// How many of so many bytes are looked at.
+fn reach(first: Index, last: Index, count: usize) -> usize
+    ensures { result ≡ reach first last count }
+{
+    match (first, last) {
+        (Index::FromStart(_), Index::FromStart(_)) => last.through(count),
+        _ => count,
+    }
 }
 
 /// The same of a text whose characters are bytes.

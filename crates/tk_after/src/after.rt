@@ -1,10 +1,10 @@
 //! The command `after`, on the list of one application.
-ghost use Rattle.std.specs.Prelude.{◌≡◌, ℕ, ◌+◌, ◌^◌, ◌<◌, ◌≤◌, IfOk, OnOk, OnErr, Ok, Err, [], ◌∷◌, map};
+ghost use Rattle.std.specs.Prelude.{◌≡◌, ◌+◌, ◌<◌, ◌≤◌, IfOk, OnOk, OnErr, Ok, Err, [], ◌∷◌, map};
 ghost use Rattle.tcl_text.specs.Answers.{answers};
 ghost use Rattle.tcl_text.specs.Readings.{integer_of, list_form};
 ghost use Rattle.tcl_text.specs.StringCommands.{concat_words};
 ghost use Rattle.tk_after.specs.Timers.{own_of, entries_of, ids, LeavesOthers};
-ghost use Rattle.tk_after.specs.After.{after_words, add_words, add_script, cancel_words, cancel_text, info_words, kind_of, name_of, delay_of, delay_words};
+ghost use Rattle.tk_after.specs.After.{after_words, add_words, add_script, cancel_words, info_words, kind_of, name_of, delay_of, delay_words};
 ghost use Rattle.tcl_text.specs.Limits.{last_moment};
 
 use crate::answers::{name_of, no_event};

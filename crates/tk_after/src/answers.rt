@@ -1,7 +1,7 @@
 //! The texts of names, answers and errors.
-ghost use Rattle.std.specs.Prelude.{◌≡◌, [], ◌++◌, IfOk, Ok, Err, codes, string_bytes};
+ghost use Rattle.std.specs.Prelude.{◌≡◌, ◌++◌, IfOk, Ok, Err, codes};
 ghost use Rattle.std.specs.Str.{bytes_eq};
-ghost use Rattle.tcl_text.specs.Answers.{quoted, fails, wrong_args as wrong_args_of, bad_option as bad_option_of};
+ghost use Rattle.tcl_text.specs.Answers.{quoted, fails};
 ghost use Rattle.tk_after.specs.After.{name_of};
 
 use itoa::Buffer;

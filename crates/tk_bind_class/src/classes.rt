@@ -1,5 +1,5 @@
 //! An application's bindings of the widgets' classes.
-ghost use Rattle.std.specs.Prelude.{◌≡◌, IfOk, Ok, OnErr, OnOk, map};
+ghost use Rattle.std.specs.Prelude.{◌≡◌, Ok, OnErr, OnOk, map};
 ghost use Rattle.tk_bind_class.specs.ClassBindings.{row as row_of, with_class, with_class_bindings, with_row, with_rows, with_sequence, without_class, without_class_bindings};
 ghost use Rattle.tk_patterns.specs.Own.{LeavesOthers, own_of, without_tag};
 

@@ -1,6 +1,6 @@
 //! Answers, and words that are tested.
-ghost use Rattle.std.specs.Prelude.{◌≡◌, ◌++◌, [], IfOk, codes, map};
-ghost use Rattle.tcl_text.specs.Answers.{Gives, Refuses, bounded, fails, quoted};
+ghost use Rattle.std.specs.Prelude.{◌≡◌, [], IfOk};
+ghost use Rattle.tcl_text.specs.Answers.{Gives, Refuses, bounded, fails};
 ghost use Rattle.tk_bind_commands.specs.Words as words_of;
 ghost use Rattle.tk_sequences.specs.FaultTexts as sequence_faults;
 ghost use Rattle.tk_sequences.specs.Reading.{parsed};

@@ -1,5 +1,5 @@
 //! The command `bind`.
-ghost use Rattle.std.specs.Prelude.{◌≡◌, ◌++◌, ◌<◌, ◌≢◌, length, map, IfOk, IfErr, OnErr, Ok, codes};
+ghost use Rattle.std.specs.Prelude.{◌≡◌, ◌++◌, ◌<◌, map, IfOk, OnErr, Ok, codes};
 ghost use Rattle.std.specs.Option.{option_copied};
 ghost use Rattle.tcl_text.specs.Answers.{Gives, answers};
 ghost use Rattle.tk_bind_commands.specs.Bind as spec;
@@ -9,10 +9,10 @@ ghost use Rattle.tk_tree.specs.Own as windows_of;
 
 use crate::answers::{answered, nothing, sequence_in, test_tag};
 use std::alloc::{AllocError, Global};
-use tcl_text::answers::{Refusal, copy_answer, limit_reached, text_answer, wrong_args};
+use tcl_text::answers::{Refusal, copy_answer, text_answer, wrong_args};
 use tcl_text::items::list_answer;
 use tcl_text::message::Answer;
-use tcl_text::{Text, TextFault, TextList};
+use tcl_text::{Text, TextList};
 use tk_patterns::{BindFault, BindTable, Sequence};
 use tk_tree::Windows;
 

@@ -1,6 +1,6 @@
 //! The command `bindtags`.
-ghost use Rattle.std.specs.Prelude.{◌≡◌, IfOk, IfSome, IsSome, OnErr, Some};
-ghost use Rattle.tcl_text.specs.Answers.{Gives, items_in as items_of};
+ghost use Rattle.std.specs.Prelude.{◌≡◌, IfOk, IsSome, OnErr, Some};
+ghost use Rattle.tcl_text.specs.Answers.{Gives};
 ghost use Rattle.tk_bind_commands.specs.Bindtags as spec;
 ghost use Rattle.tk_tree.specs.Own.{LeavesOthers, at_path, own_of, window_at};
 

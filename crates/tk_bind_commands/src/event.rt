@@ -1,5 +1,5 @@
 //! The command `event` without `generate`.
-ghost use Rattle.std.specs.Prelude.{◌≡◌, ◌≢◌, IfOk, IfErr, OnErr, Ok, Err};
+ghost use Rattle.std.specs.Prelude.{◌≡◌, IfOk, OnErr, Ok, Err};
 ghost use Rattle.tcl_text.specs.Answers.{Gives};
 ghost use Rattle.tk_bind_commands.specs.Event as spec;
 ghost use Rattle.tk_bind_commands.specs.Words.{or_virtual_fault};

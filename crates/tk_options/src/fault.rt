@@ -1,12 +1,12 @@
 //! Why options are refused, and the texts that say so.
-ghost use Rattle.std.specs.Prelude.{◌≡◌, ◌++◌, IfOk, OnOk, string_bytes};
-ghost use Rattle.tcl_text.specs.Answers.{bounded, limit_text, quoted};
+ghost use Rattle.std.specs.Prelude.{◌≡◌, IfOk, string_bytes};
+ghost use Rattle.tcl_text.specs.Answers.{bounded};
 ghost use Rattle.tk_options.specs.FaultTexts.{bad_value_text, fault_text};
 
 use std::alloc::{AllocError, AllocFailed, Global};
 use std::fmt::{self, Debug, Formatter, Write};
-use tcl_text::message::{push_quoted, quoting};
-use tcl_text::{Text, TextFault};
+use tcl_text::Text;
+use tcl_text::message::{push_quoted, quoting, with_quoted};
 use thiserror::Error;
 
 /// Why options are not set or told, with the words at fault as they were given.
@@ -44,17 +44,15 @@ impl OptionFault {
         ensures { IfOk result (λ string. string_bytes string ≡ fault_text self.now) }
     {
         match self {
-            OptionFault::UnknownOption(word) => quoting(
+            OptionFault::UnknownOption(word) => with_quoted(
                 alloc,
                 "unknown option ",
                 word.as_str(),
-                "",
             ),
-            OptionFault::AmbiguousOption(word) => quoting(
+            OptionFault::AmbiguousOption(word) => with_quoted(
                 alloc,
                 "ambiguous option ",
                 word.as_str(),
-                "",
             ),
             OptionFault::BadValue { value, option } => bad_value(alloc, value, option),
             OptionFault::NoValue(word) => quoting(alloc, "value for ", word.as_str(), " missing"),

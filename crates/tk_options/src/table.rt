@@ -1,8 +1,8 @@
-ghost use Rattle.std.specs.Prelude.{◌≡◌, ◌≢◌, ◌≤◌, Any, [], ◌++◌, ◌∷◌, IfOk, IfErr, IfSome, OnOk, OnErr, Ok, Err, Some, None, find, filter, option_map, position, map};
+ghost use Rattle.std.specs.Prelude.{◌≡◌, ◌≢◌, ◌≤◌, Any, [], ◌∷◌, IfOk, IfErr, OnOk, OnErr, Ok, Err, Some, None, find, filter, position, map};
 ghost use Rattle.std.specs.Option.{option_copied};
 ghost use Rattle.tk_options.specs.Rows.{options_of, row as row_of};
-ghost use Rattle.tk_options.specs.Names.{name_of, long_name};
-ghost use Rattle.tk_options.specs.Options.{is_named, is_begun, only, or_only, meant, tested, or_bad, settings, with_value, with_settings, configured, value_meant, value_of, amount_of, description, IsTooLong};
+ghost use Rattle.tk_options.specs.Names.{long_name};
+ghost use Rattle.tk_options.specs.Options.{is_named, is_begun, only, meant, tested, settings, with_value, with_settings, configured, value_meant, value_of, amount_of, description, IsTooLong};
 ghost use Rattle.tk_options.specs.Entries.{with_option};
 
 use crate::fault::OptionFault;

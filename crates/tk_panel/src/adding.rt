@@ -1,5 +1,5 @@
 //! Applications that are added.
-ghost use Rattle.std.specs.Prelude.{◌≡◌, IfOk, OnErr, OnOk, codes};
+ghost use Rattle.std.specs.Prelude.{◌≡◌, OnErr, OnOk, codes};
 ghost use Rattle.tk_panel.specs.Fresh.{fresh, nothing};
 ghost use Rattle.tk_panel.specs.Panel.{LeavesOthers, panel_of};
 ghost use Rattle.tk_base.specs.declared.kind.Kind.TheVariants.{Frame};

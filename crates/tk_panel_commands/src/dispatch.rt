@@ -1,5 +1,5 @@
 //! Events that commands dispatch at once, or queue.
-ghost use Rattle.std.specs.Prelude.{◌≡◌, IfOk, IfSome, codes};
+ghost use Rattle.std.specs.Prelude.{◌≡◌, IfOk, codes};
 ghost use Rattle.tk_panel.specs.Panel.{LeavesOthers, panel_of};
 ghost use Rattle.tk_panel_commands.specs.Dispatch as spec;
 ghost use Rattle.tk_panel_commands.specs.Outcomes.{told};

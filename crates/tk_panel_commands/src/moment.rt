@@ -1,6 +1,5 @@
 //! The commands `puts`, `after`, `clock`, `update` and `destroy`.
 ghost use Rattle.std.specs.Prelude.{◌≡◌, IfOk};
-ghost use Rattle.tcl_text.specs.Answers.{bad_option as bad_option_of, wrong_args as wrong_args_of};
 ghost use Rattle.tk_panel.specs.Panel.{LeavesOthers, panel_of};
 ghost use Rattle.tk_panel_commands.specs.Moment as spec;
 ghost use Rattle.tk_panel_commands.specs.Outcomes.{told};

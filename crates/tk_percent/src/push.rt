@@ -1,7 +1,6 @@
 //! Adds to a text what a field is.
 ghost use Rattle.std.specs.Prelude.{◌≡◌, ◌≢◌, ◌<◌, ◌++◌, length, IfOk, IfErr, OnOk, option_map};
 ghost use Rattle.std.specs.Fmt.{decimal, signed_decimal};
-ghost use Rattle.tcl_text.specs.ListForm.{Joins};
 ghost use Rattle.tk_keys.specs.Names.{name_of};
 ghost use Rattle.tk_percent.specs.Percent.{element, key_text, number_shown, place_shown, text_shown};
 ghost use Rattle.tcl_text.specs.Limits.{most_bytes};

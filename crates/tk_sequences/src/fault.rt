@@ -1,12 +1,12 @@
 //! Why a text is no event sequence, and the texts that say so.
-ghost use Rattle.std.specs.Prelude.{◌≡◌, ◌++◌, IfOk, OnOk, string_bytes};
-ghost use Rattle.tcl_text.specs.Answers.{bounded, limit_text, quoted};
+ghost use Rattle.std.specs.Prelude.{◌≡◌, IfOk, string_bytes};
+ghost use Rattle.tcl_text.specs.Answers.{bounded};
 ghost use Rattle.tk_sequences.specs.FaultTexts.{fault_number, fault_text};
 
 use std::alloc::{AllocError, AllocFailed, Global};
 use std::fmt::{self, Debug, Formatter, Write};
+use tcl_text::Text;
 use tcl_text::message::with_quoted;
-use tcl_text::{Text, TextFault};
 use thiserror::Error;
 
 /// Why a text is no event sequence, with what its message quotes.

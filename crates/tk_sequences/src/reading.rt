@@ -1,8 +1,8 @@
 //! Reads sequences.
-ghost use Rattle.std.specs.Prelude.{◌≡◌, ◌≢◌, ◌<◌, ◌≤◌, ℕ, [], ◌∷◌, length, drop, slice_index, false, IfOk, IfErr, IfSome, MatchOption, Ok, Err, Some, None};
+ghost use Rattle.std.specs.Prelude.{◌≡◌, ◌≢◌, ◌<◌, ◌≤◌, length, drop, slice_index, false, IfOk, IfErr, Ok, Err, Some, None};
 ghost use Rattle.std.specs.Str.{IsCharBoundary};
 ghost use Rattle.tcl_text.specs.Backslash.{is_white};
-ghost use Rattle.tk_sequences.specs.Reading.{prefix_named, button_named, key_of_one, key_meant, detail_of, key_or_fault, detail_behind, may_repeat, typed, button_or_key, type_of_detail, alone, untyped, headed, pattern_behind, pattern_of, plain_pattern, patterns_from, Between, CutsOff, IsRefused, fields, is_single};
+ghost use Rattle.tk_sequences.specs.Reading.{prefix_named, button_named, key_of_one, key_meant, detail_of, key_or_fault, detail_behind, typed, button_or_key, type_of_detail, untyped, headed, pattern_of, plain_pattern, patterns_from, Between, CutsOff, IsRefused, fields, is_single};
 ghost use Rattle.tk_sequences.specs.Patterns.{count_of};
 
 use crate::detail::Detail;

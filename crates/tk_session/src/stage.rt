@@ -13,7 +13,7 @@ use crate::screen::Screen;
 use crate::script::ScriptText;
 use crate::session::{AliasLine, AppBlock, EventLine, Head};
 use std::alloc::Global;
-use tcl_text::{Text, TextFault};
+use tcl_text::Text;
 use tk_base::Rect;
 use tk_services::Service;
 

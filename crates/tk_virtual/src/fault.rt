@@ -1,12 +1,12 @@
 //! Why pairs of a name and a sequence are refused, and the texts that say so.
-ghost use Rattle.std.specs.Prelude.{◌≡◌, ◌++◌, IfOk, OnOk, string_bytes};
-ghost use Rattle.tcl_text.specs.Answers.{bounded, limit_text, quoted};
+ghost use Rattle.std.specs.Prelude.{◌≡◌, IfOk, string_bytes};
+ghost use Rattle.tcl_text.specs.Answers.{bounded};
 ghost use Rattle.tk_virtual.specs.FaultTexts.{fault_number, fault_text};
 
 use std::alloc::{AllocError, AllocFailed, Global};
 use std::fmt::{self, Debug, Formatter, Write};
-use tcl_text::message::quoting;
-use tcl_text::{Text, TextFault};
+use tcl_text::Text;
+use tcl_text::message::{quoting, with_quoted};
 use thiserror::Error;
 use tk_sequences::SequenceFault;
 
@@ -68,17 +68,15 @@ impl VirtualFault {
                 name.as_str(),
                 " is badly formed",
             ),
-            VirtualFault::BadSequence(text) => quoting(
+            VirtualFault::BadSequence(text) => with_quoted(
                 alloc,
                 "bad event sequence ",
                 text.as_str(),
-                "",
             ),
-            VirtualFault::BadKeysym(word) => quoting(
+            VirtualFault::BadKeysym(word) => with_quoted(
                 alloc,
                 "bad event type or keysym ",
                 word.as_str(),
-                "",
             ),
             VirtualFault::VirtualInVirtual => String::from_str(
                 alloc,

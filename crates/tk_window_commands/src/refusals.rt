@@ -1,5 +1,5 @@
 //! The errors of commands on windows.
-ghost use Rattle.std.specs.Prelude.{◌≡◌, ◌++◌, IfOk, OnOk, codes, string_bytes};
+ghost use Rattle.std.specs.Prelude.{◌≡◌, ◌++◌, codes};
 ghost use Rattle.tcl_text.specs.Answers.{Gives, Refuses, bounded, quoted};
 ghost use Rattle.tk_window_commands.specs.Answers as spec;
 ghost use Rattle.tk_window_commands.specs.Create.{name_in, refusal_text};

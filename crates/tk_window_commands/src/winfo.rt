@@ -1,6 +1,5 @@
 //! `winfo`, by its words.
-ghost use Rattle.std.specs.Prelude.{◌≡◌, ◌++◌, ◌∷◌, [], IfOk, codes, string_bytes};
-ghost use Rattle.std.specs.Option.{option_copied};
+ghost use Rattle.std.specs.Prelude.{◌≡◌, IfOk};
 ghost use Rattle.tcl_text.specs.Answers.{Gives};
 ghost use Rattle.tk_screen.specs.Own.{own_of};
 ghost use Rattle.tk_window_commands.specs.Winfo as spec;

@@ -1,5 +1,5 @@
 //! What the steps of a command answer, and the texts of their errors.
-ghost use Rattle.std.specs.Prelude.{◌≡◌, ◌++◌, IfOk, string_bytes};
+ghost use Rattle.std.specs.Prelude.{◌≡◌, ◌++◌, string_bytes};
 ghost use Rattle.std.specs.Fmt.{decimal};
 ghost use Rattle.tcl_text.specs.Answers.{Gives, Refuses, answers, bounded, truth as truth_of, place as place_of, limit_text, quoted, wrong_args as wrong_args_of, bad_option as bad_option_of, bad_index as bad_index_of, expected_integer};
 

@@ -1,10 +1,10 @@
 //! The commands of string(n), and concat(n).
-ghost use Rattle.std.specs.Prelude.{◌≡◌, min, replicate, IfOk, IfSome, OnOk, string_bytes, length, ◌≤◌, ◌*◌};
+ghost use Rattle.std.specs.Prelude.{◌≡◌, min, replicate, IfOk, IfSome, OnOk, string_bytes, length};
 ghost use Rattle.std.specs.List.{concat};
 ghost use Rattle.std.specs.Str.{chars, encode_utf8_all, IsAscii};
 ghost use Rattle.memchr.specs.Find.{FindsNeedle};
 ghost use Rattle.tcl_text.specs.Answers.{Gives, answers};
-ghost use Rattle.tcl_text.specs.Indices.{part, from_zero};
+ghost use Rattle.tcl_text.specs.Indices.{part};
 ghost use Rattle.tcl_text.specs.StringCommands as spec;
 ghost use Rattle.tcl_text.specs.StringSteps.{reach, with_word};
 

@@ -84,19 +84,12 @@ fn told(alloc: Global, answer: &Answer) -> Result<String> {
     }
 }
 
-impl Frames {
-    fn new(alloc: Global) -> Result<Frames> {
+impl Fixture for Frames {
+    fn new(alloc: Global, _table: &str) -> Result<Frames> {
         let mut scopes = Scopes::new(alloc)?;
         scopes.push_frame()?;
         scopes.push_frame()?;
         Ok(Frames { scopes })
-    }
-}
-
-impl Fixture for Frames {
-    fn begin(&mut self, alloc: Global) -> Result<()> {
-        *self = Frames::new(alloc)?;
-        Ok(())
     }
 
     fn answer(&mut self, alloc: Global, question: &str) -> Result<String> {
@@ -110,5 +103,5 @@ impl Fixture for Frames {
 }
 
 fn main(rt: HostRuntime) -> Result<()> {
-    ask_tables(&rt, Frames::new(rt.alloc())?)
+    ask_tables::<Frames, _>(&rt)
 }

@@ -101,6 +101,10 @@ fn told(alloc: Global, source: &str, by_text: bool) -> Result<String> {
 struct Evaluator;
 
 impl Fixture for Evaluator {
+    fn new(_alloc: Global, _table: &str) -> Result<Evaluator> {
+        Ok(Evaluator)
+    }
+
     fn answer(&mut self, alloc: Global, question: &str) -> Result<String> {
         match first_word(question) {
             ("value", source) => told(alloc, source, false),
@@ -111,5 +115,5 @@ impl Fixture for Evaluator {
 }
 
 fn main(rt: HostRuntime) -> Result<()> {
-    ask_tables(&rt, Evaluator)
+    ask_tables::<Evaluator, _>(&rt)
 }

@@ -43,6 +43,10 @@ fn ending_of(alloc: Global, script: &str, budget: u64) -> Result<String> {
 struct Scripts;
 
 impl Fixture for Scripts {
+    fn new(_alloc: Global, _table: &str) -> Result<Scripts> {
+        Ok(Scripts)
+    }
+
     fn answer(&mut self, alloc: Global, question: &str) -> Result<String> {
         let (budget, script) = first_word(question);
         ending_of(alloc, script, number(budget)?)
@@ -51,5 +55,5 @@ impl Fixture for Scripts {
 
 fn main(rt: HostRuntime) -> Result<()> {
     slices::show(&rt)?;
-    ask_tables(&rt, Scripts)
+    ask_tables::<Scripts, _>(&rt)
 }

@@ -1,6 +1,5 @@
-//! What no contract says: worked sessions, and readers and writers that fail.
+//! What no contract says: readers and writers that take and give few bytes, fail, or never end.
 
 mod fakes;
 mod plays;
-mod reading;
 mod streams;

@@ -21,6 +21,10 @@ use tcl_words::parse;
 struct Scripts;
 
 impl Fixture for Scripts {
+    fn new(_alloc: Global, _table: &str) -> Result<Scripts> {
+        Ok(Scripts)
+    }
+
     fn answer(&mut self, alloc: Global, question: &str) -> Result<String> {
         match first_word(question) {
             ("commands", script) => commands_told(alloc, script),
@@ -47,6 +51,6 @@ fn main(rt: HostRuntime) -> Result<()> {
         [mode, count, path] if mode.as_str() == "repeat" => {
             repeat(&rt, count.as_str(), path.as_str())
         }
-        _ => ask_tables(&rt, Scripts),
+        _ => ask_tables::<Scripts, _>(&rt),
     }
 }

@@ -6,10 +6,9 @@ use std::{env, fs};
 
 /// What the questions of a table are put to.
 pub trait Fixture: Drop {
-    /// Begins anew, as if nothing had been put to it. One that keeps nothing has nothing to forget.
-    fn begin(&mut self, _alloc: Global) -> Result<()> {
-        Ok(())
-    }
+    /// What they are put to at the head of a table of this name, and anew at each of its empty lines; an error where no table of the program has
+    /// the name.
+    fn new(alloc: Global, table: &str) -> Result<Self>;
 
     /// What a question is answered, with its mark; an error where it is no question.
     fn answer(&mut self, alloc: Global, question: &str) -> Result<String>;
@@ -25,17 +24,19 @@ struct Asked {
 /// A table under way.
 #[derive(Drop)]
 struct Asking<'a, F: Fixture> {
-    fixture: &'a mut F,
+    /// The table's name.
+    name: &'a str,
+    fixture: F,
     /// The question of the line above, where that was one.
     last: Option<Asked>,
     answers: u32,
 }
 
 impl<'a, F: Fixture> Asking<'a, F> {
-    fn new(alloc: Global, fixture: &'a mut F) -> Result<Asking<'a, F>> {
-        fixture.begin(alloc)?;
+    fn new(alloc: Global, name: &'a str) -> Result<Asking<'a, F>> {
         Ok(Asking {
-            fixture,
+            name,
+            fixture: F::new(alloc, name)?,
             last: None,
             answers: 0,
         })
@@ -54,7 +55,7 @@ impl<'a, F: Fixture> Asking<'a, F> {
     fn read(&mut self, alloc: Global, line: &str) -> Result<Option<Asked>> {
         let last = self.last.take();
         if line.is_empty() {
-            self.fixture.begin(alloc)?;
+            self.fixture = F::new(alloc, self.name)?;
         } else if let Some(question) = line.strip_prefix('?') {
             self.last = Some(self.ask(alloc, question.strip_prefix(' ').unwrap_or(question))?);
         } else if !line.starts_with('#') {
@@ -73,12 +74,11 @@ impl<'a, F: Fixture> Asking<'a, F> {
 /// Asks a table's questions, and prints each answer that isn't the one in the table, and how many there are. Whether none differs.
 pub fn ask_table<F: Fixture, R: Print + AllocGlobal>(
     rt: &R,
-    fixture: &mut F,
     name: &str,
     table: &str,
 ) -> Result<bool> {
     let alloc = rt.alloc();
-    let mut asking = Asking::new(alloc, fixture)?;
+    let mut asking = Asking::<F>::new(alloc, name)?;
     let mut wrong = 0u32;
     for (above, line) in table.lines().enumerate() {
         let number = above.saturating_add(1);
@@ -107,16 +107,12 @@ pub fn text_in<R: Files + AllocGlobal>(rt: &R, path: &str) -> Result<String> {
 
 /// Asks the tables that the program's arguments name: of each it prints what the fixture answers otherwise, and a line that counts. It fails
 /// where an answer differs.
-pub fn ask_tables<F: Fixture, R: Env + Files + Print + AllocGlobal>(
-    rt: &R,
-    fixture: F,
-) -> Result<()> {
-    let mut fixture = fixture;
+pub fn ask_tables<F: Fixture, R: Env + Files + Print + AllocGlobal>(rt: &R) -> Result<()> {
     let mut differs = false;
     for name in arguments(rt)?.as_slice() {
         let path = format!(in rt.alloc(); "{name}.table")?;
         let table = text_in(rt, path.as_str())?;
-        let agrees = ask_table(rt, &mut fixture, name.as_str(), table.as_str()).context(
+        let agrees = ask_table::<F, R>(rt, name.as_str(), table.as_str()).context(
             format_args!("table {name}"),
         )?;
         differs = differs || !agrees;

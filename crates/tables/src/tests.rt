@@ -8,18 +8,11 @@ struct Echo {
     before: String,
 }
 
-impl Echo {
-    fn new(alloc: Global) -> Result<Echo> {
+impl Fixture for Echo {
+    fn new(alloc: Global, _table: &str) -> Result<Echo> {
         Ok(Echo {
             before: String::from_str(alloc, "=")?,
         })
-    }
-}
-
-impl Fixture for Echo {
-    fn begin(&mut self, alloc: Global) -> Result<()> {
-        *self = Echo::new(alloc)?;
-        Ok(())
     }
 
     fn answer(&mut self, alloc: Global, question: &str) -> Result<String> {
@@ -34,8 +27,7 @@ impl Fixture for Echo {
 
 /// Whether each answer of a table is what the fixture gives.
 fn agrees<R: Print + AllocGlobal>(rt: &R, name: &str, table: &str) -> Result<bool> {
-    let mut echo = Echo::new(rt.alloc())?;
-    ask_table(rt, &mut echo, name, table)
+    ask_table::<Echo, R>(rt, name, table)
 }
 
 #[test]

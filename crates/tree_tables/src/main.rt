@@ -26,20 +26,13 @@ struct Screen {
     layouts: Layouts,
 }
 
-impl Screen {
-    fn new(alloc: Global) -> Result<Screen> {
+impl Fixture for Screen {
+    fn new(alloc: Global, _table: &str) -> Result<Screen> {
         Ok(Screen {
             trees: Trees::new(alloc),
             packings: Packings::new(alloc),
             layouts: Layouts::new(alloc),
         })
-    }
-}
-
-impl Fixture for Screen {
-    fn begin(&mut self, alloc: Global) -> Result<()> {
-        *self = Screen::new(alloc)?;
-        Ok(())
     }
 
     fn answer(&mut self, alloc: Global, question: &str) -> Result<String> {
@@ -61,7 +54,7 @@ impl Fixture for Screen {
 fn main(rt: HostRuntime) -> Result<()> {
     match arguments(&rt)?.as_slice() {
         [word] if word.as_str() == "bench" => bench::run(&rt),
-        _ => ask_tables(&rt, Screen::new(rt.alloc())?),
+        _ => ask_tables::<Screen, _>(&rt),
     }
 }
 

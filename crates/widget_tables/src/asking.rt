@@ -143,9 +143,8 @@ impl Session {
 }
 
 impl Fixture for Session {
-    fn begin(&mut self, alloc: Global) -> Result<()> {
-        *self = Session::of(alloc, "frame")?;
-        Ok(())
+    fn new(alloc: Global, _table: &str) -> Result<Session> {
+        Session::of(alloc, "frame")
     }
 
     fn answer(&mut self, alloc: Global, question: &str) -> Result<String> {

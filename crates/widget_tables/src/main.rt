@@ -23,5 +23,5 @@ use asking::Session;
 use tables::ask_tables;
 
 fn main(rt: HostRuntime) -> Result<()> {
-    ask_tables(&rt, Session::of(rt.alloc(), "frame")?)
+    ask_tables::<Session, _>(&rt)
 }

@@ -1,14 +1,12 @@
-//! Leads the lines of sessions to applications, and tells of each answer that isn't the one in a table (`tables` says what stands in one).
+//! The questions of `routes`: who gets the lines of sessions.
 //!
 //! A question `new X Y W H X Y W H ..` begins with applications that have these rectangles, by slot from 0 on. A question `MOMENT LINE` is a line
 //! of a session, with slots in place of names: `move X Y`, `press B`, `release B`, `keydown KEY`, `keyup KEY`, `focus SLOT`, `focus -`,
 //! `rect SLOT X Y W H`. It is answered `=` and the events, each as `SLOT MOMENT STATE KIND ..` with a comma between two; or `!` and the number of the
 //! fault.
-#![tactic(auto)]
-
 use anyhow::{Result, bail};
 use std::alloc::Global;
-use tables::{Fixture, ask_tables, number, result_of, words_of};
+use tables::{number, result_of, words_of};
 use tk_route::{Delivery, HostLine, Keysym, LocalKind, Rect, Routed, Router};
 
 fn key_of(word: &str) -> Result<Keysym> {
@@ -137,31 +135,21 @@ fn new_answer(alloc: Global, router: &mut Option<Router>, words: &[&str]) -> Res
 
 /// Who gets the lines, once there are applications.
 #[derive(Drop)]
-struct Host {
+pub struct Host {
     router: Option<Router>,
 }
 
 impl Host {
-    fn new(_alloc: Global) -> Result<Host> {
-        Ok(Host { router: None })
-    }
-}
-
-impl Fixture for Host {
-    fn begin(&mut self, alloc: Global) -> Result<()> {
-        *self = Host::new(alloc)?;
-        Ok(())
+    pub fn new() -> Host {
+        Host { router: None }
     }
 
-    fn answer(&mut self, alloc: Global, question: &str) -> Result<String> {
+    /// What a question is answered.
+    pub fn answer(&mut self, alloc: Global, question: &str) -> Result<String> {
         let words = words_of(alloc, question, ' ')?;
         match words.as_slice() {
             ["new", rects @ ..] => new_answer(alloc, &mut self.router, rects),
             words => line_answer(alloc, &mut self.router, words),
         }
     }
-}
-
-fn main(rt: HostRuntime) -> Result<()> {
-    ask_tables(&rt, Host::new(rt.alloc())?)
 }

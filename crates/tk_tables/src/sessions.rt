@@ -1,13 +1,12 @@
-//! Reads sessions, and tells of each answer that isn't the one in a table (`tables` says what stands in one).
+//! The questions of `reading`: what sessions say, and what is wrong with those that are none.
 //!
-//! A question `session TEXT` gives a session; in its text `\xHH` stands for a byte that is no character, and for the backslash. Those behind it ask
+//! A question `session TEXT` gives a session; in its text `\xHH` stands for a byte that is no character, and for the backslash,
+//! and `\*N*TEXT` for the text up to the next backslash N times. Those behind it ask
 //! the reader: `says` what the session says; `cut N` what its first N bytes are; and `byte HH N` what it is with this byte in its place N. Those are
 //! answered `=` where it is a session, or `!NUMBER:LINE` of the fault.
-#![tactic(auto)]
-
 use anyhow::{Result, bail};
 use std::alloc::Global;
-use tables::{Fixture, ask_tables, number, result_of, words_of};
+use tables::{number, repeated, result_of, words_of};
 use tk_session::{
     AliasLine, AppBlock, EventLine, HostLine, ServiceKind, Session, SessionFault, read_session,
 };
@@ -34,6 +33,7 @@ fn unescaped(alloc: Global, text: &str) -> Result<Vec<u8>> {
                 bytes.push(byte_of(*high, *low)?)?;
                 bytes.extend_from_slice(plain)?;
             }
+            [b'*', ..] => bytes.extend_from_slice(repeated(alloc, piece)?.as_bytes())?,
             _ => bail!("a backslash before something else"),
         }
     }
@@ -162,25 +162,19 @@ fn changed_verdict(alloc: Global, bytes: &[u8], byte: &str, place: &str) -> Resu
 
 /// The session that was given last.
 #[derive(Drop)]
-struct Given {
+pub struct Given {
     bytes: Vec<u8>,
 }
 
 impl Given {
-    fn new(alloc: Global) -> Result<Given> {
-        Ok(Given {
+    pub fn new(alloc: Global) -> Given {
+        Given {
             bytes: Vec::new(alloc),
-        })
-    }
-}
-
-impl Fixture for Given {
-    fn begin(&mut self, alloc: Global) -> Result<()> {
-        *self = Given::new(alloc)?;
-        Ok(())
+        }
     }
 
-    fn answer(&mut self, alloc: Global, question: &str) -> Result<String> {
+    /// What a question is answered.
+    pub fn answer(&mut self, alloc: Global, question: &str) -> Result<String> {
         if let Some(text) = question.strip_prefix("session ") {
             self.bytes = unescaped(alloc, text)?;
             return result_of(alloc, "");
@@ -193,8 +187,4 @@ impl Fixture for Given {
             _ => bail!("no such question"),
         }
     }
-}
-
-fn main(rt: HostRuntime) -> Result<()> {
-    ask_tables(&rt, Given::new(rt.alloc())?)
 }

@@ -1,17 +1,13 @@
-//! Calls aliases, and tells of each reply that isn't the one in a table (`tables` says what stands in one).
+//! The questions of `services`: what aliases reply.
 //!
 //! A question `KIND LIST` sets an alias up, with the configuration that is the first item of the list. `call LIST` calls it with these arguments,
 //! and is answered what it replies: `=` and a result, or `!` and the text of an error.
 //!
 //! Beside the program's services it calls aliases of its own, of the kind `count`: those answer how many arguments they are given.
-#![tactic(auto)]
-
-mod counting;
-
+use crate::counting::Counting;
 use anyhow::{Result, bail};
-use counting::Counting;
 use std::alloc::Global;
-use tables::{Fixture, ask_tables, error_of, first_word, result_of};
+use tables::{error_of, first_word, result_of};
 use tcl_text::{Text, TextList};
 use tk_alias::{Alias, AliasMeaning, AliasReply};
 use tk_services::{Service, ServiceKind};
@@ -82,23 +78,17 @@ fn call(alloc: Global, called: &Option<Called>, list: &str) -> Result<String> {
 }
 
 /// The alias that was set up last.
-struct Caller {
+pub struct Caller {
     called: Option<Called>,
 }
 
 impl Caller {
-    fn new(_alloc: Global) -> Result<Caller> {
-        Ok(Caller { called: None })
-    }
-}
-
-impl Fixture for Caller {
-    fn begin(&mut self, alloc: Global) -> Result<()> {
-        *self = Caller::new(alloc)?;
-        Ok(())
+    pub fn new() -> Caller {
+        Caller { called: None }
     }
 
-    fn answer(&mut self, alloc: Global, question: &str) -> Result<String> {
+    /// What a question is answered.
+    pub fn answer(&mut self, alloc: Global, question: &str) -> Result<String> {
         match first_word(question) {
             ("call", list) => call(alloc, &self.called, list),
             (kind, list) => {
@@ -107,10 +97,6 @@ impl Fixture for Caller {
             }
         }
     }
-}
-
-fn main(rt: HostRuntime) -> Result<()> {
-    ask_tables(&rt, Caller::new(rt.alloc())?)
 }
 
 /// By hand: a proof sees one call where it is dropped, and not its parts.

@@ -1,7 +1,16 @@
-use crate::read::{event_of, sequence_of, text_of};
+//! The questions of `bindings`: which binding wins.
+//!
+//! The questions are `bind OWNER TAG SEQUENCE SCRIPT`, `unbind OWNER TAG SEQUENCE`, `unbindall OWNER TAG`, `script OWNER TAG SEQUENCE` and
+//! `sequences OWNER TAG`; `virtual NAME SEQUENCE`, which adds a sequence to a virtual event; `push EVENT`; `matches SEQUENCE EVENT`;
+//! `winner OWNER TAG EVENT`. An event is `TYPE WINDOW MOMENT STATE DETAIL X Y`, the detail a key or a button or `-`, the place from the application's
+//! corner; or `<<NAME>> WINDOW`. Each is answered `=` and what it tells, `-` where it tells that there is none.
+pub mod bench;
+mod read;
+
+use crate::bindings::read::{event_of, sequence_of, text_of};
 use anyhow::{Result, bail};
 use std::alloc::Global;
-use tables::{Fixture, number, result_of, words_of};
+use tables::{number, result_of, words_of};
 use tcl_text::Text;
 use tk_patterns::{BindFault, BindTable, History, VirtualPairs};
 
@@ -124,13 +133,9 @@ impl State {
     }
 }
 
-impl Fixture for State {
-    fn begin(&mut self, alloc: Global) -> Result<()> {
-        *self = State::new(alloc)?;
-        Ok(())
-    }
-
-    fn answer(&mut self, alloc: Global, question: &str) -> Result<String> {
+impl State {
+    /// What a question is answered.
+    pub fn answer(&mut self, alloc: Global, question: &str) -> Result<String> {
         let words = words_of(alloc, question, ' ')?;
         match words.as_slice() {
             ["virtual", name, sequence] => self.add_virtual(alloc, name, sequence),

@@ -13,7 +13,7 @@ pub struct Counting {
 }
 
 impl AliasMeaning for Counting {
-    ghost use Rattle.alias_tables.specs.Counting.{counted};
+    ghost use Rattle.tk_tables.specs.Counting.{counted};
 
     ghost answer = { λ counting args. counted counting.unit args };
 

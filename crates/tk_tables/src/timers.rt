@@ -1,18 +1,16 @@
-//! Calls what keeps the timers, and tells of each answer that isn't the one in a table (`tables` says what stands in one).
+//! The questions of `timers`: calls of what keeps timers.
 //!
 //! A question `MOMENT OWNER CALL` is a call for an application, by its number, at a moment: `after|WORD|..` is the command, and `count`, `full`,
 //! `next`, `round`, `take`, `due|ID`, `cancel|ID` are the calls of those names; `first` is when the first timer of all is due, and `fill` lists as
 //! many timers as there may be. It is answered `=` and a text, or `!` and an error.
-#![tactic(auto)]
-
 use anyhow::{Result, bail};
 use std::alloc::Global;
-use tables::{Fixture, ask_tables, error_of, first_word, number, result_of, words_of};
+use tables::{error_of, first_word, number, result_of, words_of};
 use tcl_text::{Text, TextList};
 use tk_after::{Timers, after_command};
 
 /// The timers of all applications.
-struct Kept {
+pub struct Kept {
     timers: Timers,
 }
 
@@ -130,20 +128,14 @@ fn answer_of(
 }
 
 impl Kept {
-    fn new(alloc: Global) -> Result<Kept> {
-        Ok(Kept {
+    pub fn new(alloc: Global) -> Kept {
+        Kept {
             timers: Timers::new(alloc),
-        })
-    }
-}
-
-impl Fixture for Kept {
-    fn begin(&mut self, alloc: Global) -> Result<()> {
-        *self = Kept::new(alloc)?;
-        Ok(())
+        }
     }
 
-    fn answer(&mut self, alloc: Global, question: &str) -> Result<String> {
+    /// What a question is answered.
+    pub fn answer(&mut self, alloc: Global, question: &str) -> Result<String> {
         let (moment, rest) = first_word(question);
         let (owner, call) = first_word(rest);
         let words = words_of(alloc, call, '|')?;
@@ -155,10 +147,6 @@ impl Fixture for Kept {
             words.as_slice(),
         )
     }
-}
-
-fn main(rt: HostRuntime) -> Result<()> {
-    ask_tables(&rt, Kept::new(rt.alloc())?)
 }
 
 /// By hand: a proof sees one call where it is dropped, and not its parts.

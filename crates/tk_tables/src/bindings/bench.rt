@@ -1,5 +1,5 @@
 //! How long an event takes as bindings grow.
-use crate::read::{event_of, sequence_of, text_of};
+use crate::bindings::read::{event_of, sequence_of, text_of};
 use anyhow::{Result, bail};
 use std::alloc::Global;
 use std::time::{Clock, Instant};

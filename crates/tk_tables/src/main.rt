@@ -1,0 +1,65 @@
+//! Asks the parts of Tk, each by itself, for the answers in tables, and tells of each that isn't the one in its table (`tables` says what stands in
+//! one). A table's name says what its questions are put to; the modules say what they mean.
+//!
+//! With `bench` as its argument it times events instead.
+#![tactic(auto)]
+
+mod bindings;
+mod counting;
+mod routes;
+mod sequences;
+mod services;
+mod sessions;
+mod timers;
+
+use crate::bindings::{State, bench};
+use crate::routes::Host;
+use crate::services::Caller;
+use crate::sessions::Given;
+use crate::timers::Kept;
+use anyhow::{Result, bail};
+use std::alloc::Global;
+use tables::{Fixture, arguments, ask_tables};
+
+/// What the questions of a table are put to.
+#[derive(Drop)]
+enum Part {
+    Bindings(State),
+    Reading(Given),
+    Routes(Host),
+    Sequences,
+    Services(Caller),
+    Timers(Kept),
+}
+
+impl Fixture for Part {
+    fn new(alloc: Global, table: &str) -> Result<Part> {
+        match table {
+            "bindings" => Ok(Part::Bindings(State::new(alloc)?)),
+            "reading" => Ok(Part::Reading(Given::new(alloc))),
+            "routes" => Ok(Part::Routes(Host::new())),
+            "sequences" => Ok(Part::Sequences),
+            "services" => Ok(Part::Services(Caller::new())),
+            "timers" => Ok(Part::Timers(Kept::new(alloc))),
+            _ => bail!("no such table"),
+        }
+    }
+
+    fn answer(&mut self, alloc: Global, question: &str) -> Result<String> {
+        match self {
+            Part::Bindings(state) => state.answer(alloc, question),
+            Part::Reading(given) => given.answer(alloc, question),
+            Part::Routes(host) => host.answer(alloc, question),
+            Part::Sequences => sequences::answer(alloc, question),
+            Part::Services(caller) => caller.answer(alloc, question),
+            Part::Timers(kept) => kept.answer(alloc, question),
+        }
+    }
+}
+
+fn main(rt: HostRuntime) -> Result<()> {
+    match arguments(&rt)?.as_slice() {
+        [word] if word.as_str() == "bench" => bench::run(&rt),
+        _ => ask_tables::<Part, _>(&rt),
+    }
+}

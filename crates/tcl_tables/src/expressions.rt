@@ -1,15 +1,13 @@
-//! Evaluates expressions, and tells of each whose value isn't the one in a table (`tables` says what stands in one).
+//! The questions of `expressions`: what expressions come to.
 //!
 //! A question `value EXPRESSION` is answered `=` and the value, or `!` and the number of a fault; `text EXPRESSION` likewise, but with the text of a
 //! fault. The value of the variable `NAME` is NAME, that of an element its index, and that of a script `list WORD` the rest of its text.
-#![tactic(auto)]
-
 ghost use Rattle.std.specs.Prelude.{◌≡◌, is_some, IfOk};
 ghost use Rattle.tcl_expr.specs.Resuming.{is_waiting, state_after};
 
 use anyhow::{Result, bail};
 use std::alloc::Global;
-use tables::{Fixture, ask_tables, error_of, first_word, result_of};
+use tables::{error_of, first_word, result_of};
 use tcl_expr::{Ask, Eval, EvalFault, ExprFault, parse_expr};
 use tcl_text::Text;
 
@@ -96,24 +94,11 @@ fn told(alloc: Global, source: &str, by_text: bool) -> Result<String> {
     bail!("an expression asks too much");
 }
 
-/// What evaluates expressions.
-#[derive(Drop)]
-struct Evaluator;
-
-impl Fixture for Evaluator {
-    fn new(_alloc: Global, _table: &str) -> Result<Evaluator> {
-        Ok(Evaluator)
+/// What a question is answered.
+pub fn answer(alloc: Global, question: &str) -> Result<String> {
+    match first_word(question) {
+        ("value", source) => told(alloc, source, false),
+        ("text", source) => told(alloc, source, true),
+        _ => bail!("no such question"),
     }
-
-    fn answer(&mut self, alloc: Global, question: &str) -> Result<String> {
-        match first_word(question) {
-            ("value", source) => told(alloc, source, false),
-            ("text", source) => told(alloc, source, true),
-            _ => bail!("no such question"),
-        }
-    }
-}
-
-fn main(rt: HostRuntime) -> Result<()> {
-    ask_tables::<Evaluator, _>(&rt)
 }

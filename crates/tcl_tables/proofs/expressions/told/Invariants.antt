@@ -1,6 +1,6 @@
 use Rattle.std.proofs.Common.{◌≡◌, is_some}
 use Rattle.tcl_expr.specs.Resuming.{is_waiting}
-use Rattle.expression_tables.proofs.told.Given as goal
+use Rattle.tcl_tables.proofs.expressions.told.Given as goal
 
 -- a text is given where one was asked for
 abbrev pub invariant-asking : goal.invariant-asking

@@ -1,6 +1,6 @@
 //! A few outside commands: enough to see each kind of act, and tasks of several steps and scripts.
 ghost use Rattle.std.specs.Prelude.{◌≡◌, ◌≤◌, length, IfOk};
-ghost use Rattle.interpreter_tables.specs.Sample.{alone_act, resumed_act, sample_act};
+ghost use Rattle.tcl_tables.specs.Sample.{alone_act, resumed_act, sample_act};
 ghost use Rattle.tcl_text.specs.Limits.{most_bytes};
 
 use std::alloc::{AllocError, Global};
@@ -81,8 +81,8 @@ pub struct Panel {
 impl Tasks for Panel {
     type Task = u64;
 
-    ghost use Rattle.interpreter_tables.specs.Sample.{sample};
-    ghost use Rattle.interpreter_tables.specs.SampleFalls.{sample_falls};
+    ghost use Rattle.tcl_tables.specs.Sample.{sample};
+    ghost use Rattle.tcl_tables.specs.SampleFalls.{sample_falls};
 
     ghost Shows = { Unit {0} };
 

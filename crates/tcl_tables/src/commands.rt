@@ -1,12 +1,10 @@
-//! Asks the commands on texts and variables for their answers, and tells of each that isn't the one in a table (`tables` says what stands in one).
+//! The questions of `commands`: what the commands on texts and variables answer.
 //!
 //! A question `LEVEL WORD|WORD|..` calls a command at level 0, or at 1 or 2, as a procedure does that was called at the level below. It is answered
 //! `=` and the command's result, or `!` and its error. A word `@NAME` is the text that the variable of that name holds, and not a text that is read anew.
-#![tactic(auto)]
-
 use anyhow::{Result, bail};
 use std::alloc::{AllocError, Global};
-use tables::{Fixture, ask_tables, error_of, first_word, number, result_of, words_of};
+use tables::{error_of, first_word, number, result_of, words_of};
 use tcl_commands::{info_exists, upvar_command, variable_command};
 use tcl_text::{Text, TextList};
 use tcl_vars::Scopes;
@@ -16,7 +14,7 @@ type Answer = Option<Result<Text, Text>>;
 
 /// The global frame, and those of two procedures.
 #[derive(Drop)]
-struct Frames {
+pub struct Frames {
     scopes: Scopes,
 }
 
@@ -84,15 +82,16 @@ fn told(alloc: Global, answer: &Answer) -> Result<String> {
     }
 }
 
-impl Fixture for Frames {
-    fn new(alloc: Global, _table: &str) -> Result<Frames> {
+impl Frames {
+    pub fn new(alloc: Global) -> Result<Frames> {
         let mut scopes = Scopes::new(alloc)?;
         scopes.push_frame()?;
         scopes.push_frame()?;
         Ok(Frames { scopes })
     }
 
-    fn answer(&mut self, alloc: Global, question: &str) -> Result<String> {
+    /// What a question is answered.
+    pub fn answer(&mut self, alloc: Global, question: &str) -> Result<String> {
         let (level, words) = first_word(question);
         let level = number(level)?;
         let words = words_of(alloc, words, '|')?;
@@ -100,8 +99,4 @@ impl Fixture for Frames {
         let answer = answer_of(alloc, &mut self.scopes, level, words.as_slice())?;
         told(alloc, &answer)
     }
-}
-
-fn main(rt: HostRuntime) -> Result<()> {
-    ask_tables::<Frames, _>(&rt)
 }

@@ -1,8 +1,13 @@
-//! What a script is, as a table says it.
+//! The questions of `scripts`: what scripts are.
+//!
+//! A question `commands SCRIPT` is answered `=` and the script's commands, each as its words with a bar between two, and a U+001E (`␞`) between two
+//! commands; `-` where there is none; or `!` and its fault. In words a variable stands as its name in angles, and a bracket as the words of its last
+//! command. A question `fronts SCRIPT` is answered `~` and a mark for each number of bytes short of the whole, which says what so many bytes are.
 
 use anyhow::{Result, bail};
 use std::alloc::Global;
-use tables::error_of;
+use std::rt::Files;
+use tables::{error_of, first_word, number, text_in};
 use tcl_text::Text;
 use tcl_words::{Command, ParseFault, Piece, Script, Word, parse};
 
@@ -121,7 +126,7 @@ fn mark_of(fault: ParseFault) -> Result<char> {
 }
 
 /// A mark for each number of bytes short of the whole.
-pub fn fronts_told(alloc: Global, source: &str) -> Result<String> {
+fn fronts_told(alloc: Global, source: &str) -> Result<String> {
     let mut marks = String::from_str(alloc, "~")?;
     for length in 0..source.len() {
         marks.push(match parse(alloc, &source.as_bytes()[..length]) {
@@ -133,10 +138,31 @@ pub fn fronts_told(alloc: Global, source: &str) -> Result<String> {
 }
 
 /// What a text is as a script.
-pub fn commands_told(alloc: Global, source: &str) -> Result<String> {
+fn commands_told(alloc: Global, source: &str) -> Result<String> {
     match parse(alloc, source.as_bytes()) {
         Ok(script) => told_commands(alloc, &script),
         Err(ParseFault::NoMemory) => Err(ParseFault::NoMemory.into()),
         Err(fault) => error_of(alloc, fault.text()),
     }
+}
+
+/// What a question is answered.
+pub fn answer(alloc: Global, question: &str) -> Result<String> {
+    match first_word(question) {
+        ("commands", script) => commands_told(alloc, script),
+        ("fronts", script) => fronts_told(alloc, script),
+        _ => bail!("no such question"),
+    }
+}
+
+/// Reads a script so many times.
+pub fn repeat(rt: &(impl Files + Print + AllocGlobal), count: &str, path: &str) -> Result<()> {
+    let count: u32 = number(count)?;
+    let source = text_in(rt, path)?;
+    let mut commands = 0usize;
+    for _ in 0..count {
+        commands = parse(rt.alloc(), source.as_bytes())?.commands().len();
+    }
+    println!(rt; "{commands} commands")?;
+    Ok(())
 }

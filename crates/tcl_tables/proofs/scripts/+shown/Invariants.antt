@@ -1,5 +1,5 @@
 use Rattle.std.proofs.Common.{◌+◌, ◌*◌}
-use Rattle.script_tables.proofs.shown.+shown.Given as goal
+use Rattle.tcl_tables.proofs.scripts.+shown.Given as goal
 
 abbrev pub decreases-push_piece : goal.decreases-push_piece
 decreases-push_piece l = 5 * l.depth

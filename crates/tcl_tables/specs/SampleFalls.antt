@@ -5,7 +5,7 @@ use Rattle.std.proofs.lemmas.Bool.Decides.{nat_tests}
 use Rattle.tcl_control.specs.declared.code.Code.{Code}
 use Rattle.tcl_interp.specs.declared.tasks.Act.TheVariants.{Done, Step, Run}
 use Rattle.tcl_interp.specs.Outside.{RunsBelow, Falls}
-use Rattle.interpreter_tables.specs.Sample.{sample}
+use Rattle.tcl_tables.specs.Sample.{sample}
 
 falls_by : (a b c : Bool) (task step : ℕ) (script text rested : List ℕ) (code end : Code) → (a ≡ false → 0 < task) → RunsBelow (λ n. n) task (if a then Done code text else (if b then Run script (task - 1) else (if c then Step step else Done end rested)))
 falls_by true b c task step script text rested code end some = tt

@@ -1,21 +1,15 @@
-//! Runs scripts, and tells of each that doesn't end as a table says (`tables` says what stands in one).
+//! The questions of `runs`: how scripts end.
 //!
 //! A question `BUDGET SCRIPT` is a script of which so many steps may be taken. It is answered how the script ends: `=LEFT RESULT` normally, with so
 //! many steps left, `!LEFT MESSAGE` with an error, and `-` where it needs a step and none is left. Each script runs by itself, four times: in slices
 //! of 1, 2, 3 and 1,000 steps.
-#![tactic(auto)]
-
 ghost use Rattle.std.specs.Prelude.{◌<◌};
-
-mod panel;
-mod runner;
-mod slices;
 
 use crate::panel::names;
 use crate::runner::Runner;
 use anyhow::Result;
 use std::alloc::Global;
-use tables::{Fixture, ask_tables, first_word, number};
+use tables::{first_word, number};
 
 /// How a script ends, as a table has it.
 fn ending(alloc: Global, script: &str, budget: u64, slice: u64) -> Result<String>
@@ -38,22 +32,8 @@ fn ending_of(alloc: Global, script: &str, budget: u64) -> Result<String> {
     Ok(whole)
 }
 
-/// What runs scripts.
-#[derive(Drop)]
-struct Scripts;
-
-impl Fixture for Scripts {
-    fn new(_alloc: Global, _table: &str) -> Result<Scripts> {
-        Ok(Scripts)
-    }
-
-    fn answer(&mut self, alloc: Global, question: &str) -> Result<String> {
-        let (budget, script) = first_word(question);
-        ending_of(alloc, script, number(budget)?)
-    }
-}
-
-fn main(rt: HostRuntime) -> Result<()> {
-    slices::show(&rt)?;
-    ask_tables::<Scripts, _>(&rt)
+/// What a question is answered.
+pub fn answer(alloc: Global, question: &str) -> Result<String> {
+    let (budget, script) = first_word(question);
+    ending_of(alloc, script, number(budget)?)
 }

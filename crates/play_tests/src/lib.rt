@@ -1,4 +1,4 @@
-//! Tests of reading and playing sessions: what no contract says.
+//! Tests of playing sessions from and to streams that fail: what no contract says.
 #![tactic(auto)]
 
 #[cfg(test)]

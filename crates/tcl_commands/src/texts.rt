@@ -1,11 +1,11 @@
 //! The errors of commands on variables.
-ghost use Rattle.std.specs.Prelude.{◌≡◌, [], ◌++◌, Ok, IfOk, string_bytes};
-ghost use Rattle.tcl_text.specs.Answers.{Gives, Refuses, bounded, quoted};
+ghost use Rattle.std.specs.Prelude.{◌≡◌, [], Ok, IfOk, string_bytes};
+ghost use Rattle.tcl_text.specs.Answers.{Gives, Refuses, bounded};
 ghost use Rattle.tcl_commands.specs.Texts as spec;
 
 use std::alloc::{AllocError, Global};
 use tcl_text::Text;
-use tcl_text::answers::{Refusal, error, quoting_error};
+use tcl_text::answers::{Refusal, error, error_about, quoting_error};
 use tcl_vars::{LinkFault, ReadFault, SetFault, UnsetFault};
 
 /// Why a variable can't be read (15 to 18), as its script is told of it. A text past 65,536 bytes is that of the limit (4).
@@ -57,7 +57,7 @@ pub fn cannot_link<T>(alloc: Global, name: &str, fault: LinkFault) -> Result<T, 
 {
     match fault {
         LinkFault::BadName => Err(quoting_error(alloc, "can't use name ", name)),
-        LinkFault::Exists => Err(about(alloc, "variable ", name, " already exists")),
+        LinkFault::Exists => Err(error_about(alloc, "variable ", name, " already exists")),
         LinkFault::Full => Err(no_room(alloc)),
         LinkFault::NoMemory => Err(Refusal::NoMemory),
     }
@@ -74,7 +74,7 @@ pub fn too_large<T>(alloc: Global) -> Result<T, Refusal>
 pub fn missing_value<T>(alloc: Global, key: &str) -> Result<T, Refusal>
     ensures { Gives result (spec.missing_value key.now) }
 {
-    Err(about(alloc, "value for ", key, " missing"))
+    Err(error_about(alloc, "value for ", key, " missing"))
 }
 
 /// The empty result.
@@ -110,26 +110,5 @@ fn sentence(alloc: Global, verb: &str, name: &str, reason: &str) -> Result<Strin
     string.push_str(name)?;
     string.push_str("\": ")?;
     string.push_str(reason)?;
-    Ok(string)
-}
-
-// An error about a word, which stands in quotation marks.
-fn about(alloc: Global, before: &str, word: &str, after: &str) -> Refusal
-    ensures { Refuses result (bounded (before.now ++ quoted word.now ++ after.now)) }
-{
-    match around(alloc, before, word, after) {
-        Ok(text) => error(alloc, text.as_str()),
-        Err(AllocError) => Refusal::NoMemory,
-    }
-}
-
-fn around(alloc: Global, before: &str, word: &str, after: &str) -> Result<String, AllocError>
-    ensures { IfOk result (λ string. string_bytes string ≡ before.now ++ quoted word.now ++ after.now) }
-{
-    let mut string = String::from_str(alloc, before)?;
-    string.push_str("\"")?;
-    string.push_str(word)?;
-    string.push_str("\"")?;
-    string.push_str(after)?;
     Ok(string)
 }

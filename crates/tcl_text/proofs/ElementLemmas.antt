@@ -4,7 +4,7 @@ use Rattle.std.specs.Borrow.{Bor}
 use Rattle.std.proofs.lemmas.Bool.{cases_Bool, cases_lt, eqb-true, both_ways, false_from_ne_true}
 use Rattle.std.proofs.lemmas.List.{drop_more, drop_all, length-drop}
 use Rattle.tcl_text.specs.Backslash.{is_white, kind_of, escape, byte_mark, escape_mark, marks_past, marks, Mark}
-use Rattle.tcl_text.specs.Readings.{Place, between, in_braces, in_quotes, in_bare, closed, place_after, Reading, onto, begun, with_mark, reading, elements, skip_white, list_of}
+use Rattle.tcl_text.specs.Readings.{ListPlace, between, in_braces, in_quotes, in_bare, closed, place_after, Reading, onto, begun, with_mark, reading, elements, skip_white, list_of}
 use Rattle.tcl_text.specs.Splitting.{GivesBehind, GivesItem, GivesElement, IsAtEnd, Unescapes, begins_bare, ends, ended, is_behind_element, items_before}
 use Rattle.std.specs.Str.{IsCharBoundary}
 use Rattle.std.proofs.lemmas.Str.{IsCharBoundary-from_drop}
@@ -73,7 +73,7 @@ items_before-ended item (Ok items) = ap (λ (bytes : List ℕ). let list : Resul
 items_before-ended item (Err f) = refl
 
 -- a list that begins with an element, by how it is read from a place on
-begins_list : (place : Place) (text behind : List ℕ) (r : Result (List ℕ × Bor (List ℕ)) SplitFault) → list_of text ≡ elements (begun (reading place (marks behind))) → length behind < length text → GivesItem place behind r → GivesElement text r
+begins_list : (place : ListPlace) (text behind : List ℕ) (r : Result (List ℕ × Bor (List ℕ)) SplitFault) → list_of text ≡ elements (begun (reading place (marks behind))) → length behind < length text → GivesItem place behind r → GivesElement text r
 begins_list place text behind (Ok r) begins shorter h =
     (omega (arith, h.0), begins ∙ ap (λ read. elements (begun read)) h.1 ∙ items_before-ended r.0 (list_of r.1.now))
 begins_list place text behind (Err (BadList f)) begins shorter h = begins ∙ ap (λ read. elements (begun read)) h
@@ -104,7 +104,7 @@ bare_begins c cs bare =
     let h = first_mark c cs in
     ap (reading between) h.cut ∙ at h.mark.kind h.mark (λ place. reading place h.others) (ap begins_bare h.kind ∙ bare) ∙ ap (λ ms. begun (reading in_bare ms)) (sym h.cut)
   where
-    at : (k : ByteKind) (m : Mark) (r : Place → Reading) → begins_bare k ≡ true → with_mark between k m (r (place_after between k)) ≡ begun (with_mark in_bare k m (r (place_after in_bare k)))
+    at : (k : ByteKind) (m : Mark) (r : ListPlace → Reading) → begins_bare k ≡ true → with_mark between k m (r (place_after between k)) ≡ begun (with_mark in_bare k m (r (place_after in_bare k)))
     at White m r bare = absurd cc
     at OpenBrace m r bare = absurd cc
     at CloseBrace m r bare = refl
@@ -138,11 +138,11 @@ pub gives_extra : (text slice : List ℕ) (at : ℕ) → slice ≡ drop (at + 1)
 gives_extra text slice at is more = reading_extra (drop (at + 1) text) (ap is_behind_element (sym is) ∙ more)
 
 -- an item that was closed, and what stands behind it
-closed_item : (place : Place) (text item : List ℕ) (at : ℕ) (behind : Bor (List ℕ)) → at < length text → reading place (marks text) ≡ onto item (reading closed (marks (drop (at + 1) text))) → GivesBehind text at (Some behind) → GivesItem place text (Ok (item, behind))
+closed_item : (place : ListPlace) (text item : List ℕ) (at : ℕ) (behind : Bor (List ℕ)) → at < length text → reading place (marks text) ≡ onto item (reading closed (marks (drop (at + 1) text))) → GivesBehind text at (Some behind) → GivesItem place text (Ok (item, behind))
 closed_item place text item at behind inside closing h =
     (omega (arith, ap length h.0, length-drop (at + 1) text), closing ∙ ap (onto item) h.1)
 
-closed_extra : (place : Place) (text item : List ℕ) (at : ℕ) → reading place (marks text) ≡ onto item (reading closed (marks (drop (at + 1) text))) → GivesBehind text at None → reading place (marks text) ≡ Err ExtraCharacters
+closed_extra : (place : ListPlace) (text item : List ℕ) (at : ℕ) → reading place (marks text) ≡ onto item (reading closed (marks (drop (at + 1) text))) → GivesBehind text at None → reading place (marks text) ≡ Err ExtraCharacters
 closed_extra place text item at closing h = closing ∙ ap (onto item) h
 
 -- a quote that closes an element

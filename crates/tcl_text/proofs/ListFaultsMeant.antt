@@ -4,7 +4,7 @@ use Rattle.std.specs.List.{list_all}
 use Rattle.std.specs.Option.{option_map_or}
 use Rattle.std.proofs.lemmas.Bool.{and_parts}
 use Rattle.tcl_text.specs.Backslash.{Mark, marks}
-use Rattle.tcl_text.specs.Readings.{Place, Reading, are_balanced, between, closed, depth_after, elements, in_braces, in_quotes, is_quote_mark, is_white_mark, list_of, meant, onto, begun, place_after, reading, with_mark, written}
+use Rattle.tcl_text.specs.Readings.{ListPlace, Reading, are_balanced, between, closed, depth_after, elements, in_braces, in_quotes, is_quote_mark, is_white_mark, list_of, meant, onto, begun, place_after, reading, with_mark, written}
 use Rattle.tcl_text.specs.ListFaults.{IsFaultyElement, unclosed_brace, unclosed_quote, followed_brace, followed_quote, AreBeforeFault, IsListFault}
 use Rattle.tcl_text.specs.declared.splitting.ByteKind.{ByteKind}
 use Rattle.tcl_text.specs.declared.splitting.ByteKind.TheVariants.{White, OpenBrace, CloseBrace, Quote, Backslash, Other}
@@ -52,7 +52,7 @@ reads_unquoted (m ∷ ms) all =
     let parts = and_parts (not (is_quote_mark m)) (list_all (λ m. not (is_quote_mark m)) ms) all in
     at m.kind parts.0 (λ place. reading place ms) ∙ ap (onto m.meant) (reads_unquoted ms parts.1)
   where
-    at : (k : ByteKind) → not (elim k [ Quote ↦ true | _ ↦ false ]) ≡ true → (r : Place → Reading) → with_mark in_quotes k m (r (place_after in_quotes k)) ≡ onto m.meant (r in_quotes)
+    at : (k : ByteKind) → not (elim k [ Quote ↦ true | _ ↦ false ]) ≡ true → (r : ListPlace → Reading) → with_mark in_quotes k m (r (place_after in_quotes k)) ≡ onto m.meant (r in_quotes)
     at Quote w r = absurd cc
     at OpenBrace w r = refl
     at CloseBrace w r = refl
@@ -63,7 +63,7 @@ reads_unquoted (m ∷ ms) all =
 reads_extra : (next : Mark) (rest : List Mark) → is_white_mark next ≡ false → reading closed (next ∷ rest) ≡ Err ExtraCharacters
 reads_extra next rest black = at next.kind black (λ place. reading place rest)
   where
-    at : (k : ByteKind) → elim k [ White ↦ true | _ ↦ false ] ≡ false → (r : Place → Reading) → with_mark closed k next (r (place_after closed k)) ≡ Err ExtraCharacters
+    at : (k : ByteKind) → elim k [ White ↦ true | _ ↦ false ] ≡ false → (r : ListPlace → Reading) → with_mark closed k next (r (place_after closed k)) ≡ Err ExtraCharacters
     at White b r = absurd cc
     at OpenBrace b r = refl
     at CloseBrace b r = refl

@@ -4,7 +4,7 @@ use Rattle.std.specs.List.{list_all}
 use Rattle.std.specs.Option.{option_map_or}
 use Rattle.std.proofs.lemmas.Bool.{and_from, ne_eqb}
 use Rattle.tcl_text.specs.Backslash.{Mark, marks}
-use Rattle.tcl_text.specs.Readings.{IsElement, IsElementEnd, Place, Reading, are_balanced, bare, between, braced, closed, depth_after, elements, in_bare, in_braces, in_quotes, is_quote_mark, is_white_mark, list_of, meant, onto, begun, place_after, quoted, reading, with_mark, written}
+use Rattle.tcl_text.specs.Readings.{IsElement, IsElementEnd, ListPlace, Reading, are_balanced, bare, between, braced, closed, depth_after, elements, in_bare, in_braces, in_quotes, is_quote_mark, is_white_mark, list_of, meant, onto, begun, place_after, quoted, reading, with_mark, written}
 use Rattle.tcl_text.specs.ListFaults.{IsFaultyElement, unclosed_brace, unclosed_quote, followed_brace, followed_quote, AreBeforeFault, IsListFault}
 use Rattle.tcl_text.specs.declared.splitting.ByteKind.{ByteKind}
 use Rattle.tcl_text.specs.declared.splitting.ByteKind.TheVariants.{White, OpenBrace, CloseBrace, Quote, Backslash, Other}
@@ -45,7 +45,7 @@ record BareBefore (ms : List Mark) (fault : ListFault) : Type 0 where
   behind : IsBeforeFault rest fault
 
 -- what a fault from a place says
-abbrev Told : Place → List Mark → ListFault → Type 0
+abbrev Told : ListPlace → List Mark → ListFault → Type 0
 Told between ms fault = IsBeforeFault ms fault
 Told closed ms fault = IsFaultBehind ms fault
 Told in_bare ms fault = BareBefore ms fault
@@ -119,7 +119,7 @@ unclosed_more depth next m ms to none (b ∷ before) rest last cut closes =
     ap (λ o. option_map_or (λ next. are_balanced next before) o false) (ap (λ (n : Mark). depth_after depth n.kind) (sym here) ∙ to) ∙ none before rest last behind closes
 
 -- the same in each place, where the mark is of a kind
-module _ (m : Mark) (ms : List Mark) (behind : (place : Place) (fault : ListFault) → reading place ms ≡ Err fault → Told place ms fault) where
+module _ (m : Mark) (ms : List Mark) (behind : (place : ListPlace) (fault : ListFault) → reading place ms ≡ Err fault → Told place ms fault) where
   bare_fault : (k : ByteKind) → m.kind ≡ k → k ≢ OpenBrace → k ≢ Quote → is_white_mark m ≡ false → (fault : ListFault) → begun (onto m.meant (reading in_bare ms)) ≡ Err fault → Told between (m ∷ ms) fault
   bare_fault k is opening quote black fault e =
       let h = behind in_bare fault (onto_fault m.meant (reading in_bare ms) fault (begun_fault (onto m.meant (reading in_bare ms)) fault e)) in
@@ -199,7 +199,7 @@ module _ (m : Mark) (ms : List Mark) (behind : (place : Place) (fault : ListFaul
       at (inr h) = inr (closes_more (are_balanced next) (are_balanced depth) CloseBrace m ms fault (balanced_more depth m m.kind next refl is) h)
 
   -- from any place
-  fault_at : (place : Place) (fault : ListFault) → reading place (m ∷ ms) ≡ Err fault → Told place (m ∷ ms) fault
+  fault_at : (place : ListPlace) (fault : ListFault) → reading place (m ∷ ms) ≡ Err fault → Told place (m ∷ ms) fault
   fault_at between fault e = between_fault m.kind refl fault e
   fault_at (in_braces depth) fault e = in_braces_fault depth (depth_after depth m.kind) refl fault e
   fault_at in_quotes fault e = in_quotes_fault m.kind refl fault e
@@ -207,7 +207,7 @@ module _ (m : Mark) (ms : List Mark) (behind : (place : Place) (fault : ListFaul
   fault_at closed fault e = closed_fault m.kind refl fault e
 
 -- at the end
-fault_at_end : (place : Place) (fault : ListFault) → reading place [] ≡ Err fault → Told place [] fault
+fault_at_end : (place : ListPlace) (fault : ListFault) → reading place [] ≡ Err fault → Told place [] fault
 fault_at_end between fault e = absurd cc
 fault_at_end (in_braces depth) fault e = inl ((λ before rest last cut closes. at before rest last cut), sym (same_fault UnmatchedBrace fault e))
   where
@@ -218,7 +218,7 @@ fault_at_end in_quotes fault e = inl (refl, sym (same_fault UnmatchedQuote fault
 fault_at_end in_bare fault e = absurd cc
 fault_at_end closed fault e = absurd cc
 
-told : (ms : List Mark) (place : Place) (fault : ListFault) → reading place ms ≡ Err fault → Told place ms fault
+told : (ms : List Mark) (place : ListPlace) (fault : ListFault) → reading place ms ≡ Err fault → Told place ms fault
 told [] place fault e = fault_at_end place fault e
 told (m ∷ ms) place fault e = fault_at m ms (told ms) place fault e
 

@@ -4,7 +4,7 @@ use Rattle.std.specs.List.{list_all}
 use Rattle.std.specs.Option.{option_map_or}
 use Rattle.std.proofs.lemmas.Bool.{and_parts, and_from, eqb-true}
 use Rattle.tcl_text.specs.Backslash.{Mark, marks}
-use Rattle.tcl_text.specs.Readings.{AreElements, IsElement, IsElementEnd, IsList, Place, Reading, are_balanced, bare, between, braced, closed, depth_after, elements, in_bare, in_braces, in_quotes, is_quote_mark, is_white_mark, list_of, meant, onto, begun, place_after, quoted, reading, with_mark, written}
+use Rattle.tcl_text.specs.Readings.{AreElements, IsElement, IsElementEnd, IsList, ListPlace, Reading, are_balanced, bare, between, braced, closed, depth_after, elements, in_bare, in_braces, in_quotes, is_quote_mark, is_white_mark, list_of, meant, onto, begun, place_after, quoted, reading, with_mark, written}
 use Rattle.tcl_text.specs.declared.splitting.ByteKind.{ByteKind}
 use Rattle.tcl_text.specs.declared.splitting.ByteKind.TheVariants.{White, OpenBrace, CloseBrace, Quote, Backslash, Other}
 use Rattle.tcl_text.specs.Splitting.{Splits}
@@ -44,7 +44,7 @@ some_is : (a b : ℕ) → Some a ≡ Some b → a ≡ b
 some_is a b e = cc
 
 -- what a reading from a place says
-abbrev Says : Place → List Mark → List ℕ → List (List ℕ) → Type 0
+abbrev Says : ListPlace → List Mark → List ℕ → List (List ℕ) → Type 0
 Says between ms item items = (item ≡ []) × AreElements ms items
 Says closed ms item items = (item ≡ []) × IsElementEnd ms × AreElements ms items
 Says in_bare ms item items = BareBehind ms item items
@@ -138,7 +138,7 @@ no_quote_more : (m : Mark) → is_quote_mark m ≡ false → (inside : List Mark
 no_quote_more m other inside fits = rw other fits
 
 -- the same in each place, where the mark is of a kind
-module _ (m : Mark) (ms : List Mark) (behind : (place : Place) (item : List ℕ) (items : List (List ℕ)) → reading place ms ≡ Ok (item, items) → Says place ms item items) where
+module _ (m : Mark) (ms : List Mark) (behind : (place : ListPlace) (item : List ℕ) (items : List (List ℕ)) → reading place ms ≡ Ok (item, items) → Says place ms item items) where
   closes_here : (inner : List Mark → Bool) (kind : ByteKind) (says : List Mark → List ℕ) → m.kind ≡ kind → inner [] ≡ true → says [] ≡ [] → (item : List ℕ) (items : List (List ℕ)) → reading closed ms ≡ Ok (item, items) → ClosesBehind inner kind says (m ∷ ms) item items
   closes_here inner kind says is fits none item items e =
       let h = behind closed item items e in record { inside = []; last = m; rest = ms; cut = refl; closes = is; fits = fits; is = h.0 ∙ sym none; end = h.1; others = h.2 }
@@ -153,7 +153,7 @@ module _ (m : Mark) (ms : List Mark) (behind : (place : Place) (item : List ℕ)
       let first = element_first element h.rest b.0.0 b.0.1 (subst (IsElement element) (sym spelled) (bare m h.inside (λ f. opening (sym is ∙ f)) (λ f. quote (sym is ∙ f)) (rw black h.fits))) h.end h.others in
       (b.2, subst (AreElements (m ∷ ms)) (sym b.3) (subst (λ xs. AreElements xs (b.0.0 ∷ b.0.1)) (ap (λ xs. m ∷ xs) (sym h.cut)) first))
 
-  closed_element : (place : Place) (inner : List Mark → Bool) (kind : ByteKind) (says : List Mark → List ℕ) → ((inside : List Mark) (last : Mark) → last.kind ≡ kind → inner inside ≡ true → IsElement (m ∷ (inside ++ last ∷ [])) (says inside)) →
+  closed_element : (place : ListPlace) (inner : List Mark → Bool) (kind : ByteKind) (says : List Mark → List ℕ) → ((inside : List Mark) (last : Mark) → last.kind ≡ kind → inner inside ≡ true → IsElement (m ∷ (inside ++ last ∷ [])) (says inside)) →
       ((item : List ℕ) (items : List (List ℕ)) → reading place ms ≡ Ok (item, items) → ClosesBehind inner kind says ms item items) → (item : List ℕ) (items : List (List ℕ)) → begun (reading place ms) ≡ Ok (item, items) → Says between (m ∷ ms) item items
   closed_element place inner kind says makes inside item items e =
       let b = begun_parts (reading place ms) item items e in
@@ -221,7 +221,7 @@ module _ (m : Mark) (ms : List Mark) (behind : (place : Place) (item : List ℕ)
   at_braces (suc depth) Other is item items e = in_braces_more (suc depth) (suc depth) Other is refl item items e
 
   -- from any place
-  at_mark : (place : Place) (item : List ℕ) (items : List (List ℕ)) → reading place (m ∷ ms) ≡ Ok (item, items) → Says place (m ∷ ms) item items
+  at_mark : (place : ListPlace) (item : List ℕ) (items : List (List ℕ)) → reading place (m ∷ ms) ≡ Ok (item, items) → Says place (m ∷ ms) item items
   at_mark between item items e = at_between m.kind refl item items e
   at_mark (in_braces depth) item items e = at_braces depth m.kind refl item items e
   at_mark in_quotes item items e = at_quotes m.kind refl item items e
@@ -229,7 +229,7 @@ module _ (m : Mark) (ms : List Mark) (behind : (place : Place) (item : List ℕ)
   at_mark closed item items e = at_closed m.kind refl item items e
 
 -- at the end
-at_no_mark : (place : Place) (item : List ℕ) (items : List (List ℕ)) → reading place [] ≡ Ok (item, items) → Says place [] item items
+at_no_mark : (place : ListPlace) (item : List ℕ) (items : List (List ℕ)) → reading place [] ≡ Ok (item, items) → Says place [] item items
 at_no_mark between item items e = let p = same_ok ([], []) (item, items) e in (sym (ap (λ p. p.0) p), subst (AreElements []) (ap (λ p. p.1) p) refl)
 at_no_mark (in_braces depth) item items e = absurd (not_err _ (item, items) e)
 at_no_mark in_quotes item items e = absurd (not_err _ (item, items) e)
@@ -239,7 +239,7 @@ at_no_mark in_bare item items e =
 at_no_mark closed item items e = let p = same_ok ([], []) (item, items) e in (sym (ap (λ p. p.0) p), tt, subst (AreElements []) (ap (λ p. p.1) p) refl)
 
 -- what a reading says is so
-said : (ms : List Mark) (place : Place) (item : List ℕ) (items : List (List ℕ)) → reading place ms ≡ Ok (item, items) → Says place ms item items
+said : (ms : List Mark) (place : ListPlace) (item : List ℕ) (items : List (List ℕ)) → reading place ms ≡ Ok (item, items) → Says place ms item items
 said [] place item items e = at_no_mark place item items e
 said (m ∷ ms) place item items e = at_mark m ms (said ms) place item items e
 
@@ -269,7 +269,7 @@ reads_white (m ∷ white) ms all =
     let parts = and_parts (is_white_mark m) (list_all is_white_mark white) all in
     at m.kind parts.0 (λ place. reading place (white ++ ms)) ∙ reads_white white ms parts.1
   where
-    at : (k : ByteKind) → elim k [ White ↦ true | _ ↦ false ] ≡ true → (r : Place → Reading) → with_mark between k m (r (place_after between k)) ≡ r between
+    at : (k : ByteKind) → elim k [ White ↦ true | _ ↦ false ] ≡ true → (r : ListPlace → Reading) → with_mark between k m (r (place_after between k)) ≡ r between
     at White w r = refl
     at OpenBrace w r = absurd cc
     at CloseBrace w r = absurd cc
@@ -304,7 +304,7 @@ reads_bare (m ∷ inside) rest all end =
     let parts = and_parts (not (is_white_mark m)) (list_all (λ m. not (is_white_mark m)) inside) all in
     at m.kind parts.0 (λ place. reading place (inside ++ rest)) ∙ ap (onto m.meant) (reads_bare inside rest parts.1 end) ∙ onto-twice m.meant (meant inside) (reading between rest)
   where
-    at : (k : ByteKind) → not (elim k [ White ↦ true | _ ↦ false ]) ≡ true → (r : Place → Reading) → with_mark in_bare k m (r (place_after in_bare k)) ≡ onto m.meant (r in_bare)
+    at : (k : ByteKind) → not (elim k [ White ↦ true | _ ↦ false ]) ≡ true → (r : ListPlace → Reading) → with_mark in_bare k m (r (place_after in_bare k)) ≡ onto m.meant (r in_bare)
     at White w r = absurd cc
     at OpenBrace w r = refl
     at CloseBrace w r = refl
@@ -320,7 +320,7 @@ reads_quotes (m ∷ inside) rest last all closes =
     let parts = and_parts (not (is_quote_mark m)) (no_quote inside) all in
     at m.kind parts.0 (λ place. reading place (inside ++ last ∷ rest)) ∙ ap (onto m.meant) (reads_quotes inside rest last parts.1 closes) ∙ onto-twice m.meant (meant inside) (reading closed rest)
   where
-    at : (k : ByteKind) → not (elim k [ Quote ↦ true | _ ↦ false ]) ≡ true → (r : Place → Reading) → with_mark in_quotes k m (r (place_after in_quotes k)) ≡ onto m.meant (r in_quotes)
+    at : (k : ByteKind) → not (elim k [ Quote ↦ true | _ ↦ false ]) ≡ true → (r : ListPlace → Reading) → with_mark in_quotes k m (r (place_after in_quotes k)) ≡ onto m.meant (r in_quotes)
     at Quote w r = absurd cc
     at OpenBrace w r = refl
     at CloseBrace w r = refl
@@ -329,7 +329,7 @@ reads_quotes (m ∷ inside) rest last all closes =
     at Other w r = refl
 
 -- a mark in braces, by the depth behind it
-pub braces_mark : (depth next : ℕ) (k : ByteKind) (m : Mark) (r : Place → Reading) → depth_after depth k ≡ Some next → with_mark (in_braces depth) k m (r (place_after (in_braces depth) k)) ≡ onto m.written (r (in_braces next))
+pub braces_mark : (depth next : ℕ) (k : ByteKind) (m : Mark) (r : ListPlace → Reading) → depth_after depth k ≡ Some next → with_mark (in_braces depth) k m (r (place_after (in_braces depth) k)) ≡ onto m.written (r (in_braces next))
 braces_mark zero next OpenBrace m r to = ap (λ d. onto m.written (r (in_braces d))) (some_is 1 next to)
 braces_mark (suc depth) next OpenBrace m r to = ap (λ d. onto m.written (r (in_braces d))) (some_is (suc (suc depth)) next to)
 braces_mark zero next CloseBrace m r to = absurd cc
@@ -368,7 +368,7 @@ reads_element element rest item (quoted first last inside opens closes fits) end
 reads_element element rest item (bare first others opening quote fits) end =
     at first.kind opening quote (and_parts (not (is_white_mark first)) (list_all (λ m. not (is_white_mark m)) others) fits).0 (λ place. reading place (others ++ rest)) ∙ ap begun (reads_bare (first ∷ others) rest fits end)
   where
-    at : (k : ByteKind) → k ≢ OpenBrace → k ≢ Quote → not (elim k [ White ↦ true | _ ↦ false ]) ≡ true → (r : Place → Reading) → with_mark between k first (r (place_after between k)) ≡ begun (with_mark in_bare k first (r (place_after in_bare k)))
+    at : (k : ByteKind) → k ≢ OpenBrace → k ≢ Quote → not (elim k [ White ↦ true | _ ↦ false ]) ≡ true → (r : ListPlace → Reading) → with_mark between k first (r (place_after between k)) ≡ begun (with_mark in_bare k first (r (place_after in_bare k)))
     at White o q w r = absurd cc
     at OpenBrace o q w r = absurd (o refl)
     at CloseBrace o q w r = refl

@@ -4,7 +4,7 @@ use Rattle.std.proofs.lemmas.Bool.{cases_Bool, eqb-true, both_ways}
 use Rattle.std.proofs.lemmas.List.{drop_more, take_more, drop-drop, take-take, drop-take, take-append-drop, drop_all, length-drop, length-take, length-append}
 use Rattle.std.proofs.lemmas.Str.{IsUtf8-append}
 use Rattle.tcl_text.specs.Backslash.{is_white, kind_of, Escape, escape, byte_mark, escape_mark, marks_past, marks, Mark}
-use Rattle.tcl_text.specs.Readings.{Place, between, in_braces, in_quotes, in_bare, place_after, Reading, onto, begun, with_mark, reading, elements}
+use Rattle.tcl_text.specs.Readings.{ListPlace, between, in_braces, in_quotes, in_bare, place_after, Reading, onto, begun, with_mark, reading, elements}
 use Rattle.tcl_text.specs.Splitting.{ReadsTo, StepsInBraces, FindsBrace, Unescapes, within, ends, ended}
 use Rattle.tcl_text.proofs.BackslashLemmas.{escape_within, escape_short}
 use Rattle.tcl_text.proofs.Utf8Lemmas.{cut_at_ascii, escape_utf8}
@@ -63,11 +63,11 @@ pub marks_byte : (b : ℕ) (bs : List ℕ) → kind_of b ≢ Backslash → marks
 unfolding marks
 marks_byte b bs other = rw (not_backslash b other) refl
 
-pub reading_byte : (place : Place) (b : ℕ) (bs : List ℕ) → kind_of b ≢ Backslash → reading place (marks (b ∷ bs)) ≡ with_mark place (kind_of b) (byte_mark b) (reading (place_after place (kind_of b)) (marks bs))
+pub reading_byte : (place : ListPlace) (b : ℕ) (bs : List ℕ) → kind_of b ≢ Backslash → reading place (marks (b ∷ bs)) ≡ with_mark place (kind_of b) (byte_mark b) (reading (place_after place (kind_of b)) (marks bs))
 reading_byte place b bs other = ap (reading place) (marks_byte b bs other)
 
 -- the same of a known kind
-pub reading_kind : (place : Place) (k : ByteKind) (b : ℕ) (bs : List ℕ) → k ≢ Backslash → kind_of b ≡ k → reading place (marks (b ∷ bs)) ≡ with_mark place k (byte_mark b) (reading (place_after place k) (marks bs))
+pub reading_kind : (place : ListPlace) (k : ByteKind) (b : ℕ) (bs : List ℕ) → k ≢ Backslash → kind_of b ≡ k → reading place (marks (b ∷ bs)) ≡ with_mark place k (byte_mark b) (reading (place_after place k) (marks bs))
 reading_kind place k b bs other is =
     reading_byte place b bs (λ e. other (sym is ∙ e)) ∙ ap (λ k. with_mark place k (byte_mark b) (reading (place_after place k) (marks bs))) is
 
@@ -78,7 +78,7 @@ marks_escape b bs is =
     let slash : nat_eq b 92 ≡ true = told b Backslash is in
     rw slash (ap (λ ms. escape_mark bs ∷ ms) (marks_past-drop (escape bs).length bs))
 
-pub reading_escape : (place : Place) (b : ℕ) (bs : List ℕ) → kind_of b ≡ Backslash → reading place (marks (b ∷ bs)) ≡ with_mark place Backslash (escape_mark bs) (reading (place_after place Backslash) (marks (drop (escape bs).length bs)))
+pub reading_escape : (place : ListPlace) (b : ℕ) (bs : List ℕ) → kind_of b ≡ Backslash → reading place (marks (b ∷ bs)) ≡ with_mark place Backslash (escape_mark bs) (reading (place_after place Backslash) (marks (drop (escape bs).length bs)))
 reading_escape place b bs is = ap (reading place) (marks_escape b bs is)
 
 -- ── in braces ──
@@ -154,7 +154,7 @@ take_add at n text =
     ap (λ xs. xs ++ take n (drop at text)) (sym front) ∙ ap (λ xs. take at (take (at + n) text) ++ xs) (sym (drop-take at n text)) ∙ take-append-drop at (take (at + n) text)
 
 -- one step more of a reading
-pub ReadsTo-step : (start place next : Place) (text bytes more : List ℕ) (at n : ℕ) → ReadsTo start text at bytes place → reading place (marks (drop at text)) ≡ onto more (reading next (marks (drop n (drop at text)))) → ReadsTo start text (at + n) (bytes ++ more) next
+pub ReadsTo-step : (start place next : ListPlace) (text bytes more : List ℕ) (at n : ℕ) → ReadsTo start text at bytes place → reading place (marks (drop at text)) ≡ onto more (reading next (marks (drop n (drop at text)))) → ReadsTo start text (at + n) (bytes ++ more) next
 ReadsTo-step start place next text bytes more at n before step =
     before ∙ ap (onto bytes) step ∙ onto-onto bytes more _ ∙ ap (λ rest. onto (bytes ++ more) (reading next (marks rest))) (drop-drop n at text)
 
@@ -194,7 +194,7 @@ plain_byte false b bs slash inner =
     at Backslash other = refl
     at Other other = refl
 
-pub ReadsTo-start : (place : Place) (text : List ℕ) → ReadsTo place text 0 [] place
+pub ReadsTo-start : (place : ListPlace) (text : List ℕ) → ReadsTo place text 0 [] place
 ReadsTo-start place text = sym (onto-nil (reading place (marks text)))
 
 pub run_turn : (quoted : Bool) (text : List ℕ) (at : ℕ) → at < length text → (get_or text at 0 ≡ 92 → ⊥) → ends quoted (get_or text at 0) ≡ false → ReadsTo (within quoted) text at (take at text) (within quoted) → ReadsTo (within quoted) text (at + 1) (take (at + 1) text) (within quoted)

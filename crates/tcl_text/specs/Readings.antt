@@ -220,19 +220,19 @@ IsList text items = AreElements (marks text) items
 
 -- where reading stands: between elements, in braces with so many more open, in quotes, in a bare element, or behind a
 -- closing brace or quote
-pub data Place : Type 0 where
-  between : Place
-  in_braces : ℕ → Place
-  in_quotes : Place
-  in_bare : Place
-  closed : Place
+pub data ListPlace : Type 0 where
+  between : ListPlace
+  in_braces : ℕ → ListPlace
+  in_quotes : ListPlace
+  in_bare : ListPlace
+  closed : ListPlace
 
 -- what is left of the element that stands open, and the elements after it
 abbrev pub Reading : Type 0
 Reading = Result (List ℕ × List (List ℕ)) ListFault
 
 -- the place behind a mark
-abbrev pub place_after : Place → ByteKind → Place
+abbrev pub place_after : ListPlace → ByteKind → ListPlace
 place_after between White = between
 place_after between OpenBrace = in_braces 0
 place_after between Quote = in_quotes
@@ -259,7 +259,7 @@ begun (Ok r) = Ok ([], r.0 ∷ r.1)
 begun (Err f) = Err f
 
 -- what a mark adds to the reading of what stands behind it
-abbrev pub with_mark : Place → ByteKind → Mark → Reading → Reading
+abbrev pub with_mark : ListPlace → ByteKind → Mark → Reading → Reading
 with_mark between White m r = r
 with_mark between OpenBrace m r = begun r
 with_mark between Quote m r = begun r
@@ -274,12 +274,12 @@ with_mark closed White m r = r
 with_mark closed _ m r = Err ExtraCharacters
 
 -- what the end of the text is
-abbrev pub at_end : Place → Reading
+abbrev pub at_end : ListPlace → Reading
 at_end (in_braces depth) = Err UnmatchedBrace
 at_end in_quotes = Err UnmatchedQuote
 at_end _ = Ok ([], [])
 
-abbrev pub reading : Place → List Mark → Reading
+abbrev pub reading : ListPlace → List Mark → Reading
 reading place [] = at_end place
 reading place (m ∷ ms) = with_mark place m.kind m (reading (place_after place m.kind) ms)
 

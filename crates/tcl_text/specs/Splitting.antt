@@ -2,7 +2,7 @@
 use Rattle.std.specs.Prelude.{◌≡◌, ℕ, ◌+◌, ◌<◌, ◌≤◌, ◌==◌, ◌⊎◌, IsUtf8, codes, Bool, true, false, List, [], ◌∷◌, ◌++◌, take, drop, length, slice_index, Option, Some, None, Result, Ok, Err, ⊤}
 use Rattle.std.specs.Borrow.{Bor}
 use Rattle.tcl_text.specs.Backslash.{is_white, marks}
-use Rattle.tcl_text.specs.Readings.{Place, in_braces, in_quotes, in_bare, closed, Reading, onto, reading, list_of, are_balanced}
+use Rattle.tcl_text.specs.Readings.{ListPlace, in_braces, in_quotes, in_bare, closed, Reading, onto, reading, list_of, are_balanced}
 use Rattle.tcl_text.specs.declared.splitting.ByteKind.{ByteKind}
 use Rattle.tcl_text.specs.declared.splitting.ByteKind.TheVariants.{White, OpenBrace, Quote}
 use Rattle.tcl_text.specs.declared.splitting.ListFault.{ListFault}
@@ -28,11 +28,11 @@ items_before front (Ok items) = Ok (front ++ items)
 items_before front (Err fault) = Err fault
 
 -- the bytes in front of a place of the text go to the element that stands open, and reading goes on from there
-abbrev pub ReadsTo : Place → List ℕ → ℕ → List ℕ → Place → Type 0
+abbrev pub ReadsTo : ListPlace → List ℕ → ℕ → List ℕ → ListPlace → Type 0
 ReadsTo start text at bytes place = reading start (marks text) ≡ onto bytes (reading place (marks (drop at text)))
 
 -- an element in quotes, or a bare one
-abbrev pub within : Bool → Place
+abbrev pub within : Bool → ListPlace
 within true = in_quotes
 within false = in_bare
 
@@ -85,7 +85,7 @@ GivesBehind text at (Some behind) = (behind.now ≡ drop (at + 1) text) × (read
 GivesBehind text at None = reading closed (marks (drop (at + 1) text)) ≡ Err ExtraCharacters
 
 -- the text goes on with an item, and then with the list in what is left; or it is at fault, or memory was refused
-abbrev pub GivesItem : Place → List ℕ → Result (List ℕ × Bor (List ℕ)) SplitFault → Type 0
+abbrev pub GivesItem : ListPlace → List ℕ → Result (List ℕ × Bor (List ℕ)) SplitFault → Type 0
 GivesItem place text (Ok r) = (length r.1.now ≤ length text) × (reading place (marks text) ≡ onto r.0 (ended (list_of r.1.now)))
 GivesItem place text (Err (BadList fault)) = reading place (marks text) ≡ Err fault
 GivesItem place text (Err NoMemory) = ⊤

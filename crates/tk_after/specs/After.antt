@@ -51,13 +51,13 @@ cancel_words [] own = (own, wrong_args (codes "after cancel id|script ?script ..
 cancel_words (word ∷ words) own = cancel_text (concat_words (word ∷ words)) own
 
 -- `after info ?id?`: the names in order, or the script and whether it is a timer or idle
-abbrev pub kind_of : Option ℕ → List ℕ
-kind_of (Some due) = codes "timer"
-kind_of None = codes "idle"
+abbrev pub kind_told : Option ℕ → List ℕ
+kind_told (Some due) = codes "timer"
+kind_told None = codes "idle"
 
 abbrev pub info_of : List ℕ → Option Entry → Answer
 info_of name None = fails (codes "event " ++ quoted name ++ codes " doesn't exist")
-info_of name (Some entry) = answers (list_form (entry.script ∷ kind_of entry.due ∷ []))
+info_of name (Some entry) = answers (list_form (entry.script ∷ kind_told entry.due ∷ []))
 
 abbrev pub info_words : List (List ℕ) → List Entry → Answer
 info_words [] entries = answers (list_form (map name_of (ids entries)))

@@ -4,7 +4,7 @@ ghost use Rattle.tcl_text.specs.Answers.{answers};
 ghost use Rattle.tcl_text.specs.Readings.{integer_of, list_form};
 ghost use Rattle.tcl_text.specs.StringCommands.{concat_words};
 ghost use Rattle.tk_after.specs.Timers.{own_of, entries_of, ids, LeavesOthers};
-ghost use Rattle.tk_after.specs.After.{after_words, add_words, add_script, cancel_words, info_words, kind_of, name_of, delay_of, delay_words};
+ghost use Rattle.tk_after.specs.After.{after_words, add_words, add_script, cancel_words, info_words, kind_told, name_of, delay_of, delay_words};
 ghost use Rattle.tcl_text.specs.Limits.{last_moment};
 
 use crate::answers::{name_of, no_event};
@@ -193,7 +193,7 @@ fn names(alloc: Global, timers: &Timers, owner: usize) -> Result<Vec<Text>, Allo
 /// The script and whether it is a timer's or an idle one.
 fn entry_info(alloc: Global, entry: &Entry) -> Result<Answer, AllocError>
     ensures { IfOk result (λ answer.
-        answer ≡ answers (list_form (entry.now.script ∷ kind_of entry.now.due ∷ []))) }
+        answer ≡ answers (list_form (entry.now.script ∷ kind_told entry.now.due ∷ []))) }
 {
     let kind = match entry.due {
         Some(_) => "timer",

@@ -1,6 +1,5 @@
 //! The choice of scripts.
 ghost use Rattle.std.specs.Prelude.{◌≡◌, IfOk};
-ghost use Rattle.tcl_text.specs.Answers.{limit_text as limit_text_of};
 ghost use Rattle.tk_dispatch.specs.Dispatch.{script_of, scripts_for, scripts_of, with_fields};
 ghost use Rattle.tk_patterns.specs.Own as bindings_of;
 ghost use Rattle.tk_tree.specs.Own as windows_of;
@@ -120,17 +119,7 @@ fn with_fields(
             let _characters = text.as_str();
             Ok(Ok(text))
         }
-        Err(TextFault::TooLong) => Ok(Err(limit_text(alloc)?)),
+        Err(TextFault::TooLong) => Ok(Err(Text::of_short(alloc, "limit reached: value")?)),
         Err(TextFault::NoMemory) => Err(AllocError),
-    }
-}
-
-/// The text of a value past 65,536 bytes (4).
-fn limit_text(alloc: Global) -> Result<Text, AllocError>
-    ensures { IfOk result (λ text. text ≡ limit_text_of) }
-{
-    match Text::new(alloc, "limit reached: value") {
-        Ok(text) => Ok(text),
-        Err(_) => Err(AllocError),
     }
 }

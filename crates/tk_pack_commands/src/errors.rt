@@ -1,11 +1,12 @@
 //! The errors of `pack`.
 ghost use Rattle.std.specs.Prelude.{◌≡◌, ◌++◌, IfOk, string_bytes};
-ghost use Rattle.tcl_text.specs.Answers.{Gives, Refuses, bounded, quoted};
+ghost use Rattle.tcl_text.specs.Answers.{Gives, quoted};
 ghost use Rattle.tk_pack_commands.specs.Faults as spec;
 
 use std::alloc::{AllocError, Global};
 use tcl_text::Text;
-use tcl_text::answers::{Refusal, error, quoting_error};
+use tcl_text::answers::{Refusal, error, error_about, quoting_error};
+use tcl_text::message::quoting;
 
 /// The error for a path that names no window (24).
 pub fn bad_path<T>(alloc: Global, path: &Text) -> Result<T, Refusal>
@@ -25,14 +26,14 @@ pub fn is_top_level<T>(alloc: Global) -> Result<T, Refusal>
 pub fn not_packed<T>(alloc: Global, path: &Text) -> Result<T, Refusal>
     ensures { Gives result (spec.not_packed path.now) }
 {
-    Err(error_about(alloc, "window ", path, " isn't packed"))
+    Err(error_about(alloc, "window ", path.as_str(), " isn't packed"))
 }
 
 /// The error for a window that has another parent than those that are to be packed.
 pub fn not_sibling<T>(alloc: Global, path: &Text) -> Result<T, Refusal>
     ensures { Gives result (spec.not_sibling path.now) }
 {
-    Err(error_about(alloc, "window ", path, " isn't a sibling"))
+    Err(error_about(alloc, "window ", path.as_str(), " isn't a sibling"))
 }
 
 /// The error for a word that names no option (20).
@@ -56,7 +57,7 @@ pub fn bad_value<T>(alloc: Global, value: &Text, name: &Text) -> Result<T, Refus
 pub fn no_value<T>(alloc: Global, name: &Text) -> Result<T, Refusal>
     ensures { Gives result (spec.no_value name.now) }
 {
-    Err(error_about(alloc, "value for ", name, " missing"))
+    Err(error_about(alloc, "value for ", name.as_str(), " missing"))
 }
 
 /// The error for a word that is no boolean (2).
@@ -66,24 +67,9 @@ pub fn not_boolean<T>(alloc: Global, word: &Text) -> Result<T, Refusal>
     Err(quoting_error(alloc, "expected boolean value but got ", word.as_str()))
 }
 
-/// An error with a word in quotation marks in its text.
-fn error_about(alloc: Global, before: &str, word: &Text, behind: &str) -> Refusal
-    ensures { Refuses result (bounded (before.now ++ quoted word.now ++ behind.now)) }
-{
-    match about(alloc, before, word, behind) {
-        Ok(message) => error(alloc, message.as_str()),
-        Err(AllocError) => Refusal::NoMemory,
-    }
-}
-
 /// A word in quotation marks with what stands before and behind it.
 fn about(alloc: Global, before: &str, word: &Text, behind: &str) -> Result<String, AllocError>
     ensures { IfOk result (λ string. string_bytes string ≡ before.now ++ quoted word.now ++ behind.now) }
 {
-    let mut string = String::from_str(alloc, before)?;
-    string.push_str("\"")?;
-    string.push_str(word.as_str())?;
-    string.push_str("\"")?;
-    string.push_str(behind)?;
-    Ok(string)
+    quoting(alloc, before, word.as_str(), behind)
 }

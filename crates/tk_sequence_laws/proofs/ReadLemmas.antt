@@ -14,7 +14,7 @@ use Rattle.tk_keys.proofs.NamesLemmas.{length_key_names}
 use Rattle.tk_keys.specs.Names.{key_names, key_named, key_of_character}
 use Rattle.tk_sequences.specs.Modifiers.{modifier_bit}
 use Rattle.tk_sequences.specs.Patterns.{count_of, times_of}
-use Rattle.tk_sequences.specs.Reading.{Outcome, ◌>>=◌, fields, prefix_named, button_named, key_of_one, key_meant, is_single, key_or_fault, button_or_fault, detail_of, detail_behind, may_repeat, typed, button_or_key, type_of_detail, alone, untyped, typed_or_not, headed, with_prefix, pattern_behind, pattern_of, plain_key, plain_pattern, Place, Between, Within, onto, counted, patterns_from}
+use Rattle.tk_sequences.specs.Reading.{Outcome, ◌>>=◌, fields, prefix_named, button_named, key_of_one, key_meant, is_single, key_or_fault, button_or_fault, detail_of, detail_behind, may_repeat, typed, button_or_key, type_of_detail, alone, untyped, typed_or_not, headed, with_prefix, pattern_behind, pattern_of, plain_key, plain_pattern, ReadingPlace, Between, Within, onto, counted, patterns_from}
 use Rattle.tk_sequences.specs.Types.{type_named, is_key_type, is_button_type}
 use Rattle.tk_sequences.specs.declared.detail.Detail.{Detail}
 use Rattle.tk_sequences.specs.declared.detail.Detail.TheVariants.{Key, Button}
@@ -234,7 +234,7 @@ counted_read whole room (Ok pattern) rest patterns h f g =
     (λ t h. onto_read room pattern (rest (room - times_of pattern.times)) patterns (grind (arith, nat_tests, t)) (f pattern refl) h (g (room - times_of pattern.times)))
     (λ t h. absurd (cc))
 
-pub patterns_read : (whole : List ℕ) (place : Place) (room : ℕ) (text : List ℕ) (patterns : List Pattern) → patterns_from whole place room text ≡ Ok patterns → AreRead room patterns
+pub patterns_read : (whole : List ℕ) (place : ReadingPlace) (room : ℕ) (text : List ℕ) (patterns : List Pattern) → patterns_from whole place room text ≡ Ok patterns → AreRead room patterns
 patterns_read whole Between room [] patterns h = let same : [] ≡ patterns = cc in subst (AreRead room) same (record { each = tt; few = omega arith })
 patterns_read whole (Within inner) room [] patterns h = absurd (cc)
 patterns_read whole Between room (byte ∷ rest) patterns h =

@@ -10,7 +10,7 @@ use Rattle.std.proofs.lemmas.List.Sums.{prefix_len-le-length, prefix_len-drop_no
 use Rattle.std.proofs.lemmas.Str.{IsCharBoundary-after_ascii, IsCharBoundary-start, IsCharBoundary-at_seam, IsUtf8-drop}
 use Rattle.tcl_text.specs.Backslash.{is_white}
 use Rattle.tk_sequences.specs.Patterns.{count_of, times_of}
-use Rattle.tk_sequences.specs.Reading.{Outcome, Place, Between, Within, patterns_from, counted, onto, pattern_of, plain_pattern, plain_key, behind_white, CutsOff, IsRefused}
+use Rattle.tk_sequences.specs.Reading.{Outcome, ReadingPlace, Between, Within, patterns_from, counted, onto, pattern_of, plain_pattern, plain_key, behind_white, CutsOff, IsRefused}
 use Rattle.tk_sequences.specs.declared.fault.SequenceFault.{SequenceFault}
 use Rattle.tk_sequences.specs.declared.fault.SequenceFault.TheVariants.{BadSequence, BadKeysym}
 use Rattle.tk_sequences.specs.declared.pattern.Pattern.{Pattern}

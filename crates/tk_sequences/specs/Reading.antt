@@ -169,9 +169,9 @@ plain_pattern whole byte = plain_key whole (key_of_character byte)
 -- ---- patterns
 
 -- between patterns, or behind `<` with the bytes that stand behind it so far
-pub data Place : Type 0 where
-  Between : Place
-  Within : List ℕ → Place
+pub data ReadingPlace : Type 0 where
+  Between : ReadingPlace
+  Within : List ℕ → ReadingPlace
 
 abbrev pub onto : Pattern → Outcome (List Pattern) → Outcome (List Pattern)
 onto pattern (Ok patterns) = Ok (pattern ∷ patterns)
@@ -184,7 +184,7 @@ counted whole room (Ok pattern) rest =
     if nat_le (times_of pattern.times) room then onto pattern (rest (room - times_of pattern.times)) else Err (BadSequence whole)
 
 -- the patterns that a text is, from a place on
-abbrev pub patterns_from : List ℕ → Place → ℕ → List ℕ → Outcome (List Pattern)
+abbrev pub patterns_from : List ℕ → ReadingPlace → ℕ → List ℕ → Outcome (List Pattern)
 patterns_from whole Between room [] = Ok []
 patterns_from whole (Within inner) room [] = Err (BadSequence whole)
 patterns_from whole Between room (byte ∷ rest) =

@@ -16,7 +16,7 @@ use Rattle.tk_session.specs.declared.fault.LineFault.TheVariants as faults
 use Rattle.tk_session.specs.declared.session.AliasLine.{AliasLine}
 use Rattle.tk_session.specs.Names.{is_command_name, is_printing, kind_word}
 use Rattle.tk_session.specs.Session.{spelled, SpellsAlias, IsAliasInRange, IsAliasLine, IsServed, HindersAlias, MayJoin}
-use Rattle.tk_session.specs.Reading.{alias_hindrance, alias_line_of, alias_of, behind, command_name_of, config_of, cut_at, cut_service, is_served, kind_of, service_of, utf8_of}
+use Rattle.tk_session.specs.Reading.{alias_hindrance, alias_line_of, alias_of, behind, command_name_of, config_of, cut_at, cut_service, is_served, service_kind, service_of, utf8_of}
 use Rattle.tk_session.proofs.LineLaws.{Lacks, behind-some, bind_some, cut_at-append, cut_at-lacks, cut_at-parts, lacks_from_test, same_bytes}
 use Rattle.tk_session.proofs.Hindrances.{test_false}
 
@@ -27,18 +27,18 @@ pub chosen : {A : Type 0} (test : Bool) (own others : Option A) (y : A) → (if 
 chosen true own others y h = inl (refl, h)
 chosen false own others y h = inr h
 
-kind_of-word : (kind : ServiceKind) → kind_of (kind_word kind) ≡ Some kind
-kind_of-word Const = refl
-kind_of-word Upper = refl
-kind_of-word Table = refl
-kind_of-word Sum = refl
-kind_of-word Fail = refl
+service_kind-word : (kind : ServiceKind) → service_kind (kind_word kind) ≡ Some kind
+service_kind-word Const = refl
+service_kind-word Upper = refl
+service_kind-word Table = refl
+service_kind-word Sum = refl
+service_kind-word Fail = refl
 
 spelled_kind : (word : List ℕ) (own kind : ServiceKind) → bytes_eq word (kind_word own) ≡ true → Some own ≡ Some kind → word ≡ kind_word kind
 spelled_kind word own kind same is = same_bytes word (kind_word own) same ∙ ap kind_word (same_Some _ _ is)
 
-kind_of-some : (word : List ℕ) (kind : ServiceKind) → kind_of word ≡ Some kind → word ≡ kind_word kind
-kind_of-some word kind h =
+service_kind-some : (word : List ℕ) (kind : ServiceKind) → service_kind word ≡ Some kind → word ≡ kind_word kind
+service_kind-some word kind h =
     elim (chosen (bytes_eq word (codes "const")) (Some Const) _ kind h) [
       | inl is ↦ spelled_kind word Const kind is.0 is.1
       | inr no_const ↦ elim (chosen (bytes_eq word (codes "upper")) (Some Upper) _ kind no_const) [
@@ -98,21 +98,21 @@ config_of-some text config h =
 cut_service-some : (text : List ℕ) (parts : Option (List ℕ × List ℕ)) (service : ServiceKind × List ℕ) → cut_at 32 text ≡ parts → cut_service text parts ≡ Some service
     → IsServiceRead text service
 cut_service-some text None service cut h =
-    let kind = bind_some (kind_of text) _ service h in
+    let kind = bind_some (service_kind text) _ service h in
     let P : (ServiceKind × List ℕ) → Type 0 = λ s. IsServiceRead text s in
     subst P (same_Some _ _ kind.1.1) record {
-      spells = inr (kind_of-some text kind.0 kind.1.0, refl);
+      spells = inr (service_kind-some text kind.0 kind.1.0, refl);
       utf8 = IsUtf8-from_ascii [] (λ i. omega arith);
       short = omega arith;
     }
 cut_service-some text (Some parts) service cut h =
-    let kind = bind_some (kind_of parts.0) _ service h in
+    let kind = bind_some (service_kind parts.0) _ service h in
     let config = bind_some (config_of parts.1) _ service kind.1.1 in
     let config_is = config_of-some parts.1 config.0 config.1.0 in
     let P : (ServiceKind × List ℕ) → Type 0 = λ s. IsServiceRead text s in
     subst P (same_Some _ _ config.1.1) record {
       spells = inl (cut_at-parts 32 text parts cut
-          ∙ ap (λ (word : List ℕ). word ++ 32 ∷ parts.1) (kind_of-some parts.0 kind.0 kind.1.0)
+          ∙ ap (λ (word : List ℕ). word ++ 32 ∷ parts.1) (service_kind-some parts.0 kind.0 kind.1.0)
           ∙ ap (λ (rest : List ℕ). kind_word kind.0 ++ 32 ∷ rest) config_is.0);
       utf8 = config_is.1;
       short = config_is.2;
@@ -125,11 +125,11 @@ service_of-some text service h = cut_service-some text (cut_at 32 text) service 
 service_of-spelled : (kind : ServiceKind) (config : List ℕ) → IsUtf8 config → length config ≤ 65536 → service_of (kind_word kind ++ 32 ∷ config) ≡ Some (kind, config)
 unfolding service_of
 service_of-spelled kind config utf8 short =
-    rw (cut_at-append 32 (kind_word kind) config (Lacks-kind kind), kind_of-word kind, is_utf8-from_IsUtf8 config utf8, le-leb (length config) 65536 short) refl
+    rw (cut_at-append 32 (kind_word kind) config (Lacks-kind kind), service_kind-word kind, is_utf8-from_IsUtf8 config utf8, le-leb (length config) 65536 short) refl
 
 service_of-bare : (kind : ServiceKind) → service_of (kind_word kind) ≡ Some (kind, [])
 unfolding service_of
-service_of-bare kind = rw (cut_at-lacks 32 (kind_word kind) (Lacks-kind kind), kind_of-word kind) refl
+service_of-bare kind = rw (cut_at-lacks 32 (kind_word kind) (Lacks-kind kind), service_kind-word kind) refl
 
 -- ---- the line
 

@@ -19,7 +19,7 @@ use Rattle.tk_session.specs.declared.stage.Format.{Format}
 use Rattle.tk_session.specs.declared.stage.Format.TheVariants.{First, Second}
 use Rattle.tk_session.specs.declared.stage.Stage.{Stage}
 use Rattle.tk_session.specs.declared.stage.Stage.TheVariants as stages
-use Rattle.tk_session.specs.Session.{heading, events, head_of, IsAppLine, IsAliasLine, IsScriptLine, IsScript, IsOpening, IsBlock, AreSaid, SaysAlias, SaysEvent, IsEventLine, IsEndLine, moment_at, MayFollow, Hinders, HindersAlias, HindersEvent, AreBlocks, Place, AtHeading, AtBlock, AtScript, AtText, AtEvent, PastEnd, Plan, Leads, IsFaulty, IsCut, IsRefused, IsAtFault}
+use Rattle.tk_session.specs.Session.{heading, events, head_of, IsAppLine, IsAliasLine, IsScriptLine, IsScript, IsOpening, IsBlock, AreSaid, SaysAlias, SaysEvent, IsEventLine, IsEndLine, moment_at, MayFollow, Hinders, HindersAlias, HindersEvent, AreBlocks, ReadingPoint, AtHeading, AtBlock, AtScript, AtText, AtEvent, PastEnd, Plan, Leads, IsFaulty, IsCut, IsRefused, IsAtFault}
 use Rattle.tk_session.specs.Reading.{step, run, finished, and_on, closed, app_line_of, alias_line_of, script_line_of, event_line_of, end_line_of}
 use Rattle.tk_session.proofs.LineLaws.{app_line_of-some, app_line_of-spelled, script_line_of-some, script_line_of-spelled, end_line_of-some, end_line_of-spelled, same_bytes}
 use Rattle.tk_session.proofs.AliasLaws.{alias_line_of-some, alias_line_of-spelled, alias_line_of-script, alias_hindrance-may, alias_hindrance-hinders}
@@ -28,7 +28,7 @@ use Rattle.tk_session.proofs.Hindrances.{hindrance-may, hindrance-hinders}
 use Rattle.tk_session.proofs.Scripts.{so_far, so_far-push, IsScript-front, text_step-taken, text_step-refused}
 
 -- the stage at a place
-abbrev pub stage_of : Place → Stage
+abbrev pub stage_of : ReadingPoint → Stage
 stage_of AtHeading = stages.Heading
 stage_of (AtBlock format apps) = stages.Block format apps
 stage_of (AtScript format apps head) = stages.Script format apps head
@@ -233,7 +233,7 @@ reaches_event format apps told blocks others rest are said =
     ∙ ap (λ n. run (stages.Event format apps (screen_at apps told) told) n rest) numbers)
 
 -- the lines before a place lead to its stage
-pub reaches : (place : Place) (before rest : List (List ℕ)) → Leads before place → run stages.Heading 0 (before ++ rest) ≡ run (stage_of place) (length before) rest
+pub reaches : (place : ReadingPoint) (before rest : List (List ℕ)) → Leads before place → run stages.Heading 0 (before ++ rest) ≡ run (stage_of place) (length before) rest
 reaches AtHeading before rest leads = rw leads refl
 reaches (AtBlock format apps) before rest leads = rw leads.1 (reaches_block format apps leads.0 rest leads.2)
 reaches (AtScript format apps head) before rest leads =
@@ -304,7 +304,7 @@ step-late format apps told line fault (inr back) =
     rw (event_line_of-end format apps line back.0 back.1, end_line_of-spelled line back.0 back.1, lt-ltb back.0 (moment_at told) back.2, back.3) refl
 
 -- a faulty line is refused with its fault
-pub step-faulty : (place : Place) (before : List (List ℕ)) (line : List ℕ) (fault : LineFault) → Leads before place → IsFaulty place line fault → step (stage_of place) line ≡ Err fault
+pub step-faulty : (place : ReadingPoint) (before : List (List ℕ)) (line : List ℕ) (fault : LineFault) → Leads before place → IsFaulty place line fault → step (stage_of place) line ≡ Err fault
 step-faulty AtHeading before line fault leads is = rw (differs line (heading First) is.0, differs line (heading Second) is.1, is.2) refl
 step-faulty (AtBlock format apps) before line fault leads is =
     elim is [
@@ -333,7 +333,7 @@ step-faulty (AtEvent format apps told) before line fault leads is =
     ]
 step-faulty (PastEnd session) before line fault leads is = rw is refl
 
-finished-cut : (place : Place) (fault : LineFault) (number : ℕ) → IsCut place fault → finished (stage_of place) number ≡ Err (fault, number)
+finished-cut : (place : ReadingPoint) (fault : LineFault) (number : ℕ) → IsCut place fault → finished (stage_of place) number ≡ Err (fault, number)
 finished-cut AtHeading fault number is = rw is refl
 finished-cut (AtBlock format apps) fault number is = rw is refl
 finished-cut (AtScript format apps head) fault number is = rw is refl
@@ -342,7 +342,7 @@ finished-cut (AtEvent format apps told) fault number is = rw is refl
 finished-cut (PastEnd session) fault number is = absurd is
 
 -- what comes next at a place is refused as it is faulty
-pub run-refused : (place : Place) (before rest : List (List ℕ)) (fault : LineFault) (number : ℕ) → Leads before place → IsRefused place rest fault → run (stage_of place) number rest ≡ Err (fault, number + 1)
+pub run-refused : (place : ReadingPoint) (before rest : List (List ℕ)) (fault : LineFault) (number : ℕ) → Leads before place → IsRefused place rest fault → run (stage_of place) number rest ≡ Err (fault, number + 1)
 run-refused place before [] fault number leads is = finished-cut place fault (number + 1) is
 run-refused place before (line ∷ lines) fault number leads is = run-fault (stage_of place) fault number line lines (step-faulty place before line fault leads is)
 

@@ -23,7 +23,7 @@ use Rattle.tk_session.specs.declared.stage.Format.{Format}
 use Rattle.tk_session.specs.declared.stage.Format.TheVariants.{First, Second}
 use Rattle.tk_session.specs.declared.stage.Stage.{Stage}
 use Rattle.tk_session.specs.declared.stage.Stage.TheVariants as stages
-use Rattle.tk_session.specs.Session.{lines_of, IsAnswer, IsSession, HasFault, AreAllowed, IsAllowed, heading, events, IsAppLine, IsAliasLine, IsScriptLine, IsScript, IsOpening, IsBlock, AreSaid, SaysAlias, SaysEvent, IsEventLine, IsEndLine, MayServe, MayHappen, moment_at, MayFollow, AreBlocks, Place, AtHeading, AtBlock, AtScript, AtText, AtEvent, PastEnd, Plan, Leads, IsFaulty, IsAtFault}
+use Rattle.tk_session.specs.Session.{lines_of, IsAnswer, IsSession, HasFault, AreAllowed, IsAllowed, heading, events, IsAppLine, IsAliasLine, IsScriptLine, IsScript, IsOpening, IsBlock, AreSaid, SaysAlias, SaysEvent, IsEventLine, IsEndLine, MayServe, MayHappen, moment_at, MayFollow, AreBlocks, ReadingPoint, AtHeading, AtBlock, AtScript, AtText, AtEvent, PastEnd, Plan, Leads, IsFaulty, IsAtFault}
 use Rattle.tk_session.specs.Reading.{Reads, with_line, step, run, finished, and_on, admitted, app_step, alias_admitted, alias_hindrance, alias_line_of, alias_of, alias_step, count_step, event_admitted, event_hindrance, event_line_of, event_or_end, joined, moment_step, text_read, app_line_of, script_line_of, end_line_of, hindrance}
 use Rattle.tk_session.proofs.AliasLaws.{JudgedAlias, judged_alias, alias_line_of-some, alias_line_of-spelled}
 use Rattle.tk_session.proofs.EventLaws.{JudgedEvent, judged_event, event_line_of-some, event_line_of-spelled, screen_at, screen_at-push}
@@ -62,10 +62,10 @@ AreSaid-push {A} Says before (y ∷ xs) x (first ∷ lines) line are says =
 
 -- a line leads on to a stage
 abbrev pub LeadsOn : List (List ℕ) → List ℕ → Stage → Type 0
-LeadsOn before line next = (place : Place) × Leads (before ++ line ∷ []) place × (next ≡ stage_of place)
+LeadsOn before line next = (place : ReadingPoint) × Leads (before ++ line ∷ []) place × (next ≡ stage_of place)
 
 -- what a step says of a line holds
-abbrev pub Judges : Place → List (List ℕ) → List ℕ → Result Stage LineFault → Type 0
+abbrev pub Judges : ReadingPoint → List (List ℕ) → List ℕ → Result Stage LineFault → Type 0
 Judges place before line (Ok next) = LeadsOn before line next
 Judges place before line (Err fault) = IsFaulty place line fault
 
@@ -282,7 +282,7 @@ text_read-judged format apps head count texts before line leads is =
           )
     ]
 
-step-judged : (place : Place) (before : List (List ℕ)) (line : List ℕ) → Leads before place → Judges place before line (step (stage_of place) line)
+step-judged : (place : ReadingPoint) (before : List (List ℕ)) (line : List ℕ) → Leads before place → Judges place before line (step (stage_of place) line)
 step-judged AtHeading before line leads =
     elim (cases_Bool (bytes_eq line (heading First))) [
       | inl same ↦ rw same (AtBlock First [], ([], rw leads (ap (λ l. l ∷ []) (same_bytes line (heading First) same)), refl), refl)
@@ -310,7 +310,7 @@ abbrev pub Tells : List (List ℕ) → Result Plan (LineFault × ℕ) → Type 0
 Tells lines (Ok session) = Leads lines (PastEnd session)
 Tells lines (Err fault) = IsAtFault lines fault.0 fault.1
 
-finished-tells : (place : Place) (before : List (List ℕ)) → Leads before place → Tells before (finished (stage_of place) (length before + 1))
+finished-tells : (place : ReadingPoint) (before : List (List ℕ)) → Leads before place → Tells before (finished (stage_of place) (length before + 1))
 finished-tells AtHeading before leads = (before, [], AtHeading, sym (append-nil before), refl, leads, refl)
 finished-tells (AtBlock format apps) before leads = (before, [], AtBlock format apps, sym (append-nil before), refl, leads, refl)
 finished-tells (AtScript format apps head) before leads = (before, [], AtScript format apps head, sym (append-nil before), refl, leads, refl)
@@ -320,9 +320,9 @@ finished-tells (PastEnd session) before leads = leads
 
 -- what the rest of the lines tells from each place
 abbrev pub RestTells : List (List ℕ) → Type 0
-RestTells rest = (before : List (List ℕ)) (place : Place) → Leads before place → Tells (before ++ rest) (run (stage_of place) (length before) rest)
+RestTells rest = (before : List (List ℕ)) (place : ReadingPoint) → Leads before place → Tells (before ++ rest) (run (stage_of place) (length before) rest)
 
-and_on-tells : (lines before : List (List ℕ)) (line : List ℕ) (place : Place) (judged : Result Stage LineFault) → RestTells lines → Leads before place → Judges place before line judged → Tells (before ++ line ∷ lines) (and_on judged (length before + 1) (λ next. run next (length before + 1) lines))
+and_on-tells : (lines before : List (List ℕ)) (line : List ℕ) (place : ReadingPoint) (judged : Result Stage LineFault) → RestTells lines → Leads before place → Judges place before line judged → Tells (before ++ line ∷ lines) (and_on judged (length before + 1) (λ next. run next (length before + 1) lines))
 and_on-tells lines before line place (Ok next) tells leads on =
     let longer : length (before ++ line ∷ []) ≡ length before + 1 = length-append before (line ∷ []) in
     let P : List (List ℕ) → Type 0 = λ ls. Tells ls (run next (length before + 1) lines) in

@@ -136,8 +136,8 @@ app_line_of format line = do
 
 -- ---- aliases
 
-abbrev pub kind_of : List ℕ → Option ServiceKind
-kind_of word =
+abbrev pub service_kind : List ℕ → Option ServiceKind
+service_kind word =
     if bytes_eq word (codes "const") then Some Const
     else (if bytes_eq word (codes "upper") then Some Upper
     else (if bytes_eq word (codes "table") then Some Table
@@ -153,10 +153,10 @@ config_of text = do
 -- the kind and the configuration of a text that was cut at its blank, if it has one
 abbrev pub cut_service : List ℕ → Option (List ℕ × List ℕ) → Option (ServiceKind × List ℕ)
 cut_service text None = do
-  kind ← kind_of text
+  kind ← service_kind text
   Some (kind, [])
 cut_service text (Some parts) = do
-  kind ← kind_of parts.0
+  kind ← service_kind parts.0
   config ← config_of parts.1
   Some (kind, config)
 
@@ -378,10 +378,10 @@ step (stages.Event format apps screen told) line = event_step format apps screen
 step (stages.Whole apps told end) line = Err BadLine
 
 -- what a step returned is what the definition tells, unless memory was refused
-abbrev pub Gives : Result Stage LineError → Result Stage LineFault → Type 0
-Gives (Ok stage) told = told ≡ Ok stage
-Gives (Err NoMemory) told = Unit {0}
-Gives (Err (Faulty fault)) told = told ≡ Err fault
+abbrev pub StepGives : Result Stage LineError → Result Stage LineFault → Type 0
+StepGives (Ok stage) told = told ≡ Ok stage
+StepGives (Err NoMemory) told = Unit {0}
+StepGives (Err (Faulty fault)) told = told ≡ Err fault
 
 -- the end of the text at a stage, as the line of this number
 abbrev pub finished : Stage → ℕ → Result Plan (LineFault × ℕ)

@@ -246,21 +246,21 @@ pub record Plan : Type 0 where
   pub end : ℕ
 
 -- A place in a session: what the lines before it have told, and which line comes next.
-pub data Place : Type 0 where
-  AtHeading : Place
+pub data ReadingPoint : Type 0 where
+  AtHeading : ReadingPoint
   -- the first line of an application, or `events`
-  AtBlock : (format : Format) (apps : List AppBlock) → Place
+  AtBlock : (format : Format) (apps : List AppBlock) → ReadingPoint
   -- a line of an alias, or the script line
-  AtScript : (format : Format) (apps : List AppBlock) (head : Head) → Place
+  AtScript : (format : Format) (apps : List AppBlock) (head : Head) → ReadingPoint
   -- a line of a script of so many, of which these have come
-  AtText : (format : Format) (apps : List AppBlock) (head : Head) (count : ℕ) (texts : List (List ℕ)) → Place
+  AtText : (format : Format) (apps : List AppBlock) (head : Head) (count : ℕ) (texts : List (List ℕ)) → ReadingPoint
   -- a line of the screen or the keyboard, or the end line
-  AtEvent : (format : Format) (apps : List AppBlock) (told : List EventLine) → Place
+  AtEvent : (format : Format) (apps : List AppBlock) (told : List EventLine) → ReadingPoint
   -- nothing
-  PastEnd : (session : Plan) → Place
+  PastEnd : (session : Plan) → ReadingPoint
 
 -- the lines before a place
-abbrev pub Leads : List (List ℕ) → Place → Type 0
+abbrev pub Leads : List (List ℕ) → ReadingPoint → Type 0
 Leads lines AtHeading = lines ≡ []
 Leads lines (AtBlock format apps) = (blocks : List (List ℕ)) × (lines ≡ heading format ∷ blocks) × AreBlocks format [] blocks apps
 Leads lines (AtScript format apps head) = (blocks : List (List ℕ)) × (opening : List (List ℕ))
@@ -279,7 +279,7 @@ Leads lines (PastEnd session) = (format : Format) × (blocks : List (List ℕ)) 
     × IsEndLine last session.end × (moment_at session.events ≤ session.end)
 
 -- what is wrong with a line at a place
-abbrev pub IsFaulty : Place → List ℕ → LineFault → Type 0
+abbrev pub IsFaulty : ReadingPoint → List ℕ → LineFault → Type 0
 IsFaulty AtHeading line fault = (line ≢ heading First) × (line ≢ heading Second) × (fault ≡ BadLine)
 IsFaulty (AtBlock format apps) line fault =
     ((line ≢ events) × ((name : List ℕ) (rect : Rect) (budget : Budget) → ¬ IsAppLine format line name rect budget) × (fault ≡ BadLine))
@@ -295,12 +295,12 @@ IsFaulty (AtEvent format apps told) line fault =
 IsFaulty (PastEnd session) line fault = fault ≡ BadLine
 
 -- what is wrong with the end of the text at a place
-abbrev pub IsCut : Place → LineFault → Type 0
+abbrev pub IsCut : ReadingPoint → LineFault → Type 0
 IsCut (PastEnd session) fault = ⊥
 IsCut _ fault = fault ≡ BadLine
 
 -- what is wrong at a place with what comes next, a line or the end of the text
-abbrev pub IsRefused : Place → List (List ℕ) → LineFault → Type 0
+abbrev pub IsRefused : ReadingPoint → List (List ℕ) → LineFault → Type 0
 IsRefused place [] fault = IsCut place fault
 IsRefused place (line ∷ lines) fault = IsFaulty place line fault
 
@@ -335,7 +335,7 @@ IsSession bytes session = Leads (lines_of bytes) (PastEnd session)
 -- The lines are no session: what is wrong with the first faulty one, and its number.
 -- The one after the last stands for the end of the text.
 abbrev pub IsAtFault : List (List ℕ) → LineFault → ℕ → Type 0
-IsAtFault lines fault number = (before : List (List ℕ)) × (after : List (List ℕ)) × (place : Place)
+IsAtFault lines fault number = (before : List (List ℕ)) × (after : List (List ℕ)) × (place : ReadingPoint)
     × (lines ≡ before ++ after)
     × (number ≡ length before + 1)
     × Leads before place

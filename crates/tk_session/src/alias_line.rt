@@ -2,7 +2,7 @@
 ghost use Rattle.std.specs.Prelude.{◌≡◌, ◌≤◌, length, option_map, IfSome};
 ghost use Rattle.std.specs.List.{list_all};
 ghost use Rattle.tk_session.specs.Names.{begins_apart, is_command_name, is_printing};
-ghost use Rattle.tk_session.specs.Reading.{alias_line_of, command_name_of, config_of, cut_service, kind_of, service_of};
+ghost use Rattle.tk_session.specs.Reading.{alias_line_of, command_name_of, config_of, cut_service, service_kind, service_of};
 ghost use Rattle.tcl_text.specs.Limits.{most_bytes};
 
 use crate::line::{as_text, cut, fields_behind, utf8};
@@ -62,7 +62,7 @@ fn command_name(field: &[u8]) -> Option<&str>
 }
 
 fn kind(word: &[u8]) -> Option<ServiceKind>
-    ensures { result ≡ kind_of word.now }
+    ensures { result ≡ service_kind word.now }
 {
     if word == b"const".as_slice() {
         Some(ServiceKind::Const)

@@ -1,7 +1,7 @@
 //! The reading of a session, one line at a time.
 
 ghost use Rattle.std.specs.Prelude.{◌≡◌, ◌≤◌, length, IfOk, IfErr, Ok};
-ghost use Rattle.tk_session.specs.Reading.{Gives, overlap, is_taken, is_covered, hindrance, is_served, alias_hindrance, alias_of, app_line_of, closed, count_step, end_line_of, event_hindrance, joined, script_line_of, heading_step, app_step, block_step, script_step, text_step, moment_step, event_admitted, event_step, step};
+ghost use Rattle.tk_session.specs.Reading.{StepGives, overlap, is_taken, is_covered, hindrance, is_served, alias_hindrance, alias_of, app_line_of, closed, count_step, end_line_of, event_hindrance, joined, script_line_of, heading_step, app_step, block_step, script_step, text_step, moment_step, event_admitted, event_step, step};
 ghost use Rattle.tcl_text.specs.Limits.{most_bytes};
 
 use crate::alias_line::{AliasFields, alias_line};
@@ -138,7 +138,7 @@ fn alias_hindrance_of(aliases: &[AliasLine], name: &str) -> Option<LineFault>
 }
 
 fn read_heading(alloc: Global, line: &[u8]) -> Result<Stage, LineError>
-    ensures { Gives result (heading_step line.now) }
+    ensures { StepGives result (heading_step line.now) }
 {
     let apps = Listing::new(alloc);
     if line == b"tkhost 1".as_slice() {
@@ -162,7 +162,7 @@ fn read_block(
     apps: Listing<AppBlock>,
     line: &[u8],
 ) -> Result<Stage, LineError>
-    ensures { Gives result (block_step format apps line.now) }
+    ensures { StepGives result (block_step format apps line.now) }
 {
     if line == b"events".as_slice() {
         let screen = Screen::new(alloc, apps.as_slice())?;
@@ -182,7 +182,7 @@ fn read_app(
     apps: Listing<AppBlock>,
     line: &[u8],
 ) -> Result<Stage, LineError>
-    ensures { Gives result (app_step format apps (app_line_of format line.now)) }
+    ensures { StepGives result (app_step format apps (app_line_of format line.now)) }
 {
     let Some(app) = app_line(format, line) else {
         return Err(LineError::Faulty(LineFault::BadLine));
@@ -206,7 +206,7 @@ fn close(
     head: Head,
     script: Text,
 ) -> Result<Stage, LineError>
-    ensures { Gives result (Ok (closed format apps head script)) }
+    ensures { StepGives result (Ok (closed format apps head script)) }
 {
     let Head {
         name,
@@ -249,7 +249,7 @@ fn join(
     mut head: Head,
     alias: AliasLine,
 ) -> Result<Stage, LineError>
-    ensures { Gives result (Ok (Stage.Script format apps (joined head alias))) }
+    ensures { StepGives result (Ok (Stage.Script format apps (joined head alias))) }
 {
     head.aliases.push(alias)?;
     Ok(Stage::Script { format, apps, head })
@@ -262,7 +262,7 @@ fn read_script_line(
     head: Head,
     line: &[u8],
 ) -> Result<Stage, LineError>
-    ensures { Gives result (script_step format apps head line.now) }
+    ensures { StepGives result (script_step format apps head line.now) }
 {
     match alias_line(line) {
         None => read_count(alloc, format, apps, head, line),
@@ -283,7 +283,7 @@ fn read_count(
     head: Head,
     line: &[u8],
 ) -> Result<Stage, LineError>
-    ensures { Gives result (count_step format apps head (script_line_of line.now)) }
+    ensures { StepGives result (count_step format apps head (script_line_of line.now)) }
 {
     match script_line(line) {
         None => Err(LineError::Faulty(LineFault::BadLine)),
@@ -308,7 +308,7 @@ fn read_text(
     script: ScriptText,
     line: &[u8],
 ) -> Result<Stage, LineError>
-    ensures { Gives result (text_step format apps head left script line.now) }
+    ensures { StepGives result (text_step format apps head left script line.now) }
 {
     let Some(text) = utf8(line) else {
         return Err(LineError::Faulty(LineFault::BadLine));
@@ -336,7 +336,7 @@ fn read_event(
     told: Listing<EventLine>,
     line: &[u8],
 ) -> Result<Stage, LineError>
-    ensures { Gives result (event_step format apps screen told line.now) }
+    ensures { StepGives result (event_step format apps screen told line.now) }
 {
     match event_line(format, apps.as_slice(), line) {
         None => read_end(apps, screen, told, line),
@@ -352,7 +352,7 @@ fn admit(
     mut told: Listing<EventLine>,
     event: &EventLine,
 ) -> Result<Stage, LineError>
-    ensures { Gives result (event_admitted format apps screen told event.now (event_hindrance screen event.now)) }
+    ensures { StepGives result (event_admitted format apps screen told event.now (event_hindrance screen event.now)) }
 {
     if let Some(fault) = screen.hindrance_of(event) {
         return Err(LineError::Faulty(fault));
@@ -373,7 +373,7 @@ fn read_end(
     told: Listing<EventLine>,
     line: &[u8],
 ) -> Result<Stage, LineError>
-    ensures { Gives result (moment_step apps screen told (end_line_of line.now)) }
+    ensures { StepGives result (moment_step apps screen told (end_line_of line.now)) }
 {
     match end_line(line) {
         None => Err(LineError::Faulty(LineFault::BadLine)),
@@ -385,7 +385,7 @@ fn read_end(
 impl Stage {
     /// Takes the next line.
     pub(crate) fn step(self, alloc: Global, line: &[u8]) -> Result<Stage, LineError>
-        ensures { Gives result (step self line.now) }
+        ensures { StepGives result (step self line.now) }
     {
         match self {
             Stage::Heading => read_heading(alloc, line),

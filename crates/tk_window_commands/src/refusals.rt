@@ -4,10 +4,9 @@ ghost use Rattle.tcl_text.specs.Answers.{Gives, Refuses, bounded, quoted};
 ghost use Rattle.tk_window_commands.specs.Answers as spec;
 ghost use Rattle.tk_window_commands.specs.Create.{name_in, refusal_text};
 
-use std::alloc::{AllocError, Global};
+use std::alloc::Global;
 use tcl_text::Text;
-use tcl_text::answers::{Refusal, error, quoting_error};
-use tcl_text::message::quoting;
+use tcl_text::answers::{Refusal, error, error_about, quoting_error};
 use tk_tree::{WindowFault, parent_and_name};
 
 /// The error for what is no path of a window that is there (24).
@@ -50,8 +49,5 @@ pub fn name_in(path: &str) -> &str
 fn name_taken(alloc: Global, name: &str) -> Refusal
     ensures { Refuses result (bounded (codes "window name " ++ (quoted name.now ++ codes " already exists in parent"))) }
 {
-    match quoting(alloc, "window name ", name, " already exists in parent") {
-        Ok(text) => error(alloc, text.as_str()),
-        Err(AllocError) => Refusal::NoMemory,
-    }
+    error_about(alloc, "window name ", name, " already exists in parent")
 }

@@ -3,7 +3,7 @@ ghost use Rattle.std.specs.Prelude.{◌≡◌, ◌++◌, string_bytes};
 ghost use Rattle.std.specs.Fmt.{decimal};
 ghost use Rattle.tcl_text.specs.Answers.{Gives, Refuses, answers, bounded, truth as truth_of, place as place_of, limit_text, quoted, wrong_args as wrong_args_of, bad_option as bad_option_of, bad_index as bad_index_of, expected_integer};
 
-use crate::message::with_quoted;
+use crate::message::{quoting, with_quoted};
 use crate::text::{Text, TextFault};
 use itoa::Buffer;
 use std::alloc::{AllocError, AllocFailed, Global};
@@ -159,6 +159,16 @@ pub fn quoting_error(alloc: Global, message: &str, word: &str) -> Refusal
     ensures { Refuses result (bounded (message.now ++ quoted word.now)) }
 {
     match with_quoted(alloc, message, word) {
+        Ok(text) => error(alloc, text.as_str()),
+        Err(AllocError) => Refusal::NoMemory,
+    }
+}
+
+/// An error with a word in quotation marks between what stands before and behind it, or the limit's (4) where its text is past 65,536 bytes.
+pub fn error_about(alloc: Global, before: &str, word: &str, behind: &str) -> Refusal
+    ensures { Refuses result (bounded (before.now ++ (quoted word.now ++ behind.now))) }
+{
+    match quoting(alloc, before, word, behind) {
         Ok(text) => error(alloc, text.as_str()),
         Err(AllocError) => Refusal::NoMemory,
     }

@@ -87,7 +87,8 @@ impl ScriptCache {
 
     /// The script of a text, if it is kept.
     fn copy_of(&self, text: &str) -> Result<Option<Script>, AllocError>
-        ensures { IfOk result (λ found. MatchOption found (is_kept text.now self.now ≡ false) (λ script. (script ≡ text.now) × (IsOk (commands_of text.now)) × (is_kept text.now self.now ≡ true))) }
+        ensures { IfOk result (λ found. MatchOption found (is_kept text.now self.now ≡ false)
+            (λ script. (script ≡ text.now) × (IsOk (commands_of text.now)) × (is_kept text.now self.now ≡ true))) }
     {
         match self.scripts.peek(text) {
             Some(script) => {

@@ -17,7 +17,8 @@ pub fn set_one(
     value: Text,
 ) -> Result<Option<Text>, AllocError>
     requires { level < length scopes.old }
-    ensures set { IfOk result (λ refused. record { store = scopes.new; refused = refused } ≡ on_set name.now scopes.old done (with_variable scopes.old level name.now value)) }
+    ensures set { IfOk result (λ refused. record { store = scopes.new; refused = refused }
+        ≡ on_set name.now scopes.old done (with_variable scopes.old level name.now value)) }
     ensures levels { length scopes.new ≡ length scopes.old }
 {
     match scopes.set(level, name, value) {

@@ -171,7 +171,8 @@ fn recorded(alloc: Global, refused: Option<Text>) -> Result<Plan, AllocError>
 
 /// `proc` (proc(n)).
 fn proc_plan(alloc: Global, context: &mut Context, words: &[Text]) -> Result<Plan, AllocError>
-    ensures { IfOk result (λ plan. (store : Store) → record { store = store; context = context.new; call = Call.Plans plan } ≡ proc_call words.now store context.old) }
+    ensures { IfOk result (λ plan. (store : Store) → record { store = store; context = context.new; call = Call.Plans plan }
+        ≡ proc_call words.now store context.old) }
 {
     match words {
         [name, parameters, body] => {
@@ -185,7 +186,8 @@ fn proc_plan(alloc: Global, context: &mut Context, words: &[Text]) -> Result<Pla
 
 /// `rename` (rename(n)).
 fn rename_plan(alloc: Global, context: &mut Context, words: &[Text]) -> Result<Plan, AllocError>
-    ensures { IfOk result (λ plan. (store : Store) → record { store = store; context = context.new; call = Call.Plans plan } ≡ rename_call words.now store context.old) }
+    ensures { IfOk result (λ plan. (store : Store) → record { store = store; context = context.new; call = Call.Plans plan }
+        ≡ rename_call words.now store context.old) }
 {
     match words {
         [old, new] => {
@@ -609,7 +611,8 @@ fn caught_into(
     text: Text,
 ) -> Result<End, AllocError>
     requires { level < length scopes.old }
-    ensures { IfOk result (λ end. record { store = scopes.new; code = end.code; text = end.text } ≡ stored_ending number name.now scopes.old (with_variable scopes.old level name.now text)) }
+    ensures { IfOk result (λ end. record { store = scopes.new; code = end.code; text = end.text }
+        ≡ stored_ending number name.now scopes.old (with_variable scopes.old level name.now text)) }
 {
     match scopes.set(level, name, text) {
         Ok(()) => Ok(End {

@@ -37,7 +37,8 @@ fn define(
     body: &Text,
     parameters: Parameters,
 ) -> Result<Option<Text>, AllocError>
-    ensures { IfOk result (λ refused. record { table = table.new; refused = refused } ≡ changed table.old (defined table.old name.now body.now (Ok parameters))) }
+    ensures { IfOk result (λ refused. record { table = table.new; refused = refused }
+        ≡ changed table.old (defined table.old name.now body.now (Ok parameters))) }
 {
     if !has_room(table, name) {
         return Ok(Some(Text::of_short(alloc, "limit reached: procedures")?));
@@ -64,7 +65,8 @@ pub fn make_procedure(
     parameters: &Text,
     body: &Text,
 ) -> Result<Option<Text>, AllocError>
-    ensures { IfOk result (λ refused. record { table = table.new; refused = refused } ≡ changed table.old (with_procedure table.old name.now parameters.now body.now)) }
+    ensures { IfOk result (λ refused. record { table = table.new; refused = refused }
+        ≡ changed table.old (with_procedure table.old name.now parameters.now body.now)) }
 {
     let plain = plain_name(name.as_str());
     if is_dotted(plain) {
@@ -105,7 +107,8 @@ fn name_refused(
 /// The command of a name, which is there, gets another one.
 fn place(table: &mut CommandTable, old: &str, new: &str) -> Result<(), AllocError>
     requires { IsSome (value_at table.old old.now) }
-    ensures { OnOk result ((command : CommandValue) → value_at table.old old.now ≡ Some command → table.new ≡ with_value (without table.old old.now) new.now command) }
+    ensures { OnOk result ((command : CommandValue) → value_at table.old old.now ≡ Some command → table.new
+        ≡ with_value (without table.old old.now) new.now command) }
 {
     match table.remove(old) {
         Some(command) => {
@@ -124,7 +127,8 @@ fn name_anew(
     new: &Text,
 ) -> Result<Option<Text>, AllocError>
     requires { IsSome (value_at table.old old.now) }
-    ensures { IfOk result (λ refused. (command : CommandValue) → value_at table.old old.now ≡ Some command → record { table = table.new; refused = refused } ≡ changed table.old (named_anew table.old old.now new.now command)) }
+    ensures { IfOk result (λ refused. (command : CommandValue) → value_at table.old old.now ≡ Some command → record { table = table.new; refused = refused }
+        ≡ changed table.old (named_anew table.old old.now new.now command)) }
 {
     if new.as_str().is_empty() {
         let _command = table.remove(old);

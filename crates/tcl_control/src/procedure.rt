@@ -171,7 +171,8 @@ pub fn call_procedure(
     procedure: &Procedure,
     words: &[Text],
 ) -> Result<Plan, AllocError>
-    ensures { IfOk result (λ plan. record { store = scopes.new; levels = levels.new; plan = plan } ≡ procedure_call name.now procedure.now words.now scopes.old levels.old) }
+    ensures { IfOk result (λ plan. record { store = scopes.new; levels = levels.new; plan = plan }
+        ≡ procedure_call name.now procedure.now words.now scopes.old levels.old) }
 {
     let parameters = procedure.parameters.as_slice();
     if !fits(parameters, words) {

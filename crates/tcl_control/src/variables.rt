@@ -34,7 +34,8 @@ pub fn variable_end(
     command: VariableCommand,
     words: &[Text],
 ) -> Result<End, AllocError>
-    ensures { IfOk result (λ end. record { store = scopes.new; code = end.code; text = end.text } ≡ spec.variable_ending command levels.now words.now scopes.old) }
+    ensures { IfOk result (λ end. record { store = scopes.new; code = end.code; text = end.text }
+        ≡ spec.variable_ending command levels.now words.now scopes.old) }
 {
     let level = levels.here(scopes);
     let answer = call_variable_command(alloc, scopes, level, command, words)?;
@@ -51,7 +52,8 @@ fn linked(
     names: &[Text],
 ) -> Result<End, AllocError>
     requires { level < length scopes.old }
-    ensures { IfOk result (λ end. record { store = scopes.new; code = end.code; text = end.text } ≡ spec.linked_ending word.now names.now level scopes.old place) }
+    ensures { IfOk result (λ end. record { store = scopes.new; code = end.code; text = end.text }
+        ≡ spec.linked_ending word.now names.now level scopes.old place) }
 {
     match place {
         Some(place) if place < level => {

@@ -1,5 +1,6 @@
 -- Steps. A text in braces: what it stands for, up to the brace that closes.
 use Rattle.std.specs.Prelude.{ℕ, suc, ◌-◌, Bool, false, ◌==◌, ◌&&◌, ◌||◌, if◌then◌else◌, List, [], ◌∷◌, ◌++◌, Result, Ok, Err}
+use Rattle.tcl_words.specs.Bytes.{tab, line_feed, space, backslash_sign, open_brace, close_brace}
 use Rattle.tcl_expr.specs.declared.braces.BracePlace.{BracePlace}
 use Rattle.tcl_expr.specs.declared.braces.BracePlace.TheVariants.{Plain, Escaped, Indented}
 use Rattle.tcl_expr.specs.declared.fault.ExprFault.{ExprFault}
@@ -7,24 +8,24 @@ use Rattle.tcl_expr.specs.declared.fault.ExprFault.TheVariants.{MissingBrace}
 
 -- a newline behind a backslash, and the blanks and tabs behind that, are one blank
 abbrev pub place_behind : BracePlace → ℕ → BracePlace
-place_behind Plain b = if b == 92 then Escaped else Plain
-place_behind Escaped b = if b == 10 then Indented else Plain
-place_behind Indented b = if b == 32 || b == 9 then Indented else if b == 92 then Escaped else Plain
+place_behind Plain b = if b == backslash_sign then Escaped else Plain
+place_behind Escaped b = if b == line_feed then Indented else Plain
+place_behind Indented b = if b == space || b == tab then Indented else if b == backslash_sign then Escaped else Plain
 
 -- any other byte stands for itself, and so does the backslash before it
 abbrev pub bytes_of : BracePlace → ℕ → List ℕ
-bytes_of Plain b = if b == 92 then [] else b ∷ []
-bytes_of Escaped b = if b == 10 then 32 ∷ [] else 92 ∷ b ∷ []
-bytes_of Indented b = if b == 32 || b == 9 then [] else if b == 92 then [] else b ∷ []
+bytes_of Plain b = if b == backslash_sign then [] else b ∷ []
+bytes_of Escaped b = if b == line_feed then space ∷ [] else backslash_sign ∷ b ∷ []
+bytes_of Indented b = if b == space || b == tab then [] else if b == backslash_sign then [] else b ∷ []
 
 -- a brace behind a backslash isn't counted
 abbrev pub depth_behind : BracePlace → ℕ → ℕ → ℕ
 depth_behind Escaped depth b = depth
-depth_behind place depth b = if b == 123 then suc depth else if b == 125 then depth - 1 else depth
+depth_behind place depth b = if b == open_brace then suc depth else if b == close_brace then depth - 1 else depth
 
 abbrev pub closes : BracePlace → ℕ → ℕ → Bool
 closes Escaped depth b = false
-closes place depth b = b == 125 && depth == 0
+closes place depth b = b == close_brace && depth == 0
 
 -- so much more, and its bytes
 abbrev pub with_byte : List ℕ → Result (List ℕ × ℕ) ExprFault → Result (List ℕ × ℕ) ExprFault

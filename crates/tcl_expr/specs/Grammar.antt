@@ -3,6 +3,7 @@
 use Rattle.std.specs.Prelude.{ℕ, zero, suc, ◌-◌, ◌≡◌, ◌≢◌, ◌≤◌, nat_lt, Bool, true, false, not, if◌then◌else◌, List, [], ◌∷◌, ◌++◌, length, drop, Option, Some, None, Result, Ok, Err}
 use Rattle.std.specs.Char.{digit_value}
 use Rattle.std.specs.Str.{IsUtf8}
+use Rattle.tcl_words.specs.Bytes.{quote, dollar_sign, open_bracket, close_bracket, open_brace, close_brace}
 use Rattle.tcl_text.specs.Readings.{boolean_of, base_named}
 use Rattle.tcl_words.specs.Grammar.{leaves as leaves_text, fails as text_fails, script, begins, begins_name, ArePieces, IsBraced, IsUnclosed, IsInnerOf, IsIndexOf}
 use Rattle.tcl_words.specs.OperandGrammar.{IsSubstitution, IsFaultySubstitution}
@@ -146,18 +147,18 @@ pub data IsOperand (room : ℕ) : List ℕ → ExprEnding → Type 0 where
       IsOperand room (b ∷ (own ++ rest)) (leaves (Plain (b ∷ own)) rest)
   other_word : (b : ℕ) (own rest : List ℕ) → mark_of b ≡ mark.Letter → AreNameBytes (b ∷ own) → begins_name_byte rest ≡ false → boolean_of (b ∷ own) ≡ None →
       IsOperand room (b ∷ (own ++ rest)) (fails Syntax)
-  braces : (own value rest : List ℕ) → IsBraced own value → IsOperand room (123 ∷ (own ++ 125 ∷ rest)) (leaves (Plain value) rest)
-  unclosed_braces : (text : List ℕ) → IsUnclosed text → IsOperand room (123 ∷ text) (fails MissingBrace)
-  quotes : (own rest : List ℕ) (pieces : List Piece) (tree : Tree) → ArePieces (IsInnerOf room) true Quotes (own ++ 34 ∷ rest) pieces (leaves_text (34 ∷ rest)) → IsTextTree pieces tree →
-      IsOperand room (34 ∷ (own ++ 34 ∷ rest)) (leaves tree rest)
-  faulty_quotes : (text : List ℕ) (pieces : List Piece) (fault : ParseFault) → ArePieces (IsInnerOf room) true Quotes text pieces (text_fails fault) → IsOperand room (34 ∷ text) (fails (script_fault fault))
-  bracket : (own rest : List ℕ) → IsInnerOf room script (own ++ 93 ∷ rest) (leaves_text (93 ∷ rest)) → IsOperand room (91 ∷ (own ++ 93 ∷ rest)) (leaves (Command own) rest)
-  faulty_bracket : (text : List ℕ) (fault : ParseFault) → IsInnerOf room script text (text_fails fault) → IsOperand room (91 ∷ text) (fails (script_fault fault))
+  braces : (own value rest : List ℕ) → IsBraced own value → IsOperand room (open_brace ∷ (own ++ close_brace ∷ rest)) (leaves (Plain value) rest)
+  unclosed_braces : (text : List ℕ) → IsUnclosed text → IsOperand room (open_brace ∷ text) (fails MissingBrace)
+  quotes : (own rest : List ℕ) (pieces : List Piece) (tree : Tree) → ArePieces (IsInnerOf room) true Quotes (own ++ quote ∷ rest) pieces (leaves_text (quote ∷ rest)) → IsTextTree pieces tree →
+      IsOperand room (quote ∷ (own ++ quote ∷ rest)) (leaves tree rest)
+  faulty_quotes : (text : List ℕ) (pieces : List Piece) (fault : ParseFault) → ArePieces (IsInnerOf room) true Quotes text pieces (text_fails fault) → IsOperand room (quote ∷ text) (fails (script_fault fault))
+  bracket : (own rest : List ℕ) → IsInnerOf room script (own ++ close_bracket ∷ rest) (leaves_text (close_bracket ∷ rest)) → IsOperand room (open_bracket ∷ (own ++ close_bracket ∷ rest)) (leaves (Command own) rest)
+  faulty_bracket : (text : List ℕ) (fault : ParseFault) → IsInnerOf room script text (text_fails fault) → IsOperand room (open_bracket ∷ text) (fails (script_fault fault))
   -- a variable or an element
-  variable : (text rest : List ℕ) (own : Piece) (tree : Tree) → IsSubstitution room text own rest → IsPieceTree own tree → IsOperand room (36 ∷ text) (leaves tree rest)
-  faulty_variable : (text : List ℕ) (fault : ParseFault) → IsFaultySubstitution room text fault → IsOperand room (36 ∷ text) (fails (script_fault fault))
+  variable : (text rest : List ℕ) (own : Piece) (tree : Tree) → IsSubstitution room text own rest → IsPieceTree own tree → IsOperand room (dollar_sign ∷ text) (leaves tree rest)
+  faulty_variable : (text : List ℕ) (fault : ParseFault) → IsFaultySubstitution room text fault → IsOperand room (dollar_sign ∷ text) (fails (script_fault fault))
   -- a `$` with nothing that it could begin
-  no_variable : (text : List ℕ) → begins_name text ≡ false → begins 123 text ≡ false → IsOperand room (36 ∷ text) (fails Syntax)
+  no_variable : (text : List ℕ) → begins_name text ≡ false → begins open_brace text ≡ false → IsOperand room (dollar_sign ∷ text) (fails Syntax)
   none : (b : ℕ) (behind : List ℕ) → begins_operand (mark_of b) ≡ false → IsOperand room (b ∷ behind) (fails Syntax)
 
 -- what a byte of this kind begins where an operand is due

@@ -1,6 +1,7 @@
 -- Meaning. What stands in front of a text where an operand or an operator is due.
 use Rattle.std.specs.Prelude.{ℕ, Bool, true, false, not, ◌==◌, nat_eq, nat_le, ◌&&◌, ◌||◌, if◌then◌else◌, List, [], ◌∷◌, drop, Option, Some, None, codes}
 use Rattle.std.specs.List.{starts_with}
+use Rattle.tcl_words.specs.Bytes.{line_feed, space, exclamation_mark, quote, dollar_sign, percent_sign, ampersand, open_paren, close_paren, star, plus_sign, minus_sign, slash, colon, less_sign, equals_sign, greater_sign, question_mark, open_bracket, backslash_sign, caret, underscore, open_brace, bar, tilde}
 use Rattle.tcl_expr.specs.declared.operators.ArithmeticOperator.TheVariants.{Multiply, Divide, Remainder, Add, Subtract, ShiftLeft, ShiftRight, BitAnd, BitXor, BitOr}
 use Rattle.tcl_expr.specs.declared.operators.Comparison.{Comparison}
 use Rattle.tcl_expr.specs.declared.operators.Comparison.TheVariants as comparison
@@ -24,34 +25,34 @@ is_alphabetic b = (nat_le 97 b && nat_le b 122) || (nat_le 65 b && nat_le b 90)
 
 -- a letter, a digit or `_`
 abbrev pub is_name_byte : ℕ → Bool
-is_name_byte b = is_alphabetic b || is_digit b || b == 95
+is_name_byte b = is_alphabetic b || is_digit b || b == underscore
 
 -- what a byte can begin
 unfoldable pub mark_of : ℕ → Mark
 mark_of b =
-    if b == 32 || (nat_le 9 b && nat_le b 13) then mark.White
-    else if b == 43 then mark.Plus
-    else if b == 45 then mark.Minus
-    else if b == 42 then mark.Star
-    else if b == 47 then mark.Slash
-    else if b == 37 then mark.Percent
-    else if b == 60 then mark.Less
-    else if b == 62 then mark.Greater
-    else if b == 61 then mark.Equals
-    else if b == 33 then mark.Bang
-    else if b == 38 then mark.Ampersand
-    else if b == 124 then mark.Bar
-    else if b == 94 then mark.Caret
-    else if b == 126 then mark.Tilde
-    else if b == 63 then mark.Question
-    else if b == 58 then mark.Colon
-    else if b == 40 then mark.OpenParen
-    else if b == 41 then mark.CloseParen
-    else if b == 36 then mark.Dollar
-    else if b == 123 then mark.OpenBrace
-    else if b == 34 then mark.Quote
-    else if b == 91 then mark.OpenBracket
-    else if b == 92 then mark.Backslash
+    if b == space || (nat_le 9 b && nat_le b 13) then mark.White
+    else if b == plus_sign then mark.Plus
+    else if b == minus_sign then mark.Minus
+    else if b == star then mark.Star
+    else if b == slash then mark.Slash
+    else if b == percent_sign then mark.Percent
+    else if b == less_sign then mark.Less
+    else if b == greater_sign then mark.Greater
+    else if b == equals_sign then mark.Equals
+    else if b == exclamation_mark then mark.Bang
+    else if b == ampersand then mark.Ampersand
+    else if b == bar then mark.Bar
+    else if b == caret then mark.Caret
+    else if b == tilde then mark.Tilde
+    else if b == question_mark then mark.Question
+    else if b == colon then mark.Colon
+    else if b == open_paren then mark.OpenParen
+    else if b == close_paren then mark.CloseParen
+    else if b == dollar_sign then mark.Dollar
+    else if b == open_brace then mark.OpenBrace
+    else if b == quote then mark.Quote
+    else if b == open_bracket then mark.OpenBracket
+    else if b == backslash_sign then mark.Backslash
     else if is_digit b then mark.Digit
     else if is_alphabetic b then mark.Letter
     else mark.Other
@@ -62,7 +63,7 @@ first_mark (b ∷ text) = mark_of b
 
 abbrev pub begins_newline : List ℕ → Bool
 begins_newline [] = false
-begins_newline (b ∷ text) = b == 10
+begins_newline (b ∷ text) = b == line_feed
 
 abbrev pub begins_letter : List ℕ → Bool
 begins_letter [] = false

@@ -45,8 +45,7 @@ fn go_on(
     if let Some(text) = given {
         stack.push(Value::Words(text))?;
     }
-    let halt = run(alloc, stack, expr.steps(), place)?;
-    Ok(halt)
+    run(alloc, stack, expr.steps(), place)
 }
 
 /// The state once this is told.

@@ -34,7 +34,9 @@ pub struct Halt {
 /// Where it goes on behind a step.
 #[derive(Drop)]
 pub enum Advance {
+    /// At this step.
     On(usize),
+    /// Nowhere, until what was asked is answered.
     Halted(Halt),
 }
 
@@ -55,14 +57,8 @@ fn final_text(alloc: Global, value: Value) -> Result<Text, EvalFault>
     ensures { IsEvaluatedAs result (Ok (trees.final_text value)) }
 {
     match number_in(&value) {
-        Some(number) => {
-            let text = Text::from_integer(alloc, number)?;
-            Ok(text)
-        }
-        None => {
-            let text = into_text(alloc, value)?;
-            Ok(text)
-        }
+        Some(number) => Ok(Text::from_integer(alloc, number)?),
+        None => Ok(into_text(alloc, value)?),
     }
 }
 

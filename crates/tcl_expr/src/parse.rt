@@ -27,8 +27,7 @@ fn read_expr(alloc: Global, source: &[u8]) -> Result<Expr, ExprFault>
     };
     let steps = read_all(alloc, characters)?;
     let text = Text::new(alloc, characters)?;
-    let expr = Expr::new(alloc, text, steps)?;
-    Ok(expr)
+    Ok(Expr::new(alloc, text, steps)?)
 }
 
 /// Reads an expression whole, by the rules of expr(n). `TooLong` (4) for more than 65,536 bytes, or bytes that aren't UTF-8, comes before

@@ -35,8 +35,7 @@ fn text_of(alloc: Global, bytes: &[u8]) -> Result<Text, ExprFault>
     ensures ok { IfOk result (λ text. text ≡ bytes.now) }
     ensures err { IfErr result (λ fault. fault ≡ ExprFault.NoMemory) }
 {
-    let text = Text::new(alloc, str::from_utf8(bytes).unwrap())?;
-    Ok(text)
+    Ok(Text::new(alloc, str::from_utf8(bytes).unwrap())?)
 }
 
 /// The step of an integer that is spelled so.
@@ -271,11 +270,9 @@ fn take_token(
     ensures { standing.TakesToken parser.old result parser.new (drop at source.now) }
 {
     if parser.is_due {
-        let skip = take_operand(alloc, parser, source, at)?;
-        Ok(skip)
+        take_operand(alloc, parser, source, at)
     } else {
-        let skip = take_operator(parser, &source.as_bytes()[at..])?;
-        Ok(skip)
+        take_operator(parser, &source.as_bytes()[at..])
     }
 }
 
@@ -329,6 +326,5 @@ pub fn read_all(alloc: Global, source: &str) -> Result<Vec<Step>, ExprFault>
         let left = source.len() - at - 1;
         at = at + 1 + skip.min(left);
     }
-    let steps = finish(parser)?;
-    Ok(steps)
+    finish(parser)
 }

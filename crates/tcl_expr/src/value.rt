@@ -180,10 +180,7 @@ fn test(alloc: Global, operator: TextOperator, left: &Text, right: &Text) -> Res
     match operator {
         TextOperator::Same => Ok(left.as_str() == right.as_str()),
         TextOperator::Different => Ok(left.as_str() != right.as_str()),
-        TextOperator::In => {
-            let found = is_in(alloc, left, right)?;
-            Ok(found)
-        }
+        TextOperator::In => is_in(alloc, left, right),
         TextOperator::NotIn => {
             let found = is_in(alloc, left, right)?;
             Ok(!found)
@@ -239,10 +236,7 @@ pub fn binary_value(
     ensures { IsEvaluatedAs result (values.binary_value operator left right) }
 {
     match operator {
-        BinaryOperator::Arithmetic(operator) => {
-            let value = arithmetic_value(operator, &left, &right)?;
-            Ok(value)
-        }
+        BinaryOperator::Arithmetic(operator) => arithmetic_value(operator, &left, &right),
         BinaryOperator::Comparison(comparison) => {
             let order = order(alloc, left, right)?;
             Ok(truth_value(holds(comparison, order)))

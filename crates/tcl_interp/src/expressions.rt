@@ -150,7 +150,9 @@ pub fn evaluate<K: Drop>(
     room: u64,
     answered: Box<Answered>,
 ) -> Result<Now<K>, AllocError>
-    ensures { IfOk result (λ now. MovesOn (standing (moved (Evaluates room answered.value.eval answered.value.given) (waits_of frames.old.items)) scopes.now context.now) (standing_of now frames.new.items scopes.now context.now)) }
+    ensures { IfOk result (λ now. MovesOn (standing
+        (moved (Evaluates room answered.value.eval answered.value.given) (waits_of frames.old.items)) scopes.now context.now)
+        (standing_of now frames.new.items scopes.now context.now)) }
 {
     let level = context.levels.here(scopes);
     let Answered {
@@ -234,7 +236,8 @@ pub fn choose<K: Drop>(
     place: usize,
 ) -> Result<Now<K>, AllocError>
     ensures table { table.new ≡ table.old }
-    ensures now { IfOk result (λ now. moved_of now frames.new.items ≡ choice_move room (drop place choices.branches) choices.otherwise (waits_of frames.old.items)) }
+    ensures now { IfOk result (λ now. moved_of now frames.new.items
+        ≡ choice_move room (drop place choices.branches) choices.otherwise (waits_of frames.old.items)) }
 {
     let branches = choices.branches.as_slice();
     if place < branches.len() {
@@ -257,7 +260,9 @@ pub fn chosen<K: Drop>(
     value: &Text,
 ) -> Result<Now<K>, AllocError>
     ensures table { table.new ≡ table.old }
-    ensures now { IfOk result (λ now. moved_of now frames.new.items ≡ chosen_move room (drop choosing.value.place choosing.value.choices.branches) choosing.value.choices.otherwise (waits_of frames.old.items) (truth_of value.now)) }
+    ensures now { IfOk result (λ now. moved_of now frames.new.items
+        ≡ chosen_move room (drop choosing.value.place choosing.value.choices.branches) choosing.value.choices.otherwise (waits_of frames.old.items)
+        (truth_of value.now)) }
 {
     let Choosing { choices, place } = Box::into_inner(choosing);
     match truth(alloc, value)? {

@@ -149,7 +149,9 @@ impl<K: Drop> Interp<K> {
         steps: u64,
     ) -> Result<SliceEnd, AllocError>
         requires { self.old.machine ≡ MachineBroken }
-        ensures reached { IfOk result (λ end. Reaches end (finish T.outside (Running (doing_of now) (waits_of self.old.frames.items)) (state_of self.old (T.shows tasks.old) scopes.old)) (state_of self.new (T.shows tasks.new) scopes.new) (finish T.outside (rest_of self.new) (state_of self.new (T.shows tasks.new) scopes.new))) }
+        ensures reached { IfOk result (λ end. Reaches end
+            (finish T.outside (Running (doing_of now) (waits_of self.old.frames.items)) (state_of self.old (T.shows tasks.old) scopes.old))
+            (state_of self.new (T.shows tasks.new) scopes.new) (finish T.outside (rest_of self.new) (state_of self.new (T.shows tasks.new) scopes.new))) }
         ensures rest { IfOk result (λ end. LeavesRest end (rest_of self.new)) }
         ensures more { result ≡ Ok SliceEnd.More → left_of self.new + steps ≡ left_of self.old }
         ensures exhausted { result ≡ Ok SliceEnd.Exhausted → left_of self.new ≡ 0 }
@@ -197,7 +199,8 @@ impl<K: Drop> Interp<K> {
     ) -> Result<SliceEnd, AllocError>
         requires positive { 0 < steps }
         requires begun { rest_of self.old ≢ Idle }
-        ensures reached { IfOk result (λ end. Reaches end (finish T.outside (rest_of self.old) (state_of self.old (T.shows tasks.old) scopes.old)) (state_of self.new (T.shows tasks.new) scopes.new) (finish T.outside (rest_of self.new) (state_of self.new (T.shows tasks.new) scopes.new))) }
+        ensures reached { IfOk result (λ end. Reaches end (finish T.outside (rest_of self.old) (state_of self.old (T.shows tasks.old) scopes.old))
+            (state_of self.new (T.shows tasks.new) scopes.new) (finish T.outside (rest_of self.new) (state_of self.new (T.shows tasks.new) scopes.new))) }
         ensures rest { IfOk result (λ end. LeavesRest end (rest_of self.new)) }
         ensures more { result ≡ Ok SliceEnd.More → left_of self.new + steps ≡ left_of self.old }
         ensures exhausted { result ≡ Ok SliceEnd.Exhausted → left_of self.new ≡ 0 }
@@ -231,7 +234,8 @@ impl<K: Drop> Interp<K> {
     ) -> Result<SliceEnd, AllocError>
         requires positive { All (λ size. 0 < size) sizes.now }
         requires begun { rest_of self.old ≢ Idle }
-        ensures reached { IfOk result (λ end. Reaches end (finish T.outside (rest_of self.old) (state_of self.old (T.shows tasks.old) scopes.old)) (state_of self.new (T.shows tasks.new) scopes.new) (finish T.outside (rest_of self.new) (state_of self.new (T.shows tasks.new) scopes.new))) }
+        ensures reached { IfOk result (λ end. Reaches end (finish T.outside (rest_of self.old) (state_of self.old (T.shows tasks.old) scopes.old))
+            (state_of self.new (T.shows tasks.new) scopes.new) (finish T.outside (rest_of self.new) (state_of self.new (T.shows tasks.new) scopes.new))) }
         ensures rest { IfOk result (λ end. LeavesAfter end (rest_of self.new)) }
         ensures more { result ≡ Ok SliceEnd.More → left_of self.new + sum sizes.now ≡ left_of self.old }
         ensures exhausted { result ≡ Ok SliceEnd.Exhausted → left_of self.new ≡ 0 }
@@ -261,7 +265,8 @@ impl<K: Drop> Interp<K> {
         requires each { All (λ size. 0 < size) sizes.now }
         requires positive { 0 < then }
         requires begun { rest_of self.old ≢ Idle }
-        ensures whole { IfOk result (λ end. IsWhole end (finish T.outside (rest_of self.old) (state_of self.old (T.shows tasks.old) scopes.old)) (state_of self.new (T.shows tasks.new) scopes.new)) }
+        ensures whole { IfOk result (λ end. IsWhole end (finish T.outside (rest_of self.old) (state_of self.old (T.shows tasks.old) scopes.old))
+            (state_of self.new (T.shows tasks.new) scopes.new)) }
         ensures rest { IfOk result (λ end. LeavesAfter end (rest_of self.new)) }
         ensures taken { left_of self.new ≤ left_of self.old }
         ensures budget { budget_of self.new ≡ budget_of self.old }

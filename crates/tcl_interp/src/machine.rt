@@ -63,37 +63,46 @@ pub struct Choosing {
 /// What is done now. A move carries it along, so what is large stands behind a box.
 #[derive(Drop)]
 pub enum Now<K> {
+    /// A script begins, with room for so many one in another.
     Begins {
         room: u64,
         script: Source,
     },
+    /// A command of a script has given its result, and the script goes on behind it.
     GoesOn {
         place: ScriptPlace,
         result: Text,
     },
+    /// The index of an element is put together.
     Indexes(Box<Indexing>),
+    /// An expression goes on.
     Evaluates {
         room: u64,
         answered: Box<Answered>,
     },
+    /// A command is called with these words.
     Calls {
         room: u64,
         words: TextList,
     },
+    /// A loop tests its condition.
     Tests {
         room: u64,
         turning: Looping,
     },
+    /// A task of an outside command takes a step.
     Steps {
         room: u64,
         task: Box<K>,
     },
+    /// A task goes on, with how the script that it has run has ended.
     Resumes {
         room: u64,
         task: Box<K>,
         code: Code,
         text: Text,
     },
+    /// What was done has ended, and what waits for it is told so.
     Ends {
         code: Code,
         text: Text,
@@ -103,27 +112,45 @@ pub enum Now<K> {
 /// What waits for something to end, with what is large behind a box.
 #[derive(Drop)]
 pub enum Frame<K> {
+    /// A script waits for its command.
     ForCommand(ScriptPlace),
+    /// A word waits for a script in brackets, or for the value of an element.
     ForPart(Box<Wording>),
+    /// An index waits for a script in brackets, or for an element in it.
     ForIndex(Box<Indexing>),
+    /// An expression waits for what it has asked.
     ForValue { room: u64, asking: Box<Asking> },
+    /// A loop waits for its condition.
     ForTest { room: u64, turning: Looping },
+    /// `if` waits for the condition of a branch.
     ForChoice { room: u64, choosing: Box<Choosing> },
+    /// A loop waits for its body.
     ForBody { room: u64, turning: Looping },
+    /// `for` waits for the script between two turns.
     ForNext { room: u64, turning: Looping },
+    /// `for` waits for its first script.
     ForStart { room: u64, turning: Looping },
+    /// `catch` waits for its script, and sets this variable, if one is named.
     ForCatch(Option<Text>),
+    /// `uplevel` waits for its script, and gives the levels back.
     ForLevels(Levels),
+    /// A procedure's frame waits for its body.
     ForProcedure,
+    /// A task waits for the script that it runs.
     ForScript { room: u64, task: Box<K> },
+    /// The caller waits for the whole.
     ForAll,
 }
 
 /// What an interpreter does.
 #[derive(Drop)]
 pub enum Machine<K> {
+    /// Nothing was begun.
     Idle,
+    /// Something is done.
     Running(Now<K>),
+    /// A step was wanted, and none is left.
     Spent,
+    /// Memory was refused: what was done is lost.
     Broken,
 }

@@ -163,7 +163,8 @@ fn after_catch<K: Drop>(
     code: Code,
     text: Text,
 ) -> Result<Now<K>, AllocError>
-    ensures { IfOk result (λ now. standing_of now frames.new.items scopes.new context.now ≡ ending_move (caught_ending (here context.now.levels scopes.old) name code text scopes.old) context.now (waits_of frames.old.items)) }
+    ensures { IfOk result (λ now. standing_of now frames.new.items scopes.new context.now
+        ≡ ending_move (caught_ending (here context.now.levels scopes.old) name code text scopes.old) context.now (waits_of frames.old.items)) }
 {
     let level = context.levels.here(scopes);
     let End { code, text } = caught(alloc, scopes, level, name, code, text)?;
@@ -209,7 +210,8 @@ fn after_procedure<K: Drop>(
     code: Code,
     text: Text,
 ) -> Result<Now<K>, AllocError>
-    ensures now { IfOk result (λ now. (waits : List (Waiting K)) → standing (moved (doing_of now) waits) scopes.new context.new ≡ standing (moved (Ends (procedure_code code) (procedure_text code text)) waits) (popped scopes.old) (callers context.old)) }
+    ensures now { IfOk result (λ now. (waits : List (Waiting K)) → standing (moved (doing_of now) waits) scopes.new context.new
+        ≡ standing (moved (Ends (procedure_code code) (procedure_text code text)) waits) (popped scopes.old) (callers context.old)) }
 {
     if scopes.levels() > 1 {
         scopes.pop_frame();
@@ -265,7 +267,8 @@ fn ended<K: Drop>(
     code: Code,
     text: Text,
 ) -> Result<Now<K>, AllocError>
-    ensures { IfOk result (λ now. standing_of now frames.new.items scopes.new context.new ≡ end_move scopes.old context.old code text (waiting_of frame) (waits_of frames.old.items)) }
+    ensures { IfOk result (λ now. standing_of now frames.new.items scopes.new context.new
+        ≡ end_move scopes.old context.old code text (waiting_of frame) (waits_of frames.old.items)) }
 {
     match frame {
         Frame::ForCommand(place) => match code {
@@ -376,7 +379,9 @@ fn command_ended<K: Drop>(
     code: Code,
     text: Text,
 ) -> Result<Move<K>, AllocError>
-    ensures { IfOk result (MoveGives (standing (moved (Ends code text) (ForCommand place.room (left_in place) ∷ waits_of frames.old.items)) scopes.now context.now) frames.new.items scopes.now context.now) }
+    ensures { IfOk result (MoveGives (standing
+        (moved (Ends code text) (ForCommand place.room
+        (left_in place) ∷ waits_of frames.old.items)) scopes.now context.now) frames.new.items scopes.now context.now) }
 {
     match code {
         Code::Normal => {
@@ -397,7 +402,8 @@ fn script_begins<K: Drop>(
     script: Source,
     room: u64,
 ) -> Result<Move<K>, AllocError>
-    ensures { IfOk result (MoveGives (standing (moved (Begins room script) (waits_of frames.old.items)) scopes.now context.old) frames.new.items scopes.now context.new) }
+    ensures { IfOk result (MoveGives (standing
+        (moved (Begins room script) (waits_of frames.old.items)) scopes.now context.old) frames.new.items scopes.now context.new) }
 {
     let script = script.known(&context.commands)?;
     if room > 0 && !script.is_read() {
@@ -490,7 +496,8 @@ pub fn quiet<K: Drop>(
     frames: &mut Vec<Frame<K>>,
     now: Now<K>,
 ) -> Result<Now<K>, AllocError>
-    ensures leads { IfOk result (λ due. Leads (standing_of now frames.old.items scopes.old context.old) (standing_of due frames.new.items scopes.new context.new)) }
+    ensures leads { IfOk result (λ due. Leads (standing_of now frames.old.items scopes.old context.old)
+        (standing_of due frames.new.items scopes.new context.new)) }
     ensures due { IfOk result (λ due. Stops (moved_of due frames.new.items)) }
 {
     let mut doing = now;

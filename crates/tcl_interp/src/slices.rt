@@ -57,7 +57,8 @@ fn read_on<T: Tasks>(
     frames: &mut Vec<Frame<T::Task>>,
     now: Now<T::Task>,
 ) -> Result<Now<T::Task>, AllocError>
-    ensures leads { IfOk result (λ due. Leads (standing_of now frames.old.items scopes.old context.old) (standing_of due frames.new.items scopes.new context.new)) }
+    ensures leads { IfOk result (λ due. Leads (standing_of now frames.old.items scopes.old context.old)
+        (standing_of due frames.new.items scopes.new context.new)) }
     ensures due { IfOk result (λ due. IsDue (moved_of due frames.new.items)) }
     ensures shows { T.shows tasks.new ≡ T.shows tasks.old }
     ensures left { T.left_alone tasks.new ≡ T.left_alone tasks.old }
@@ -83,7 +84,8 @@ fn settle<T: Tasks>(
     frames: &mut Vec<Frame<T::Task>>,
     now: Now<T::Task>,
 ) -> Result<Now<T::Task>, AllocError>
-    ensures ok { IfOk result (λ settled. TakesNone T.outside (standing_of now frames.old.items scopes.old context.old) (T.shows tasks.old) (standing_of settled frames.new.items scopes.new context.new) (T.shows tasks.new)) }
+    ensures ok { IfOk result (λ settled. TakesNone T.outside (standing_of now frames.old.items scopes.old context.old) (T.shows tasks.old)
+        (standing_of settled frames.new.items scopes.new context.new) (T.shows tasks.new)) }
     ensures settled { IfOk result (λ settled. IsSettled (moved_of settled frames.new.items)) }
     ensures left { T.left_alone tasks.new ≡ T.left_alone tasks.old }
 {
@@ -117,7 +119,8 @@ fn take_step<T: Tasks>(
     now: Now<T::Task>,
 ) -> Result<Now<T::Task>, AllocError>
     requires { NeedsStep (doing_of now) }
-    ensures ok { IfOk result (λ next. TakesStep T.outside (standing_of now frames.old.items scopes.old context.old) (T.shows tasks.old) (standing_of next frames.new.items scopes.new context.new) (T.shows tasks.new)) }
+    ensures ok { IfOk result (λ next. TakesStep T.outside (standing_of now frames.old.items scopes.old context.old) (T.shows tasks.old)
+        (standing_of next frames.new.items scopes.new context.new) (T.shows tasks.new)) }
     ensures left { T.left_alone tasks.new ≡ T.left_alone tasks.old }
 {
     match now {
@@ -158,7 +161,8 @@ fn step_on<T: Tasks>(
     now: Now<T::Task>,
 ) -> Result<Now<T::Task>, AllocError>
     requires { NeedsStep (doing_of now) }
-    ensures ok { IfOk result (λ next. TakesStep T.outside (standing_of now frames.old.items scopes.old context.old) (T.shows tasks.old) (standing_of next frames.new.items scopes.new context.new) (T.shows tasks.new)) }
+    ensures ok { IfOk result (λ next. TakesStep T.outside (standing_of now frames.old.items scopes.old context.old) (T.shows tasks.old)
+        (standing_of next frames.new.items scopes.new context.new) (T.shows tasks.new)) }
     ensures settled { IfOk result (λ next. IsSettled (moved_of next frames.new.items)) }
     ensures left { T.left_alone tasks.new ≡ T.left_alone tasks.old }
 {
@@ -189,7 +193,10 @@ pub fn run<T: Tasks>(
     now: Now<T::Task>,
     steps: u64,
 ) -> Result<Ran<T::Task>, AllocError>
-    ensures comes { IfOk result (λ ran. Comes ran (finish_from T.outside (standing_of now frames.old.items scopes.old context.old) (T.shows tasks.old) left.old) (record { shows = (T.shows tasks.new); store = scopes.new; context = context.new; steps = left.new }) (λ next. finish_from T.outside (standing_of next frames.new.items scopes.new context.new) (T.shows tasks.new) left.new)) }
+    ensures comes { IfOk result (λ ran. Comes ran
+        (finish_from T.outside (standing_of now frames.old.items scopes.old context.old) (T.shows tasks.old) left.old)
+        (record { shows = (T.shows tasks.new); store = scopes.new; context = context.new; steps = left.new })
+        (λ next. finish_from T.outside (standing_of next frames.new.items scopes.new context.new) (T.shows tasks.new) left.new)) }
     ensures paused { IfOk result (λ ran. IfPaused ran (left.new + steps ≡ left.old)) }
     ensures most { left.old ≤ left.new + steps }
     ensures taken { left.new ≤ left.old }

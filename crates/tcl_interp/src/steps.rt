@@ -28,7 +28,8 @@ fn run_at<K: Drop>(
     frames: &mut Vec<Frame<K>>,
     count: usize,
 ) -> Result<(), AllocError>
-    ensures { OnOk result ((context.new ≡ cut count context.old) × (waits_of frames.new.items ≡ ForLevels (others count context.old) ∷ waits_of frames.old.items)) }
+    ensures { OnOk result ((context.new ≡ cut count context.old)
+        × (waits_of frames.new.items ≡ ForLevels (others count context.old) ∷ waits_of frames.old.items)) }
 {
     let others = context.levels.cut(alloc, count)?;
     wait(frames, Frame::ForLevels(others))?;
@@ -43,7 +44,8 @@ fn follow<K: Drop>(
     plan: Plan,
     room: u64,
 ) -> Result<Now<K>, AllocError>
-    ensures { IfOk result (λ now. (store : Store) → standing_of now frames.new.items store context.new ≡ plan_move room store context.old (waits_of frames.old.items) plan) }
+    ensures { IfOk result (λ now. (store : Store) → standing_of now frames.new.items store context.new
+        ≡ plan_move room store context.old (waits_of frames.old.items) plan) }
 {
     match plan {
         Plan::Ends(code, text) => Ok(Now::Ends { code, text }),
@@ -85,7 +87,8 @@ fn act_on<K: Drop>(
     name: &str,
     room: u64,
 ) -> Result<Now<K>, AllocError>
-    ensures { IfOk result (λ now. (store : Store) → standing_of now frames.new.items store context.new ≡ act_move room name.now store context.old (waits_of frames.old.items) act) }
+    ensures { IfOk result (λ now. (store : Store) → standing_of now frames.new.items store context.new
+        ≡ act_move room name.now store context.old (waits_of frames.old.items) act) }
 {
     match act {
         Act::Done(code, text) => Ok(Now::Ends { code, text }),
@@ -120,7 +123,9 @@ fn test_items<K: Drop>(
     next: Option<Source>,
     room: u64,
 ) -> Result<Now<K>, AllocError>
-    ensures { IfOk result (λ now. standing_of now frames.new.items scopes.new context.now ≡ items_move room (record { test = Test.Items groups; body = body; next = next }) context.now (waits_of frames.old.items) (items_tested (here context.now.levels scopes.old) groups scopes.old)) }
+    ensures { IfOk result (λ now. standing_of now frames.new.items scopes.new context.now
+        ≡ items_move room (record { test = Test.Items groups; body = body; next = next }) context.now (waits_of frames.old.items)
+        (items_tested (here context.now.levels scopes.old) groups scopes.old)) }
 {
     let level = context.levels.here(scopes);
     match items_tested(alloc, scopes, level, groups)? {
@@ -152,7 +157,8 @@ fn test_groups<K: Drop>(
     room: u64,
 ) -> Result<Now<K>, AllocError>
     requires { IsThroughItems turning.test }
-    ensures { IfOk result (λ now. standing_of now frames.new.items scopes.new context.now ≡ test_move room turning scopes.old context.now (waits_of frames.old.items) turning.test) }
+    ensures { IfOk result (λ now. standing_of now frames.new.items scopes.new context.now
+        ≡ test_move room turning scopes.old context.now (waits_of frames.old.items) turning.test) }
 {
     let Turning { test, body, next } = turning;
     match test {
@@ -173,7 +179,8 @@ pub fn test<K: Drop>(
     turning: Looping,
     room: u64,
 ) -> Result<Now<K>, AllocError>
-    ensures { IfOk result (λ now. standing_of now frames.new.items scopes.new context.now ≡ test_move room turning scopes.old context.now (waits_of frames.old.items) turning.test) }
+    ensures { IfOk result (λ now. standing_of now frames.new.items scopes.new context.now
+        ≡ test_move room turning scopes.old context.now (waits_of frames.old.items) turning.test) }
 {
     match &turning.get().test {
         Test::Holds(condition) => {
@@ -209,7 +216,8 @@ fn call_outside<T: Tasks>(
     first: Text,
     arguments: &[Text],
 ) -> Result<Act<T::Task>, AllocError>
-    ensures ok { IfOk result (λ act. record { shows = (T.shows tasks.new); store = scopes.new; act = act } ≡ T.outside.calls (T.shows tasks.old) scopes.old (first ∷ arguments.now)) }
+    ensures ok { IfOk result (λ act. record { shows = (T.shows tasks.new); store = scopes.new; act = act }
+        ≡ T.outside.calls (T.shows tasks.old) scopes.old (first ∷ arguments.now)) }
     ensures left { T.left_alone tasks.new ≡ T.left_alone tasks.old }
 {
     let words = with_copies(alloc, first, arguments)?;
@@ -227,7 +235,9 @@ fn call_named<T: Tasks>(
     arguments: &[Text],
     room: u64,
 ) -> Result<Now<T::Task>, AllocError>
-    ensures ok { IfOk result (λ now. TakesStep T.outside (standing (moved (Calls room (name.now ∷ arguments.now)) (waits_of frames.old.items)) scopes.old context.old) (T.shows tasks.old) (standing_of now frames.new.items scopes.new context.new) (T.shows tasks.new)) }
+    ensures ok { IfOk result (λ now. TakesStep T.outside
+        (standing (moved (Calls room (name.now ∷ arguments.now)) (waits_of frames.old.items)) scopes.old context.old) (T.shows tasks.old)
+        (standing_of now frames.new.items scopes.new context.new) (T.shows tasks.new)) }
     ensures left { T.left_alone tasks.new ≡ T.left_alone tasks.old }
 {
     match call_command(alloc, scopes, context, name, arguments)? {
@@ -257,7 +267,8 @@ pub fn call<T: Tasks>(
     words: &[Text],
     room: u64,
 ) -> Result<Now<T::Task>, AllocError>
-    ensures ok { IfOk result (λ now. TakesStep T.outside (standing (moved (Calls room words.now) (waits_of frames.old.items)) scopes.old context.old) (T.shows tasks.old) (standing_of now frames.new.items scopes.new context.new) (T.shows tasks.new)) }
+    ensures ok { IfOk result (λ now. TakesStep T.outside (standing (moved (Calls room words.now) (waits_of frames.old.items)) scopes.old context.old)
+        (T.shows tasks.old) (standing_of now frames.new.items scopes.new context.new) (T.shows tasks.new)) }
     ensures left { T.left_alone tasks.new ≡ T.left_alone tasks.old }
 {
     match words {
@@ -284,7 +295,8 @@ pub fn resume<T: Tasks>(
     code: Code,
     text: Text,
 ) -> Result<Now<T::Task>, AllocError>
-    ensures ok { IfOk result (λ now. Resumed T.outside room task code text (waits_of frames.old.items) (T.shows tasks.old) scopes.old context.old (standing_of now frames.new.items scopes.new context.new) (T.shows tasks.new)) }
+    ensures ok { IfOk result (λ now. Resumed T.outside room task code text (waits_of frames.old.items) (T.shows tasks.old) scopes.old context.old
+        (standing_of now frames.new.items scopes.new context.new) (T.shows tasks.new)) }
     ensures left { T.left_alone tasks.new ≡ T.left_alone tasks.old }
 {
     let act = tasks.resume(scopes, task, code, text)?;

@@ -57,7 +57,8 @@ pub trait Tasks {
     /// names that the interpreter was given, or what begins with a dot, as a window's path. Where no window has the path, the answer is `Unknown`.
     /// An error of the script's is a `Done` with code 1.
     fn call(&mut self, scopes: &mut Scopes, words: &[Text]) -> Result<Act<Self::Task>, AllocError>
-        ensures ok { IfOk result (λ act. record { shows = shows self.new; store = scopes.new; act = act } ≡ outside.calls (shows self.old) scopes.old words.now) }
+        ensures ok { IfOk result (λ act. record { shows = shows self.new; store = scopes.new; act = act }
+            ≡ outside.calls (shows self.old) scopes.old words.now) }
         ensures left { left_alone self.new ≡ left_alone self.old };
 
     /// Goes on with a task: as it begins or after its step, with the normal code and the empty text, or after its script, with that one's.
@@ -68,7 +69,8 @@ pub trait Tasks {
         code: Code,
         text: Text,
     ) -> Result<Act<Self::Task>, AllocError>
-        ensures ok { IfOk result (λ act. record { shows = shows self.new; store = scopes.new; act = act } ≡ outside.resumes (shows self.old) scopes.old task code text) }
+        ensures ok { IfOk result (λ act. record { shows = shows self.new; store = scopes.new; act = act }
+            ≡ outside.resumes (shows self.old) scopes.old task code text) }
         ensures left { left_alone self.new ≡ left_alone self.old };
 
     /// A task that runs one script after another comes to an end: each time what is left of it is smaller.

@@ -237,7 +237,8 @@ fn called<K: Drop>(
     place: ScriptPlace,
     whole: TextList,
 ) -> Result<Now<K>, AllocError>
-    ensures { IfOk result (λ now. moved_of now frames.new.items ≡ called_move place.room (drop (place.next + 1) (commands_in place.script)) whole (waits_of frames.old.items)) }
+    ensures { IfOk result (λ now. moved_of now frames.new.items
+        ≡ called_move place.room (drop (place.next + 1) (commands_in place.script)) whole (waits_of frames.old.items)) }
 {
     let room = place.room;
     let place = past_command(place);
@@ -286,7 +287,9 @@ fn put_words<K: Drop>(
     so_far: TextList,
 ) -> Result<Now<K>, AllocError>
     requires { level < length scopes.now }
-    ensures { IfOk result (λ now. moved_of now frames.new.items ≡ words_move level scopes.now place.room (drop (place.next + 1) (commands_in place.script)) (drop from (words_in_front (left_in place))) so_far (waits_of frames.old.items)) }
+    ensures { IfOk result (λ now. moved_of now frames.new.items
+        ≡ words_move level scopes.now place.room (drop (place.next + 1) (commands_in place.script)) (drop from (words_in_front (left_in place))) so_far
+        (waits_of frames.old.items)) }
 {
     let mut whole = so_far;
     let mut word = from;
@@ -337,7 +340,9 @@ fn put_words_past<K: Drop>(
     whole: TextList,
 ) -> Result<Now<K>, AllocError>
     requires { level < length scopes.now }
-    ensures { IfOk result (λ now. moved_of now frames.new.items ≡ words_move level scopes.now place.room (drop (place.next + 1) (commands_in place.script)) (drop (word + 1) (words_in_front (left_in place))) whole (waits_of frames.old.items)) }
+    ensures { IfOk result (λ now. moved_of now frames.new.items
+        ≡ words_move level scopes.now place.room (drop (place.next + 1) (commands_in place.script)) (drop (word + 1) (words_in_front (left_in place))) whole
+        (waits_of frames.old.items)) }
 {
     if word < next_words(&place).len() {
         put_words(alloc, scopes, level, frames, place, word + 1, whole)
@@ -405,7 +410,10 @@ fn word_part<K: Drop>(
     so_far: Text,
     part: Part,
 ) -> Result<Now<K>, AllocError>
-    ensures { IfOk result (λ now. moved_of now frames.new.items ≡ word_part place.room (drop (place.next + 1) (commands_in place.script)) (expand_in_front (drop word (words_in_front (left_in place)))) (drop (word + 1) (words_in_front (left_in place))) whole (drop piece (pieces_in_front (drop word (words_in_front (left_in place))))) so_far (part_of part) (waits_of frames.old.items)) }
+    ensures { IfOk result (λ now. moved_of now frames.new.items
+        ≡ word_part place.room (drop (place.next + 1) (commands_in place.script)) (expand_in_front (drop word (words_in_front (left_in place))))
+        (drop (word + 1) (words_in_front (left_in place))) whole (drop piece (pieces_in_front (drop word (words_in_front (left_in place))))) so_far
+        (part_of part) (waits_of frames.old.items)) }
 {
     let room = place.room;
     let wording = Wording {

@@ -66,7 +66,8 @@ pub fn look_at<T: Jobs>(
     scopes: &Scopes,
     job: T::Job,
 ) -> Result<Act<Task<T::Job>>, AllocError>
-    ensures ok { IfOk result (λ act. record { shows = T.shows jobs.new; store = scopes.now; act = act } ≡ looked_told T.course (T.shows jobs.old) scopes.now job) }
+    ensures ok { IfOk result (λ act. record { shows = T.shows jobs.new; store = scopes.now; act = act }
+        ≡ looked_told T.course (T.shows jobs.old) scopes.now job) }
     ensures left { T.left_alone jobs.new ≡ T.left_alone jobs.old }
 {
     let looked = jobs.look(scopes, job)?;
@@ -79,7 +80,8 @@ fn start<T: Jobs>(
     scopes: &Scopes,
     job: T::Job,
 ) -> Result<Act<Task<T::Job>>, AllocError>
-    ensures ok { IfOk result (λ act. record { shows = T.shows jobs.new; store = scopes.now; act = act } ≡ started_told T.course (T.shows jobs.old) scopes.now job) }
+    ensures ok { IfOk result (λ act. record { shows = T.shows jobs.new; store = scopes.now; act = act }
+        ≡ started_told T.course (T.shows jobs.old) scopes.now job) }
     ensures left { T.left_alone jobs.new ≡ T.left_alone jobs.old }
 {
     let Started { script, job } = jobs.start(scopes, job)?;
@@ -97,7 +99,8 @@ fn go_on<T: Jobs>(
     code: Code,
     text: Text,
 ) -> Result<Act<Task<T::Job>>, AllocError>
-    ensures ok { IfOk result (λ act. record { shows = T.shows jobs.new; store = scopes.now; act = act } ≡ ended_told T.course code text (T.shows jobs.old) scopes.now job) }
+    ensures ok { IfOk result (λ act. record { shows = T.shows jobs.new; store = scopes.now; act = act }
+        ≡ ended_told T.course code text (T.shows jobs.old) scopes.now job) }
     ensures left { T.left_alone jobs.new ≡ T.left_alone jobs.old }
 {
     let next = jobs.ended(job, code, text)?;
@@ -131,7 +134,8 @@ pub fn resume<T: Jobs>(
     code: Code,
     text: Text,
 ) -> Result<Act<Task<T::Job>>, AllocError>
-    ensures ok { IfOk result (λ act. record { shows = T.shows jobs.new; store = scopes.now; act = act } ≡ resumes_of T.course (T.shows jobs.old) scopes.now task code text) }
+    ensures ok { IfOk result (λ act. record { shows = T.shows jobs.new; store = scopes.now; act = act }
+        ≡ resumes_of T.course (T.shows jobs.old) scopes.now task code text) }
     ensures left { T.left_alone jobs.new ≡ T.left_alone jobs.old }
 {
     match task {

@@ -108,7 +108,8 @@ impl CommandTable {
     #[tactic(auto, using(crate::proofs::SourceLemmas::script_walk))]
     pub fn read(&mut self, text: &Text) -> Result<Result<Script, ParseFault>, AllocError>
         ensures table { self.new ≡ self.old }
-        ensures reading { IfOk result (λ reading. MatchResult reading (λ script. (script ≡ text.now) × IsOk (script_of text.now)) (λ fault. script_of text.now ≡ Err fault)) }
+        ensures reading { IfOk result (λ reading. MatchResult reading (λ script. (script ≡ text.now) × IsOk (script_of text.now))
+            (λ fault. script_of text.now ≡ Err fault)) }
     {
         let place = place_of(text);
         if let Some(script) = script_at(self.scripts.as_slice(), place, text)? {

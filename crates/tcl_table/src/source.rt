@@ -148,7 +148,8 @@ impl Source {
     #[tactic(auto, using(crate::proofs::SourceLemmas::script_walk))]
     pub fn read(self, table: &mut CommandTable) -> Result<Result<Script, ParseFault>, AllocError>
         ensures table { table.new ≡ table.old }
-        ensures reading { IfOk result (λ reading. MatchResult reading (λ script. (script ≡ self) × IsOk (script_of self)) (λ fault. script_of self ≡ Err fault)) }
+        ensures reading { IfOk result (λ reading. MatchResult reading (λ script. (script ≡ self) × IsOk (script_of self))
+            (λ fault. script_of self ≡ Err fault)) }
     {
         let Source { form } = self;
         match form {

@@ -4,6 +4,7 @@
 use Rattle.std.specs.Prelude.{ℕ, zero, suc, ◌+◌, ◌≡◌, ◌≢◌, ◌≤◌, ◌⊎◌, Bool, true, false, not, ◌&&◌, ◌||◌, ◌==◌, nat_eq, List, [], ◌∷◌, ◌++◌, length, drop, Result, Ok, Err}
 use Rattle.std.specs.List.{starts_with}
 use Rattle.std.specs.Str.{IsUtf8}
+use Rattle.tcl_words.specs.Bytes.{tab, line_feed, space, quote, hash, dollar_sign, open_paren, close_paren, star, colon, semicolon, open_bracket, backslash_sign, close_bracket, open_brace, close_brace}
 use Rattle.tcl_text.specs.Backslash.{escape}
 use Rattle.tcl_words.specs.Classes.{class_of, is_letter, begins_newline, begins_expansion}
 use Rattle.tcl_words.specs.Spans.{command_of, word_of}
@@ -45,7 +46,7 @@ begins_letter (b ∷ text) = is_letter b
 
 -- a name stands at the front: `::` or nothing, and then a letter, a digit or `_`
 abbrev pub begins_name : List ℕ → Bool
-begins_name text = begins_letter text || (starts_with nat_eq text (58 ∷ 58 ∷ []) && begins_letter (drop 2 text))
+begins_name text = begins_letter text || (starts_with nat_eq text (colon ∷ colon ∷ []) && begins_letter (drop 2 text))
 
 -- A byte of this class, and then this text, end the word before them. `inside` says that the script or the index ends at a
 -- closing bracket or parenthesis.
@@ -65,7 +66,7 @@ ends_word inside (b ∷ text) = class_ends inside (class_of b) text
 -- a `{*}` stands at the front, before a character that doesn't end the word
 abbrev pub begins_mark : Bool → List ℕ → Bool
 begins_mark inside [] = false
-begins_mark inside (b ∷ text) = b == 123 && (begins_expansion text && not (ends_word inside (drop 2 text)))
+begins_mark inside (b ∷ text) = b == open_brace && (begins_expansion text && not (ends_word inside (drop 2 text)))
 
 -- letters, digits and `_`
 abbrev pub AreLetters : List ℕ → Type 0
@@ -74,22 +75,22 @@ AreLetters (b ∷ text) = (is_letter b ≡ true) × AreLetters text
 
 -- a variable's name: at least one of these, and before that `::` or nothing
 abbrev pub IsName : List ℕ → Type 0
-IsName name = (b : ℕ) × (letters : List ℕ) × (is_letter b ≡ true) × AreLetters letters × ((name ≡ b ∷ letters) ⊎ (name ≡ 58 ∷ 58 ∷ b ∷ letters))
+IsName name = (b : ℕ) × (letters : List ℕ) × (is_letter b ≡ true) × AreLetters letters × ((name ≡ b ∷ letters) ⊎ (name ≡ colon ∷ colon ∷ b ∷ letters))
 
 -- no `}`
 abbrev pub HasNoBrace : List ℕ → Type 0
 HasNoBrace [] = Unit {0}
-HasNoBrace (b ∷ text) = (b ≢ 125) × HasNoBrace text
+HasNoBrace (b ∷ text) = (b ≢ close_brace) × HasNoBrace text
 
 -- an index ends at a parenthesis; read by itself it ends where the text does
 abbrev pub index_stops : Bool → List ℕ → Bool
 index_stops inside [] = not inside
-index_stops inside (b ∷ text) = inside && b == 41
+index_stops inside (b ∷ text) = inside && b == close_paren
 
 -- the body ends before this text
 abbrev pub stops : Bool → Mode → List ℕ → Bool
 stops inside Bare text = ends_word inside text
-stops inside Quotes text = begins 34 text
+stops inside Quotes text = begins quote text
 stops inside Parens text = index_stops inside text
 
 -- the fault of a body that never ends
@@ -126,32 +127,32 @@ pub data ArePieces (IsInner : Inner → List ℕ → TextEnding → Type 0) (ins
   byte : {b : ℕ} {text : List ℕ} {pieces : List Piece} {ending : TextEnding} → stops inside mode (b ∷ text) ≡ false → is_plain (class_of b) ≡ true →
       ArePieces IsInner inside mode text pieces ending → ArePieces IsInner inside mode (b ∷ text) (with_bytes (b ∷ []) pieces) ending
   -- a backslash, with as much of the text behind it as it takes
-  backslash : {text : List ℕ} {pieces : List Piece} {ending : TextEnding} → stops inside mode (92 ∷ text) ≡ false →
-      ArePieces IsInner inside mode (drop (escape text).length text) pieces ending → ArePieces IsInner inside mode (92 ∷ text) (with_bytes (escape text).meaning pieces) ending
+  backslash : {text : List ℕ} {pieces : List Piece} {ending : TextEnding} → stops inside mode (backslash_sign ∷ text) ≡ false →
+      ArePieces IsInner inside mode (drop (escape text).length text) pieces ending → ArePieces IsInner inside mode (backslash_sign ∷ text) (with_bytes (escape text).meaning pieces) ending
   -- a `$` that stands for itself
-  dollar : {text : List ℕ} {pieces : List Piece} {ending : TextEnding} → begins_name text ≡ false → begins 123 text ≡ false →
-      ArePieces IsInner inside mode text pieces ending → ArePieces IsInner inside mode (36 ∷ text) (with_bytes (36 ∷ []) pieces) ending
+  dollar : {text : List ℕ} {pieces : List Piece} {ending : TextEnding} → begins_name text ≡ false → begins open_brace text ≡ false →
+      ArePieces IsInner inside mode text pieces ending → ArePieces IsInner inside mode (dollar_sign ∷ text) (with_bytes (dollar_sign ∷ []) pieces) ending
   -- `$name`: the name goes as far as it can
-  variable : (name : List ℕ) {text : List ℕ} {pieces : List Piece} {ending : TextEnding} → IsName name → begins_letter text ≡ false → begins 40 text ≡ false →
-      ArePieces IsInner inside mode text pieces ending → ArePieces IsInner inside mode (36 ∷ (name ++ text)) (Variable name ∷ pieces) ending
+  variable : (name : List ℕ) {text : List ℕ} {pieces : List Piece} {ending : TextEnding} → IsName name → begins_letter text ≡ false → begins open_paren text ≡ false →
+      ArePieces IsInner inside mode text pieces ending → ArePieces IsInner inside mode (dollar_sign ∷ (name ++ text)) (Variable name ∷ pieces) ending
   -- `${name}`: any text up to the first brace
   braced_name : (name : List ℕ) {text : List ℕ} {pieces : List Piece} {ending : TextEnding} → HasNoBrace name →
-      ArePieces IsInner inside mode text pieces ending → ArePieces IsInner inside mode (36 ∷ 123 ∷ (name ++ 125 ∷ text)) (Variable name ∷ pieces) ending
-  unclosed_name : {text : List ℕ} → HasNoBrace text → ArePieces IsInner inside mode (36 ∷ 123 ∷ text) [] (fails MissingBrace)
+      ArePieces IsInner inside mode text pieces ending → ArePieces IsInner inside mode (dollar_sign ∷ open_brace ∷ (name ++ close_brace ∷ text)) (Variable name ∷ pieces) ending
+  unclosed_name : {text : List ℕ} → HasNoBrace text → ArePieces IsInner inside mode (dollar_sign ∷ open_brace ∷ text) [] (fails MissingBrace)
   -- `$name(index)`
-  element : (name own : List ℕ) {text : List ℕ} {pieces : List Piece} {ending : TextEnding} → IsName name → IsInner index (own ++ 41 ∷ text) (leaves (41 ∷ text)) →
-      ArePieces IsInner inside mode text pieces ending → ArePieces IsInner inside mode (36 ∷ (name ++ 40 ∷ (own ++ 41 ∷ text))) (Element name own ∷ pieces) ending
+  element : (name own : List ℕ) {text : List ℕ} {pieces : List Piece} {ending : TextEnding} → IsName name → IsInner index (own ++ close_paren ∷ text) (leaves (close_paren ∷ text)) →
+      ArePieces IsInner inside mode text pieces ending → ArePieces IsInner inside mode (dollar_sign ∷ (name ++ open_paren ∷ (own ++ close_paren ∷ text))) (Element name own ∷ pieces) ending
   faulty_index : (name : List ℕ) {text : List ℕ} {fault : ParseFault} → IsName name → IsInner index text (fails fault) →
-      ArePieces IsInner inside mode (36 ∷ (name ++ 40 ∷ text)) [] (fails fault)
+      ArePieces IsInner inside mode (dollar_sign ∷ (name ++ open_paren ∷ text)) [] (fails fault)
   -- a script in brackets
-  bracket : (own : List ℕ) {text : List ℕ} {pieces : List Piece} {ending : TextEnding} → IsInner script (own ++ 93 ∷ text) (leaves (93 ∷ text)) →
-      ArePieces IsInner inside mode text pieces ending → ArePieces IsInner inside mode (91 ∷ (own ++ 93 ∷ text)) (Bracket own ∷ pieces) ending
-  faulty_script : {text : List ℕ} {fault : ParseFault} → IsInner script text (fails fault) → ArePieces IsInner inside mode (91 ∷ text) [] (fails fault)
+  bracket : (own : List ℕ) {text : List ℕ} {pieces : List Piece} {ending : TextEnding} → IsInner script (own ++ close_bracket ∷ text) (leaves (close_bracket ∷ text)) →
+      ArePieces IsInner inside mode text pieces ending → ArePieces IsInner inside mode (open_bracket ∷ (own ++ close_bracket ∷ text)) (Bracket own ∷ pieces) ending
+  faulty_script : {text : List ℕ} {fault : ParseFault} → IsInner script text (fails fault) → ArePieces IsInner inside mode (open_bracket ∷ text) [] (fails fault)
 
 -- a blank or a tab
 abbrev pub begins_space : List ℕ → Bool
 begins_space [] = false
-begins_space (b ∷ text) = b == 32 || b == 9
+begins_space (b ∷ text) = b == space || b == tab
 
 abbrev pub AreSpaces : List ℕ → Type 0
 AreSpaces [] = Unit {0}
@@ -161,28 +162,28 @@ AreSpaces (b ∷ text) = (begins_space (b ∷ text) ≡ true) × AreSpaces text
 -- backslash before a newline gives a blank, with the blanks and tabs behind it.
 pub data IsBraced : List ℕ → List ℕ → Type 0 where
   none : IsBraced [] []
-  byte : {b : ℕ} {text value : List ℕ} → b ≢ 123 → b ≢ 125 → b ≢ 92 → IsBraced text value → IsBraced (b ∷ text) (b ∷ value)
-  pair : {b : ℕ} {text value : List ℕ} → b ≢ 10 → IsBraced text value → IsBraced (92 ∷ b ∷ text) (92 ∷ b ∷ value)
-  continuation : (spaces : List ℕ) {text value : List ℕ} → AreSpaces spaces → begins_space text ≡ false → IsBraced text value → IsBraced (92 ∷ 10 ∷ (spaces ++ text)) (32 ∷ value)
-  braces : (own text : List ℕ) {inner value : List ℕ} → IsBraced own inner → IsBraced text value → IsBraced (123 ∷ (own ++ 125 ∷ text)) (123 ∷ (inner ++ 125 ∷ value))
+  byte : {b : ℕ} {text value : List ℕ} → b ≢ open_brace → b ≢ close_brace → b ≢ backslash_sign → IsBraced text value → IsBraced (b ∷ text) (b ∷ value)
+  pair : {b : ℕ} {text value : List ℕ} → b ≢ line_feed → IsBraced text value → IsBraced (backslash_sign ∷ b ∷ text) (backslash_sign ∷ b ∷ value)
+  continuation : (spaces : List ℕ) {text value : List ℕ} → AreSpaces spaces → begins_space text ≡ false → IsBraced text value → IsBraced (backslash_sign ∷ line_feed ∷ (spaces ++ text)) (space ∷ value)
+  braces : (own text : List ℕ) {inner value : List ℕ} → IsBraced own inner → IsBraced text value → IsBraced (open_brace ∷ (own ++ close_brace ∷ text)) (open_brace ∷ (inner ++ close_brace ∷ value))
 
 -- The text past an opening brace that has no match in it.
 pub data IsUnclosed : List ℕ → Type 0 where
   ends : {text value : List ℕ} → IsBraced text value → IsUnclosed text
-  backslash : (text : List ℕ) {value : List ℕ} → IsBraced text value → IsUnclosed (text ++ 92 ∷ [])
-  opens : (before text : List ℕ) {value : List ℕ} → IsBraced before value → IsUnclosed text → IsUnclosed (before ++ 123 ∷ text)
+  backslash : (text : List ℕ) {value : List ℕ} → IsBraced text value → IsUnclosed (text ++ backslash_sign ∷ [])
+  opens : (before text : List ℕ) {value : List ℕ} → IsBraced before value → IsUnclosed text → IsUnclosed (before ++ open_brace ∷ text)
 
 -- the first byte of a bare word
 abbrev pub begins_bare : Bool → List ℕ → Bool
-begins_bare inside text = not (ends_word inside text) && (not (begins 123 text) && not (begins 34 text))
+begins_bare inside text = not (ends_word inside text) && (not (begins open_brace text) && not (begins quote text))
 
 -- A word's own text, without a `{*}`, where `rest` follows it.
 pub data IsOwnWord (IsInner : Inner → List ℕ → TextEnding → Type 0) (inside : Bool) (rest : List ℕ) : List ℕ → WordForm → List Piece → Type 0 where
   bare_word : {own : List ℕ} {pieces : List Piece} → begins_bare inside (own ++ rest) ≡ true → ArePieces IsInner inside Bare (own ++ rest) pieces (leaves rest) →
       IsOwnWord IsInner inside rest own BareForm pieces
-  quoted_word : (own : List ℕ) {pieces : List Piece} → ArePieces IsInner inside Quotes (own ++ 34 ∷ rest) pieces (leaves (34 ∷ rest)) →
-      IsOwnWord IsInner inside rest (34 ∷ (own ++ 34 ∷ [])) QuotedForm pieces
-  braced_word : (own : List ℕ) {value : List ℕ} → IsBraced own value → IsOwnWord IsInner inside rest (123 ∷ (own ++ 125 ∷ [])) BracedForm (Literal value ∷ [])
+  quoted_word : (own : List ℕ) {pieces : List Piece} → ArePieces IsInner inside Quotes (own ++ quote ∷ rest) pieces (leaves (quote ∷ rest)) →
+      IsOwnWord IsInner inside rest (quote ∷ (own ++ quote ∷ [])) QuotedForm pieces
+  braced_word : (own : List ℕ) {value : List ℕ} → IsBraced own value → IsOwnWord IsInner inside rest (open_brace ∷ (own ++ close_brace ∷ [])) BracedForm (Literal value ∷ [])
 
 -- The fault of a text at whose front a word's own text would stand: the word never ends, something in it is at fault, or
 -- something follows the quote or the brace that ends it.
@@ -190,16 +191,16 @@ pub data IsFaultyOwn (IsInner : Inner → List ℕ → TextEnding → Type 0) (i
   faulty_bare : {text : List ℕ} {pieces : List Piece} {fault : ParseFault} → begins_bare inside text ≡ true → ArePieces IsInner inside Bare text pieces (fails fault) →
       IsFaultyOwn IsInner inside text fault
   faulty_quoted : {text : List ℕ} {pieces : List Piece} {fault : ParseFault} → ArePieces IsInner inside Quotes text pieces (fails fault) →
-      IsFaultyOwn IsInner inside (34 ∷ text) fault
-  followed_quoted : (own rest : List ℕ) {pieces : List Piece} → ArePieces IsInner inside Quotes (own ++ 34 ∷ rest) pieces (leaves (34 ∷ rest)) → ends_word inside rest ≡ false →
-      IsFaultyOwn IsInner inside (34 ∷ (own ++ 34 ∷ rest)) ExtraAfterQuote
-  unclosed_braced : {text : List ℕ} → IsUnclosed text → IsFaultyOwn IsInner inside (123 ∷ text) MissingBrace
-  followed_braced : (own rest : List ℕ) {value : List ℕ} → IsBraced own value → ends_word inside rest ≡ false → IsFaultyOwn IsInner inside (123 ∷ (own ++ 125 ∷ rest)) ExtraAfterBrace
+      IsFaultyOwn IsInner inside (quote ∷ text) fault
+  followed_quoted : (own rest : List ℕ) {pieces : List Piece} → ArePieces IsInner inside Quotes (own ++ quote ∷ rest) pieces (leaves (quote ∷ rest)) → ends_word inside rest ≡ false →
+      IsFaultyOwn IsInner inside (quote ∷ (own ++ quote ∷ rest)) ExtraAfterQuote
+  unclosed_braced : {text : List ℕ} → IsUnclosed text → IsFaultyOwn IsInner inside (open_brace ∷ text) MissingBrace
+  followed_braced : (own rest : List ℕ) {value : List ℕ} → IsBraced own value → ends_word inside rest ≡ false → IsFaultyOwn IsInner inside (open_brace ∷ (own ++ close_brace ∷ rest)) ExtraAfterBrace
 
 -- what stands before a word's own text: `{*}`, or nothing
 abbrev pub IsMark : Bool → Bool → List ℕ → List ℕ → Type 0
 IsMark inside false mark text = (mark ≡ []) × (begins_mark inside text ≡ false)
-IsMark inside true mark text = (mark ≡ 123 ∷ 42 ∷ 125 ∷ []) × (ends_word inside text ≡ false)
+IsMark inside true mark text = (mark ≡ open_brace ∷ star ∷ close_brace ∷ []) × (ends_word inside text ≡ false)
 
 -- A word at this position, where `rest` follows it.
 pub record IsWord (IsInner : Inner → List ℕ → TextEnding → Type 0) (inside : Bool) (rest : List ℕ) (at : ℕ) (text : List ℕ) (word : Word) : Type 0 where
@@ -225,31 +226,31 @@ pub record IsFaultyWord (IsInner : Inner → List ℕ → TextEnding → Type 0)
 
 -- a newline or `;`
 abbrev pub IsSeparator : ℕ → Type 0
-IsSeparator b = (b ≡ 10) ⊎ (b ≡ 59)
+IsSeparator b = (b ≡ line_feed) ⊎ (b ≡ semicolon)
 
 -- What parts the words of a command: blank characters, and backslashes before newlines.
 pub data AreBlanks : List ℕ → Type 0 where
   none : AreBlanks []
   blank : {b : ℕ} {text : List ℕ} → class_of b ≡ Blank → AreBlanks text → AreBlanks (b ∷ text)
-  continuation : {text : List ℕ} → AreBlanks text → AreBlanks (92 ∷ 10 ∷ text)
+  continuation : {text : List ℕ} → AreBlanks text → AreBlanks (backslash_sign ∷ line_feed ∷ text)
 
 -- A comment's text: a backslash goes with the byte behind it, and no newline stands for itself.
 pub data IsNote : List ℕ → Type 0 where
   none : IsNote []
-  byte : {b : ℕ} {text : List ℕ} → b ≢ 10 → b ≢ 92 → IsNote text → IsNote (b ∷ text)
-  pair : {b : ℕ} {text : List ℕ} → IsNote text → IsNote (92 ∷ b ∷ text)
+  byte : {b : ℕ} {text : List ℕ} → b ≢ line_feed → b ≢ backslash_sign → IsNote text → IsNote (b ∷ text)
+  pair : {b : ℕ} {text : List ℕ} → IsNote text → IsNote (backslash_sign ∷ b ∷ text)
 
 -- a comment that goes on to the end of the text, where a backslash may be the last byte
 abbrev pub IsLastNote : List ℕ → Type 0
-IsLastNote text = IsNote text ⊎ ((front : List ℕ) × (text ≡ front ++ 92 ∷ []) × IsNote front)
+IsLastNote text = IsNote text ⊎ ((front : List ℕ) × (text ≡ front ++ backslash_sign ∷ []) × IsNote front)
 
 -- What may stand where a command could begin: blanks, separators, and comments that end.
 pub data IsGap : List ℕ → Type 0 where
   none : IsGap []
   blank : {b : ℕ} {text : List ℕ} → class_of b ≡ Blank → IsGap text → IsGap (b ∷ text)
-  continuation : {text : List ℕ} → IsGap text → IsGap (92 ∷ 10 ∷ text)
+  continuation : {text : List ℕ} → IsGap text → IsGap (backslash_sign ∷ line_feed ∷ text)
   separator : {b : ℕ} {text : List ℕ} → IsSeparator b → IsGap text → IsGap (b ∷ text)
-  comment : (note text : List ℕ) → IsNote note → IsGap text → IsGap (35 ∷ (note ++ 10 ∷ text))
+  comment : (note text : List ℕ) → IsNote note → IsGap text → IsGap (hash ∷ (note ++ line_feed ∷ text))
 
 -- how a script goes on at the end of the text
 abbrev pub end_of_text : Bool → TextEnding
@@ -258,7 +259,7 @@ end_of_text false = leaves []
 
 -- The end of a script: the bracket that closes it, or the end of the text.
 pub data IsEnd (inside : Bool) : List ℕ → TextEnding → Type 0 where
-  closes : {text : List ℕ} → inside ≡ true → IsEnd inside (93 ∷ text) (leaves (93 ∷ text))
+  closes : {text : List ℕ} → inside ≡ true → IsEnd inside (close_bracket ∷ text) (leaves (close_bracket ∷ text))
   stands : IsEnd inside [] (end_of_text inside)
 
 -- How a script ends where a word could begin.
@@ -270,8 +271,8 @@ pub data IsEnding (IsInner : Inner → List ℕ → TextEnding → Type 0) (insi
 pub data IsLast (IsInner : Inner → List ℕ → TextEnding → Type 0) (inside : Bool) : List ℕ → TextEnding → Type 0 where
   ends : {text : List ℕ} {ending : TextEnding} → IsEnd inside text ending → IsLast IsInner inside text ending
   -- a comment holds all that is left, a bracket too
-  comment : {note : List ℕ} → IsLastNote note → IsLast IsInner inside (35 ∷ note) (end_of_text inside)
-  faulty : {text : List ℕ} {fault : ParseFault} → begins 35 text ≡ false → IsFaultyWord IsInner inside text fault → IsLast IsInner inside text (fails fault)
+  comment : {note : List ℕ} → IsLastNote note → IsLast IsInner inside (hash ∷ note) (end_of_text inside)
+  faulty : {text : List ℕ} {fault : ParseFault} → begins hash text ≡ false → IsFaultyWord IsInner inside text fault → IsLast IsInner inside text (fails fault)
 
 -- The further words of a command, and then what comes after it.
 abbrev pub AreFurther : (Inner → List ℕ → TextEnding → Type 0) → Bool → (ℕ → List ℕ → Type 0) → ℕ → List ℕ → List Word → Type 0
@@ -292,7 +293,7 @@ abbrev pub IsScript : (Inner → List ℕ → TextEnding → Type 0) → Bool �
 IsScript IsInner inside at text [] ending = (gap : List ℕ) × (rest : List ℕ) × (text ≡ gap ++ rest) × IsGap gap × IsLast IsInner inside rest ending
 IsScript IsInner inside at text (command ∷ commands) ending =
     (gap : List ℕ) × (own : List ℕ) × (rest : List ℕ) × (word : Word) × (words : List Word)
-    × (text ≡ gap ++ (own ++ rest)) × IsGap gap × (begins 35 (own ++ rest) ≡ false)
+    × (text ≡ gap ++ (own ++ rest)) × IsGap gap × (begins hash (own ++ rest) ≡ false)
     × IsWord IsInner inside rest (at + length gap) own word
     × AreFurther IsInner inside (IsRest (λ next after. IsScript IsInner inside next after commands ending) (λ last. (commands ≡ []) × IsEnding IsInner inside last ending)) (at + length gap + length own) rest words
     × (command ≡ command_of (at + length gap) (word ∷ words))

@@ -1,6 +1,7 @@
 -- Steps. What a byte can mean in a script by what stands behind it.
 use Rattle.std.specs.Prelude.{ℕ, zero, suc, ◌+◌, Bool, ◌==◌, nat_eq, if◌then◌else◌, List, [], ◌∷◌, drop, Option, Some, None}
 use Rattle.std.specs.List.{starts_with}
+use Rattle.tcl_words.specs.Bytes.{open_paren, colon, open_brace, close_brace}
 use Rattle.tcl_words.specs.Classes.{is_letter, class_of, begins_newline, begins_expansion}
 use Rattle.tcl_words.specs.declared.kind.Kind.{Kind}
 use Rattle.tcl_words.specs.declared.kind.Kind.TheVariants.{CloseBracket, OpenBrace, Expansion, CloseParen, Backslash, Continuation, Other}
@@ -30,7 +31,7 @@ past_colons (suc n) = suc n + 2
 
 -- how long the variable's name in front is: `::` or nothing, and at least one letter, digit or `_`
 abbrev pub name_length : List ℕ → ℕ
-name_length text = if starts_with nat_eq text (58 ∷ 58 ∷ []) then past_colons (letters (drop 2 text)) else letters text
+name_length text = if starts_with nat_eq text (colon ∷ colon ∷ []) then past_colons (letters (drop 2 text)) else letters text
 
 -- one byte further
 abbrev pub one_further : Option ℕ → Option ℕ
@@ -40,7 +41,7 @@ one_further (Some n) = Some (suc n)
 -- how many bytes stand before the first `}`
 abbrev pub to_brace : List ℕ → Option ℕ
 to_brace [] = None
-to_brace (b ∷ text) = if b == 125 then Some 0 else one_further (to_brace text)
+to_brace (b ∷ text) = if b == close_brace then Some 0 else one_further (to_brace text)
 
 abbrev pub dollar_braced : Option ℕ → DollarForm
 dollar_braced None = Unclosed
@@ -49,10 +50,10 @@ dollar_braced (Some n) = Braced n
 -- behind a name of this length stands this text
 abbrev pub dollar_named : ℕ → List ℕ → DollarForm
 dollar_named zero behind = Alone
-dollar_named (suc n) behind = if starts_with nat_eq behind (40 ∷ []) then Indexed (suc n) else Named (suc n)
+dollar_named (suc n) behind = if starts_with nat_eq behind (open_paren ∷ []) then Indexed (suc n) else Named (suc n)
 
 -- what a `$` is before this text
 unfoldable pub dollar_of : List ℕ → DollarForm
 dollar_of behind =
-    if starts_with nat_eq behind (123 ∷ []) then dollar_braced (to_brace (drop 1 behind))
+    if starts_with nat_eq behind (open_brace ∷ []) then dollar_braced (to_brace (drop 1 behind))
     else dollar_named (name_length behind) (drop (name_length behind) behind)

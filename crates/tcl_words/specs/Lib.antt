@@ -1,4 +1,5 @@
 -- What the contracts cite.
+pub mod Bytes
 pub mod Chain
 pub mod Changes
 pub mod Classes

@@ -45,7 +45,8 @@ pub fn spans_are_slices()
 
 /// The sources of a script's commands, joined by newlines, are a script of the same commands.
 pub fn lines_are_a_script()
-    ensures { (text : List ℕ) (commands : List Command) → IsScriptOf text commands → (others : List Command) × IsScriptOf (lines_of text commands) others × CommandsAlike commands others }
+    ensures { (text : List ℕ) (commands : List Command) → IsScriptOf text commands → (others : List Command) × IsScriptOf (lines_of text commands) others
+        × CommandsAlike commands others }
 {}
 
 /// The text behind an opening brace is cut at the brace that closes it, or has none.
@@ -57,9 +58,13 @@ pub fn braces_are_cut()
 /// it begins in the pieces of a body too.
 pub fn operands_are_read()
     ensures bracket { (room : ℕ) (text : List ℕ) (result : Result (Piece × ℕ) ParseFault) → IsBehindBracket room text result ↔ (bracket_of room text ≡ result) }
-    ensures substitution { (room : ℕ) (text : List ℕ) (result : Result (Option (Piece × ℕ)) ParseFault) → IsBehindDollar room text result ↔ (substitution_of room text ≡ result) }
-    ensures quotes { (room : ℕ) (text : List ℕ) (result : Result (List Piece × ℕ) ParseFault) → IsBehindQuote room text result ↔ (quoted_of room text ≡ result) }
-    ensures begun { (room : ℕ) (inside : Bool) (mode : Mode) (text rest : List ℕ) (piece : Piece) (pieces : List Piece) (ending : TextEnding) → IsSubstitution room text piece rest
+    ensures substitution { (room : ℕ) (text : List ℕ) (result : Result (Option (Piece × ℕ)) ParseFault) → IsBehindDollar room text result
+        ↔ (substitution_of room text ≡ result) }
+    ensures quotes { (room : ℕ) (text : List ℕ) (result : Result (List Piece × ℕ) ParseFault) → IsBehindQuote room text result
+        ↔ (quoted_of room text ≡ result) }
+    ensures begun { (room : ℕ) (inside : Bool) (mode : Mode) (text rest : List ℕ) (piece : Piece) (pieces : List Piece) (ending : TextEnding) →
+        IsSubstitution room text piece rest
         → ArePieces (IsInnerOf room) inside mode rest pieces ending → ArePieces (IsInnerOf room) inside mode (36 ∷ text) (piece ∷ pieces) ending }
-    ensures faulty { (room : ℕ) (inside : Bool) (mode : Mode) (text : List ℕ) (fault : ParseFault) → IsFaultySubstitution room text fault → ArePieces (IsInnerOf room) inside mode (36 ∷ text) [] (fails fault) }
+    ensures faulty { (room : ℕ) (inside : Bool) (mode : Mode) (text : List ℕ) (fault : ParseFault) → IsFaultySubstitution room text fault →
+        ArePieces (IsInnerOf room) inside mode (36 ∷ text) [] (fails fault) }
 {}

@@ -166,8 +166,7 @@ impl Open {
         }
         self.keep_literal(source, end)?;
         let literal = mem::replace(&mut self.literal, String::new(alloc));
-        let text = Text::of_short(alloc, literal.as_str())?;
-        Ok(text)
+        Text::of_short(alloc, literal.as_str())
     }
 
     /// The literal that is open ends; it is a piece where it has bytes.

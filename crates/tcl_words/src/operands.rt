@@ -90,8 +90,7 @@ pub fn bracket_behind(
     requires room { room ≤ most_nested }
     ensures { IsReadAs result (bracket_of room (drop (at + 1) source.now)) }
 {
-    let found = read_opened(alloc, source, at, Opener::Bracket, room)?;
-    Ok(found)
+    read_opened(alloc, source, at, Opener::Bracket, room)
 }
 
 /// What a `$` at a place begins, and how many bytes behind the place are read; nothing where it stands for itself (Tcl(n), "Variable

@@ -26,8 +26,7 @@ fn read_script(alloc: Global, source: &[u8]) -> Result<Script, ParseFault>
     };
     let commands = read_all(alloc, text)?;
     let text = Text::new(alloc, text)?;
-    let script = Script::new(alloc, text, commands)?;
-    Ok(script)
+    Ok(Script::new(alloc, text, commands)?)
 }
 
 /// Reads a script whole, by the rules of Tcl(n). More than 65,536 bytes, or bytes that aren't UTF-8, are `TooLong` (4) before all else.

@@ -194,10 +194,7 @@ pub fn read_text(
     ensures { Does parts.old parts.new source.now at (BytePlace.Text mode) (in_text mode kind byte (drop (at + 1) source.now)) result }
 {
     match kind {
-        Kind::Dollar => {
-            let step = read_dollar(parts, alloc, source, at, byte, mode)?;
-            Ok(step)
-        }
+        Kind::Dollar => read_dollar(parts, alloc, source, at, byte, mode),
         Kind::OpenBracket => {
             parts.end_literal(alloc, source, at)?;
             Ok(Step::Within(Opener::Bracket, mode))
@@ -252,10 +249,8 @@ fn read_past(
     ensures { Does parts.old parts.new source.now at BytePlace.PastBraces (word_over kind at (drop (at + 1) source.now) (fails fault)) result }
 {
     match kind {
-        Kind::Blank | Kind::Newline | Kind::Semicolon | Kind::Continuation | Kind::CloseBracket => {
-            let step = end_word(parts, alloc, source, at, byte, kind)?;
-            Ok(step)
-        }
+        Kind::Blank | Kind::Newline | Kind::Semicolon | Kind::Continuation | Kind::CloseBracket =>
+            end_word(parts, alloc, source, at, byte, kind),
         _ => Err(fault),
     }
 }
@@ -276,13 +271,9 @@ fn read_bare(
     match kind {
         Kind::Blank | Kind::Newline | Kind::Semicolon | Kind::Continuation | Kind::CloseBracket => {
             parts.end_literal(alloc, source, at)?;
-            let step = end_word(parts, alloc, source, at, byte, kind)?;
-            Ok(step)
+            end_word(parts, alloc, source, at, byte, kind)
         }
-        _ => {
-            let step = read_text(parts, alloc, source, at, byte, kind, Mode::Bare)?;
-            Ok(step)
-        }
+        _ => read_text(parts, alloc, source, at, byte, kind, Mode::Bare),
     }
 }
 
@@ -304,10 +295,7 @@ fn read_quotes(
             parts.end_literal(alloc, source, at)?;
             Ok(Step::On(0, BytePlace::PastQuotes))
         }
-        _ => {
-            let step = read_text(parts, alloc, source, at, byte, kind, Mode::Quotes)?;
-            Ok(step)
-        }
+        _ => read_text(parts, alloc, source, at, byte, kind, Mode::Quotes),
     }
 }
 
@@ -329,10 +317,7 @@ fn read_parens(
             parts.end_literal(alloc, source, at)?;
             Ok(Step::Ends)
         }
-        _ => {
-            let step = read_text(parts, alloc, source, at, byte, kind, Mode::Parens)?;
-            Ok(step)
-        }
+        _ => read_text(parts, alloc, source, at, byte, kind, Mode::Parens),
     }
 }
 
@@ -394,8 +379,7 @@ fn read_word(
         }
         _ => {
             parts.begin_word(alloc, WordForm::Bare, expand, start, at);
-            let step = read_bare(parts, alloc, source, at, byte, kind)?;
-            Ok(step)
+            read_bare(parts, alloc, source, at, byte, kind)
         }
     }
 }
@@ -448,10 +432,7 @@ fn read_between(
             Ok(Step::Ends)
         }
         Kind::Expansion => Ok(Step::On(2, BytePlace::Expanded)),
-        _ => {
-            let step = read_word(parts, alloc, source, at, byte, kind, false, at)?;
-            Ok(step)
-        }
+        _ => read_word(parts, alloc, source, at, byte, kind, false, at),
     }
 }
 
@@ -475,8 +456,7 @@ fn read_start(
         Kind::Hash => Ok(Step::On(0, BytePlace::Comment)),
         _ => {
             parts.begin_command(alloc, at);
-            let step = read_between(parts, alloc, source, at, byte, kind)?;
-            Ok(step)
+            read_between(parts, alloc, source, at, byte, kind)
         }
     }
 }

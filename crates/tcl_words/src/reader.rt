@@ -114,7 +114,8 @@ impl Reader {
     ) -> Result<(), ParseFault>
         requires short { length source.now ≤ most_bytes }
         requires opening { IsOpening self.old.first source.now self.old.waiting.items self.old.origin self.old.parts self.old.next opener mode }
-        ensures ok { OnOk result (IsReading self.old.first source.now self.new.waiting.items self.new.origin self.new.parts self.new.place self.new.next × (self.old.origin.base + self.old.next < self.new.origin.base + self.new.next)) }
+        ensures ok { OnOk result (IsReading self.old.first source.now self.new.waiting.items self.new.origin self.new.parts self.new.place self.new.next
+            × (self.old.origin.base + self.old.next < self.new.origin.base + self.new.next)) }
         ensures fault { IfErr result (λ fault. (own source.now self.old.first ≡ Err fault) ⊎ (fault ≡ ParseFault.NoMemory)) }
         ensures first { self.new.first ≡ self.old.first }
     {
@@ -141,7 +142,8 @@ impl Reader {
         requires short { length source.now ≤ most_bytes }
         requires waits { 0 < length self.old.waiting.items }
         requires ending { IsEnding self.old.first source.now self.old.waiting.items self.old.origin self.old.parts self.old.place self.old.next }
-        ensures ok { OnOk result (IsReading self.old.first source.now self.new.waiting.items self.new.origin self.new.parts self.new.place self.new.next × (self.old.origin.base + self.old.next < self.new.origin.base + self.new.next)) }
+        ensures ok { OnOk result (IsReading self.old.first source.now self.new.waiting.items self.new.origin self.new.parts self.new.place self.new.next
+            × (self.old.origin.base + self.old.next < self.new.origin.base + self.new.next)) }
         ensures fault { IfErr result (λ fault. fault ≡ ParseFault.NoMemory) }
         ensures first { self.new.first ≡ self.old.first }
     {
@@ -165,7 +167,8 @@ impl Reader {
         requires short { length source.now ≤ most_bytes }
         requires reading { IsReading self.old.first source.now self.old.waiting.items self.old.origin self.old.parts self.old.place self.old.next }
         requires within { self.old.origin.base + self.old.next < length source.now }
-        ensures ok { IfOk result (λ ended. Goes ended self.old.first source.now self.new.waiting.items self.new.origin self.new.parts self.new.place self.new.next (self.old.origin.base + self.old.next)) }
+        ensures ok { IfOk result (λ ended. Goes ended self.old.first source.now self.new.waiting.items self.new.origin self.new.parts
+            self.new.place self.new.next (self.old.origin.base + self.old.next)) }
         ensures fault { IfErr result (λ fault. (own source.now self.old.first ≡ Err fault) ⊎ (fault ≡ ParseFault.NoMemory)) }
         ensures first { self.new.first ≡ self.old.first }
     {
@@ -198,7 +201,8 @@ impl Reader {
         requires reading { IsReading outset source.now self.waiting.items self.origin self.parts self.place self.next }
         requires end { length source.now ≤ self.origin.base + self.next }
         ensures commands { IfOk result (λ commands. commands_in (rest_of source.now outermost_level 0 BytePlace.Start 0) ≡ Ok commands.items) }
-        ensures fault { IfErr result (λ fault. (commands_in (rest_of source.now outermost_level 0 BytePlace.Start 0) ≡ Err fault) ⊎ (fault ≡ ParseFault.NoMemory)) }
+        ensures fault { IfErr result (λ fault. (commands_in (rest_of source.now outermost_level 0 BytePlace.Start 0) ≡ Err fault)
+            ⊎ (fault ≡ ParseFault.NoMemory)) }
     {
         if self.origin.inside {
             return Err(unfinished(self.place));
@@ -221,6 +225,5 @@ pub fn read_all(alloc: Global, source: &str) -> Result<Vec<Command>, ParseFault>
             unreachable!()
         }
     }
-    let commands = reader.finish(alloc, source)?;
-    Ok(commands)
+    reader.finish(alloc, source)
 }

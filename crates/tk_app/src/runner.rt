@@ -228,7 +228,8 @@ impl<M: AliasMeaning> Runner<M> {
         requires positive { 0 < steps }
         requires running { self.old.state ≡ Running }
         requires going { self.old.work ≢ Rests }
-        ensures turn { IfOk result (λ end. TakesTurn M.answer tables.old.clock steps end (part_of (panel_of slot tables.old) self.old) (part_of (panel_of slot tables.new) self.new)) }
+        ensures turn { IfOk result (λ end. TakesTurn M.answer tables.old.clock steps end (part_of (panel_of slot tables.old) self.old)
+            (part_of (panel_of slot tables.new) self.new)) }
         ensures fewer { self.new.steps ≤ self.old.steps }
         ensures clock { tables.new.clock ≡ tables.old.clock }
         ensures others { others_of slot tables.new ≡ others_of slot tables.old }

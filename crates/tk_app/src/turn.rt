@@ -31,7 +31,12 @@ fn run_view<M: AliasMeaning>(
 ) -> Result<SliceEnd, AllocError>
     requires positive { 0 < steps }
     requires begun { rest_of interp.old ≢ Idle }
-    ensures reached { IfOk result (λ end. Reaches end (finish outside (rest_of interp.old) (state_of interp.old (record { serves = meanings M.answer view.old.aliases.now; panel = panel_of view.old.slot view.old.tables.now }) scopes.old)) (state_of interp.new (record { serves = meanings M.answer view.old.aliases.now; panel = panel_of view.old.slot view.new.tables.now }) scopes.new) (finish outside (rest_of interp.new) (state_of interp.new (record { serves = meanings M.answer view.old.aliases.now; panel = panel_of view.old.slot view.new.tables.now }) scopes.new))) }
+    ensures reached { IfOk result (λ end. Reaches end
+        (finish outside (rest_of interp.old)
+        (state_of interp.old (record { serves = meanings M.answer view.old.aliases.now; panel = panel_of view.old.slot view.old.tables.now }) scopes.old))
+        (state_of interp.new (record { serves = meanings M.answer view.old.aliases.now; panel = panel_of view.old.slot view.new.tables.now }) scopes.new)
+        (finish outside (rest_of interp.new)
+        (state_of interp.new (record { serves = meanings M.answer view.old.aliases.now; panel = panel_of view.old.slot view.new.tables.now }) scopes.new))) }
     ensures rest { IfOk result (λ end. LeavesRest end (rest_of interp.new)) }
     ensures more { result ≡ Ok SliceEnd.More → left_of interp.new + steps ≡ left_of interp.old }
     ensures exhausted { result ≡ Ok SliceEnd.Exhausted → left_of interp.new ≡ 0 }
@@ -59,7 +64,12 @@ pub fn run<M: AliasMeaning>(
 ) -> Result<SliceEnd, AllocError>
     requires positive { 0 < steps }
     requires begun { rest_of interp.old ≢ Idle }
-    ensures reached { IfOk result (λ end. Reaches end (finish outside (rest_of interp.old) (state_of interp.old (record { serves = meanings M.answer aliases.now; panel = panel_of slot tables.old }) scopes.old)) (state_of interp.new (record { serves = meanings M.answer aliases.now; panel = panel_of slot tables.new }) scopes.new) (finish outside (rest_of interp.new) (state_of interp.new (record { serves = meanings M.answer aliases.now; panel = panel_of slot tables.new }) scopes.new))) }
+    ensures reached { IfOk result (λ end. Reaches end
+        (finish outside (rest_of interp.old)
+        (state_of interp.old (record { serves = meanings M.answer aliases.now; panel = panel_of slot tables.old }) scopes.old))
+        (state_of interp.new (record { serves = meanings M.answer aliases.now; panel = panel_of slot tables.new }) scopes.new)
+        (finish outside (rest_of interp.new)
+        (state_of interp.new (record { serves = meanings M.answer aliases.now; panel = panel_of slot tables.new }) scopes.new))) }
     ensures rest { IfOk result (λ end. LeavesRest end (rest_of interp.new)) }
     ensures more { result ≡ Ok SliceEnd.More → left_of interp.new + steps ≡ left_of interp.old }
     ensures exhausted { result ≡ Ok SliceEnd.Exhausted → left_of interp.new ≡ 0 }
@@ -96,7 +106,8 @@ pub fn take_turn<M: AliasMeaning>(
     turns: &mut Vec<Turn>,
 ) -> Result<AppEnd, AllocError>
     requires { 0 < steps }
-    ensures turn { IfOk result (λ end. TakesTurn M.answer tables.old.clock steps end (settling_begun (part_of (panel_of slot tables.old) runner.old)) (part_of (panel_of slot tables.new) runner.new)) }
+    ensures turn { IfOk result (λ end. TakesTurn M.answer tables.old.clock steps end (settling_begun (part_of (panel_of slot tables.old) runner.old))
+        (part_of (panel_of slot tables.new) runner.new)) }
     ensures told { turns.new.items ≡ turns.old.items ++ entry slot (runner.old.steps - runner.new.steps) }
     ensures clock { tables.new.clock ≡ tables.old.clock }
     ensures others { others_of slot tables.new ≡ others_of slot tables.old }
@@ -123,7 +134,11 @@ fn deliver_running<M: AliasMeaning>(
     requires moment { event.moment ≡ tables.old.clock }
     requires may { MayGet (part_of (panel_of slot tables.old) runner.old) }
     requires runs { runner.old.state ≡ AppState.Running }
-    ensures own { OnOk result (part_of (panel_of slot tables.new) runner.new ≡ record (part_of (panel_of slot tables.old) runner.old) { application = delivered event (part_of (panel_of slot tables.old) runner.old).application }) }
+    ensures own { OnOk result (part_of (panel_of slot tables.new) runner.new
+        ≡ record (part_of (panel_of slot tables.old) runner.old) {
+          application = delivered event
+              (part_of (panel_of slot tables.old) runner.old).application;
+        }) }
     ensures clock { tables.new.clock ≡ tables.old.clock }
     ensures others { others_of slot tables.new ≡ others_of slot tables.old }
 {
@@ -141,7 +156,11 @@ pub fn deliver<M: AliasMeaning>(
 ) -> Result<(), AllocError>
     requires moment { event.moment ≡ tables.old.clock }
     requires may { MayGet (part_of (panel_of slot tables.old) runner.old) }
-    ensures own { OnOk result (part_of (panel_of slot tables.new) runner.new ≡ record (part_of (panel_of slot tables.old) runner.old) { application = delivered event (part_of (panel_of slot tables.old) runner.old).application }) }
+    ensures own { OnOk result (part_of (panel_of slot tables.new) runner.new
+        ≡ record (part_of (panel_of slot tables.old) runner.old) {
+          application = delivered event
+              (part_of (panel_of slot tables.old) runner.old).application;
+        }) }
     ensures clock { tables.new.clock ≡ tables.old.clock }
     ensures others { others_of slot tables.new ≡ others_of slot tables.old }
 {

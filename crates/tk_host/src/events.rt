@@ -25,7 +25,8 @@ pub fn deliver_all<M: AliasMeaning>(
     requires now { AreAt shared.old.moment (deliveries routed) }
     ensures moment { OnOk result (shared.new.moment ≡ shared.old.moment) }
     ensures parts { OnOk result (shared.new.parts ≡ map at_rest (after_given M.answer 0 (deliveries routed) (applications shared.old.parts))) }
-    ensures turns { OnOk result (shared.new.turns ≡ shared.old.turns ++ turns_given M.answer slice (stages_of (deliveries routed)) (applications shared.old.parts)) }
+    ensures turns { OnOk result (shared.new.turns
+        ≡ shared.old.turns ++ turns_given M.answer slice (stages_of (deliveries routed)) (applications shared.old.parts)) }
 {
     match routed {
         Routed::Nobody => Ok(()),
@@ -71,7 +72,8 @@ fn deliver_twice<M: AliasMeaning>(
     requires same { first.slot ≡ second.slot }
     ensures moment { OnOk result (shared.new.moment ≡ shared.old.moment) }
     ensures parts { OnOk result (shared.new.parts ≡ map at_rest (after_given M.answer 0 (first ∷ second ∷ []) (applications shared.old.parts))) }
-    ensures turns { OnOk result (shared.new.turns ≡ shared.old.turns ++ turns_given M.answer slice (stages_of (first ∷ second ∷ [])) (applications shared.old.parts)) }
+    ensures turns { OnOk result (shared.new.turns
+        ≡ shared.old.turns ++ turns_given M.answer slice (stages_of (first ∷ second ∷ [])) (applications shared.old.parts)) }
 {
     deliver_one(shared, first, slice)?;
     deliver_one(shared, second, slice)
@@ -91,7 +93,8 @@ fn deliver_both<M: AliasMeaning>(
     requires differ { first.slot ≢ second.slot }
     ensures moment { OnOk result (shared.new.moment ≡ shared.old.moment) }
     ensures parts { OnOk result (shared.new.parts ≡ map at_rest (after_given M.answer 0 (first ∷ second ∷ []) (applications shared.old.parts))) }
-    ensures turns { OnOk result (shared.new.turns ≡ shared.old.turns ++ turns_given M.answer slice (stages_of (first ∷ second ∷ [])) (applications shared.old.parts)) }
+    ensures turns { OnOk result (shared.new.turns
+        ≡ shared.old.turns ++ turns_given M.answer slice (stages_of (first ∷ second ∷ [])) (applications shared.old.parts)) }
 {
     give(shared, first)?;
     give(shared, second)?;

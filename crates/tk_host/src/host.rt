@@ -116,8 +116,10 @@ impl<M: AliasMeaning> Host<M> {
         ensures unless { OnOk result (NoneApplies (PhaseRefuses self.old.held.phase) start_faults) }
         ensures refused { IfErr result (IsRefusal (PhaseRefuses self.old.held.phase) start_faults) }
         ensures left { IfErr result (λ fault. LeftBy fault self.old self.new) }
-        ensures history { (calls : List (Call M)) → self.old.held ≡ held_after M.answer calls → OnOk result (self.new.held ≡ held_after M.answer (calls ++ Start ∷ [])) }
-        ensures turns { (calls : List (Call M)) → self.old.held ≡ held_after M.answer calls → OnOk result (self.new.turns ≡ turns_after M.answer self.old.slice calls Start) }
+        ensures history { (calls : List (Call M)) → self.old.held ≡ held_after M.answer calls →
+            OnOk result (self.new.held ≡ held_after M.answer (calls ++ Start ∷ [])) }
+        ensures turns { (calls : List (Call M)) → self.old.held ≡ held_after M.answer calls →
+            OnOk result (self.new.turns ≡ turns_after M.answer self.old.slice calls Start) }
     {
         match self.phase {
             Phase::Adding => {}
@@ -145,8 +147,10 @@ impl<M: AliasMeaning> Host<M> {
         ensures unless { OnOk result (NoneApplies (RefusesLine self.old.held moment line) line_faults) }
         ensures refused { IfErr result (IsRefusal (RefusesLine self.old.held moment line) line_faults) }
         ensures left { IfErr result (λ fault. LeftBy fault self.old self.new) }
-        ensures history { (calls : List (Call M)) → self.old.held ≡ held_after M.answer calls → OnOk result (self.new.held ≡ held_after M.answer (calls ++ LineAt moment line ∷ [])) }
-        ensures turns { (calls : List (Call M)) → self.old.held ≡ held_after M.answer calls → OnOk result (self.new.turns ≡ turns_after M.answer self.old.slice calls (LineAt moment line)) }
+        ensures history { (calls : List (Call M)) → self.old.held ≡ held_after M.answer calls →
+            OnOk result (self.new.held ≡ held_after M.answer (calls ++ LineAt moment line ∷ [])) }
+        ensures turns { (calls : List (Call M)) → self.old.held ≡ held_after M.answer calls →
+            OnOk result (self.new.turns ≡ turns_after M.answer self.old.slice calls (LineAt moment line)) }
     {
         self.may_take(moment, &line)?;
         let routed = route(&mut self.router, moment, line)?;
@@ -169,8 +173,10 @@ impl<M: AliasMeaning> Host<M> {
         ensures unless { OnOk result (NoneApplies (RefusesMoment self.old.held moment) moment_faults) }
         ensures refused { IfErr result (IsRefusal (RefusesMoment self.old.held moment) moment_faults) }
         ensures left { IfErr result (λ fault. LeftBy fault self.old self.new) }
-        ensures history { (calls : List (Call M)) → self.old.held ≡ held_after M.answer calls → OnOk result (self.new.held ≡ held_after M.answer (calls ++ AdvanceTo moment ∷ [])) }
-        ensures turns { (calls : List (Call M)) → self.old.held ≡ held_after M.answer calls → OnOk result (self.new.turns ≡ turns_after M.answer self.old.slice calls (AdvanceTo moment)) }
+        ensures history { (calls : List (Call M)) → self.old.held ≡ held_after M.answer calls →
+            OnOk result (self.new.held ≡ held_after M.answer (calls ++ AdvanceTo moment ∷ [])) }
+        ensures turns { (calls : List (Call M)) → self.old.held ≡ held_after M.answer calls →
+            OnOk result (self.new.turns ≡ turns_after M.answer self.old.slice calls (AdvanceTo moment)) }
     {
         self.go_to(moment, Phase::Reached(moment))
     }
@@ -183,8 +189,10 @@ impl<M: AliasMeaning> Host<M> {
         ensures unless { OnOk result (NoneApplies (RefusesMoment self.old.held moment) moment_faults) }
         ensures refused { IfErr result (IsRefusal (RefusesMoment self.old.held moment) moment_faults) }
         ensures left { IfErr result (λ fault. LeftBy fault self.old self.new) }
-        ensures history { (calls : List (Call M)) → self.old.held ≡ held_after M.answer calls → OnOk result (self.new.held ≡ held_after M.answer (calls ++ End moment ∷ [])) }
-        ensures turns { (calls : List (Call M)) → self.old.held ≡ held_after M.answer calls → OnOk result (self.new.turns ≡ turns_after M.answer self.old.slice calls (End moment)) }
+        ensures history { (calls : List (Call M)) → self.old.held ≡ held_after M.answer calls →
+            OnOk result (self.new.held ≡ held_after M.answer (calls ++ End moment ∷ [])) }
+        ensures turns { (calls : List (Call M)) → self.old.held ≡ held_after M.answer calls →
+            OnOk result (self.new.turns ≡ turns_after M.answer self.old.slice calls (End moment)) }
     {
         self.go_to(moment, Phase::Finished(moment))
     }
@@ -195,7 +203,8 @@ impl<M: AliasMeaning> Host<M> {
         ensures section { IfOk result (λ bytes. slice_get (map (λ part. section part.application) self.now.held.parts) slot ≡ Some bytes.items) }
         ensures unless { OnOk result (NoneApplies (RefusesSection self.now.held slot) section_faults) }
         ensures refused { IfErr result (IsRefusal (RefusesSection self.now.held slot) section_faults) }
-        ensures history { (calls : List (Call M)) → self.now.held ≡ held_after M.answer calls → IfOk result (λ bytes. slice_get (sections_after M.answer calls) slot ≡ Some bytes.items) }
+        ensures history { (calls : List (Call M)) → self.now.held ≡ held_after M.answer calls →
+            IfOk result (λ bytes. slice_get (sections_after M.answer calls) slot ≡ Some bytes.items) }
     {
         if let Phase::Lost = self.phase {
             return Err(HostFault::Broken);
@@ -236,7 +245,8 @@ impl<M: AliasMeaning> Host<M> {
     /// Why the host can't go on to a moment, if it can't.
     fn may_go_to(&self, moment: u64) -> Result<(), HostFault>
         requires { self.now.held.phase ≢ Phase.Adding }
-        ensures answer { MatchResult result (λ _. NoneApplies (RefusesMoment self.now.held moment) moment_faults) (IsRefusal (RefusesMoment self.now.held moment) moment_faults) }
+        ensures answer { MatchResult result (λ _. NoneApplies (RefusesMoment self.now.held moment) moment_faults)
+            (IsRefusal (RefusesMoment self.now.held moment) moment_faults) }
         ensures left { IfErr result (λ fault. LeftBy fault self.now self.now) }
     {
         let reached = match self.phase {
@@ -257,7 +267,8 @@ impl<M: AliasMeaning> Host<M> {
     /// Why a line can't be taken, if it can't, but for what it names.
     fn may_take(&self, moment: u64, line: &HostLine) -> Result<(), HostFault>
         requires { self.now.held.phase ≢ Phase.Adding }
-        ensures answer { MatchResult result (λ _. NoneApplies (RefusesLine self.now.held moment line.now) time_faults) (IsRefusal (RefusesLine self.now.held moment line.now) line_faults) }
+        ensures answer { MatchResult result (λ _. NoneApplies (RefusesLine self.now.held moment line.now) time_faults)
+            (IsRefusal (RefusesLine self.now.held moment line.now) line_faults) }
         ensures left { IfErr result (λ fault. LeftBy fault self.now self.now) }
     {
         let reached = match self.phase {
@@ -382,7 +393,8 @@ fn router_of(rects: &[Rect]) -> Router
 fn route(router: &mut Router, moment: u64, line: HostLine) -> Result<Routed, HostFault>
     ensures routed { (first : List RectOf) (earlier : List Line) → router.old ≡ values first earlier
         → IfOk result (λ routed. deliveries routed ≡ routes first earlier (at moment line)) }
-    ensures known { (first : List RectOf) (earlier : List Line) → router.old ≡ values first earlier → OnOk result (router.new ≡ values first (at moment line ∷ earlier)) }
+    ensures known { (first : List RectOf) (earlier : List Line) → router.old ≡ values first earlier →
+        OnOk result (router.new ≡ values first (at moment line ∷ earlier)) }
     ensures refused { MatchResult result
         (λ _. NoneApplies (RefusesRoute router.old moment line) route_faults)
         (IsFirst (RefusesRoute router.old moment line) route_faults) }

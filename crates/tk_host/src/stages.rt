@@ -117,7 +117,8 @@ fn run_round<M: AliasMeaning>(shared: &mut Shared<M>, slice: u64) -> Result<bool
     requires { 0 < slice }
     ensures moment { OnOk result (shared.new.moment ≡ shared.old.moment) }
     ensures done { OnOk result (map (stage_done M.answer shared.old.moment) shared.new.parts ≡ map (stage_done M.answer shared.old.moment) shared.old.parts) }
-    ensures left { OnOk result (map (needs M.answer shared.old.moment) shared.new.parts ≡ map (λ need. need - slice) (map (needs M.answer shared.old.moment) shared.old.parts)) }
+    ensures left { OnOk result (map (needs M.answer shared.old.moment) shared.new.parts
+        ≡ map (λ need. need - slice) (map (needs M.answer shared.old.moment) shared.old.parts)) }
     ensures turns { OnOk result (shared.new.turns ≡ shared.old.turns ++ round slice (map (needs M.answer shared.old.moment) shared.old.parts) 0) }
     ensures last { result ≡ Ok false → shared.new.parts ≡ map (stage_done M.answer shared.old.moment) shared.old.parts }
     ensures falls { result ≡ Ok true → sum_by (needs M.answer shared.old.moment) shared.new.parts < sum_by (needs M.answer shared.old.moment) shared.old.parts }

@@ -140,7 +140,8 @@ fn next_doomed(
     slot: usize,
     doomed: &mut Numbers,
 ) -> Result<Option<(u64, Scripts)>, AllocError>
-    ensures own { IfOk result (λ found. record { panel = panel_of slot tables.new; found = found; rest = doomed.new } ≡ next_doomed doomed.old (panel_of slot tables.old)) }
+    ensures own { IfOk result (λ found. record { panel = panel_of slot tables.new; found = found; rest = doomed.new }
+        ≡ next_doomed doomed.old (panel_of slot tables.old)) }
     ensures others { LeavesOthers slot tables.old tables.new }
 {
     while let Some(number) = doomed.take_next() {

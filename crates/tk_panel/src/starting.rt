@@ -26,7 +26,8 @@ fn start_timer(
     home: Home,
 ) -> Result<(Text, Job), AllocError>
     ensures own { IfOk result (λ started. (panel_of slot tables.new, started)
-        ≡ timer_taken (Rest.Rounds round home) (panel_of slot tables.old) (first_due (panel_of slot tables.old).moment (panel_of slot tables.old).timers.entries)) }
+        ≡ timer_taken (Rest.Rounds round home) (panel_of slot tables.old)
+        (first_due (panel_of slot tables.old).moment (panel_of slot tables.old).timers.entries)) }
     ensures others { LeavesOthers slot tables.old tables.new }
 {
     let moment = tables.clock.moment();

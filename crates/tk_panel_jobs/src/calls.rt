@@ -42,7 +42,8 @@ fn act_for(
     scopes: &Scopes,
     outcome: Outcome,
 ) -> Result<Act<Task<Job>>, AllocError>
-    ensures own { IfOk result (λ act. record { shows = panel_of slot tables.new; store = scopes.now; act = act } ≡ outcome_told outcome (panel_of slot tables.old) scopes.now) }
+    ensures own { IfOk result (λ act. record { shows = panel_of slot tables.new; store = scopes.now; act = act }
+        ≡ outcome_told outcome (panel_of slot tables.old) scopes.now) }
     ensures others { LeavesOthers slot tables.old tables.new }
 {
     match outcome {
@@ -61,7 +62,8 @@ pub fn call(
     scopes: &mut Scopes,
     words: &[Text],
 ) -> Result<Act<Task<Job>>, AllocError>
-    ensures own { IfOk result (λ act. record { shows = panel_of slot tables.new; store = scopes.new; act = act } ≡ calls (panel_of slot tables.old) scopes.old words.now) }
+    ensures own { IfOk result (λ act. record { shows = panel_of slot tables.new; store = scopes.new; act = act }
+        ≡ calls (panel_of slot tables.old) scopes.old words.now) }
     ensures others { LeavesOthers slot tables.old tables.new }
 {
     let outcome = panel_command(tables, slot, scopes, words)?;

@@ -141,7 +141,8 @@ pub fn begin(
     scopes: &Scopes,
     job: Job,
 ) -> Result<Act<Task<Job>>, AllocError>
-    ensures own { IfOk result (λ act. record { shows = panel_of slot tables.new; store = scopes.now; act = act } ≡ begun job (panel_of slot tables.old) scopes.now) }
+    ensures own { IfOk result (λ act. record { shows = panel_of slot tables.new; store = scopes.now; act = act }
+        ≡ begun job (panel_of slot tables.old) scopes.now) }
     ensures others { LeavesOthers slot tables.old tables.new }
 {
     let looked = look(tables, slot, scopes, job)?;

@@ -1,5 +1,5 @@
 use Rattle.tcl_words.specs.Moves.{fails}
 use Rattle.tcl_words.proofs.read.read_past.Goals as goal
 
-pub returns-in_ok-step-in-Blank : goal.returns-in_ok-step-in-Blank
-returns-in_ok-step-in-Blank c = c.in_ok-step-in-Blank.ensures (fails c.args.fault)
+pub returns-in-Blank : goal.returns-in-Blank
+returns-in-Blank c = c.end_word.ensures (fails c.args.fault)

@@ -1,4 +1,4 @@
-use Rattle.std.proofs.Common.{◌+◌, drop, refl, sym, ◌≡◌, ◌∙◌, Ok}
+use Rattle.std.proofs.Common.{◌+◌, drop, refl, sym, ◌≡◌, ◌∙◌}
 use Rattle.tcl_words.specs.Moves.{in_text}
 use Rattle.tcl_words.specs.declared.kind.Kind.TheVariants.{Dollar, OpenBracket, Other}
 use Rattle.tcl_words.specs.declared.kind.BytePlace.TheVariants.{Text}
@@ -7,10 +7,10 @@ use Rattle.tcl_words.proofs.KindLemmas.{text_kinds}
 use Rattle.tcl_words.proofs.Steps.{text_goes_on, text_opens, escape_goes_on, text_escapes, same_move, text_bracket, cut_bracket}
 use Rattle.tcl_words.proofs.read.read_text.Goals as goal
 
-pub returns-in_ok-step-in-Dollar : goal.returns-in_ok-step-in-Dollar
-returns-in_ok-step-in-Dollar c =
+pub returns-in-Dollar : goal.returns-in-Dollar
+returns-in-Dollar c =
     same_move c.args.parts.now c.read_dollar.new.parts c.args.source.now c.args.at (Text c.args.mode) (in_text c.args.mode c.args.kind c.args.byte (drop (c.args.at + 1) c.args.source.now))
-    (in_text c.args.mode Dollar c.args.byte (drop (c.args.at + 1) c.args.source.now)) (Ok c.in_ok-step-in-Dollar.step) (rw c.in-Dollar.is refl) c.in_ok-step-in-Dollar.ensures
+    (in_text c.args.mode Dollar c.args.byte (drop (c.args.at + 1) c.args.source.now)) c.read_dollar.result (rw c.in-Dollar.is refl) c.read_dollar.ensures
 
 pub returns-in_ok-end_literal-in-OpenBracket : goal.returns-in_ok-end_literal-in-OpenBracket
 returns-in_ok-end_literal-in-OpenBracket c =

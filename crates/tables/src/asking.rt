@@ -112,9 +112,9 @@ pub fn ask_tables<F: Fixture, R: Env + Files + Print + AllocGlobal>(rt: &R) -> R
     for name in arguments(rt)?.as_slice() {
         let path = format!(in rt.alloc(); "{name}.table")?;
         let table = text_in(rt, path.as_str())?;
-        let agrees = ask_table::<F, R>(rt, name.as_str(), table.as_str()).context(
-            format_args!("table {name}"),
-        )?;
+        let agrees = ask_table::<F, R>(rt, name.as_str(), table.as_str()).context(format_args!(
+            "table {name}"
+        ))?;
         differs = differs || !agrees;
     }
     if differs {

@@ -1,0 +1,118 @@
+//! The calls of a host, and what they tell.
+ghost use Rattle.std.specs.Prelude.{◌≡◌, ◌≢◌, OnOk};
+ghost use Rattle.tk_host.specs.declared.phase.Phase.TheVariants.{Adding};
+
+use crate::lines::{line_of, rect_of};
+use anyhow::{Result, bail};
+use std::alloc::Global;
+use std::str;
+use tables::{first_word, number, words_of};
+use tcl_text::Text;
+use tk_host::{Aliases, Budget, Host, HostFault, Turn};
+use tk_services::Service;
+
+fn fault_told(alloc: Global, fault: HostFault) -> Result<String> {
+    match fault.number() {
+        Some(number) => Ok(format!(in alloc; "!{number}")?),
+        None => bail!("memory was refused"),
+    }
+}
+
+/// What a call that tells nothing is told as.
+fn told(alloc: Global, answer: Result<(), HostFault>) -> Result<String> {
+    match answer {
+        Ok(()) => Ok(String::new(alloc)),
+        Err(fault) => fault_told(alloc, fault),
+    }
+}
+
+fn section(alloc: Global, host: &Host<Service>, slot: &str) -> Result<String> {
+    match host.section(number(slot)?) {
+        Ok(bytes) => Ok(String::from_str(alloc, str::from_utf8(bytes.as_slice())?)?),
+        Err(fault) => fault_told(alloc, fault),
+    }
+}
+
+fn turns_told(alloc: Global, turns: &[Turn]) -> Result<String> {
+    let mut told = String::from_str(alloc, "turns")?;
+    for turn in turns {
+        let one = format!(in alloc; " {}:{}", turn.slot, turn.steps)?;
+        told.push_str(one.as_str())?;
+    }
+    Ok(told)
+}
+
+fn app(alloc: Global, host: &mut Host<Service>, words: &str) -> Result<String>
+    ensures { host.new.held.phase ≡ host.old.held.phase }
+{
+    let parts = words_of(alloc, words, ' ')?;
+    let [name, x, y, width, height, total, refill, script @ ..] = parts.as_slice() else {
+        bail!("an application that lacks a word");
+    };
+    let budget = Budget {
+        total: number(total)?,
+        refill: number(refill)?,
+    };
+    let rect = rect_of(x, y, width, height)?;
+    let name = Text::new(alloc, name)?;
+    let script = Text::new(alloc, script.join(alloc, " ")?.as_str())?;
+    told(
+        alloc,
+        host.add_app(name, rect, script, budget, Aliases::new(alloc))
+            .map(|_slot| ()),
+    )
+}
+
+/// A call that may come before `start`.
+pub fn early(alloc: Global, host: &mut Host<Service>, call: &str) -> Result<String> {
+    match first_word(call) {
+        ("app", words) => app(alloc, host, words),
+        ("section", slot) => section(alloc, host, slot),
+        ("turns", "") => turns_told(alloc, host.turns()),
+        _ => bail!("no such call"),
+    }
+}
+
+/// A call of a host that was started.
+fn late(alloc: Global, host: &mut Host<Service>, call: &str) -> Result<String>
+    requires { host.old.held.phase ≢ Adding }
+    ensures { OnOk result (host.new.held.phase ≢ Adding) }
+{
+    match first_word(call) {
+        ("app", words) => app(alloc, host, words),
+        ("start", "") => told(alloc, host.start()),
+        ("advance", moment) => told(alloc, host.advance_to(number(moment)?)),
+        ("end", moment) => told(alloc, host.end(number(moment)?)),
+        ("line", words) => {
+            let (moment, words) = first_word(words);
+            let words = words_of(alloc, words, ' ')?;
+            told(
+                alloc,
+                host.line(number(moment)?, line_of(words.as_slice())?),
+            )
+        }
+        ("section", slot) => section(alloc, host, slot),
+        ("turns", "") => turns_told(alloc, host.turns()),
+        _ => bail!("no such call"),
+    }
+}
+
+/// Starts the host, and adds what this and the calls behind it tell.
+pub fn run(
+    alloc: Global,
+    host: &mut Host<Service>,
+    calls: &[&str],
+    all: &mut String,
+) -> Result<()> {
+    match host.start() {
+        Ok(()) => {}
+        Err(HostFault::NoMemory) => bail!("memory was refused"),
+        Err(_) => bail!("the start was refused"),
+    }
+    all.push_str("\n")?;
+    for call in calls.iter().skip(1) {
+        all.push_str(late(alloc, host, call)?.as_str())?;
+        all.push_str("\n")?;
+    }
+    Ok(())
+}

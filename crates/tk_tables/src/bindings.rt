@@ -7,7 +7,7 @@
 pub mod bench;
 mod read;
 
-use crate::bindings::read::{event_of, sequence_of, text_of};
+use crate::bindings::read::{event_of, sequence_of};
 use anyhow::{Result, bail};
 use std::alloc::Global;
 use tables::{number, result_of, words_of};
@@ -29,9 +29,9 @@ fn bind(
     sequence: &str,
     script: &str,
 ) -> Result<String> {
-    let tag = text_of(alloc, tag)?;
+    let tag = Text::new(alloc, tag)?;
     let sequence = sequence_of(alloc, sequence)?;
-    let script = text_of(alloc, script)?;
+    let script = Text::new(alloc, script)?;
     match bindings.bind(owner, tag, sequence, script) {
         Ok(()) => result_of(alloc, ""),
         Err(BindFault::Full) => result_of(alloc, "31"),
@@ -116,8 +116,8 @@ impl State {
     }
 
     fn add_virtual(&mut self, alloc: Global, name: &str, sequence: &str) -> Result<String> {
-        let name = text_of(alloc, name)?;
-        let sequence = text_of(alloc, sequence)?;
+        let name = Text::new(alloc, name)?;
+        let sequence = Text::new(alloc, sequence)?;
         match self.virtuals.add(alloc, &name, &sequence) {
             Ok(()) => result_of(alloc, ""),
             Err(_) => bail!("a pair that was refused"),

@@ -6,7 +6,7 @@
 
 mod bindings;
 mod counting;
-mod routes;
+mod dispatch;
 mod sequences;
 mod services;
 mod sessions;
@@ -16,7 +16,7 @@ mod windows;
 mod words;
 
 use crate::bindings::State;
-use crate::routes::Host;
+use crate::dispatch::Dispatch;
 use crate::services::Caller;
 use crate::sessions::Given;
 use crate::timers::Kept;
@@ -30,8 +30,8 @@ use tables::{Fixture, arguments, ask_tables};
 #[derive(Drop)]
 enum Part {
     Bindings(State),
+    Dispatch(Dispatch),
     Reading(Given),
-    Routes(Host),
     Sequences,
     Services(Caller),
     Timers(Kept),
@@ -44,8 +44,8 @@ impl Fixture for Part {
         let (part, name) = table.split_once('/').unwrap_or((table, ""));
         match part {
             "bindings" => Ok(Part::Bindings(State::new(alloc)?)),
+            "dispatch" => Ok(Part::Dispatch(Dispatch::new(alloc)?)),
             "reading" => Ok(Part::Reading(Given::new(alloc))),
-            "routes" => Ok(Part::Routes(Host::new())),
             "sequences" => Ok(Part::Sequences),
             "services" => Ok(Part::Services(Caller::new())),
             "timers" => Ok(Part::Timers(Kept::new(alloc))),
@@ -58,8 +58,8 @@ impl Fixture for Part {
     fn answer(&mut self, alloc: Global, question: &str) -> Result<String> {
         match self {
             Part::Bindings(state) => state.answer(alloc, question),
+            Part::Dispatch(dispatch) => dispatch.answer(alloc, question),
             Part::Reading(given) => given.answer(alloc, question),
-            Part::Routes(host) => host.answer(alloc, question),
             Part::Sequences => sequences::answer(alloc, question),
             Part::Services(caller) => caller.answer(alloc, question),
             Part::Timers(kept) => kept.answer(alloc, question),
@@ -77,6 +77,6 @@ fn main(rt: HostRuntime) -> Result<()> {
         [word, part] if word.as_str() == "bench" && part.as_str() == "windows" => {
             windows::bench::run(&rt)
         }
-        _ => ask_tables::<Part, _>(&rt),
+        names => ask_tables::<Part, _>(&rt, names),
     }
 }

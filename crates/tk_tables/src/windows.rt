@@ -6,6 +6,7 @@ mod packings;
 mod requests;
 mod trees;
 
+pub use crate::windows::trees::remove;
 use crate::windows::layouts::Layouts;
 use crate::windows::packings::Packings;
 use crate::windows::trees::Trees;

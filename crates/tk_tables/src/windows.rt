@@ -6,10 +6,10 @@ mod packings;
 mod requests;
 mod trees;
 
-pub use crate::windows::trees::remove;
 use crate::windows::layouts::Layouts;
 use crate::windows::packings::Packings;
 use crate::windows::trees::Trees;
+pub use crate::windows::trees::remove;
 use anyhow::{Result, bail};
 use std::alloc::Global;
 use tables::{result_of, words_of};

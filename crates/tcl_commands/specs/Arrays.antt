@@ -1,4 +1,4 @@
--- The commands of array(n): from the words after the sub-command. What is no array counts as an empty one, but for `array set`.
+-- Meaning. The commands of array(n): from the words after the sub-command. What is no array counts as an empty one, but for `array set`.
 use Rattle.std.specs.Prelude.{ℕ, true, Bool, nat_le, if◌then◌else◌, List, [], ◌∷◌, ◌++◌, length, map, filter, is_some, unwrap_or, Option, Some, None, Result, Ok, Err, codes}
 use Rattle.std.specs.Fmt.{decimal}
 use Rattle.std.specs.Str.{bytes_eq, chars}

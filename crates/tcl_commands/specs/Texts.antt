@@ -1,4 +1,4 @@
--- The errors of commands on variables.
+-- Meaning. The errors of commands on variables.
 use Rattle.std.specs.Prelude.{ℕ, List, ◌++◌, Result, codes}
 use Rattle.tcl_text.specs.Answers.{fails, quoted}
 use Rattle.tcl_vars.specs.declared.fault.ReadFault.{ReadFault}

@@ -1,6 +1,6 @@
 -- Steps. A text in braces: what it stands for, up to the brace that closes.
 use Rattle.std.specs.Prelude.{ℕ, suc, ◌-◌, Bool, false, ◌==◌, ◌&&◌, ◌||◌, if◌then◌else◌, List, [], ◌∷◌, ◌++◌, Result, Ok, Err}
-use Rattle.tcl_words.specs.Bytes.{tab, line_feed, space, backslash_sign, open_brace, close_brace}
+use Rattle.tcl_text.specs.Bytes.{tab, line_feed, space, backslash_sign, open_brace, close_brace}
 use Rattle.tcl_expr.specs.declared.braces.BracePlace.{BracePlace}
 use Rattle.tcl_expr.specs.declared.braces.BracePlace.TheVariants.{Plain, Escaped, Indented}
 use Rattle.tcl_expr.specs.declared.fault.ExprFault.{ExprFault}

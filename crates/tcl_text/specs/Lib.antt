@@ -1,4 +1,5 @@
 -- What the contracts cite.
+pub mod Bytes
 pub mod Glob
 pub mod GlobSteps
 pub mod Backslash

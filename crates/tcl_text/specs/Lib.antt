@@ -6,6 +6,7 @@ pub mod Backslash
 pub mod Escaped
 pub mod ListForm
 pub mod Readings
+pub mod Characters
 pub mod ListFaults
 pub mod Faults
 pub mod Limits

@@ -10,8 +10,9 @@ use crate::code::Code;
 use crate::plan::Plan;
 use std::alloc::{AllocError, Global};
 use tcl_shapes::Parameter;
-use tcl_table::texts::{limit, message};
+use tcl_table::texts::message;
 use tcl_table::{Levels, Procedure, plain_name};
+use tcl_text::message::limit;
 use tcl_text::{Text, TextFault};
 use tcl_vars::Scopes;
 

@@ -1,21 +1,15 @@
 //! What an application is told of a fault.
 ghost use Rattle.std.specs.Prelude.{◌≡◌, ◌≤◌, ◌++◌, length, codes, IfOk};
 ghost use Rattle.tcl_expr.specs.Messages.{unary_name, arithmetic_name, operator_name};
-ghost use Rattle.tcl_text.specs.Answers.{message, limit_text};
+ghost use Rattle.tcl_text.specs.Answers.{message};
 ghost use Rattle.tcl_text.specs.Splitting.{fault_text};
 ghost use Rattle.tcl_text.specs.Limits.{most_bytes};
 
 use crate::fault::{EvalFault, ExprFault};
 use crate::operators::{ArithmeticOperator, NumberOperator, UnaryOperator};
 use std::alloc::{AllocError, Global};
+use tcl_text::message::limit;
 use tcl_text::{ListFault, Text};
-
-/// The text that stands in place of one past 65,536 bytes.
-fn limit(alloc: Global) -> Result<Text, AllocError>
-    ensures { IfOk result (λ text. text ≡ limit_text) }
-{
-    Text::of_short(alloc, "limit reached: value")
-}
 
 /// A message about a subject, between what stands before it and a quote.
 #[tactic(auto, unfolding(tcl_text::specs::Answers::bounded))]

@@ -10,8 +10,9 @@ ghost use Rattle.tcl_text.specs.Limits.{most_bytes};
 
 use crate::machine::{Frame, Indexing, Now, ScriptPlace, Wording};
 use std::alloc::{AllocError, Global};
-use tcl_control::texts::{cannot_read, cannot_read_element, fault_text, limit, list_fault};
+use tcl_control::texts::{cannot_read, cannot_read_element, fault_text, list_fault};
 use tcl_control::{Code, Source};
+use tcl_text::message::limit;
 use tcl_text::{SplitFault, Text, TextFault, TextList};
 use tcl_vars::Scopes;
 use tcl_words::{Command, Index, ParseFault, Piece, Script, Word};

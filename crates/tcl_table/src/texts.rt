@@ -3,19 +3,12 @@ ghost use Rattle.std.specs.Prelude.{◌≡◌, ◌++◌, IfOk, string_bytes};
 ghost use Rattle.tcl_text.specs.Splitting.{fault_text as list_text};
 ghost use Rattle.tcl_words.specs.Faults.{text_of};
 ghost use Rattle.tcl_table.specs.Texts.{read_reason, cannot_read, cannot_set, element_name, not_boolean, unknown_command, about};
-ghost use Rattle.tcl_text.specs.Answers.{message, limit_text};
+ghost use Rattle.tcl_text.specs.Answers.{message};
 
 use std::alloc::{AllocError, Global};
 use tcl_text::{ListFault, Text};
 use tcl_vars::{ReadFault, SetFault};
 use tcl_words::ParseFault;
-
-/// The error that a value would pass 65,536 bytes (4).
-pub fn limit(alloc: Global) -> Result<Text, AllocError>
-    ensures { IfOk result (λ text. text ≡ limit_text) }
-{
-    Text::of_short(alloc, "limit reached: value")
-}
 
 /// A message about a subject, between what stands before and after it; that of the limit (4) where it would pass 65,536 bytes.
 #[tactic(auto, unfolding(tcl_text::specs::Answers::bounded))]

@@ -18,7 +18,7 @@ use tcl_text::{Text, TextList};
 use tcl_vars::{Scopes, SetFault, UnsetFault};
 
 /// A command of `array`.
-#[derive(Clone, Copy, Debug, PartialEq, Eq)]
+#[derive(Clone, Copy)]
 pub enum ArrayCommand {
     Exists,
     Names,

@@ -31,7 +31,7 @@ pub fn if_plan(alloc: Global, words: &[Text]) -> Result<Plan, AllocError>
 }
 
 /// How `switch` compares.
-#[derive(Clone, Copy, Debug, PartialEq, Eq)]
+#[derive(Clone, Copy)]
 pub enum Matching {
     Exact,
     Glob,

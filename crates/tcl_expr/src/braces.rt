@@ -7,7 +7,7 @@ use crate::fault::ExprFault;
 use std::alloc::{AllocError, Global};
 
 /// Where a byte of a text in braces stands.
-#[derive(Clone, Copy, Debug, PartialEq, Eq, Drop)]
+#[derive(Clone, Copy, Drop)]
 pub enum BracePlace {
     Plain,
     /// Behind a backslash.

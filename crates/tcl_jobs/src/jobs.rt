@@ -104,8 +104,7 @@ fn go_on<T: Jobs>(
     ensures left { T.left_alone jobs.new ≡ T.left_alone jobs.old }
 {
     let next = jobs.ended(job, code, text)?;
-    let act = look_at(jobs, scopes, next)?;
-    Ok(act)
+    look_at(jobs, scopes, next)
 }
 
 /// The answer of a script at global level, where there is no loop that a break or a continue could act on.
@@ -144,16 +143,13 @@ pub fn resume<T: Jobs>(
             task: Task::Runs(job),
         }),
         Task::Waits(job) => {
-            let act = start(jobs, scopes, job)?;
-            Ok(act)
+            start(jobs, scopes, job)
         }
         Task::Runs(job) => {
-            let act = go_on(jobs, scopes, job, code, text)?;
-            Ok(act)
+            go_on(jobs, scopes, job, code, text)
         }
         Task::Invoked => {
-            let act = end_at_global(alloc, code, text)?;
-            Ok(act)
+            end_at_global(alloc, code, text)
         }
     }
 }

@@ -84,6 +84,5 @@ pub fn served<M: AliasMeaning>(
     let Some((name, arguments)) = words.split_first() else {
         return Ok(None);
     };
-    let act = named(alloc, aliases.as_slice(), name, arguments)?;
-    Ok(act)
+    named(alloc, aliases.as_slice(), name, arguments)
 }

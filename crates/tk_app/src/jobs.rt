@@ -55,8 +55,7 @@ fn call<M: AliasMeaning>(
     match served(tables.alloc, aliases, words)? {
         Some(act) => Ok(act),
         None => {
-            let told = tk_panel_jobs::call(tables, slot, scopes, words)?;
-            Ok(told)
+            tk_panel_jobs::call(tables, slot, scopes, words)
         }
     }
 }
@@ -115,13 +114,11 @@ impl<M: AliasMeaning> Tasks for AppTables<'_, M> {
     ghost left_alone = { λ v. (left_of v.slot v.tables.ghost_name v.tables.now, v.aliases.now) };
 
     fn parsed(&mut self, text: &Text) -> Result<Script, ParseFault> {
-        let script = tk_panel_jobs::parsed(self.tables, text)?;
-        Ok(script)
+        tk_panel_jobs::parsed(self.tables, text)
     }
 
     fn call(&mut self, scopes: &mut Scopes, words: &[Text]) -> Result<Act<Task<Job>>, AllocError> {
-        let act = call(self.tables, self.slot, self.aliases, scopes, words)?;
-        Ok(act)
+        call(self.tables, self.slot, self.aliases, scopes, words)
     }
 
     fn resume(
@@ -132,8 +129,7 @@ impl<M: AliasMeaning> Tasks for AppTables<'_, M> {
         text: Text,
     ) -> Result<Act<Task<Job>>, AllocError> {
         let alloc = self.tables.alloc;
-        let act = tcl_jobs::resume(alloc, self, scopes, task, code, text)?;
-        Ok(act)
+        tcl_jobs::resume(alloc, self, scopes, task, code, text)
     }
 
     ghost falls = { jobs_fall course calls };

@@ -49,8 +49,7 @@ fn run_view<M: AliasMeaning>(
     ensures clock { view.new.tables.now.clock ≡ view.old.tables.now.clock }
     ensures others { others_of view.old.slot view.new.tables.now ≡ others_of view.old.slot view.old.tables.now }
 {
-    let end = interp.run_slice(view, scopes, steps)?;
-    Ok(end)
+    interp.run_slice(view, scopes, steps)
 }
 
 /// Does what the interpreter of an application still has to do, over the tables.

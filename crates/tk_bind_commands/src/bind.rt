@@ -35,12 +35,10 @@ pub fn bind_command(
 {
     match words {
         [tag] => {
-            let answer = told_sequences(alloc, windows, bindings, slot, tag)?;
-            Ok(answer)
+            told_sequences(alloc, windows, bindings, slot, tag)
         }
         [tag, sequence] => {
-            let answer = told_script(alloc, windows, bindings, slot, tag, sequence)?;
-            Ok(answer)
+            told_script(alloc, windows, bindings, slot, tag, sequence)
         }
         [tag, sequence, script] => {
             bind_told(alloc, windows, bindings, slot, tag, sequence, script)
@@ -160,8 +158,7 @@ fn script_answer(
     ensures { Gives result (spec.script_words (windows_of.own_of slot windows.now) tag.now word.now (own_of slot bindings.now)) }
 {
     let sequence = tested_sequence(alloc, windows, slot, tag, word)?;
-    let script = script_told(alloc, bindings, slot, tag.as_str(), &sequence)?;
-    Ok(script)
+    script_told(alloc, bindings, slot, tag.as_str(), &sequence)
 }
 
 fn script_told(

@@ -36,8 +36,7 @@ fn put_to(
     if channel.as_str() == "stdout" {
         return write_out(tables, slot, text);
     }
-    let answer = bad_option(tables.alloc, channel.as_str())?;
-    Ok(answer)
+    bad_option(tables.alloc, channel.as_str())
 }
 
 fn puts_usage(alloc: Global) -> Result<Answer, AllocError>
@@ -56,12 +55,10 @@ pub fn puts_command(tables: &mut Tables, slot: usize, words: &[Text]) -> Result<
         [text] => write_out(tables, slot, text),
         [channel, text] => put_to(tables, slot, channel, text),
         [] => {
-            let answer = puts_usage(tables.alloc)?;
-            Ok(answer)
+            puts_usage(tables.alloc)
         }
         [_, _, _, ..] => {
-            let answer = puts_usage(tables.alloc)?;
-            Ok(answer)
+            puts_usage(tables.alloc)
         }
     }
 }

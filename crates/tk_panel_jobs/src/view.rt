@@ -44,8 +44,7 @@ impl Jobs for TablesView<'_> {
     ghost left_alone = { λ v. left_of v.slot v.tables.ghost_name v.tables.now };
 
     fn look(&mut self, scopes: &Scopes, job: Job) -> Result<Looked<Job>, AllocError> {
-        let looked = look(self.tables, self.slot, scopes, job)?;
-        Ok(looked)
+        look(self.tables, self.slot, scopes, job)
     }
 
     fn start(&mut self, _scopes: &Scopes, job: Job) -> Result<Started<Job>, AllocError> {
@@ -54,8 +53,7 @@ impl Jobs for TablesView<'_> {
     }
 
     fn ended(&mut self, job: Job, code: Code, text: Text) -> Result<Job, AllocError> {
-        let next = ended(self.tables, self.slot, job, code, text)?;
-        Ok(next)
+        ended(self.tables, self.slot, job, code, text)
     }
 }
 
@@ -79,13 +77,11 @@ impl Tasks for TablesView<'_> {
     ghost left_alone = { λ v. left_of v.slot v.tables.ghost_name v.tables.now };
 
     fn parsed(&mut self, text: &Text) -> Result<Script, ParseFault> {
-        let script = parsed(self.tables, text)?;
-        Ok(script)
+        parsed(self.tables, text)
     }
 
     fn call(&mut self, scopes: &mut Scopes, words: &[Text]) -> Result<Act<Task<Job>>, AllocError> {
-        let act = call(self.tables, self.slot, scopes, words)?;
-        Ok(act)
+        call(self.tables, self.slot, scopes, words)
     }
 
     fn resume(
@@ -96,8 +92,7 @@ impl Tasks for TablesView<'_> {
         text: Text,
     ) -> Result<Act<Task<Job>>, AllocError> {
         let alloc = self.tables.alloc;
-        let act = tcl_jobs::resume(alloc, self, scopes, task, code, text)?;
-        Ok(act)
+        tcl_jobs::resume(alloc, self, scopes, task, code, text)
     }
 
     ghost falls = { jobs_fall own_course calls };

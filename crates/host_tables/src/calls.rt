@@ -1,4 +1,9 @@
-//! The calls of a host, and what they tell.
+//! The questions of `calls`: what the calls of a host tell.
+//!
+//! A question is a host and the calls that it gets, each on a line of its own. The first line is the most steps of a turn. Then come `app NAME X Y W H
+//! TOTAL REFILL SCRIPT`, and `start`, which has to succeed; behind it `line MOMENT LINE` (`lines.rt`), `advance MOMENT` and `end MOMENT`.
+//! `section SLOT`, `turns` and `app` may stand anywhere, and `start` again behind the first. It is answered `=` and what the calls tell, each on a line:
+//! nothing where one succeeds that tells nothing, `!NUMBER` where one is refused, and of `turns` each as SLOT:STEPS.
 ghost use Rattle.std.specs.Prelude.{◌≡◌, ◌≢◌, OnOk};
 ghost use Rattle.tk_host.specs.declared.phase.Phase.TheVariants.{Adding};
 
@@ -64,7 +69,7 @@ fn app(alloc: Global, host: &mut Host<Service>, words: &str) -> Result<String>
 }
 
 /// A call that may come before `start`.
-pub fn early(alloc: Global, host: &mut Host<Service>, call: &str) -> Result<String> {
+fn early(alloc: Global, host: &mut Host<Service>, call: &str) -> Result<String> {
     match first_word(call) {
         ("app", words) => app(alloc, host, words),
         ("section", slot) => section(alloc, host, slot),
@@ -98,12 +103,7 @@ fn late(alloc: Global, host: &mut Host<Service>, call: &str) -> Result<String>
 }
 
 /// Starts the host, and adds what this and the calls behind it tell.
-pub fn run(
-    alloc: Global,
-    host: &mut Host<Service>,
-    calls: &[&str],
-    all: &mut String,
-) -> Result<()> {
+fn run(alloc: Global, host: &mut Host<Service>, calls: &[&str], all: &mut String) -> Result<()> {
     match host.start() {
         Ok(()) => {}
         Err(HostFault::NoMemory) => bail!("memory was refused"),
@@ -115,4 +115,37 @@ pub fn run(
         all.push_str("\n")?;
     }
     Ok(())
+}
+
+/// A host that takes so many steps in a turn.
+fn host_of(alloc: Global, slice: &str) -> Result<Host<Service>> {
+    let slice: u64 = number(slice)?;
+    if slice == 0 {
+        bail!("a turn of no step");
+    }
+    Ok(Host::new(alloc, slice)?)
+}
+
+/// What the calls tell, in two parts: those before `start`, and the others.
+fn all_told(alloc: Global, host: &mut Host<Service>, calls: &[&str]) -> Result<String> {
+    let mut told = String::from_str(alloc, "=")?;
+    for (place, call) in calls.iter().enumerate() {
+        if *call == "start" {
+            run(alloc, host, &calls[place..], &mut told)?;
+            return Ok(told);
+        }
+        told.push_str(early(alloc, host, call)?.as_str())?;
+        told.push_str("\n")?;
+    }
+    Ok(told)
+}
+
+/// What a question is answered.
+pub fn answer(alloc: Global, question: &str) -> Result<String> {
+    let calls = words_of(alloc, question, '\n')?;
+    let [slice, calls @ ..] = calls.as_slice() else {
+        bail!("no calls");
+    };
+    let mut host = host_of(alloc, slice)?;
+    all_told(alloc, &mut host, calls)
 }

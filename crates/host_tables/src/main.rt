@@ -1,63 +1,67 @@
-//! Makes the calls of hosts, and tells of each answer that isn't the one in a table (`tables` says what stands in one).
+//! Asks hosts and the parts of them for the answers in tables, and tells of each that isn't the one in its table (`tables` says what stands in one). A
+//! table's name says what its questions are put to; the modules say what they mean.
 //!
-//! A question is a host and the calls that it gets, each on a line of its own. The first line is the most steps of a turn. Then come `app NAME X Y W H
-//! TOTAL REFILL SCRIPT`, and `start`, which has to succeed; behind it `line MOMENT LINE` (`lines.rt`), `advance MOMENT` and `end MOMENT`.
-//! `section SLOT`, `turns` and `app` may stand anywhere, and `start` again behind the first. It is answered `=` and what the calls tell, each on a line:
-//! nothing where one succeeds that tells nothing, `!NUMBER` where one is refused, and of `turns` each as SLOT:STEPS.
+//! Behind a word `play` it plays stored sessions (`plays.rt`): `host_tables TABLE .. [play [--once] SESSION ..]`.
 #![tactic(auto)]
 
 mod calls;
+mod fakes;
 mod lines;
+mod plays;
+mod routes;
+mod streams;
 
-use crate::calls::{early, run};
+use crate::plays::play_sessions;
+use crate::routes::Routes;
+use crate::streams::Streams;
 use anyhow::{Result, bail};
 use std::alloc::Global;
-use tables::{Fixture, ask_tables, number, words_of};
-use tk_host::Host;
-use tk_services::Service;
+use tables::{Fixture, arguments, ask_tables};
 
-/// A host that takes so many steps in a turn.
-fn host_of(alloc: Global, slice: &str) -> Result<Host<Service>> {
-    let slice: u64 = number(slice)?;
-    if slice == 0 {
-        bail!("a turn of no step");
-    }
-    Ok(Host::new(alloc, slice)?)
-}
-
-/// What the calls tell, in two parts: those before `start`, and the others.
-fn all_told(alloc: Global, host: &mut Host<Service>, calls: &[&str]) -> Result<String> {
-    let mut told = String::from_str(alloc, "=")?;
-    for (place, call) in calls.iter().enumerate() {
-        if *call == "start" {
-            run(alloc, host, &calls[place..], &mut told)?;
-            return Ok(told);
-        }
-        told.push_str(early(alloc, host, call)?.as_str())?;
-        told.push_str("\n")?;
-    }
-    Ok(told)
-}
-
-/// What makes hosts.
+/// What the questions of a table are put to.
 #[derive(Drop)]
-struct Hosts;
+enum Part {
+    Calls,
+    Routes(Routes),
+    Streams(Streams),
+}
 
-impl Fixture for Hosts {
-    fn new(_alloc: Global, _table: &str) -> Result<Hosts> {
-        Ok(Hosts)
+impl Fixture for Part {
+    fn new(alloc: Global, table: &str) -> Result<Part> {
+        match table {
+            "calls" => Ok(Part::Calls),
+            "routes" => Ok(Part::Routes(Routes::new())),
+            "streams" => Ok(Part::Streams(Streams::new(alloc))),
+            _ => bail!("no such table"),
+        }
     }
 
     fn answer(&mut self, alloc: Global, question: &str) -> Result<String> {
-        let calls = words_of(alloc, question, '\n')?;
-        let [slice, calls @ ..] = calls.as_slice() else {
-            bail!("no calls");
-        };
-        let mut host = host_of(alloc, slice)?;
-        all_told(alloc, &mut host, calls)
+        match self {
+            Part::Calls => calls::answer(alloc, question),
+            Part::Routes(routes) => routes.answer(alloc, question),
+            Part::Streams(streams) => streams.answer(alloc, question),
+        }
     }
 }
 
+/// The tables that are named before a word `play`, and that word with the sessions behind it.
+fn tables_and_sessions(words: &[String]) -> (&[String], &[String]) {
+    for (place, word) in words.iter().enumerate() {
+        if word.as_str() == "play" {
+            return (&words[..place], &words[place..]);
+        }
+    }
+    (words, &[])
+}
+
 fn main(rt: HostRuntime) -> Result<()> {
-    ask_tables::<Hosts, _>(&rt)
+    let words = arguments(&rt)?;
+    let (tables, sessions) = tables_and_sessions(words.as_slice());
+    ask_tables::<Part, _>(&rt, tables)?;
+    match sessions {
+        [_play, once, names @ ..] if once.as_str() == "--once" => play_sessions(&rt, names, true),
+        [_play, names @ ..] => play_sessions(&rt, names, false),
+        [] => Ok(()),
+    }
 }

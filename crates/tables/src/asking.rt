@@ -72,11 +72,7 @@ impl<'a, F: Fixture> Asking<'a, F> {
 }
 
 /// Asks a table's questions, and prints each answer that isn't the one in the table, and how many there are. Whether none differs.
-pub fn ask_table<F: Fixture, R: Print + AllocGlobal>(
-    rt: &R,
-    name: &str,
-    table: &str,
-) -> Result<bool> {
+fn ask_table<F: Fixture, R: Print + AllocGlobal>(rt: &R, name: &str, table: &str) -> Result<bool> {
     let alloc = rt.alloc();
     let mut asking = Asking::<F>::new(alloc, name)?;
     let mut wrong = 0u32;
@@ -105,11 +101,13 @@ pub fn text_in<R: Files + AllocGlobal>(rt: &R, path: &str) -> Result<String> {
     fs::read_to_string(rt, path).context(format_args!("file {path}"))
 }
 
-/// Asks the tables that the program's arguments name: of each it prints what the fixture answers otherwise, and a line that counts. It fails
-/// where an answer differs.
-pub fn ask_tables<F: Fixture, R: Env + Files + Print + AllocGlobal>(rt: &R) -> Result<()> {
+/// Asks the tables of these names: of each it prints what the fixture answers otherwise, and a line that counts. It fails where an answer differs.
+pub fn ask_tables<F: Fixture, R: Files + Print + AllocGlobal>(
+    rt: &R,
+    names: &[String],
+) -> Result<()> {
     let mut differs = false;
-    for name in arguments(rt)?.as_slice() {
+    for name in names {
         let path = format!(in rt.alloc(); "{name}.table")?;
         let table = text_in(rt, path.as_str())?;
         let agrees = ask_table::<F, R>(rt, name.as_str(), table.as_str()).context(format_args!(

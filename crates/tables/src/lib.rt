@@ -10,14 +10,13 @@
 //! A question that no answer stands behind is asked too, for what it leaves to those below it. A control character (U+0000 to U+001F) stands as
 //! its picture (U+2400 to U+241F), in questions and in answers: `␊` is a newline.
 //!
-//! A program of tables implements [`Fixture`], and calls [`ask_tables`] in its `main`. [`result_of`] and [`error_of`] give answers their marks.
+//! A program of tables implements [`Fixture`], and calls [`ask_tables`] in its `main` with its [`arguments`]. [`result_of`] and [`error_of`] give
+//! answers their marks.
 #![tactic(auto)]
 
 mod answers;
 mod asking;
 mod pictures;
-#[cfg(test)]
-mod tests;
 mod words;
 
 pub use answers::{error_of, result_of};

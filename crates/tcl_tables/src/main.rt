@@ -6,6 +6,7 @@
 
 mod commands;
 mod expressions;
+mod kept;
 mod panel;
 mod runner;
 mod runs;
@@ -13,6 +14,7 @@ mod scripts;
 mod slices;
 
 use crate::commands::Frames;
+use crate::kept::Kept;
 use anyhow::{Result, bail};
 use std::alloc::Global;
 use tables::{Fixture, arguments, ask_tables};
@@ -22,6 +24,7 @@ use tables::{Fixture, arguments, ask_tables};
 enum Part {
     Commands(Frames),
     Expressions,
+    Kept(Kept),
     Runs,
     Scripts,
     Slices,
@@ -33,6 +36,7 @@ impl Fixture for Part {
         match folder {
             "commands" => Ok(Part::Commands(Frames::new(alloc)?)),
             "expressions" => Ok(Part::Expressions),
+            "kept" => Ok(Part::Kept(Kept::new(alloc)?)),
             "runs" => Ok(Part::Runs),
             "scripts" => Ok(Part::Scripts),
             "slices" => Ok(Part::Slices),
@@ -44,6 +48,7 @@ impl Fixture for Part {
         match self {
             Part::Commands(frames) => frames.answer(alloc, question),
             Part::Expressions => expressions::answer(alloc, question),
+            Part::Kept(kept) => kept.answer(alloc, question),
             Part::Runs => runs::answer(alloc, question),
             Part::Scripts => scripts::answer(alloc, question),
             Part::Slices => slices::answer(alloc, question),
@@ -56,6 +61,6 @@ fn main(rt: HostRuntime) -> Result<()> {
         [mode, count, path] if mode.as_str() == "repeat" => {
             scripts::repeat(&rt, count.as_str(), path.as_str())
         }
-        _ => ask_tables::<Part, _>(&rt),
+        names => ask_tables::<Part, _>(&rt, names),
     }
 }

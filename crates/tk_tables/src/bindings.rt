@@ -5,9 +5,10 @@
 //! `winner OWNER TAG EVENT`. An event is `TYPE WINDOW MOMENT STATE DETAIL X Y`, the detail a key or a button or `-`, the place from the application's
 //! corner; or `<<NAME>> WINDOW`. Each is answered `=` and what it tells, `-` where it tells that there is none.
 pub mod bench;
-mod read;
+pub mod read;
 
-use crate::bindings::read::{event_of, sequence_of, text_of};
+use crate::bindings::read::{event_of, sequence_of};
+use crate::words::word_of;
 use anyhow::{Result, bail};
 use std::alloc::Global;
 use tables::{number, result_of, words_of};
@@ -21,7 +22,8 @@ pub struct State {
     virtuals: VirtualPairs,
 }
 
-fn bind(
+/// What it is answered that a script is bound.
+pub fn bind(
     alloc: Global,
     bindings: &mut BindTable,
     owner: usize,
@@ -29,9 +31,9 @@ fn bind(
     sequence: &str,
     script: &str,
 ) -> Result<String> {
-    let tag = text_of(alloc, tag)?;
+    let tag = Text::new(alloc, tag)?;
     let sequence = sequence_of(alloc, sequence)?;
-    let script = text_of(alloc, script)?;
+    let script = word_of(alloc, script)?;
     match bindings.bind(owner, tag, sequence, script) {
         Ok(()) => result_of(alloc, ""),
         Err(BindFault::Full) => result_of(alloc, "31"),
@@ -116,8 +118,8 @@ impl State {
     }
 
     fn add_virtual(&mut self, alloc: Global, name: &str, sequence: &str) -> Result<String> {
-        let name = text_of(alloc, name)?;
-        let sequence = text_of(alloc, sequence)?;
+        let name = Text::new(alloc, name)?;
+        let sequence = Text::new(alloc, sequence)?;
         match self.virtuals.add(alloc, &name, &sequence) {
             Ok(()) => result_of(alloc, ""),
             Err(_) => bail!("a pair that was refused"),

@@ -5,17 +5,8 @@
 use anyhow::{Result, bail};
 use std::alloc::Global;
 use tables::result_of;
-use tcl_text::{Text, TextFault};
+use tcl_text::Text;
 use tk_sequences::{Sequence, SequenceFault};
-
-/// A text of these characters.
-fn text_of(alloc: Global, characters: &str) -> Result<Text> {
-    match Text::new(alloc, characters) {
-        Ok(text) => Ok(text),
-        Err(TextFault::TooLong) => bail!("a text that is too long"),
-        Err(TextFault::NoMemory) => bail!("out of memory"),
-    }
-}
 
 /// A fault with its number and its message.
 fn fault_told(alloc: Global, fault: &SequenceFault) -> Result<String> {
@@ -28,7 +19,7 @@ fn fault_told(alloc: Global, fault: &SequenceFault) -> Result<String> {
 
 /// What a question is answered. A canonical form that isn't read as itself is an error.
 pub fn answer(alloc: Global, question: &str) -> Result<String> {
-    let text = text_of(alloc, question)?;
+    let text = Text::new(alloc, question)?;
     match Sequence::parse(alloc, &text) {
         Ok(sequence) => {
             let canonical = sequence.canonical(alloc)?;

@@ -19,12 +19,8 @@ enum Called {
     Counting(Alias<Counting>),
 }
 
-fn text_of(alloc: Global, characters: &str) -> Result<Text> {
-    Ok(Text::new(alloc, characters)?)
-}
-
 fn items_of(alloc: Global, list: &str) -> Result<TextList> {
-    match text_of(alloc, list)?.split_list(alloc) {
+    match Text::new(alloc, list)?.split_list(alloc) {
         Ok(items) => Ok(items),
         Err(_) => bail!("no list"),
     }
@@ -43,7 +39,7 @@ fn kind_of(word: &str) -> Option<ServiceKind> {
 
 /// The alias that a question sets up.
 fn made(alloc: Global, kind: &str, list: &str) -> Result<Called> {
-    let name = text_of(alloc, "called")?;
+    let name = Text::new(alloc, "called")?;
     let items = items_of(alloc, list)?;
     let [config, ..] = items.as_slice() else {
         bail!("no configuration");

@@ -3,23 +3,16 @@
 //! A question `MOMENT OWNER CALL` is a call for an application, by its number, at a moment: `after|WORD|..` is the command, and `count`, `full`,
 //! `next`, `round`, `take`, `due|ID`, `cancel|ID` are the calls of those names; `first` is when the first timer of all is due, and `fill` lists as
 //! many timers as there may be. It is answered `=` and a text, or `!` and an error.
+use crate::words::texts_of;
 use anyhow::{Result, bail};
 use std::alloc::Global;
 use tables::{error_of, first_word, number, result_of, words_of};
-use tcl_text::{Text, TextList};
+use tcl_text::Text;
 use tk_after::{Timers, after_command};
 
 /// The timers of all applications.
 pub struct Kept {
     timers: Timers,
-}
-
-fn texts_of(alloc: Global, words: &[&str]) -> Result<TextList> {
-    let mut texts = TextList::new(alloc);
-    for word in words {
-        texts.push(Text::new(alloc, word)?)?;
-    }
-    Ok(texts)
 }
 
 /// The answer of the command `after` with these words.

@@ -1,8 +1,9 @@
 //! How long an event takes as bindings grow.
-use crate::bindings::read::{event_of, sequence_of, text_of};
+use crate::bindings::read::{event_of, sequence_of};
 use anyhow::{Result, bail};
 use std::alloc::Global;
 use std::time::{Clock, Instant};
+use tcl_text::Text;
 use tk_patterns::{BindTable, Event, History, VirtualPairs};
 
 /// How many events are timed.
@@ -21,9 +22,9 @@ fn bindings(alloc: Global, owners: usize, count: usize) -> Result<BindTable> {
             };
             let bound = table.bind(
                 owner,
-                text_of(alloc, tag.as_str())?,
+                Text::new(alloc, tag.as_str())?,
                 sequence_of(alloc, key)?,
-                text_of(alloc, "script")?,
+                Text::new(alloc, "script")?,
             );
             if bound.is_err() {
                 bail!("a binding was refused");

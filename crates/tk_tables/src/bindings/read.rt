@@ -5,15 +5,8 @@ use tables::number;
 use tcl_text::Text;
 use tk_patterns::{Event, EventKind, EventType, Keysym, Sequence, VirtualName};
 
-pub fn text_of(alloc: Global, word: &str) -> Result<Text> {
-    match Text::new(alloc, word) {
-        Ok(text) => Ok(text),
-        Err(_) => bail!("a word that is no text"),
-    }
-}
-
 pub fn sequence_of(alloc: Global, word: &str) -> Result<Sequence> {
-    let text = text_of(alloc, word)?;
+    let text = Text::new(alloc, word)?;
     match Sequence::parse(alloc, &text) {
         Ok(sequence) => Ok(sequence),
         Err(_) => bail!("a word that is no sequence"),
@@ -21,7 +14,7 @@ pub fn sequence_of(alloc: Global, word: &str) -> Result<Sequence> {
 }
 
 pub fn name_of(alloc: Global, word: &str) -> Result<VirtualName> {
-    let text = text_of(alloc, word)?;
+    let text = Text::new(alloc, word)?;
     match VirtualName::parse(alloc, &text)? {
         Some(name) => Ok(name),
         None => bail!("a word that is no virtual event"),
@@ -44,7 +37,7 @@ fn type_of(word: &str) -> Result<EventType> {
 
 fn event_at(alloc: Global, kind: EventKind, window: &str, moment: u64) -> Result<Event> {
     let window = number(window)?;
-    let path = text_of(alloc, ".")?;
+    let path = Text::new(alloc, ".")?;
     Ok(Event::new(kind, window, path, moment))
 }
 

@@ -3,14 +3,13 @@
 //! or `none` where it isn't mapped. They are arranged anew, by an arrangement that is kept from cavity to cavity, and by that once more, and are
 //! then taken out.
 
-use crate::requests::{anchor_of, fill_of, pads_of, side_of};
+use crate::windows::requests::{anchor_of, fill_of, pads_of, side_of};
 use anyhow::{Result, bail};
 use std::alloc::Global;
 use tables::number;
 use tk_base::{Rect, Win};
 use tk_packer::{Kept, PackTable, Request, arrange, request_of};
 
-#[derive(Drop)]
 pub struct Packings {
     size: (u32, u32),
     packs: PackTable,
@@ -141,5 +140,17 @@ impl Packings {
             text.push_str(place_text(alloc, *place)?.as_str())?;
         }
         Ok(text)
+    }
+}
+
+/// By hand: a proof sees one call where it is dropped, and not its parts.
+impl Drop for Packings {
+    fn drop(self) {
+        let Packings {
+            size: _,
+            packs: _,
+            count: _,
+            kept: _,
+        } = self;
     }
 }

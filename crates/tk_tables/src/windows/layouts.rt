@@ -3,7 +3,7 @@
 //! window that is no longer there; `asks NUMBER` is the size that it asks for; `lay` tells the changes, twice over, of which the second
 //! time has none.
 
-use crate::requests::{anchor_of, fill_of, pads_of, side_of};
+use crate::windows::requests::{anchor_of, fill_of, pads_of, side_of};
 use anyhow::{Result, bail};
 use std::alloc::Global;
 use tables::number;
@@ -11,7 +11,6 @@ use tk_base::{Rect, Win};
 use tk_layout::{Arrangements, Change, Shape, lay_out, requested_size};
 use tk_packer::{PackTable, Request};
 
-#[derive(Drop)]
 pub struct Layouts {
     size: (u32, u32),
     shapes: Vec<Shape>,
@@ -204,5 +203,17 @@ fn win(number: u64) -> Win {
     Win {
         owner: OWNER,
         number,
+    }
+}
+
+/// By hand: a proof sees one call where it is dropped, and not its parts.
+impl Drop for Layouts {
+    fn drop(self) {
+        let Layouts {
+            size: _,
+            shapes: _,
+            packs: _,
+            arrangements: _,
+        } = self;
     }
 }

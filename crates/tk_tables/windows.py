@@ -1,5 +1,5 @@
 #!/usr/bin/env python3
-"""tables.py trees|layouts: writes data/NAME.table to standard output.
+"""windows.py trees|layouts: writes data/windows/NAME.table to standard output.
 
 What each call answers is found here from plain lists: the windows of an application in order of creation, each with its number, its path and
 its parent's number, and the layout by recursion on the tree, from nothing at each call."""

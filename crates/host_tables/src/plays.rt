@@ -1,13 +1,11 @@
 //! Plays stored sessions, and tells of each whether what came out is what is stored beside it.
 //!
-//! Each argument names a session `NAME.session`. Beside it lies `NAME.expected`, the bytes that it writes, or `NAME.fault`, its exit
-//! status and its line on standard error. `--once` before the names plays each at one slice alone, for a run without proof.
-#![tactic(auto)]
-
+//! Beside a session `NAME.session` lies `NAME.expected`, the bytes that it writes, or `NAME.fault`, its exit status and its line on standard error. Each
+//! is played at six slices; `--once` before the names plays each at one slice alone, for a run without proof.
 use anyhow::{Context, Result, bail};
 use std::alloc::Global;
+use std::fs;
 use std::rt::Files;
-use std::{env, fs};
 use tkhost::{Outcome, play, read_session, run, services_of};
 
 /// Slices that no section may depend on, in steps.
@@ -72,15 +70,15 @@ fn is_as_expected<R: Files + AllocGlobal>(rt: &R, name: &str, once: bool) -> Res
     Ok(sections.is_empty() && fault == expected)
 }
 
-fn main(rt: HostRuntime) -> Result<()> {
+/// Plays sessions, and prints of each whether it is as expected. It fails where one differs.
+pub fn play_sessions<R: Files + Print + AllocGlobal>(
+    rt: &R,
+    names: &[String],
+    once: bool,
+) -> Result<()> {
     let mut differs = false;
-    let mut once = false;
-    for name in env::args(&rt)?.skip(1) {
-        if name.as_str() == "--once" {
-            once = true;
-            continue;
-        }
-        let as_expected = is_as_expected(&rt, name.as_str(), once).context(format_args!(
+    for name in names {
+        let as_expected = is_as_expected(rt, name.as_str(), once).context(format_args!(
             "session {name}"
         ))?;
         let verdict = if as_expected {

@@ -1,64 +1,13 @@
 //! The questions of `routes`: who gets the lines of sessions.
 //!
 //! A question `new X Y W H X Y W H ..` begins with applications that have these rectangles, by slot from 0 on. A question `MOMENT LINE` is a line
-//! of a session, with slots in place of names: `move X Y`, `press B`, `release B`, `keydown KEY`, `keyup KEY`, `focus SLOT`, `focus -`,
-//! `rect SLOT X Y W H`. It is answered `=` and the events, each as `SLOT MOMENT STATE KIND ..` with a comma between two; or `!` and the number of the
-//! fault.
+//! of a session (`lines.rt`). It is answered `=` and the events, each as `SLOT MOMENT STATE KIND ..` with a comma between two; or `!` and the number of
+//! the fault.
+use crate::lines::{line_of, rect_of};
 use anyhow::{Result, bail};
 use std::alloc::Global;
 use tables::{number, result_of, words_of};
-use tk_route::{Delivery, HostLine, Keysym, LocalKind, Rect, Routed, Router};
-
-fn key_of(word: &str) -> Result<Keysym> {
-    match Keysym::named(word) {
-        Some(key) => Ok(key),
-        None => bail!("a word that is no key"),
-    }
-}
-
-fn rect_of(x: &str, y: &str, width: &str, height: &str) -> Result<Rect> {
-    Ok(Rect {
-        x: number(x)?,
-        y: number(y)?,
-        width: number(width)?,
-        height: number(height)?,
-    })
-}
-
-/// A line of one word.
-fn short_line(first: &str, word: &str) -> Result<HostLine> {
-    match first {
-        "press" => Ok(HostLine::Press(number(word)?)),
-        "release" => Ok(HostLine::Release(number(word)?)),
-        "keydown" => Ok(HostLine::Keydown(key_of(word)?)),
-        "keyup" => Ok(HostLine::Keyup(key_of(word)?)),
-        "focus" => focus_of(word),
-        _ => bail!("no such line"),
-    }
-}
-
-/// The line that these words are.
-fn line_of(words: &[&str]) -> Result<HostLine> {
-    match words {
-        [first, word] => short_line(first, word),
-        ["move", x, y] => Ok(HostLine::Move {
-            x: number(x)?,
-            y: number(y)?,
-        }),
-        ["rect", slot, x, y, width, height] => Ok(HostLine::Rect {
-            slot: number(slot)?,
-            rect: rect_of(x, y, width, height)?,
-        }),
-        _ => bail!("no such line"),
-    }
-}
-
-fn focus_of(slot: &str) -> Result<HostLine> {
-    if slot == "-" {
-        return Ok(HostLine::Focus(None));
-    }
-    Ok(HostLine::Focus(Some(number(slot)?)))
-}
+use tk_route::{Delivery, LocalKind, Routed, Router};
 
 /// An event and who gets it.
 fn told(alloc: Global, delivery: &Delivery) -> Result<String> {
@@ -135,13 +84,13 @@ fn new_answer(alloc: Global, router: &mut Option<Router>, words: &[&str]) -> Res
 
 /// Who gets the lines, once there are applications.
 #[derive(Drop)]
-pub struct Host {
+pub struct Routes {
     router: Option<Router>,
 }
 
-impl Host {
-    pub fn new() -> Host {
-        Host { router: None }
+impl Routes {
+    pub fn new() -> Routes {
+        Routes { router: None }
     }
 
     /// What a question is answered.

@@ -8,7 +8,6 @@ use tcl_text::Text;
 use tk_base::{Kind, Win};
 use tk_tree::{WindowFault, Windows};
 
-#[derive(Drop)]
 pub struct Trees {
     windows: Windows,
 }
@@ -102,4 +101,11 @@ fn numbers(alloc: Global, list: &[u64]) -> Result<String> {
         text.push_str(format!(in alloc; "{number}")?.as_str())?;
     }
     Ok(text)
+}
+
+/// By hand: a proof sees one call where it is dropped, and not its parts.
+impl Drop for Trees {
+    fn drop(self) {
+        let Trees { windows: _ } = self;
+    }
 }

@@ -6,14 +6,14 @@ use std::io::{ErrorKind, Read, Write};
 
 /// A reader that gives these bytes in pieces, and fails once it was asked so often.
 #[derive(Drop)]
-pub(crate) struct Pieces<'a> {
+pub struct Pieces<'a> {
     rest: &'a [u8],
     piece: usize,
     calls: usize,
 }
 
 impl<'a> Pieces<'a> {
-    pub(crate) fn new(rest: &'a [u8], piece: usize, calls: usize) -> Pieces<'a> {
+    pub fn new(rest: &'a [u8], piece: usize, calls: usize) -> Pieces<'a> {
         Pieces { rest, piece, calls }
     }
 }
@@ -37,9 +37,9 @@ impl Read for Pieces<'_> {
 
 /// A reader that never ends, and counts how often it was asked.
 #[derive(Drop)]
-pub(crate) struct Endless {
-    pub(crate) piece: usize,
-    pub(crate) calls: u64,
+pub struct Endless {
+    pub piece: usize,
+    pub calls: u64,
 }
 
 impl Read for Endless {
@@ -51,15 +51,15 @@ impl Read for Endless {
 
 /// A writer that takes so many bytes a call, and fails or takes none once it was asked so often.
 #[derive(Drop)]
-pub(crate) struct Sink {
-    pub(crate) taken: Vec<u8>,
+pub struct Sink {
+    pub taken: Vec<u8>,
     piece: usize,
     calls: usize,
     fails: bool,
 }
 
 impl Sink {
-    pub(crate) fn new(alloc: Global, piece: usize, calls: usize, fails: bool) -> Sink {
+    pub fn new(alloc: Global, piece: usize, calls: usize, fails: bool) -> Sink {
         Sink {
             taken: Vec::new(alloc),
             piece,

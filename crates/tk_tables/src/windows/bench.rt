@@ -1,7 +1,7 @@
 //! How long it takes to make, pack, lay out and destroy windows, by how many there are.
 
-use crate::layouts::new_shape;
-use crate::trees::remove;
+use crate::windows::layouts::new_shape;
+use crate::windows::trees::remove;
 use anyhow::{Result, bail};
 use std::alloc::Global;
 use std::rt::Clock;

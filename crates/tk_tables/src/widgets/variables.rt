@@ -1,7 +1,8 @@
 //! The variables of a widget's application.
-use crate::words::word_of;
+use crate::words::texts_of;
 use anyhow::{Result, bail};
 use std::alloc::Global;
+use tables::words_of;
 use tcl_commands::variable_command;
 use tcl_text::{Text, TextList};
 use tcl_vars::{ReadFault, Scopes};
@@ -40,7 +41,7 @@ pub fn write_variable(
         return Ok(None);
     }
     let mut words = TextList::new(alloc);
-    words.push(word_of(alloc, "set")?)?;
+    words.push(Text::new(alloc, "set")?)?;
     words.push(name)?;
     words.push(text)?;
     match variable_command(alloc, scopes, 0, words.as_slice())? {
@@ -59,4 +60,19 @@ pub fn variable_told(alloc: Global, scopes: &mut Scopes, words: &[Text]) -> Resu
         Some(Err(text)) => Ok(WidgetAct::Fault(text)),
         None => bail!("no such command"),
     }
+}
+
+/// The words of a command on variables, whose first word is this one.
+pub fn variable_words(alloc: Global, first: &str, rest: &str) -> Result<TextList> {
+    let mut words = Vec::new(alloc);
+    words.push(first)?;
+    let rest = match rest.strip_prefix("set ") {
+        Some(rest) => {
+            words.push("set")?;
+            rest
+        }
+        None => rest,
+    };
+    words.extend_from_slice(words_of(alloc, rest, '|')?.as_slice())?;
+    texts_of(alloc, words.as_slice())
 }

@@ -1,27 +1,41 @@
-//! A widget with the variables of its application, and what is asked of it.
-use crate::keys::{
+//! The questions of `widgets`: the commands of widgets, and what keys and the pointer ask of them.
+//!
+//! A question `new KIND` begins with a new widget and no variables. The others are answered `=` and a result, `!` and an error, or `>` and a script
+//! that is to be run.
+//!
+//! - `path WORD|WORD|..` calls the widget's command, and sets the variables that it asks for.
+//! - `set NAME|VALUE`, `unset NAME`, `array set NAME|VALUE` call these commands on variables.
+//! - `value` and `size` tell what the widget shows, and the size that it requests.
+//! - `key WORD`, `backspace`, `delete`, `move WORD` and `point X` are what keys and the pointer ask of an entry, `press Y`, `drag Y`, `step WORD`
+//!   and `space` of a listbox (they answer 1 where a selection was made or toggled), `down`, `sink` and `up` of a button.
+//!
+//! A word `*N*TEXT` is the text N times.
+mod keys;
+mod variables;
+
+use crate::widgets::keys::{
     entry_asked, listbox_told, pressed, put_relief, sink, size_told, told, value_told,
 };
-use crate::variables::{read, variable_told, write_variable};
-use crate::words::{path_words, variable_words};
+use crate::widgets::variables::{read, variable_told, variable_words, write_variable};
+use crate::words::barred_texts;
 use anyhow::{Result, bail};
 use std::alloc::Global;
-use tables::{Fixture, error_of, first_word, result_of};
+use tables::{error_of, first_word, result_of};
 use tcl_text::Text;
 use tcl_vars::Scopes;
 use tk_base::Kind;
 use tk_widgets::{Asked, Widget, WidgetAct};
 
 /// A widget, the variables, and the relief of a pressed button.
-pub struct Session {
+pub struct Application {
     widget: Widget,
     scopes: Scopes,
     saved: Option<Text>,
 }
 
-impl Session {
+impl Application {
     /// A new widget of the kind of a name.
-    pub fn of(alloc: Global, kind: &str) -> Result<Session> {
+    pub fn of(alloc: Global, kind: &str) -> Result<Application> {
         let kind = match kind {
             "frame" => Kind::Frame,
             "label" => Kind::Label,
@@ -30,7 +44,7 @@ impl Session {
             "listbox" => Kind::Listbox,
             _ => bail!("no such kind"),
         };
-        Ok(Session {
+        Ok(Application {
             widget: Widget::new(alloc, kind)?,
             scopes: Scopes::new(alloc)?,
             saved: None,
@@ -130,7 +144,7 @@ impl Session {
         let (first, rest) = first_word(question);
         match first {
             "path" => {
-                let words = path_words(alloc, rest)?;
+                let words = barred_texts(alloc, rest)?;
                 self.command(alloc, words.as_slice())
             }
             "set" | "unset" | "array" => {
@@ -140,16 +154,11 @@ impl Session {
             _ => self.widget_told(alloc, first, rest),
         }
     }
-}
 
-impl Fixture for Session {
-    fn new(alloc: Global, _table: &str) -> Result<Session> {
-        Session::of(alloc, "frame")
-    }
-
-    fn answer(&mut self, alloc: Global, question: &str) -> Result<String> {
+    /// What a question is answered.
+    pub fn answer(&mut self, alloc: Global, question: &str) -> Result<String> {
         if let Some(kind) = question.strip_prefix("new ") {
-            *self = Session::of(alloc, kind)?;
+            *self = Application::of(alloc, kind)?;
             return result_of(alloc, "");
         }
         let act = self.act(alloc, question)?;
@@ -167,9 +176,9 @@ fn act_told(alloc: Global, act: &WidgetAct) -> Result<String> {
 }
 
 /// By hand: a proof sees one call where it is dropped, and not its parts.
-impl Drop for Session {
+impl Drop for Application {
     fn drop(self) {
-        let Session {
+        let Application {
             widget: _,
             scopes: _,
             saved: _,

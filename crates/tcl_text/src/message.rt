@@ -45,17 +45,14 @@ pub fn bad_option(alloc: Global, word: &str) -> Result<Answer, AllocError>
 pub fn with_quoted(alloc: Global, message: &str, word: &str) -> Result<String, AllocError>
     ensures { IfOk result (λ string. string_bytes string ≡ message.now ++ quoted word.now) }
 {
-    let mut string = String::from_str(alloc, message)?;
-    push_quoted(&mut string, word)?;
-    Ok(string)
+    format!(in alloc; "{message}\"{word}\"")
 }
 
 /// A word in quotation marks with what stands before and behind it.
 pub fn quoting(alloc: Global, before: &str, word: &str, behind: &str) -> Result<String, AllocError>
     ensures { IfOk result (λ string. string_bytes string ≡ before.now ++ (quoted word.now ++ behind.now)) }
 {
-    let mut message = String::from_str(alloc, before)?;
-    push_quoted(&mut message, word)?;
+    let mut message = with_quoted(alloc, before, word)?;
     message.push_str(behind)?;
     Ok(message)
 }

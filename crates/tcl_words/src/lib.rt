@@ -13,7 +13,7 @@ mod read;
 mod reader;
 mod script;
 
-pub use fault::ParseFault;
+pub use fault::{ParseFault, limit};
 pub use laws::{
     braces_are_cut, commands_are_read, faults_are_told, indices_are_read, lines_are_a_script,
     one_script_or_fault, operands_are_read, spans_are_slices,

@@ -158,7 +158,8 @@ fn script_answer(
     ensures { Gives result (spec.script_words (windows_of.own_of slot windows.now) tag.now word.now (own_of slot bindings.now)) }
 {
     let sequence = tested_sequence(alloc, windows, slot, tag, word)?;
-    script_told(alloc, bindings, slot, tag.as_str(), &sequence)
+    let script = script_told(alloc, bindings, slot, tag.as_str(), &sequence)?;
+    Ok(script)
 }
 
 fn script_told(

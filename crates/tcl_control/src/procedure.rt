@@ -15,6 +15,7 @@ use tcl_table::{Levels, Procedure, plain_name};
 use tcl_text::message::limit;
 use tcl_text::{Text, TextFault};
 use tcl_vars::Scopes;
+use tcl_words::limit;
 
 /// Whether a parameter takes the rest of the words, with these behind it.
 fn is_rest(parameter: &Parameter, behind: &[Parameter]) -> bool
@@ -82,10 +83,7 @@ fn set_rest(
     ensures levels { length scopes.new ≡ length scopes.old }
 {
     match Text::join_list(alloc, words) {
-        Ok(form) => {
-            let refused = set_one(alloc, scopes, level, name, form)?;
-            Ok(refused)
-        }
+        Ok(form) => set_one(alloc, scopes, level, name, form),
         Err(TextFault::TooLong) => Ok(Some(limit(alloc)?)),
         Err(TextFault::NoMemory) => Err(AllocError),
     }
@@ -194,7 +192,7 @@ pub fn call_procedure(
 }
 
 /// Drops the last frame of variables, as where a procedure ends; the global one stays. It takes no memory.
-pub fn pop_last(scopes: &mut Scopes)
+fn pop_last(scopes: &mut Scopes)
     ensures { scopes.new ≡ popped scopes.old }
 {
     if scopes.levels() > 1 {

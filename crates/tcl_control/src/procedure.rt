@@ -15,7 +15,6 @@ use tcl_table::{Levels, Procedure, plain_name};
 use tcl_text::message::limit;
 use tcl_text::{Text, TextFault};
 use tcl_vars::Scopes;
-use tcl_words::limit;
 
 /// Whether a parameter takes the rest of the words, with these behind it.
 fn is_rest(parameter: &Parameter, behind: &[Parameter]) -> bool

@@ -104,7 +104,8 @@ fn go_on<T: Jobs>(
     ensures left { T.left_alone jobs.new ≡ T.left_alone jobs.old }
 {
     let next = jobs.ended(job, code, text)?;
-    look_at(jobs, scopes, next)
+    let act = look_at(jobs, scopes, next)?;
+    Ok(act)
 }
 
 /// The answer of a script at global level, where there is no loop that a break or a continue could act on.
@@ -143,13 +144,16 @@ pub fn resume<T: Jobs>(
             task: Task::Runs(job),
         }),
         Task::Waits(job) => {
-            start(jobs, scopes, job)
+            let act = start(jobs, scopes, job)?;
+            Ok(act)
         }
         Task::Runs(job) => {
-            go_on(jobs, scopes, job, code, text)
+            let act = go_on(jobs, scopes, job, code, text)?;
+            Ok(act)
         }
         Task::Invoked => {
-            end_at_global(alloc, code, text)
+            let act = end_at_global(alloc, code, text)?;
+            Ok(act)
         }
     }
 }

@@ -35,10 +35,12 @@ pub fn bind_command(
 {
     match words {
         [tag] => {
-            told_sequences(alloc, windows, bindings, slot, tag)
+            let answer = told_sequences(alloc, windows, bindings, slot, tag)?;
+            Ok(answer)
         }
         [tag, sequence] => {
-            told_script(alloc, windows, bindings, slot, tag, sequence)
+            let answer = told_script(alloc, windows, bindings, slot, tag, sequence)?;
+            Ok(answer)
         }
         [tag, sequence, script] => {
             bind_told(alloc, windows, bindings, slot, tag, sequence, script)

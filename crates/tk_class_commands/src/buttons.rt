@@ -19,7 +19,7 @@ use tk_screen::Screen;
 use tk_widgets::{Change, Widget};
 
 /// A command of the class Button.
-#[derive(Clone, Copy)]
+#[derive(Clone, Copy, Debug, PartialEq, Eq)]
 pub enum ButtonCommand {
     /// The pointer comes over the button.
     Enter,

@@ -19,7 +19,7 @@ use tk_queue::EventQueue;
 use tk_screen::Screen;
 
 /// A command that class bindings run, by the class.
-#[derive(Clone, Copy)]
+#[derive(Clone, Copy, Debug, PartialEq, Eq)]
 pub enum ClassCommand {
     Button(ButtonCommand),
     Entry(EntryCommand),

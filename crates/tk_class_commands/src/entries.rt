@@ -22,7 +22,7 @@ use tk_queue::EventQueue;
 use tk_screen::Screen;
 
 /// A command of the class Entry.
-#[derive(Clone, Copy)]
+#[derive(Clone, Copy, Debug, PartialEq, Eq)]
 pub enum EntryCommand {
     /// The text of a key is inserted.
     Insert,

@@ -22,7 +22,7 @@ use tk_screen::Screen;
 use tk_widgets::{Change, ListboxWidget, Step, Widget};
 
 /// A command of the class Listbox.
-#[derive(Clone, Copy)]
+#[derive(Clone, Copy, Debug, PartialEq, Eq)]
 pub enum ListboxCommand {
     /// The listbox is pressed.
     Down,
@@ -35,7 +35,7 @@ pub enum ListboxCommand {
 }
 
 /// What a command asks of a listbox. Heights are in pixels, from the upper edge.
-#[derive(Clone, Copy)]
+#[derive(Clone, Copy, Debug, PartialEq, Eq)]
 pub enum ListboxAsk {
     Press(i64),
     Drag(i64),
@@ -53,7 +53,7 @@ pub struct Effect {
 }
 
 /// A listbox, and what a command asks of it.
-#[derive(Clone, Copy)]
+#[derive(Clone, Copy, Debug)]
 pub struct ListboxRequest {
     pub number: u64,
     pub ask: ListboxAsk,

@@ -199,7 +199,8 @@ fn listed(alloc: Global, items: &[Item]) -> Result<Text, TextFault>
     ensures too_long { IfErr result (λ fault. fault ≢ TextFault.NoMemory → most_bytes < length (list_form (texts items.now))) }
 {
     let texts = texts_of(alloc, items)?;
-    Text::join_list(alloc, texts.as_slice())
+    let list = Text::join_list(alloc, texts.as_slice())?;
+    Ok(list)
 }
 
 /// The list of no items.

@@ -36,7 +36,8 @@ fn put_to(
     if channel.as_str() == "stdout" {
         return write_out(tables, slot, text);
     }
-    bad_option(tables.alloc, channel.as_str())
+    let answer = bad_option(tables.alloc, channel.as_str())?;
+    Ok(answer)
 }
 
 fn puts_usage(alloc: Global) -> Result<Answer, AllocError>
@@ -55,10 +56,12 @@ pub fn puts_command(tables: &mut Tables, slot: usize, words: &[Text]) -> Result<
         [text] => write_out(tables, slot, text),
         [channel, text] => put_to(tables, slot, channel, text),
         [] => {
-            puts_usage(tables.alloc)
+            let answer = puts_usage(tables.alloc)?;
+            Ok(answer)
         }
         [_, _, _, ..] => {
-            puts_usage(tables.alloc)
+            let answer = puts_usage(tables.alloc)?;
+            Ok(answer)
         }
     }
 }

@@ -14,7 +14,7 @@ use tk_marks::MarkedScreen;
 use tk_panel::Tables;
 
 /// A command on what events do.
-#[derive(Clone, Copy)]
+#[derive(Clone, Copy, Debug, PartialEq, Eq)]
 pub enum BindingCommand {
     Bind,
     Bindtags,

@@ -17,7 +17,7 @@ use tk_class_commands::{ClassCommand, class_command_named};
 use tk_panel::Tables;
 
 /// A command, by what it acts on.
-#[derive(Clone, Copy)]
+#[derive(Clone, Copy, Debug, PartialEq, Eq)]
 pub enum Command {
     Moment(MomentCommand),
     Binding(BindingCommand),

@@ -13,7 +13,7 @@ use tk_panel::{
 };
 
 /// A command on what an application writes and what it does at a moment.
-#[derive(Clone, Copy)]
+#[derive(Clone, Copy, Debug, PartialEq, Eq)]
 pub enum MomentCommand {
     Puts,
     After,

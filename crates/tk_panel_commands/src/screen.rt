@@ -17,7 +17,7 @@ use tk_screen::Screen;
 use tk_window_commands::{WindowCommand, window_command_done, window_command_named, winfo_command};
 
 /// A command on what is on the screen.
-#[derive(Clone, Copy)]
+#[derive(Clone, Copy, Debug, PartialEq, Eq)]
 pub enum ScreenCommand {
     Window(WindowCommand),
     Pack,

@@ -44,7 +44,8 @@ impl Jobs for TablesView<'_> {
     ghost left_alone = { λ v. left_of v.slot v.tables.ghost_name v.tables.now };
 
     fn look(&mut self, scopes: &Scopes, job: Job) -> Result<Looked<Job>, AllocError> {
-        look(self.tables, self.slot, scopes, job)
+        let looked = look(self.tables, self.slot, scopes, job)?;
+        Ok(looked)
     }
 
     fn start(&mut self, _scopes: &Scopes, job: Job) -> Result<Started<Job>, AllocError> {
@@ -53,7 +54,8 @@ impl Jobs for TablesView<'_> {
     }
 
     fn ended(&mut self, job: Job, code: Code, text: Text) -> Result<Job, AllocError> {
-        ended(self.tables, self.slot, job, code, text)
+        let next = ended(self.tables, self.slot, job, code, text)?;
+        Ok(next)
     }
 }
 
@@ -77,11 +79,13 @@ impl Tasks for TablesView<'_> {
     ghost left_alone = { λ v. left_of v.slot v.tables.ghost_name v.tables.now };
 
     fn parsed(&mut self, text: &Text) -> Result<Script, ParseFault> {
-        parsed(self.tables, text)
+        let script = parsed(self.tables, text)?;
+        Ok(script)
     }
 
     fn call(&mut self, scopes: &mut Scopes, words: &[Text]) -> Result<Act<Task<Job>>, AllocError> {
-        call(self.tables, self.slot, scopes, words)
+        let act = call(self.tables, self.slot, scopes, words)?;
+        Ok(act)
     }
 
     fn resume(
@@ -92,7 +96,8 @@ impl Tasks for TablesView<'_> {
         text: Text,
     ) -> Result<Act<Task<Job>>, AllocError> {
         let alloc = self.tables.alloc;
-        tcl_jobs::resume(alloc, self, scopes, task, code, text)
+        let act = tcl_jobs::resume(alloc, self, scopes, task, code, text)?;
+        Ok(act)
     }
 
     ghost falls = { jobs_fall own_course calls };

@@ -2,7 +2,7 @@ ghost use Rattle.std.specs.Prelude.{◌≡◌};
 ghost use Rattle.tk_patterns.specs.Specific.{first_of, is_more, is_alike, by_having, if_same};
 
 /// How specific a sequence is beside another.
-#[derive(Clone, Copy)]
+#[derive(Clone, Copy, Debug, PartialEq, Eq)]
 pub(crate) enum Verdict {
     More,
     Less,

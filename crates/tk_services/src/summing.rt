@@ -15,7 +15,8 @@ pub(crate) fn sum(alloc: Global, config: &Text, args: &[Text]) -> Result<Text, R
 {
     let words = listed(alloc, config, args)?;
     let total = total(alloc, words.as_slice())?;
-    whole(alloc, total)
+    let answer = whole(alloc, total)?;
+    Ok(answer)
 }
 
 /// The sum of integers, however large.

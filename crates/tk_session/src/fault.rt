@@ -48,7 +48,7 @@ impl LineFault {
 }
 
 /// Why a line was not taken.
-#[derive(Clone, Copy, Drop)]
+#[derive(Clone, Copy, Debug, PartialEq, Eq, Drop)]
 pub(crate) enum LineError {
     Faulty(LineFault),
     /// Memory was refused.

@@ -24,7 +24,7 @@ const MAX_APPS: usize = 16;
 const MAX_ALIASES: usize = 64;
 
 /// The formats of a session, by the number of its heading.
-#[derive(Clone, Copy)]
+#[derive(Clone, Copy, Debug, PartialEq, Eq)]
 pub(crate) enum Format {
     First,
     /// With `rect` lines, and budgets that are refilled.

@@ -5,7 +5,7 @@ use std::alloc::AllocError;
 use std::collections::HashMap;
 
 /// What is counted for one application.
-#[derive(Clone, Copy)]
+#[derive(Clone, Copy, Debug, PartialEq, Eq)]
 pub struct Counter {
     /// The number of the next window. Numbers are never given again.
     pub next: u64,

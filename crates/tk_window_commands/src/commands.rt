@@ -14,7 +14,7 @@ use tk_base::Kind;
 use tk_screen::Screen;
 
 /// A command on windows.
-#[derive(Clone, Copy)]
+#[derive(Clone, Copy, Debug, PartialEq, Eq)]
 pub enum WindowCommand {
     /// `frame`, `label`, `button`, `entry`, `listbox`: makes a window.
     Make(Kind),

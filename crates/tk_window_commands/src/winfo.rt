@@ -15,7 +15,7 @@ use tcl_vars::Scopes;
 use tk_screen::Screen;
 
 /// What can be asked of a window (winfo(n)).
-#[derive(Clone, Copy)]
+#[derive(Clone, Copy, Debug, PartialEq, Eq)]
 pub enum Question {
     /// The paths of its children, in the order of creation.
     Children,

@@ -84,5 +84,6 @@ pub fn served<M: AliasMeaning>(
     let Some((name, arguments)) = words.split_first() else {
         return Ok(None);
     };
-    named(alloc, aliases.as_slice(), name, arguments)
+    let act = named(alloc, aliases.as_slice(), name, arguments)?;
+    Ok(act)
 }

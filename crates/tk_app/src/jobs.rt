@@ -55,7 +55,8 @@ fn call<M: AliasMeaning>(
     match served(tables.alloc, aliases, words)? {
         Some(act) => Ok(act),
         None => {
-            tk_panel_jobs::call(tables, slot, scopes, words)
+            let told = tk_panel_jobs::call(tables, slot, scopes, words)?;
+            Ok(told)
         }
     }
 }
@@ -114,11 +115,13 @@ impl<M: AliasMeaning> Tasks for AppTables<'_, M> {
     ghost left_alone = { λ v. (left_of v.slot v.tables.ghost_name v.tables.now, v.aliases.now) };
 
     fn parsed(&mut self, text: &Text) -> Result<Script, ParseFault> {
-        tk_panel_jobs::parsed(self.tables, text)
+        let script = tk_panel_jobs::parsed(self.tables, text)?;
+        Ok(script)
     }
 
     fn call(&mut self, scopes: &mut Scopes, words: &[Text]) -> Result<Act<Task<Job>>, AllocError> {
-        call(self.tables, self.slot, self.aliases, scopes, words)
+        let act = call(self.tables, self.slot, self.aliases, scopes, words)?;
+        Ok(act)
     }
 
     fn resume(
@@ -129,7 +132,8 @@ impl<M: AliasMeaning> Tasks for AppTables<'_, M> {
         text: Text,
     ) -> Result<Act<Task<Job>>, AllocError> {
         let alloc = self.tables.alloc;
-        tcl_jobs::resume(alloc, self, scopes, task, code, text)
+        let act = tcl_jobs::resume(alloc, self, scopes, task, code, text)?;
+        Ok(act)
     }
 
     ghost falls = { jobs_fall course calls };

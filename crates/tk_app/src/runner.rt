@@ -18,7 +18,7 @@ use tk_alias::{AliasMeaning, Aliases};
 use tk_panel::{Home, Job, Numbers, Rest, Tables, is_closed};
 
 /// Whether something is under way.
-#[derive(Clone, Copy, PartialEq, Eq)]
+#[derive(Clone, Copy, Debug, PartialEq, Eq)]
 pub enum Progress {
     /// Nothing is.
     Resting,

@@ -49,7 +49,8 @@ fn run_view<M: AliasMeaning>(
     ensures clock { view.new.tables.now.clock ≡ view.old.tables.now.clock }
     ensures others { others_of view.old.slot view.new.tables.now ≡ others_of view.old.slot view.old.tables.now }
 {
-    interp.run_slice(view, scopes, steps)
+    let end = interp.run_slice(view, scopes, steps)?;
+    Ok(end)
 }
 
 /// Does what the interpreter of an application still has to do, over the tables.

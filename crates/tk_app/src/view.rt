@@ -122,6 +122,7 @@ impl<M: AliasMeaning> AppView<'_, M> {
     pub fn section(&self, alloc: Global) -> Result<Vec<u8>, AllocError>
         ensures { IfOk result (λ bytes. option_map (λ part. section part.application) (slice_get self.now.shared.now.parts self.now.slot) ≡ Some bytes.items) }
     {
-        self.shared.section(alloc, self.slot)
+        let bytes = self.shared.section(alloc, self.slot)?;
+        Ok(bytes)
     }
 }

@@ -1,4 +1,4 @@
--- The commands of array(n): from the words after the sub-command. What is no array counts as an empty one, but for `array set`.
+-- Meaning. The commands of array(n): from the words after the sub-command. What is no array counts as an empty one, but for `array set`.
 use Rattle.std.specs.Prelude.{ℕ, true, Bool, nat_le, if◌then◌else◌, List, [], ◌∷◌, ◌++◌, length, map, filter, is_some, unwrap_or, Option, Some, None, Result, Ok, Err, codes}
 use Rattle.std.specs.Fmt.{decimal}
 use Rattle.std.specs.Str.{bytes_eq, chars}
@@ -6,6 +6,7 @@ use Rattle.tcl_text.specs.Answers.{Answer, answers, limit_text, bad_option, wron
 use Rattle.tcl_text.specs.Glob.{glob_matches}
 use Rattle.tcl_text.specs.Readings.{list_form}
 use Rattle.tcl_vars.specs.Table.{Table}
+use Rattle.tcl_vars.specs.Texts.{element_name}
 use Rattle.tcl_vars.specs.Store.{Store, elements_in, pairs_of, is_element_in, with_array, with_element, without_element}
 use Rattle.tcl_vars.specs.declared.fault.SetFault.{SetFault}
 use Rattle.tcl_vars.specs.declared.fault.SetFault.TheVariants.{NotArray}
@@ -78,10 +79,6 @@ abbrev pub odd_key : List (List ℕ) → Option (List ℕ)
 odd_key [] = None
 odd_key (key ∷ []) = Some key
 odd_key (key ∷ value ∷ items) = odd_key items
-
--- an element as it is named
-abbrev pub element_name : List ℕ → List ℕ → List ℕ
-element_name name index = name ++ codes "(" ++ index ++ codes ")"
 
 -- a variable of this name is set, or why it can't be
 abbrev pub set_told : List ℕ → Result Store SetFault → Result Store (List ℕ)

@@ -1,4 +1,4 @@
--- What commands answer that change a text in place.
+-- Steps. What commands answer that change a text in place.
 use Rattle.std.specs.Prelude.{ℕ, List, Result, Ok, Err}
 use Rattle.tcl_text.specs.Answers.{Answer, limit_text, fails}
 use Rattle.tcl_text.specs.Splitting.{fault_text}

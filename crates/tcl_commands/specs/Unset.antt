@@ -1,4 +1,4 @@
--- The command of unset(n).
+-- Meaning. The command of unset(n).
 use Rattle.std.specs.Prelude.{ℕ, Bool, true, false, if◌then◌else◌, List, [], ◌∷◌, Result, Ok, Err, codes}
 use Rattle.std.specs.Str.{bytes_eq}
 use Rattle.tcl_vars.specs.Store.{Store, without_variable}

@@ -1,4 +1,4 @@
--- How each command is used.
+-- Meaning. How each command is used.
 use Rattle.std.specs.Prelude.{ℕ, List, codes}
 use Rattle.tcl_commands.specs.declared.usages.Usage.{Usage}
 use Rattle.tcl_commands.specs.declared.usages.Usage.TheVariants.{Set, Unset, Incr, Append, Lappend, Array, ArrayExists, ArrayNames, ArrayGet, ArraySet, ArrayUnset, ArraySize, InfoExists, Global, Upvar}

@@ -1,4 +1,4 @@
--- The commands of set(n), incr(n), append(n) and lappend(n), and `info exists` of info(n): from the words after the name.
+-- Meaning. The commands of set(n), incr(n), append(n) and lappend(n), and `info exists` of info(n): from the words after the name.
 use Rattle.std.specs.Prelude.{ℕ, ◌^◌, nat_lt, ℤ, pos, negsuc, ◌+ℤ◌, Bool, if◌then◌else◌, List, [], ◌∷◌, ◌++◌, Option, None, Some, Result, Ok, Err, codes}
 use Rattle.std.specs.Fmt.{signed_decimal}
 use Rattle.std.specs.List.{concat}

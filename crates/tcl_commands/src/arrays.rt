@@ -1,8 +1,9 @@
 //! The commands of array(n).
-ghost use Rattle.std.specs.Prelude.{◌≡◌, ◌<◌, length, map, filter, IfOk, string_bytes};
+ghost use Rattle.std.specs.Prelude.{◌≡◌, ◌<◌, length, map, filter, IfOk};
 ghost use Rattle.std.specs.Option.{option_copied};
 ghost use Rattle.tcl_text.specs.Answers.{Gives, items_in as items_of};
 ghost use Rattle.tcl_vars.specs.Store.{elements_in, pairs_of};
+ghost use Rattle.tcl_vars.specs.Texts.{element_name as named};
 ghost use Rattle.tcl_commands.specs.Done.{Does, Steps, each_done, pairs};
 ghost use Rattle.tcl_commands.specs.Texts.{cannot_set};
 ghost use Rattle.tcl_commands.specs.Arrays as spec;
@@ -15,10 +16,10 @@ use std::alloc::{AllocError, Global};
 use tcl_text::answers::{Refusal, bad_option, decimal_answer, limit_reached, truth_answer};
 use tcl_text::items::{items_in, list_answer};
 use tcl_text::{Text, TextList};
-use tcl_vars::{Scopes, SetFault, UnsetFault};
+use tcl_vars::{Scopes, SetFault, UnsetFault, element_name};
 
 /// A command of `array`.
-#[derive(Clone, Copy, Debug, PartialEq, Eq)]
+#[derive(Clone, Copy)]
 pub enum ArrayCommand {
     Exists,
     Names,
@@ -435,19 +436,8 @@ fn set_element(
 
 /// Why an element can't be set.
 fn cannot_set_element(alloc: Global, name: &str, key: &str, fault: SetFault) -> Result<(), Refusal>
-    ensures { Gives result (cannot_set (spec.element_name name.now key.now) fault) }
+    ensures { Gives result (cannot_set (named name.now key.now) fault) }
 {
     let element = element_name(alloc, name, key)?;
     cannot_set(alloc, element.as_str(), fault)
-}
-
-/// An element as it is named.
-fn element_name(alloc: Global, name: &str, index: &str) -> Result<String, AllocError>
-    ensures { IfOk result (λ string. string_bytes string ≡ spec.element_name name.now index.now) }
-{
-    let mut string = String::from_str(alloc, name)?;
-    string.push_str("(")?;
-    string.push_str(index)?;
-    string.push_str(")")?;
-    Ok(string)
 }

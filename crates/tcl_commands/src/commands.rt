@@ -15,7 +15,7 @@ use tcl_text::answers::Refusal;
 use tcl_vars::Scopes;
 
 /// A command on variables, which the manual page of its name describes, as set(n).
-#[derive(Clone, Copy, Debug, PartialEq, Eq)]
+#[derive(Clone, Copy)]
 pub enum VariableCommand {
     Set,
     Unset,

@@ -1,15 +1,14 @@
 //! The commands of global(n) and upvar(n).
-ghost use Rattle.std.specs.Prelude.{◌≡◌, ◌<◌, length, option_map, IfOk};
+ghost use Rattle.std.specs.Prelude.{◌≡◌, ◌<◌, length, IfOk};
 ghost use Rattle.tcl_commands.specs.Done.{Does, Steps};
 ghost use Rattle.tcl_commands.specs.Links as spec;
-ghost use Rattle.tcl_vars.specs.Name.{element_of};
 
 use crate::texts::{cannot_link, empty_answer};
 use crate::usages::{Usage, wrong_words};
 use std::alloc::{AllocError, Global};
 use tcl_text::Text;
 use tcl_text::answers::Refusal;
-use tcl_vars::{LinkFault, Scopes};
+use tcl_vars::{LinkFault, Scopes, element_of};
 
 /// `global name ?name ..?`: each name of the frame becomes a link to the global variable of that name, up to the
 /// first that can't. In the global frame it does nothing.
@@ -78,13 +77,6 @@ fn name_told<'a>(written: &'a str, global: &'a str, fault: LinkFault) -> &'a str
         (LinkFault::BadName, Some(_)) => written,
         _ => global,
     }
-}
-
-/// The array and the index of a name `array(index)`, none where the name means a variable.
-fn element_of<'a>(name: &'a str) -> Option<(&'a str, &'a str)>
-    ensures { option_map (λ p. (p.0.now, p.1.now)) result ≡ element_of name.now }
-{
-    name.strip_suffix(')')?.split_once('(')
 }
 
 /// A global variable's name without a leading `::`.

@@ -7,7 +7,7 @@ use std::alloc::Global;
 use tcl_text::answers::{Refusal, wrong_args};
 
 /// A command, or a form of one, with a usage of its own.
-#[derive(Clone, Copy, Debug, PartialEq, Eq)]
+#[derive(Clone, Copy)]
 pub enum Usage {
     Set,
     Unset,

@@ -7,33 +7,13 @@ use thiserror::Error;
 /// Why a text is no expression (expr(n)).
 #[derive(Clone, Copy, Debug, PartialEq, Eq, Drop, Error)]
 pub enum ExprFault {
-    /// More than 65,536 bytes, bytes that are not UTF-8, or more than 200 parentheses, brackets and indices in one another (4).
-    #[error("limit reached: value")]
-    TooLong,
-    /// An operand in braces never ends, a variable's name in braces, or in a script in brackets a word in braces (5).
-    #[error("missing close-brace")]
-    MissingBrace,
-    /// A script in brackets never ends (6).
-    #[error("missing close-bracket")]
-    MissingBracket,
-    /// An operand in quotes never ends, or in a script in brackets a word in quotes (7).
-    #[error("missing quote")]
-    MissingQuote,
-    /// In a script in brackets something follows the brace that ends a word (8).
-    #[error("extra characters after close-brace")]
-    ExtraAfterBrace,
-    /// In a script in brackets something follows the quote that ends a word (9).
-    #[error("extra characters after close-quote")]
-    ExtraAfterQuote,
-    /// A parenthesis never ends, or the index of an element (10).
-    #[error("missing parenthesis")]
-    MissingParen,
+    /// A fault that a script can have too (4 to 10): 4 also for more than 200 parentheses, brackets and indices in one another, 5 also for
+    /// an operand in braces, 7 for one in quotes and 10 for a parenthesis that never ends; or memory was refused.
+    #[error("{0}")]
+    Script(ParseFault),
     /// Something stands where no operand or operator can (11).
     #[error("syntax error in expression")]
     Syntax,
-    /// Memory was refused.
-    #[error("out of memory")]
-    NoMemory,
 }
 
 /// Why an expression has no value (expr(n)).
@@ -64,72 +44,42 @@ impl ExprFault {
         ensures { result ≡ expr_number self.now }
     {
         match self {
-            ExprFault::TooLong => Some(4),
-            ExprFault::MissingBrace => Some(5),
-            ExprFault::MissingBracket => Some(6),
-            ExprFault::MissingQuote => Some(7),
-            ExprFault::ExtraAfterBrace => Some(8),
-            ExprFault::ExtraAfterQuote => Some(9),
-            ExprFault::MissingParen => Some(10),
+            ExprFault::Script(fault) => fault.number(),
             ExprFault::Syntax => Some(11),
-            ExprFault::NoMemory => None,
         }
     }
 }
 
 impl From<AllocError> for ExprFault {
     ghost use Rattle.std.specs.Prelude.{◌≡◌};
-    ghost use Rattle.tcl_expr.specs.declared.fault.ExprFault.TheVariants.{NoMemory};
+    ghost use Rattle.tcl_expr.specs.Faults.{no_memory};
 
-    ghost from_gives = { λ _ e. e ≡ NoMemory };
+    ghost from_gives = { λ _ e. e ≡ no_memory };
 
     fn from(_refused: AllocError) -> ExprFault {
-        ExprFault::NoMemory
+        ExprFault::Script(ParseFault::NoMemory)
     }
 }
 
 impl<T: Drop> From<AllocFailed<T>> for ExprFault {
     ghost use Rattle.std.specs.Prelude.{◌≡◌};
-    ghost use Rattle.tcl_expr.specs.declared.fault.ExprFault.TheVariants.{NoMemory};
+    ghost use Rattle.tcl_expr.specs.Faults.{no_memory};
 
-    ghost from_gives = { λ _ e. e ≡ NoMemory };
+    ghost from_gives = { λ _ e. e ≡ no_memory };
 
     fn from(_refused: AllocFailed<T>) -> ExprFault {
-        ExprFault::NoMemory
-    }
-}
-
-impl From<TextFault> for ExprFault {
-    ghost use Rattle.std.specs.Prelude.{◌≡◌};
-    ghost use Rattle.tcl_expr.specs.Faults.{parse_fault};
-
-    ghost from_gives = { λ fault e. e ≡ parse_fault fault };
-
-    fn from(fault: TextFault) -> ExprFault {
-        match fault {
-            TextFault::TooLong => ExprFault::TooLong,
-            TextFault::NoMemory => ExprFault::NoMemory,
-        }
+        ExprFault::Script(ParseFault::NoMemory)
     }
 }
 
 impl From<ParseFault> for ExprFault {
     ghost use Rattle.std.specs.Prelude.{◌≡◌};
-    ghost use Rattle.tcl_expr.specs.Faults.{script_fault};
+    ghost use Rattle.tcl_expr.specs.declared.fault.ExprFault.TheVariants.{Script};
 
-    ghost from_gives = { λ fault e. e ≡ script_fault fault };
+    ghost from_gives = { λ fault e. e ≡ Script fault };
 
     fn from(fault: ParseFault) -> ExprFault {
-        match fault {
-            ParseFault::TooLong => ExprFault::TooLong,
-            ParseFault::MissingBrace => ExprFault::MissingBrace,
-            ParseFault::MissingBracket => ExprFault::MissingBracket,
-            ParseFault::MissingQuote => ExprFault::MissingQuote,
-            ParseFault::ExtraAfterBrace => ExprFault::ExtraAfterBrace,
-            ParseFault::ExtraAfterQuote => ExprFault::ExtraAfterQuote,
-            ParseFault::MissingParen => ExprFault::MissingParen,
-            ParseFault::NoMemory => ExprFault::NoMemory,
-        }
+        ExprFault::Script(fault)
     }
 }
 

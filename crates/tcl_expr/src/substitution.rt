@@ -8,7 +8,7 @@ use crate::fault::ExprFault;
 use crate::step::Step;
 use std::alloc::Global;
 use tcl_text::Text;
-use tcl_words::Piece;
+use tcl_words::{ParseFault, Piece};
 
 /// What is still to be written, where so many indices may stand in one another.
 #[derive(Drop)]
@@ -39,7 +39,7 @@ fn begin_text<'a>(
             dues.push(Due::Others(others, room))?;
             dues.push(Due::Piece(own, room))?;
         }
-        None => steps.push(Step::Plain(Text::new(alloc, "")?))?,
+        None => steps.push(Step::Plain(Text::of_short(alloc, "")?))?,
     }
     Ok(())
 }
@@ -61,7 +61,7 @@ fn write_piece<'a>(
         Piece::Bracket(script) => steps.push(Step::Command(script.copy()?))?,
         Piece::Element(array, index) => {
             if room == 0 {
-                return Err(ExprFault::TooLong);
+                return Err(ExprFault::Script(ParseFault::TooLong));
             }
             dues.push(Due::Element(array))?;
             begin_text(alloc, steps, dues, index.pieces(), room - 1)?;

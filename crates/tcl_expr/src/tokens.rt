@@ -9,7 +9,7 @@ use crate::fault::ExprFault;
 use crate::operators::{ArithmeticOperator, BinaryOperator, Comparison, Infix, TextOperator};
 
 /// What a byte can begin.
-#[derive(Clone, Copy, Debug, PartialEq, Eq, Drop)]
+#[derive(Clone, Copy, Drop)]
 pub enum Mark {
     White,
     Backslash,
@@ -40,7 +40,7 @@ pub enum Mark {
 }
 
 /// What stands between two operands, or behind the last one.
-#[derive(Clone, Copy, Debug, PartialEq, Eq, Drop)]
+#[derive(Clone, Copy, Drop)]
 pub enum Link {
     Infix(Infix),
     Question,

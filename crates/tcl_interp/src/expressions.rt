@@ -16,9 +16,11 @@ ghost use Rattle.tcl_interp.specs.Rests.{doing_of, moved_of, standing_of, waits_
 use crate::machine::{Answered, Asking, Choosing, Frame, Now};
 use crate::words::wait;
 use std::alloc::{AllocError, Global};
-use tcl_control::texts::{cannot_read, cannot_read_element};
-use tcl_control::{Choices, Code, CommandTable, Context, Expression, Looping, Source, truth};
+use tcl_control::{Code, Context, Expression, Looping, truth};
 use tcl_expr::{Ask, Eval, EvalFault};
+use tcl_shapes::Choices;
+use tcl_table::texts::cannot_read_element;
+use tcl_table::{CommandTable, Source};
 use tcl_text::Text;
 use tcl_vars::Scopes;
 use tcl_words::Script;
@@ -68,7 +70,7 @@ fn variable_reply(
 {
     match scopes.get(level, name) {
         Ok(value) => Ok(Reply::Given(value.copy()?)),
-        Err(fault) => Ok(Reply::Missing(cannot_read(alloc, name, fault)?)),
+        Err(fault) => Ok(Reply::Missing(fault.text(alloc, name.as_str())?)),
     }
 }
 

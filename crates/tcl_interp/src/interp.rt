@@ -6,7 +6,8 @@ use crate::slices::{Ran, run};
 use crate::tasks::Tasks;
 use std::alloc::{AllocError, Global};
 use std::mem::replace;
-use tcl_control::{Code, Context, Levels, Source, first_commands};
+use tcl_control::{Code, Context};
+use tcl_table::{Levels, Source, first_commands};
 use tcl_text::Text;
 use tcl_vars::Scopes;
 

@@ -14,8 +14,8 @@ use crate::expressions::{chosen, evaluate, turn};
 use crate::machine::{Answered, Asking, Frame, Now, ScriptPlace};
 use crate::words::{after_part, go_on, longer_index, put_index, wait};
 use std::alloc::{AllocError, Global};
-use tcl_control::texts::fault_text;
-use tcl_control::{Code, CommandTable, Context, End, Looping, ReturnCode, Source, caught};
+use tcl_control::{Code, Context, End, Looping, ReturnCode, caught};
+use tcl_table::{CommandTable, Source};
 use tcl_text::Text;
 use tcl_vars::Scopes;
 use tcl_words::Script;
@@ -75,7 +75,7 @@ pub fn begun<K: Drop>(
         Ok(script) => first_command(alloc, script, room - 1),
         Err(fault) => Ok(Now::Ends {
             code: Code::Error,
-            text: fault_text(alloc, fault)?,
+            text: fault.told(alloc)?,
         }),
     }
 }

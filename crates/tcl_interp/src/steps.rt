@@ -13,11 +13,12 @@ use crate::machine::{Frame, Now};
 use crate::tasks::{Act, Tasks};
 use crate::words::wait;
 use std::alloc::{AllocError, Global};
-use tcl_control::texts::unknown_command;
 use tcl_control::{
-    Call, Code, Context, Looping, Plan, Source, Test, Turning, Verdict, call_command, items_tested,
+    Call, Code, Context, Looping, Plan, Test, Turning, Verdict, call_command, items_tested,
 };
 use tcl_shapes::Groups;
+use tcl_table::Source;
+use tcl_table::texts::unknown_command;
 use tcl_text::{Text, TextList};
 use tcl_vars::Scopes;
 

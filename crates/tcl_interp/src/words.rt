@@ -10,11 +10,14 @@ ghost use Rattle.tcl_text.specs.Limits.{most_bytes};
 
 use crate::machine::{Frame, Indexing, Now, ScriptPlace, Wording};
 use std::alloc::{AllocError, Global};
-use tcl_control::texts::{cannot_read, cannot_read_element, fault_text, limit, list_fault};
-use tcl_control::{Code, Source};
+use tcl_control::Code;
+use tcl_shapes::list_fault;
+use tcl_table::Source;
+use tcl_table::texts::cannot_read_element;
+use tcl_text::message::limit;
 use tcl_text::{SplitFault, Text, TextFault, TextList};
 use tcl_vars::Scopes;
-use tcl_words::{Command, Index, ParseFault, Piece, Script, Word};
+use tcl_words::{Command, Index, Piece, Script, Word};
 
 /// A part of a word that is evaluated by itself: a script in brackets, or an element, by the array's name and the index.
 #[derive(Drop)]
@@ -60,7 +63,7 @@ fn piece_value(
         Piece::Literal(text) => Ok(Value::Plain(text.copy()?)),
         Piece::Variable(name) => match scopes.get(level, name) {
             Ok(value) => Ok(Value::Plain(value.copy()?)),
-            Err(fault) => Ok(Value::Fails(cannot_read(alloc, name, fault)?)),
+            Err(fault) => Ok(Value::Fails(fault.text(alloc, name.as_str())?)),
         },
         Piece::Element(name, index) => {
             Ok(Value::Waits(Part::Element(name.copy()?, index.copy()?)))
@@ -365,7 +368,7 @@ fn element_begins<K: Drop>(
     if depth == 0 {
         return Ok(Now::Ends {
             code: Code::Error,
-            text: fault_text(alloc, ParseFault::TooLong)?,
+            text: limit(alloc)?,
         });
     }
     let _pieces = index.pieces();

@@ -51,5 +51,6 @@ has_more group = nat_lt group.next (length group.items)
 
 -- One more word leads to this, with these groups so far: for any words behind it, all that there is stays.
 abbrev pub FollowsGroup : Option (List ℕ) → List ℕ → List Group → Result (Option (List ℕ)) (List ℕ) → List Group → Type 0
-FollowsGroup held word groups (Ok next) groups' = (words : List (List ℕ)) → ahead groups' (groups_from next words) ≡ ahead groups (groups_from held (word ∷ words))
+FollowsGroup held word groups (Ok next) groups' =
+    (words : List (List ℕ)) → ahead groups' (groups_from next words) ≡ ahead groups (groups_from held (word ∷ words))
 FollowsGroup held word groups (Err text) groups' = (words : List (List ℕ)) → groups_from held (word ∷ words) ≡ Err text

@@ -126,8 +126,7 @@ fn group_of(alloc: Global, names: &Text, items: &Text) -> Result<Result<Group, T
             if names.is_empty() {
                 return Ok(Err(Text::of_short(alloc, "foreach varlist is empty")?));
             }
-            let group = group_named(alloc, names, items)?;
-            Ok(group)
+            group_named(alloc, names, items)
         }
         Err(SplitFault::BadList(fault)) => Ok(Err(list_fault(alloc, fault)?)),
         Err(SplitFault::NoMemory) => Err(AllocError),

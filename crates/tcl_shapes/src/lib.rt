@@ -11,3 +11,4 @@ mod texts;
 pub use branches::{Branch, Branches, Choices, if_choices, switch_arms};
 pub use groups::{Group, Groups, foreach_groups, has_body};
 pub use parameters::{Parameter, Parameters, parameters_in};
+pub use texts::list_fault;

@@ -1,5 +1,4 @@
-ghost use Rattle.std.specs.Prelude.{◌≡◌, [], ◌∷◌, ◌++◌, option_map, IfOk, OnOk, OnErr};
-ghost use Rattle.tcl_vars.specs.Name.{element_of};
+ghost use Rattle.std.specs.Prelude.{◌≡◌, [], ◌∷◌, ◌++◌, IfOk, OnOk, OnErr};
 ghost use Rattle.tcl_text.specs.Readings.{list_of};
 ghost use Rattle.tcl_shapes.specs.Parameters.{has_colons, is_element, is_parameter_name, parameter_named, parameter_parts, parameter_of, parameters_of, parameters_in};
 
@@ -7,6 +6,7 @@ use crate::texts::list_fault;
 use std::alloc::{AllocError, Global};
 use std::marker::Model;
 use tcl_text::{SplitFault, Text};
+use tcl_vars::element_of;
 
 /// A parameter of a procedure, and its default (proc(n)). A call gives the last one the rest of its words where that is named `args`.
 #[derive(Drop)]
@@ -68,13 +68,6 @@ fn has_colons(name: &[u8]) -> bool
     false
 }
 
-/// The array and the index of a name `array(index)`.
-fn element_of<'a>(name: &'a str) -> Option<(&'a str, &'a str)>
-    ensures { option_map (λ p. (p.0.now, p.1.now)) result ≡ element_of name.now }
-{
-    name.strip_suffix(')')?.split_once('(')
-}
-
 fn is_element(name: &str) -> bool
     ensures { result ≡ is_element name.now }
 {
@@ -109,14 +102,8 @@ fn parameter_parts(alloc: Global, parts: &[Text]) -> Result<Result<Parameter, Te
     ensures { IfOk result (λ parameter. parameter ≡ parameter_parts parts.now) }
 {
     match parts {
-        [name] => {
-            let parameter = parameter_named(alloc, name, None)?;
-            Ok(parameter)
-        }
-        [name, fallback] => {
-            let parameter = parameter_named(alloc, name, Some(fallback.copy()?))?;
-            Ok(parameter)
-        }
+        [name] => parameter_named(alloc, name, None),
+        [name, fallback] => parameter_named(alloc, name, Some(fallback.copy()?)),
         _ => Ok(Err(Text::of_short(alloc, "bad parameter list")?)),
     }
 }
@@ -126,10 +113,7 @@ fn parameter_of(alloc: Global, item: &Text) -> Result<Result<Parameter, Text>, A
     ensures { IfOk result (λ parameter. parameter ≡ parameter_of (list_of item.now)) }
 {
     match item.split_list(alloc) {
-        Ok(parts) => {
-            let parameter = parameter_parts(alloc, parts.as_slice())?;
-            Ok(parameter)
-        }
+        Ok(parts) => parameter_parts(alloc, parts.as_slice()),
         Err(SplitFault::BadList(fault)) => Ok(Err(list_fault(alloc, fault)?)),
         Err(SplitFault::NoMemory) => Err(AllocError),
     }

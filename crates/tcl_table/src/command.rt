@@ -58,7 +58,7 @@ pub struct CommandTable {
 impl Model for CommandTable {
     ghost use Rattle.std.specs.Prelude.{ℕ, List};
     ghost use Rattle.tcl_table.specs.declared.command.Command.{Command};
-    ghost use Rattle.tcl_table.specs.Named.{named};
+    ghost use Rattle.tcl_vars.specs.Named.{named};
 
     ghost Value = { List (List ℕ × Command) };
 

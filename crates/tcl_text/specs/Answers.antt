@@ -1,4 +1,4 @@
--- What a command answers: its result or the text of its error, and the texts of the errors.
+-- Meaning. What a command answers: its result or the text of its error, and the texts of the errors.
 use Rattle.std.specs.Prelude.{◌≡◌, ℕ, ℤ, Bool, nat_le, if◌then◌else◌, List, ◌++◌, length, Option, Some, None, Result, Ok, Err, codes, ⊤}
 use Rattle.std.specs.Fmt.{decimal}
 use Rattle.tcl_text.specs.Readings.{integer_of, list_of}

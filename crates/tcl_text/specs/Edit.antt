@@ -1,4 +1,4 @@
--- What a text becomes by a change.
+-- Meaning. What a text becomes by a change.
 use Rattle.std.specs.Prelude.{ℕ, nat_le, if◌then◌else◌, List, ◌++◌, length, Result, Ok, Err}
 use Rattle.tcl_text.specs.Readings.{list_of, list_form}
 use Rattle.tcl_text.specs.declared.splitting.ListFault.{ListFault}

@@ -1,4 +1,4 @@
--- What the steps of the commands of list(n) and its kin say to one another.
+-- Steps. What the steps of the commands of list(n) and its kin say to one another.
 use Rattle.std.specs.Prelude.{ℕ, Bool, List, [], ◌∷◌, ◌++◌, Option, Some, None}
 use Rattle.tcl_text.specs.ListCommands.{cut_at}
 

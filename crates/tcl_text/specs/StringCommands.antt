@@ -1,4 +1,4 @@
--- The commands of string(n), and concat(n).
+-- Meaning. The commands of string(n), and concat(n).
 use Rattle.std.specs.Prelude.{ℕ, suc, not, ◌==◌, nat_eq, if◌then◌else◌, List, [], ◌∷◌, length, take, map, filter, Option, Some, None, option_map, replicate, codes}
 use Rattle.std.specs.List.{starts_with, concat, join_with_byte}
 use Rattle.std.specs.Str.{chars, encode_utf8_all, bytes_eq, str_to_ascii_lowercase, str_to_ascii_uppercase}
@@ -7,6 +7,7 @@ use Rattle.std.specs.Ordering.{nat_cmp}
 use Rattle.std.specs.Cmp.Lexicographic.{slice_cmp}
 use Rattle.std.specs.declared.cmp.Ordering.{Ordering}
 use Rattle.std.specs.declared.cmp.Ordering.TheVariants.{Less, Equal, Greater}
+use Rattle.tcl_text.specs.Bytes.{space}
 use Rattle.tcl_text.specs.Backslash.{is_white}
 use Rattle.tcl_text.specs.Readings.{skip_white}
 use Rattle.tcl_text.specs.Glob.{glob_matches}
@@ -134,7 +135,7 @@ string_words (name ∷ words) = string_or_error name (string_command_named name)
 
 -- the words without white space around them, those that aren't empty, with a blank between each two
 abbrev pub concatenated : List (List ℕ) → List ℕ
-concatenated words = join_with_byte 32 (filter (λ word. not (length word == 0)) (map trimmed words))
+concatenated words = join_with_byte space (filter (λ word. not (length word == 0)) (map trimmed words))
 
 abbrev pub concat_words : List (List ℕ) → Answer
 concat_words words = answers (concatenated words)

@@ -1,5 +1,6 @@
 ghost use Rattle.std.specs.Prelude.{◌≡◌, ◌∷◌, ◌↔◌, Bool, IsErr};
 ghost use Rattle.std.specs.Result.{result_ok};
+ghost use Rattle.tcl_text.specs.Bytes.{letter_o};
 ghost use Rattle.tcl_text.specs.Readings as readings;
 
 use crate::integer::integer_of_text;
@@ -66,7 +67,7 @@ fn boolean_word(text: &[u8]) -> Option<bool>
 /// The value of the only word that begins with `o` and the text: `on` or `off`.
 #[tactic(auto, using(crate::proofs::BooleanLemmas::second_letters))]
 fn on_or_off(text: &[u8]) -> Option<bool>
-    ensures { result ≡ readings.only_word (readings.words_begun (111 ∷ text.now)) }
+    ensures { result ≡ readings.only_word (readings.words_begun (letter_o ∷ text.now)) }
 {
     let (first, others) = text.split_first()?;
     match first.to_ascii_lowercase() {

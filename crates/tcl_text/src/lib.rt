@@ -3,7 +3,7 @@
 
 mod backslash;
 mod boolean;
-mod characters;
+pub mod characters;
 mod commands;
 mod compared;
 mod edit;

@@ -49,7 +49,7 @@ impl ListFault {
 }
 
 /// What a byte is to the form of a list.
-#[derive(Clone, Copy, Debug, PartialEq, Eq)]
+#[derive(Clone, Copy)]
 pub enum ByteKind {
     White,
     OpenBrace,

@@ -7,6 +7,7 @@ ghost use Rattle.tcl_text.specs.Limits.{most_bytes};
 
 use crate::edit::EditFault;
 use crate::list_string::ListString;
+use crate::message::limit;
 use crate::number::NumberText;
 use crate::shared::SharedText;
 use crate::short::{SHORT_BYTES, ShortText};
@@ -170,7 +171,8 @@ impl TextForm {
         ensures ok { IfOk result (λ done. MatchBool done
             (written_anew (with_more items.now (list_of (form_bytes self.old))) ≡ Ok (form_bytes self.new))
             (form_bytes self.new ≡ form_bytes self.old)) }
-        ensures too_long { IfErr result (λ fault. fault ≢ TextFault.NoMemory → written_anew (with_more items.now (list_of (form_bytes self.old))) ≡ Err EditFault.TooLong) }
+        ensures too_long { IfErr result (λ fault. fault ≢ TextFault.NoMemory
+            → written_anew (with_more items.now (list_of (form_bytes self.old))) ≡ Err EditFault.TooLong) }
         ensures err { OnErr result (form_bytes self.new ≡ form_bytes self.old) }
         ensures short { length (form_bytes self.new) ≤ most_bytes }
     {
@@ -234,7 +236,7 @@ impl Text {
         ensures { IfOk result (λ text. text ≡ bounded characters.now) }
     {
         if characters.len() > MAX_BYTES {
-            return Text::of_short(alloc, "limit reached: value");
+            return limit(alloc);
         }
         Text::of_short(alloc, characters)
     }
@@ -346,7 +348,8 @@ impl Text {
         ensures ok { IfOk result (λ done. MatchBool done
             (written_anew (with_more items.now (list_of self.old)) ≡ Ok self.new)
             (self.new ≡ self.old)) }
-        ensures too_long { IfErr result (λ fault. fault ≢ TextFault.NoMemory → written_anew (with_more items.now (list_of self.old)) ≡ Err EditFault.TooLong) }
+        ensures too_long { IfErr result (λ fault. fault ≢ TextFault.NoMemory
+            → written_anew (with_more items.now (list_of self.old)) ≡ Err EditFault.TooLong) }
         ensures err { OnErr result (self.new ≡ self.old) }
     {
         self.form.push_items(alloc, items)

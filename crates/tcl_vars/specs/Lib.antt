@@ -9,5 +9,6 @@ pub mod Shown
 pub mod Sound
 pub mod Store
 pub mod Table
+pub mod Texts
 pub mod Unset
 pub mod Way

@@ -240,7 +240,8 @@ content_without None element = Err unsets.NoVariable
 content_without (Some (Scalar text)) None = Ok None
 content_without (Some (Scalar text)) (Some index) = Err unsets.NotArray
 content_without (Some (Array elements)) None = Ok None
-content_without (Some (Array elements)) (Some index) = if is_some (value_at elements index) then Ok (Some (Array (without elements index))) else Err unsets.NoElement
+content_without (Some (Array elements)) (Some index) =
+    if is_some (value_at elements index) then Ok (Some (Array (without elements index))) else Err unsets.NoElement
 content_without (Some (Link level name)) element = Err unsets.NoVariable
 
 -- the frame in which this is left of the content of a variable

@@ -8,8 +8,11 @@ mod frame;
 mod name;
 mod scopes;
 mod table;
+mod texts;
 
 pub use content::Content;
 pub use fault::{ChangeFault, LinkFault, ReadFault, SetFault, UnsetFault};
+pub use name::element_of;
 pub use scopes::Scopes;
 pub use table::Table;
+pub use texts::element_name;

@@ -477,7 +477,8 @@ impl Scopes {
         requires level { place.level < length self.old }
         requires short { IsShortPlace (shown place) }
         ensures ok { OnOk result (ChangesAt self.old (end_of self.old (shown place.entry)) edit.entry self.new) }
-        ensures refused { IfErr result (λ fault. fault ≢ ChangeFault.NoMemory → changed_by edit.entry (text_at self.old (end_of self.old (shown place.entry))) ≡ Err fault) }
+        ensures refused { IfErr result (λ fault. fault ≢ ChangeFault.NoMemory
+            → changed_by edit.entry (text_at self.old (end_of self.old (shown place.entry))) ≡ Err fault) }
         ensures err { OnErr result (self.new ≡ self.old) }
     {
         let _ = &self.frames;
@@ -494,7 +495,8 @@ impl Scopes {
         requires level { place.level < length self.old }
         requires short { IsShortPlace (shown place) }
         ensures ok { OnOk result (ChangesAt self.old (end_of self.old (shown place.entry)) edit.entry self.new) }
-        ensures refused { IfErr result (λ fault. fault ≢ ChangeFault.NoMemory → changed_by edit.entry (text_at self.old (end_of self.old (shown place.entry))) ≡ Err fault) }
+        ensures refused { IfErr result (λ fault. fault ≢ ChangeFault.NoMemory
+            → changed_by edit.entry (text_at self.old (end_of self.old (shown place.entry))) ≡ Err fault) }
         ensures err { OnErr result (self.new ≡ self.old) }
     {
         let _ = &self.frames;

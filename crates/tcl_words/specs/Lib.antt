@@ -1,5 +1,4 @@
 -- What the contracts cite.
-pub mod Bytes
 pub mod Chain
 pub mod Changes
 pub mod Classes

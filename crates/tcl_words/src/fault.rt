@@ -1,5 +1,5 @@
-use std::alloc::{AllocError, AllocFailed};
-use tcl_text::TextFault;
+use std::alloc::{AllocError, AllocFailed, Global};
+use tcl_text::{Text, TextFault};
 use thiserror::Error;
 
 /// Why a text is no script (Tcl(n)).
@@ -32,7 +32,8 @@ pub enum ParseFault {
 }
 
 impl ParseFault {
-    ghost use Rattle.std.specs.Prelude.{◌≡◌};
+    ghost use Rattle.std.specs.Prelude.{◌≡◌, IfOk};
+    ghost use Rattle.tcl_text.specs.Answers.{message};
     ghost use Rattle.tcl_words.specs.Faults.{number_of, text_of};
 
     /// Its number; none where memory was refused.
@@ -65,6 +66,14 @@ impl ParseFault {
             ParseFault::MissingParen => "missing )",
             ParseFault::NoMemory => "",
         }
+    }
+
+    /// The same as a text of its own.
+    #[tactic(auto, unfolding(tcl_text::specs::Answers::bounded))]
+    pub fn told(&self, alloc: Global) -> Result<Text, AllocError>
+        ensures { IfOk result (λ text. text ≡ message (text_of self.now)) }
+    {
+        Text::of_message(alloc, self.text())
     }
 }
 

@@ -3,7 +3,7 @@ ghost use Rattle.std.specs.Prelude.{◌≡◌, ◌++◌, string_bytes};
 ghost use Rattle.std.specs.Fmt.{decimal};
 ghost use Rattle.tcl_text.specs.Answers.{Gives, Refuses, answers, bounded, truth as truth_of, place as place_of, limit_text, quoted, wrong_args as wrong_args_of, bad_option as bad_option_of, bad_index as bad_index_of, expected_integer};
 
-use crate::message::{quoting, with_quoted};
+use crate::message::{limit, quoting, with_quoted};
 use crate::text::{Text, TextFault};
 use itoa::Buffer;
 use std::alloc::{AllocError, AllocFailed, Global};
@@ -110,9 +110,9 @@ pub fn truth_answer(alloc: Global, truth: bool) -> Result<Text, Refusal>
 pub fn limit_reached(alloc: Global) -> Refusal
     ensures { Refuses result limit_text }
 {
-    match Text::new(alloc, "limit reached: value") {
+    match limit(alloc) {
         Ok(text) => Refusal::Error(text),
-        Err(_) => Refusal::NoMemory,
+        Err(AllocError) => Refusal::NoMemory,
     }
 }
 

@@ -8,7 +8,7 @@ ghost use Rattle.tcl_text.specs.Indices.{part};
 ghost use Rattle.tcl_text.specs.StringCommands as spec;
 ghost use Rattle.tcl_text.specs.StringSteps.{reach, with_word};
 
-use crate::characters::{character_count, split_characters, trimmed};
+use crate::characters::{self, split_characters, trimmed};
 use crate::commands::answers::{
     Refusal, bad_option, decimal_answer, limit_reached, place_answer, string_answer, text_answer,
     truth_answer, wrong_args,
@@ -21,7 +21,7 @@ use std::alloc::{AllocError, Global};
 use std::cmp::Ordering;
 
 /// A command of `string`.
-#[derive(Clone, Copy, Debug, PartialEq, Eq)]
+#[derive(Clone, Copy)]
 pub enum StringCommand {
     Length,
     Index,
@@ -40,7 +40,7 @@ fn string_length(alloc: Global, words: &[Text]) -> Result<Text, Refusal>
     ensures { Gives result (spec.string_length words.now) }
 {
     match words {
-        [text] => decimal_answer(alloc, character_count(text.as_str())),
+        [text] => decimal_answer(alloc, characters::count(text.as_str())),
         _ => wrong_args(alloc, "string length s"),
     }
 }
@@ -78,7 +78,7 @@ fn characters_in(text: &str, first: Index, last: Index) -> &str
     if let Some(front) = ascii_front(text, first, last) {
         return bytes_in(front, first, last);
     }
-    let count = character_count(text);
+    let count = characters::count(text);
     let (front, _behind) = split_characters(text, last.through(count));
     let (_before, part) = split_characters(front, first.before(count));
     part
@@ -204,7 +204,7 @@ fn characters_before(needle: &str, text: &str) -> Option<usize>
     }
     let place = find_text(text, needle)?;
     let (before, _from) = text.split_at(place);
-    Some(character_count(before))
+    Some(characters::count(before))
 }
 
 /// The byte at which the needle first stands in the text.

@@ -155,11 +155,7 @@ fn string_tolower(alloc: Global, words: &[Text]) -> Result<Text, Refusal>
     ensures { Gives result (spec.string_tolower words.now) }
 {
     match words {
-        [text] => {
-            let mut string = String::from_str(alloc, text.as_str())?;
-            string.make_ascii_lowercase();
-            string_answer(alloc, string)
-        }
+        [text] => string_answer(alloc, text.as_str().to_ascii_lowercase(alloc)?),
         _ => wrong_args(alloc, "string tolower s"),
     }
 }
@@ -168,11 +164,7 @@ fn string_toupper(alloc: Global, words: &[Text]) -> Result<Text, Refusal>
     ensures { Gives result (spec.string_toupper words.now) }
 {
     match words {
-        [text] => {
-            let mut string = String::from_str(alloc, text.as_str())?;
-            string.make_ascii_uppercase();
-            string_answer(alloc, string)
-        }
+        [text] => string_answer(alloc, text.as_str().to_ascii_uppercase(alloc)?),
         _ => wrong_args(alloc, "string toupper s"),
     }
 }

@@ -1,11 +1,11 @@
 //! The command of split(n).
-ghost use Rattle.std.specs.Prelude.{◌≡◌, ◌≤◌, ◌<◌, ◌++◌, ◌∷◌, [], length, map, option_map, IfOk, IfSome, OnOk};
+ghost use Rattle.std.specs.Prelude.{◌≡◌, ◌≤◌, ◌<◌, ◌++◌, ◌∷◌, [], length, IfOk, IfSome, OnOk};
 ghost use Rattle.std.specs.Option.{option_copied};
 ghost use Rattle.std.specs.Str.{chars, encode_utf8_all};
 ghost use Rattle.memchr.specs.Find.{IsFirstByte, is_byte};
 ghost use Rattle.tcl_text.specs.Answers.{Gives};
 ghost use Rattle.tcl_text.specs.ListCommands as spec;
-ghost use Rattle.tcl_text.specs.ListSteps.{cut_once};
+ghost use Rattle.tcl_text.specs.ListSteps.{CutsOnce};
 ghost use Rattle.tcl_text.specs.Limits.{most_bytes};
 
 use crate::characters::split_first_char;
@@ -83,9 +83,7 @@ fn pieces_of(alloc: Global, text: &str, separators: &str) -> Result<Vec<Text>, A
 
 /// The text up to its first separator, and what follows that, if it has one.
 fn cut_piece<'t>(text: &'t str, separators: &str) -> (&'t str, Option<&'t str>)
-    ensures cut { spec.cut_at (spec.is_one_of (chars separators.now)) (chars text.now)
-        ≡ cut_once (spec.is_one_of (chars separators.now)) (chars result.0.now)
-        (option_map chars (option_copied result.1)) }
+    ensures cut { CutsOnce (spec.is_one_of (chars separators.now)) text.now result.0.now (option_copied result.1) }
     ensures short { length result.0.now ≤ length text.now }
     ensures shorter { IfSome result.1 (λ rest. length rest.now < length text.now) }
 {
@@ -100,9 +98,7 @@ fn cut_piece<'t>(text: &'t str, separators: &str) -> (&'t str, Option<&'t str>)
 /// The same for one separator that is a byte.
 fn cut_at_byte(text: &str, separator: u8) -> (&str, Option<&str>)
     requires { separator < 128 }
-    ensures cut { spec.cut_at (spec.is_one_of (separator ∷ [])) (chars text.now)
-        ≡ cut_once (spec.is_one_of (separator ∷ [])) (chars result.0.now)
-        (option_map chars (option_copied result.1)) }
+    ensures cut { CutsOnce (spec.is_one_of (separator ∷ [])) text.now result.0.now (option_copied result.1) }
     ensures short { length result.0.now ≤ length text.now }
     ensures shorter { IfSome result.1 (λ rest. length rest.now < length text.now) }
 {
@@ -121,9 +117,7 @@ fn find_byte(text: &str, byte: u8) -> Option<usize>
 
 /// The same for any separators, by the characters one after another.
 fn cut_at_character<'t>(text: &'t str, separators: &str) -> (&'t str, Option<&'t str>)
-    ensures cut { spec.cut_at (spec.is_one_of (chars separators.now)) (chars text.now)
-        ≡ cut_once (spec.is_one_of (chars separators.now)) (chars result.0.now)
-        (option_map chars (option_copied result.1)) }
+    ensures cut { CutsOnce (spec.is_one_of (chars separators.now)) text.now result.0.now (option_copied result.1) }
     ensures short { length result.0.now ≤ length text.now }
     ensures shorter { IfSome result.1 (λ rest. length rest.now < length text.now) }
 {

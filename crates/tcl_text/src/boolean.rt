@@ -3,26 +3,9 @@ ghost use Rattle.std.specs.Result.{result_ok};
 ghost use Rattle.tcl_text.specs.Bytes.{letter_o};
 ghost use Rattle.tcl_text.specs.Readings as readings;
 
+use crate::fault::NotBoolean;
 use crate::integer::integer_of_text;
 use crate::text::Text;
-use thiserror::Error;
-
-/// The text is no boolean (2).
-#[derive(Clone, Copy, Debug, PartialEq, Eq, Drop, Error)]
-#[error("expected boolean value")]
-pub struct NotBoolean;
-
-impl NotBoolean {
-    ghost use Rattle.std.specs.Prelude.{◌≡◌};
-    ghost use Rattle.tcl_text.specs.Faults.{not_boolean_number};
-
-    /// Its number.
-    pub fn number(&self) -> u32
-        ensures { result ≡ not_boolean_number }
-    {
-        2
-    }
-}
 
 impl Text {
     /// The boolean that the text is, as Tcl_GetBoolean(3) reads one: an integer, of which 0 is false, or in any case of its

@@ -7,7 +7,8 @@ ghost use Rattle.tcl_text.specs.Limits.{most_bytes};
 ghost use Rattle.tcl_text.specs.Readings.{skip_white};
 ghost use Rattle.tcl_text.specs.StringCommands.{drop_white_end, trimmed as trimmed_of};
 
-use crate::text::{Text, TextFault};
+use crate::fault::TextFault;
+use crate::text::Text;
 use std::alloc::Global;
 
 /// The first character, and what follows it.

@@ -6,9 +6,10 @@ ghost use Rattle.tcl_text.specs.Readings.{element_form, list_form};
 ghost use Rattle.tcl_text.specs.Bytes.{space};
 ghost use Rattle.tcl_text.specs.Limits.{most_bytes, most_string};
 
+use crate::fault::TextFault;
 use crate::list_form::push_element;
 use crate::splitting::first_element;
-use crate::text::{MAX_BYTES, Text, TextFault};
+use crate::text::{MAX_BYTES, Text};
 use std::alloc::{AllocError, Global};
 use std::marker::Model;
 use std::rc::Rc;

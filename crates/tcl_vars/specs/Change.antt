@@ -2,12 +2,12 @@
 use Rattle.std.specs.Prelude.{◌≡◌, ◌≢◌, ℕ, List, Option, None, Some, Result, Ok, Err}
 use Rattle.tcl_text.specs.Edit.{edited}
 use Rattle.tcl_text.specs.declared.edit.Edit.{Edit}
-use Rattle.tcl_text.specs.declared.edit.EditFault.{EditFault}
-use Rattle.tcl_text.specs.declared.edit.EditFault.TheVariants as edits
+use Rattle.tcl_text.specs.declared.fault.EditFault.{EditFault}
+use Rattle.tcl_text.specs.declared.fault.EditFault.TheVariants as edits
 use Rattle.tcl_vars.specs.declared.content.Content.{Content}
-use Rattle.tcl_vars.specs.declared.fault.ReadFault.{ReadFault}
-use Rattle.tcl_vars.specs.declared.fault.ChangeFault.{ChangeFault}
-use Rattle.tcl_vars.specs.declared.fault.ChangeFault.TheVariants.{Unread, TooLong, BadList, NoMemory}
+use Rattle.tcl_text.specs.declared.fault.ReadFault.{ReadFault}
+use Rattle.tcl_text.specs.declared.fault.ChangeFault.{ChangeFault}
+use Rattle.tcl_text.specs.declared.fault.ChangeFault.TheVariants.{Unread, TooLong, BadList, NoMemory}
 use Rattle.tcl_vars.specs.Name.{Place}
 use Rattle.tcl_vars.specs.Put.{PutsContent, PutsText, Sets}
 use Rattle.tcl_vars.specs.Store.{Store, Frame, content_at, link_of, text_at, text_of, variable_in, with_text_at, with_variable}

@@ -1,8 +1,8 @@
 -- Meaning. What setting a text does in one content and in one frame, with room for so many more variables.
 use Rattle.std.specs.Prelude.{◌≡◌, ◌≢◌, ℕ, ◌+◌, ◌<◌, ◌≤◌, List, Option, None, Some, Ok, Result, MatchResult}
 use Rattle.tcl_vars.specs.declared.content.Content.{Content}
-use Rattle.tcl_vars.specs.declared.fault.SetFault.{SetFault}
-use Rattle.tcl_vars.specs.declared.fault.SetFault.TheVariants.{Full}
+use Rattle.tcl_text.specs.declared.fault.SetFault.{SetFault}
+use Rattle.tcl_text.specs.declared.fault.SetFault.TheVariants.{Full}
 use Rattle.tcl_vars.specs.declared.content.Outcome.{Outcome}
 use Rattle.tcl_vars.specs.declared.content.Outcome.TheVariants.{Added, Linked}
 use Rattle.tcl_vars.specs.Name.{Place}

@@ -10,11 +10,10 @@ ghost use Rattle.tcl_vars.specs.Table.{value_at, with_value, weight_of};
 ghost use Rattle.tcl_text.specs.Limits.{most_variables};
 
 use crate::content::{Content, Outcome, Removal};
-use crate::fault::{ChangeFault, ReadFault, SetFault, UnsetFault};
 use crate::name::Place;
 use crate::table::Table;
 use std::alloc::{AllocError, Global};
-use tcl_text::{Edit, Text};
+use tcl_text::{ChangeFault, Edit, ReadFault, SetFault, Text, UnsetFault};
 
 /// The names of one frame, in the order in which they came.
 pub(crate) type Frame = Table<Content>;

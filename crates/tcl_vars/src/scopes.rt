@@ -15,7 +15,6 @@ use crate::arrays::{names_of, pairs_of};
 use crate::content::{
     Content, Outcome, array_state, elements_of, holds_value, is_there, link_of, text_of,
 };
-use crate::fault::{ChangeFault, LinkFault, ReadFault, SetFault, UnsetFault};
 use crate::frame::{Frame, change, give, put, unset, variable_count};
 use crate::name::{
     OwnPlace, Place, element_place, is_given, is_plain, place_of, place_of_text, variable_place,
@@ -23,7 +22,7 @@ use crate::name::{
 use crate::table::Table;
 use std::alloc::{AllocError, Global};
 use std::marker::Model;
-use tcl_text::{Edit, Text, TextList};
+use tcl_text::{ChangeFault, Edit, LinkFault, ReadFault, SetFault, Text, TextList, UnsetFault};
 
 /// How many variables there are at most: every name of every frame counts, and every element of an array.
 pub const MAX_VARIABLES: usize = 4096;

@@ -9,7 +9,6 @@ ghost use Rattle.tcl_words.specs.Chain.{own, opened as opened_origin, IsReading}
 ghost use Rattle.tcl_words.specs.Operands.{opened_of, bracket_of, substitution_of, quoted_of, quoted_rest, outer, IsReadAs, EndsAt, GoesOn};
 ghost use Rattle.tcl_text.specs.Limits.{most_bytes, most_nested};
 
-use crate::fault::ParseFault;
 use crate::kind::{BytePlace, Dollar, Kind, Mode, Opener, Step};
 use crate::nesting::{Origin, Reader};
 use crate::open::{Open, text_of};
@@ -17,6 +16,7 @@ use crate::read::{dollar_at, look, read_text, unfinished};
 use crate::reader::{opened, piece_of};
 use crate::script::{Piece, Pieces};
 use std::alloc::Global;
+use tcl_text::ParseFault;
 
 /// How what an opener at a place opens begins, where so many may be opened in one another.
 fn opened_at(at: usize, opener: Opener, room: usize) -> Origin

@@ -2,9 +2,11 @@
 ghost use Rattle.std.specs.Prelude.{◌≡◌, ◌++◌, string_bytes};
 ghost use Rattle.std.specs.Fmt.{decimal};
 ghost use Rattle.tcl_text.specs.Answers.{Gives, Refuses, answers, bounded, truth as truth_of, place as place_of, limit_text, quoted, wrong_args as wrong_args_of, bad_option as bad_option_of, bad_index as bad_index_of, expected_integer};
+ghost use Rattle.tcl_text.specs.declared.commands.answers.Refusal.TheVariants as refusal;
 
+use crate::fault::TextFault;
 use crate::message::{limit, quoting, with_quoted};
-use crate::text::{Text, TextFault};
+use crate::text::Text;
 use itoa::Buffer;
 use std::alloc::{AllocError, AllocFailed, Global};
 
@@ -18,10 +20,7 @@ pub enum Refusal {
 }
 
 impl From<AllocError> for Refusal {
-    ghost use Rattle.std.specs.Prelude.{◌≡◌};
-    ghost use Rattle.tcl_text.specs.declared.commands.answers.Refusal.TheVariants.{NoMemory};
-
-    ghost from_gives = { λ _ e. e ≡ NoMemory };
+    ghost from_gives = { λ _ e. e ≡ refusal.NoMemory };
 
     fn from(_refused: AllocError) -> Refusal {
         Refusal::NoMemory
@@ -29,10 +28,7 @@ impl From<AllocError> for Refusal {
 }
 
 impl<T: Drop> From<AllocFailed<T>> for Refusal {
-    ghost use Rattle.std.specs.Prelude.{◌≡◌};
-    ghost use Rattle.tcl_text.specs.declared.commands.answers.Refusal.TheVariants.{NoMemory};
-
-    ghost from_gives = { λ _ e. e ≡ NoMemory };
+    ghost from_gives = { λ _ e. e ≡ refusal.NoMemory };
 
     fn from(_refused: AllocFailed<T>) -> Refusal {
         Refusal::NoMemory

@@ -4,9 +4,9 @@ ghost use Rattle.tcl_text.specs.Answers.{Gives, answers, items_in as items_of};
 ghost use Rattle.tcl_text.specs.Readings.{list_form};
 
 use crate::commands::answers::{Refusal, error, limit_reached};
+use crate::fault::{SplitFault, TextFault};
 use crate::list::TextList;
-use crate::splitting::SplitFault;
-use crate::text::{Text, TextFault};
+use crate::text::Text;
 use std::alloc::Global;
 
 /// The items of the list that a word is, or the error that it is none (3).

@@ -13,8 +13,9 @@ use crate::commands::answers::{
 };
 use crate::commands::indices::{Index, index_in};
 use crate::commands::items::{items_in, list_answer};
+use crate::fault::TextFault;
 use crate::list_string::ListString;
-use crate::text::{Text, TextFault};
+use crate::text::Text;
 use std::alloc::{AllocError, Global};
 
 /// `list ?value ..?`: the list of the words.

@@ -14,5 +14,5 @@ returns-in_err-commands-clause-fault c =
 
 pub new-requires-2 : goal.new-requires-2
 new-requires-2 c =
-    ap commands_of (c.in_ok-text.ensures.ok ∙ c.in-Ok.ensures.cases.0)
+    ap commands_of (c.in_ok-text.ensures ∙ c.in-Ok.ensures.cases.0)
     ∙ commands_of-parsed c.in-Ok.text.now c.args.source.now _ c.in-Ok.ensures.cases.0 c.if-source-gt-MAX_BYTES.false c.in-Ok.ensures.cases.1 c.in_ok-commands.ensures.commands

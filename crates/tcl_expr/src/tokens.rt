@@ -1,12 +1,11 @@
 //! What stands in front of a text where an operand or an operator is due.
 ghost use Rattle.std.specs.Prelude.{◌≡◌, ◌≢◌, ◌≤◌, ◌<◌, ◌+◌, ◌^◌, length, IfOk, IfSome};
-ghost use Rattle.std.specs.Char as chars;
-ghost use Rattle.tcl_text.specs.Readings as readings;
 ghost use Rattle.tcl_expr.specs.Counts as counts;
 ghost use Rattle.tcl_expr.specs.Tokens as tokens;
 
 use crate::fault::ExprFault;
 use crate::operators::{ArithmeticOperator, BinaryOperator, Comparison, Infix, TextOperator};
+use tcl_text::{base_named, digit_value};
 
 /// What a byte can begin.
 #[derive(Clone, Copy, Drop)]
@@ -256,18 +255,6 @@ pub fn link_at(text: &[u8]) -> Option<(Link, usize)>
     }
 }
 
-/// The value of a digit or letter, from 0 to 35, and 36 for another byte.
-fn digit_value(byte: u8) -> u8
-    ensures { result ≡ chars.digit_value byte }
-{
-    match byte {
-        b'0'..=b'9' => byte - b'0',
-        b'A'..=b'Z' => byte - b'A' + 10,
-        b'a'..=b'z' => byte - b'a' + 10,
-        _ => 36,
-    }
-}
-
 /// How many digits of a base stand in front.
 fn digits(base: u8, text: &[u8]) -> usize
     ensures count { result ≡ counts.digits base text.now }
@@ -279,17 +266,6 @@ fn digits(base: u8, text: &[u8]) -> usize
         }
     }
     text.len()
-}
-
-fn base_named(letter: u8) -> Option<u8>
-    ensures { result ≡ readings.base_named letter }
-{
-    match letter {
-        b'x' | b'X' => Some(16),
-        b'o' | b'O' => Some(8),
-        b'b' | b'B' => Some(2),
-        _ => None,
-    }
 }
 
 /// How long a number is, from the 0 that it begins with on: a base's letter needs a digit of the base behind it.

@@ -9,7 +9,7 @@ use crate::backslash::{Meaning, escape_behind};
 use crate::fault::{ListFault, SplitFault};
 use crate::list::TextList;
 use crate::text::Text;
-use crate::white_space::{is_white, skip_white};
+use crate::white_space::{behind_white, is_white};
 use std::alloc::{AllocError, Global};
 
 /// What a byte is to the form of a list.
@@ -224,25 +224,17 @@ pub fn first_element(alloc: Global, text: &str) -> Result<(Text, &str), SplitFau
     }
 }
 
-/// The text behind the white space in front.
-fn trimmed(text: &str) -> &str
-    ensures { result.now ≡ readings.skip_white text.now }
-{
-    let behind = skip_white(text.as_bytes());
-    &text[text.len() - behind.len()..]
-}
-
 /// The items of the list that the text is.
 pub fn items_of(alloc: Global, text: &str) -> Result<TextList, SplitFault>
     requires { length text.now ≤ most_bytes }
     ensures { Splits result (readings.list_of text.now) }
 {
     let mut items = TextList::new(alloc);
-    let mut rest = trimmed(text);
+    let mut rest = behind_white(text);
     while !rest.is_empty() {
         let (item, behind) = first_element(alloc, rest)?;
         items.push(item)?;
-        rest = trimmed(behind);
+        rest = behind_white(behind);
     }
     Ok(items)
 }

@@ -62,22 +62,24 @@ fn push_items(alloc: Global, text: &mut Text, items: &[Text]) -> Result<(), Edit
 {
     match text.push_items(alloc, items) {
         Ok(true) => Ok(()),
-        Ok(false) => push_anew(alloc, text, items),
+        Ok(false) => {
+            *text = written_anew(alloc, text, items)?;
+            Ok(())
+        }
         Err(TextFault::TooLong) => Err(EditFault::TooLong),
         Err(TextFault::NoMemory) => Err(EditFault::NoMemory),
     }
 }
 
-// Adds items to the list that a text is, which is read.
+// The list that a text is, which is read, with more items behind it.
 #[tactic(auto, using(crate::proofs::EditLemmas::anew))]
-fn push_anew(alloc: Global, text: &mut Text, items: &[Text]) -> Result<(), EditFault>
-    ensures ok { OnOk result (written_anew (with_more items.now (list_of text.old)) ≡ Ok text.new) }
-    ensures refused { IfErr result (λ fault. fault ≢ EditFault.NoMemory → written_anew (with_more items.now (list_of text.old)) ≡ Err fault) }
-    ensures err { OnErr result (text.new ≡ text.old) }
+fn written_anew(alloc: Global, text: &Text, items: &[Text]) -> Result<Text, EditFault>
+    ensures ok { IfOk result (λ written. written_anew (with_more items.now (list_of text.now)) ≡ Ok written) }
+    ensures refused { IfErr result (λ fault. fault ≢ EditFault.NoMemory → written_anew (with_more items.now (list_of text.now)) ≡ Err fault) }
 {
     let all = with_more(alloc, text, items)?;
-    *text = list_text(alloc, all.as_slice())?;
-    Ok(())
+    let written = list_text(alloc, all.as_slice())?;
+    Ok(written)
 }
 
 // The items of the list that a text is, with more behind them.

@@ -16,4 +16,5 @@ returns-then-width-gt-MAX_STRING-clause-too_long c = λ _.
 pub push-requires : goal.push-requires
 push-requires c =
     let held : length (others_form c.as_ref.result.now) ≡ length (others_form c.args.list.now.value) = ap (λ (t : List (List ℕ)). length (others_form t)) c.as_ref.ensures in
-    omega (arith, held)
+    let alone : length (others_form c.in-Some.alone.now) ≡ length (others_form c.args.list.now.value) = ap (λ (t : List (List ℕ)). length (others_form t)) c.in-Some.ensures.value in
+    omega (arith, held, alone)

@@ -10,7 +10,7 @@ ghost use Rattle.tcl_text.specs.StringSteps.{reach, with_word};
 
 use crate::characters::{self, split_characters, trimmed};
 use crate::commands::answers::{
-    Refusal, bad_option, decimal_answer, limit_reached, place_answer, string_answer, text_answer,
+    Step, bad_option, decimal_answer, limit_reached, place_answer, string_answer, text_answer,
     truth_answer, wrong_args,
 };
 use crate::commands::indices::{Index, index_in};
@@ -36,7 +36,7 @@ pub enum StringCommand {
     Trim,
 }
 
-fn string_length(alloc: Global, words: &[Text]) -> Result<Text, Refusal>
+fn string_length(alloc: Global, words: &[Text]) -> Step
     ensures { Gives result (spec.string_length words.now) }
 {
     match words {
@@ -45,7 +45,7 @@ fn string_length(alloc: Global, words: &[Text]) -> Result<Text, Refusal>
     }
 }
 
-fn string_index(alloc: Global, words: &[Text]) -> Result<Text, Refusal>
+fn string_index(alloc: Global, words: &[Text]) -> Step
     ensures { Gives result (spec.string_index words.now) }
 {
     match words {
@@ -57,7 +57,7 @@ fn string_index(alloc: Global, words: &[Text]) -> Result<Text, Refusal>
     }
 }
 
-fn string_range(alloc: Global, words: &[Text]) -> Result<Text, Refusal>
+fn string_range(alloc: Global, words: &[Text]) -> Step
     ensures { Gives result (spec.string_range words.now) }
 {
     match words {
@@ -114,7 +114,7 @@ fn bytes_in(text: &str, first: Index, last: Index) -> &str
     &text[start..end]
 }
 
-fn string_compare(alloc: Global, words: &[Text]) -> Result<Text, Refusal>
+fn string_compare(alloc: Global, words: &[Text]) -> Step
     ensures { Gives result (spec.string_compare words.now) }
 {
     match words {
@@ -133,7 +133,7 @@ fn sign_of(ordering: Ordering) -> &'static str
     }
 }
 
-fn string_equal(alloc: Global, words: &[Text]) -> Result<Text, Refusal>
+fn string_equal(alloc: Global, words: &[Text]) -> Step
     ensures { Gives result (spec.string_equal words.now) }
 {
     match words {
@@ -142,7 +142,7 @@ fn string_equal(alloc: Global, words: &[Text]) -> Result<Text, Refusal>
     }
 }
 
-fn string_match(alloc: Global, words: &[Text]) -> Result<Text, Refusal>
+fn string_match(alloc: Global, words: &[Text]) -> Step
     ensures { Gives result (spec.string_match words.now) }
 {
     match words {
@@ -151,7 +151,7 @@ fn string_match(alloc: Global, words: &[Text]) -> Result<Text, Refusal>
     }
 }
 
-fn string_tolower(alloc: Global, words: &[Text]) -> Result<Text, Refusal>
+fn string_tolower(alloc: Global, words: &[Text]) -> Step
     ensures { Gives result (spec.string_tolower words.now) }
 {
     match words {
@@ -160,7 +160,7 @@ fn string_tolower(alloc: Global, words: &[Text]) -> Result<Text, Refusal>
     }
 }
 
-fn string_toupper(alloc: Global, words: &[Text]) -> Result<Text, Refusal>
+fn string_toupper(alloc: Global, words: &[Text]) -> Step
     ensures { Gives result (spec.string_toupper words.now) }
 {
     match words {
@@ -169,7 +169,7 @@ fn string_toupper(alloc: Global, words: &[Text]) -> Result<Text, Refusal>
     }
 }
 
-fn string_trim(alloc: Global, words: &[Text]) -> Result<Text, Refusal>
+fn string_trim(alloc: Global, words: &[Text]) -> Step
     ensures { Gives result (spec.string_trim words.now) }
 {
     match words {
@@ -178,7 +178,7 @@ fn string_trim(alloc: Global, words: &[Text]) -> Result<Text, Refusal>
     }
 }
 
-fn string_first(alloc: Global, words: &[Text]) -> Result<Text, Refusal>
+fn string_first(alloc: Global, words: &[Text]) -> Step
     ensures { Gives result (spec.string_first words.now) }
 {
     match words {
@@ -206,7 +206,7 @@ fn find_text(text: &str, needle: &str) -> Option<usize>
     memmem::find(text.as_bytes(), needle.as_bytes())
 }
 
-fn string_repeat(alloc: Global, words: &[Text]) -> Result<Text, Refusal>
+fn string_repeat(alloc: Global, words: &[Text]) -> Step
     ensures { Gives result (spec.string_repeat words.now) }
 {
     match words {
@@ -220,7 +220,7 @@ fn string_repeat(alloc: Global, words: &[Text]) -> Result<Text, Refusal>
 
 /// So many copies of a text, one after another.
 #[tactic(auto, using(crate::proofs::StringLemmas::repeats))]
-fn repeated(alloc: Global, text: &str, count: u64) -> Result<Text, Refusal>
+fn repeated(alloc: Global, text: &str, count: u64) -> Step
     ensures { Gives result (answers (concat (replicate count text.now))) }
 {
     if text.is_empty() {
@@ -245,7 +245,7 @@ fn copies(alloc: Global, text: &str, count: u64) -> Result<String, AllocError>
 
 /// `concat ?arg ..?`: the words without white space around them, those that aren't empty, with a
 /// blank between each two.
-pub fn concat_words(alloc: Global, words: &[Text]) -> Result<Text, Refusal>
+pub fn concat_words(alloc: Global, words: &[Text]) -> Step
     ensures { Gives result (spec.concat_words words.now) }
 {
     if let [word] = words
@@ -303,7 +303,7 @@ fn string_command_named(name: &str) -> Option<StringCommand>
 }
 
 /// `string NAME ?arg ..?`: what the command of that name answers to the words after it.
-pub fn string_words(alloc: Global, words: &[Text]) -> Result<Text, Refusal>
+pub fn string_words(alloc: Global, words: &[Text]) -> Step
     ensures { Gives result (spec.string_words words.now) }
 {
     match words {
@@ -315,7 +315,7 @@ pub fn string_words(alloc: Global, words: &[Text]) -> Result<Text, Refusal>
     }
 }
 
-fn string_command(alloc: Global, command: StringCommand, words: &[Text]) -> Result<Text, Refusal>
+fn string_command(alloc: Global, command: StringCommand, words: &[Text]) -> Step
     ensures { Gives result (spec.string_command command words.now) }
 {
     match command {

@@ -120,6 +120,15 @@ pub record IsCut (parts : Parts) (source : List ℕ) (at : ℕ) : Type 0 where
   pub boundary : IsCharBoundary source parts.mark
   pub short : length parts.literal ≤ parts.mark
 
+-- the literal that is open may end at this position
+pub record MayEnd (parts : Parts) (source : List ℕ) (at : ℕ) : Type 0 where
+  pub ordered : parts.mark ≤ at
+  pub within : at ≤ length source
+  pub short : length source ≤ most_bytes
+  pub kept : length parts.literal ≤ parts.mark
+  pub begins : IsCharBoundary source parts.mark
+  pub ends : IsCharBoundary source at
+
 -- `{*}` stands before this position
 pub record IsExpansion (source : List ℕ) (at : ℕ) : Type 0 where
   pub three : 3 ≤ at

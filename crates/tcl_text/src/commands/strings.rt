@@ -20,22 +20,6 @@ use memchr::memmem;
 use std::alloc::{AllocError, Global};
 use std::cmp::Ordering;
 
-/// A command of `string`.
-#[derive(Clone, Copy)]
-pub enum StringCommand {
-    Length,
-    Index,
-    Range,
-    Compare,
-    Equal,
-    Match,
-    First,
-    Repeat,
-    ToLower,
-    ToUpper,
-    Trim,
-}
-
 fn string_length(alloc: Global, words: &[Text]) -> Step
     ensures { Gives result (spec.string_length words.now) }
 {
@@ -281,54 +265,32 @@ fn push_word(string: &mut String, word: &str) -> Result<(), AllocError>
     Ok(())
 }
 
-/// The command of `string` with this name.
-#[tactic(auto, unfolding(crate::specs::StringCommands::string_command_named))]
-fn string_command_named(name: &str) -> Option<StringCommand>
-    ensures { result ≡ spec.string_command_named name.now }
-{
-    match name {
-        "length" => Some(StringCommand::Length),
-        "index" => Some(StringCommand::Index),
-        "range" => Some(StringCommand::Range),
-        "compare" => Some(StringCommand::Compare),
-        "equal" => Some(StringCommand::Equal),
-        "match" => Some(StringCommand::Match),
-        "first" => Some(StringCommand::First),
-        "repeat" => Some(StringCommand::Repeat),
-        "tolower" => Some(StringCommand::ToLower),
-        "toupper" => Some(StringCommand::ToUpper),
-        "trim" => Some(StringCommand::Trim),
-        _ => None,
-    }
-}
-
 /// `string NAME ?arg ..?`: what the command of that name answers to the words after it.
 pub fn string_words(alloc: Global, words: &[Text]) -> Step
     ensures { Gives result (spec.string_words words.now) }
 {
     match words {
-        [name, arguments @ ..] => match string_command_named(name.as_str()) {
-            Some(command) => string_command(alloc, command, arguments),
-            None => bad_option(alloc, name),
-        },
+        [name, arguments @ ..] => string_named(alloc, name, arguments),
         [] => wrong_args(alloc, "string option ?arg ..?"),
     }
 }
 
-fn string_command(alloc: Global, command: StringCommand, words: &[Text]) -> Step
-    ensures { Gives result (spec.string_command command words.now) }
+#[tactic(auto, unfolding(crate::specs::StringCommands::string_named))]
+fn string_named(alloc: Global, name: &Text, words: &[Text]) -> Step
+    ensures { Gives result (spec.string_named name.now words.now) }
 {
-    match command {
-        StringCommand::Length => string_length(alloc, words),
-        StringCommand::Index => string_index(alloc, words),
-        StringCommand::Range => string_range(alloc, words),
-        StringCommand::Compare => string_compare(alloc, words),
-        StringCommand::Equal => string_equal(alloc, words),
-        StringCommand::Match => string_match(alloc, words),
-        StringCommand::First => string_first(alloc, words),
-        StringCommand::Repeat => string_repeat(alloc, words),
-        StringCommand::ToLower => string_tolower(alloc, words),
-        StringCommand::ToUpper => string_toupper(alloc, words),
-        StringCommand::Trim => string_trim(alloc, words),
+    match name.as_str() {
+        "length" => string_length(alloc, words),
+        "index" => string_index(alloc, words),
+        "range" => string_range(alloc, words),
+        "compare" => string_compare(alloc, words),
+        "equal" => string_equal(alloc, words),
+        "match" => string_match(alloc, words),
+        "first" => string_first(alloc, words),
+        "repeat" => string_repeat(alloc, words),
+        "tolower" => string_tolower(alloc, words),
+        "toupper" => string_toupper(alloc, words),
+        "trim" => string_trim(alloc, words),
+        _ => bad_option(alloc, name),
     }
 }

@@ -56,13 +56,7 @@ fn read_inside(alloc: Global, source: &str, first: Origin) -> Result<(Open, usiz
 }
 
 /// What an opener at a place opens.
-fn read_opened(
-    alloc: Global,
-    source: &str,
-    at: usize,
-    opener: Opener,
-    room: usize,
-) -> Found<Piece>
+fn read_opened(alloc: Global, source: &str, at: usize, opener: Opener, room: usize) -> Found<Piece>
     requires short { length source.now ≤ most_bytes }
     requires within { at < length source.now }
     requires room { room ≤ most_nested }

@@ -8,8 +8,8 @@ ghost use Rattle.tcl_text.specs.ListCommands as spec;
 ghost use Rattle.tcl_text.specs.ListSteps.{behind};
 
 use crate::commands::answers::{
-    Refusal, Step, bad_option, copy_answer, decimal_answer, limit_reached, own_answer, place_answer,
-    string_answer, text_answer, wrong_args,
+    Refusal, Step, bad_option, copy_answer, decimal_answer, limit_reached, own_answer,
+    place_answer, string_answer, text_answer, wrong_args,
 };
 use crate::commands::indices::{Index, index_in};
 use crate::commands::items::{items_in, list_answer};
@@ -239,19 +239,17 @@ fn replace_kept(
 ) -> Step
     ensures { Gives result (spec.replaced first.now last.now values.now list.now) }
 {
-    let first = index_in(alloc, first)?;
-    let last = index_in(alloc, last)?;
-    let from = first.before(list.len());
-    splice_of_kept(alloc, list, from, from.max(last.through(list.len())), values)
+    let from = index_in(alloc, first)?.before(list.len());
+    let to = from.max(index_in(alloc, last)?.through(list.len()));
+    splice_of_kept(alloc, list, from, to, values)
 }
 
 fn replace_items(alloc: Global, items: &[Text], first: &Text, last: &Text, values: &[Text]) -> Step
     ensures { Gives result (spec.replaced first.now last.now values.now items.now) }
 {
-    let first = index_in(alloc, first)?;
-    let last = index_in(alloc, last)?;
-    let from = first.before(items.len());
-    splice_answer(alloc, items, from, from.max(last.through(items.len())), values)
+    let from = index_in(alloc, first)?.before(items.len());
+    let to = from.max(index_in(alloc, last)?.through(items.len()));
+    splice_answer(alloc, items, from, to, values)
 }
 
 /// The list with the values in place of the items between two places.

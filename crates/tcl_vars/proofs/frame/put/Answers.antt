@@ -7,7 +7,7 @@ use Rattle.tcl_vars.proofs.frame.put.Goals as goal
 
 pub returns-in_err-outcome-in-Some : goal.returns-in_err-outcome-in-Some
 returns-in_err-outcome-in-Some c =
-    let p = err_from_is_err_and c.from_residual.result c.from_residual.ensures.1 in
+    let p = err_from_is_err_and c.from_residual-in_err-outcome-in-Some.result c.from_residual-in_err-outcome-in-Some.ensures.1 in
     rw (p.1, p.2) record {
       ok = tt;
       refused = λ other. RefusesText-content c.args.frame.now (shown c.args.place) c.args.value c.args.room c.in-Some.content.now (sym c.in-Some.ensures.value) _ (c.in_err-outcome-in-Some.ensures.refused other);

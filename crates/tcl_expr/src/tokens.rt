@@ -182,44 +182,6 @@ fn word_link(text: &[u8]) -> Option<(Link, usize)>
     }
 }
 
-fn less_link(next: Mark) -> (Link, usize)
-    ensures { result ≡ tokens.less_link next }
-{
-    match next {
-        Mark::Less => (arithmetic_link(ArithmeticOperator::ShiftLeft), 2),
-        Mark::Equals => (comparison_link(Comparison::LessOrEqual), 2),
-        _ => (comparison_link(Comparison::Less), 1),
-    }
-}
-
-fn greater_link(next: Mark) -> (Link, usize)
-    ensures { result ≡ tokens.greater_link next }
-{
-    match next {
-        Mark::Greater => (arithmetic_link(ArithmeticOperator::ShiftRight), 2),
-        Mark::Equals => (comparison_link(Comparison::GreaterOrEqual), 2),
-        _ => (comparison_link(Comparison::Greater), 1),
-    }
-}
-
-fn and_link(next: Mark) -> (Link, usize)
-    ensures { result ≡ tokens.and_link next }
-{
-    match next {
-        Mark::Ampersand => (Link::Infix(Infix::And), 2),
-        _ => (arithmetic_link(ArithmeticOperator::BitAnd), 1),
-    }
-}
-
-fn or_link(next: Mark) -> (Link, usize)
-    ensures { result ≡ tokens.or_link next }
-{
-    match next {
-        Mark::Bar => (Link::Infix(Infix::Or), 2),
-        _ => (arithmetic_link(ArithmeticOperator::BitOr), 1),
-    }
-}
-
 fn equals_link(operator: Comparison, next: Mark) -> Option<(Link, usize)>
     ensures { result ≡ tokens.equals_link operator next }
 {
@@ -234,6 +196,7 @@ pub fn link_at(text: &[u8]) -> Option<(Link, usize)>
     ensures { result ≡ tokens.link_at text.now }
 {
     let (first, behind) = text.split_first()?;
+    let next = first_mark(behind);
     match mark_of(*first) {
         Mark::Plus => Some((arithmetic_link(ArithmeticOperator::Add), 1)),
         Mark::Minus => Some((arithmetic_link(ArithmeticOperator::Subtract), 1)),
@@ -241,12 +204,26 @@ pub fn link_at(text: &[u8]) -> Option<(Link, usize)>
         Mark::Slash => Some((arithmetic_link(ArithmeticOperator::Divide), 1)),
         Mark::Percent => Some((arithmetic_link(ArithmeticOperator::Remainder), 1)),
         Mark::Caret => Some((arithmetic_link(ArithmeticOperator::BitXor), 1)),
-        Mark::Less => Some(less_link(first_mark(behind))),
-        Mark::Greater => Some(greater_link(first_mark(behind))),
-        Mark::Ampersand => Some(and_link(first_mark(behind))),
-        Mark::Bar => Some(or_link(first_mark(behind))),
-        Mark::Equals => equals_link(Comparison::Same, first_mark(behind)),
-        Mark::Bang => equals_link(Comparison::Different, first_mark(behind)),
+        Mark::Less => match next {
+            Mark::Less => Some((arithmetic_link(ArithmeticOperator::ShiftLeft), 2)),
+            Mark::Equals => Some((comparison_link(Comparison::LessOrEqual), 2)),
+            _ => Some((comparison_link(Comparison::Less), 1)),
+        },
+        Mark::Greater => match next {
+            Mark::Greater => Some((arithmetic_link(ArithmeticOperator::ShiftRight), 2)),
+            Mark::Equals => Some((comparison_link(Comparison::GreaterOrEqual), 2)),
+            _ => Some((comparison_link(Comparison::Greater), 1)),
+        },
+        Mark::Ampersand => match next {
+            Mark::Ampersand => Some((Link::Infix(Infix::And), 2)),
+            _ => Some((arithmetic_link(ArithmeticOperator::BitAnd), 1)),
+        },
+        Mark::Bar => match next {
+            Mark::Bar => Some((Link::Infix(Infix::Or), 2)),
+            _ => Some((arithmetic_link(ArithmeticOperator::BitOr), 1)),
+        },
+        Mark::Equals => equals_link(Comparison::Same, next),
+        Mark::Bang => equals_link(Comparison::Different, next),
         Mark::Question => Some((Link::Question, 1)),
         Mark::Colon => Some((Link::Colon, 1)),
         Mark::CloseParen => Some((Link::Close, 1)),

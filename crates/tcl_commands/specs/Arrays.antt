@@ -8,8 +8,8 @@ use Rattle.tcl_text.specs.Readings.{list_form}
 use Rattle.tcl_vars.specs.Table.{Table}
 use Rattle.tcl_vars.specs.Texts.{element_name}
 use Rattle.tcl_vars.specs.Store.{Store, elements_in, pairs_of, is_element_in, with_array, with_element, without_element}
-use Rattle.tcl_vars.specs.declared.fault.SetFault.{SetFault}
-use Rattle.tcl_vars.specs.declared.fault.SetFault.TheVariants.{NotArray}
+use Rattle.tcl_text.specs.declared.fault.SetFault.{SetFault}
+use Rattle.tcl_text.specs.declared.fault.SetFault.TheVariants.{NotArray}
 use Rattle.tcl_commands.specs.declared.arrays.ArrayCommand.{ArrayCommand}
 use Rattle.tcl_commands.specs.declared.arrays.ArrayCommand.TheVariants as command
 use Rattle.tcl_commands.specs.declared.usages.Usage.TheVariants as usage

@@ -4,8 +4,8 @@ use Rattle.std.specs.List.{starts_with}
 use Rattle.tcl_text.specs.Answers.{wrong_args}
 use Rattle.tcl_vars.specs.Name.{element_of}
 use Rattle.tcl_vars.specs.Store.{Store, with_link}
-use Rattle.tcl_vars.specs.declared.fault.LinkFault.{LinkFault}
-use Rattle.tcl_vars.specs.declared.fault.LinkFault.TheVariants.{BadName, Exists, Full, NoMemory}
+use Rattle.tcl_text.specs.declared.fault.LinkFault.{LinkFault}
+use Rattle.tcl_text.specs.declared.fault.LinkFault.TheVariants.{BadName, Exists, Full, NoMemory}
 use Rattle.tcl_commands.specs.Done.{Done, keeps, each_done, pairs}
 use Rattle.tcl_commands.specs.Texts.{cannot_link}
 use Rattle.tcl_commands.specs.Usages.{usage_text}

@@ -1,11 +1,11 @@
 -- Meaning. The errors of commands on variables.
 use Rattle.std.specs.Prelude.{ℕ, List, ◌++◌, Result, codes}
 use Rattle.tcl_text.specs.Answers.{fails, quoted}
-use Rattle.tcl_vars.specs.Texts.{read_text, set_text, unset_text, link_text}
-use Rattle.tcl_vars.specs.declared.fault.ReadFault.{ReadFault}
-use Rattle.tcl_vars.specs.declared.fault.SetFault.{SetFault}
-use Rattle.tcl_vars.specs.declared.fault.UnsetFault.{UnsetFault}
-use Rattle.tcl_vars.specs.declared.fault.LinkFault.{LinkFault}
+use Rattle.tcl_text.specs.FaultTexts.{read_text, set_text, unset_text, link_text}
+use Rattle.tcl_text.specs.declared.fault.ReadFault.{ReadFault}
+use Rattle.tcl_text.specs.declared.fault.SetFault.{SetFault}
+use Rattle.tcl_text.specs.declared.fault.UnsetFault.{UnsetFault}
+use Rattle.tcl_text.specs.declared.fault.LinkFault.{LinkFault}
 
 -- what no definition gives and no script is told
 abbrev pub no_memory : List ℕ

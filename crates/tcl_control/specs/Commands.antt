@@ -7,7 +7,7 @@ use Rattle.tcl_text.specs.Readings.{integer_of}
 use Rattle.tcl_text.specs.StringCommands.{concat_words}
 use Rattle.tcl_vars.specs.Store.{Store, with_variable}
 use Rattle.tcl_commands.specs.Values.{exists_words}
-use Rattle.tcl_vars.specs.declared.fault.SetFault.{SetFault}
+use Rattle.tcl_text.specs.declared.fault.SetFault.{SetFault}
 use Rattle.tcl_control.specs.declared.code.Code.{Code}
 use Rattle.tcl_control.specs.declared.code.Code.TheVariants.{Normal, Error, Return, Break, Continue}
 use Rattle.tcl_control.specs.declared.code.ReturnCode.{ReturnCode}

@@ -10,7 +10,7 @@ use Rattle.tcl_words.specs.OperandGrammar.IsSubstitution.{variable as name_behin
 use Rattle.tcl_words.specs.Operands.{bracket_of, substitution_of, quoted_of}
 use Rattle.tcl_words.specs.declared.script.Piece.{Piece}
 use Rattle.tcl_words.specs.declared.script.Piece.TheVariants as piece
-use Rattle.tcl_words.specs.declared.fault.ParseFault.{ParseFault}
+use Rattle.tcl_text.specs.declared.fault.ParseFault.{ParseFault}
 use Rattle.tcl_words.proofs.BracesCut.{braces_cut}
 use Rattle.tcl_words.proofs.OperandsRead.{bracket_read, bracket_is, substitution_read, substitution_is}
 use Rattle.tcl_words.proofs.QuotesRead.{quotes_given, quotes_are}

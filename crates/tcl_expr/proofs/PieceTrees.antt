@@ -8,7 +8,7 @@ use Rattle.tcl_words.specs.OperandGrammar.IsSubstitution.{variable as name_behin
 use Rattle.tcl_words.specs.declared.kind.Mode.{Mode}
 use Rattle.tcl_words.specs.declared.script.Piece.{Piece}
 use Rattle.tcl_words.specs.declared.script.Piece.TheVariants as piece
-use Rattle.tcl_words.specs.declared.fault.ParseFault.TheVariants.{TooLong as TextTooLong}
+use Rattle.tcl_text.specs.declared.fault.ParseFault.TheVariants.{TooLong as TextTooLong}
 use Rattle.tcl_words.proofs.IndicesAlone.{index_by_itself}
 use Rattle.tcl_words.proofs.Parses.{index_walked}
 use Rattle.tcl_expr.specs.declared.fault.ExprFault.{ExprFault}

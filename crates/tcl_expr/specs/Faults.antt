@@ -1,13 +1,13 @@
 -- Meaning. Why an expression has no value, and how an answer that may want memory stands to what it should be.
 use Rattle.std.specs.Prelude.{◌≡◌, ◌⊎◌, ℕ, Option, Some, None, Result, Ok, Err}
-use Rattle.tcl_text.specs.declared.splitting.SplitFault.{SplitFault}
-use Rattle.tcl_text.specs.declared.splitting.SplitFault.TheVariants.{BadList as SplitBadList, NoMemory as SplitNoMemory}
-use Rattle.tcl_text.specs.declared.text.TextFault.{TextFault}
-use Rattle.tcl_text.specs.declared.text.TextFault.TheVariants.{TooLong as TextTooLong, NoMemory as TextNoMemory}
+use Rattle.tcl_text.specs.declared.fault.SplitFault.{SplitFault}
+use Rattle.tcl_text.specs.declared.fault.SplitFault.TheVariants.{BadList as SplitBadList, NoMemory as SplitNoMemory}
+use Rattle.tcl_text.specs.declared.fault.TextFault.{TextFault}
+use Rattle.tcl_text.specs.declared.fault.TextFault.TheVariants.{TooLong as TextTooLong, NoMemory as TextNoMemory}
 use Rattle.tcl_expr.specs.declared.fault.ExprFault.{ExprFault}
 use Rattle.tcl_expr.specs.declared.fault.ExprFault.TheVariants as parse
-use Rattle.tcl_words.specs.Faults.{number_of}
-use Rattle.tcl_words.specs.declared.fault.ParseFault.TheVariants as script
+use Rattle.tcl_text.specs.Faults.{parse_number}
+use Rattle.tcl_text.specs.declared.fault.ParseFault.TheVariants as script
 use Rattle.tcl_expr.specs.declared.fault.EvalFault.{EvalFault}
 use Rattle.tcl_expr.specs.declared.fault.EvalFault.TheVariants.{NotBoolean, BadList, TooLong, DivideByZero, Overflow, NotNumber, NoMemory}
 
@@ -34,7 +34,7 @@ no_memory = parse.Script script.NoMemory
 
 -- the number of why a text is no expression
 abbrev pub expr_number : ExprFault → Option ℕ
-expr_number (parse.Script fault) = number_of fault
+expr_number (parse.Script fault) = parse_number fault
 expr_number parse.Syntax = Some 11
 
 -- the number of why it has no value

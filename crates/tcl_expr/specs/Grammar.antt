@@ -9,7 +9,7 @@ use Rattle.tcl_words.specs.OperandGrammar.{IsSubstitution, IsFaultySubstitution}
 use Rattle.tcl_words.specs.declared.kind.Mode.TheVariants.{Quotes}
 use Rattle.tcl_words.specs.declared.script.Piece.{Piece}
 use Rattle.tcl_words.specs.declared.script.Piece.TheVariants as piece
-use Rattle.tcl_words.specs.declared.fault.ParseFault.{ParseFault}
+use Rattle.tcl_text.specs.declared.fault.ParseFault.{ParseFault}
 use Rattle.tcl_expr.specs.declared.fault.ExprFault.{ExprFault}
 use Rattle.tcl_expr.specs.declared.fault.ExprFault.TheVariants.{Syntax, Script}
 use Rattle.tcl_expr.specs.Faults.{too_long, missing_brace, missing_paren}

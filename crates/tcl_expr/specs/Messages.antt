@@ -1,7 +1,7 @@
 -- Meaning. What an application is told of a fault.
 use Rattle.std.specs.Prelude.{ℕ, List, [], ◌++◌, codes}
 use Rattle.tcl_text.specs.Splitting.{fault_text as list_fault_text}
-use Rattle.tcl_words.specs.Faults.{text_of as script_text}
+use Rattle.tcl_text.specs.FaultTexts.{parse_text}
 use Rattle.tcl_expr.specs.declared.operators.UnaryOperator.{UnaryOperator}
 use Rattle.tcl_expr.specs.declared.operators.UnaryOperator.TheVariants.{Negate, Keep, Complement, Not}
 use Rattle.tcl_expr.specs.declared.operators.ArithmeticOperator.{ArithmeticOperator}
@@ -38,7 +38,7 @@ operator_name (Arithmetic operator) = arithmetic_name operator
 
 -- of an expression with this source; want of memory has no such text
 abbrev pub parse_message : List ℕ → ExprFault → List ℕ
-parse_message source (parse.Script fault) = message (script_text fault)
+parse_message source (parse.Script fault) = message (parse_text fault)
 parse_message source parse.Syntax = message (codes "syntax error in expression \"" ++ source ++ codes "\"")
 
 abbrev pub eval_message : EvalFault → List ℕ

@@ -23,7 +23,7 @@ use Rattle.tcl_expr.specs.declared.braces.BracePlace.TheVariants.{Plain as Unesc
 use Rattle.tcl_expr.specs.Substitution.{piece_tree, text_tree}
 use Rattle.tcl_words.specs.Operands.{bracket_of, substitution_of, quoted_of}
 use Rattle.tcl_words.specs.declared.script.Piece.{Piece}
-use Rattle.tcl_words.specs.declared.fault.ParseFault.{ParseFault}
+use Rattle.tcl_text.specs.declared.fault.ParseFault.{ParseFault}
 use Rattle.tcl_text.specs.Limits.{most_bytes, most_nested}
 
 -- ── what stands open ──

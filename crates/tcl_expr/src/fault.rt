@@ -1,3 +1,8 @@
+ghost use Rattle.std.specs.Prelude.{◌≡◌, ◌⊎◌};
+ghost use Rattle.tcl_expr.specs.Faults as faults;
+ghost use Rattle.tcl_expr.specs.declared.fault.ExprFault.TheVariants as expr_fault;
+ghost use Rattle.tcl_expr.specs.declared.fault.EvalFault.TheVariants as eval_fault;
+
 use crate::operators::NumberOperator;
 use std::alloc::{AllocError, AllocFailed};
 use tcl_text::{ListFault, SplitFault, Text, TextFault};
@@ -36,12 +41,9 @@ pub enum EvalFault {
 }
 
 impl ExprFault {
-    ghost use Rattle.std.specs.Prelude.{◌≡◌};
-    ghost use Rattle.tcl_expr.specs.Faults.{expr_number};
-
     /// Its number; none where memory was refused.
     pub fn number(&self) -> Option<u32>
-        ensures { result ≡ expr_number self.now }
+        ensures { result ≡ faults.expr_number self.now }
     {
         match self {
             ExprFault::Script(fault) => fault.number(),
@@ -51,10 +53,7 @@ impl ExprFault {
 }
 
 impl From<AllocError> for ExprFault {
-    ghost use Rattle.std.specs.Prelude.{◌≡◌};
-    ghost use Rattle.tcl_expr.specs.Faults.{no_memory};
-
-    ghost from_gives = { λ _ e. e ≡ no_memory };
+    ghost from_gives = { λ _ e. e ≡ faults.no_memory };
 
     fn from(_refused: AllocError) -> ExprFault {
         ExprFault::Script(ParseFault::NoMemory)
@@ -62,10 +61,7 @@ impl From<AllocError> for ExprFault {
 }
 
 impl<T: Drop> From<AllocFailed<T>> for ExprFault {
-    ghost use Rattle.std.specs.Prelude.{◌≡◌};
-    ghost use Rattle.tcl_expr.specs.Faults.{no_memory};
-
-    ghost from_gives = { λ _ e. e ≡ no_memory };
+    ghost from_gives = { λ _ e. e ≡ faults.no_memory };
 
     fn from(_refused: AllocFailed<T>) -> ExprFault {
         ExprFault::Script(ParseFault::NoMemory)
@@ -73,10 +69,7 @@ impl<T: Drop> From<AllocFailed<T>> for ExprFault {
 }
 
 impl From<ParseFault> for ExprFault {
-    ghost use Rattle.std.specs.Prelude.{◌≡◌};
-    ghost use Rattle.tcl_expr.specs.declared.fault.ExprFault.TheVariants.{Script};
-
-    ghost from_gives = { λ fault e. e ≡ Script fault };
+    ghost from_gives = { λ fault e. e ≡ expr_fault.Script fault };
 
     fn from(fault: ParseFault) -> ExprFault {
         ExprFault::Script(fault)
@@ -84,32 +77,15 @@ impl From<ParseFault> for ExprFault {
 }
 
 impl From<AllocError> for EvalFault {
-    ghost use Rattle.std.specs.Prelude.{◌≡◌};
-    ghost use Rattle.tcl_expr.specs.declared.fault.EvalFault.TheVariants.{NoMemory};
-
-    ghost from_gives = { λ _ e. e ≡ NoMemory };
+    ghost from_gives = { λ _ e. e ≡ eval_fault.NoMemory };
 
     fn from(_refused: AllocError) -> EvalFault {
         EvalFault::NoMemory
     }
 }
 
-impl<T: Drop> From<AllocFailed<T>> for EvalFault {
-    ghost use Rattle.std.specs.Prelude.{◌≡◌};
-    ghost use Rattle.tcl_expr.specs.declared.fault.EvalFault.TheVariants.{NoMemory};
-
-    ghost from_gives = { λ _ e. e ≡ NoMemory };
-
-    fn from(_refused: AllocFailed<T>) -> EvalFault {
-        EvalFault::NoMemory
-    }
-}
-
 impl From<SplitFault> for EvalFault {
-    ghost use Rattle.std.specs.Prelude.{◌≡◌};
-    ghost use Rattle.tcl_expr.specs.Faults.{split_fault};
-
-    ghost from_gives = { λ fault e. e ≡ split_fault fault };
+    ghost from_gives = { λ fault e. e ≡ faults.split_fault fault };
 
     fn from(fault: SplitFault) -> EvalFault {
         match fault {
@@ -120,10 +96,7 @@ impl From<SplitFault> for EvalFault {
 }
 
 impl From<TextFault> for EvalFault {
-    ghost use Rattle.std.specs.Prelude.{◌≡◌};
-    ghost use Rattle.tcl_expr.specs.Faults.{text_fault};
-
-    ghost from_gives = { λ fault e. e ≡ text_fault fault };
+    ghost from_gives = { λ fault e. e ≡ faults.text_fault fault };
 
     fn from(fault: TextFault) -> EvalFault {
         match fault {
@@ -134,13 +107,9 @@ impl From<TextFault> for EvalFault {
 }
 
 impl EvalFault {
-    ghost use Rattle.std.specs.Prelude.{◌≡◌, ◌⊎◌};
-    ghost use Rattle.tcl_expr.specs.Faults.{eval_number};
-    ghost use Rattle.tcl_expr.specs.declared.fault.EvalFault.TheVariants.{NoMemory};
-
     /// Its number; none where memory was refused.
     pub fn number(&self) -> Option<u32>
-        ensures { result ≡ eval_number self.now }
+        ensures { result ≡ faults.eval_number self.now }
     {
         match self {
             EvalFault::NotBoolean(_) => Some(2),
@@ -155,7 +124,7 @@ impl EvalFault {
 
     /// The same fault, or `NoMemory` where its text can't be shared.
     pub(crate) fn copied(&self) -> EvalFault
-        ensures { (result ≡ self.now) ⊎ (result ≡ NoMemory) }
+        ensures { (result ≡ self.now) ⊎ (result ≡ eval_fault.NoMemory) }
     {
         match self {
             EvalFault::NotBoolean(text) => match text.copy() {

@@ -1,6 +1,6 @@
 //! What an application is told of a fault.
 ghost use Rattle.std.specs.Prelude.{◌≡◌, ◌++◌, codes, IfOk};
-ghost use Rattle.tcl_expr.specs.Messages.{unary_name, arithmetic_name, operator_name};
+ghost use Rattle.tcl_expr.specs.Messages.{operator_name};
 ghost use Rattle.tcl_text.specs.Answers.{message};
 
 use crate::fault::{EvalFault, ExprFault};
@@ -20,40 +20,25 @@ fn message_about(alloc: Global, before: &str, subject: &str) -> Result<Text, All
     Text::of_message(alloc, characters.as_str())
 }
 
-fn unary_name(operator: UnaryOperator) -> &'static str
-    ensures { result.now ≡ unary_name operator }
-{
-    match operator {
-        UnaryOperator::Negate => "-",
-        UnaryOperator::Keep => "+",
-        UnaryOperator::Complement => "~",
-        UnaryOperator::Not => "!",
-    }
-}
-
-fn arithmetic_name(operator: ArithmeticOperator) -> &'static str
-    ensures { result.now ≡ arithmetic_name operator }
-{
-    match operator {
-        ArithmeticOperator::Multiply => "*",
-        ArithmeticOperator::Divide => "/",
-        ArithmeticOperator::Remainder => "%",
-        ArithmeticOperator::Add => "+",
-        ArithmeticOperator::Subtract => "-",
-        ArithmeticOperator::ShiftLeft => "<<",
-        ArithmeticOperator::ShiftRight => ">>",
-        ArithmeticOperator::BitAnd => "&",
-        ArithmeticOperator::BitXor => "^",
-        ArithmeticOperator::BitOr => "|",
-    }
-}
-
+/// An operator on integers as it is written.
 fn operator_name(operator: NumberOperator) -> &'static str
     ensures { result.now ≡ operator_name operator }
 {
     match operator {
-        NumberOperator::Unary(operator) => unary_name(operator),
-        NumberOperator::Arithmetic(operator) => arithmetic_name(operator),
+        NumberOperator::Unary(UnaryOperator::Negate) => "-",
+        NumberOperator::Unary(UnaryOperator::Keep) => "+",
+        NumberOperator::Unary(UnaryOperator::Complement) => "~",
+        NumberOperator::Unary(UnaryOperator::Not) => "!",
+        NumberOperator::Arithmetic(ArithmeticOperator::Multiply) => "*",
+        NumberOperator::Arithmetic(ArithmeticOperator::Divide) => "/",
+        NumberOperator::Arithmetic(ArithmeticOperator::Remainder) => "%",
+        NumberOperator::Arithmetic(ArithmeticOperator::Add) => "+",
+        NumberOperator::Arithmetic(ArithmeticOperator::Subtract) => "-",
+        NumberOperator::Arithmetic(ArithmeticOperator::ShiftLeft) => "<<",
+        NumberOperator::Arithmetic(ArithmeticOperator::ShiftRight) => ">>",
+        NumberOperator::Arithmetic(ArithmeticOperator::BitAnd) => "&",
+        NumberOperator::Arithmetic(ArithmeticOperator::BitXor) => "^",
+        NumberOperator::Arithmetic(ArithmeticOperator::BitOr) => "|",
     }
 }
 

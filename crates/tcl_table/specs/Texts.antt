@@ -1,8 +1,8 @@
 -- Meaning. The texts of errors.
 use Rattle.std.specs.Prelude.{ℕ, List, ◌++◌, codes}
-use Rattle.tcl_vars.specs.Texts.{read_text, set_text}
-use Rattle.tcl_vars.specs.declared.fault.ReadFault.{ReadFault}
-use Rattle.tcl_vars.specs.declared.fault.SetFault.{SetFault}
+use Rattle.tcl_text.specs.FaultTexts.{read_text, set_text}
+use Rattle.tcl_text.specs.declared.fault.ReadFault.{ReadFault}
+use Rattle.tcl_text.specs.declared.fault.SetFault.{SetFault}
 pub use Rattle.tcl_text.specs.Answers.{limit_text, message}
 pub use Rattle.tcl_vars.specs.Texts.{element_name}
 

@@ -2,7 +2,7 @@
 use Rattle.std.specs.Prelude.{◌≡◌, ℕ, ℤ, Bool, nat_le, if◌then◌else◌, List, ◌++◌, length, Option, Some, None, Result, Ok, Err, codes, ⊤}
 use Rattle.std.specs.Fmt.{decimal}
 use Rattle.tcl_text.specs.Readings.{integer_of, list_of}
-use Rattle.tcl_text.specs.declared.splitting.ListFault.{ListFault}
+use Rattle.tcl_text.specs.declared.fault.ListFault.{ListFault}
 use Rattle.tcl_text.specs.declared.commands.answers.Refusal.{Refusal}
 use Rattle.tcl_text.specs.declared.commands.answers.Refusal.TheVariants.{Error, NoMemory}
 use Rattle.tcl_text.specs.Limits.{most_bytes}

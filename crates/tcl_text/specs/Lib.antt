@@ -9,6 +9,7 @@ pub mod Readings
 pub mod Characters
 pub mod ListFaults
 pub mod Faults
+pub mod FaultTexts
 pub mod Limits
 pub mod Answers
 pub mod Indices

@@ -4,8 +4,8 @@ use Rattle.std.specs.List.{list_all}
 use Rattle.tcl_text.specs.Backslash.{Mark, marks}
 use Rattle.tcl_text.specs.Readings.{is_white_mark, is_quote_mark, are_balanced, IsElement, IsElementEnd}
 use Rattle.tcl_text.specs.declared.splitting.ByteKind.TheVariants.{OpenBrace, CloseBrace, Quote}
-use Rattle.tcl_text.specs.declared.splitting.ListFault.{ListFault}
-use Rattle.tcl_text.specs.declared.splitting.ListFault.TheVariants.{OpenBrace as UnmatchedBrace, OpenQuote as UnmatchedQuote, ExtraCharacters}
+use Rattle.tcl_text.specs.declared.fault.ListFault.{ListFault}
+use Rattle.tcl_text.specs.declared.fault.ListFault.TheVariants.{OpenBrace as UnmatchedBrace, OpenQuote as UnmatchedQuote, ExtraCharacters}
 
 -- no closing brace among these marks has balanced marks before it, so none is the match of a brace in front of them all
 abbrev pub HasNoClosingBrace : List Mark → Type 0

@@ -4,8 +4,8 @@ use Rattle.tcl_text.specs.Bytes.{space, backslash_sign, open_brace, close_brace}
 use Rattle.tcl_text.specs.Readings.{element_form, is_special, with_backslashes}
 use Rattle.tcl_text.specs.declared.list_form.ElementForm.{ElementForm}
 use Rattle.tcl_text.specs.declared.list_form.ElementForm.TheVariants.{Empty, Bare, Braced, Comment, Backslashed}
-use Rattle.tcl_text.specs.declared.text.TextFault.{TextFault}
-use Rattle.tcl_text.specs.declared.text.TextFault.TheVariants.{TooLong, NoMemory}
+use Rattle.tcl_text.specs.declared.fault.TextFault.{TextFault}
+use Rattle.tcl_text.specs.declared.fault.TextFault.TheVariants.{TooLong, NoMemory}
 use Rattle.tcl_text.specs.Limits.{most_bytes}
 
 -- the answer is the form, which is refused exactly where it is too long, unless memory was refused

@@ -3,7 +3,7 @@ use Rattle.std.specs.Prelude.{◌≡◌, ℕ, ◌+◌, ◌≤◌, List, [], ◌�
 use Rattle.tcl_text.specs.ListForm.{others_form}
 use Rattle.tcl_text.specs.Limits.{most_string}
 use Rattle.tcl_text.specs.Readings.{element_form, list_of}
-use Rattle.tcl_text.specs.declared.splitting.ListFault.{ListFault}
+use Rattle.tcl_text.specs.declared.fault.ListFault.{ListFault}
 
 -- where the form of each item ends, behind a place
 abbrev pub ends_behind : ℕ → List (List ℕ) → List ℕ

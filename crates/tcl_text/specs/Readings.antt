@@ -8,8 +8,8 @@ use Rattle.tcl_text.specs.Backslash.{is_white, Mark, marks}
 use Rattle.tcl_text.specs.Bytes.{tab, line_feed, vertical_tab, form_feed, carriage_return, space, quote, hash, dollar_sign, plus_sign, minus_sign, digit_zero, semicolon, capital_b, capital_o, capital_x, open_bracket, backslash_sign, close_bracket, letter_b, letter_f, letter_n, letter_o, letter_r, letter_t, letter_v, letter_x, open_brace, close_brace}
 use Rattle.tcl_text.specs.declared.splitting.ByteKind.{ByteKind}
 use Rattle.tcl_text.specs.declared.splitting.ByteKind.TheVariants.{White, OpenBrace, CloseBrace, Quote}
-use Rattle.tcl_text.specs.declared.splitting.ListFault.{ListFault}
-use Rattle.tcl_text.specs.declared.splitting.ListFault.TheVariants.{OpenBrace as UnmatchedBrace, OpenQuote as UnmatchedQuote, ExtraCharacters}
+use Rattle.tcl_text.specs.declared.fault.ListFault.{ListFault}
+use Rattle.tcl_text.specs.declared.fault.ListFault.TheVariants.{OpenBrace as UnmatchedBrace, OpenQuote as UnmatchedQuote, ExtraCharacters}
 
 -- white space and nothing else
 abbrev pub IsBlank : List ℕ → Type 0

@@ -6,10 +6,10 @@ use Rattle.tcl_text.specs.Bytes.{quote, backslash_sign, close_brace}
 use Rattle.tcl_text.specs.Readings.{ListPlace, in_braces, in_quotes, in_bare, closed, Reading, onto, reading, list_of, are_balanced}
 use Rattle.tcl_text.specs.declared.splitting.ByteKind.{ByteKind}
 use Rattle.tcl_text.specs.declared.splitting.ByteKind.TheVariants.{White, OpenBrace, Quote}
-use Rattle.tcl_text.specs.declared.splitting.ListFault.{ListFault}
-use Rattle.tcl_text.specs.declared.splitting.ListFault.TheVariants.{OpenBrace as UnmatchedBrace, OpenQuote as UnmatchedQuote, ExtraCharacters}
-use Rattle.tcl_text.specs.declared.splitting.SplitFault.{SplitFault}
-use Rattle.tcl_text.specs.declared.splitting.SplitFault.TheVariants.{BadList, NoMemory}
+use Rattle.tcl_text.specs.declared.fault.ListFault.{ListFault}
+use Rattle.tcl_text.specs.declared.fault.ListFault.TheVariants.{OpenBrace as UnmatchedBrace, OpenQuote as UnmatchedQuote, ExtraCharacters}
+use Rattle.tcl_text.specs.declared.fault.SplitFault.{SplitFault}
+use Rattle.tcl_text.specs.declared.fault.SplitFault.TheVariants.{BadList, NoMemory}
 
 -- the message of a fault
 abbrev pub fault_text : ListFault → List ℕ

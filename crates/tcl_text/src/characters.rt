@@ -4,10 +4,11 @@ ghost use Rattle.std.specs.Str.{chars};
 ghost use Rattle.tcl_text.specs.Backslash.{is_white};
 ghost use Rattle.tcl_text.specs.Characters.{behind as behind_of, front as front_of, size, with_inserted, without};
 ghost use Rattle.tcl_text.specs.Limits.{most_bytes};
-ghost use Rattle.tcl_text.specs.Readings.{skip_white};
 ghost use Rattle.tcl_text.specs.StringCommands.{drop_white_end, trimmed as trimmed_of};
 
-use crate::text::{Text, TextFault};
+use crate::fault::TextFault;
+use crate::text::Text;
+use crate::white_space::behind_white;
 use std::alloc::Global;
 
 /// The first character, and what follows it.
@@ -129,20 +130,7 @@ impl Text {
 pub(crate) fn trimmed(text: &str) -> &str
     ensures { result.now ≡ trimmed_of text.now }
 {
-    without_white_end(without_white_start(text))
-}
-
-fn without_white_start(text: &str) -> &str
-    ensures { result.now ≡ skip_white text.now }
-{
-    let mut rest = text;
-    while let Some((first, after)) = split_first_char(rest) {
-        if !is_white_char(first) {
-            return rest;
-        }
-        rest = after;
-    }
-    rest
+    without_white_end(behind_white(text))
 }
 
 fn without_white_end(text: &str) -> &str

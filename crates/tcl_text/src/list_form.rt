@@ -5,9 +5,10 @@ ghost use Rattle.tcl_text.specs.Limits.{most_bytes};
 ghost use Rattle.tcl_text.specs.ListForm.{Joins, StopsAtSpecial, form_text};
 ghost use Rattle.tcl_text.specs.Readings as readings;
 
+use crate::fault::TextFault;
 use crate::list_string::ListString;
 use crate::splitting::brace_step;
-use crate::text::{Text, TextFault};
+use crate::text::Text;
 use crate::white_space::is_white;
 use std::alloc::{AllocError, Global};
 

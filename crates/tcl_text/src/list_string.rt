@@ -6,9 +6,10 @@ ghost use Rattle.tcl_text.specs.Readings.{element_form, list_form};
 ghost use Rattle.tcl_text.specs.Bytes.{space};
 ghost use Rattle.tcl_text.specs.Limits.{most_bytes, most_string};
 
+use crate::fault::TextFault;
 use crate::list_form::push_element;
 use crate::splitting::first_element;
-use crate::text::{MAX_BYTES, Text, TextFault};
+use crate::text::{MAX_BYTES, Text};
 use std::alloc::{AllocError, Global};
 use std::marker::Model;
 use std::rc::Rc;
@@ -228,21 +229,6 @@ impl ListString {
         }
     }
 
-    /// Adds the items of another list to one that has no other owner; false, and nothing is done, where it has one.
-    fn push_alone(list: &mut Rc<ListString>, more: &ListString) -> Result<bool, AllocError>
-        requires { length (others_form list.old.value) + length (others_form more.now) ≤ most_string }
-        ensures ok { IfOk result (λ done. MatchBool done (list.new.value ≡ list.old.value ++ more.now) (list.new.value ≡ list.old.value)) }
-        ensures err { OnErr result (list.new.value ≡ list.old.value) }
-    {
-        match Rc::get_mut(list) {
-            Some(alone) => {
-                alone.push(more)?;
-                Ok(true)
-            }
-            None => Ok(false),
-        }
-    }
-
     /// The list with the items of another behind it.
     fn longer(&self, alloc: Global, more: &ListString) -> Result<ListString, AllocError>
         requires { length (others_form self.now) + length (others_form more.now) ≤ most_string }
@@ -268,7 +254,8 @@ impl ListString {
         if width > MAX_STRING {
             return Err(TextFault::TooLong);
         }
-        if ListString::push_alone(list, &more)? {
+        if let Some(alone) = Rc::get_mut(list) {
+            alone.push(&more)?;
             return Ok(());
         }
         let longer = Rc::as_ref(list).longer(alloc, &more)?;

@@ -5,67 +5,18 @@ ghost use Rattle.tcl_text.specs.Edit.{with_more, written_anew};
 ghost use Rattle.tcl_text.specs.Readings.{list_form, list_of};
 ghost use Rattle.tcl_text.specs.Limits.{most_bytes};
 
-use crate::edit::EditFault;
+use crate::fault::{EditFault, TextFault};
 use crate::list_string::ListString;
 use crate::message::limit;
 use crate::number::NumberText;
 use crate::shared::SharedText;
 use crate::short::{SHORT_BYTES, ShortText};
-use std::alloc::{AllocError, AllocFailed, Global};
+use std::alloc::{AllocError, Global};
 use std::marker::Model;
 use std::rc::Rc;
-use thiserror::Error;
 
 /// How many bytes a text has at most.
 pub const MAX_BYTES: usize = 65_536;
-
-/// Why a text was not made.
-#[derive(Clone, Copy, Debug, PartialEq, Eq, Drop, Error)]
-pub enum TextFault {
-    /// The value would pass 65,536 bytes (4).
-    #[error("limit reached: value")]
-    TooLong,
-    /// Memory was refused.
-    #[error("out of memory")]
-    NoMemory,
-}
-
-impl TextFault {
-    ghost use Rattle.std.specs.Prelude.{◌≡◌};
-    ghost use Rattle.tcl_text.specs.Faults.{text_number};
-
-    /// Its number; none where memory was refused.
-    pub fn number(&self) -> Option<u32>
-        ensures { result ≡ text_number self.now }
-    {
-        match self {
-            TextFault::TooLong => Some(4),
-            TextFault::NoMemory => None,
-        }
-    }
-}
-
-impl From<AllocError> for TextFault {
-    ghost use Rattle.std.specs.Prelude.{◌≡◌};
-    ghost use Rattle.tcl_text.specs.declared.text.TextFault.TheVariants.{NoMemory};
-
-    ghost from_gives = { λ _ e. e ≡ NoMemory };
-
-    fn from(_refused: AllocError) -> TextFault {
-        TextFault::NoMemory
-    }
-}
-
-impl<T: Drop> From<AllocFailed<T>> for TextFault {
-    ghost use Rattle.std.specs.Prelude.{◌≡◌};
-    ghost use Rattle.tcl_text.specs.declared.text.TextFault.TheVariants.{NoMemory};
-
-    ghost from_gives = { λ _ e. e ≡ NoMemory };
-
-    fn from(_refused: AllocFailed<T>) -> TextFault {
-        TextFault::NoMemory
-    }
-}
 
 /// How a text keeps its characters.
 #[derive(Drop)]

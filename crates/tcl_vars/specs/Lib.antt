@@ -1,5 +1,4 @@
 pub mod Change
-pub mod Faults
 pub mod Name
 pub mod Named
 pub mod Owned

@@ -7,10 +7,9 @@ ghost use Rattle.tcl_vars.specs.Store.{array_state, content_count, content_witho
 ghost use Rattle.tcl_vars.specs.Unset.{AfterUnset};
 ghost use Rattle.tcl_vars.specs.Table.{value_at, with_value, without};
 
-use crate::fault::{ChangeFault, ReadFault, SetFault, UnsetFault};
 use crate::table::Table;
 use std::alloc::Global;
-use tcl_text::{Edit, EditFault, Text};
+use tcl_text::{ChangeFault, Edit, EditFault, ReadFault, SetFault, Text, UnsetFault};
 
 /// What a name of a frame stands for.
 #[derive(Drop)]

@@ -3,7 +3,6 @@
 
 mod arrays;
 mod content;
-mod fault;
 mod frame;
 mod name;
 mod scopes;
@@ -11,8 +10,8 @@ mod table;
 mod texts;
 
 pub use content::Content;
-pub use fault::{ChangeFault, LinkFault, ReadFault, SetFault, UnsetFault};
 pub use name::element_of;
 pub use scopes::Scopes;
 pub use table::Table;
+pub use tcl_text::{ChangeFault, LinkFault, ReadFault, SetFault, UnsetFault};
 pub use texts::element_name;

@@ -2,7 +2,6 @@
 pub mod Chain
 pub mod Changes
 pub mod Classes
-pub mod Faults
 pub mod Kinds
 pub mod Moves
 pub mod Operands

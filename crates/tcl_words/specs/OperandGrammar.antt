@@ -6,8 +6,8 @@ use Rattle.tcl_words.specs.Grammar.{leaves, fails, script, index, begins, begins
 use Rattle.tcl_words.specs.declared.kind.Mode.TheVariants.{Quotes}
 use Rattle.tcl_words.specs.declared.script.Piece.{Piece}
 use Rattle.tcl_words.specs.declared.script.Piece.TheVariants.{Variable, Element, Bracket}
-use Rattle.tcl_words.specs.declared.fault.ParseFault.{ParseFault}
-use Rattle.tcl_words.specs.declared.fault.ParseFault.TheVariants.{MissingBrace}
+use Rattle.tcl_text.specs.declared.fault.ParseFault.{ParseFault}
+use Rattle.tcl_text.specs.declared.fault.ParseFault.TheVariants.{MissingBrace}
 
 -- the text behind a bracket: a script up to the bracket that closes it
 abbrev pub IsBehindBracket : ℕ → List ℕ → Result (Piece × ℕ) ParseFault → Type 0

@@ -1,7 +1,7 @@
 use Rattle.std.proofs.Common.{◌≡◌, ◌∙◌, ap, arith, length, drop, ◌-◌}
 use Rattle.tcl_text.specs.Readings.{skip_white}
 use Rattle.tcl_text.proofs.ElementLemmas.{skip_white_within, skip_white_is_drop, skip_white_boundary}
-use Rattle.tcl_text.proofs.splitting.trimmed.Goals as goal
+use Rattle.tcl_text.proofs.white_space.behind_white.Goals as goal
 
 pub overflow_sub-text : goal.overflow_sub-text
 overflow_sub-text c =

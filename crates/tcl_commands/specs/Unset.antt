@@ -19,7 +19,7 @@ abbrev pub unset_each : Bool → ℕ → List (List ℕ) → Store → Done
 unset_each quiet level names store = each_done (unset_step quiet level) names store
 
 -- unset ?-nocomplain? ?name ..?
-unfoldable pub unset_words : ℕ → List (List ℕ) → Store → Done
+abbrev pub unset_words : ℕ → List (List ℕ) → Store → Done
 unset_words level [] store = unset_each false level [] store
 unset_words level (first ∷ others) store =
     if bytes_eq first (codes "-nocomplain") then unset_each true level others store

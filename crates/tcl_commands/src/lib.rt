@@ -6,7 +6,6 @@ mod commands;
 mod links;
 mod texts;
 mod unset;
-mod usages;
 mod values;
 
 pub use commands::{

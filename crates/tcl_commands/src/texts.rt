@@ -6,7 +6,10 @@ ghost use Rattle.tcl_commands.specs.Texts as spec;
 use std::alloc::Global;
 use tcl_text::Text;
 use tcl_text::answers::{Refusal, error, error_about};
-use tcl_vars::{LinkFault, ReadFault, SetFault, UnsetFault};
+use tcl_vars::{ReadFault, SetFault};
+
+/// What a command replies: its result, or why there is none.
+pub type Reply = Result<Text, Refusal>;
 
 /// Why a variable can't be read (15 to 18), as its script is told of it. A text past 65,536 bytes is that of the limit (4).
 #[tactic(auto, unfolding(tcl_text::specs::Answers::bounded))]
@@ -27,29 +30,6 @@ pub fn cannot_set<T>(alloc: Global, name: &str, fault: SetFault) -> Result<T, Re
     }
 }
 
-/// Why a variable can't be unset (15, 16, 18), as its script is told of it. A text past 65,536 bytes is that of the limit (4).
-#[tactic(auto, unfolding(tcl_text::specs::Answers::bounded))]
-pub fn cannot_unset<T>(alloc: Global, name: &str, fault: UnsetFault) -> Result<T, Refusal>
-    ensures { Gives result (spec.cannot_unset name.now fault) }
-{
-    match fault {
-        UnsetFault::NoMemory => Err(Refusal::NoMemory),
-        _ => Err(Refusal::Error(fault.text(alloc, name)?)),
-    }
-}
-
-/// Why a link can't be made, as its script is told of it: more than 4,096 variables (19), or a name that can't be used or exists, which
-/// have no number. A text past 65,536 bytes is that of the limit (4).
-#[tactic(auto, unfolding(tcl_text::specs::Answers::bounded))]
-pub fn cannot_link<T>(alloc: Global, name: &str, fault: LinkFault) -> Result<T, Refusal>
-    ensures { Gives result (spec.cannot_link name.now fault) }
-{
-    match fault {
-        LinkFault::NoMemory => Err(Refusal::NoMemory),
-        _ => Err(Refusal::Error(fault.text(alloc, name)?)),
-    }
-}
-
 /// The error that a sum is past 64 bits (13).
 pub fn too_large<T>(alloc: Global) -> Result<T, Refusal>
     ensures { Gives result spec.too_large }
@@ -65,7 +45,7 @@ pub fn missing_value<T>(alloc: Global, key: &str) -> Result<T, Refusal>
 }
 
 /// The empty result.
-pub fn empty_answer(alloc: Global) -> Result<Text, Refusal>
+pub fn empty_answer(alloc: Global) -> Reply
     ensures { Gives result (Ok []) }
 {
     Ok(Text::of_short(alloc, "")?)

@@ -28,7 +28,7 @@ abbrev pub fails : List ℕ → Plan
 fails text = Ends Error text
 
 -- a wrong number of words
-abbrev pub misused : Usage → Plan
+unfoldable pub misused : Usage → Plan
 misused how = fails (misused_text how)
 
 -- ── codes ──
@@ -75,7 +75,7 @@ abbrev pub returns_code : List ℕ → List ℕ → Option ReturnCode → Plan
 returns_code word text (Some code) = Ends (Return code) text
 returns_code word text None = fails (about (codes "bad completion code \"") word)
 
-abbrev pub returns_as : List ℕ → List ℕ → List ℕ → Plan
+unfoldable pub returns_as : List ℕ → List ℕ → List ℕ → Plan
 returns_as option word text =
     if bytes_eq option (codes "-code") then returns_code word text (code_of word)
     else fails (about (codes "bad option \"") option)

@@ -271,6 +271,8 @@ fn code_numbered(number: u64) -> Option<ReturnCode>
     }
 }
 
+/// `return` with a code, and a text.
+#[tactic(auto, unfolding(crate::specs::Commands::returns_as))]
 fn returns_as(alloc: Global, option: &Text, word: &Text, text: Text) -> Result<Plan, AllocError>
     ensures { IfOk result (λ plan. plan ≡ returns_as option.now word.now text) }
 {
@@ -301,14 +303,8 @@ fn return_plan(alloc: Global, words: &[Text]) -> Result<Plan, AllocError>
     match words {
         [] => Ok(Plan::Ends(Code::Return(ReturnCode::Normal), Text::of_short(alloc, "")?)),
         [text] => returns_value(alloc, text),
-        [option, word] => {
-            let plan = returns_as(alloc, option, word, Text::of_short(alloc, "")?)?;
-            Ok(plan)
-        }
-        [option, word, text] => {
-            let plan = returns_as(alloc, option, word, text.copy()?)?;
-            Ok(plan)
-        }
+        [option, word] => returns_as(alloc, option, word, Text::of_short(alloc, "")?),
+        [option, word, text] => returns_as(alloc, option, word, text.copy()?),
         _ => misused(alloc, Usage::Return),
     }
 }

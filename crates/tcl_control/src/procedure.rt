@@ -104,8 +104,7 @@ fn enter(
     let mut rest = words;
     'parameters: while let [parameter, behind @ ..] = left {
         if is_rest(parameter, behind) {
-            let refused = set_rest(alloc, scopes, level, &parameter.name, rest)?;
-            return Ok(refused);
+            return set_rest(alloc, scopes, level, &parameter.name, rest);
         }
         let value = value_for(alloc, &parameter.fallback, rest)?;
         match set_one(alloc, scopes, level, &parameter.name, value)? {

@@ -9,7 +9,7 @@ use tcl_table::texts::message;
 use tcl_text::Text;
 
 /// A command, or a form of one, with a usage of its own.
-#[derive(Clone, Copy, Debug, PartialEq, Eq)]
+#[derive(Clone, Copy)]
 pub enum Usage {
     Break,
     Continue,
@@ -31,28 +31,31 @@ pub enum Usage {
     InfoLevel,
 }
 
-fn usage_text(usage: Usage) -> &'static str
-    ensures { result.now ≡ spec.usage_text usage }
-{
-    match usage {
-        Usage::Break => "break",
-        Usage::Continue => "continue",
-        Usage::Error => "error message",
-        Usage::Catch => "catch script ?name?",
-        Usage::Return => "return ?-code code? ?value?",
-        Usage::Eval => "eval arg ?arg ..?",
-        Usage::Expr => "expr arg ?arg ..?",
-        Usage::While => "while cond body",
-        Usage::For => "for start cond next body",
-        Usage::Foreach => "foreach names list ?names list ..? body",
-        Usage::If => "if cond ?then? body ?elseif cond ?then? body ..? ?else? ?body?",
-        Usage::Switch => "switch ?-exact|-glob? ?--? value pairs",
-        Usage::Proc => "proc name params body",
-        Usage::Rename => "rename old new",
-        Usage::Uplevel => "uplevel ?level? arg ?arg ..?",
-        Usage::Upvar => "upvar ?level? other mine ?other mine ..?",
-        Usage::Info => "info option ?arg ..?",
-        Usage::InfoLevel => "info level",
+impl Usage {
+    /// How the command is used.
+    fn text(self) -> &'static str
+        ensures { result.now ≡ spec.usage_text self }
+    {
+        match self {
+            Usage::Break => "break",
+            Usage::Continue => "continue",
+            Usage::Error => "error message",
+            Usage::Catch => "catch script ?name?",
+            Usage::Return => "return ?-code code? ?value?",
+            Usage::Eval => "eval arg ?arg ..?",
+            Usage::Expr => "expr arg ?arg ..?",
+            Usage::While => "while cond body",
+            Usage::For => "for start cond next body",
+            Usage::Foreach => "foreach names list ?names list ..? body",
+            Usage::If => "if cond ?then? body ?elseif cond ?then? body ..? ?else? ?body?",
+            Usage::Switch => "switch ?-exact|-glob? ?--? value pairs",
+            Usage::Proc => "proc name params body",
+            Usage::Rename => "rename old new",
+            Usage::Uplevel => "uplevel ?level? arg ?arg ..?",
+            Usage::Upvar => "upvar ?level? other mine ?other mine ..?",
+            Usage::Info => "info option ?arg ..?",
+            Usage::InfoLevel => "info level",
+        }
     }
 }
 
@@ -60,10 +63,11 @@ fn usage_text(usage: Usage) -> &'static str
 pub fn misused_text(alloc: Global, usage: Usage) -> Result<Text, AllocError>
     ensures { IfOk result (λ text. text ≡ spec.misused_text usage) }
 {
-    message(alloc, "wrong # args: should be \"", usage_text(usage), "\"")
+    message(alloc, "wrong # args: should be \"", usage.text(), "\"")
 }
 
 /// A command ends with that error.
+#[tactic(auto, unfolding(crate::specs::Commands::misused))]
 pub fn misused(alloc: Global, usage: Usage) -> Result<Plan, AllocError>
     ensures { IfOk result (λ plan. plan ≡ misused_plan usage) }
 {

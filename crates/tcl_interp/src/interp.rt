@@ -213,10 +213,7 @@ impl<K: Drop> Interp<K> {
         ensures left_alone { T.left_alone tasks.new ≡ T.left_alone tasks.old }
     {
         match replace(&mut self.machine, Machine::Broken) {
-            Machine::Running(now) => {
-                let end = self.run_on(tasks, scopes, now, steps)?;
-                Ok(end)
-            }
+            Machine::Running(now) => self.run_on(tasks, scopes, now, steps),
             Machine::Spent => {
                 self.machine = Machine::Spent;
                 Ok(SliceEnd::Exhausted)

@@ -4,7 +4,7 @@ use Rattle.tcl_interp.specs.Interp.{rest_of, left_of}
 use Rattle.tcl_tables.proofs.runner.Runner.to_end.Given as goal
 
 abbrev pub invariant-slices : goal.invariant-slices
-invariant-slices l = record { begun : rest_of l.self.interp ≢ Idle; }
+invariant-slices l = record { begun : rest_of l.self.interp ≢ Idle }
 
 abbrev pub decreases-slices : goal.decreases-slices
 decreases-slices l = left_of l.self.interp

@@ -33,7 +33,7 @@ pub fn global_words(alloc: Global, scopes: &mut Scopes, level: usize, words: &[T
 
 /// Links a name of the frame to the global variable of that name; more than 4,096 variables are refused (19), and a name that can't be
 /// used, or exists, without a number.
-#[tactic(auto, unfolding(tcl_text::specs::Answers::bounded))]
+#[tactic(auto, unfolding(tcl_text::specs::Messages::bounded))]
 fn link_global(alloc: Global, scopes: &mut Scopes, level: usize, name: &Text) -> Result<(), Refusal>
     requires above { 0 < level }
     requires level { level < length scopes.old }
@@ -98,7 +98,7 @@ pub fn upvar_words(
 }
 
 /// Links a name of the frame to another one of an earlier frame, with the same refusals.
-#[tactic(auto, unfolding(tcl_text::specs::Answers::bounded))]
+#[tactic(auto, unfolding(tcl_text::specs::Messages::bounded))]
 fn link_one(
     alloc: Global,
     scopes: &mut Scopes,

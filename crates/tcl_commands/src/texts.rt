@@ -12,7 +12,7 @@ use tcl_vars::{ReadFault, SetFault};
 pub type Reply = Result<Text, Refusal>;
 
 /// Why a variable can't be read (15 to 18), as its script is told of it. A text past 65,536 bytes is that of the limit (4).
-#[tactic(auto, unfolding(tcl_text::specs::Answers::bounded))]
+#[tactic(auto, unfolding(tcl_text::specs::Messages::bounded))]
 pub fn cannot_read<T>(alloc: Global, name: &str, fault: ReadFault) -> Result<T, Refusal>
     ensures { Gives result (spec.cannot_read name.now fault) }
 {
@@ -20,7 +20,7 @@ pub fn cannot_read<T>(alloc: Global, name: &str, fault: ReadFault) -> Result<T, 
 }
 
 /// Why a variable can't be set (17 to 19), as its script is told of it. A text past 65,536 bytes is that of the limit (4).
-#[tactic(auto, unfolding(tcl_text::specs::Answers::bounded))]
+#[tactic(auto, unfolding(tcl_text::specs::Messages::bounded))]
 pub fn cannot_set<T>(alloc: Global, name: &str, fault: SetFault) -> Result<T, Refusal>
     ensures { Gives result (spec.cannot_set name.now fault) }
 {

@@ -3,7 +3,7 @@ use Rattle.std.specs.Prelude.{◌||◌, ◌&&◌, ◌==◌, ◌-◌, length, sli
 use Rattle.std.specs.Str.{chars}
 use Rattle.tcl_text.specs.Glob.{glob_matches}
 use Rattle.tcl_text.specs.Readings.{list_of}
-use Rattle.tcl_text.specs.Splitting.{fault_text as list_text}
+use Rattle.tcl_text.specs.FaultTexts.{list_text}
 use Rattle.tcl_text.specs.declared.fault.ListFault.{ListFault}
 use Rattle.tcl_shapes.specs.Branches.{choices_of, arms_of}
 use Rattle.tcl_shapes.specs.declared.branches.Branch.{Branch}

@@ -7,7 +7,7 @@ use crate::code::Code;
 use crate::plan::{Plan, fails};
 use crate::usages::{Usage, misused};
 use std::alloc::{AllocError, Global};
-use tcl_shapes::{Branch, if_choices, list_fault, switch_arms};
+use tcl_shapes::{Branch, if_choices, switch_arms};
 use tcl_table::Source;
 use tcl_table::texts::about;
 use tcl_text::{SplitFault, Text};
@@ -126,7 +126,7 @@ fn switched(
 {
     match pairs.split_list(alloc) {
         Ok(items) => by_arms(alloc, matching, value, items.as_slice()),
-        Err(SplitFault::BadList(fault)) => Ok(fails(list_fault(alloc, fault)?)),
+        Err(SplitFault::BadList(fault)) => Ok(fails(fault.told(alloc)?)),
         Err(SplitFault::NoMemory) => Err(AllocError),
     }
 }

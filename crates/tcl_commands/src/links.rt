@@ -71,6 +71,9 @@ fn global_name(alloc: Global, name: &Text) -> Result<Text, AllocError>
     Text::of_short(alloc, rest)
 }
 
+/// How `upvar` is used.
+pub const UPVAR_USAGE: &str = "upvar ?level? other mine ?other mine ..?";
+
 /// `upvar ?level? other mine ?other mine ..?` behind its level: each second name of the frame becomes a link to the
 /// name before it in the frame at another level, up to the first that can't.
 #[tactic(auto, using(crate::proofs::DoneLemmas::kept, crate::proofs::EachLemmas::steps))]
@@ -87,7 +90,7 @@ pub fn upvar_words(
     ensures levels { length scopes.new ≡ length scopes.old }
 {
     if words.is_empty() || words.len() % 2 != 0 {
-        return wrong_args(alloc, "upvar ?level? other mine ?other mine ..?");
+        return wrong_args(alloc, UPVAR_USAGE);
     }
     let mut rest = words;
     while let [other, name, others @ ..] = rest {

@@ -5,7 +5,8 @@ ghost use Rattle.tcl_commands.specs.Texts as spec;
 
 use std::alloc::Global;
 use tcl_text::Text;
-use tcl_text::answers::{Refusal, error, error_about};
+use tcl_text::answers::{Refusal, error_about};
+use tcl_text::message::too_large_text;
 use tcl_vars::{ReadFault, SetFault};
 
 /// What a command replies: its result, or why there is none.
@@ -31,10 +32,11 @@ pub fn cannot_set<T>(alloc: Global, name: &str, fault: SetFault) -> Result<T, Re
 }
 
 /// The error that a sum is past 64 bits (13).
+#[tactic(auto, unfolding(tcl_text::specs::Messages::bounded))]
 pub fn too_large<T>(alloc: Global) -> Result<T, Refusal>
     ensures { Gives result spec.too_large }
 {
-    Err(error(alloc, "integer value too large to represent"))
+    Err(Refusal::Error(too_large_text(alloc)?))
 }
 
 /// The error that the last of keys and values is a key.

@@ -15,7 +15,7 @@ use Rattle.tcl_control.specs.Commands.{fails}
 use Rattle.tcl_table.specs.Levels.{popped}
 use Rattle.tcl_table.specs.Names.{is_dotted, plain_name}
 use Rattle.tcl_table.specs.Table.{Table, is_procedure, procedure_count, value_at, with_value, without}
-use Rattle.tcl_text.specs.Messages.{limit_text, message, quoted, wrong_args_text}
+use Rattle.tcl_text.specs.Messages.{bad_name_text, limit_text, message, quoted, wrong_args_text}
 use Rattle.tcl_text.specs.Limits.{most_bytes, most_procedures}
 
 -- ── calls ──
@@ -92,7 +92,7 @@ abbrev pub has_room : Table → List ℕ → Bool
 has_room table name = holds_procedure (value_at table name) || nat_lt (procedure_count table) most_procedures
 
 abbrev pub cannot_use : List ℕ → List ℕ
-cannot_use name = message (codes "can't use name " ++ quoted name)
+cannot_use name = message (bad_name_text name)
 
 -- the table in which a procedure has a name, or the error's text
 abbrev pub defined : Table → List ℕ → List ℕ → Result (List Parameter) (List ℕ) → Result Table (List ℕ)

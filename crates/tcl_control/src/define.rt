@@ -11,7 +11,7 @@ use std::alloc::{AllocError, Global};
 use tcl_shapes::{Parameters, parameters_in};
 use tcl_table::{Command, CommandTable, Procedure, Source, is_dotted, plain_name};
 use tcl_text::Text;
-use tcl_text::message::{about, about_between};
+use tcl_text::message::{about_between, bad_name_text};
 
 /// Whether there is room for a procedure of a name: it has that of a procedure, or there are few enough.
 fn has_room(table: &CommandTable, name: &str) -> bool
@@ -54,7 +54,7 @@ fn define(
 fn cannot_use(alloc: Global, name: &Text) -> Result<Text, AllocError>
     ensures { IfOk result (λ text. text ≡ cannot_use name.now) }
 {
-    about(alloc, "can't use name ", name.as_str())
+    bad_name_text(alloc, name.as_str())
 }
 
 /// Makes a procedure, or tells the error's text (proc(n)).

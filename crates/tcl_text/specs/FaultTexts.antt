@@ -1,6 +1,6 @@
 -- Meaning. What a script is told of faults of texts, scripts and variables. Want of memory has no such text: it is empty.
 use Rattle.std.specs.Prelude.{ℕ, List, [], ◌++◌, codes}
-use Rattle.tcl_text.specs.Messages.{limit_text, quoted}
+use Rattle.tcl_text.specs.Messages.{bad_name_text, limit_text, quoted}
 use Rattle.tcl_text.specs.declared.fault.ListFault.{ListFault}
 use Rattle.tcl_text.specs.declared.fault.ListFault.TheVariants as lists
 use Rattle.tcl_text.specs.declared.fault.TextFault.{TextFault}
@@ -95,7 +95,7 @@ unset_text name unsets.NotArray = cannot (codes "unset") name (codes "variable i
 unset_text name unsets.NoMemory = []
 
 abbrev pub link_text : List ℕ → LinkFault → List ℕ
-link_text name links.BadName = codes "can't use name " ++ quoted name
+link_text name links.BadName = bad_name_text name
 link_text name links.Exists = codes "variable " ++ (quoted name ++ codes " already exists")
 link_text name links.Full = no_room
 link_text name links.NoMemory = []

@@ -30,6 +30,10 @@ bad_option_text word = codes "bad option " ++ quoted word
 abbrev pub bad_index_text : List ℕ → List ℕ
 bad_index_text word = codes "bad index " ++ quoted word
 
+-- a name can't be that of a link or a command
+abbrev pub bad_name_text : List ℕ → List ℕ
+bad_name_text name = codes "can't use name " ++ quoted name
+
 -- an integer is past 64 bits
 abbrev pub too_large_text : List ℕ
 too_large_text = codes "integer value too large to represent"

@@ -13,7 +13,7 @@ ghost use Rattle.tcl_text.specs.declared.fault.ChangeFault.TheVariants as change
 ghost use Rattle.tcl_text.specs.declared.fault.UnsetFault.TheVariants as unset_fault;
 ghost use Rattle.tcl_text.specs.declared.fault.LinkFault.TheVariants as link_fault;
 
-use crate::message::{LIMIT, about, about_between, limit};
+use crate::message::{LIMIT, about, about_between, bad_name_text, limit};
 use crate::text::Text;
 use std::alloc::{AllocError, AllocFailed, Global};
 use thiserror::Error;
@@ -573,7 +573,7 @@ impl LinkFault {
         ensures { IfOk result (λ text. text ≡ message (texts.link_text name.now self.now)) }
     {
         match self {
-            LinkFault::BadName => about(alloc, "can't use name ", name),
+            LinkFault::BadName => bad_name_text(alloc, name),
             LinkFault::Exists => about_between(alloc, "variable ", name, " already exists"),
             LinkFault::Full => Text::of_short(alloc, NO_ROOM),
             LinkFault::NoMemory => Text::of_short(alloc, ""),

@@ -1,7 +1,7 @@
 //! The texts of errors, for commands that answer with a text or with that of an error.
 ghost use Rattle.std.specs.Prelude.{◌≡◌, ◌++◌, IfOk, OnOk, string_bytes};
 ghost use Rattle.tcl_text.specs.Answers.{bad_option as bad_option_of, wrong_args as wrong_args_of};
-ghost use Rattle.tcl_text.specs.Messages.{bad_option_text, limit_text, message as message_of, quoted, too_large_text, wrong_args_text};
+ghost use Rattle.tcl_text.specs.Messages.{bad_name_text, bad_option_text, limit_text, message as message_of, quoted, too_large_text, wrong_args_text};
 
 use crate::text::Text;
 use std::alloc::{AllocError, Global};
@@ -64,6 +64,14 @@ pub fn bad_option_text(alloc: Global, word: &str) -> Result<Text, AllocError>
     ensures { IfOk result (λ text. text ≡ message_of (bad_option_text word.now)) }
 {
     about(alloc, "bad option ", word)
+}
+
+/// The text of the error for a name that a link or a command can't have; that of the limit (4) where it is past 65,536 bytes. It has no
+/// number.
+pub fn bad_name_text(alloc: Global, name: &str) -> Result<Text, AllocError>
+    ensures { IfOk result (λ text. text ≡ message_of (bad_name_text name.now)) }
+{
+    about(alloc, "can't use name ", name)
 }
 
 /// The text of an error that ends with a word in quotation marks; that of the limit (4) where it is past 65,536 bytes.

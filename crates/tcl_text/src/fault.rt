@@ -13,7 +13,7 @@ ghost use Rattle.tcl_text.specs.declared.fault.ChangeFault.TheVariants as change
 ghost use Rattle.tcl_text.specs.declared.fault.UnsetFault.TheVariants as unset_fault;
 ghost use Rattle.tcl_text.specs.declared.fault.LinkFault.TheVariants as link_fault;
 
-use crate::message::{LIMIT, about, about_between, bad_name_text, limit};
+use crate::message::{TOO_LONG, about, about_between, bad_name_text, limit};
 use crate::text::Text;
 use std::alloc::{AllocError, AllocFailed, Global};
 use thiserror::Error;
@@ -134,7 +134,7 @@ impl TextFault {
         ensures { result.now ≡ texts.value_text self.now }
     {
         match self {
-            TextFault::TooLong => LIMIT,
+            TextFault::TooLong => TOO_LONG,
             TextFault::NoMemory => "",
         }
     }
@@ -229,7 +229,7 @@ impl EditFault {
         ensures { result.now ≡ texts.edit_text self.now }
     {
         match self {
-            EditFault::TooLong => LIMIT,
+            EditFault::TooLong => TOO_LONG,
             EditFault::BadList(fault) => fault.text(),
             EditFault::NoMemory => "",
         }
@@ -296,7 +296,7 @@ impl ParseFault {
         ensures { result.now ≡ texts.parse_text self.now }
     {
         match self {
-            ParseFault::TooLong => LIMIT,
+            ParseFault::TooLong => TOO_LONG,
             ParseFault::MissingBrace => "missing close-brace",
             ParseFault::MissingBracket => "missing close-bracket",
             ParseFault::MissingQuote => "missing \"",

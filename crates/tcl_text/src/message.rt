@@ -19,14 +19,14 @@ pub fn short_text(alloc: Global, characters: &str) -> Result<Text, AllocError>
     }
 }
 
-/// What stands in place of a text past 65,536 bytes (4).
-pub(crate) const LIMIT: &str = "limit reached: value";
+/// What a script is told in place of a text past 65,536 bytes (4).
+pub(crate) const TOO_LONG: &str = "limit reached: value";
 
 /// The message that stands in place of a text past 65,536 bytes (4).
 pub fn limit(alloc: Global) -> Result<Text, AllocError>
     ensures { IfOk result (λ text. text ≡ limit_text) }
 {
-    Text::of_short(alloc, LIMIT)
+    Text::of_short(alloc, TOO_LONG)
 }
 
 /// The text of the error for an integer past 64 bits (13).

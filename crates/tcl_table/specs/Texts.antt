@@ -10,6 +10,13 @@ pub use Rattle.tcl_vars.specs.Texts.{element_name}
 abbrev pub nesting_text : List ℕ
 nesting_text = codes "too many nested evaluations (infinite loop?)"
 
+-- a break and a continue that no loop takes
+abbrev pub break_outside : List ℕ
+break_outside = codes "invoked \"break\" outside of a loop"
+
+abbrev pub continue_outside : List ℕ
+continue_outside = codes "invoked \"continue\" outside of a loop"
+
 abbrev pub unknown_command : List ℕ → List ℕ
 unknown_command name = message (codes "invalid command name " ++ quoted name)
 

@@ -10,7 +10,7 @@ ghost use Rattle.tcl_commands.specs.Values as spec;
 
 use crate::texts::{Reply, cannot_read, cannot_set, too_large};
 use std::alloc::{AllocError, Global};
-use tcl_text::answers::{Refusal, error, limit_reached, truth_answer, wrong_args};
+use tcl_text::answers::{Refusal, truth_answer, wrong_args};
 use tcl_text::integers::integer_of;
 use tcl_text::items::items_in;
 use tcl_text::{Edit, EditFault, Text};
@@ -183,6 +183,7 @@ fn append(alloc: Global, scopes: &mut Scopes, level: usize, name: &Text, values:
 }
 
 /// Changes a variable in place, where one that isn't there counts as empty.
+#[tactic(auto, unfolding(tcl_text::specs::Messages::bounded))]
 fn change(alloc: Global, scopes: &mut Scopes, level: usize, name: &Text, edit: Edit<'_>) -> Reply
     requires { level < length scopes.old }
     ensures does { Does result scopes.new (spec.changed level name.now [] (edit_answer edit.entry) scopes.old) }
@@ -196,10 +197,8 @@ fn change(alloc: Global, scopes: &mut Scopes, level: usize, name: &Text, edit: E
         Err(ChangeFault::Unread(ReadFault::NoElement)) => {
             set_edited(alloc, scopes, level, name, edit)
         }
-        Err(ChangeFault::Unread(fault)) => cannot_read(alloc, name.as_str(), fault),
-        Err(ChangeFault::TooLong) => Err(limit_reached(alloc)),
-        Err(ChangeFault::BadList(fault)) => Err(error(alloc, fault.text())),
         Err(ChangeFault::NoMemory) => Err(Refusal::NoMemory),
+        Err(fault) => Err(Refusal::Error(fault.text(alloc, name.as_str())?)),
     }
 }
 
@@ -221,15 +220,15 @@ fn set_edited(
 }
 
 /// What becomes of the empty text.
+#[tactic(auto, unfolding(tcl_text::specs::Messages::bounded))]
 fn edited_empty(alloc: Global, edit: Edit<'_>) -> Reply
     ensures { Gives result (edit_answer edit.entry []) }
 {
     let mut text = Text::of_short(alloc, "")?;
     match text.edit(alloc, edit) {
         Ok(()) => Ok(text),
-        Err(EditFault::TooLong) => Err(limit_reached(alloc)),
-        Err(EditFault::BadList(fault)) => Err(error(alloc, fault.text())),
         Err(EditFault::NoMemory) => Err(Refusal::NoMemory),
+        Err(fault) => Err(Refusal::Error(Text::of_message(alloc, fault.text())?)),
     }
 }
 

@@ -3,7 +3,7 @@ use Rattle.std.specs.Prelude.{◌||◌, ◌&&◌, ◌==◌, ◌-◌, length, sli
 use Rattle.std.specs.Str.{chars}
 use Rattle.tcl_text.specs.Glob.{glob_matches}
 use Rattle.tcl_text.specs.Readings.{list_of}
-use Rattle.tcl_text.specs.Splitting.{fault_text as list_text}
+use Rattle.tcl_text.specs.FaultTexts.{list_text}
 use Rattle.tcl_text.specs.declared.fault.ListFault.{ListFault}
 use Rattle.tcl_shapes.specs.Branches.{choices_of, arms_of}
 use Rattle.tcl_shapes.specs.declared.branches.Branch.{Branch}
@@ -14,8 +14,7 @@ use Rattle.tcl_control.specs.declared.code.Code.TheVariants.{Normal}
 use Rattle.tcl_control.specs.declared.plan.Plan.{Plan}
 use Rattle.tcl_control.specs.declared.plan.Plan.TheVariants.{Ends, Runs, Chooses}
 use Rattle.tcl_control.specs.declared.usages.Usage.TheVariants as usage
-use Rattle.tcl_control.specs.Commands.{fails, misused}
-use Rattle.tcl_table.specs.Texts.{about}
+use Rattle.tcl_control.specs.Commands.{bad_option, fails, misused}
 use Rattle.tcl_text.specs.Answers.{message}
 
 -- ── if ──
@@ -72,9 +71,6 @@ by_pairs matching value (Err fault) = fails (message (list_text fault))
 
 abbrev pub switched : Matching → List ℕ → List ℕ → Plan
 switched matching value pairs = by_pairs matching value (list_of pairs)
-
-abbrev pub bad_option : List ℕ → Plan
-bad_option word = fails (about (codes "bad option \"") word)
 
 -- behind -exact or -glob
 abbrev pub switched_past : Matching → List ℕ → List ℕ → List ℕ → Plan

@@ -21,8 +21,8 @@ use Rattle.tcl_shapes.specs.declared.groups.Group.{Group}
 use Rattle.tcl_control.specs.declared.usages.Usage.{Usage}
 use Rattle.tcl_control.specs.declared.usages.Usage.TheVariants as usage
 use Rattle.tcl_control.specs.Usages.{misused_text}
-use Rattle.tcl_table.specs.Texts.{about, cannot_set}
-use Rattle.tcl_text.specs.Answers.{message}
+use Rattle.tcl_table.specs.Texts.{cannot_set}
+use Rattle.tcl_text.specs.Messages.{bad_option_text, message, quoted}
 
 abbrev pub fails : List ℕ → Plan
 fails text = Ends Error text
@@ -30,6 +30,10 @@ fails text = Ends Error text
 -- a wrong number of words
 unfoldable pub misused : Usage → Plan
 misused how = fails (misused_text how)
+
+-- a word that is no option
+abbrev pub bad_option : List ℕ → Plan
+bad_option word = fails (message (bad_option_text word))
 
 -- ── codes ──
 
@@ -73,12 +77,12 @@ code_of word =
 
 abbrev pub returns_code : List ℕ → List ℕ → Option ReturnCode → Plan
 returns_code word text (Some code) = Ends (Return code) text
-returns_code word text None = fails (about (codes "bad completion code \"") word)
+returns_code word text None = fails (message (codes "bad completion code " ++ quoted word))
 
 unfoldable pub returns_as : List ℕ → List ℕ → List ℕ → Plan
 returns_as option word text =
     if bytes_eq option (codes "-code") then returns_code word text (code_of word)
-    else fails (about (codes "bad option \"") option)
+    else bad_option option
 
 -- return ?-code code? ?value?
 abbrev pub return_plan : List (List ℕ) → Plan
@@ -163,9 +167,13 @@ relative count None = None
 abbrev pub levels_left : ℕ → List ℕ → Option ℕ
 levels_left count word = if starts_with nat_eq word (codes "#") then absolute count (unsigned_of (integer_of (drop 1 word))) else relative count (unsigned_of (integer_of word))
 
+-- there is no such level
+abbrev pub bad_level : List ℕ → List ℕ
+bad_level word = message (codes "bad level " ++ quoted word)
+
 abbrev pub runs_at : List ℕ → List (List ℕ) → Option ℕ → Plan
 runs_at word words (Some count) = on_joined (RunsAt count) (concat_words words)
-runs_at word words None = fails (about (codes "bad level \"") word)
+runs_at word words None = fails (bad_level word)
 
 -- one level up
 abbrev pub runs_up : ℕ → List (List ℕ) → Plan
@@ -196,7 +204,7 @@ info_plan count level store [] = misused usage.Info
 info_plan count level store (option ∷ words) =
     if bytes_eq option (codes "level") then level_plan count words
     else (if bytes_eq option (codes "exists") then texts_plan (exists_words level words store)
-    else fails (about (codes "bad option \"") option))
+    else bad_option option)
 
 -- ── variables ──
 

@@ -15,8 +15,7 @@ use Rattle.tcl_control.specs.Commands.{fails}
 use Rattle.tcl_table.specs.Levels.{popped}
 use Rattle.tcl_table.specs.Names.{is_dotted, plain_name}
 use Rattle.tcl_table.specs.Table.{Table, is_procedure, procedure_count, value_at, with_value, without}
-use Rattle.tcl_table.specs.Texts.{about, wrong_words}
-use Rattle.tcl_text.specs.Answers.{limit_text, message}
+use Rattle.tcl_text.specs.Messages.{bad_name_text, limit_text, message, quoted, wrong_args_text}
 use Rattle.tcl_text.specs.Limits.{most_bytes, most_procedures}
 
 -- ── calls ──
@@ -61,7 +60,7 @@ usage_words (parameter ∷ parameters) = codes " " ++ usage_word parameter param
 
 -- how a procedure is called, by the name that it was called by
 abbrev pub usage : List ℕ → List Parameter → List ℕ
-usage name parameters = message (wrong_words (plain_name name ++ usage_words parameters))
+usage name parameters = message (wrong_args_text (plain_name name ++ usage_words parameters))
 
 -- what the call of a procedure leaves, and what is to be done: its frame is the last one
 pub record ProcedureCalled : Type 0 where
@@ -93,7 +92,7 @@ abbrev pub has_room : Table → List ℕ → Bool
 has_room table name = holds_procedure (value_at table name) || nat_lt (procedure_count table) most_procedures
 
 abbrev pub cannot_use : List ℕ → List ℕ
-cannot_use name = about (codes "can't use name \"") name
+cannot_use name = message (bad_name_text name)
 
 -- the table in which a procedure has a name, or the error's text
 abbrev pub defined : Table → List ℕ → List ℕ → Result (List Parameter) (List ℕ) → Result Table (List ℕ)
@@ -109,10 +108,10 @@ with_procedure table name parameters body =
     else defined table (plain_name name) body (parameters_in (list_of parameters))
 
 abbrev pub not_there : List ℕ → List ℕ
-not_there name = message (codes "can't rename \"" ++ name ++ codes "\": command doesn't exist")
+not_there name = message (codes "can't rename " ++ (quoted name ++ codes ": command doesn't exist"))
 
 abbrev pub there_already : List ℕ → List ℕ
-there_already name = message (codes "can't rename to \"" ++ name ++ codes "\": command already exists")
+there_already name = message (codes "can't rename to " ++ (quoted name ++ codes ": command already exists"))
 
 -- why a command can't get a name
 abbrev pub name_refused : Table → List ℕ → Option (List ℕ)

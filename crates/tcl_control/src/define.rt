@@ -9,9 +9,9 @@ ghost use Rattle.tcl_table.specs.declared.command.Command.{Command as CommandVal
 
 use std::alloc::{AllocError, Global};
 use tcl_shapes::{Parameters, parameters_in};
-use tcl_table::texts::{about, message};
 use tcl_table::{Command, CommandTable, Procedure, Source, is_dotted, plain_name};
 use tcl_text::Text;
+use tcl_text::message::{about_between, bad_name_text};
 
 /// Whether there is room for a procedure of a name: it has that of a procedure, or there are few enough.
 fn has_room(table: &CommandTable, name: &str) -> bool
@@ -54,7 +54,7 @@ fn define(
 fn cannot_use(alloc: Global, name: &Text) -> Result<Text, AllocError>
     ensures { IfOk result (λ text. text ≡ cannot_use name.now) }
 {
-    about(alloc, "can't use name \"", name.as_str())
+    bad_name_text(alloc, name.as_str())
 }
 
 /// Makes a procedure, or tells the error's text (proc(n)).
@@ -91,11 +91,11 @@ fn name_refused(
         return Ok(Some(cannot_use(alloc, name)?));
     }
     match table.get(plain) {
-        Some(_) => Ok(Some(message(
+        Some(_) => Ok(Some(about_between(
             alloc,
-            "can't rename to \"",
+            "can't rename to ",
             name.as_str(),
-            "\": command already exists",
+            ": command already exists",
         )?)),
         None => Ok(None),
     }
@@ -155,11 +155,11 @@ pub fn rename(
     }
     match table.get(plain) {
         Some(_) => name_anew(alloc, table, plain, new),
-        None => Ok(Some(message(
+        None => Ok(Some(about_between(
             alloc,
-            "can't rename \"",
+            "can't rename ",
             old.as_str(),
-            "\": command doesn't exist",
+            ": command doesn't exist",
         )?)),
     }
 }

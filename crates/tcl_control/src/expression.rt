@@ -6,7 +6,6 @@ use std::alloc::{AllocError, Global};
 use std::marker::Model;
 use tcl_expr::{Eval, Expr, ExprFault, parse_expr};
 use tcl_table::CommandTable;
-use tcl_table::texts::not_boolean;
 use tcl_text::Text;
 use tcl_words::ParseFault;
 
@@ -111,7 +110,7 @@ pub fn truth(alloc: Global, value: &Text) -> Result<Result<bool, Text>, AllocErr
 {
     match value.boolean() {
         Ok(truth) => Ok(Ok(truth)),
-        Err(_) => Ok(Err(not_boolean(alloc, value)?)),
+        Err(fault) => Ok(Err(fault.text(alloc, value.as_str())?)),
     }
 }
 

@@ -1,11 +1,12 @@
 -- Steps. What an interpreter still has to do, and the outcome of doing it, innermost first.
-use Rattle.std.specs.Prelude.{ℕ, Bool, List, [], ◌∷◌, ◌++◌, Option, Some, codes}
+use Rattle.std.specs.Prelude.{ℕ, Bool, List, [], ◌∷◌, ◌++◌, Option, Some}
 use Rattle.tcl_words.specs.declared.script.Command.{Command}
 use Rattle.tcl_words.specs.declared.script.Word.{Word}
 use Rattle.tcl_words.specs.declared.script.Piece.{Piece}
 use Rattle.tcl_control.specs.declared.code.Code.{Code}
 use Rattle.tcl_control.specs.declared.code.Code.TheVariants.{Normal, Error, Break, Continue}
 use Rattle.tcl_control.specs.declared.turns.Turning.{Turning}
+use Rattle.tcl_control.specs.Texts.{break_outside, continue_outside}
 use Rattle.tcl_shapes.specs.declared.branches.Branch.{Branch}
 use Rattle.tcl_expr.specs.Resuming.{Resumption, told}
 use Rattle.tcl_interp.specs.Outside.{Outside}
@@ -96,8 +97,8 @@ rest_of_task task = Running (Resumes most_running task Normal []) []
 
 -- how a script at global level ends: there is no loop around it, and a return has become its -code
 abbrev pub at_global : {S : Type 0} → State S → Code → List ℕ → Outcome S
-at_global state Break text = Ended state Error (codes "invoked \"break\" outside of a loop")
-at_global state Continue text = Ended state Error (codes "invoked \"continue\" outside of a loop")
+at_global state Break text = Ended state Error break_outside
+at_global state Continue text = Ended state Error continue_outside
 at_global state code text = Ended state code text
 
 module _ {S K : Type 0} (outside : Outside S K) where

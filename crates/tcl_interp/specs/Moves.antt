@@ -1,5 +1,5 @@
 -- Steps. The moves of the interpreter: what is done, what waits, the variables and the context after each.
-use Rattle.std.specs.Prelude.{ℕ, ◌-◌, ◌==◌, Bool, true, false, List, [], ◌∷◌, ◌++◌, length, nat_le, if◌then◌else◌, Option, Some, None, Result, Ok, Err, codes}
+use Rattle.std.specs.Prelude.{ℕ, ◌-◌, ◌==◌, Bool, true, false, List, [], ◌∷◌, ◌++◌, length, nat_le, if◌then◌else◌, Option, Some, None, Result, Ok, Err}
 use Rattle.tcl_words.specs.declared.script.Command.{Command}
 use Rattle.tcl_words.specs.declared.script.Word.{Word}
 use Rattle.tcl_words.specs.declared.script.Piece.{Piece}
@@ -28,7 +28,7 @@ use Rattle.tcl_control.specs.ExpressionForms.{evaluation_begins}
 use Rattle.tcl_control.specs.Commands.{Ending, caught_ending}
 use Rattle.tcl_control.specs.Levels.{here, popped}
 use Rattle.tcl_control.specs.Source.{script_of}
-use Rattle.tcl_control.specs.Texts.{limit_text, message, nesting_text, cannot_read, element_name, unknown_command}
+use Rattle.tcl_control.specs.Texts.{limit_text, message, nesting_text, break_outside, continue_outside, cannot_read, element_name, unknown_command}
 use Rattle.tcl_control.specs.Turns.{Tested, More, NoMore, Fails as TestFails, items_tested}
 use Rattle.tcl_interp.specs.declared.tasks.Act.{Act}
 use Rattle.tcl_interp.specs.declared.tasks.Act.TheVariants.{Done, Step, Run, Unknown}
@@ -272,8 +272,8 @@ module _ {K : Type 0} where
   after_start_move room turning waits code text = moved (Ends code text) waits
 
   abbrev pub global_end : Code → List ℕ → Doing K
-  global_end Break text = Ends Error (codes "invoked \"break\" outside of a loop")
-  global_end Continue text = Ends Error (codes "invoked \"continue\" outside of a loop")
+  global_end Break text = Ends Error break_outside
+  global_end Continue text = Ends Error continue_outside
   global_end code text = Ends code text
 
   abbrev pub standing : Moved K → Store → Context → Standing K

@@ -1,5 +1,5 @@
 -- Meaning. What the commands do that run scripts: the meaning of a plan.
-use Rattle.std.specs.Prelude.{ℕ, zero, suc, List, [], ◌++◌, take, drop, Option, Some, None, codes}
+use Rattle.std.specs.Prelude.{ℕ, zero, suc, List, [], ◌++◌, take, drop, Option, Some, None}
 use Rattle.tcl_vars.specs.Store.{Store}
 use Rattle.tcl_control.specs.declared.code.Code.{Code}
 use Rattle.tcl_control.specs.declared.code.Code.TheVariants.{Normal, Error, Return, Break, Continue}
@@ -13,6 +13,7 @@ use Rattle.tcl_control.specs.declared.turns.Test.TheVariants.{Holds, Items}
 use Rattle.tcl_control.specs.declared.turns.Turning.{Turning}
 use Rattle.tcl_control.specs.Commands.{Ending, caught_ending}
 use Rattle.tcl_control.specs.Levels.{up, popped}
+use Rattle.tcl_control.specs.Texts.{break_outside, continue_outside}
 use Rattle.tcl_control.specs.Turns.{Tested, More, NoMore, Fails, items_tested}
 use Rattle.tcl_shapes.specs.declared.groups.Group.{Group}
 use Rattle.tcl_interp.specs.Evaluation.{State, Outcome, Ended, OutOfSteps, level_of, and_then, on_normal, with_step}
@@ -58,8 +59,8 @@ procedure_code Break = Error
 procedure_code Continue = Error
 
 abbrev pub procedure_text : Code → List ℕ → List ℕ
-procedure_text Break text = codes "invoked \"break\" outside of a loop"
-procedure_text Continue text = codes "invoked \"continue\" outside of a loop"
+procedure_text Break text = break_outside
+procedure_text Continue text = continue_outside
 procedure_text code text = text
 
 -- the context of the caller

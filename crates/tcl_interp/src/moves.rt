@@ -16,7 +16,7 @@ use crate::machine::{
 };
 use crate::words::{begin_for, go_on, longer_index, longer_word, put_index};
 use std::alloc::{AllocError, Global};
-use tcl_control::{Code, Context, End, Looping, ReturnCode, caught};
+use tcl_control::{Code, Context, End, Looping, ReturnCode, STRAY_BREAK, STRAY_CONTINUE, caught};
 use tcl_table::{CommandTable, Source};
 use tcl_text::Text;
 use tcl_vars::Scopes;
@@ -186,8 +186,8 @@ fn procedure_text(alloc: Global, code: Code, text: Text) -> Result<Text, AllocEr
     ensures { IfOk result (λ told. told ≡ procedure_text code text) }
 {
     match code {
-        Code::Break => Text::of_short(alloc, "invoked \"break\" outside of a loop"),
-        Code::Continue => Text::of_short(alloc, "invoked \"continue\" outside of a loop"),
+        Code::Break => Text::of_short(alloc, STRAY_BREAK),
+        Code::Continue => Text::of_short(alloc, STRAY_CONTINUE),
         Code::Normal => Ok(text),
         Code::Error => Ok(text),
         Code::Return(_) => Ok(text),
@@ -222,11 +222,11 @@ fn global_end<K: Drop>(alloc: Global, code: Code, text: Text) -> Next<K>
     match out_of_global(code) {
         Code::Break => Ok(Now::Ends {
             code: Code::Error,
-            text: Text::of_short(alloc, "invoked \"break\" outside of a loop")?,
+            text: Text::of_short(alloc, STRAY_BREAK)?,
         }),
         Code::Continue => Ok(Now::Ends {
             code: Code::Error,
-            text: Text::of_short(alloc, "invoked \"continue\" outside of a loop")?,
+            text: Text::of_short(alloc, STRAY_CONTINUE)?,
         }),
         code => Ok(Now::Ends { code, text }),
     }

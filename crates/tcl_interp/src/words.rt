@@ -12,7 +12,6 @@ ghost use Rattle.tcl_text.specs.Limits.{most_bytes};
 use crate::machine::{Frame, Indexing, Next, Now, ScriptPlace, Wording};
 use std::alloc::{AllocError, Global};
 use tcl_control::Code;
-use tcl_shapes::list_fault;
 use tcl_table::Source;
 use tcl_table::texts::cannot_read_element;
 use tcl_text::message::limit;
@@ -209,7 +208,7 @@ fn with_elements(
             }
             Ok(Ok(all))
         }
-        Err(SplitFault::BadList(fault)) => Ok(Err(list_fault(alloc, fault)?)),
+        Err(SplitFault::BadList(fault)) => Ok(Err(fault.told(alloc)?)),
         Err(SplitFault::NoMemory) => Err(AllocError),
     }
 }

@@ -2,7 +2,7 @@
 use Rattle.std.specs.Prelude.{◌≡◌, ◌≢◌, ◌⊎◌, ℕ, zero, suc, List, [], ◌∷◌, ◌++◌, Option, Some, None, codes}
 use Rattle.tcl_text.specs.Readings.{IsList}
 use Rattle.tcl_text.specs.ListFaults.{IsListFault}
-use Rattle.tcl_text.specs.Splitting.{fault_text}
+use Rattle.tcl_text.specs.FaultTexts.{list_text}
 use Rattle.tcl_text.specs.declared.fault.ListFault.{ListFault}
 use Rattle.tcl_shapes.specs.declared.branches.Branch.{Branch}
 use Rattle.tcl_shapes.specs.declared.branches.Choices.{Choices}
@@ -46,7 +46,7 @@ IsGroup names items group = IsList names group.names × (group.names ≢ []) × 
 
 -- a word that is no list, and the text of that error
 abbrev pub IsNoList : List ℕ → List ℕ → Type 0
-IsNoList word text = (fault : ListFault) × IsListFault word fault × (text ≡ message (fault_text fault))
+IsNoList word text = (fault : ListFault) × IsListFault word fault × (text ≡ message (list_text fault))
 
 -- Names and items that are no group, and the text of the error: of the names, if they are at fault.
 abbrev pub IsNoGroup : List ℕ → List ℕ → List ℕ → Type 0

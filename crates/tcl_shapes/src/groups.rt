@@ -4,7 +4,6 @@ ghost use Rattle.tcl_text.specs.Readings.{list_of};
 ghost use Rattle.tcl_shapes.specs.Groups.{group_named, group_of, groups_from, groups_of, has_body, next_place, advanced, has_more, FollowsGroup};
 
 use crate::listing::Listing;
-use crate::texts::list_fault;
 use std::alloc::{AllocError, Global};
 use tcl_text::{ListItems, SplitFault, Text, TextList};
 
@@ -76,7 +75,7 @@ fn group_named(
             items,
             next: 0,
         })),
-        Err(SplitFault::BadList(fault)) => Ok(Err(list_fault(alloc, fault)?)),
+        Err(SplitFault::BadList(fault)) => Ok(Err(fault.told(alloc)?)),
         Err(SplitFault::NoMemory) => Err(AllocError),
     }
 }
@@ -92,7 +91,7 @@ fn group_of(alloc: Global, names: &Text, items: &Text) -> Result<Result<Group, T
             }
             group_named(alloc, names, items)
         }
-        Err(SplitFault::BadList(fault)) => Ok(Err(list_fault(alloc, fault)?)),
+        Err(SplitFault::BadList(fault)) => Ok(Err(fault.told(alloc)?)),
         Err(SplitFault::NoMemory) => Err(AllocError),
     }
 }

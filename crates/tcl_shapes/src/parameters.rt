@@ -3,7 +3,6 @@ ghost use Rattle.tcl_text.specs.Readings.{list_of};
 ghost use Rattle.tcl_shapes.specs.Parameters.{has_colons, is_element, is_parameter_name, parameter_named, parameter_parts, parameter_of, parameters_of, parameters_in};
 
 use crate::listing::Listing;
-use crate::texts::list_fault;
 use std::alloc::{AllocError, Global};
 use tcl_text::{SplitFault, Text};
 use tcl_vars::element_of;
@@ -78,7 +77,7 @@ fn parameter_of(alloc: Global, item: &Text) -> Result<Result<Parameter, Text>, A
 {
     match item.split_list(alloc) {
         Ok(parts) => parameter_parts(alloc, parts.as_slice()),
-        Err(SplitFault::BadList(fault)) => Ok(Err(list_fault(alloc, fault)?)),
+        Err(SplitFault::BadList(fault)) => Ok(Err(fault.told(alloc)?)),
         Err(SplitFault::NoMemory) => Err(AllocError),
     }
 }
@@ -105,7 +104,7 @@ pub fn parameters_in(alloc: Global, list: &Text) -> Result<Result<Parameters, Te
 {
     match list.split_list(alloc) {
         Ok(items) => parameters_of(alloc, items.as_slice()),
-        Err(SplitFault::BadList(fault)) => Ok(Err(list_fault(alloc, fault)?)),
+        Err(SplitFault::BadList(fault)) => Ok(Err(fault.told(alloc)?)),
         Err(SplitFault::NoMemory) => Err(AllocError),
     }
 }

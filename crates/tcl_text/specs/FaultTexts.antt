@@ -1,20 +1,57 @@
--- Meaning. What a script is told of faults of scripts and variables. Want of memory has no such text: it is empty.
+-- Meaning. What a script is told of faults of texts, scripts and variables. Want of memory has no such text: it is empty.
 use Rattle.std.specs.Prelude.{ℕ, List, [], ◌++◌, codes}
-use Rattle.tcl_text.specs.Answers.{quoted}
+use Rattle.tcl_text.specs.Messages.{bad_name_text, limit_text, quoted}
+use Rattle.tcl_text.specs.declared.fault.ListFault.{ListFault}
+use Rattle.tcl_text.specs.declared.fault.ListFault.TheVariants as lists
+use Rattle.tcl_text.specs.declared.fault.TextFault.{TextFault}
+use Rattle.tcl_text.specs.declared.fault.TextFault.TheVariants as values
+use Rattle.tcl_text.specs.declared.fault.SplitFault.{SplitFault}
+use Rattle.tcl_text.specs.declared.fault.SplitFault.TheVariants as splits
+use Rattle.tcl_text.specs.declared.fault.EditFault.{EditFault}
+use Rattle.tcl_text.specs.declared.fault.EditFault.TheVariants as edits
 use Rattle.tcl_text.specs.declared.fault.ParseFault.{ParseFault}
 use Rattle.tcl_text.specs.declared.fault.ParseFault.TheVariants as parse
 use Rattle.tcl_text.specs.declared.fault.ReadFault.{ReadFault}
 use Rattle.tcl_text.specs.declared.fault.ReadFault.TheVariants as reads
 use Rattle.tcl_text.specs.declared.fault.SetFault.{SetFault}
 use Rattle.tcl_text.specs.declared.fault.SetFault.TheVariants as sets
+use Rattle.tcl_text.specs.declared.fault.ChangeFault.{ChangeFault}
+use Rattle.tcl_text.specs.declared.fault.ChangeFault.TheVariants as changes
 use Rattle.tcl_text.specs.declared.fault.UnsetFault.{UnsetFault}
 use Rattle.tcl_text.specs.declared.fault.UnsetFault.TheVariants as unsets
 use Rattle.tcl_text.specs.declared.fault.LinkFault.{LinkFault}
 use Rattle.tcl_text.specs.declared.fault.LinkFault.TheVariants as links
 
+-- a text is no integer, and no boolean
+abbrev pub integer_text : List ℕ → List ℕ
+integer_text word = codes "expected integer but got " ++ quoted word
+
+abbrev pub boolean_text : List ℕ → List ℕ
+boolean_text word = codes "expected boolean value but got " ++ quoted word
+
+-- why a text is no list
+abbrev pub list_text : ListFault → List ℕ
+list_text lists.OpenBrace = codes "unmatched open brace in list"
+list_text lists.OpenQuote = codes "unmatched open quote in list"
+list_text lists.ExtraCharacters = codes "extra characters after list element"
+
+-- why a text isn't made, split or changed
+abbrev pub value_text : TextFault → List ℕ
+value_text values.TooLong = limit_text
+value_text values.NoMemory = []
+
+abbrev pub split_text : SplitFault → List ℕ
+split_text (splits.BadList fault) = list_text fault
+split_text splits.NoMemory = []
+
+abbrev pub edit_text : EditFault → List ℕ
+edit_text edits.TooLong = limit_text
+edit_text (edits.BadList fault) = list_text fault
+edit_text edits.NoMemory = []
+
 -- why a text is no script
 abbrev pub parse_text : ParseFault → List ℕ
-parse_text parse.TooLong = codes "limit reached: value"
+parse_text parse.TooLong = limit_text
 parse_text parse.MissingBrace = codes "missing close-brace"
 parse_text parse.MissingBracket = codes "missing close-bracket"
 parse_text parse.MissingQuote = codes "missing \""
@@ -45,6 +82,12 @@ set_text name sets.NotArray = cannot (codes "set") name (codes "variable isn't a
 set_text name sets.Full = no_room
 set_text name sets.NoMemory = []
 
+abbrev pub change_text : List ℕ → ChangeFault → List ℕ
+change_text name (changes.Unread fault) = read_text name fault
+change_text name changes.TooLong = limit_text
+change_text name (changes.BadList fault) = list_text fault
+change_text name changes.NoMemory = []
+
 abbrev pub unset_text : List ℕ → UnsetFault → List ℕ
 unset_text name unsets.NoVariable = cannot (codes "unset") name (codes "no such variable")
 unset_text name unsets.NoElement = cannot (codes "unset") name (codes "no such element in array")
@@ -52,7 +95,7 @@ unset_text name unsets.NotArray = cannot (codes "unset") name (codes "variable i
 unset_text name unsets.NoMemory = []
 
 abbrev pub link_text : List ℕ → LinkFault → List ℕ
-link_text name links.BadName = codes "can't use name " ++ quoted name
+link_text name links.BadName = bad_name_text name
 link_text name links.Exists = codes "variable " ++ (quoted name ++ codes " already exists")
 link_text name links.Full = no_room
 link_text name links.NoMemory = []

@@ -1,10 +1,9 @@
 //! The faults of texts, scripts and variables: the number of each, and what a script is told of it. In place of a text past 65,536 bytes
 //! stands that of the limit (4). Refused memory has no number, and its text is empty.
 ghost use Rattle.std.specs.Prelude.{◌≡◌, IfOk};
-ghost use Rattle.tcl_text.specs.Answers.{message};
+ghost use Rattle.tcl_text.specs.Messages.{message};
 ghost use Rattle.tcl_text.specs.Faults as faults;
 ghost use Rattle.tcl_text.specs.FaultTexts as texts;
-ghost use Rattle.tcl_text.specs.Splitting.{fault_text};
 ghost use Rattle.tcl_text.specs.declared.fault.TextFault.TheVariants as text_fault;
 ghost use Rattle.tcl_text.specs.declared.fault.SplitFault.TheVariants as split_fault;
 ghost use Rattle.tcl_text.specs.declared.fault.EditFault.TheVariants as edit_fault;
@@ -14,10 +13,13 @@ ghost use Rattle.tcl_text.specs.declared.fault.ChangeFault.TheVariants as change
 ghost use Rattle.tcl_text.specs.declared.fault.UnsetFault.TheVariants as unset_fault;
 ghost use Rattle.tcl_text.specs.declared.fault.LinkFault.TheVariants as link_fault;
 
-use crate::message::{quoting, with_quoted};
+use crate::message::{TOO_LONG, about, about_between, bad_name_text, limit};
 use crate::text::Text;
 use std::alloc::{AllocError, AllocFailed, Global};
 use thiserror::Error;
+
+/// What a script is told where there would be more than 4,096 variables (19).
+const NO_ROOM: &str = "limit reached: variables";
 
 /// The text is no integer of 64 bits (1).
 #[derive(Clone, Copy, Debug, PartialEq, Eq, Drop, Error)]
@@ -30,6 +32,13 @@ impl NotInteger {
         ensures { result ≡ faults.not_integer_number }
     {
         1
+    }
+
+    /// That the word is no integer, as its script is told of it; the text of the limit (4) stands in place of one past 65,536 bytes.
+    pub fn text(&self, alloc: Global, word: &str) -> Result<Text, AllocError>
+        ensures { IfOk result (λ text. text ≡ message (texts.integer_text word.now)) }
+    {
+        about(alloc, "expected integer but got ", word)
     }
 }
 
@@ -44,6 +53,13 @@ impl NotBoolean {
         ensures { result ≡ faults.not_boolean_number }
     {
         2
+    }
+
+    /// That the word is no boolean, as its script is told of it; the text of the limit (4) stands in place of one past 65,536 bytes.
+    pub fn text(&self, alloc: Global, word: &str) -> Result<Text, AllocError>
+        ensures { IfOk result (λ text. text ≡ message (texts.boolean_text word.now)) }
+    {
+        about(alloc, "expected boolean value but got ", word)
     }
 }
 
@@ -71,13 +87,22 @@ impl ListFault {
 
     /// The fault as a script is told of it.
     pub fn text(&self) -> &'static str
-        ensures { result.now ≡ fault_text self.now }
+        ensures { result.now ≡ texts.list_text self.now }
     {
         match self {
             ListFault::OpenBrace => "unmatched open brace in list",
             ListFault::OpenQuote => "unmatched open quote in list",
             ListFault::ExtraCharacters => "extra characters after list element",
         }
+    }
+
+    /// The same as a text of its own.
+    #[tactic(auto, unfolding(crate::specs::Messages::bounded))]
+    pub fn told(&self, alloc: Global) -> Result<Text, AllocError>
+        ensures { IfOk result (λ text. text ≡ message (texts.list_text self.now)) }
+    {
+        let characters = self.text();
+        Text::of_message(alloc, characters)
     }
 }
 
@@ -100,6 +125,17 @@ impl TextFault {
         match self {
             TextFault::TooLong => Some(4),
             TextFault::NoMemory => None,
+        }
+    }
+
+    /// The fault as a script is told of it; the text of the limit (4) stands in place of a value past 65,536 bytes. Refused memory has no such
+    /// text: it is empty.
+    pub fn text(&self) -> &'static str
+        ensures { result.now ≡ texts.value_text self.now }
+    {
+        match self {
+            TextFault::TooLong => TOO_LONG,
+            TextFault::NoMemory => "",
         }
     }
 }
@@ -141,6 +177,16 @@ impl SplitFault {
             SplitFault::NoMemory => None,
         }
     }
+
+    /// The fault as a script is told of it. Refused memory has no such text: it is empty.
+    pub fn text(&self) -> &'static str
+        ensures { result.now ≡ texts.split_text self.now }
+    {
+        match self {
+            SplitFault::BadList(fault) => fault.text(),
+            SplitFault::NoMemory => "",
+        }
+    }
 }
 
 impl From<AllocError> for SplitFault {
@@ -174,6 +220,18 @@ impl EditFault {
             EditFault::TooLong => Some(4),
             EditFault::BadList(fault) => Some(fault.number()),
             EditFault::NoMemory => None,
+        }
+    }
+
+    /// The fault as a script is told of it; the text of the limit (4) stands in place of a value past 65,536 bytes. Refused memory has no such
+    /// text: it is empty.
+    pub fn text(&self) -> &'static str
+        ensures { result.now ≡ texts.edit_text self.now }
+    {
+        match self {
+            EditFault::TooLong => TOO_LONG,
+            EditFault::BadList(fault) => fault.text(),
+            EditFault::NoMemory => "",
         }
     }
 }
@@ -232,12 +290,13 @@ impl ParseFault {
         }
     }
 
-    /// The fault as an application is told of it. Refused memory has no such text: it is empty.
+    /// The fault as an application is told of it; the text of the limit (4) stands in place of a script past 65,536 bytes, or nested too deep.
+    /// Refused memory has no such text: it is empty.
     pub fn text(&self) -> &'static str
         ensures { result.now ≡ texts.parse_text self.now }
     {
         match self {
-            ParseFault::TooLong => "limit reached: value",
+            ParseFault::TooLong => TOO_LONG,
             ParseFault::MissingBrace => "missing close-brace",
             ParseFault::MissingBracket => "missing close-bracket",
             ParseFault::MissingQuote => "missing \"",
@@ -249,7 +308,7 @@ impl ParseFault {
     }
 
     /// The same as a text of its own.
-    #[tactic(auto, unfolding(crate::specs::Answers::bounded))]
+    #[tactic(auto, unfolding(crate::specs::Messages::bounded))]
     pub fn told(&self, alloc: Global) -> Result<Text, AllocError>
         ensures { IfOk result (λ text. text ≡ message (texts.parse_text self.now)) }
     {
@@ -314,7 +373,8 @@ impl ReadFault {
         }
     }
 
-    /// Why the variable of this name can't be read, as its script is told of it.
+    /// Why the variable of this name can't be read, as its script is told of it; the text of the limit (4) stands in place of one past
+    /// 65,536 bytes.
     pub fn text(&self, alloc: Global, name: &str) -> Result<Text, AllocError>
         ensures { IfOk result (λ text. text ≡ message (texts.read_text name.now self.now)) }
     {
@@ -352,14 +412,15 @@ impl SetFault {
         }
     }
 
-    /// Why the variable of this name can't be set, as its script is told of it.
+    /// Why the variable of this name can't be set, as its script is told of it; the text of the limit (4) stands in place of one past
+    /// 65,536 bytes. Refused memory has no such text: it is empty.
     pub fn text(&self, alloc: Global, name: &str) -> Result<Text, AllocError>
         ensures { IfOk result (λ text. text ≡ message (texts.set_text name.now self.now)) }
     {
         match self {
             SetFault::IsArray => cannot(alloc, "set", name, "variable is array"),
             SetFault::NotArray => cannot(alloc, "set", name, "variable isn't array"),
-            SetFault::Full => Text::of_short(alloc, "limit reached: variables"),
+            SetFault::Full => Text::of_short(alloc, NO_ROOM),
             SetFault::NoMemory => Text::of_short(alloc, ""),
         }
     }
@@ -402,6 +463,19 @@ impl ChangeFault {
             ChangeFault::NoMemory => None,
         }
     }
+
+    /// Why the variable of this name can't be changed, as its script is told of it; the text of the limit (4) stands in place of one past
+    /// 65,536 bytes, and of a value past them. Refused memory has no such text: it is empty.
+    pub fn text(&self, alloc: Global, name: &str) -> Result<Text, AllocError>
+        ensures { IfOk result (λ text. text ≡ message (texts.change_text name.now self.now)) }
+    {
+        match self {
+            ChangeFault::Unread(fault) => fault.text(alloc, name),
+            ChangeFault::TooLong => limit(alloc),
+            ChangeFault::BadList(fault) => fault.told(alloc),
+            ChangeFault::NoMemory => Text::of_short(alloc, ""),
+        }
+    }
 }
 
 impl From<AllocError> for ChangeFault {
@@ -442,7 +516,8 @@ impl UnsetFault {
         }
     }
 
-    /// Why the variable of this name can't be unset, as its script is told of it.
+    /// Why the variable of this name can't be unset, as its script is told of it; the text of the limit (4) stands in place of one past
+    /// 65,536 bytes. Refused memory has no such text: it is empty.
     pub fn text(&self, alloc: Global, name: &str) -> Result<Text, AllocError>
         ensures { IfOk result (λ text. text ≡ message (texts.unset_text name.now self.now)) }
     {
@@ -492,21 +567,15 @@ impl LinkFault {
         }
     }
 
-    /// Why a link of this name can't be made, as its script is told of it.
-    #[tactic(auto, unfolding(crate::specs::Answers::bounded))]
+    /// Why a link of this name can't be made, as its script is told of it; the text of the limit (4) stands in place of one past 65,536
+    /// bytes. Refused memory has no such text: it is empty.
     pub fn text(&self, alloc: Global, name: &str) -> Result<Text, AllocError>
         ensures { IfOk result (λ text. text ≡ message (texts.link_text name.now self.now)) }
     {
         match self {
-            LinkFault::BadName => {
-                let characters = with_quoted(alloc, "can't use name ", name)?;
-                Text::of_message(alloc, characters.as_str())
-            }
-            LinkFault::Exists => {
-                let characters = quoting(alloc, "variable ", name, " already exists")?;
-                Text::of_message(alloc, characters.as_str())
-            }
-            LinkFault::Full => Text::of_short(alloc, "limit reached: variables"),
+            LinkFault::BadName => bad_name_text(alloc, name),
+            LinkFault::Exists => about_between(alloc, "variable ", name, " already exists"),
+            LinkFault::Full => Text::of_short(alloc, NO_ROOM),
             LinkFault::NoMemory => Text::of_short(alloc, ""),
         }
     }
@@ -521,7 +590,7 @@ impl From<AllocError> for LinkFault {
 }
 
 /// Why something can't be done with a variable.
-#[tactic(auto, unfolding(crate::specs::Answers::bounded))]
+#[tactic(auto, unfolding(crate::specs::Messages::bounded))]
 fn cannot(alloc: Global, verb: &str, name: &str, reason: &str) -> Result<Text, AllocError>
     ensures { IfOk result (λ text. text ≡ message (texts.cannot verb.now name.now reason.now)) }
 {

@@ -4,9 +4,9 @@ ghost use Rattle.tcl_text.specs.Answers.{Gives, quoted};
 ghost use Rattle.tk_pack_commands.specs.Faults as spec;
 
 use std::alloc::{AllocError, Global};
-use tcl_text::Text;
 use tcl_text::answers::{Refusal, error, error_about, quoting_error};
 use tcl_text::message::quoting;
+use tcl_text::{NotBoolean, Text};
 
 /// The error for a path that names no window (24).
 pub fn bad_path<T>(alloc: Global, path: &Text) -> Result<T, Refusal>
@@ -61,10 +61,11 @@ pub fn no_value<T>(alloc: Global, name: &Text) -> Result<T, Refusal>
 }
 
 /// The error for a word that is no boolean (2).
+#[tactic(auto, unfolding(tcl_text::specs::Messages::bounded))]
 pub fn not_boolean<T>(alloc: Global, word: &Text) -> Result<T, Refusal>
     ensures { Gives result (spec.not_boolean word.now) }
 {
-    Err(quoting_error(alloc, "expected boolean value but got ", word.as_str()))
+    Err(Refusal::Error(NotBoolean.text(alloc, word.as_str())?))
 }
 
 /// A word in quotation marks with what stands before and behind it.

@@ -135,7 +135,7 @@ fn sum_of(alloc: Global, a: i64, b: i64) -> Reply
 /// The value of a variable, where one that isn't there counts as these characters.
 fn value_or(alloc: Global, scopes: &Scopes, level: usize, name: &Text, absent: &str) -> Reply
     requires level { level < length scopes.now }
-    requires short { length absent.now ≤ 22 }
+    requires short { length absent.now ≤ most_in_place }
     ensures { Gives result (spec.value_or absent.now name.now (variable_in scopes.now level name.now)) }
 {
     match scopes.get(level, name) {

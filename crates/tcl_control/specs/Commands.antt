@@ -3,8 +3,10 @@ use Rattle.std.specs.Prelude.{ℕ, ◌+◌, ◌-◌, ◌||◌, ◌&&◌, nat_le,
 use Rattle.std.specs.List.{starts_with}
 use Rattle.std.specs.Fmt.{decimal}
 use Rattle.tcl_text.specs.Answers.{Answer}
+use Rattle.tcl_text.specs.Bytes.{hash}
 use Rattle.tcl_text.specs.Readings.{integer_of}
 use Rattle.tcl_text.specs.StringCommands.{concat_words}
+use Rattle.tcl_words.specs.Classes.{is_digit}
 use Rattle.tcl_vars.specs.Store.{Store, with_variable}
 use Rattle.tcl_commands.specs.Values.{exists_words}
 use Rattle.tcl_text.specs.declared.fault.SetFault.{SetFault}
@@ -137,13 +139,10 @@ foreach_plan words =
 
 -- ── levels ──
 
-abbrev pub is_digit : ℕ → Bool
-is_digit byte = nat_le 48 byte && nat_le byte 57
-
 -- the first word of uplevel is a level where it begins with a digit or `#`
 abbrev pub is_level : List ℕ → Bool
 is_level [] = false
-is_level (byte ∷ bytes) = is_digit byte || nat_eq byte 35
+is_level (byte ∷ bytes) = is_digit byte || nat_eq byte hash
 
 -- a number from 0 on
 abbrev pub unsigned_of : Option ℤ → Option ℕ

@@ -13,11 +13,14 @@ use tcl_table::texts::{about, message};
 use tcl_table::{Command, CommandTable, Procedure, Source, is_dotted, plain_name};
 use tcl_text::Text;
 
+/// How many procedures there are at most.
+const MAX_PROCEDURES: usize = 1024;
+
 /// Whether there is room for a procedure of a name: it has that of a procedure, or there are few enough.
 fn has_room(table: &CommandTable, name: &str) -> bool
     ensures { result ≡ has_room table.now name.now }
 {
-    holds_procedure(table.get(name)) || table.procedures() < 1024
+    holds_procedure(table.get(name)) || table.procedures() < MAX_PROCEDURES
 }
 
 fn holds_procedure(command: Option<&Command>) -> bool

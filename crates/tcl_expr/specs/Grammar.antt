@@ -2,7 +2,7 @@
 -- stands open while a text is read. What stands at the front of a text is read with how that goes on: with what is left, or with a fault.
 use Rattle.std.specs.Prelude.{ℕ, zero, suc, ◌-◌, ◌≡◌, ◌≢◌, ◌≤◌, nat_lt, Bool, true, false, not, if◌then◌else◌, List, [], ◌∷◌, ◌++◌, length, drop, Option, Some, None, Result, Ok, Err}
 use Rattle.std.specs.Char.{digit_value}
-use Rattle.tcl_text.specs.Bytes.{quote, dollar_sign, open_bracket, close_bracket, open_brace, close_brace}
+use Rattle.tcl_text.specs.Bytes.{quote, dollar_sign, digit_zero, open_bracket, close_bracket, open_brace, close_brace}
 use Rattle.tcl_text.specs.Readings.{boolean_of, base_named}
 use Rattle.tcl_words.specs.Grammar.{leaves as leaves_text, fails as text_fails, script, begins, begins_name, ArePieces, IsBraced, IsUnclosed, IsInnerOf, IsIndexOf, IsText}
 use Rattle.tcl_words.specs.OperandGrammar.{IsSubstitution, IsFaultySubstitution}
@@ -101,9 +101,9 @@ begins_base (letter ∷ behind) = begins_digit_of (base_named letter) behind
 -- The number in front of this text, as long as can be: `0` and the letter of a base with digits of it, octal digits behind a `0`, or decimal ones.
 pub data IsNumber (rest : List ℕ) : List ℕ → Type 0 where
   based : (letter base digit : ℕ) (digits : List ℕ) → base_named letter ≡ Some base → AreDigits base (digit ∷ digits) → begins_digit base rest ≡ false →
-      IsNumber rest (48 ∷ letter ∷ digit ∷ digits)
-  octal : (digits : List ℕ) → AreDigits 8 digits → begins_digit 8 rest ≡ false → begins_base (digits ++ rest) ≡ false → IsNumber rest (48 ∷ digits)
-  decimal : (digit : ℕ) (digits : List ℕ) → digit ≢ 48 → AreDigits 10 (digit ∷ digits) → begins_digit 10 rest ≡ false → IsNumber rest (digit ∷ digits)
+      IsNumber rest (digit_zero ∷ letter ∷ digit ∷ digits)
+  octal : (digits : List ℕ) → AreDigits 8 digits → begins_digit 8 rest ≡ false → begins_base (digits ++ rest) ≡ false → IsNumber rest (digit_zero ∷ digits)
+  decimal : (digit : ℕ) (digits : List ℕ) → digit ≢ digit_zero → AreDigits 10 (digit ∷ digits) → begins_digit 10 rest ≡ false → IsNumber rest (digit ∷ digits)
 
 -- letters, digits and `_`
 abbrev pub AreNameBytes : List ℕ → Type 0

@@ -24,10 +24,7 @@ use crate::tokens::{
 };
 use std::alloc::{AllocError, Global};
 use tcl_text::Text;
-use tcl_words::{ParseFault, bracket_behind, quotes_behind, substitution_behind};
-
-/// How many parentheses, brackets and indices may stand open in one another.
-const MAX_DEPTH: usize = 200;
+use tcl_words::{MAX_DEPTH, ParseFault, bracket_behind, quotes_behind, substitution_behind};
 
 /// The text of some bytes, which are characters.
 fn text_of(alloc: Global, bytes: &[u8]) -> Result<Text, AllocError>

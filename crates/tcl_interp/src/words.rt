@@ -18,7 +18,7 @@ use tcl_table::texts::cannot_read_element;
 use tcl_text::message::limit;
 use tcl_text::{SplitFault, Text, TextFault, TextList};
 use tcl_vars::Scopes;
-use tcl_words::{Command, Index, Piece, Script, Word};
+use tcl_words::{Command, Index, MAX_DEPTH, Piece, Script, Word};
 
 /// A part of a word that is evaluated by itself: a script in brackets, or an element, by the array's name and the index.
 #[derive(Drop)]
@@ -48,7 +48,7 @@ pub enum Put {
 }
 
 /// How many indices stand in one another at most, in a script that can be read.
-const INDEX_DEPTH: u64 = 200;
+const INDEX_DEPTH: u64 = MAX_DEPTH as u64;
 
 /// A piece's value, where variables are those of a level.
 fn piece_value(

@@ -2,6 +2,7 @@
 use Rattle.std.specs.Prelude.{ℕ, zero, suc, ◌+◌, ◌-◌, Bool, true, false, List, [], ◌∷◌, ◌++◌, length, take, drop, slice_index, Result, Ok, Err}
 use Rattle.std.specs.List.{slice_range}
 use Rattle.tcl_text.specs.Backslash.{escape}
+use Rattle.tcl_text.specs.Bytes.{star}
 use Rattle.tcl_words.specs.Kinds.{dollar_of, kind_before}
 use Rattle.tcl_words.specs.Changes.{Change, bytes, name, text_ends, word_ends, command_ends, word_begins, command_begins}
 use Rattle.tcl_words.specs.declared.kind.Kind.{Kind}
@@ -98,7 +99,7 @@ at_word expand start kind b at behind = before (word_begins BareForm expand star
 
 -- what was `{*}` with nothing behind it is the word `*` in braces
 abbrev pub lone : ℕ → List Change
-lone at = word_begins BracedForm false (at - 3) ∷ bytes (42 ∷ []) ∷ []
+lone at = word_begins BracedForm false (at - 3) ∷ bytes (star ∷ []) ∷ []
 
 abbrev pub in_expanded : Kind → ℕ → ℕ → List ℕ → Move
 in_expanded Blank b at behind = on (lone at ++ word_ends at ∷ []) 0 Between

@@ -3,6 +3,7 @@ use Rattle.std.specs.Prelude.{ℕ, ◌+◌, ◌-◌, ◌≡◌, ◌≢◌, ◌<�
 use Rattle.std.specs.List.{slice_range}
 use Rattle.std.specs.Str.{IsCharBoundary}
 use Rattle.tcl_text.specs.Backslash.{escape}
+use Rattle.tcl_text.specs.Bytes.{star as star_byte}
 use Rattle.tcl_words.specs.Changes.{Rest, Read, put, last_rest, literal_before, changed, piece_before}
 use Rattle.tcl_words.specs.Spans.{command_of, word_of}
 use Rattle.tcl_words.specs.Moves.{Move}
@@ -132,7 +133,7 @@ pub record MayEnd (parts : Parts) (source : List ℕ) (at : ℕ) : Type 0 where
 -- `{*}` stands before this position
 pub record IsExpansion (source : List ℕ) (at : ℕ) : Type 0 where
   pub three : 3 ≤ at
-  pub star : slice_range source (at - 2) (at - 1) ≡ 42 ∷ []
+  pub star : slice_range source (at - 2) (at - 1) ≡ star_byte ∷ []
   pub cut_before : IsCharBoundary source (at - 2)
   pub cut_between : IsCharBoundary source (at - 1)
   pub cut_after : IsCharBoundary source at

@@ -1,6 +1,7 @@
 //! What stands in front of a text, of which only as much is looked at as a script then takes.
 
 ghost use Rattle.std.specs.Prelude.{◌≡◌, ◌≢◌, ◌<◌, ◌≤◌, ◌+◌, ◌-◌, ℕ, length, slice_index, MatchOption, IsTrue, true};
+ghost use Rattle.tcl_text.specs.Bytes.{close_brace};
 ghost use Rattle.tcl_words.specs.Kinds.{kind_before, letters, name_length, to_brace, dollar_of};
 ghost use Rattle.tcl_words.specs.Classes.{class_of, begins_newline, begins_expansion, is_letter};
 ghost use Rattle.tcl_words.specs.Parts.{DollarFits};
@@ -129,7 +130,7 @@ fn name_length(text: &[u8]) -> usize
 fn to_brace(text: &[u8]) -> Option<usize>
     ensures count { result ≡ to_brace text.now }
     ensures within { MatchOption result (Unit {0}) (λ count. count < length text.now) }
-    ensures found { MatchOption result (Unit {0}) (λ count. slice_index text.now count ≡ 125) }
+    ensures found { MatchOption result (Unit {0}) (λ count. slice_index text.now count ≡ close_brace) }
 {
     for (count, &byte) in text.iter().enumerate() {
         if byte == b'}' {

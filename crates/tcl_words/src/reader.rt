@@ -16,8 +16,8 @@ use std::alloc::Global;
 use std::mem;
 use tcl_text::ParseFault;
 
-/// How many brackets and indices may stand within one another.
-const MAX_DEPTH: usize = 200;
+/// How many brackets and indices, and parentheses of an expression, stand in one another at most.
+pub const MAX_DEPTH: usize = 200;
 
 /// How a whole script begins.
 fn outermost() -> Origin

@@ -4,7 +4,8 @@ use Rattle.std.specs.Prelude.{ℕ, zero, suc, ◌-◌, ◌≡◌, ◌≢◌, ◌
 use Rattle.std.specs.Char.{digit_value}
 use Rattle.tcl_text.specs.Bytes.{quote, dollar_sign, digit_zero, open_bracket, close_bracket, open_brace, close_brace}
 use Rattle.tcl_text.specs.Readings.{boolean_of, base_named}
-use Rattle.tcl_words.specs.Grammar.{leaves as leaves_text, fails as text_fails, script, begins, begins_name, ArePieces, IsBraced, IsUnclosed, IsInnerOf, IsIndexOf, IsText}
+use Rattle.tcl_words.specs.Classes.{begins_newline}
+use Rattle.tcl_words.specs.Grammar.{leaves as leaves_text, fails as text_fails, script, begins, begins_name, begins_name_byte, AreNameBytes, ArePieces, IsBraced, IsUnclosed, IsInnerOf, IsIndexOf, IsText}
 use Rattle.tcl_words.specs.OperandGrammar.{IsSubstitution, IsFaultySubstitution}
 use Rattle.tcl_words.specs.declared.kind.Mode.TheVariants.{Quotes}
 use Rattle.tcl_words.specs.declared.script.Piece.{Piece}
@@ -21,7 +22,7 @@ use Rattle.tcl_expr.specs.declared.tokens.Mark.TheVariants as mark
 use Rattle.tcl_expr.specs.declared.tokens.Link.{Link}
 use Rattle.tcl_expr.specs.declared.tokens.Link.TheVariants as link
 use Rattle.tcl_expr.specs.Operators.{level_of, between}
-use Rattle.tcl_expr.specs.Tokens.{mark_of, begins_newline, link_at, is_name_byte, begins_name_byte, ends_number}
+use Rattle.tcl_expr.specs.Tokens.{mark_of, link_at, ends_number}
 use Rattle.tcl_expr.specs.Trees.{Tree, Integer, Plain, Variable, Element, Command, Joined, Unary, Choice}
 use Rattle.tcl_text.specs.Limits.{most_nested}
 
@@ -104,11 +105,6 @@ pub data IsNumber (rest : List ℕ) : List ℕ → Type 0 where
       IsNumber rest (digit_zero ∷ letter ∷ digit ∷ digits)
   octal : (digits : List ℕ) → AreDigits 8 digits → begins_digit 8 rest ≡ false → begins_base (digits ++ rest) ≡ false → IsNumber rest (digit_zero ∷ digits)
   decimal : (digit : ℕ) (digits : List ℕ) → digit ≢ digit_zero → AreDigits 10 (digit ∷ digits) → begins_digit 10 rest ≡ false → IsNumber rest (digit ∷ digits)
-
--- letters, digits and `_`
-abbrev pub AreNameBytes : List ℕ → Type 0
-AreNameBytes [] = Unit {0}
-AreNameBytes (b ∷ word) = (is_name_byte b ≡ true) × AreNameBytes word
 
 -- What pieces of a script are as trees: one of them, and several that are joined from the left.
 mutual

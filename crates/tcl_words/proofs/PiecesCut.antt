@@ -2,7 +2,7 @@
 use Rattle.std.proofs.Common.{◌≡◌, ℕ, zero, suc, ◌≤◌, inl, inr, Bool, true, false, List, [], ◌∷◌, ◌++◌, length, take, drop, refl, sym, ap, subst, ◌∙◌, eqb-true, append_assoc, length-append, length-drop, take-append-drop, arith}
 use Rattle.tcl_text.specs.Backslash.{escape}
 use Rattle.tcl_words.specs.Classes.{class_of}
-use Rattle.tcl_words.specs.Grammar.{TextEnding, leaves, fails, Inner, script, index, stops, is_plain, unended_fault, with_bytes, begins, begins_letter, begins_name, IsName, ArePieces, IsInnerOf}
+use Rattle.tcl_words.specs.Grammar.{TextEnding, leaves, fails, Inner, script, index, stops, is_plain, unended_fault, with_bytes, begins, begins_name_byte, begins_name, IsName, ArePieces, IsInnerOf}
 use Rattle.tcl_words.specs.Grammar.ArePieces.{stop, unended, byte, backslash, dollar, variable, braced_name, unclosed_name, element, faulty_index, bracket, faulty_script}
 use Rattle.tcl_words.specs.declared.kind.Mode.{Mode}
 use Rattle.tcl_words.specs.declared.kind.Kind.{Kind}
@@ -77,7 +77,7 @@ index_found room inside mode n name text ih fits is (leaves left) h (own, rest, 
     (found_onto room inside mode (36 ∷ (name ++ 40 ∷ (own ++ 41 ∷ rest))) (36 ∷ (name ++ 40 ∷ (own ++ 41 ∷ []))) rest (ap (λ t. 36 ∷ t) cut)
     (λ pieces ending are. (Element name own ∷ pieces, element name own is inner are)) (ih rest short))
 
-paren_found : (room : ℕ) (inside : Bool) (mode : Mode) (n : ℕ) (name rest : List ℕ) → InnerCuts room → Finds room inside mode n → length rest ≤ n → IsName name → begins_letter rest ≡ false → FoundPieces room inside mode (36 ∷ (name ++ rest))
+paren_found : (room : ℕ) (inside : Bool) (mode : Mode) (n : ℕ) (name rest : List ℕ) → InnerCuts room → Finds room inside mode n → length rest ≤ n → IsName name → begins_name_byte rest ≡ false → FoundPieces room inside mode (36 ∷ (name ++ rest))
 paren_found room inside mode n name [] inner ih fits is h =
     found_onto room inside mode (36 ∷ (name ++ [])) (36 ∷ name) [] refl (λ pieces ending are. (Variable name ∷ pieces, variable name is h refl are)) (ih [] fits)
 paren_found room inside mode n name (b ∷ rest) inner ih fits is h = elim (decided (begins 40 (b ∷ rest))) [

@@ -3,7 +3,7 @@ use Rattle.std.proofs.Common.{◌≡◌, ℕ, zero, suc, ◌<◌, ◌≤◌, tru
 use Rattle.tcl_text.specs.Backslash.{escape}
 use Rattle.tcl_text.proofs.BackslashLemmas.{escape_within}
 use Rattle.tcl_words.specs.Classes.{class_of, begins_newline}
-use Rattle.tcl_words.specs.Grammar.{TextEnding, leaves, fails, stops, is_plain, with_bytes, begins, begins_letter, begins_name, begins_space, class_ends, ArePieces, IsInnerOf}
+use Rattle.tcl_words.specs.Grammar.{TextEnding, leaves, fails, stops, is_plain, with_bytes, begins, begins_name_byte, begins_name, begins_space, class_ends, ArePieces, IsInnerOf}
 use Rattle.tcl_words.specs.Grammar.ArePieces.{stop, unended, byte, backslash, dollar, variable, braced_name, unclosed_name, element, faulty_index, bracket, faulty_script}
 use Rattle.tcl_words.specs.declared.kind.Mode.{Mode}
 use Rattle.tcl_words.specs.declared.kind.Mode.TheVariants.{Bare, Quotes, Parens}
@@ -176,7 +176,7 @@ pieces_moved mode (dollar {text} {pieces} {ending} h k more) =
 pieces_moved mode (variable name {text} {pieces} {ending} is h k more) =
     moved_on mode (36 ∷ name) text (36 ∷ (name ++ text)) pieces (Variable name ∷ pieces) ending refl
     (λ left own e self other tail are. regrouped mode 36 name own other (Variable name ∷ pieces)
-    (variable name is (letter_inert own left other (ap begins_letter (sym e) ∙ h) tail.inert) (byte_inert 40 own left other (ap (begins 40) (sym e) ∙ k) tail.inert.paren) are)) (pieces_moved mode more)
+    (variable name is (letter_inert own left other (ap begins_name_byte (sym e) ∙ h) tail.inert) (byte_inert 40 own left other (ap (begins 40) (sym e) ∙ k) tail.inert.paren) are)) (pieces_moved mode more)
 pieces_moved mode (braced_name name {text} {pieces} {ending} h more) =
     moved_on mode (36 ∷ 123 ∷ (name ++ 125 ∷ [])) text (36 ∷ 123 ∷ (name ++ 125 ∷ text)) pieces (Variable name ∷ pieces) ending (ap (λ t. 36 ∷ 123 ∷ t) (sym (append_assoc name (125 ∷ []) text)))
     (λ left own e self other tail are. regrouped mode 36 (123 ∷ (name ++ 125 ∷ [])) own other (Variable name ∷ pieces)

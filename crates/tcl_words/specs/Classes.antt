@@ -12,9 +12,12 @@ is_blank b = b == space || b == tab || b == vertical_tab || b == form_feed || b 
 abbrev pub is_digit : ℕ → Bool
 is_digit b = nat_le digit_zero b && nat_le b digit_nine
 
--- a byte of a variable's name: a letter, a digit or `_`
-abbrev pub is_letter : ℕ → Bool
-is_letter b = (nat_le letter_a b && nat_le b letter_z) || (nat_le capital_a b && nat_le b capital_z) || is_digit b || b == underscore
+abbrev pub is_alphabetic : ℕ → Bool
+is_alphabetic b = (nat_le letter_a b && nat_le b letter_z) || (nat_le capital_a b && nat_le b capital_z)
+
+-- a byte of a name: a letter, a digit or `_`
+abbrev pub is_name_byte : ℕ → Bool
+is_name_byte b = is_alphabetic b || is_digit b || b == underscore
 
 -- what a byte can mean
 unfoldable pub class_of : ℕ → Kind

@@ -6,7 +6,7 @@ use Rattle.std.specs.List.{starts_with}
 use Rattle.std.specs.Str.{IsUtf8}
 use Rattle.tcl_text.specs.Bytes.{tab, line_feed, space, quote, hash, dollar_sign, open_paren, close_paren, star, colon, semicolon, open_bracket, backslash_sign, close_bracket, open_brace, close_brace}
 use Rattle.tcl_text.specs.Backslash.{escape}
-use Rattle.tcl_words.specs.Classes.{class_of, is_letter, begins_newline, begins_expansion}
+use Rattle.tcl_words.specs.Classes.{class_of, is_name_byte, begins_newline, begins_expansion}
 use Rattle.tcl_words.specs.Spans.{command_of, word_of}
 use Rattle.tcl_words.specs.declared.kind.Mode.{Mode}
 use Rattle.tcl_words.specs.declared.kind.Mode.TheVariants.{Bare, Quotes, Parens}
@@ -40,13 +40,13 @@ abbrev pub begins : ℕ → List ℕ → Bool
 begins b [] = false
 begins b (c ∷ text) = c == b
 
-abbrev pub begins_letter : List ℕ → Bool
-begins_letter [] = false
-begins_letter (b ∷ text) = is_letter b
+abbrev pub begins_name_byte : List ℕ → Bool
+begins_name_byte [] = false
+begins_name_byte (b ∷ text) = is_name_byte b
 
 -- a name stands at the front: `::` or nothing, and then a letter, a digit or `_`
 abbrev pub begins_name : List ℕ → Bool
-begins_name text = begins_letter text || (starts_with nat_eq text (colon ∷ colon ∷ []) && begins_letter (drop 2 text))
+begins_name text = begins_name_byte text || (starts_with nat_eq text (colon ∷ colon ∷ []) && begins_name_byte (drop 2 text))
 
 -- A byte of this class, and then this text, end the word before them. `inside` says that the script or the index ends at a
 -- closing bracket or parenthesis.
@@ -69,13 +69,13 @@ begins_mark inside [] = false
 begins_mark inside (b ∷ text) = b == open_brace && (begins_expansion text && not (ends_word inside (drop 2 text)))
 
 -- letters, digits and `_`
-abbrev pub AreLetters : List ℕ → Type 0
-AreLetters [] = Unit {0}
-AreLetters (b ∷ text) = (is_letter b ≡ true) × AreLetters text
+abbrev pub AreNameBytes : List ℕ → Type 0
+AreNameBytes [] = Unit {0}
+AreNameBytes (b ∷ text) = (is_name_byte b ≡ true) × AreNameBytes text
 
 -- a variable's name: at least one of these, and before that `::` or nothing
 abbrev pub IsName : List ℕ → Type 0
-IsName name = (b : ℕ) × (letters : List ℕ) × (is_letter b ≡ true) × AreLetters letters × ((name ≡ b ∷ letters) ⊎ (name ≡ colon ∷ colon ∷ b ∷ letters))
+IsName name = (b : ℕ) × (letters : List ℕ) × (is_name_byte b ≡ true) × AreNameBytes letters × ((name ≡ b ∷ letters) ⊎ (name ≡ colon ∷ colon ∷ b ∷ letters))
 
 -- no `}`
 abbrev pub HasNoBrace : List ℕ → Type 0
@@ -133,7 +133,7 @@ pub data ArePieces (IsInner : Inner → List ℕ → TextEnding → Type 0) (ins
   dollar : {text : List ℕ} {pieces : List Piece} {ending : TextEnding} → begins_name text ≡ false → begins open_brace text ≡ false →
       ArePieces IsInner inside mode text pieces ending → ArePieces IsInner inside mode (dollar_sign ∷ text) (with_bytes (dollar_sign ∷ []) pieces) ending
   -- `$name`: the name goes as far as it can
-  variable : (name : List ℕ) {text : List ℕ} {pieces : List Piece} {ending : TextEnding} → IsName name → begins_letter text ≡ false → begins open_paren text ≡ false →
+  variable : (name : List ℕ) {text : List ℕ} {pieces : List Piece} {ending : TextEnding} → IsName name → begins_name_byte text ≡ false → begins open_paren text ≡ false →
       ArePieces IsInner inside mode text pieces ending → ArePieces IsInner inside mode (dollar_sign ∷ (name ++ text)) (Variable name ∷ pieces) ending
   -- `${name}`: any text up to the first brace
   braced_name : (name : List ℕ) {text : List ℕ} {pieces : List Piece} {ending : TextEnding} → HasNoBrace name →

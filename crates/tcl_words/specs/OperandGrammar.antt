@@ -2,7 +2,7 @@
 -- are its own, or its fault. `room` is how many brackets and indices may still be opened in one another.
 use Rattle.std.specs.Prelude.{◌≡◌, ℕ, suc, ◌+◌, true, false, List, ◌∷◌, ◌++◌, length, Option, Some, None, Result, Ok, Err}
 use Rattle.tcl_text.specs.Bytes.{quote, open_paren, close_paren, close_bracket, open_brace, close_brace}
-use Rattle.tcl_words.specs.Grammar.{leaves, fails, script, index, begins, begins_letter, begins_name, IsName, HasNoBrace, ArePieces, IsInnerOf}
+use Rattle.tcl_words.specs.Grammar.{leaves, fails, script, index, begins, begins_name_byte, begins_name, IsName, HasNoBrace, ArePieces, IsInnerOf}
 use Rattle.tcl_words.specs.declared.kind.Mode.TheVariants.{Quotes}
 use Rattle.tcl_words.specs.declared.script.Piece.{Piece}
 use Rattle.tcl_words.specs.declared.script.Piece.TheVariants.{Variable, Element, Bracket}
@@ -18,7 +18,7 @@ IsBehindBracket room text (Err fault) = IsInnerOf room script text (fails fault)
 -- What a `$` before this text begins, as in the pieces of a body, and what is left of the text.
 pub data IsSubstitution (room : ℕ) : List ℕ → Piece → List ℕ → Type 0 where
   -- `$name`: the name goes as far as it can
-  variable : (name : List ℕ) {text : List ℕ} → IsName name → begins_letter text ≡ false → begins open_paren text ≡ false → IsSubstitution room (name ++ text) (Variable name) text
+  variable : (name : List ℕ) {text : List ℕ} → IsName name → begins_name_byte text ≡ false → begins open_paren text ≡ false → IsSubstitution room (name ++ text) (Variable name) text
   -- `${name}`: any text up to the first brace
   braced_name : (name : List ℕ) {text : List ℕ} → HasNoBrace name → IsSubstitution room (open_brace ∷ (name ++ close_brace ∷ text)) (Variable name) text
   -- `$name(index)`

@@ -85,7 +85,7 @@ fn increase(
 ) -> Reply
     requires { level < length scopes.old }
     ensures does { Does result scopes.new
-        (spec.changed level name.now (codes "0") (spec.increased (spec.amount_in (option_copied amount.entry))) scopes.old) }
+        (spec.variable_changed level name.now (codes "0") (spec.increased (spec.amount_in (option_copied amount.entry))) scopes.old) }
     ensures no_memory { IfNoMemory result (scopes.new ≡ scopes.old) }
     ensures levels { length scopes.new ≡ length scopes.old }
 {
@@ -164,7 +164,7 @@ pub fn append_words(alloc: Global, scopes: &mut Scopes, level: usize, words: &[T
 fn append_one(alloc: Global, scopes: &mut Scopes, level: usize, name: &Text, value: &Text) -> Reply
     requires { level < length scopes.old }
     ensures does { Does result scopes.new
-        (spec.changed level name.now [] (λ text. answers (text ++ concat (value.now ∷ []))) scopes.old) }
+        (spec.variable_changed level name.now [] (λ text. answers (text ++ concat (value.now ∷ []))) scopes.old) }
     ensures levels { length scopes.new ≡ length scopes.old }
 {
     change(alloc, scopes, level, name, Edit::Characters(value.as_str()))
@@ -174,7 +174,7 @@ fn append_one(alloc: Global, scopes: &mut Scopes, level: usize, name: &Text, val
 fn append(alloc: Global, scopes: &mut Scopes, level: usize, name: &Text, values: &[Text]) -> Reply
     requires { level < length scopes.old }
     ensures does { Does result scopes.new
-        (spec.changed level name.now [] (λ value. answers (value ++ concat values.now)) scopes.old) }
+        (spec.variable_changed level name.now [] (λ value. answers (value ++ concat values.now)) scopes.old) }
     ensures levels { length scopes.new ≡ length scopes.old }
 {
     let mut more = String::new(alloc);
@@ -185,7 +185,7 @@ fn append(alloc: Global, scopes: &mut Scopes, level: usize, name: &Text, values:
 /// Changes a variable in place, where one that isn't there counts as empty.
 fn change(alloc: Global, scopes: &mut Scopes, level: usize, name: &Text, edit: Edit<'_>) -> Reply
     requires { level < length scopes.old }
-    ensures does { Does result scopes.new (spec.changed level name.now [] (edit_answer edit.entry) scopes.old) }
+    ensures does { Does result scopes.new (spec.variable_changed level name.now [] (edit_answer edit.entry) scopes.old) }
     ensures levels { length scopes.new ≡ length scopes.old }
 {
     match scopes.change(level, name, edit) {
@@ -262,7 +262,7 @@ pub fn lappend_words(alloc: Global, scopes: &mut Scopes, level: usize, words: &[
 fn lappend(alloc: Global, scopes: &mut Scopes, level: usize, name: &Text, values: &[Text]) -> Reply
     requires { level < length scopes.old }
     ensures does { Does result scopes.new
-        (spec.changed level name.now [] (spec.with_items values.now) scopes.old) }
+        (spec.variable_changed level name.now [] (spec.with_items values.now) scopes.old) }
     ensures levels { length scopes.new ≡ length scopes.old }
 {
     match values {

@@ -28,8 +28,8 @@ pub record Called : Type 0 where
   pub call : Call
 
 -- nothing has changed
-abbrev pub keeps : Store → Context → Plan → Called
-keeps store context plan = record { store = store; context = context; call = Plans plan }
+abbrev pub keeps_all : Store → Context → Plan → Called
+keeps_all store context plan = record { store = store; context = context; call = Plans plan }
 
 -- it has ended, and variables may have changed
 abbrev pub ends_with : Context → Ending → Called
@@ -46,12 +46,12 @@ recorded store context changed = record { store = store; context = record contex
 -- proc name params body
 abbrev pub proc_call : List (List ℕ) → Store → Context → Called
 proc_call (name ∷ parameters ∷ body ∷ []) store context = recorded store context (changed context.commands (with_procedure context.commands name parameters body))
-proc_call _ store context = keeps store context (misused usage.Proc)
+proc_call _ store context = keeps_all store context (misused usage.Proc)
 
 -- rename old new
 abbrev pub rename_call : List (List ℕ) → Store → Context → Called
 rename_call (old ∷ new ∷ []) store context = recorded store context (changed context.commands (with_new_name context.commands old new))
-rename_call _ store context = keeps store context (misused usage.Rename)
+rename_call _ store context = keeps_all store context (misused usage.Rename)
 
 -- a procedure was called
 abbrev pub in_procedure : Context → ProcedureCalled → Called
@@ -59,28 +59,28 @@ in_procedure context called = record { store = called.store; context = record co
 
 -- a command of this crate
 abbrev pub builtin_call : BuiltinName → List (List ℕ) → Store → Context → Called
-builtin_call builtin.Break words store context = keeps store context (break_plan words)
-builtin_call builtin.Catch words store context = keeps store context (catch_plan words)
-builtin_call builtin.Continue words store context = keeps store context (continue_plan words)
-builtin_call builtin.Error words store context = keeps store context (error_plan words)
-builtin_call builtin.Eval words store context = keeps store context (eval_plan words)
-builtin_call builtin.Expr words store context = keeps store context (expr_plan words)
-builtin_call builtin.For words store context = keeps store context (for_plan words)
-builtin_call builtin.Foreach words store context = keeps store context (foreach_plan words)
-builtin_call builtin.If words store context = keeps store context (if_plan words)
-builtin_call builtin.Info words store context = keeps store context (info_plan (length context.levels) (here context.levels store) store words)
+builtin_call builtin.Break words store context = keeps_all store context (break_plan words)
+builtin_call builtin.Catch words store context = keeps_all store context (catch_plan words)
+builtin_call builtin.Continue words store context = keeps_all store context (continue_plan words)
+builtin_call builtin.Error words store context = keeps_all store context (error_plan words)
+builtin_call builtin.Eval words store context = keeps_all store context (eval_plan words)
+builtin_call builtin.Expr words store context = keeps_all store context (expr_plan words)
+builtin_call builtin.For words store context = keeps_all store context (for_plan words)
+builtin_call builtin.Foreach words store context = keeps_all store context (foreach_plan words)
+builtin_call builtin.If words store context = keeps_all store context (if_plan words)
+builtin_call builtin.Info words store context = keeps_all store context (info_plan (length context.levels) (here context.levels store) store words)
 builtin_call builtin.Proc words store context = proc_call words store context
 builtin_call builtin.Rename words store context = rename_call words store context
-builtin_call builtin.Return words store context = keeps store context (return_plan words)
-builtin_call builtin.Switch words store context = keeps store context (switch_plan words)
-builtin_call builtin.Uplevel words store context = keeps store context (uplevel_plan (length context.levels) words)
+builtin_call builtin.Return words store context = keeps_all store context (return_plan words)
+builtin_call builtin.Switch words store context = keeps_all store context (switch_plan words)
+builtin_call builtin.Uplevel words store context = keeps_all store context (uplevel_plan (length context.levels) words)
 builtin_call builtin.Upvar words store context = ends_with context (upvar_ending context.levels words store)
 builtin_call (builtin.Variable command) words store context = ends_with context (variable_ending command context.levels words store)
-builtin_call builtin.While words store context = keeps store context (while_plan words)
+builtin_call builtin.While words store context = keeps_all store context (while_plan words)
 
 abbrev pub by_command : List ℕ → List (List ℕ) → Store → Context → Option Command → Called
 by_command name words store context (Some (command.Builtin builtin)) = builtin_call builtin words store context
-by_command name words store context (Some (command.Texts text)) = keeps store context (texts_plan (command_answer text words))
+by_command name words store context (Some (command.Texts text)) = keeps_all store context (texts_plan (command_answer text words))
 by_command name words store context (Some (command.Outside first)) = record { store = store; context = context; call = Outside first }
 by_command name words store context (Some (command.Procedure procedure)) = in_procedure context (procedure_call name procedure words store context.levels)
 by_command name words store context None = record { store = store; context = context; call = Unknown }

@@ -1,5 +1,5 @@
 ghost use Rattle.std.specs.Prelude.{◌≡◌, IfOk};
-ghost use Rattle.tcl_control.specs.Expressions.{truth_of};
+ghost use Rattle.tcl_control.specs.Expressions.{truth_of_text};
 ghost use Rattle.tcl_control.specs.ExpressionForms.{evaluation_begins};
 
 use std::alloc::{AllocError, Global};
@@ -107,7 +107,7 @@ impl Expression {
 
 /// The value of a condition of `if`, `while` or `for` as a boolean (expr(n)), or the text of the error that it is none (2).
 pub fn truth(alloc: Global, value: &Text) -> Result<Result<bool, Text>, AllocError>
-    ensures { IfOk result (λ truth. truth ≡ truth_of value.now) }
+    ensures { IfOk result (λ truth. truth ≡ truth_of_text value.now) }
 {
     match value.boolean() {
         Ok(truth) => Ok(Ok(truth)),

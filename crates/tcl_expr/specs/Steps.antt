@@ -6,9 +6,9 @@ use Rattle.tcl_expr.specs.declared.value.Value.{Value}
 use Rattle.tcl_expr.specs.declared.value.Value.TheVariants.{Number, Words}
 use Rattle.tcl_expr.specs.declared.step.Step.{Step}
 use Rattle.tcl_expr.specs.declared.step.Step.TheVariants as step
-use Rattle.tcl_expr.specs.Values.{truth_value, text_of, unary_value, binary_value}
+use Rattle.tcl_expr.specs.Values.{truth_value, text_of_value, unary_value, binary_value}
 use Rattle.tcl_expr.specs.Run.{Run, AsksVariable, AsksElement, AsksCommand, Ends, on_result, on_truth}
-use Rattle.tcl_expr.specs.Trees.{Tree, Integer, Plain, Variable, Element, Command, Joined, Unary, Binary, And, Or, Choice, joined, final_text}
+use Rattle.tcl_expr.specs.Trees.{Tree, Integer, Plain, Variable, Element, Command, Joined, Unary, Binary, And, Or, Choice, joined_values, final_text}
 
 -- ── what steps come to ──
 
@@ -26,9 +26,9 @@ abbrev pub perform : Step → List Value → (ℕ → List Value → Run) → Ru
 perform step.TooLarge stack go = Ends (Err Overflow)
 perform (step.Plain text) stack go = go 0 (Words text ∷ stack)
 perform (step.Variable name) stack go = AsksVariable name (λ text. go 0 (Words text ∷ stack))
-perform (step.Element array) stack go = AsksElement array (text_of (top_of stack)) (λ text. go 0 (Words text ∷ below stack))
+perform (step.Element array) stack go = AsksElement array (text_of_value (top_of stack)) (λ text. go 0 (Words text ∷ below stack))
 perform (step.Command script) stack go = AsksCommand script (λ text. go 0 (Words text ∷ stack))
-perform step.Join stack go = on_result (joined (top_of (below stack)) (top_of stack)) (λ v. go 0 (v ∷ below (below stack)))
+perform step.Join stack go = on_result (joined_values (top_of (below stack)) (top_of stack)) (λ v. go 0 (v ∷ below (below stack)))
 perform (step.Unary operator) stack go = on_result (unary_value operator (top_of stack)) (λ v. go 0 (v ∷ below stack))
 perform (step.Binary operator) stack go =
     on_result (binary_value operator (top_of (below stack)) (top_of stack)) (λ v. go 0 (v ∷ below (below stack)))

@@ -11,7 +11,7 @@ use Rattle.tcl_control.specs.declared.code.Code.{Code}
 use Rattle.tcl_control.specs.declared.code.Code.TheVariants.{Normal, Error, Return, Break, Continue}
 use Rattle.tcl_control.specs.declared.context.Context.{Context}
 use Rattle.tcl_control.specs.declared.turns.Turning.{Turning}
-use Rattle.tcl_control.specs.Expressions.{truth_of}
+use Rattle.tcl_control.specs.Expressions.{truth_of_text}
 use Rattle.tcl_control.specs.ExpressionForms.{evaluation_begins}
 use Rattle.tcl_shapes.specs.declared.branches.Branch.{Branch}
 use Rattle.tcl_expr.specs.declared.ask.Ask.{Ask}
@@ -355,12 +355,12 @@ module _ {K : Type 0} where
   end_lighter store context (Return code) text (ForValue room evaluation) waits = omega arith
   end_lighter store context Break text (ForValue room evaluation) waits = omega arith
   end_lighter store context Continue text (ForValue room evaluation) waits = omega arith
-  end_lighter store context Normal text (ForTest room turning) waits = turn_lighter room turning waits (truth_of text)
+  end_lighter store context Normal text (ForTest room turning) waits = turn_lighter room turning waits (truth_of_text text)
   end_lighter store context Error text (ForTest room turning) waits = omega arith
   end_lighter store context (Return code) text (ForTest room turning) waits = omega arith
   end_lighter store context Break text (ForTest room turning) waits = omega arith
   end_lighter store context Continue text (ForTest room turning) waits = omega arith
-  end_lighter store context Normal text (ForChoice room branches otherwise) waits = chosen_lighter room branches otherwise waits (truth_of text)
+  end_lighter store context Normal text (ForChoice room branches otherwise) waits = chosen_lighter room branches otherwise waits (truth_of_text text)
   end_lighter store context Error text (ForChoice room branches otherwise) waits = omega (arith, choice_positive room branches otherwise waits)
   end_lighter store context (Return code) text (ForChoice room branches otherwise) waits = omega (arith, choice_positive room branches otherwise waits)
   end_lighter store context Break text (ForChoice room branches otherwise) waits = omega (arith, choice_positive room branches otherwise waits)
@@ -540,7 +540,7 @@ module _ {K : Type 0} (size : K → ℕ) where
   turn_tasks room turning waits (Err text) = omega arith
 
   test_tasks : (room : ℕ) (turning : Turning) (waits : List (Waiting K)) (code : Code) (text : List ℕ) → tasks (after_test_move room turning waits code text) ≡ waits_tasks waits
-  test_tasks room turning waits Normal text = turn_tasks room turning waits (truth_of text)
+  test_tasks room turning waits Normal text = turn_tasks room turning waits (truth_of_text text)
   test_tasks room turning waits Error text = omega arith
   test_tasks room turning waits (Return code) text = omega arith
   test_tasks room turning waits Break text = omega arith
@@ -554,7 +554,7 @@ module _ {K : Type 0} (size : K → ℕ) where
   chosen_tasks room (branch ∷ branches) otherwise waits (Err text) = omega arith
 
   after_choice_tasks : (room : ℕ) (branches : List Branch) (otherwise : Option (List ℕ)) (waits : List (Waiting K)) (code : Code) (text : List ℕ) → tasks (after_choice_move room branches otherwise waits code text) ≡ waits_tasks waits
-  after_choice_tasks room branches otherwise waits Normal text = chosen_tasks room branches otherwise waits (truth_of text)
+  after_choice_tasks room branches otherwise waits Normal text = chosen_tasks room branches otherwise waits (truth_of_text text)
   after_choice_tasks room branches otherwise waits Error text = omega arith
   after_choice_tasks room branches otherwise waits (Return code) text = omega arith
   after_choice_tasks room branches otherwise waits Break text = omega arith

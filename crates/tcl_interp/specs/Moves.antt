@@ -23,7 +23,7 @@ use Rattle.tcl_control.specs.declared.plan.Plan.TheVariants as plan
 use Rattle.tcl_control.specs.declared.turns.Test.{Test}
 use Rattle.tcl_control.specs.declared.turns.Test.TheVariants.{Holds, Items}
 use Rattle.tcl_control.specs.declared.turns.Turning.{Turning}
-use Rattle.tcl_control.specs.Expressions.{truth_of}
+use Rattle.tcl_control.specs.Expressions.{truth_of_text}
 use Rattle.tcl_control.specs.ExpressionForms.{evaluation_begins}
 use Rattle.tcl_control.specs.Commands.{Ending, caught_ending}
 use Rattle.tcl_control.specs.Levels.{here, popped}
@@ -33,7 +33,7 @@ use Rattle.tcl_control.specs.Turns.{Tested, More, NoMore, Fails as TestFails, it
 use Rattle.tcl_interp.specs.declared.tasks.Act.{Act}
 use Rattle.tcl_interp.specs.declared.tasks.Act.TheVariants.{Done, Step, Run, Unknown}
 use Rattle.tcl_interp.specs.Evaluation.{index_pieces, index_depth, words_of}
-use Rattle.tcl_interp.specs.Plans.{cut, others, joined, callers, procedure_code, procedure_text}
+use Rattle.tcl_interp.specs.Plans.{cut, others, with_levels_behind, callers, procedure_code, procedure_text}
 use Rattle.tcl_interp.specs.Scripts.{out_of_global}
 use Rattle.tcl_interp.specs.Finish.{Wording, Indexing, Doing, Begins, GoesOn, Indexes, Evaluates, Calls, Tests, Steps, Resumes, Ends, Waiting, ForCommand, ForPart, ForIndex, ForValue, ForTest, ForChoice, ForBody, ForNext, ForStart, ForCatch, ForLevels, ForProcedure, ForScript, ForAll}
 use Rattle.tcl_text.specs.Limits.{most_bytes}
@@ -237,7 +237,7 @@ module _ {K : Type 0} where
   turn_move room turning waits (Err text) = moved (Ends Error text) waits
 
   abbrev pub after_test_move : ℕ → Turning → List (Waiting K) → Code → List ℕ → Moved K
-  after_test_move room turning waits Normal text = turn_move room turning waits (truth_of text)
+  after_test_move room turning waits Normal text = turn_move room turning waits (truth_of_text text)
   after_test_move room turning waits code text = moved (Ends code text) waits
 
   -- whether the first condition of `if` holds
@@ -248,7 +248,7 @@ module _ {K : Type 0} where
   chosen_move room (branch ∷ branches) otherwise waits (Ok false) = choice_move room branches otherwise waits
 
   abbrev pub after_choice_move : ℕ → List Branch → Option (List ℕ) → List (Waiting K) → Code → List ℕ → Moved K
-  after_choice_move room branches otherwise waits Normal text = chosen_move room branches otherwise waits (truth_of text)
+  after_choice_move room branches otherwise waits Normal text = chosen_move room branches otherwise waits (truth_of_text text)
   after_choice_move room branches otherwise waits code text = moved (Ends code text) waits
 
   -- on to the next test of a loop
@@ -294,7 +294,7 @@ module _ {K : Type 0} where
   end_move store context code text (ForNext room turning) waits = standing (after_next_move room turning waits code text) store context
   end_move store context code text (ForStart room turning) waits = standing (after_start_move room turning waits code text) store context
   end_move store context code text (ForCatch name) waits = ending_move (caught_ending (here context.levels store) name code text store) context waits
-  end_move store context code text (ForLevels levels) waits = standing (moved (Ends code text) waits) store (joined levels context)
+  end_move store context code text (ForLevels levels) waits = standing (moved (Ends code text) waits) store (with_levels_behind levels context)
   end_move store context code text ForProcedure waits = standing (moved (Ends (procedure_code code) (procedure_text code text)) waits) (popped store) (callers context)
   end_move store context code text (ForScript room task) waits = standing (moved (Resumes room task (out_of_global code) text) waits) store context
   end_move store context code text ForAll waits = standing (moved (global_end (out_of_global code) text) waits) store context

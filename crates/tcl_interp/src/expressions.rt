@@ -3,7 +3,7 @@ ghost use Rattle.std.specs.Prelude.{◌≡◌, ◌≢◌, ◌<◌, List, drop, l
 ghost use Rattle.tcl_expr.specs.declared.fault.EvalFault.TheVariants.{NoMemory};
 ghost use Rattle.tcl_expr.specs.Messages.{eval_message};
 ghost use Rattle.tcl_control.specs.declared.code.Code.TheVariants.{Error};
-ghost use Rattle.tcl_control.specs.Expressions.{truth_of};
+ghost use Rattle.tcl_control.specs.Expressions.{truth_of_text};
 ghost use Rattle.tcl_interp.specs.Moves.{moved, standing, expression_begins, otherwise_move, choice_move, turn_move, chosen_move};
 ghost use Rattle.tcl_interp.specs.Finish.{Waiting, Ends, Evaluates};
 ghost use Rattle.tcl_interp.specs.Quiet.{MovesOn};
@@ -138,7 +138,7 @@ pub fn turn<K: Drop>(
     turning: Looping,
     value: &Text,
 ) -> Next<K>
-    ensures { IfOk result (λ now. moved_of now frames.new.items ≡ turn_move room turning (waits_of frames.old.items) (truth_of value.now)) }
+    ensures { IfOk result (λ now. moved_of now frames.new.items ≡ turn_move room turning (waits_of frames.old.items) (truth_of_text value.now)) }
 {
     match truth(alloc, value)? {
         Ok(true) => {

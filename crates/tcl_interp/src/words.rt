@@ -3,7 +3,7 @@ ghost use Rattle.tcl_vars.specs.Store.{variable_in, element_in};
 ghost use Rattle.tcl_text.specs.Readings.{list_of};
 ghost use Rattle.tcl_control.specs.Source.{script_of};
 ghost use Rattle.tcl_control.specs.Texts.{element_name};
-ghost use Rattle.tcl_interp.specs.Evaluation.{index_depth, split_words, words_of};
+ghost use Rattle.tcl_interp.specs.Evaluation.{index_depth, items_or_text, words_of};
 ghost use Rattle.tcl_interp.specs.Finish.{Begins};
 ghost use Rattle.tcl_interp.specs.Moves.{moved, with_more, piece_text, word_end, called_move, words_move, element_begins, element_end, indexes_move, longer_index, part_begins, part_move, word_part, go_on_move};
 ghost use Rattle.tcl_interp.specs.Rests.{commands_in, doing_of, expand_in_front, indexing_of, IsSingle, left_in, moved_of, part_of, pieces_in, pieces_in_front, put_end, value_of, waiting_of, waits_of, wording_of, words_in_front};
@@ -198,7 +198,7 @@ fn with_elements(
     whole: TextList,
     list: &Text,
 ) -> Result<Result<TextList, Text>, AllocError>
-    ensures { IfOk result (λ all. all ≡ with_more whole (split_words (list_of list.now))) }
+    ensures { IfOk result (λ all. all ≡ with_more whole (items_or_text (list_of list.now))) }
 {
     match list.split_list(alloc) {
         Ok(elements) => {

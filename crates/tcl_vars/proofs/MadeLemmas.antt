@@ -5,7 +5,7 @@ use Rattle.tcl_text.specs.declared.fault.LinkFault.{LinkFault}
 use Rattle.tcl_text.specs.declared.fault.LinkFault.TheVariants as links
 use Rattle.tcl_text.specs.declared.fault.SetFault.TheVariants as sets
 use Rattle.tcl_vars.specs.Name.{Place}
-use Rattle.tcl_vars.specs.Store.{Store, content_at, with_content, variable_count, within_limit, is_plain, holds_value, variable_place, with_link, place_in, array_state, with_array_of, with_array_at, with_array}
+use Rattle.tcl_vars.specs.Store.{Store, content_at, with_content, variable_count, within_limit, is_plain_name, holds_value, variable_place, with_link, place_in, array_state, with_array_of, with_array_at, with_array}
 use Rattle.tcl_vars.proofs.StoreLemmas.{within_limit-ok, within_limit-full}
 
 module _ (store : Store) (level : ℕ) (name : List ℕ) (to_level : ℕ) (to_name : List ℕ) where
@@ -16,16 +16,16 @@ module _ (store : Store) (level : ℕ) (name : List ℕ) (to_level : ℕ) (to_na
       else if holds then Err links.Exists
       else within_limit links.Full (with_content store (variable_place level name) (Link to_level to_name))
 
-  with_link-tests : (plain holds : Bool) → is_plain name ≡ plain → holds_value (content_at store (variable_place level name)) ≡ holds
+  with_link-tests : (plain holds : Bool) → is_plain_name name ≡ plain → holds_value (content_at store (variable_place level name)) ≡ holds
       → with_link store level name to_level to_name ≡ outcome plain holds
   unfolding with_link
   with_link-tests plain holds p h =
       ap (λ b. outcome b (holds_value (content_at store (variable_place level name)))) p ∙ ap (outcome plain) h
 
-  pub with_link-bad : is_plain name ≡ false → with_link store level name to_level to_name ≡ Err links.BadName
+  pub with_link-bad : is_plain_name name ≡ false → with_link store level name to_level to_name ≡ Err links.BadName
   with_link-bad p = with_link-tests false (holds_value (content_at store (variable_place level name))) p (λ _. holds_value (content_at store (variable_place level name)))
 
-  module _ (place : Place) (at : place ≡ variable_place level name) (plain : is_plain name ≡ true) where
+  module _ (place : Place) (at : place ≡ variable_place level name) (plain : is_plain_name name ≡ true) where
     pub with_link-exists : holds_value (content_at store place) ≡ true → with_link store level name to_level to_name ≡ Err links.Exists
     with_link-exists h = with_link-tests true true plain (ap (λ p. holds_value (content_at store p)) (sym at) ∙ h)
 

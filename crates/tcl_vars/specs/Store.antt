@@ -212,8 +212,8 @@ with_array store level name = with_array_at store (place_in store level name)
 -- Linking
 
 -- a name is plain where it means a variable of the frame that it is used in
-abbrev pub is_plain : List ℕ → Bool
-is_plain name = not (starts_with nat_eq name (codes "::")) && is_none (element_of name)
+abbrev pub is_plain_name : List ℕ → Bool
+is_plain_name name = not (starts_with nat_eq name (codes "::")) && is_none (element_of name)
 
 -- a content that is no link
 abbrev pub holds_value : Option Content → Bool
@@ -228,7 +228,7 @@ variable_place level variable = record { level = level; variable = variable; ele
 -- the store in which a name of the frame at a level is a link to a name in an earlier frame
 unfoldable pub with_link : Store → ℕ → List ℕ → ℕ → List ℕ → Result Store LinkFault
 with_link store level name to_level to_name =
-    if not (is_plain name) then Err links.BadName
+    if not (is_plain_name name) then Err links.BadName
     else if holds_value (content_at store (variable_place level name)) then Err links.Exists
     else within_limit links.Full (with_content store (variable_place level name) (Link to_level to_name))
 

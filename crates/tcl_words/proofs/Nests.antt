@@ -5,7 +5,7 @@ use Rattle.std.proofs.lemmas.List.{drop-drop, length-drop}
 use Rattle.tcl_words.specs.Changes.{Read, put, piece_before, changed}
 use Rattle.tcl_words.specs.Moves.{move_at}
 use Rattle.tcl_words.specs.Reading.{Level, within, rest_of, past, past_opened, first_place, first_skip, opened_piece}
-use Rattle.tcl_words.specs.Parts.{Parts, Whole, joined, no_parts, with_piece, ended, Does}
+use Rattle.tcl_words.specs.Parts.{Parts, Whole, joined, no_parts, with_piece, ended, DoesMove}
 use Rattle.tcl_words.specs.Chain.{level_of, own, opened, resumed, IsWaiting, IsChain}
 use Rattle.tcl_words.specs.declared.kind.BytePlace.{BytePlace}
 use Rattle.tcl_words.specs.declared.kind.BytePlace.TheVariants.{Text}
@@ -64,7 +64,7 @@ rest_by : (s : List ℕ) (level : Level) (place : BytePlace) (at : ℕ) (step : 
 rest_by s level place at step within e = rest_next s level place at within ∙ ap (λ x. put (changed (move_at s at level.inside place).changes) (past_at s level place at x)) e
 
 pub on_read : (old new : Parts) (s : List ℕ) (level : Level) (place next : BytePlace) (at skip : ℕ) (whole : Result Whole ParseFault) → at < length s →
-    joined old s place at (rest_of (drop at s) level 0 place at) ≡ whole → Does old new s at place (move_at s at level.inside place) (Ok (On skip next)) →
+    joined old s place at (rest_of (drop at s) level 0 place at) ≡ whole → DoesMove old new s at place (move_at s at level.inside place) (Ok (On skip next)) →
     joined new s next (at + 1 + skip) (rest_of (drop (at + 1 + skip) s) level 0 next (at + 1 + skip)) ≡ whole
 unfolding past_at
 on_read old new s level place next at skip whole here reads does =
@@ -78,7 +78,7 @@ unfolding past_at
 fault_read old s level place at whole fault here reads e = sym reads ∙ ap (joined old s place at) (rest_by s level place at (Err fault) here e)
 
 pub end_read : (old new : Parts) (s : List ℕ) (level : Level) (place : BytePlace) (at : ℕ) (whole : Result Whole ParseFault) → at < length s →
-    joined old s place at (rest_of (drop at s) level 0 place at) ≡ whole → Does old new s at place (move_at s at level.inside place) (Ok Ends) → whole ≡ Ok (ended place new at)
+    joined old s place at (rest_of (drop at s) level 0 place at) ≡ whole → DoesMove old new s at place (move_at s at level.inside place) (Ok Ends) → whole ≡ Ok (ended place new at)
 unfolding past_at
 end_read old new s level place at whole here reads does = sym reads ∙ ap (joined old s place at) (rest_by s level place at (Ok Ends) here does.0) ∙ does.1
 
@@ -97,7 +97,7 @@ past_suc (suc room) at opener mode behind go inner some = let e : room ≡ suc r
 -- what a bracket or a parenthesis opens is waited for
 pub link_made : (s : List ℕ) (origin : Origin) (old new : Parts) (place : BytePlace) (at : ℕ) (opener : Opener) (mode : Mode) → at < length (drop origin.base s) →
     joined old (drop origin.base s) place at (rest_of (drop at (drop origin.base s)) (level_of origin) 0 place at) ≡ own s origin →
-    Does old new (drop origin.base s) at place (move_at (drop origin.base s) at origin.inside place) (Ok (Within opener mode)) → 0 < origin.room →
+    DoesMove old new (drop origin.base s) at place (move_at (drop origin.base s) at origin.inside place) (Ok (Within opener mode)) → 0 < origin.room →
     resumed s (record { origin = origin; parts = new; at = at; opener = opener; mode = mode }) (own s (opened origin at opener)) ≡ own s origin
 unfolding past_at
 link_made s origin old new place at opener mode here reads does some =

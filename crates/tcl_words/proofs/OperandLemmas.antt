@@ -8,9 +8,9 @@ use Rattle.tcl_words.specs.Kinds.{kind_before, dollar_of}
 use Rattle.tcl_words.specs.Changes.{Read, put, last_rest, changed, piece_before, literal_before}
 use Rattle.tcl_words.specs.Moves.{Move, in_text, at_dollar}
 use Rattle.tcl_words.specs.Reading.{Level, within, rest_of, past, past_opened, at_end, first_place, first_skip, opened_piece}
-use Rattle.tcl_words.specs.Parts.{Parts, Whole, joined, no_parts, with_piece, with_literal, index_whole, is_index, ended, Does, IsFine, IsOpenerCut}
-use Rattle.tcl_words.specs.Chain.{level_of, own, opened, IsChain, IsReading, IsEnding, IsParse, Goes}
-use Rattle.tcl_words.specs.Operands.{piece_found, opened_of, at_quote, quoted_rest, pieces_found, quoted_of, outer, EndsAt, quoted_whole, GoesOn}
+use Rattle.tcl_words.specs.Parts.{Parts, Whole, joined, no_parts, with_piece, with_literal, index_whole, is_index, ended, DoesMove, IsFine, IsOpenerCut}
+use Rattle.tcl_words.specs.Chain.{level_of, own, opened, IsChain, IsReading, IsClosing, IsParse, Goes}
+use Rattle.tcl_words.specs.Operands.{piece_found, opened_of, at_quote, quoted_rest, pieces_found, quoted_of, outer, EndsAt, quoted_whole, ReadsOn}
 use Rattle.tcl_words.specs.declared.kind.Kind.{Kind}
 use Rattle.tcl_words.specs.declared.kind.Kind.TheVariants.{Blank, Newline, Semicolon, Hash, Dollar, Quote, OpenBracket, CloseBracket, OpenBrace, Expansion, CloseBrace, CloseParen, Backslash, Continuation, Other}
 use Rattle.tcl_words.specs.declared.kind.Dollar.{Dollar as DollarForm}
@@ -60,8 +60,8 @@ opened_begins s at room opener some most cut =
 -- what began first ends where nothing waits
 pub ends_inside : (first : Origin) (s : List ℕ) (ws : List Waiting) (o : Origin) (p : Parts) (place : BytePlace) (n k : ℕ) → Goes true first s ws o p place n k → EndsAt first s p n
 ends_inside first s ws o p place n k (none, ending) =
-    let alone : IsEnding first s [] o p place n = subst (λ x. IsEnding first s x o p place n) none ending in
-    (place, subst (λ x. IsEnding first s [] x p place n) (sym alone.chain) alone)
+    let alone : IsClosing first s [] o p place n = subst (λ x. IsClosing first s x o p place n) none ending in
+    (place, subst (λ x. IsClosing first s [] x p place n) (sym alone.chain) alone)
 
 still_inside : (s : List ℕ) (first o : Origin) (ws : List Waiting) → IsChain s first ws o → first.inside ≡ true → o.inside ≡ true
 still_inside s first o [] chain e = ap (λ x. x.inside) (sym chain) ∙ e
@@ -250,7 +250,7 @@ from_here room s at skip h =
     quoted_skip room (drop (at + 1) s) skip (at + 1) (omega (arith, h, length-drop (at + 1) s)) ∙ ap (λ t. quoted_rest room t 0 (at + 1 + skip)) (drop-drop skip (at + 1) s)
 
 pub quoted_on : (room : ℕ) (s : List ℕ) (at b : ℕ) (kind : Kind) (skip : ℕ) (next : BytePlace) (old new : Parts) → Byte s at b kind → kind ≢ Quote →
-    Does old new s at (Text Parens) (in_text Parens kind b (drop (at + 1) s)) (Ok (On skip next)) → GoesOn room s old at new (at + 1 + skip)
+    DoesMove old new s at (Text Parens) (in_text Parens kind b (drop (at + 1) s)) (Ok (On skip next)) → ReadsOn room s old at new (at + 1 + skip)
 unfolding past_quoted
 quoted_on room s at b kind skip next old new byte other does =
     let place : next ≡ Text Parens = place_is next does.4 in
@@ -290,8 +290,8 @@ fails_past zero at opener mode behind go fault e = let h : opened_of zero opener
 fails_past (suc room) at opener mode behind go fault e = past_failed opener mode behind go (rest_of behind (within room) (first_skip opener) (first_place opener) 0) fault e
 
 pub quoted_within : (room : ℕ) (s : List ℕ) (at b : ℕ) (kind : Kind) (opener : Opener) (mode : Mode) (old new : Parts) (piece : Piece) (taken : ℕ) → Byte s at b kind → kind ≢ Quote →
-    Does old new s at (Text Parens) (in_text Parens kind b (drop (at + 1) s)) (Ok (Within opener mode)) → opened_of room opener (drop (at + 1) s) ≡ Ok (piece, taken) → IsCharBoundary s (at + 1 + taken) →
-    GoesOn room s old at (with_piece new piece (at + 1 + taken)) (at + 1 + taken)
+    DoesMove old new s at (Text Parens) (in_text Parens kind b (drop (at + 1) s)) (Ok (Within opener mode)) → opened_of room opener (drop (at + 1) s) ≡ Ok (piece, taken) → IsCharBoundary s (at + 1 + taken) →
+    ReadsOn room s old at (with_piece new piece (at + 1 + taken)) (at + 1 + taken)
 unfolding past_quoted
 quoted_within room s at b kind opener mode old new piece taken byte other does found cut =
     let place : Text mode ≡ Text Parens = place_is (Text mode) does.4 in

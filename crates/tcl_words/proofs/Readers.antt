@@ -9,8 +9,8 @@ use Rattle.tcl_words.specs.Changes.{Read}
 use Rattle.tcl_words.specs.declared.script.Command.{Command}
 use Rattle.tcl_words.specs.Moves.{move_at}
 use Rattle.tcl_words.specs.Reading.{Level, rest_of, at_end, within, first_place, first_skip, opened_piece, commands_in, index_pieces_of, outermost}
-use Rattle.tcl_words.specs.Parts.{Parts, joined, no_parts, with_piece, script_whole, is_index, ended, Does, IsFine, IsOpenerCut, name_before}
-use Rattle.tcl_words.specs.Chain.{outset, level_of, own, opened, waits_for, IsWaiting, IsChain, IsReading, IsOpening, IsEnding, IsParse}
+use Rattle.tcl_words.specs.Parts.{Parts, joined, no_parts, with_piece, script_whole, is_index, ended, DoesMove, IsFine, IsOpenerCut, name_before}
+use Rattle.tcl_words.specs.Chain.{outset, level_of, own, opened, waits_for, IsWaiting, IsChain, IsReading, IsOpening, IsClosing, IsParse}
 use Rattle.tcl_words.specs.declared.kind.BytePlace.{BytePlace}
 use Rattle.tcl_words.specs.declared.kind.BytePlace.TheVariants.{Start, Comment, Between, Expanded, Text, PastQuotes, InBraces, PastBraces}
 use Rattle.tcl_words.specs.declared.kind.Mode.{Mode}
@@ -45,7 +45,7 @@ moved_cut s i j e cut = subst (IsCharBoundary s) e cut
 -- ── a byte further ──
 
 pub read_on : {first : Origin} (s : List ℕ) (ws : List Waiting) (o : Origin) (p new : Parts) (place next : BytePlace) (n skip : ℕ) → IsReading first s ws o p place n → n < length (drop o.base s) →
-    Does p new (drop o.base s) n place (move_at (drop o.base s) n o.inside place) (Ok (On skip next)) → IsReading first s ws o new next (n + 1 + skip) × (o.base + n < o.base + (n + 1 + skip))
+    DoesMove p new (drop o.base s) n place (move_at (drop o.base s) n o.inside place) (Ok (On skip next)) → IsReading first s ws o new next (n + 1 + skip) × (o.base + n < o.base + (n + 1 + skip))
 read_on s ws o p new place next n skip r here does = (
   record {
     chain = r.chain;
@@ -60,7 +60,7 @@ read_on s ws o p new place next n skip r here does = (
 )
 
 pub read_fault : {first : Origin} (s : List ℕ) (ws : List Waiting) (o : Origin) (p new : Parts) (place : BytePlace) (n : ℕ) (fault : ParseFault) → IsReading first s ws o p place n → n < length (drop o.base s) →
-    Does p new (drop o.base s) n place (move_at (drop o.base s) n o.inside place) (Err fault) → (own s first ≡ Err fault) ⊎ (fault ≡ NoMemory)
+    DoesMove p new (drop o.base s) n place (move_at (drop o.base s) n o.inside place) (Err fault) → (own s first ≡ Err fault) ⊎ (fault ≡ NoMemory)
 read_fault {first} s ws o p new place n fault r here (inl e) = inl (chain_fault s first o ws fault r.chain (fault_read p (drop o.base s) (level_of o) place n (own s o) fault here r.reads e))
 read_fault {first} s ws o p new place n fault r here (inr e) = inr e
 
@@ -76,7 +76,7 @@ opener_cut s base at opener within cut =
     }
 
 pub read_opening : {first : Origin} (s : List ℕ) (ws : List Waiting) (o : Origin) (p new : Parts) (place : BytePlace) (n : ℕ) (opener : Opener) (mode : Mode) → IsReading first s ws o p place n → n < length (drop o.base s) →
-    Does p new (drop o.base s) n place (move_at (drop o.base s) n o.inside place) (Ok (Within opener mode)) → IsOpening first s ws o new n opener mode
+    DoesMove p new (drop o.base s) n place (move_at (drop o.base s) n o.inside place) (Ok (Within opener mode)) → IsOpening first s ws o new n opener mode
 read_opening s ws o p new place n opener mode r here does = record {
   chain = r.chain;
   waits = λ some. record {
@@ -97,7 +97,7 @@ inside_ends true s place n e = refl
 inside_ends false s place n e = absurd (none_outside (class_of (slice_index s n)) place (slice_index s n) n (drop (n + 1) s) e)
 
 pub read_ending : {first : Origin} (s : List ℕ) (ws : List Waiting) (o : Origin) (p new : Parts) (place : BytePlace) (n : ℕ) → IsReading first s ws o p place n → n < length (drop o.base s) →
-    Does p new (drop o.base s) n place (move_at (drop o.base s) n o.inside place) (Ok Ends) → IsEnding first s ws o new place n
+    DoesMove p new (drop o.base s) n place (move_at (drop o.base s) n o.inside place) (Ok Ends) → IsClosing first s ws o new place n
 read_ending s ws o p new place n r here does =
     let e : o.base + (n + 1) ≡ o.base + n + 1 = omega arith in
     record {
@@ -207,7 +207,7 @@ pub record Popped (first : Origin) (s : List ℕ) (ws : List Waiting) (w : Waiti
   pub ends : IsCharBoundary s (w.origin.base + w.at + 1 + n)
   pub past : IsCharBoundary s (w.origin.base + w.at + 1 + n + 1)
 
-pub popped : {first : Origin} (s : List ℕ) (ws : List Waiting) (w : Waiting) (o : Origin) (p : Parts) (place : BytePlace) (n : ℕ) → IsUtf8 s → length s ≤ 65536 → IsEnding first s (ws ++ w ∷ []) o p place n → Popped first s ws w p n
+pub popped : {first : Origin} (s : List ℕ) (ws : List Waiting) (w : Waiting) (o : Origin) (p : Parts) (place : BytePlace) (n : ℕ) → IsUtf8 s → length s ≤ 65536 → IsClosing first s (ws ++ w ∷ []) o p place n → Popped first s ws w p n
 popped {first} s ws w o p place n utf8 short r =
     let q : IsChain s first ws w.origin × IsWaiting s w × (opened w.origin w.at w.opener ≡ o) = chain_pop s first o ws w r.chain in
     let waiting : IsWaiting s w = q.1 in
@@ -229,7 +229,7 @@ popped {first} s ws w o p place n utf8 short r =
       past = moved_cut s _ _ k r.past;
     }
 
-pub ending_reads : {first : Origin} (s : List ℕ) (ws : List Waiting) (w : Waiting) (o : Origin) (p : Parts) (place : BytePlace) (n : ℕ) → IsUtf8 s → length s ≤ 65536 → IsEnding first s (ws ++ w ∷ []) o p place n →
+pub ending_reads : {first : Origin} (s : List ℕ) (ws : List Waiting) (w : Waiting) (o : Origin) (p : Parts) (place : BytePlace) (n : ℕ) → IsUtf8 s → length s ≤ 65536 → IsClosing first s (ws ++ w ∷ []) o p place n →
     IsReading first s ws w.origin (with_piece w.parts (opened_piece w.opener (drop (w.origin.base + w.at + 1) s) n) (w.at + 1 + n + 1)) (Text w.mode) (w.at + 1 + n + 1) × (o.base + n < w.origin.base + (w.at + 1 + n + 1))
 ending_reads {first} s ws w o p place n utf8 short r =
     let q : IsChain s first ws w.origin × IsWaiting s w × (opened w.origin w.at w.opener ≡ o) = chain_pop s first o ws w r.chain in
@@ -266,17 +266,17 @@ pub opening_as : {first : Origin} (s : List ℕ) (ws : List Waiting) (o : Origin
     ws' ≡ ws ++ waits_for o q n opener mode ∷ [] → q ≡ p → o' ≡ opened o n opener → p' ≡ no_parts o'.skip → IsReading first s ws' o' p' o'.place o'.skip × (o.base + n < o'.base + o'.skip)
 opening_as s ws o p n opener mode ws' o' p' q r some ew eq eo ep = rw (ep, eo, ew, eq) (opening_reads s ws o p n opener mode r some)
 
-pub popped_as : {first : Origin} (s : List ℕ) (ws ws' : List Waiting) (w : Waiting) (o : Origin) (p : Parts) (place : BytePlace) (n : ℕ) → ws ≡ ws' ++ w ∷ [] → IsUtf8 s → length s ≤ 65536 → IsEnding first s ws o p place n → Popped first s ws' w p n
-popped_as {first} s ws ws' w o p place n e utf8 short r = popped s ws' w o p place n utf8 short (subst (λ x. IsEnding first s x o p place n) e r)
+pub popped_as : {first : Origin} (s : List ℕ) (ws ws' : List Waiting) (w : Waiting) (o : Origin) (p : Parts) (place : BytePlace) (n : ℕ) → ws ≡ ws' ++ w ∷ [] → IsUtf8 s → length s ≤ 65536 → IsClosing first s ws o p place n → Popped first s ws' w p n
+popped_as {first} s ws ws' w o p place n e utf8 short r = popped s ws' w o p place n utf8 short (subst (λ x. IsClosing first s x o p place n) e r)
 
-pub ending_as : {first : Origin} (s : List ℕ) (ws ws' : List Waiting) (w : Waiting) (o : Origin) (p : Parts) (place : BytePlace) (n : ℕ) (p' dest : Parts) (x : Piece) → ws ≡ ws' ++ w ∷ [] → IsUtf8 s → length s ≤ 65536 → IsEnding first s ws o p place n →
+pub ending_as : {first : Origin} (s : List ℕ) (ws ws' : List Waiting) (w : Waiting) (o : Origin) (p : Parts) (place : BytePlace) (n : ℕ) (p' dest : Parts) (x : Piece) → ws ≡ ws' ++ w ∷ [] → IsUtf8 s → length s ≤ 65536 → IsClosing first s ws o p place n →
     p' ≡ with_piece dest x (w.at + 1 + n + 1) → dest ≡ w.parts → x ≡ opened_piece w.opener (drop (w.origin.base + w.at + 1) s) n →
     IsReading first s ws' w.origin p' (Text w.mode) (w.at + 1 + n + 1) × (o.base + n < w.origin.base + (w.at + 1 + n + 1))
-ending_as {first} s ws ws' w o p place n p' dest x e utf8 short r ep ed ex = rw (ep, ed, ex) (ending_reads s ws' w o p place n utf8 short (subst (λ y. IsEnding first s y o p place n) e r))
+ending_as {first} s ws ws' w o p place n p' dest x e utf8 short r ep ed ex = rw (ep, ed, ex) (ending_reads s ws' w o p place n utf8 short (subst (λ y. IsClosing first s y o p place n) e r))
 
-pub step_as : (p new : Parts) (t t' : List ℕ) (n : ℕ) (inside : Bool) (place : BytePlace) (step step' : Step) → t ≡ t' → step ≡ step' → Does p new t n place (move_at t n inside place) (Ok step) → Does p new t' n place (move_at t' n inside place) (Ok step')
+pub step_as : (p new : Parts) (t t' : List ℕ) (n : ℕ) (inside : Bool) (place : BytePlace) (step step' : Step) → t ≡ t' → step ≡ step' → DoesMove p new t n place (move_at t n inside place) (Ok step) → DoesMove p new t' n place (move_at t' n inside place) (Ok step')
 step_as p new t t' n inside place step step' e f does =
-    subst (λ x. Does p new t' n place (move_at t' n inside place) (Ok x)) f (subst (λ x. Does p new x n place (move_at x n inside place) (Ok step)) e does)
+    subst (λ x. DoesMove p new t' n place (move_at t' n inside place) (Ok x)) f (subst (λ x. DoesMove p new x n place (move_at x n inside place) (Ok step)) e does)
 
 -- ── the start and the end of the source ──
 

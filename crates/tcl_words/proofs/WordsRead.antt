@@ -9,7 +9,7 @@ use Rattle.tcl_words.specs.Changes.{Rest, Read, put, changed, pieces_of}
 use Rattle.tcl_words.specs.Spans.{word_of}
 use Rattle.tcl_words.specs.Changes.Change.{bytes as put_bytes, text_ends, word_ends, word_begins, command_ends}
 use Rattle.tcl_words.specs.Moves.{Move, move_of, on, lone, in_expanded, in_between, before, word_over}
-use Rattle.tcl_words.specs.Moves.{fails as fails_with}
+use Rattle.tcl_words.specs.Moves.{at_fault as fails_with}
 use Rattle.tcl_words.specs.Reading.{Level, rest_of, past, within, end_of}
 use Rattle.tcl_words.specs.Grammar.{TextEnding, fails, Inner, IsInnerOf, begins_bare, begins_mark, IsBraced, IsUnclosed, IsOwnWord, IsFaultyOwn, IsMark, IsWord, IsFaultyWord}
 use Rattle.tcl_words.specs.Grammar.IsOwnWord.{bare_word, quoted_word, braced_word}

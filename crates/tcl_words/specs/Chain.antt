@@ -77,7 +77,7 @@ pub record IsOpening (first : Origin) (source : List ℕ) (others : List Waiting
   pub cut : IsOpenerCut source (origin.base + at) opener
 
 -- what is open ends at this position
-pub record IsEnding (first : Origin) (source : List ℕ) (others : List Waiting) (origin : Origin) (parts : Parts) (place : BytePlace) (at : ℕ) : Type 0 where
+pub record IsClosing (first : Origin) (source : List ℕ) (others : List Waiting) (origin : Origin) (parts : Parts) (place : BytePlace) (at : ℕ) : Type 0 where
   pub chain : IsChain source first others origin
   pub inside : origin.inside ≡ true
   pub ends : own source origin ≡ Ok (ended place parts at)
@@ -88,7 +88,7 @@ pub record IsEnding (first : Origin) (source : List ℕ) (others : List Waiting)
 -- Past a byte: reading goes on, further than before, or what began first has ended there.
 abbrev pub Goes : Bool → Origin → List ℕ → List Waiting → Origin → Parts → BytePlace → ℕ → ℕ → Type 0
 Goes false first source others origin parts place next before = IsReading first source others origin parts place next × (before < origin.base + next)
-Goes true first source others origin parts place next before = (others ≡ []) × IsEnding first source others origin parts place next
+Goes true first source others origin parts place next before = (others ≡ []) × IsClosing first source others origin parts place next
 
 -- the parts of what was opened are those of its text, which ends so many bytes behind its base
 abbrev pub IsParse : Opener → List ℕ → ℕ → Parts → Type 0

@@ -7,7 +7,7 @@ use Rattle.std.specs.Str.{IsUtf8}
 use Rattle.tcl_text.specs.Bytes.{tab, line_feed, space, quote, hash, dollar_sign, open_paren, close_paren, star, colon, semicolon, open_bracket, backslash_sign, close_bracket, open_brace, close_brace}
 use Rattle.tcl_text.specs.Backslash.{escape}
 use Rattle.tcl_words.specs.Classes.{class_of, is_name_byte, begins_newline, begins_expansion}
-use Rattle.tcl_words.specs.Spans.{command_of, word_of}
+use Rattle.tcl_words.specs.Spans.{command_from, word_of}
 use Rattle.tcl_words.specs.declared.kind.Mode.{Mode}
 use Rattle.tcl_words.specs.declared.kind.Mode.TheVariants.{Bare, Quotes, Parens}
 use Rattle.tcl_words.specs.declared.kind.Kind.{Kind}
@@ -88,10 +88,10 @@ index_stops inside [] = not inside
 index_stops inside (b ∷ text) = inside && b == close_paren
 
 -- the body ends before this text
-abbrev pub stops : Bool → Mode → List ℕ → Bool
-stops inside Bare text = ends_word inside text
-stops inside Quotes text = begins quote text
-stops inside Parens text = index_stops inside text
+abbrev pub ends_body : Bool → Mode → List ℕ → Bool
+ends_body inside Bare text = ends_word inside text
+ends_body inside Quotes text = begins quote text
+ends_body inside Parens text = index_stops inside text
 
 -- the fault of a body that never ends
 abbrev pub unended_fault : Mode → ParseFault
@@ -120,14 +120,14 @@ with_bytes (b ∷ bytes) (Bracket own ∷ pieces) = Literal (b ∷ bytes) ∷ Br
 -- fault the pieces are those before it.
 pub data ArePieces (IsInner : Inner → List ℕ → TextEnding → Type 0) (inside : Bool) (mode : Mode) : List ℕ → List Piece → TextEnding → Type 0 where
   -- it ends before this text
-  stop : {text : List ℕ} → stops inside mode text ≡ true → ArePieces IsInner inside mode text [] (leaves text)
+  stop : {text : List ℕ} → ends_body inside mode text ≡ true → ArePieces IsInner inside mode text [] (leaves text)
   -- it should have ended
-  unended : stops inside mode [] ≡ false → ArePieces IsInner inside mode [] [] (fails (unended_fault mode))
+  unended : ends_body inside mode [] ≡ false → ArePieces IsInner inside mode [] [] (fails (unended_fault mode))
   -- a byte that stands for itself
-  byte : {b : ℕ} {text : List ℕ} {pieces : List Piece} {ending : TextEnding} → stops inside mode (b ∷ text) ≡ false → is_plain (class_of b) ≡ true →
+  byte : {b : ℕ} {text : List ℕ} {pieces : List Piece} {ending : TextEnding} → ends_body inside mode (b ∷ text) ≡ false → is_plain (class_of b) ≡ true →
       ArePieces IsInner inside mode text pieces ending → ArePieces IsInner inside mode (b ∷ text) (with_bytes (b ∷ []) pieces) ending
   -- a backslash, with as much of the text behind it as it takes
-  backslash : {text : List ℕ} {pieces : List Piece} {ending : TextEnding} → stops inside mode (backslash_sign ∷ text) ≡ false →
+  backslash : {text : List ℕ} {pieces : List Piece} {ending : TextEnding} → ends_body inside mode (backslash_sign ∷ text) ≡ false →
       ArePieces IsInner inside mode (drop (escape text).length text) pieces ending → ArePieces IsInner inside mode (backslash_sign ∷ text) (with_bytes (escape text).meaning pieces) ending
   -- a `$` that stands for itself
   dollar : {text : List ℕ} {pieces : List Piece} {ending : TextEnding} → begins_name text ≡ false → begins open_brace text ≡ false →
@@ -275,11 +275,11 @@ pub data IsLast (IsInner : Inner → List ℕ → TextEnding → Type 0) (inside
   faulty : {text : List ℕ} {fault : ParseFault} → begins hash text ≡ false → IsFaultyWord IsInner inside text fault → IsLast IsInner inside text (fails fault)
 
 -- The further words of a command, and then what comes after it.
-abbrev pub AreFurther : (Inner → List ℕ → TextEnding → Type 0) → Bool → (ℕ → List ℕ → Type 0) → ℕ → List ℕ → List Word → Type 0
-AreFurther IsInner inside IsAfter at text [] = IsAfter at text
-AreFurther IsInner inside IsAfter at text (word ∷ words) =
+abbrev pub AreFurtherWords : (Inner → List ℕ → TextEnding → Type 0) → Bool → (ℕ → List ℕ → Type 0) → ℕ → List ℕ → List Word → Type 0
+AreFurtherWords IsInner inside IsAfter at text [] = IsAfter at text
+AreFurtherWords IsInner inside IsAfter at text (word ∷ words) =
     (blanks : List ℕ) × (own : List ℕ) × (rest : List ℕ) × (text ≡ blanks ++ (own ++ rest)) × AreBlanks blanks
-    × IsWord IsInner inside rest (at + length blanks) own word × AreFurther IsInner inside IsAfter (at + length blanks + length own) rest words
+    × IsWord IsInner inside rest (at + length blanks) own word × AreFurtherWords IsInner inside IsAfter (at + length blanks + length own) rest words
 
 -- Blanks, and then a separator before the rest of the script, or the end.
 abbrev pub IsRest : (ℕ → List ℕ → Type 0) → (List ℕ → Type 0) → ℕ → List ℕ → Type 0
@@ -295,8 +295,8 @@ IsScript IsInner inside at text (command ∷ commands) ending =
     (gap : List ℕ) × (own : List ℕ) × (rest : List ℕ) × (word : Word) × (words : List Word)
     × (text ≡ gap ++ (own ++ rest)) × IsGap gap × (begins hash (own ++ rest) ≡ false)
     × IsWord IsInner inside rest (at + length gap) own word
-    × AreFurther IsInner inside (IsRest (λ next after. IsScript IsInner inside next after commands ending) (λ last. (commands ≡ []) × IsEnding IsInner inside last ending)) (at + length gap + length own) rest words
-    × (command ≡ command_of (at + length gap) (word ∷ words))
+    × AreFurtherWords IsInner inside (IsRest (λ next after. IsScript IsInner inside next after commands ending) (λ last. (commands ≡ []) × IsEnding IsInner inside last ending)) (at + length gap + length own) rest words
+    × (command ≡ command_from (at + length gap) (word ∷ words))
 
 -- What brackets and indices hold where so many may still be opened in one another: a script, or the pieces of an index,
 -- with positions counted from its own first byte. Where none may be opened, that is a fault at the opener.
@@ -353,4 +353,4 @@ WordsAreSlices text (word ∷ words) =
 abbrev pub CommandsAreSlices : List ℕ → List Command → Type 0
 CommandsAreSlices text [] = Unit {0}
 CommandsAreSlices text (command ∷ commands) =
-    WordsAreSlices text command.words × (command ≡ command_of command.span.start command.words) × ((own : List ℕ) × IsSlice text command.span own) × CommandsAreSlices text commands
+    WordsAreSlices text command.words × (command ≡ command_from command.span.start command.words) × ((own : List ℕ) × IsSlice text command.span own) × CommandsAreSlices text commands

@@ -32,8 +32,8 @@ on changes skip place = record { changes = changes; step = Ok (On skip place) }
 abbrev pub ends : Move
 ends = record { changes = []; step = Ok Ends }
 
-abbrev pub fails : ParseFault → Move
-fails fault = record { changes = []; step = Err fault }
+abbrev pub at_fault : ParseFault → Move
+at_fault fault = record { changes = []; step = Err fault }
 
 abbrev pub before : Change → Move → Move
 before change move = record { changes = change ∷ move.changes; step = move.step }
@@ -46,7 +46,7 @@ at_dollar mode Alone b behind = on (bytes (b ∷ []) ∷ []) 0 (Text mode)
 at_dollar mode (Named n) b behind = on (name (take n behind) ∷ []) n (Text mode)
 at_dollar mode (Indexed n) b behind = record { changes = []; step = Ok (Within (Index n) mode) }
 at_dollar mode (Braced n) b behind = on (name (slice_range behind 1 (suc n)) ∷ []) (n + 2) (Text mode)
-at_dollar mode Unclosed b behind = fails MissingBrace
+at_dollar mode Unclosed b behind = at_fault MissingBrace
 
 -- where substitution goes on: in a bare word, in quotes and in an index
 abbrev pub in_text : Mode → Kind → ℕ → List ℕ → Move
@@ -141,9 +141,9 @@ move_of Between kind b at behind = in_between kind b at behind
 move_of Expanded kind b at behind = in_expanded kind b at behind
 move_of (Text Bare) kind b at behind = in_bare kind b at behind
 move_of (Text Quotes) kind b at behind = in_quotes kind b behind
-move_of PastQuotes kind b at behind = word_over kind at behind (fails ExtraAfterQuote)
+move_of PastQuotes kind b at behind = word_over kind at behind (at_fault ExtraAfterQuote)
 move_of (InBraces depth) kind b at behind = in_braces depth kind b behind
-move_of PastBraces kind b at behind = word_over kind at behind (fails ExtraAfterBrace)
+move_of PastBraces kind b at behind = word_over kind at behind (at_fault ExtraAfterBrace)
 move_of (Text Parens) kind b at behind = in_parens kind b behind
 
 -- the move at this position of a text

@@ -8,7 +8,7 @@ use Rattle.tcl_words.specs.Changes.{Read, put, last_rest, literal_before, change
 use Rattle.tcl_words.specs.Moves.{Move, in_text}
 use Rattle.tcl_words.specs.Parts.{Parts, Whole, joined, IsCut}
 use Rattle.tcl_words.specs.Reading.{within, rest_of, past, first_place, first_skip, opened_piece}
-use Rattle.tcl_words.specs.Chain.{IsEnding}
+use Rattle.tcl_words.specs.Chain.{IsClosing}
 use Rattle.tcl_words.specs.declared.kind.Kind.{Kind}
 use Rattle.tcl_words.specs.declared.kind.Kind.TheVariants.{Quote}
 use Rattle.tcl_words.specs.declared.kind.BytePlace.{BytePlace}
@@ -97,14 +97,14 @@ outer room = record { base = 0; inside = true; room = room; skip = 0; place = St
 
 -- what began so ends here, with these parts
 abbrev pub EndsAt : Origin → List ℕ → Parts → ℕ → Type 0
-EndsAt first source parts close = (place : BytePlace) × IsEnding first source [] first parts place close
+EndsAt first source parts close = (place : BytePlace) × IsClosing first source [] first parts place close
 
 -- what was read of a text in quotes, with the rest of it
 abbrev pub quoted_whole : ℕ → List ℕ → Parts → ℕ → Result Whole ParseFault
 quoted_whole room source parts next = joined parts source (Text Parens) next (quoted_rest room (drop next source) 0 next)
 
 -- reading goes on at a position past this one, and gives the same in all
-pub record GoesOn (room : ℕ) (source : List ℕ) (old : Parts) (at : ℕ) (new : Parts) (next : ℕ) : Type 0 where
+pub record ReadsOn (room : ℕ) (source : List ℕ) (old : Parts) (at : ℕ) (new : Parts) (next : ℕ) : Type 0 where
   pub same : quoted_whole room source new next ≡ quoted_whole room source old at
   pub fine : IsCut new source next
   pub further : at < next

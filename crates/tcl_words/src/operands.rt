@@ -6,7 +6,7 @@ ghost use Rattle.tcl_words.specs.Kinds.{kind_before as kind_meant};
 ghost use Rattle.tcl_words.specs.Parts.{IsCut, IsOpenerCut, StandsAt, no_parts};
 ghost use Rattle.tcl_words.specs.Reading.{first_skip};
 ghost use Rattle.tcl_words.specs.Chain.{own, opened as opened_origin, IsReading};
-ghost use Rattle.tcl_words.specs.Operands.{opened_of, bracket_of, substitution_of, quoted_of, quoted_rest, outer, IsReadAs, EndsAt, GoesOn, MayOpen};
+ghost use Rattle.tcl_words.specs.Operands.{opened_of, bracket_of, substitution_of, quoted_of, quoted_rest, outer, IsReadAs, EndsAt, ReadsOn, MayOpen};
 ghost use Rattle.tcl_text.specs.Limits.{most_bytes, most_nested};
 
 use crate::kind::{BytePlace, Dollar, Kind, Mode, Opener, Step};
@@ -128,7 +128,7 @@ fn read_quoted(
     requires text { kind ≢ Kind.Quote }
     requires fine { IsCut parts.old source.now at }
     requires room { room ≤ most_nested }
-    ensures ok { IfOk result (λ next. GoesOn room source.now parts.old at parts.new next) }
+    ensures ok { IfOk result (λ next. ReadsOn room source.now parts.old at parts.new next) }
     ensures fault { IfErr result (λ fault. (quoted_rest room (drop at source.now) 0 at ≡ Err fault) ⊎ (fault ≡ ParseFault.NoMemory)) }
 {
     match read_text(parts, alloc, source, at, byte, kind, Mode::Parens)? {

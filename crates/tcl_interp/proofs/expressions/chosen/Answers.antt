@@ -1,5 +1,5 @@
 use Rattle.std.proofs.Common.{◌≡◌, ℕ, Bool, List, Result, false, drop, Ok, ap, sym, ◌∙◌}
-use Rattle.tcl_control.specs.Expressions.{truth_of}
+use Rattle.tcl_control.specs.Expressions.{truth_of_text}
 use Rattle.tcl_interp.specs.declared.machine.Choosing.{Choosing}
 use Rattle.tcl_interp.specs.Finish.{Waiting}
 use Rattle.tcl_interp.specs.Moves.{Moved, chosen_move}
@@ -16,8 +16,8 @@ pub returns-in_ok-now-in-Ok-false-clause-now : goal.returns-in_ok-now-in-Ok-fals
 returns-in_ok-now-in-Ok-false-clause-now g c =
     let choosing = c.into_inner-choices.result in
     let waits = waits_of c.args.frames.now.items in
-    let fails : Ok false ≡ truth_of c.args.value.now = sym (ap Ok c.in-Ok-false.field-0-test) ∙ sym c.in-Ok-false.is ∙ c.in_ok-truth.ensures in
-    on_same _ c.args.room waits (truth_of c.args.value.now) choosing c.args.choosing.value c.into_inner-choices.ensures
+    let fails : Ok false ≡ truth_of_text c.args.value.now = sym (ap Ok c.in-Ok-false.field-0-test) ∙ sym c.in-Ok-false.is ∙ c.in_ok-truth.ensures in
+    on_same _ c.args.room waits (truth_of_text c.args.value.now) choosing c.args.choosing.value c.into_inner-choices.ensures
     (c.in_ok-now-in-Ok-false.ensures.now
     ∙ chosen_on c.args.room choosing.choices.otherwise waits choosing.choices.branches choosing.place choosing.within
     ∙ ap (chosen_move c.args.room (drop choosing.place choosing.choices.branches) choosing.choices.otherwise waits) fails)

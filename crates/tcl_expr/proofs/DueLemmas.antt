@@ -11,7 +11,7 @@ use Rattle.tcl_expr.specs.declared.step.Step.TheVariants as step
 use Rattle.tcl_expr.specs.declared.substitution.Due.{Due}
 use Rattle.tcl_expr.specs.Trees.{Tree, Joined}
 use Rattle.tcl_expr.specs.Steps.{steps_of}
-use Rattle.tcl_expr.specs.Substitution.{with_tree, joined_trees, element_tree, index_tree_by, piece_tree, text_tree, Writes}
+use Rattle.tcl_expr.specs.Substitution.{on_tree, joined_trees, element_tree, index_tree_by, piece_tree, text_tree, Writes}
 use Rattle.tcl_expr.specs.Dues.{with_steps, before, tree_steps, piece_steps, others_steps, text_steps, due_steps, steps_before, dues_steps, GoesOn, due_weight, dues_weight, piece_weight, text_weight, index_weight_by}
 
 pub joins : (a b : List Step) (r : Result (List Step) ExprFault) → with_steps a (with_steps b r) ≡ with_steps (a ++ b) r
@@ -29,7 +29,7 @@ last_weighs (first ∷ dues) own = omega (arith, last_weighs dues own)
 
 -- the steps of a tree that pieces are joined to
 next_joined : (room : ℕ) (pieces : List Piece) (tree : Tree) → ((t : Tree) → tree_steps (joined_trees (piece_tree room) t pieces) ≡ with_steps (steps_of t) (others_steps room pieces)) → (next : Result Tree ExprFault) →
-    tree_steps (with_tree next (λ x. joined_trees (piece_tree room) (Joined tree x) pieces)) ≡ with_steps (steps_of tree) (before (tree_steps next) (with_steps (step.Join ∷ []) (others_steps room pieces)))
+    tree_steps (on_tree next (λ x. joined_trees (piece_tree room) (Joined tree x) pieces)) ≡ with_steps (steps_of tree) (before (tree_steps next) (with_steps (step.Join ∷ []) (others_steps room pieces)))
 next_joined room pieces tree all (Ok next) =
     all (Joined tree next)
     ∙ sym (joins (steps_of tree) (steps_of next ++ step.Join ∷ []) (others_steps room pieces))
@@ -40,7 +40,7 @@ others_joined : (room : ℕ) (pieces : List Piece) (tree : Tree) → tree_steps 
 others_joined room [] tree = ap Ok (sym (append-nil (steps_of tree)))
 others_joined room (own ∷ pieces) tree = next_joined room pieces tree (others_joined room pieces) (piece_tree room own)
 
-first_joined : (room : ℕ) (pieces : List Piece) (first : Result Tree ExprFault) → tree_steps (with_tree first (λ x. joined_trees (piece_tree room) x pieces)) ≡ before (tree_steps first) (others_steps room pieces)
+first_joined : (room : ℕ) (pieces : List Piece) (first : Result Tree ExprFault) → tree_steps (on_tree first (λ x. joined_trees (piece_tree room) x pieces)) ≡ before (tree_steps first) (others_steps room pieces)
 first_joined room pieces (Ok tree) = others_joined room pieces tree
 first_joined room pieces (Err fault) = refl
 

@@ -47,8 +47,8 @@ newline behind (AtOperator tree) opened = refl
 
 is_newline : (b : ℕ) (behind : List ℕ) (place : OperandPlace) (opened : List Opened) → begins_newline (b ∷ behind) ≡ true → reading 1 place opened (b ∷ behind) ≡ reading 0 place opened (b ∷ behind)
 is_newline b behind place opened h =
-  let first : 10 ≡ b = grind (arith, nat_tests, (and_parts (nat_eq 10 b) true h).0) in
-  subst (λ c. reading 1 place opened (c ∷ behind) ≡ reading 0 place opened (c ∷ behind)) first (newline behind place opened)
+    let first : 10 ≡ b = grind (arith, nat_tests, (and_parts (nat_eq 10 b) true h).0) in
+    subst (λ c. reading 1 place opened (c ∷ behind) ≡ reading 0 place opened (c ∷ behind)) first (newline behind place opened)
 
 newline_behind : (behind : List ℕ) (place : OperandPlace) (opened : List Opened) → begins_newline behind ≡ true → reading 1 place opened behind ≡ reading 0 place opened behind
 newline_behind [] place opened h = absurd (cc)

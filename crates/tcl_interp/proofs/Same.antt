@@ -13,7 +13,7 @@ use Rattle.tcl_control.specs.declared.code.Code.TheVariants.{Normal, Error, Retu
 use Rattle.tcl_control.specs.declared.context.Context.{Context}
 use Rattle.tcl_control.specs.declared.turns.Turning.{Turning}
 use Rattle.tcl_control.specs.Expressions.{tree_or_text, truth_of_text}
-use Rattle.tcl_control.specs.ExpressionForms.{begun, evaluation_begins}
+use Rattle.tcl_control.specs.ExpressionForms.{evaluation_begun, evaluation_begins}
 use Rattle.tcl_shapes.specs.declared.branches.Branch.{Branch}
 use Rattle.tcl_expr.specs.declared.ask.Ask.{Ask}
 use Rattle.tcl_expr.specs.declared.ask.Ask.TheVariants as ask
@@ -33,7 +33,7 @@ use Rattle.tcl_interp.specs.Plans.{loop_ended, after_body, after_next, next_turn
 use Rattle.tcl_interp.specs.Scripts.{out_of_global, call_meaning, on_parsed, script_meaning}
 use Rattle.tcl_interp.specs.Finish.{Wording, Indexing, Doing, Begins, GoesOn, Indexes, Evaluates, Calls, Tests, Steps, Resumes, Ends, Waiting, ForCommand, ForPart, ForIndex, ForValue, ForTest, ForChoice, ForBody, ForNext, ForStart, ForCatch, ForLevels, ForProcedure, ForScript, ForAll, Running, at_global, script_rest, words_rest, word_done, index_rest, value_rest, choice_rest, turn_rest, loop_rest, waiting_meaning, waits_meaning, finish}
 use Rattle.tcl_interp.specs.Quiet.{told_run, EvaluationMoves, MovesBy, LeadsBy, Leads}
-use Rattle.tcl_interp.specs.Moves.{Moved, Standing, Part, Script, ElementOf, value_text, WordEnd, Whole, Failed, AtPart, join_end, piece_end, word_end, with_more, moved, standing, more_move, index_begins, element_begins, part_begins, word_move, words_move, element_end, index_move, indexes_move, parsed_move, begin_move, go_on_move, after_command, after_part, longer_index, after_index, begun_as, expression_begins, value_given, asked_move, answer_move, otherwise_move, choice_move, after_value_move, turn_move, after_test_move, chosen_move, after_choice_move, next_move, after_body_move, after_next_move, after_start_move, global_end, end_move}
+use Rattle.tcl_interp.specs.Moves.{Moved, Standing, Part, Script, ElementOf, value_text, WordEnd, Whole, Failed, AtPart, join_end, piece_end, word_end, with_more_words, moved, standing, more_move, index_begins, element_begins, part_begins, word_move, words_move, element_end, index_move, indexes_move, parsed_move, begin_move, go_on_move, after_command, after_part, longer_index, after_index, begun_as, expression_begins, value_given, asked_move, answer_move, otherwise_move, choice_move, after_value_move, turn_move, after_test_move, chosen_move, after_choice_move, next_move, after_body_move, after_next_move, after_start_move, global_end, end_move}
 
 pub and_then_assoc : {S : Type 0} (o : Outcome S) (f g : State S → Code → List ℕ → Outcome S) → and_then (and_then o f) g ≡ and_then o (λ state code text. and_then (f state code text) g)
 and_then_assoc (Ended state code text) f g = refl
@@ -172,7 +172,7 @@ module _ {S K : Type 0} (outside : Outside S K) where
       → ((more : List (List ℕ)) → and_then (and_then (words_rest outside room words more state) (next_in room after)) (waits_meaning outside waits) ≡ finish_moved (go more) state)
       → (more : Result (List (List ℕ)) (List ℕ))
       → and_then (and_then (on_words state (λ state' more. words_rest outside room words (whole ++ more) state') more) (next_in room after)) (waits_meaning outside waits)
-      ≡ finish_moved (more_move waits go (with_more whole more)) state
+      ≡ finish_moved (more_move waits go (with_more_words whole more)) state
   more_same room after words whole waits state go h (Ok more) = h (whole ++ more)
   more_same room after words whole waits state go h (Err text) = refl
 
@@ -204,7 +204,7 @@ module _ {S K : Type 0} (outside : Outside S K) where
   -- ── expressions ──
 
   begun_same : (room : ℕ) (text : List ℕ) (waits : List (Waiting K)) (state : State S) (tree : Result Tree ExprFault)
-      → and_then (tree_meaning (run_in room) state (tree_or_text text tree)) (waits_meaning outside waits) ≡ finish_moved (moved (begun_as room (begun text (compiled_by tree))) waits) state
+      → and_then (tree_meaning (run_in room) state (tree_or_text text tree)) (waits_meaning outside waits) ≡ finish_moved (moved (begun_as room (evaluation_begun text (compiled_by tree))) waits) state
   begun_same room text waits state (Ok tree) = ap (λ r. and_then (run_meaning (run_in room) r state) (waits_meaning outside waits)) (sym (execute_whole tree))
   begun_same room text waits state (Err fault) = refl
 

@@ -28,7 +28,7 @@ use Rattle.tcl_control.specs.Texts.{limit_text, element_name}
 use Rattle.tcl_interp.specs.Evaluation.{index_pieces, index_depth, words_of}
 use Rattle.tcl_interp.specs.Scripts.{out_of_global}
 use Rattle.tcl_interp.specs.Finish.{Wording, Indexing, Doing, Begins, GoesOn, Indexes, Evaluates, Calls, Tests, Steps, Resumes, Ends, Waiting, ForCommand, ForPart, ForIndex, ForValue, ForTest, ForChoice, ForBody, ForNext, ForStart, ForCatch, ForLevels, ForProcedure, ForScript, ForAll}
-use Rattle.tcl_interp.specs.Moves.{Moved, Standing, Part, Script, ElementOf, value_text, WordEnd, Whole, Failed, AtPart, join_end, piece_end, word_end, with_more, moved, standing, more_move, index_begins, element_begins, part_begins, word_move, words_move, element_end, index_move, indexes_move, parsed_move, begin_move, go_on_move, after_command, part_move, after_part, longer_index, after_index, begun_as, expression_begins, value_given, asked_move, answer_move, otherwise_move, choice_move, after_value_move, turn_move, after_test_move, chosen_move, after_choice_move, next_move, after_body_move, after_next_move, after_start_move, global_end, end_move}
+use Rattle.tcl_interp.specs.Moves.{Moved, Standing, Part, Script, ElementOf, value_text, WordEnd, Whole, Failed, AtPart, join_end, piece_end, word_end, with_more_words, moved, standing, more_move, index_begins, element_begins, part_begins, word_move, words_move, element_end, index_move, indexes_move, parsed_move, begin_move, go_on_move, after_command, part_move, after_part, longer_index, after_index, begun_as, expression_begins, value_given, asked_move, answer_move, otherwise_move, choice_move, after_value_move, turn_move, after_test_move, chosen_move, after_choice_move, next_move, after_body_move, after_next_move, after_start_move, global_end, end_move}
 use Rattle.tcl_interp.specs.Quiet.{quiet_by, EvaluationMoves, MovesBy, Moves, LeadsBy, Leads, IsQuietBy, IsQuiet}
 use Rattle.tcl_interp.proofs.Same.{begin_some, element_begins_some}
 
@@ -181,7 +181,7 @@ module _ {K : Type 0} where
   weight m = doing_weight m.doing + waits_weight m.waits
 
   more_light : (waits : List (Waiting K)) (whole : List (List ℕ)) (go : List (List ℕ) → Moved K) (bound : ℕ) (more : Result (List (List ℕ)) (List ℕ))
-      → ((all : List (List ℕ)) → weight (go all) ≤ 2 + (bound + waits_weight waits)) → weight (more_move waits go (with_more whole more)) ≤ 2 + (bound + waits_weight waits)
+      → ((all : List (List ℕ)) → weight (go all) ≤ 2 + (bound + waits_weight waits)) → weight (more_move waits go (with_more_words whole more)) ≤ 2 + (bound + waits_weight waits)
   more_light waits whole go bound (Ok more) h = h (whole ++ more)
   more_light waits whole go bound (Err text) h = omega arith
 
@@ -200,7 +200,7 @@ module _ {K : Type 0} where
       → EndWeighs (script_weight room) (element_weight (script_weight room) index_depth) bound end
       → weight (word_move room after expand words whole waits go end) ≤ 2 + (bound + (words_weight (script_weight room) words + (commands_weight (script_weight room) after + waits_weight waits)))
   word_light room after expand words whole waits go bound (Whole text) h w =
-      let light : weight (more_move waits go (with_more whole (words_of expand text))) ≤ 2 + ((words_weight (script_weight room) words + commands_weight (script_weight room) after) + waits_weight waits) =
+      let light : weight (more_move waits go (with_more_words whole (words_of expand text))) ≤ 2 + ((words_weight (script_weight room) words + commands_weight (script_weight room) after) + waits_weight waits) =
       more_light waits whole go (words_weight (script_weight room) words + commands_weight (script_weight room) after) (words_of expand text) (λ all. omega (arith, h all)) in
       omega arith
   word_light room after expand words whole waits go bound (Failed text) h w = omega arith
@@ -432,7 +432,7 @@ module _ {K : Type 0} (size : K → ℕ) where
   tasks m = doing_tasks m.doing + waits_tasks m.waits
 
   more_tasks : (waits : List (Waiting K)) (whole : List (List ℕ)) (go : List (List ℕ) → Moved K) (more : Result (List (List ℕ)) (List ℕ))
-      → ((all : List (List ℕ)) → tasks (go all) ≡ waits_tasks waits) → tasks (more_move waits go (with_more whole more)) ≡ waits_tasks waits
+      → ((all : List (List ℕ)) → tasks (go all) ≡ waits_tasks waits) → tasks (more_move waits go (with_more_words whole more)) ≡ waits_tasks waits
   more_tasks waits whole go (Ok more) h = h (whole ++ more)
   more_tasks waits whole go (Err text) h = omega arith
 

@@ -92,9 +92,9 @@ word_end level store [] so_far = Whole so_far
 word_end level store (piece ∷ pieces) so_far = piece_end (piece_text level store piece) pieces so_far (word_end level store pieces)
 
 -- the words so far, and those that one more gives
-abbrev pub with_more : List (List ℕ) → Result (List (List ℕ)) (List ℕ) → Result (List (List ℕ)) (List ℕ)
-with_more whole (Ok more) = Ok (whole ++ more)
-with_more whole (Err text) = Err text
+abbrev pub with_more_words : List (List ℕ) → Result (List (List ℕ)) (List ℕ) → Result (List (List ℕ)) (List ℕ)
+with_more_words whole (Ok more) = Ok (whole ++ more)
+with_more_words whole (Err text) = Err text
 
 module _ {K : Type 0} where
   abbrev pub moved : Doing K → List (Waiting K) → Moved K
@@ -131,7 +131,7 @@ module _ {K : Type 0} where
 
   -- a word that comes so far, with the words behind it
   abbrev pub word_move : ℕ → List Command → Bool → List Word → List (List ℕ) → List (Waiting K) → (List (List ℕ) → Moved K) → WordEnd → Moved K
-  word_move room after expand words whole waits go (Whole text) = more_move waits go (with_more whole (words_of expand text))
+  word_move room after expand words whole waits go (Whole text) = more_move waits go (with_more_words whole (words_of expand text))
   word_move room after expand words whole waits go (Failed text) = moved (Ends Error text) waits
   word_move room after expand words whole waits go (AtPart part pieces so_far) = word_part room after expand words whole pieces so_far part waits
 

@@ -5,7 +5,7 @@ ghost use Rattle.tcl_control.specs.Source.{script_of};
 ghost use Rattle.tcl_control.specs.Texts.{element_name};
 ghost use Rattle.tcl_interp.specs.Evaluation.{index_depth, items_or_text, words_of};
 ghost use Rattle.tcl_interp.specs.Finish.{Begins};
-ghost use Rattle.tcl_interp.specs.Moves.{moved, with_more, piece_text, word_end, called_move, words_move, element_begins, element_end, indexes_move, longer_index, part_begins, part_move, word_part, go_on_move};
+ghost use Rattle.tcl_interp.specs.Moves.{moved, with_more_words, piece_text, word_end, called_move, words_move, element_begins, element_end, indexes_move, longer_index, part_begins, part_move, word_part, go_on_move};
 ghost use Rattle.tcl_interp.specs.Rests.{commands_in, doing_of, expand_in_front, indexing_of, IsSingle, left_in, moved_of, part_of, pieces_in, pieces_in_front, put_end, value_of, waiting_of, waits_of, wording_of, words_in_front};
 ghost use Rattle.tcl_text.specs.Limits.{most_bytes};
 
@@ -168,7 +168,7 @@ fn with_words(
     expand: bool,
     text: Text,
 ) -> Result<Result<TextList, Text>, AllocError>
-    ensures { IfOk result (λ all. all ≡ with_more whole (words_of expand text)) }
+    ensures { IfOk result (λ all. all ≡ with_more_words whole (words_of expand text)) }
 {
     if expand {
         with_elements(alloc, whole, &text)
@@ -187,7 +187,7 @@ fn with_word(
     index: usize,
     text: Text,
 ) -> Result<Result<TextList, Text>, AllocError>
-    ensures { IfOk result (λ all. all ≡ with_more whole (words_of (expand_in_front (drop index words.now)) text)) }
+    ensures { IfOk result (λ all. all ≡ with_more_words whole (words_of (expand_in_front (drop index words.now)) text)) }
 {
     with_words(alloc, whole, expand_at(words, index), text)
 }
@@ -198,7 +198,7 @@ fn with_elements(
     whole: TextList,
     list: &Text,
 ) -> Result<Result<TextList, Text>, AllocError>
-    ensures { IfOk result (λ all. all ≡ with_more whole (items_or_text (list_of list.now))) }
+    ensures { IfOk result (λ all. all ≡ with_more_words whole (items_or_text (list_of list.now))) }
 {
     match list.split_list(alloc) {
         Ok(elements) => {

@@ -12,7 +12,7 @@ use Rattle.tcl_vars.specs.Change.{change_fault, told_by, edited_by, ChangesConte
 use Rattle.tcl_vars.specs.Name.{Place}
 use Rattle.tcl_vars.specs.Put.{PutsText, Sets}
 use Rattle.tcl_vars.specs.Sound.{IsSound}
-use Rattle.tcl_vars.specs.Store.{Store, Frame, content_at, end_of, frame_at, link_of, text_at, text_of, variable_count, with_new_content, within_limit}
+use Rattle.tcl_vars.specs.Store.{Store, Frame, content_at, end_of, frame_at, link_of, text_at, text_of, variable_count, with_new_content, within_variables}
 use Rattle.tcl_text.specs.declared.fault.SetFault.TheVariants.{Full}
 use Rattle.tcl_vars.specs.Table.{Table, value_at, with_value}
 use Rattle.tcl_vars.proofs.LinkLemmas.{led-here}
@@ -114,7 +114,7 @@ module _ (store : Store) (count : ℕ) (sound : IsSound store count) (place : Pl
   sets : (value : List ℕ) → PutsText (frame_at store place.level) place value (4096 - count) 0 new → Sets store place value (Ok (set store place.level new))
   sets value puts = record {
     linkless = puts.linkless;
-    given = ap (with_new_content store place) puts.given ∙ ap (λ f. within_limit Full (set store place.level f)) (sym puts.frame)
+    given = ap (with_new_content store place) puts.given ∙ ap (λ f. within_variables Full (set store place.level f)) (sym puts.frame)
         ∙ within_limit-ok Full (set store place.level new)
         (let same : count + 0 ≡ variable_count (set store place.level new) = counted-set store count sound place within value 0 new puts in omega (arith, sound.limited));
   }

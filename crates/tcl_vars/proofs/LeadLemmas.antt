@@ -6,7 +6,7 @@ use Rattle.tcl_vars.specs.declared.content.Content.TheVariants.{Link}
 use Rattle.tcl_text.specs.declared.fault.LinkFault.TheVariants as links
 use Rattle.tcl_vars.specs.Name.{Place, element_of, place_of_parts, place_in_frame, place_of}
 use Rattle.tcl_vars.specs.Sound.{LinksDescend}
-use Rattle.tcl_vars.specs.Store.{Store, frame_at, content_at, with_content, link_of, indexed, led_by, led, end_of, place_in, text_of, text_at, variable_in, is_plain_name, holds_value, variable_place, within_limit, with_link}
+use Rattle.tcl_vars.specs.Store.{Store, frame_at, content_at, with_content, link_of, indexed, led_by, led, end_of, place_in, text_of, text_at, variable_in, is_plain_name, holds_value, variable_place, within_variables, with_link}
 use Rattle.tcl_vars.specs.Table.{value_at, with_value}
 use Rattle.tcl_vars.proofs.LinkLemmas.{led_enough, next_below, place_of-level}
 use Rattle.tcl_vars.proofs.LawLemmas.{content_at-there, led-level, within_limit-is}
@@ -81,7 +81,7 @@ module _ (store : Store) (down : LinksDescend store) (level : ℕ) (within : lev
       by : (plain : Bool) → is_plain_name name ≡ plain → (holds : Bool)
           → (if not plain then Err links.BadName
           else if holds then Err links.Exists
-          else within_limit links.Full (with_content store (variable_place level name) (Link to_level to_name))) ≡ Ok new
+          else within_variables links.Full (with_content store (variable_place level name) (Link to_level to_name))) ≡ Ok new
           → text_at new (place_in new level name) ≡ text_at store (place_in store to_level to_name)
       by false plain holds h = absurd (cc)
       by true plain true h = absurd (cc)

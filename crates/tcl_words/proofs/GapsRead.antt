@@ -7,7 +7,7 @@ use Rattle.tcl_words.specs.Grammar.{class_ends, ends_word}
 use Rattle.tcl_words.specs.Changes.{put, changed, last_rest}
 use Rattle.tcl_words.specs.Changes.Change.{command_begins}
 use Rattle.tcl_words.specs.Moves.{Move, move_of, on, in_comment, before}
-use Rattle.tcl_words.specs.Reading.{Level, rest_of, past, within, end_of}
+use Rattle.tcl_words.specs.Reading.{Level, rest_of, past, within, end_or_fault}
 use Rattle.tcl_words.specs.Grammar.{begins, IsSeparator, AreBlanks, IsNote, IsLastNote, IsGap}
 use Rattle.tcl_words.specs.Grammar.AreBlanks.{none as no_blanks, blank as one_blank, continuation as continued_blanks}
 use Rattle.tcl_words.specs.Grammar.IsNote.{none as no_note, byte as note_byte, pair as note_pair}
@@ -161,15 +161,15 @@ gap_read level (comment note text n h) follow at =
     ∙ read_at follow level Start (at + 1 + length note + 1 + length text) (at + suc (length (note ++ 10 ∷ text))) e
 
 -- a comment at the end of the text
-pub last_note_read : (level : Level) (note : List ℕ) (at : ℕ) → IsLastNote note → rest_of note level 0 Comment at ≡ end_of level.inside MissingBracket (at + length note)
+pub last_note_read : (level : Level) (note : List ℕ) (at : ℕ) → IsLastNote note → rest_of note level 0 Comment at ≡ end_or_fault level.inside MissingBracket (at + length note)
 last_note_read level note at (inl h) = ap (λ t. rest_of t level 0 Comment at) (sym (append-nil note)) ∙ note_read level h [] at
 last_note_read level note at (inr (front, e, h)) =
     let m : at + length front + 1 ≡ at + length (front ++ 92 ∷ []) = omega (arith, length-append front (92 ∷ [])) in
     ap (λ t. rest_of t level 0 Comment at) e
     ∙ note_read level h (92 ∷ []) at
     ∙ pair_step level [] (at + length front)
-    ∙ ap (end_of level.inside MissingBracket) m
-    ∙ ap (λ t. end_of level.inside MissingBracket (at + length t)) (sym e)
+    ∙ ap (end_or_fault level.inside MissingBracket) m
+    ∙ ap (λ t. end_or_fault level.inside MissingBracket (at + length t)) (sym e)
 
 -- a byte that ends no word begins a command, but `#`
 start_kinds : (inside : Bool) (kind : Kind) (b at : ℕ) (text : List ℕ) → class_ends inside kind text ≡ false → kind ≢ Hash → kind ≢ Continuation →

@@ -11,7 +11,7 @@ use Rattle.tcl_words.specs.declared.kind.Mode.{Mode}
 use Rattle.tcl_words.specs.declared.kind.Mode.TheVariants.{Bare, Quotes, Parens}
 use Rattle.tcl_text.specs.declared.fault.ParseFault.{ParseFault}
 use Rattle.tcl_text.specs.declared.fault.ParseFault.TheVariants.{MissingBracket, ExtraAfterBrace, ExtraAfterQuote}
-use Rattle.tcl_words.specs.Reading.{Level, rest_of, end_of}
+use Rattle.tcl_words.specs.Reading.{Level, rest_of, end_or_fault}
 use Rattle.tcl_words.specs.Grammar.{ends_body, unended_fault}
 use Rattle.tcl_words.specs.declared.kind.Kind.{Kind}
 use Rattle.tcl_words.specs.declared.kind.Kind.TheVariants.{Blank, Newline, Semicolon, Hash, Dollar, Quote, OpenBracket, CloseBracket, OpenBrace, Expansion, CloseBrace, CloseParen, Backslash, Continuation, Other}
@@ -45,7 +45,7 @@ over_kind other inside CloseParen b at text level e = cc
 over_kind other inside Continuation b at text level e = cc
 over_kind other inside Other b at text level e = cc
 
-end_over : (t : Bool) (fault : ParseFault) (at : ℕ) → end_of t fault at ≡ put (changed (word_ends at ∷ [])) (end_of t fault at)
+end_over : (t : Bool) (fault : ParseFault) (at : ℕ) → end_or_fault t fault at ≡ put (changed (word_ends at ∷ [])) (end_or_fault t fault at)
 end_over true fault at = refl
 end_over false fault at = refl
 

@@ -10,7 +10,7 @@ use Rattle.tcl_words.specs.Spans.{word_of}
 use Rattle.tcl_words.specs.Changes.Change.{bytes as put_bytes, text_ends, word_ends, word_begins, command_ends}
 use Rattle.tcl_words.specs.Moves.{Move, move_of, on, lone, in_expanded, in_between, before, word_over}
 use Rattle.tcl_words.specs.Moves.{at_fault as fails_with}
-use Rattle.tcl_words.specs.Reading.{Level, rest_of, past, within, end_of}
+use Rattle.tcl_words.specs.Reading.{Level, rest_of, past, within, end_or_fault}
 use Rattle.tcl_words.specs.Grammar.{TextEnding, fails, Inner, IsInnerOf, begins_bare, begins_mark, IsBraced, IsUnclosed, IsOwnWord, IsFaultyOwn, IsMark, IsWord, IsFaultyWord}
 use Rattle.tcl_words.specs.Grammar.IsOwnWord.{bare_word, quoted_word, braced_word}
 use Rattle.tcl_words.specs.Grammar.IsFaultyOwn.{faulty_bare, faulty_quoted, followed_quoted, unclosed_braced, followed_braced}
@@ -194,7 +194,7 @@ lone_kind inside CloseParen b at text level e = cc
 lone_kind inside Continuation b at text level e = cc
 lone_kind inside Other b at text level e = cc
 
-lone_end : (t : Bool) (at : ℕ) → put (changed (lone at)) (end_of t MissingBracket at) ≡ put (word_front (star_word at)) (end_of t MissingBracket at)
+lone_end : (t : Bool) (at : ℕ) → put (changed (lone at)) (end_or_fault t MissingBracket at) ≡ put (word_front (star_word at)) (end_or_fault t MissingBracket at)
 lone_end true at = refl
 lone_end false at = refl
 

@@ -7,7 +7,7 @@ use Rattle.tcl_words.specs.Kinds.{kind_before, dollar_of}
 use Rattle.tcl_words.specs.Changes.{Read, put, last_rest, literal_before, changed}
 use Rattle.tcl_words.specs.Moves.{Move, in_text}
 use Rattle.tcl_words.specs.Parts.{Parts, Whole, joined, IsCut}
-use Rattle.tcl_words.specs.Reading.{within, rest_of, past, first_place, first_skip, opened_piece}
+use Rattle.tcl_words.specs.Reading.{within, rest_of, past, opened_place, first_skip, opened_piece}
 use Rattle.tcl_words.specs.Chain.{IsClosing}
 use Rattle.tcl_words.specs.declared.kind.Kind.{Kind}
 use Rattle.tcl_words.specs.declared.kind.Kind.TheVariants.{Quote}
@@ -40,7 +40,7 @@ piece_found opener behind (Err fault) = Err fault
 -- what a bracket opens, or the parenthesis of `$name(index)`
 abbrev pub opened_of : ℕ → Opener → List ℕ → Result (Piece × ℕ) ParseFault
 opened_of zero opener behind = Err TooLong
-opened_of (suc room) opener behind = piece_found opener behind (rest_of behind (within room) (first_skip opener) (first_place opener) 0)
+opened_of (suc room) opener behind = piece_found opener behind (rest_of behind (within room) (first_skip opener) (opened_place opener) 0)
 
 -- what a bracket before this text opens
 abbrev pub bracket_of : ℕ → List ℕ → Result (Piece × ℕ) ParseFault

@@ -17,7 +17,7 @@ use Rattle.tcl_text.specs.declared.fault.SetFault.TheVariants.{Full}
 use Rattle.tcl_vars.specs.Table.{Table, value_at, with_value}
 use Rattle.tcl_vars.proofs.LinkLemmas.{led-here}
 use Rattle.tcl_vars.proofs.PutLemmas.{AfterPut-content}
-use Rattle.tcl_vars.proofs.StoreLemmas.{IsSound-set, counted-set, within_limit-ok}
+use Rattle.tcl_vars.proofs.StoreLemmas.{IsSound-set, counted-set, within_variables-ok}
 use Rattle.tcl_vars.proofs.TableLemmas.{with_value-same}
 
 pub told_ok : (read : Result (List ℕ) EditFault) (text : List ℕ) → read ≡ Ok text → told_by read ≡ Ok text
@@ -115,7 +115,7 @@ module _ (store : Store) (count : ℕ) (sound : IsSound store count) (place : Pl
   sets value puts = record {
     linkless = puts.linkless;
     given = ap (with_new_content store place) puts.given ∙ ap (λ f. within_variables Full (set store place.level f)) (sym puts.frame)
-        ∙ within_limit-ok Full (set store place.level new)
+        ∙ within_variables-ok Full (set store place.level new)
         (let same : count + 0 ≡ variable_count (set store place.level new) = counted-set store count sound place within value 0 new puts in omega (arith, sound.limited));
   }
 

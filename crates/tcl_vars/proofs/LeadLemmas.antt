@@ -9,7 +9,7 @@ use Rattle.tcl_vars.specs.Sound.{LinksDescend}
 use Rattle.tcl_vars.specs.Store.{Store, frame_at, content_at, with_content, link_of, indexed, led_by, led, end_of, place_in, text_of, text_at, variable_in, is_plain_name, holds_value, variable_place, within_variables, with_link}
 use Rattle.tcl_vars.specs.Table.{value_at, with_value}
 use Rattle.tcl_vars.proofs.LinkLemmas.{led_enough, next_below, place_of-level}
-use Rattle.tcl_vars.proofs.LawLemmas.{content_at-there, led-level, within_limit-is}
+use Rattle.tcl_vars.proofs.LawLemmas.{content_at-there, led-level, within_variables-is}
 
 -- a plain name points to its own variable
 place_of-plain : (level : ℕ) (name : List ℕ) → is_plain_name name ≡ true → place_of level name ≡ variable_place level name
@@ -86,6 +86,6 @@ module _ (store : Store) (down : LinksDescend store) (level : ℕ) (within : lev
       by false plain holds h = absurd (cc)
       by true plain true h = absurd (cc)
       by true plain false h =
-          ap (λ s. text_at s (place_in s level name)) (within_limit-is links.Full linked new h)
+          ap (λ s. text_at s (place_in s level name)) (within_variables-is links.Full linked new h)
           ∙ ap (λ p. text_at linked (end_of linked p)) (place_of-plain level name plain)
           ∙ ap (text_at linked) end_of-linked ∙ text_at-linked

@@ -6,7 +6,7 @@ use Rattle.tcl_text.specs.declared.fault.LinkFault.TheVariants as links
 use Rattle.tcl_text.specs.declared.fault.SetFault.TheVariants as sets
 use Rattle.tcl_vars.specs.Name.{Place}
 use Rattle.tcl_vars.specs.Store.{Store, content_at, with_content, variable_count, within_variables, is_plain_name, holds_value, variable_place, with_link, place_in, array_state, with_array_of, with_array_at, with_array}
-use Rattle.tcl_vars.proofs.StoreLemmas.{within_limit-ok, within_limit-full}
+use Rattle.tcl_vars.proofs.StoreLemmas.{within_variables-ok, within_variables-full}
 
 module _ (store : Store) (level : ℕ) (name : List ℕ) (to_level : ℕ) (to_name : List ℕ) where
   -- what a link gives by its two tests
@@ -36,10 +36,10 @@ module _ (store : Store) (level : ℕ) (name : List ℕ) (to_level : ℕ) (to_na
           ∙ ap (λ p. within_variables links.Full (with_content store p (Link to_level to_name))) (sym at)
 
       pub with_link-ok : (new : Store) → new ≡ with_content store place (Link to_level to_name) → variable_count new ≤ 4096 → with_link store level name to_level to_name ≡ Ok new
-      with_link-ok new is low = made ∙ ap (within_variables links.Full) (sym is) ∙ within_limit-ok links.Full new low
+      with_link-ok new is low = made ∙ ap (within_variables links.Full) (sym is) ∙ within_variables-ok links.Full new low
 
       pub with_link-full : 4096 < variable_count (with_content store place (Link to_level to_name)) → with_link store level name to_level to_name ≡ Err links.Full
-      with_link-full high = made ∙ within_limit-full links.Full (with_content store place (Link to_level to_name)) high
+      with_link-full high = made ∙ within_variables-full links.Full (with_content store place (Link to_level to_name)) high
 
 module _ (store : Store) (level : ℕ) (name : List ℕ) where
   -- an array where the name leads nowhere
@@ -55,7 +55,7 @@ module _ (store : Store) (level : ℕ) (name : List ℕ) where
 
     module _ (absent : array_state (content_at store place) place.element ≡ Some false) where
       pub with_array-ok : (new : Store) → new ≡ with_content store place (Array []) → variable_count new ≤ 4096 → with_array store level name ≡ Ok new
-      with_array-ok new is low = with_array-state (Some false) absent ∙ ap (within_variables sets.Full) (sym is) ∙ within_limit-ok sets.Full new low
+      with_array-ok new is low = with_array-state (Some false) absent ∙ ap (within_variables sets.Full) (sym is) ∙ within_variables-ok sets.Full new low
 
       pub with_array-full : 4096 < variable_count (with_content store place (Array [])) → with_array store level name ≡ Err sets.Full
-      with_array-full high = with_array-state (Some false) absent ∙ within_limit-full sets.Full (with_content store place (Array [])) high
+      with_array-full high = with_array-state (Some false) absent ∙ within_variables-full sets.Full (with_content store place (Array [])) high

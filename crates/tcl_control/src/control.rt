@@ -531,10 +531,7 @@ pub fn call_command(
         return Ok(Call::Outside(told(alloc, plain)?));
     }
     match context.commands.get(plain) {
-        Some(Command::Builtin(builtin)) => {
-            let call = builtin_call(alloc, *builtin, scopes, context, words)?;
-            Ok(call)
-        }
+        Some(Command::Builtin(builtin)) => builtin_call(alloc, *builtin, scopes, context, words),
         Some(Command::Texts(command)) => Ok(Call::Plans(texts_plan(alloc, *command, words)?)),
         Some(Command::Procedure(procedure)) => {
             let plan = call_procedure(alloc, scopes, &mut context.levels, name, procedure, words)?;

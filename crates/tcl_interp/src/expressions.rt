@@ -216,10 +216,7 @@ pub fn chosen<K: Drop>(
             room,
             script: Source::of_text(choices.branches.as_slice()[place].body.copy()?),
         }),
-        Ok(false) => {
-            let now = choose(alloc, table, frames, room, choices, place + 1)?;
-            Ok(now)
-        }
+        Ok(false) => choose(alloc, table, frames, room, choices, place + 1),
         Err(text) => Ok(Now::Ends {
             code: Code::Error,
             text,

@@ -366,10 +366,7 @@ fn ended<K: Drop>(
             context.levels.join(levels)?;
             Ok(Now::Ends { code, text })
         }
-        Frame::ForProcedure => {
-            let now = after_procedure(alloc, scopes, context, code, text)?;
-            Ok(now)
-        }
+        Frame::ForProcedure => after_procedure(alloc, scopes, context, code, text),
         Frame::ForScript { room, task } => Ok(Now::Resumes {
             room,
             task,

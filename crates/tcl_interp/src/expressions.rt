@@ -192,8 +192,7 @@ pub fn choose<K: Drop>(
         wait(frames, Frame::ForChoice { room, choosing })?;
         return begins(alloc, &expression, room);
     }
-    let now = otherwise(alloc, room, &choices.otherwise)?;
-    Ok(now)
+    otherwise(alloc, room, &choices.otherwise)
 }
 
 /// The condition of `if` that was begun has this value.

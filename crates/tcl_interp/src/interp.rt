@@ -19,7 +19,7 @@ const MAX_RUNNING: u64 = 200;
 pub enum SliceEnd {
     /// All is done, with a code and a result or an error's text.
     Done(Code, Text),
-    /// The slice's steps are taken, and there is more to do. No slice at all answers this too.
+    /// The slice's steps are taken, and there is more to do.
     More,
     /// A step is needed, and none of the budget is left.
     Exhausted,

@@ -327,7 +327,8 @@ fn after_choice<K: Drop>(
 ) -> Next<K>
     ensures table { table.new ≡ table.old }
     ensures now { IfOk result (λ now. moved_of now frames.new.items
-        ≡ after_choice_move room (drop choosing.value.place choosing.value.choices.branches) choosing.value.choices.otherwise (waits_of frames.old.items) code text) }
+        ≡ after_choice_move room (drop choosing.value.place choosing.value.choices.branches) choosing.value.choices.otherwise (waits_of frames.old.items)
+        code text) }
 {
     match code {
         Code::Normal => chosen(alloc, table, frames, room, choosing, &text),

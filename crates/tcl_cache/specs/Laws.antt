@@ -10,10 +10,13 @@ kept_after [] capacity = none_kept capacity
 kept_after (text ∷ earlier) capacity = put_first text (kept_after earlier capacity)
 
 abbrev pub NoTextTwice : Type 0
-NoTextTwice = (asked : List (List ℕ)) (capacity : ℕ) → IsDistinct bytes_eq (kept_after asked capacity).texts × (length (kept_after asked capacity).texts ≤ capacity)
+NoTextTwice =
+    (asked : List (List ℕ)) (capacity : ℕ) → IsDistinct bytes_eq (kept_after asked capacity).texts × (length (kept_after asked capacity).texts ≤ capacity)
 
 abbrev pub two : Kept
 two = kept_after (codes "c" ∷ codes "a" ∷ codes "b" ∷ codes "a" ∷ []) 2
 
 abbrev pub LastAskedFor : Type 0
-LastAskedFor = (two.texts ≡ codes "c" ∷ codes "a" ∷ []) × (is_kept (codes "a") two ≡ true) × (is_kept (codes "c") two ≡ true) × (is_kept (codes "b") two ≡ false) × (is_kept (codes "{") two ≡ false)
+LastAskedFor =
+    (two.texts ≡ codes "c" ∷ codes "a" ∷ []) × (is_kept (codes "a") two ≡ true) × (is_kept (codes "c") two ≡ true) × (is_kept (codes "b") two ≡ false)
+    × (is_kept (codes "{") two ≡ false)

@@ -160,7 +160,8 @@ relative count None = None
 
 -- How many of so many levels a word leaves: `#N` counts from the global level along the callers, and N up from the own one.
 abbrev pub levels_left : ℕ → List ℕ → Option ℕ
-levels_left count word = if starts_with nat_eq word (codes "#") then absolute count (unsigned_of (integer_of (drop 1 word))) else relative count (unsigned_of (integer_of word))
+levels_left count word =
+    if starts_with nat_eq word (codes "#") then absolute count (unsigned_of (integer_of (drop 1 word))) else relative count (unsigned_of (integer_of word))
 
 abbrev pub runs_at : List ℕ → List (List ℕ) → Option ℕ → Plan
 runs_at word words (Some count) = on_joined (RunsAt count) (concat_words words)

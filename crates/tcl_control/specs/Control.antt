@@ -45,7 +45,8 @@ recorded store context changed = record { store = store; context = record contex
 
 -- proc name params body
 abbrev pub proc_call : List (List ℕ) → Store → Context → Called
-proc_call (name ∷ parameters ∷ body ∷ []) store context = recorded store context (changed context.commands (with_procedure context.commands name parameters body))
+proc_call (name ∷ parameters ∷ body ∷ []) store context =
+    recorded store context (changed context.commands (with_procedure context.commands name parameters body))
 proc_call _ store context = keeps_all store context (misused usage.Proc)
 
 -- rename old new

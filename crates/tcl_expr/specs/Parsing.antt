@@ -38,7 +38,8 @@ abbrev pub EndsLast : ℕ → List Open → List Step → Result Bool AllocError
 EndsLast level opened steps (Ok true) opened' steps' =
     (last : Open) × (opened ≡ opened' ++ last ∷ []) × (is_ended_at level last ≡ true) × (steps' ≡ open_ended last steps)
 EndsLast level opened steps (Ok false) opened' steps' =
-    (opened' ≡ opened) × (steps' ≡ steps) × ((opened ≡ []) ⊎ ((below : List Open) × (last : Open) × (opened ≡ below ++ last ∷ []) × (is_ended_at level last ≡ false)))
+    (opened' ≡ opened) × (steps' ≡ steps)
+    × ((opened ≡ []) ⊎ ((below : List Open) × (last : Open) × (opened ≡ below ++ last ∷ []) × (is_ended_at level last ≡ false)))
 EndsLast level opened steps (Err refused) opened' steps' = Unit {0}
 
 -- ── what they stand for ──

@@ -77,12 +77,14 @@ move_at text AtOperand before = operand_at text before
 move_at text (AtOperator tree) before = operator_at text before tree
 
 abbrev pub TakesLink : Parser → Result ℕ ExprFault → Parser → List ℕ → Type 0
-TakesLink old (Ok skip) new text = (before : List Opened) (tree : Tree) → Stands old (AtOperator tree) before → FollowsMove new skip (operator_at text before tree)
+TakesLink old (Ok skip) new text =
+    (before : List Opened) (tree : Tree) → Stands old (AtOperator tree) before → FollowsMove new skip (operator_at text before tree)
 TakesLink old (Err fault) new text =
     (fault ≡ no_memory) ⊎ ((before : List Opened) (tree : Tree) → Stands old (AtOperator tree) before → operator_at text before tree ≡ Err fault)
 
 abbrev pub TakesFound : Parser → Result ℕ ExprFault → Parser → Option (Link × ℕ) → Type 0
-TakesFound old (Ok skip) new found = (before : List Opened) (tree : Tree) → Stands old (AtOperator tree) before → FollowsMove new skip (link_move before tree found)
+TakesFound old (Ok skip) new found =
+    (before : List Opened) (tree : Tree) → Stands old (AtOperator tree) before → FollowsMove new skip (link_move before tree found)
 TakesFound old (Err fault) new found =
     (fault ≡ no_memory) ⊎ ((before : List Opened) (tree : Tree) → Stands old (AtOperator tree) before → link_move before tree found ≡ Err fault)
 

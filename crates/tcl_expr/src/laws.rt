@@ -47,8 +47,8 @@ pub fn one_tree_or_fault()
 pub fn braces_are_those_of_scripts()
     ensures braced { (own value rest : List ℕ) → IsBraced own value → braced Plain 0 (own ++ close_brace ∷ rest) ≡ Ok (value, length own) }
     ensures unclosed { (text : List ℕ) → IsUnclosed text → braced Plain 0 text ≡ Err missing_brace }
-    ensures only_braced { (text value : List ℕ) (n : ℕ) → braced Plain 0 text ≡ Ok (value, n) → (own : List ℕ) × (rest : List ℕ) × (text ≡ own ++ close_brace ∷ rest)
-        × IsBraced own value × (n ≡ length own) }
+    ensures only_braced { (text value : List ℕ) (n : ℕ) → braced Plain 0 text ≡ Ok (value, n) → (own : List ℕ) × (rest : List ℕ)
+        × (text ≡ own ++ close_brace ∷ rest) × IsBraced own value × (n ≡ length own) }
     ensures only_unclosed { (text : List ℕ) (fault : Fault) → braced Plain 0 text ≡ Err fault → IsUnclosed text × (fault ≡ missing_brace) }
 {
     braces_are_cut();

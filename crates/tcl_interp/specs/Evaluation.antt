@@ -85,7 +85,8 @@ index_pieces text = (one_index_parse text).it
 
 -- an element is read, whose index is whole
 abbrev pub element_read : {S : Type 0} → List ℕ → State S → List ℕ → Outcome S
-element_read name state index = on_read (element_name name index) state (λ state' value. Ended state' Normal value) (element_in state.store (seen_level state) name index)
+element_read name state index =
+    on_read (element_name name index) state (λ state' value. Ended state' Normal value) (element_in state.store (seen_level state) name index)
 
 abbrev pub on_index : {S : Type 0} → State S → (List Piece → Outcome S) → Result (List Piece) ParseFault → Outcome S
 on_index state after (Ok pieces) = after pieces
@@ -114,7 +115,8 @@ module _ {S : Type 0} (run : List ℕ → State S → Outcome S) where
   -- An element: its index is put together, and then it is read. No script is read where more than so many indices stand in one another.
   abbrev pub element_meaning : ℕ → List ℕ → List ℕ → State S → Outcome S
   element_meaning zero name index state = Ended state Error (message (text_of TooLong))
-  element_meaning (suc depth) name index state = on_index state (λ pieces. pieces_meaning run (element_meaning depth) pieces [] state (element_read name)) (index_pieces index)
+  element_meaning (suc depth) name index state =
+      on_index state (λ pieces. pieces_meaning run (element_meaning depth) pieces [] state (element_read name)) (index_pieces index)
 
   -- the pieces of a word
   abbrev pub word_meaning : List Piece → List ℕ → State S → (State S → List ℕ → Outcome S) → Outcome S
@@ -126,7 +128,8 @@ module _ {S : Type 0} (run : List ℕ → State S → Outcome S) (call : List (L
   abbrev pub words_meaning : List Word → List (List ℕ) → State S → (State S → List (List ℕ) → Outcome S) → Outcome S
   words_meaning [] words state after = after state words
   words_meaning (word ∷ rest) words state after =
-      word_meaning run word.pieces [] state (λ state' text. on_words state' (λ state'' more. words_meaning rest (words ++ more) state'' after) (words_of word.expand text))
+      word_meaning run word.pieces [] state
+      (λ state' text. on_words state' (λ state'' more. words_meaning rest (words ++ more) state'' after) (words_of word.expand text))
 
   -- A command is called once its words are put together, for one step. One without words does nothing, and takes no step.
   abbrev pub called : State S → List (List ℕ) → Outcome S

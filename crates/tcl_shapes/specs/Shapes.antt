@@ -64,7 +64,8 @@ AreGroups words (group ∷ groups) =
 abbrev pub AreGroupsBeforeFault : List (List ℕ) → List Group → List ℕ → Type 0
 AreGroupsBeforeFault words [] text = (names : List ℕ) × (items : List ℕ) × (rest : List (List ℕ)) × (words ≡ names ∷ items ∷ rest) × IsNoGroup names items text
 AreGroupsBeforeFault words (group ∷ groups) text =
-    (names : List ℕ) × (items : List ℕ) × (rest : List (List ℕ)) × (words ≡ names ∷ items ∷ rest) × IsGroup names items group × AreGroupsBeforeFault rest groups text
+    (names : List ℕ) × (items : List ℕ) × (rest : List (List ℕ)) × (words ≡ names ∷ items ∷ rest) × IsGroup names items group
+    × AreGroupsBeforeFault rest groups text
 
 -- the words before the body are at fault, with this text
 abbrev pub AreFaulty : List (List ℕ) → List ℕ → Type 0

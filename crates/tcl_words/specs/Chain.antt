@@ -25,7 +25,8 @@ origin_level origin = record { inside = origin.inside; room = origin.room }
 -- what a script or an index gives by itself
 abbrev pub own : List ℕ → Origin → Result Whole ParseFault
 own source origin =
-    joined (no_parts origin.skip) (drop origin.base source) origin.place origin.skip (rest_of (drop origin.base source) (origin_level origin) origin.skip origin.place 0)
+    joined (no_parts origin.skip) (drop origin.base source) origin.place origin.skip
+    (rest_of (drop origin.base source) (origin_level origin) origin.skip origin.place 0)
 
 -- how that begins which is opened at this position
 abbrev pub opened : Origin → ℕ → Opener → Origin
@@ -51,13 +52,15 @@ pub record IsWaiting (source : List ℕ) (waiting : Waiting) : Type 0 where
 -- each waits for the next, the last for what begins so
 abbrev pub IsChain : List ℕ → Origin → List Waiting → Origin → Type 0
 IsChain source first [] origin = first ≡ origin
-IsChain source first (waiting ∷ others) origin = (waiting.origin ≡ first) × IsWaiting source waiting × IsChain source (opened waiting.origin waiting.at waiting.opener) others origin
+IsChain source first (waiting ∷ others) origin =
+    (waiting.origin ≡ first) × IsWaiting source waiting × IsChain source (opened waiting.origin waiting.at waiting.opener) others origin
 
 -- What is open gives, with the rest of the text, what it gives by itself. It began so, and reading goes on at this place of
 -- it, at this position from its base; these wait for it, the outermost of which began first.
 pub record IsReading (first : Origin) (source : List ℕ) (others : List Waiting) (origin : Origin) (parts : Parts) (place : BytePlace) (next : ℕ) : Type 0 where
   pub chain : IsChain source first others origin
-  pub reads : joined parts (drop origin.base source) place next (rest_of (drop next (drop origin.base source)) (origin_level origin) 0 place next) ≡ own source origin
+  pub reads : joined parts (drop origin.base source) place next (rest_of (drop next (drop origin.base source)) (origin_level origin) 0 place next)
+      ≡ own source origin
   pub fine : IsFine parts (drop origin.base source) place next
   pub base : IsCharBoundary source origin.base
   pub within : origin.base + next ≤ length source

@@ -74,7 +74,8 @@ quoted_rest room (b ∷ text) (suc skip) at = quoted_rest room text skip (at + 1
 quoted_rest room (b ∷ text) zero at =
     let move : Move = in_text Parens (kind_before false b text) b text in
     at_quote (kind_before false b text) at
-    (put (changed move.changes) (past move.step room at text (λ skip next. quoted_rest room text skip (at + 1)) (λ room skip next. rest_of text (within room) skip next 0)))
+    (put (changed move.changes)
+    (past move.step room at text (λ skip next. quoted_rest room text skip (at + 1)) (λ room skip next. rest_of text (within room) skip next 0)))
 
 abbrev pub pieces_found : Read → Result (List Piece × ℕ) ParseFault
 pieces_found (Ok rest) = Ok (literal_before rest.bytes rest.pieces, suc rest.close)

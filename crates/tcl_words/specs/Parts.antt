@@ -212,7 +212,8 @@ DoesMove old new source at place move (Ok (On skip next)) =
     × (is_index next ≡ is_index place)
 DoesMove old new source at place move (Ok (Within opener mode)) =
     (move.step ≡ Ok (Within opener mode))
-    × ((own : Piece) (mark : ℕ) (rest : Read) → joined old source place at (put (changed move.changes) (put (piece_before own) rest)) ≡ joined (with_piece new own mark) source (Text mode) mark rest)
+    × ((own : Piece) (mark : ℕ) (rest : Read) → joined old source place at (put (changed move.changes) (put (piece_before own) rest))
+        ≡ joined (with_piece new own mark) source (Text mode) mark rest)
     × (new.literal ≡ [])
     × IsOpenerCut source at opener
     × (is_index (Text mode) ≡ is_index place)

@@ -52,7 +52,8 @@ pub fn lines_are_a_script()
 
 /// The text behind an opening brace is cut at the brace that closes it, or has none.
 pub fn braces_are_cut()
-    ensures { (text : List ℕ) → ((own : List ℕ) × (value : List ℕ) × (rest : List ℕ) × (text ≡ own ++ close_brace ∷ rest) × IsBraced own value) ⊎ IsUnclosed text }
+    ensures { (text : List ℕ) → ((own : List ℕ) × (value : List ℕ) × (rest : List ℕ) × (text ≡ own ++ close_brace ∷ rest) × IsBraced own value)
+        ⊎ IsUnclosed text }
 {}
 
 /// What is read behind a bracket, a `$` or a quote in an expression is exactly what the grammar of scripts relates, and what a `$` begins there

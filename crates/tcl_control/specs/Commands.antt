@@ -26,12 +26,12 @@ use Rattle.tcl_control.specs.Usages.{misused_text}
 use Rattle.tcl_table.specs.Texts.{about, cannot_set}
 use Rattle.tcl_text.specs.Answers.{message}
 
-abbrev pub fails : List ℕ → Plan
-fails text = Ends Error text
+abbrev pub failed_plan : List ℕ → Plan
+failed_plan text = Ends Error text
 
 -- a wrong number of words
 unfoldable pub misused : Usage → Plan
-misused how = fails (misused_text how)
+misused how = failed_plan (misused_text how)
 
 -- ── codes ──
 
@@ -45,7 +45,7 @@ continue_plan _ = misused usage.Continue
 
 -- error message
 abbrev pub error_plan : List (List ℕ) → Plan
-error_plan (text ∷ []) = fails text
+error_plan (text ∷ []) = failed_plan text
 error_plan _ = misused usage.Error
 
 -- the code of a number
@@ -75,17 +75,17 @@ code_of word =
 
 abbrev pub returns_code : List ℕ → List ℕ → Option ReturnCode → Plan
 returns_code word text (Some code) = Ends (Return code) text
-returns_code word text None = fails (about (codes "bad completion code \"") word)
+returns_code word text None = failed_plan (about (codes "bad completion code \"") word)
 
 unfoldable pub returns_as : List ℕ → List ℕ → List ℕ → Plan
 returns_as option word text =
     if bytes_eq option (codes "-code") then returns_code word text (code_of word)
-    else fails (about (codes "bad option \"") option)
+    else failed_plan (about (codes "bad option \"") option)
 
 -- return ?-code code? ?value?
 abbrev pub return_plan : List (List ℕ) → Plan
 return_plan [] = Ends (Return AsNormal) []
-return_plan (text ∷ []) = if bytes_eq text (codes "-code") then fails (codes "value for \"-code\" missing") else Ends (Return AsNormal) text
+return_plan (text ∷ []) = if bytes_eq text (codes "-code") then failed_plan (codes "value for \"-code\" missing") else Ends (Return AsNormal) text
 return_plan (option ∷ word ∷ []) = returns_as option word []
 return_plan (option ∷ word ∷ text ∷ []) = returns_as option word text
 return_plan _ = misused usage.Return
@@ -101,7 +101,7 @@ catch_plan _ = misused usage.Catch
 -- words joined to one script
 abbrev pub on_joined : (List ℕ → Plan) → Answer → Plan
 on_joined run (Ok script) = run script
-on_joined run (Err text) = fails text
+on_joined run (Err text) = failed_plan text
 
 -- eval arg ?arg ..?
 abbrev pub eval_plan : List (List ℕ) → Plan
@@ -126,7 +126,7 @@ for_plan _ = misused usage.For
 -- the names and items of `foreach`, or an error
 abbrev pub each_plan : List ℕ → Result (List Group) (List ℕ) → Plan
 each_plan body (Ok groups) = Turns (record { test = Items groups; body = body; next = None })
-each_plan body (Err text) = fails text
+each_plan body (Err text) = failed_plan text
 
 abbrev pub last_of : List (List ℕ) → List ℕ
 last_of words = slice_index_or words (length words - 1) []
@@ -165,7 +165,7 @@ levels_left count word =
 
 abbrev pub runs_at : List ℕ → List (List ℕ) → Option ℕ → Plan
 runs_at word words (Some count) = on_joined (RunsAt count) (concat_words words)
-runs_at word words None = fails (about (codes "bad level \"") word)
+runs_at word words None = failed_plan (about (codes "bad level \"") word)
 
 -- one level up
 abbrev pub runs_up : ℕ → List (List ℕ) → Plan
@@ -188,7 +188,7 @@ level_plan count _ = misused usage.InfoLevel
 -- a command that answers this
 abbrev pub texts_plan : Answer → Plan
 texts_plan (Ok text) = Ends Normal text
-texts_plan (Err text) = fails text
+texts_plan (Err text) = failed_plan text
 
 -- info option ?arg ..?
 abbrev pub info_plan : ℕ → ℕ → Store → List (List ℕ) → Plan
@@ -196,7 +196,7 @@ info_plan count level store [] = misused usage.Info
 info_plan count level store (option ∷ words) =
     if bytes_eq option (codes "level") then level_plan count words
     else (if bytes_eq option (codes "exists") then texts_plan (exists_words level words store)
-    else fails (about (codes "bad option \"") option))
+    else failed_plan (about (codes "bad option \"") option))
 
 -- ── variables ──
 

@@ -12,9 +12,9 @@ use Rattle.tcl_control.specs.declared.control.Call.TheVariants.{Plans, Outside, 
 use Rattle.tcl_control.specs.declared.plan.Plan.{Plan}
 use Rattle.tcl_control.specs.declared.plan.Plan.TheVariants.{Ends}
 use Rattle.tcl_control.specs.declared.usages.Usage.TheVariants as usage
-use Rattle.tcl_control.specs.Commands.{Ending, break_plan, catch_plan, continue_plan, error_plan, eval_plan, expr_plan, fails, for_plan, foreach_plan, misused, info_plan, return_plan, uplevel_plan, while_plan, texts_plan}
+use Rattle.tcl_control.specs.Commands.{Ending, break_plan, catch_plan, continue_plan, error_plan, eval_plan, expr_plan, failed_plan, for_plan, foreach_plan, misused, info_plan, return_plan, uplevel_plan, while_plan, texts_plan}
 use Rattle.tcl_control.specs.Choices.{if_plan, switch_plan}
-use Rattle.tcl_control.specs.Procedures.{Changed, ProcedureCalled, changed, procedure_call, with_procedure, with_new_name}
+use Rattle.tcl_control.specs.Procedures.{Changed, ProcedureCalled, table_changed, procedure_call, with_procedure, with_new_name}
 use Rattle.tcl_control.specs.declared.code.Code.TheVariants.{Normal}
 use Rattle.tcl_table.specs.Levels.{here}
 use Rattle.tcl_table.specs.Names.{plain_name}
@@ -38,20 +38,20 @@ ends_with context ending = record { store = ending.store; context = context; cal
 -- the table of commands has changed, unless that was refused
 abbrev pub recorded_plan : Option (List ℕ) → Plan
 recorded_plan None = Ends Normal []
-recorded_plan (Some text) = fails text
+recorded_plan (Some text) = failed_plan text
 
 abbrev pub recorded : Store → Context → Changed → Called
-recorded store context changed = record { store = store; context = record context { commands = changed.table }; call = Plans (recorded_plan changed.refused) }
+recorded store context table_changed = record { store = store; context = record context { commands = table_changed.table }; call = Plans (recorded_plan table_changed.refused) }
 
 -- proc name params body
 abbrev pub proc_call : List (List ℕ) → Store → Context → Called
 proc_call (name ∷ parameters ∷ body ∷ []) store context =
-    recorded store context (changed context.commands (with_procedure context.commands name parameters body))
+    recorded store context (table_changed context.commands (with_procedure context.commands name parameters body))
 proc_call _ store context = keeps_all store context (misused usage.Proc)
 
 -- rename old new
 abbrev pub rename_call : List (List ℕ) → Store → Context → Called
-rename_call (old ∷ new ∷ []) store context = recorded store context (changed context.commands (with_new_name context.commands old new))
+rename_call (old ∷ new ∷ []) store context = recorded store context (table_changed context.commands (with_new_name context.commands old new))
 rename_call _ store context = keeps_all store context (misused usage.Rename)
 
 -- a procedure was called

@@ -11,7 +11,7 @@ use Rattle.tcl_table.specs.declared.procedure.Procedure.{Procedure}
 use Rattle.tcl_control.specs.declared.plan.Plan.{Plan}
 use Rattle.tcl_control.specs.declared.plan.Plan.TheVariants.{Enters}
 use Rattle.tcl_control.specs.Assign.{Assigned, on_set, done}
-use Rattle.tcl_control.specs.Commands.{fails}
+use Rattle.tcl_control.specs.Commands.{failed_plan}
 use Rattle.tcl_table.specs.Levels.{popped}
 use Rattle.tcl_table.specs.Names.{is_dotted, plain_name}
 use Rattle.tcl_table.specs.Table.{NamedCommands, is_procedure, procedure_count, value_at, with_value, without}
@@ -71,7 +71,7 @@ pub record ProcedureCalled : Type 0 where
 
 abbrev pub by_entered : List ℕ → ℕ → List ℕ → Assigned → Option (List ℕ) → ProcedureCalled
 by_entered body level levels assigned None = record { store = assigned.store; levels = levels ++ level ∷ []; plan = Enters body }
-by_entered body level levels assigned (Some text) = record { store = popped assigned.store; levels = levels; plan = fails text }
+by_entered body level levels assigned (Some text) = record { store = popped assigned.store; levels = levels; plan = failed_plan text }
 
 abbrev pub entered_call : Procedure → ℕ → List ℕ → Assigned → ProcedureCalled
 entered_call procedure level levels assigned = by_entered procedure.body level levels assigned assigned.refused
@@ -80,7 +80,7 @@ entered_call procedure level levels assigned = by_entered procedure.body level l
 abbrev pub procedure_call : List ℕ → Procedure → List (List ℕ) → Store → List ℕ → ProcedureCalled
 procedure_call name procedure words store levels =
     if fits procedure.parameters words then entered_call procedure (length store) levels (entered (length store) procedure.parameters words (store ++ [] ∷ []))
-    else record { store = store; levels = levels; plan = fails (usage name procedure.parameters) }
+    else record { store = store; levels = levels; plan = failed_plan (usage name procedure.parameters) }
 
 -- ── the table ──
 
@@ -144,6 +144,6 @@ pub record Changed : Type 0 where
   pub table : NamedCommands
   pub refused : Option (List ℕ)
 
-abbrev pub changed : NamedCommands → Result NamedCommands (List ℕ) → Changed
-changed old (Ok new) = record { table = new; refused = None }
-changed old (Err text) = record { table = old; refused = Some text }
+abbrev pub table_changed : NamedCommands → Result NamedCommands (List ℕ) → Changed
+table_changed old (Ok new) = record { table = new; refused = None }
+table_changed old (Err text) = record { table = old; refused = Some text }

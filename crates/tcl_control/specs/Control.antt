@@ -41,7 +41,7 @@ recorded_plan None = Ends Normal []
 recorded_plan (Some text) = failed_plan text
 
 abbrev pub recorded : Store → Context → Changed → Called
-recorded store context table_changed = record { store = store; context = record context { commands = table_changed.table }; call = Plans (recorded_plan table_changed.refused) }
+recorded store context changed = record { store = store; context = record context { commands = changed.table }; call = Plans (recorded_plan changed.refused) }
 
 -- proc name params body
 abbrev pub proc_call : List (List ℕ) → Store → Context → Called

@@ -23,6 +23,6 @@ expression_text (Read expr) = expr
 expression_text (Faulty text told) = text
 
 -- where a fault's text is kept, it is that of the expression
-abbrev pub HasFault : ExpressionForm → Type 0
-HasFault (Read expr) = Unit {0}
-HasFault (Faulty text told) = evaluation_begins text ≡ Err told
+abbrev pub HasToldFault : ExpressionForm → Type 0
+HasToldFault (Read expr) = Unit {0}
+HasToldFault (Faulty text told) = evaluation_begins text ≡ Err told

@@ -26,13 +26,13 @@ pub struct Expression {
 
 impl Model for Expression {
     ghost use Rattle.std.specs.Prelude.{ℕ, List};
-    ghost use Rattle.tcl_control.specs.ExpressionForms.{expression_text, HasFault};
+    ghost use Rattle.tcl_control.specs.ExpressionForms.{expression_text, HasToldFault};
 
     ghost Value = { List ℕ };
 
     ghost view = { λ e. expression_text e.form };
 
-    ghost invariant = { λ e. HasFault e.form };
+    ghost invariant = { λ e. HasToldFault e.form };
 }
 
 impl Expression {

@@ -33,7 +33,7 @@ use Rattle.tcl_interp.specs.Plans.{loop_ended, after_body, after_next, next_turn
 use Rattle.tcl_interp.specs.Scripts.{out_of_global, call_meaning, on_parsed, script_meaning}
 use Rattle.tcl_interp.specs.Finish.{Wording, Indexing, Doing, Begins, GoesOn, Indexes, Evaluates, Calls, Tests, Steps, Resumes, Ends, Waiting, ForCommand, ForPart, ForIndex, ForValue, ForTest, ForChoice, ForBody, ForNext, ForStart, ForCatch, ForLevels, ForProcedure, ForScript, ForAll, Running, at_global, script_rest, words_rest, word_done, index_rest, value_rest, choice_rest, turn_rest, loop_rest, waiting_meaning, waits_meaning, finish}
 use Rattle.tcl_interp.specs.Quiet.{told_run, EvaluationMoves, MovesBy, LeadsBy, Leads}
-use Rattle.tcl_interp.specs.Moves.{Moved, Standing, Part, Script, ElementOf, value_text, WordEnd, Whole, Failed, AtPart, join_end, piece_end, word_end, with_more_words, moved, standing, more_move, index_begins, element_begins, part_begins, word_move, words_move, element_end, index_move, indexes_move, parsed_move, begin_move, go_on_move, after_command, after_part, longer_index, after_index, begun_as, expression_begins, value_given, asked_move, answer_move, otherwise_move, choice_move, after_value_move, turn_move, after_test_move, chosen_move, after_choice_move, next_move, after_body_move, after_next_move, after_start_move, global_end, end_move}
+use Rattle.tcl_interp.specs.Moves.{Moved, Standing, Part, Script, ElementOf, variable_value, WordEnd, Whole, Failed, AtPart, join_end, piece_end, word_end, with_more_words, moved, standing, more_move, index_begins, element_begins, part_begins, word_move, words_move, element_end, index_move, indexes_move, parsed_move, begin_move, go_on_move, after_command, after_part, longer_index, after_index, begun_as, expression_begins, value_given, asked_move, answer_move, otherwise_move, choice_move, after_value_move, turn_move, after_test_move, chosen_move, after_choice_move, next_move, after_body_move, after_next_move, after_start_move, global_end, end_move}
 
 pub and_then_assoc : {S : Type 0} (o : Outcome S) (f g : State S → Code → List ℕ → Outcome S) → and_then (and_then o f) g ≡ and_then o (λ state code text. and_then (f state code text) g)
 and_then_assoc (Ended state code text) f g = refl
@@ -61,7 +61,7 @@ module _ {S : Type 0} (run : List ℕ → State S → Outcome S) (element : List
   joined_cases true state o e h = h
   joined_cases false state o e h = refl
 
-  read_cases : (state : State S) (name : List ℕ) (value : Result (List ℕ) ReadFault) (pieces : List Piece) (so_far : List ℕ) (go : List ℕ → WordEnd) (after : State S → List ℕ → Outcome S) → ((text : List ℕ) → after state text ≡ end_meaning state (join_end so_far text go)) → on_read name state after value ≡ end_meaning state (piece_end (value_text name value) pieces so_far go)
+  read_cases : (state : State S) (name : List ℕ) (value : Result (List ℕ) ReadFault) (pieces : List Piece) (so_far : List ℕ) (go : List ℕ → WordEnd) (after : State S → List ℕ → Outcome S) → ((text : List ℕ) → after state text ≡ end_meaning state (join_end so_far text go)) → on_read name state after value ≡ end_meaning state (piece_end (variable_value name value) pieces so_far go)
   read_cases state name (Ok value) pieces so_far go after h = h value
   read_cases state name (Err fault) pieces so_far go after h = refl
 

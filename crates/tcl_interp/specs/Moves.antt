@@ -62,14 +62,14 @@ pub data PieceText : Type 0 where
   Fails : List ℕ → PieceText
   Waits : Part → PieceText
 
-abbrev pub value_text : List ℕ → Result (List ℕ) ReadFault → PieceText
-value_text name (Ok value) = Plain value
-value_text name (Err fault) = Fails (cannot_read name fault)
+abbrev pub variable_value : List ℕ → Result (List ℕ) ReadFault → PieceText
+variable_value name (Ok value) = Plain value
+variable_value name (Err fault) = Fails (cannot_read name fault)
 
 -- where variables are those of a level
 abbrev pub piece_text : ℕ → Store → Piece → PieceText
 piece_text level store (Literal text) = Plain text
-piece_text level store (Variable name) = value_text name (variable_in store level name)
+piece_text level store (Variable name) = variable_value name (variable_in store level name)
 piece_text level store (Element name index) = Waits (ElementOf name index)
 piece_text level store (Bracket script) = Waits (Script script)
 

@@ -10,7 +10,7 @@ use Rattle.tcl_text.specs.Backslash.{Digits, Escape, digits_from, numbered, blan
 use Rattle.tcl_words.specs.Kinds.{class_means, name_bytes, past_colons, name_length, to_brace, one_further, dollar_braced, dollar_named, dollar_of}
 use Rattle.tcl_words.specs.Classes.{begins_newline, begins_expansion, is_name_byte}
 use Rattle.tcl_words.specs.Changes.{name, word_begins, command_begins}
-use Rattle.tcl_words.specs.Moves.{Move, on, before, at_dollar, move_of}
+use Rattle.tcl_words.specs.Moves.{Move, on, change_before, at_dollar, move_of}
 use Rattle.tcl_words.specs.Reading.{first_skip}
 use Rattle.tcl_words.specs.declared.kind.Kind.{Kind}
 use Rattle.tcl_words.specs.declared.kind.Kind.TheVariants.{Blank, Newline, Semicolon, Hash, Dollar, Quote, OpenBracket, CloseBracket, OpenBrace, Expansion, CloseBrace, CloseParen, Backslash, Continuation, Other}
@@ -198,10 +198,10 @@ dollar_back mode b c (x ∷ ys) tail k closer = elim (cases_Bool (starts_with na
 
 move_dollar : (place : BytePlace) (b at k : ℕ) (X Y : List ℕ) → ((mode : Mode) → FitsStep (at_dollar mode (dollar_of X) b X).step k → at_dollar mode (dollar_of X) b X ≡ at_dollar mode (dollar_of Y) b Y) →
     FitsStep (move_of place Dollar b at X).step k → move_of place Dollar b at X ≡ move_of place Dollar b at Y
-move_dollar Start b at k X Y same fits = ap (λ m. before (command_begins at) (before (word_begins BareForm false at) m)) (same Bare fits)
+move_dollar Start b at k X Y same fits = ap (λ m. change_before (command_begins at) (change_before (word_begins BareForm false at) m)) (same Bare fits)
 move_dollar Comment b at k X Y same fits = refl
-move_dollar Between b at k X Y same fits = ap (before (word_begins BareForm false at)) (same Bare fits)
-move_dollar Expanded b at k X Y same fits = ap (before (word_begins BareForm true (at - 3))) (same Bare fits)
+move_dollar Between b at k X Y same fits = ap (change_before (word_begins BareForm false at)) (same Bare fits)
+move_dollar Expanded b at k X Y same fits = ap (change_before (word_begins BareForm true (at - 3))) (same Bare fits)
 move_dollar (Text Bare) b at k X Y same fits = same Bare fits
 move_dollar (Text Quotes) b at k X Y same fits = same Quotes fits
 move_dollar (Text Parens) b at k X Y same fits = same Parens fits

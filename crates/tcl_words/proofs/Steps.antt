@@ -9,7 +9,7 @@ use Rattle.std.specs.Prelude.{nat_eq, nat_lt, ◌&&◌, ◌≢◌, IsTrue}
 use Rattle.std.proofs.lemmas.Str.{IsCharBoundary-before_ascii, IsCharBoundary-after_ascii}
 use Rattle.tcl_text.specs.Backslash.{escape}
 use Rattle.tcl_words.specs.Changes.{Rest, Read, put, piece_before, last_rest, Change, bytes, name, text_ends, word_ends, command_ends, changed, changed_by}
-use Rattle.tcl_words.specs.Moves.{Move, on, ends, before, word_over, at_brace, at_dollar, in_braces, in_expanded, in_text, lone}
+use Rattle.tcl_words.specs.Moves.{Move, on, ends, change_before, word_over, at_brace, at_dollar, in_braces, in_expanded, in_text, lone}
 use Rattle.tcl_words.specs.Reading.{at_end}
 use Rattle.tcl_words.specs.Parts.{Parts, joined, with_word, with_command, with_piece, with_literal, with_braced, so_far, ended, script_whole, IsCut, StandsAt, Escaped, EndsWord, DollarFits, DoesMove, is_index, IsExpansion, IsOpenerCut}
 use Rattle.tcl_words.specs.declared.kind.Kind.{Kind}
@@ -49,7 +49,7 @@ put_none (Err fault) = refl
 -- a first change of the parts, and then what the byte does
 pub first : (old mid new : Parts) (s : List ℕ) (at : ℕ) (place place' : BytePlace) (c : Change) (m : Move) (result : Result Step ParseFault) →
     ((r : Read) → joined old s place at (put (changed_by c) r) ≡ joined mid s place' at r) → ended place' new at ≡ ended place new at → is_index place' ≡ is_index place →
-    DoesMove mid new s at place' m result → DoesMove old new s at place (before c m) result
+    DoesMove mid new s at place' m result → DoesMove old new s at place (change_before c m) result
 first old mid new s at place place' c m (Ok (On skip next)) over same index does =
     (does.0, λ r. ap (joined old s place at) (put_first c m.changes r) ∙ over (put (changed m.changes) r) ∙ does.1 r, does.2, does.3, does.4 ∙ index)
 first old mid new s at place place' c m (Ok (Within opener mode)) over same index does =

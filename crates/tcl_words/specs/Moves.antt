@@ -35,8 +35,8 @@ ends = record { changes = []; step = Ok Ends }
 abbrev pub at_fault : ParseFault → Move
 at_fault fault = record { changes = []; step = Err fault }
 
-abbrev pub before : Change → Move → Move
-before change move = record { changes = change ∷ move.changes; step = move.step }
+abbrev pub change_before : Change → Move → Move
+change_before change move = record { changes = change ∷ move.changes; step = move.step }
 
 -- In each of the following `at` is the byte's position, and `behind` the text behind it.
 
@@ -95,7 +95,7 @@ abbrev pub at_word : Bool → ℕ → Kind → ℕ → ℕ → List ℕ → Move
 at_word expand start OpenBrace b at behind = on (word_begins BracedForm expand start ∷ []) 0 (InBraces 0)
 at_word expand start Expansion b at behind = on (word_begins BracedForm expand start ∷ []) 0 (InBraces 0)
 at_word expand start Quote b at behind = on (word_begins QuotedForm expand start ∷ []) 0 (Text Quotes)
-at_word expand start kind b at behind = before (word_begins BareForm expand start) (in_bare kind b at behind)
+at_word expand start kind b at behind = change_before (word_begins BareForm expand start) (in_bare kind b at behind)
 
 -- what was `{*}` with nothing behind it is the word `*` in braces
 abbrev pub lone : ℕ → List Change
@@ -125,7 +125,7 @@ in_start Semicolon b at behind = on [] 0 Start
 in_start Continuation b at behind = on [] (escape behind).length Start
 in_start CloseBracket b at behind = ends
 in_start Hash b at behind = on [] 0 Comment
-in_start kind b at behind = before (command_begins at) (in_between kind b at behind)
+in_start kind b at behind = change_before (command_begins at) (in_between kind b at behind)
 
 -- a backslash goes with the byte behind it, so that a newline may not end the comment
 abbrev pub in_comment : Kind → List ℕ → Move

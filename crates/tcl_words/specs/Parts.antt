@@ -225,6 +225,6 @@ DoesMove old new source at place move (Ok Ends) =
 DoesMove old new source at place move (Err fault) = (move.step ≡ Err fault) ⊎ (fault ≡ NoMemory)
 
 -- the text ends, and these are the commands of its script
-abbrev pub Finishes : Parts → Parts → List ℕ → BytePlace → ℕ → Result (Unit {0}) ParseFault → Type 0
-Finishes old new source place at (Ok done) = joined old source place at (at_end false place at) ≡ Ok (script_whole new.commands at)
-Finishes old new source place at (Err fault) = (at_end false place at ≡ Err fault) ⊎ (fault ≡ NoMemory)
+abbrev pub FinishesScript : Parts → Parts → List ℕ → BytePlace → ℕ → Result (Unit {0}) ParseFault → Type 0
+FinishesScript old new source place at (Ok done) = joined old source place at (at_end false place at) ≡ Ok (script_whole new.commands at)
+FinishesScript old new source place at (Err fault) = (at_end false place at ≡ Err fault) ⊎ (fault ≡ NoMemory)

@@ -8,7 +8,7 @@ ghost use Rattle.tcl_text.specs.Escaped.{bytes_meant};
 ghost use Rattle.tcl_words.specs.Kinds.{kind_before as kind_meant, dollar_of as dollar_meant};
 ghost use Rattle.tcl_words.specs.Classes.{begins_expansion, begins_newline};
 ghost use Rattle.tcl_words.specs.Moves.{Move, word_over, in_text, at_dollar, in_bare, in_quotes, in_parens, in_braces, at_word, in_expanded, in_between, in_start, in_comment, move_of, move_at, at_fault};
-ghost use Rattle.tcl_words.specs.Parts.{DoesMove, DollarFits, IsFine, IsCut, IsExpansion, StandsAt, EndsWord, Escaped, Finishes, is_index, with_piece, with_literal};
+ghost use Rattle.tcl_words.specs.Parts.{DoesMove, DollarFits, IsFine, IsCut, IsExpansion, StandsAt, EndsWord, Escaped, FinishesScript, is_index, with_piece, with_literal};
 ghost use Rattle.tcl_words.specs.Reading.{at_end};
 ghost use Rattle.tcl_words.specs.declared.script.Piece.TheVariants.{Variable};
 ghost use Rattle.tcl_text.specs.Limits.{most_bytes};
@@ -559,7 +559,7 @@ pub fn finish(
     requires short { length source.now ≤ most_bytes }
     requires fine { IsFine parts.old source.now place (length source.now) }
     requires script { is_index place ≡ false }
-    ensures { Finishes parts.old parts.new source.now place (length source.now) result }
+    ensures { FinishesScript parts.old parts.new source.now place (length source.now) result }
 {
     let at = source.len();
     match place {

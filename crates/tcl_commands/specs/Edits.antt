@@ -6,14 +6,14 @@ use Rattle.tcl_text.specs.Edit.{edited}
 use Rattle.tcl_text.specs.declared.edit.Edit.{Edit}
 use Rattle.tcl_text.specs.declared.fault.EditFault.{EditFault}
 use Rattle.tcl_text.specs.declared.fault.EditFault.TheVariants as edits
-use Rattle.tcl_commands.specs.Texts.{no_memory}
+use Rattle.tcl_commands.specs.Texts.{no_memory_text}
 
 -- a text as it is changed, or why it isn't
 abbrev pub edit_told : Result (List ℕ) EditFault → Answer
 edit_told (Ok text) = Ok text
 edit_told (Err edits.TooLong) = Err limit_text
 edit_told (Err (edits.BadList fault)) = fails (list_text fault)
-edit_told (Err edits.NoMemory) = fails no_memory
+edit_told (Err edits.NoMemory) = fails no_memory_text
 
 abbrev pub edit_answer : Edit → List ℕ → Answer
 edit_answer edit value = edit_told (edited edit value)

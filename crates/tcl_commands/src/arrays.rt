@@ -16,7 +16,7 @@ use tcl_text::answers::{
     Refusal, bad_option, decimal_answer, limit_reached, truth_answer, wrong_args,
 };
 use tcl_text::items::{items_in, list_answer};
-use tcl_text::{Text, TextList};
+use tcl_text::{MAX_BYTES, Text, TextList};
 use tcl_vars::{Scopes, SetFault, UnsetFault, element_name};
 
 /// A command of `array`.
@@ -357,7 +357,7 @@ fn set_element(
     ensures steps { Steps result scopes.old scopes.new (spec.set_element level name.now (key.now, value.now) scopes.old) }
     ensures levels { length scopes.new ≡ length scopes.old }
 {
-    if name.as_str().len() + key.as_str().len() + 2 > 65_536 {
+    if name.as_str().len() + key.as_str().len() + 2 > MAX_BYTES {
         return Err(limit_reached(alloc));
     }
     match scopes.set_element(level, name, key, value.copy()?) {

@@ -3,6 +3,7 @@ ghost use Rattle.std.specs.Prelude.{◌≡◌, ◌<◌, ◌≤◌, [], ◌∷◌
 ghost use Rattle.std.specs.List.{concat};
 ghost use Rattle.std.specs.Option.{option_copied};
 ghost use Rattle.tcl_text.specs.Answers.{Gives, answers};
+ghost use Rattle.tcl_text.specs.Limits.{most_in_place};
 ghost use Rattle.tcl_vars.specs.Store.{variable_in, with_variable};
 ghost use Rattle.tcl_commands.specs.Done.{Does, IfNoMemory};
 ghost use Rattle.tcl_commands.specs.Edits.{edit_answer};
@@ -85,7 +86,7 @@ fn increase(
 ) -> Reply
     requires { level < length scopes.old }
     ensures does { Does result scopes.new
-        (spec.changed level name.now (codes "0") (spec.increased (spec.amount_in (option_copied amount.entry))) scopes.old) }
+        (spec.variable_changed level name.now (codes "0") (spec.increased (spec.amount_in (option_copied amount.entry))) scopes.old) }
     ensures no_memory { IfNoMemory result (scopes.new ≡ scopes.old) }
     ensures levels { length scopes.new ≡ length scopes.old }
 {
@@ -135,7 +136,7 @@ fn sum_of(alloc: Global, a: i64, b: i64) -> Reply
 /// The value of a variable, where one that isn't there counts as these characters.
 fn value_or(alloc: Global, scopes: &Scopes, level: usize, name: &Text, absent: &str) -> Reply
     requires level { level < length scopes.now }
-    requires short { length absent.now ≤ 22 }
+    requires short { length absent.now ≤ most_in_place }
     ensures { Gives result (spec.value_or absent.now name.now (variable_in scopes.now level name.now)) }
 {
     match scopes.get(level, name) {
@@ -164,7 +165,7 @@ pub fn append_words(alloc: Global, scopes: &mut Scopes, level: usize, words: &[T
 fn append_one(alloc: Global, scopes: &mut Scopes, level: usize, name: &Text, value: &Text) -> Reply
     requires { level < length scopes.old }
     ensures does { Does result scopes.new
-        (spec.changed level name.now [] (λ text. answers (text ++ concat (value.now ∷ []))) scopes.old) }
+        (spec.variable_changed level name.now [] (λ text. answers (text ++ concat (value.now ∷ []))) scopes.old) }
     ensures levels { length scopes.new ≡ length scopes.old }
 {
     change(alloc, scopes, level, name, Edit::Characters(value.as_str()))
@@ -174,7 +175,7 @@ fn append_one(alloc: Global, scopes: &mut Scopes, level: usize, name: &Text, val
 fn append(alloc: Global, scopes: &mut Scopes, level: usize, name: &Text, values: &[Text]) -> Reply
     requires { level < length scopes.old }
     ensures does { Does result scopes.new
-        (spec.changed level name.now [] (λ value. answers (value ++ concat values.now)) scopes.old) }
+        (spec.variable_changed level name.now [] (λ value. answers (value ++ concat values.now)) scopes.old) }
     ensures levels { length scopes.new ≡ length scopes.old }
 {
     let mut more = String::new(alloc);
@@ -186,7 +187,7 @@ fn append(alloc: Global, scopes: &mut Scopes, level: usize, name: &Text, values:
 #[tactic(auto, unfolding(tcl_text::specs::Messages::bounded))]
 fn change(alloc: Global, scopes: &mut Scopes, level: usize, name: &Text, edit: Edit<'_>) -> Reply
     requires { level < length scopes.old }
-    ensures does { Does result scopes.new (spec.changed level name.now [] (edit_answer edit.entry) scopes.old) }
+    ensures does { Does result scopes.new (spec.variable_changed level name.now [] (edit_answer edit.entry) scopes.old) }
     ensures levels { length scopes.new ≡ length scopes.old }
 {
     match scopes.change(level, name, edit) {
@@ -261,7 +262,7 @@ pub fn lappend_words(alloc: Global, scopes: &mut Scopes, level: usize, words: &[
 fn lappend(alloc: Global, scopes: &mut Scopes, level: usize, name: &Text, values: &[Text]) -> Reply
     requires { level < length scopes.old }
     ensures does { Does result scopes.new
-        (spec.changed level name.now [] (spec.with_items values.now) scopes.old) }
+        (spec.variable_changed level name.now [] (spec.with_items values.now) scopes.old) }
     ensures levels { length scopes.new ≡ length scopes.old }
 {
     match values {

@@ -17,14 +17,14 @@ abbrev pub on_set : List ℕ → Store → (Store → Assigned) → Result Store
 on_set name store rest (Ok changed) = rest changed
 on_set name store rest (Err fault) = record { store = store; refused = Some (cannot_set name fault) }
 
-abbrev pub first_of : List (List ℕ) → List ℕ
-first_of [] = []
-first_of (item ∷ items) = item
+abbrev pub first_item : List (List ℕ) → List ℕ
+first_item [] = []
+first_item (item ∷ items) = item
 
 -- names are given items in turn; missing items are empty
 abbrev pub assigned : ℕ → List (List ℕ) → List (List ℕ) → Store → Assigned
 assigned level [] items store = done store
-assigned level (name ∷ names) items store = on_set name store (assigned level names (drop 1 items)) (with_variable store level name (first_of items))
+assigned level (name ∷ names) items store = on_set name store (assigned level names (drop 1 items)) (with_variable store level name (first_item items))
 
 abbrev pub behind_assigned : (Store → Assigned) → Assigned → Option (List ℕ) → Assigned
 behind_assigned rest assigned None = rest assigned.store

@@ -14,7 +14,7 @@ use Rattle.tcl_control.specs.declared.code.Code.TheVariants.{Normal}
 use Rattle.tcl_control.specs.declared.plan.Plan.{Plan}
 use Rattle.tcl_control.specs.declared.plan.Plan.TheVariants.{Ends, Runs, Chooses}
 use Rattle.tcl_control.specs.declared.usages.Usage.TheVariants as usage
-use Rattle.tcl_control.specs.Commands.{bad_option, fails, misused}
+use Rattle.tcl_control.specs.Commands.{bad_option, failed_plan, misused}
 use Rattle.tcl_text.specs.Answers.{message}
 
 -- ── if ──
@@ -59,7 +59,7 @@ arm_for matching value [] = Ends Normal []
 arm_for matching value (arm ∷ arms) = if takes matching value arm arms then body_of (arm ∷ arms) else arm_for matching value arms
 
 abbrev pub no_body : Plan
-no_body = fails (codes "extra switch pattern with no body")
+no_body = failed_plan (codes "extra switch pattern with no body")
 
 abbrev pub by_arms : Matching → List ℕ → Option (List Branch) → Plan
 by_arms matching value (Some arms) = if ends_open arms then no_body else arm_for matching value arms
@@ -67,7 +67,7 @@ by_arms matching value None = no_body
 
 abbrev pub by_pairs : Matching → List ℕ → Result (List (List ℕ)) ListFault → Plan
 by_pairs matching value (Ok items) = by_arms matching value (arms_of items)
-by_pairs matching value (Err fault) = fails (message (list_text fault))
+by_pairs matching value (Err fault) = failed_plan (message (list_text fault))
 
 abbrev pub switched : Matching → List ℕ → List ℕ → Plan
 switched matching value pairs = by_pairs matching value (list_of pairs)

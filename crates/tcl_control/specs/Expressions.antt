@@ -25,5 +25,5 @@ abbrev pub truth_or_text : List ℕ → Option Bool → Result Bool (List ℕ)
 truth_or_text value (Some truth) = Ok truth
 truth_or_text value None = Err (message (boolean_text value))
 
-abbrev pub truth_of : List ℕ → Result Bool (List ℕ)
-truth_of value = truth_or_text value (boolean_of value)
+abbrev pub truth_of_text : List ℕ → Result Bool (List ℕ)
+truth_of_text value = truth_or_text value (boolean_of value)

@@ -37,12 +37,12 @@ linked_ending word names level store (Some place) =
     else record { store = store; code = Error; text = bad_level word }
 
 -- the place of the frame where only so many of the levels are
-abbrev pub place_of : List ℕ → Store → Option ℕ → Option ℕ
-place_of levels store (Some count) = Some (here (take count levels) store)
-place_of levels store None = None
+abbrev pub place_among : List ℕ → Store → Option ℕ → Option ℕ
+place_among levels store (Some count) = Some (here (take count levels) store)
+place_among levels store None = None
 
 abbrev pub upvar_at : List ℕ → List ℕ → List (List ℕ) → Store → Ending
-upvar_at levels word names store = linked_ending word names (here levels store) store (place_of levels store (levels_left (length levels) word))
+upvar_at levels word names store = linked_ending word names (here levels store) store (place_among levels store (levels_left (length levels) word))
 
 abbrev pub upvar_misused : Store → Ending
 upvar_misused store = record { store = store; code = Error; text = misused_text Upvar }

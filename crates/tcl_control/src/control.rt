@@ -6,7 +6,7 @@ ghost use Rattle.tcl_text.specs.StringCommands.{concat_words};
 ghost use Rattle.tcl_vars.specs.Store.{with_variable};
 ghost use Rattle.tcl_control.specs.Commands.{code_number, stored_ending, caught_ending, break_plan, catch_plan, continue_plan, error_plan, eval_plan, expr_plan, for_plan, foreach_plan, info_plan, return_plan, texts_plan, uplevel_plan, while_plan, on_joined, code_of, code_of_integer, code_numbered, unsigned_of, absolute, relative, runs_up, returns_as, returns_code, is_level, levels_left, bad_level, runs_at, level_plan};
 ghost use Rattle.tcl_vars.specs.Store.{Store};
-ghost use Rattle.tcl_control.specs.Control.{recorded_plan, proc_call, rename_call, builtin_call, by_command, call_of, keeps};
+ghost use Rattle.tcl_control.specs.Control.{recorded_plan, proc_call, rename_call, builtin_call, by_command, call_of, keeps_all};
 ghost use Rattle.tcl_text.specs.Limits.{most_bytes};
 
 use crate::choices::{bad_option, if_plan, switch_plan};
@@ -539,10 +539,7 @@ pub fn call_command(
         return Ok(Call::Outside(Text::of_short(alloc, plain)?));
     }
     match context.commands.get(plain) {
-        Some(Command::Builtin(builtin)) => {
-            let call = builtin_call(alloc, *builtin, scopes, context, words)?;
-            Ok(call)
-        }
+        Some(Command::Builtin(builtin)) => builtin_call(alloc, *builtin, scopes, context, words),
         Some(Command::Texts(command)) => Ok(Call::Plans(texts_plan(alloc, *command, words)?)),
         Some(Command::Procedure(procedure)) => {
             let plan = call_procedure(alloc, scopes, &mut context.levels, name, procedure, words)?;

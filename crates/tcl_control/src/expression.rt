@@ -1,5 +1,5 @@
 ghost use Rattle.std.specs.Prelude.{◌≡◌, IfOk};
-ghost use Rattle.tcl_control.specs.Expressions.{truth_of};
+ghost use Rattle.tcl_control.specs.Expressions.{truth_of_text};
 ghost use Rattle.tcl_control.specs.ExpressionForms.{evaluation_begins};
 
 use std::alloc::{AllocError, Global};
@@ -25,13 +25,13 @@ pub struct Expression {
 
 impl Model for Expression {
     ghost use Rattle.std.specs.Prelude.{ℕ, List};
-    ghost use Rattle.tcl_control.specs.ExpressionForms.{expression_text, HasFault};
+    ghost use Rattle.tcl_control.specs.ExpressionForms.{expression_text, HasToldFault};
 
     ghost Value = { List ℕ };
 
     ghost view = { λ e. expression_text e.form };
 
-    ghost invariant = { λ e. HasFault e.form };
+    ghost invariant = { λ e. HasToldFault e.form };
 }
 
 impl Expression {
@@ -106,7 +106,7 @@ impl Expression {
 
 /// The value of a condition of `if`, `while` or `for` as a boolean (expr(n)), or the text of the error that it is none (2).
 pub fn truth(alloc: Global, value: &Text) -> Result<Result<bool, Text>, AllocError>
-    ensures { IfOk result (λ truth. truth ≡ truth_of value.now) }
+    ensures { IfOk result (λ truth. truth ≡ truth_of_text value.now) }
 {
     match value.boolean() {
         Ok(truth) => Ok(Ok(truth)),

@@ -10,7 +10,7 @@ use Rattle.tcl_expr.specs.Trees.{Tree}
 use Rattle.tcl_expr.specs.Steps.{steps_of}
 use Rattle.tcl_expr.specs.Reading.{Opened, Before, After, Paren, Question, Otherwise, ended, ends_at, Closed, close, at_colon, at_close}
 use Rattle.tcl_expr.specs.declared.fault.ExprFault.TheVariants.{Syntax}
-use Rattle.tcl_expr.specs.Parsing.{ends_open, infix_hole, infix_written, own_written, written, kept, all_kept, chosen_steps, open_ended, EndsLast, Holds, Closes}
+use Rattle.tcl_expr.specs.Parsing.{is_ended_at, infix_hole, infix_written, own_written, written, kept, all_kept, chosen_steps, open_ended, EndsLast, Holds, Closes}
 
 pub append_nil : (xs : List Step) → xs ++ [] ≡ xs
 append_nil [] = refl
@@ -61,7 +61,7 @@ ended_steps level (Otherwise a b) w tree h =
     ∙ ap (λ l. w ++ (chosen_steps a b ++ step.Jump (length (steps_of tree)) ∷ l)) (append_nil (steps_of tree))
     ∙ ap (λ l. w ++ l) (append_assoc (steps_of a) (step.Branch (suc (length (steps_of b))) ∷ steps_of b) (step.Jump (length (steps_of tree)) ∷ steps_of tree))
 
-kept_ends : (level n : ℕ) (own : Opened) → ends_open level (kept own n) ≡ ends_at level own
+kept_ends : (level n : ℕ) (own : Opened) → is_ended_at level (kept own n) ≡ ends_at level own
 kept_ends level n (Before operator) = refl
 kept_ends level n (After operator a) = refl
 kept_ends level n Paren = refl
@@ -88,7 +88,7 @@ pub go_on_closing : (level : ℕ) (opened opened' : List Open) (steps steps' : L
 go_on_closing level opened opened' steps steps' (last, e, ends, s) [] tree h = absurd (no_end opened' last (sym h.marks ∙ e))
 go_on_closing level opened opened' steps steps' (last, e, ends, s) (own ∷ rest) tree h =
     let same = same_last (all_kept rest) opened' (kept own (length (written rest))) last (sym h.marks ∙ e) in
-    let here : ends_at level own ≡ true = sym (kept_ends level (length (written rest)) own) ∙ ap (ends_open level) same.1 ∙ ends in (
+    let here : ends_at level own ≡ true = sym (kept_ends level (length (written rest)) own) ∙ ap (is_ended_at level) same.1 ∙ ends in (
       rest,
       ended own tree,
       record {
@@ -106,7 +106,7 @@ done_closing level opened opened' steps steps' (o, s, any) [] tree h = record { 
 done_closing level opened opened' steps steps' (o, s, inl none) (own ∷ rest) tree h = absurd (no_end (all_kept rest) _ (sym none ∙ h.marks))
 done_closing level opened opened' steps steps' (o, s, inr (below, last, e, ends)) (own ∷ rest) tree h =
     let same = same_last (all_kept rest) below (kept own (length (written rest))) last (sym h.marks ∙ e) in
-    let here : ends_at level own ≡ false = sym (kept_ends level (length (written rest)) own) ∙ ap (ends_open level) same.1 ∙ ends in
+    let here : ends_at level own ≡ false = sym (kept_ends level (length (written rest)) own) ∙ ap (is_ended_at level) same.1 ∙ ends in
     rw here (record { marks = o ∙ h.marks; steps_are = s ∙ h.steps_are })
 
 -- what is left to close gives what is to be closed

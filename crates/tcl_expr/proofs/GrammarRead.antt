@@ -1,6 +1,8 @@
 -- What the grammar relates is read.
-use Rattle.std.proofs.Common.{◌≡◌, ℕ, zero, suc, ◌-◌, ◌≤◌, ◌⊎◌, inl, inr, nat_lt, nat_le, ◌==◌, Bool, true, false, not, List, [], ◌∷◌, drop, take, Option, Some, None, Result, Ok, Err, refl, sym, ap, subst, ◌∙◌, eqb-true, arith}
+use Rattle.std.proofs.Common.{◌≡◌, ℕ, zero, suc, ◌-◌, ◌≤◌, ◌⊎◌, inl, inr, nat_lt, nat_le, ◌==◌, Bool, true, false, not, List, [], ◌∷◌, drop, take, Option, Some, None, Result, Ok, Err, refl, sym, ap, subst, ◌∙◌, arith}
+use Rattle.std.proofs.lemmas.Bool.{and_parts}
 use Rattle.std.proofs.lemmas.Bool.Decides.{nat_tests}
+use Rattle.std.specs.Prelude.{nat_eq}
 use Rattle.tcl_text.specs.Readings.{boolean_of}
 use Rattle.tcl_words.specs.Operands.{bracket_of, substitution_of, quoted_of}
 use Rattle.tcl_words.specs.declared.script.Piece.{Piece}
@@ -24,8 +26,10 @@ use Rattle.tcl_expr.specs.declared.tokens.Link.{Link}
 use Rattle.tcl_expr.specs.declared.tokens.Link.TheVariants as link
 use Rattle.tcl_expr.specs.Braces.{braced}
 use Rattle.tcl_expr.specs.Substitution.{piece_tree, text_tree}
-use Rattle.tcl_expr.specs.Tokens.{mark_of, begins_newline, link_at, ends_number}
-use Rattle.tcl_expr.specs.Counts.{number_length, name_bytes}
+use Rattle.tcl_expr.specs.Tokens.{mark_of, link_at, ends_number}
+use Rattle.tcl_words.specs.Classes.{begins_newline}
+use Rattle.tcl_words.specs.Kinds.{name_bytes}
+use Rattle.tcl_expr.specs.Counts.{number_length}
 use Rattle.tcl_expr.specs.Trees.{Tree, Unary, Choice}
 use Rattle.tcl_expr.specs.Reading.{Opened, Before, After as Pending, Paren, Question, Otherwise, parens, ends_at, Closed, close, OperandPlace, AtOperand, AtOperator, Move, move, Next, link_next, link_move, at_infix, at_question, at_colon, at_close, at_paren, at_number, at_brace, word_or_fault, with_piece, with_pieces, with_substitution, with_operand, room_in, with_skip, operand_move, operator_move, on_move, reading, whole}
 use Rattle.tcl_expr.specs.Operators.{level_of, arithmetic_level, comparison_level, between}
@@ -42,7 +46,9 @@ newline behind AtOperand opened = refl
 newline behind (AtOperator tree) opened = refl
 
 is_newline : (b : ℕ) (behind : List ℕ) (place : OperandPlace) (opened : List Opened) → begins_newline (b ∷ behind) ≡ true → reading 1 place opened (b ∷ behind) ≡ reading 0 place opened (b ∷ behind)
-is_newline b behind place opened h = subst (λ c. reading 1 place opened (c ∷ behind) ≡ reading 0 place opened (c ∷ behind)) (sym (eqb-true b 10 h)) (newline behind place opened)
+is_newline b behind place opened h =
+    let first : 10 ≡ b = grind (arith, nat_tests, (and_parts (nat_eq 10 b) true h).0) in
+    subst (λ c. reading 1 place opened (c ∷ behind) ≡ reading 0 place opened (c ∷ behind)) first (newline behind place opened)
 
 newline_behind : (behind : List ℕ) (place : OperandPlace) (opened : List Opened) → begins_newline behind ≡ true → reading 1 place opened behind ≡ reading 0 place opened behind
 newline_behind [] place opened h = absurd (cc)

@@ -13,7 +13,7 @@ use Rattle.tcl_expr.specs.Steps.{steps_of}
 use Rattle.tcl_expr.specs.Reading.{Opened, Before, After, Paren, Question, Otherwise, ended, close, parens, OperandPlace, AtOperand, AtOperator, Move, at_colon, at_close, on_move, reading}
 use Rattle.tcl_expr.specs.Operators.{level_of}
 use Rattle.tcl_expr.specs.Parsing.{infix_hole, written, Closes}
-use Rattle.tcl_expr.specs.Standing.{Stands, StandsNext, Follows}
+use Rattle.tcl_expr.specs.Standing.{Stands, StandsNext, FollowsMove}
 use Rattle.tcl_expr.proofs.CloseLemmas.{append_nil, infix_opens, question_opens, colon_opens, paren_ends}
 
 parens_by : (b : Bool) (level : ℕ) (own : Opened) (rest : List Opened) (tree : Tree) → parens (own ∷ rest) ≡ parens rest → parens (close level rest (ended own tree)).opened ≡ parens rest →
@@ -107,7 +107,7 @@ drop_min : (n : ℕ) (xs : List ℕ) → drop n xs ≡ drop (min n (length xs)) 
 drop_min n xs = drop_min_by n xs (cases_lt n (length xs))
 
 -- where the code follows a move, reading goes on from there
-pub follow_on : (moved : Result Move ExprFault) (new : Parser) (skip count : ℕ) (behind : List ℕ) → count ≡ min skip (length behind) → Follows new skip moved →
+pub follow_on : (moved : Result Move ExprFault) (new : Parser) (skip count : ℕ) (behind : List ℕ) → count ≡ min skip (length behind) → FollowsMove new skip moved →
     (place : OperandPlace) × (opened : List Opened) × Stands new place opened
     × (on_move moved (λ further next left. reading further next left behind) ≡ reading 0 place opened (drop count behind))
 follow_on (Ok m) new skip count behind e f = (

@@ -14,12 +14,12 @@ use Rattle.tcl_expr.specs.Operators.{level_of}
 
 -- ── what the code does to the steps ──
 
-abbrev pub ends_open : ℕ → Open → Bool
-ends_open level (open_form.Before operator) = true
-ends_open level (open_form.After operator mark) = nat_le level (level_of operator)
-ends_open level open_form.Paren = false
-ends_open level (open_form.Question mark) = false
-ends_open level (open_form.Otherwise mark) = level == 0
+abbrev pub is_ended_at : ℕ → Open → Bool
+is_ended_at level (open_form.Before operator) = true
+is_ended_at level (open_form.After operator mark) = nat_le level (level_of operator)
+is_ended_at level open_form.Paren = false
+is_ended_at level (open_form.Question mark) = false
+is_ended_at level (open_form.Otherwise mark) = level == 0
 
 abbrev pub infix_ended : Infix → ℕ → List Step → List Step
 infix_ended infixed.And mark steps = set steps mark (step.And (length steps - mark)) ++ step.Truth ∷ []
@@ -36,9 +36,10 @@ open_ended (open_form.Otherwise mark) steps = set steps mark (step.Jump (length 
 -- the innermost that stands open ended, or it doesn't end, or none is there
 abbrev pub EndsLast : ℕ → List Open → List Step → Result Bool AllocError → List Open → List Step → Type 0
 EndsLast level opened steps (Ok true) opened' steps' =
-    (last : Open) × (opened ≡ opened' ++ last ∷ []) × (ends_open level last ≡ true) × (steps' ≡ open_ended last steps)
+    (last : Open) × (opened ≡ opened' ++ last ∷ []) × (is_ended_at level last ≡ true) × (steps' ≡ open_ended last steps)
 EndsLast level opened steps (Ok false) opened' steps' =
-    (opened' ≡ opened) × (steps' ≡ steps) × ((opened ≡ []) ⊎ ((below : List Open) × (last : Open) × (opened ≡ below ++ last ∷ []) × (ends_open level last ≡ false)))
+    (opened' ≡ opened) × (steps' ≡ steps)
+    × ((opened ≡ []) ⊎ ((below : List Open) × (last : Open) × (opened ≡ below ++ last ∷ []) × (is_ended_at level last ≡ false)))
 EndsLast level opened steps (Err refused) opened' steps' = Unit {0}
 
 -- ── what they stand for ──

@@ -13,14 +13,16 @@ use Rattle.tcl_expr.specs.declared.tokens.Mark.TheVariants as mark
 use Rattle.tcl_expr.specs.declared.tokens.Link.{Link}
 use Rattle.tcl_expr.specs.declared.tokens.Link.TheVariants as link
 use Rattle.tcl_expr.specs.declared.step.Step.{Step}
-use Rattle.tcl_expr.specs.Tokens.{mark_of, begins_newline, link_at, ends_number}
-use Rattle.tcl_expr.specs.Counts.{number_length, name_bytes}
+use Rattle.tcl_expr.specs.Tokens.{mark_of, link_at, ends_number}
+use Rattle.tcl_expr.specs.Counts.{number_length}
 use Rattle.tcl_expr.specs.Operators.{level_of, between}
 use Rattle.tcl_expr.specs.Trees.{Tree, Integer, Plain, Unary, Choice}
 use Rattle.tcl_expr.specs.Steps.{steps_of}
 use Rattle.tcl_expr.specs.Braces.{braced}
 use Rattle.tcl_expr.specs.declared.braces.BracePlace.TheVariants.{Plain as Unescaped}
 use Rattle.tcl_expr.specs.Substitution.{piece_tree, text_tree}
+use Rattle.tcl_words.specs.Classes.{begins_newline}
+use Rattle.tcl_words.specs.Kinds.{name_bytes}
 use Rattle.tcl_words.specs.Operands.{bracket_of, substitution_of, quoted_of}
 use Rattle.tcl_words.specs.declared.script.Piece.{Piece}
 use Rattle.tcl_text.specs.declared.fault.ParseFault.{ParseFault}

@@ -47,13 +47,13 @@ Links link old (Err fault) new =
     (fault ≡ no_memory) ⊎ ((before : List Opened) (tree : Tree) → Stands old (AtOperator tree) before → link_next before tree link ≡ Err fault)
 
 -- the code goes where a move leads, and says how many further bytes it takes
-abbrev pub Follows : Parser → ℕ → Result Move ExprFault → Type 0
-Follows parser skip (Ok move) = (skip ≡ move.skip) × Stands parser move.place move.opened
-Follows parser skip (Err fault) = ⊥
+abbrev pub FollowsMove : Parser → ℕ → Result Move ExprFault → Type 0
+FollowsMove parser skip (Ok move) = (skip ≡ move.skip) × Stands parser move.place move.opened
+FollowsMove parser skip (Err fault) = ⊥
 
 -- from wherever the code stands at such a place
 abbrev pub Takes : Parser → Result ℕ ExprFault → Parser → (List Opened → Result Move ExprFault) → Type 0
-Takes old (Ok skip) new expected = (before : List Opened) → Stands old AtOperand before → Follows new skip (expected before)
+Takes old (Ok skip) new expected = (before : List Opened) → Stands old AtOperand before → FollowsMove new skip (expected before)
 Takes old (Err fault) new expected = (fault ≡ no_memory) ⊎ ((before : List Opened) → Stands old AtOperand before → expected before ≡ Err fault)
 
 -- an operand of these steps
@@ -77,17 +77,19 @@ move_at text AtOperand before = operand_at text before
 move_at text (AtOperator tree) before = operator_at text before tree
 
 abbrev pub TakesLink : Parser → Result ℕ ExprFault → Parser → List ℕ → Type 0
-TakesLink old (Ok skip) new text = (before : List Opened) (tree : Tree) → Stands old (AtOperator tree) before → Follows new skip (operator_at text before tree)
+TakesLink old (Ok skip) new text =
+    (before : List Opened) (tree : Tree) → Stands old (AtOperator tree) before → FollowsMove new skip (operator_at text before tree)
 TakesLink old (Err fault) new text =
     (fault ≡ no_memory) ⊎ ((before : List Opened) (tree : Tree) → Stands old (AtOperator tree) before → operator_at text before tree ≡ Err fault)
 
 abbrev pub TakesFound : Parser → Result ℕ ExprFault → Parser → Option (Link × ℕ) → Type 0
-TakesFound old (Ok skip) new found = (before : List Opened) (tree : Tree) → Stands old (AtOperator tree) before → Follows new skip (link_move before tree found)
+TakesFound old (Ok skip) new found =
+    (before : List Opened) (tree : Tree) → Stands old (AtOperator tree) before → FollowsMove new skip (link_move before tree found)
 TakesFound old (Err fault) new found =
     (fault ≡ no_memory) ⊎ ((before : List Opened) (tree : Tree) → Stands old (AtOperator tree) before → link_move before tree found ≡ Err fault)
 
 abbrev pub TakesToken : Parser → Result ℕ ExprFault → Parser → List ℕ → Type 0
-TakesToken old (Ok skip) new text = (place : OperandPlace) (before : List Opened) → Stands old place before → Follows new skip (move_at text place before)
+TakesToken old (Ok skip) new text = (place : OperandPlace) (before : List Opened) → Stands old place before → FollowsMove new skip (move_at text place before)
 TakesToken old (Err fault) new text =
     (fault ≡ no_memory) ⊎ ((place : OperandPlace) (before : List Opened) → Stands old place before → move_at text place before ≡ Err fault)
 

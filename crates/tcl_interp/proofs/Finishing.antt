@@ -11,7 +11,7 @@ use Rattle.tcl_control.specs.Texts.{element_name, limit_text}
 use Rattle.tcl_shapes.specs.declared.branches.Branch.{Branch}
 use Rattle.tcl_expr.specs.Resuming.{told}
 use Rattle.tcl_interp.specs.Outside.{Outside}
-use Rattle.tcl_interp.specs.Evaluation.{State, Outcome, Ended, OutOfSteps, level_of, words_of, on_words, element_read, index_depth, element_meaning, with_joined, word_meaning, words_meaning, called}
+use Rattle.tcl_interp.specs.Evaluation.{State, Outcome, Ended, OutOfSteps, seen_level, words_of, on_words, element_read, index_depth, element_meaning, with_joined, word_meaning, words_meaning, called}
 use Rattle.tcl_interp.specs.Expressions.{if_holds, choices_meaning}
 use Rattle.tcl_interp.specs.Plans.{loop_ended, next_turn, turn_meaning, loop_meaning, turns_meaning}
 use Rattle.tcl_interp.specs.Scripts.{out_of_global, script_meaning, call_meaning, after_step}
@@ -53,7 +53,7 @@ module _ {S K : Type 0} (outside : Outside S K) where
   within_index_rest : (n : ℕ) (x : Indexing) (so_far : List ℕ) (state : State S) → state.steps ≤ n → Within n (index_rest outside x so_far state)
   within_index_rest n x so_far state w =
       within_pieces (run_in x.room) (element_meaning (run_in x.room) x.depth) (falls_in x.room) (within_element (run_in x.room) (falls_in x.room) x.depth) n x.pieces so_far state (element_read x.name) w
-      (λ state' text w'. within_on_read n (element_name x.name text) state' (λ state'' value. Ended state'' Normal value) (element_in state'.store (level_of state') x.name text) w' (λ value. w'))
+      (λ state' text w'. within_on_read n (element_name x.name text) state' (λ state'' value. Ended state'' Normal value) (element_in state'.store (seen_level state') x.name text) w' (λ value. w'))
 
   within_loop_rest : (n room : ℕ) (turning : Turning) (state : State S) → state.steps ≤ n → Within n (loop_rest outside room turning state)
   within_loop_rest n room turning state w = within_turns (run_in room) (falls_in room) n turning state.steps state w

@@ -165,11 +165,13 @@ module _ {S K : Type 0} (outside : Outside S K) where
       and_then (with_joined w.so_far piece state' (λ state'' joined. word_rest w.room w.pieces joined w.expand w.words w.whole state''))
       (on_normal (λ state'' result. script_rest w.room w.after result state'')))
       state code text
-  waiting_meaning (ForIndex x) state code text = on_normal (λ state' piece. with_joined x.so_far piece state' (λ state'' joined. index_rest x joined state'')) state code text
+  waiting_meaning (ForIndex x) state code text =
+      on_normal (λ state' piece. with_joined x.so_far piece state' (λ state'' joined. index_rest x joined state'')) state code text
   waiting_meaning (ForValue room evaluation) state code text = on_normal (λ state' value. value_rest room evaluation (Some value) state') state code text
   waiting_meaning (ForTest room turning) state code text = on_value (if_holds (turn_rest room turning) loop_ended) state code text
   waiting_meaning (ForChoice room branches otherwise) state code text = on_value (choice_rest room branches otherwise) state code text
-  waiting_meaning (ForBody room turning) state code text = after_body (next_turn (script_meaning outside room) turning.next (loop_rest room turning)) state code text
+  waiting_meaning (ForBody room turning) state code text =
+      after_body (next_turn (script_meaning outside room) turning.next (loop_rest room turning)) state code text
   waiting_meaning (ForNext room turning) state code text = after_next (loop_rest room turning) state code text
   waiting_meaning (ForStart room turning) state code text = on_normal (λ state' result. loop_rest room turning state') state code text
   waiting_meaning (ForCatch name) state code text = caught name state code text

@@ -33,7 +33,8 @@ module _ {K : Type 0} where
   -- an evaluation goes on, up to where it asks for something or ends
   abbrev pub EvaluationMoves : ℕ → Store → ℕ → Resumption → Option (List ℕ) → List (Waiting K) → Moved K → Type 0
   EvaluationMoves level store room evaluation given waits after =
-      (answer : Result Ask EvalFault) × (next : Resumption) × (told evaluation given ≡ told_run answer next) × IfOk answer (λ asked. AsksBy evaluation.steps asked next.steps) × (after ≡ answer_move level store room next waits answer)
+      (answer : Result Ask EvalFault) × (next : Resumption) × (told evaluation given ≡ told_run answer next)
+      × IfOk answer (λ asked. AsksBy evaluation.steps asked next.steps) × (after ≡ answer_move level store room next waits answer)
 
   abbrev pub MovesBy : Store → Context → Doing K → List (Waiting K) → Standing K → Type 0
   MovesBy store context (Evaluates room evaluation given) waits after =

@@ -36,10 +36,12 @@ out_of_global Break = Break
 out_of_global Continue = Continue
 
 -- what an act comes to, where it is given how a script is run, and how a task goes on after a step and after a script
-abbrev pub on_act : {S K : Type 0} → (List ℕ → State S → Outcome S) → (K → State S → Outcome S) → (K → State S → Code → List ℕ → Outcome S) → List ℕ → State S → Act K → Outcome S
+abbrev pub on_act : {S K : Type 0} → (List ℕ → State S → Outcome S) → (K → State S → Outcome S) → (K → State S → Code → List ℕ → Outcome S) → List ℕ
+    → State S → Act K → Outcome S
 on_act run after_step after_script name state (Done code text) = Ended state code text
 on_act run after_step after_script name state (Step task) = with_step state (after_step task)
-on_act run after_step after_script name state (Run script task) = and_then (run_at run 1 script state) (λ state' code text. after_script task state' (out_of_global code) text)
+on_act run after_step after_script name state (Run script task) =
+    and_then (run_at run 1 script state) (λ state' code text. after_script task state' (out_of_global code) text)
 on_act run after_step after_script name state Unknown = Ended state Error (unknown_command name)
 
 abbrev pub told_state : {S K : Type 0} → Told S K → State S → State S

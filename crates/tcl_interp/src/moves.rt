@@ -2,7 +2,7 @@ ghost use Rattle.std.specs.Prelude.{◌≡◌, true, [], List, drop, IfOk, IsOk,
 ghost use Rattle.tcl_control.specs.Commands.{caught_ending};
 ghost use Rattle.tcl_control.specs.Levels.{here, popped};
 ghost use Rattle.tcl_control.specs.Source.{script_of};
-ghost use Rattle.tcl_interp.specs.Plans.{joined, callers, procedure_code, procedure_text};
+ghost use Rattle.tcl_interp.specs.Plans.{with_levels_behind, callers, procedure_code, procedure_text};
 ghost use Rattle.tcl_interp.specs.Scripts.{out_of_global};
 ghost use Rattle.tcl_interp.specs.Moves.{after_command, after_part, after_index, after_value_move, after_test_move, after_choice_move, begin_move, parsed_move, end_move, next_move, after_body_move, after_next_move, after_start_move, ending_move, moved, standing, global_end};
 ghost use Rattle.tcl_interp.specs.Finish.{Waiting, Begins, Ends, ForCommand};
@@ -327,7 +327,8 @@ fn after_choice<K: Drop>(
 ) -> Next<K>
     ensures table { table.new ≡ table.old }
     ensures now { IfOk result (λ now. moved_of now frames.new.items
-        ≡ after_choice_move room (drop choosing.value.place choosing.value.choices.branches) choosing.value.choices.otherwise (waits_of frames.old.items) code text) }
+        ≡ after_choice_move room (drop choosing.value.place choosing.value.choices.branches) choosing.value.choices.otherwise (waits_of frames.old.items)
+        code text) }
 {
     match code {
         Code::Normal => chosen(alloc, table, frames, room, choosing, &text),
@@ -366,10 +367,7 @@ fn ended<K: Drop>(
             context.levels.join(levels)?;
             Ok(Now::Ends { code, text })
         }
-        Frame::ForProcedure => {
-            let now = after_procedure(alloc, scopes, context, code, text)?;
-            Ok(now)
-        }
+        Frame::ForProcedure => after_procedure(alloc, scopes, context, code, text),
         Frame::ForScript { room, task } => Ok(Now::Resumes {
             room,
             task,

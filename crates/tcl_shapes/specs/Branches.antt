@@ -47,13 +47,13 @@ unfoldable pub arms_of : List (List ℕ) → Option (List Branch)
 arms_of items = arms_from None items
 
 -- choices with branches in front
-abbrev pub front : List Branch → Option Choices → Option Choices
-front branches choices = option_map (λ (c : Choices). record c { branches = branches ++ c.branches }) choices
+abbrev pub with_branches : List Branch → Option Choices → Option Choices
+with_branches branches choices = option_map (λ (c : Choices). record c { branches = branches ++ c.branches }) choices
 
 -- One more word leads to this place, with these branches so far: for any words behind it, all that there is stays.
 abbrev pub Follows : Clause → List ℕ → List Branch → Option Clause → List Branch → Type 0
 Follows clause word branches (Some next) branches' =
-    (words : List (List ℕ)) → front branches' (choices_from next words) ≡ front branches (choices_from clause (word ∷ words))
+    (words : List (List ℕ)) → with_branches branches' (choices_from next words) ≡ with_branches branches (choices_from clause (word ∷ words))
 Follows clause word branches None branches' = (words : List (List ℕ)) → choices_from clause (word ∷ words) ≡ None
 
 -- One more item leads to this, with these arms so far: for any items behind it, all that there is stays.

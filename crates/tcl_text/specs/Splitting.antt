@@ -98,8 +98,8 @@ is_behind_element [] = true
 is_behind_element (c ∷ cs) = is_white c
 
 -- a byte of this kind begins a bare element
-abbrev pub begins_bare : ByteKind → Bool
-begins_bare White = false
-begins_bare OpenBrace = false
-begins_bare Quote = false
-begins_bare _ = true
+abbrev pub begins_bare_element : ByteKind → Bool
+begins_bare_element White = false
+begins_bare_element OpenBrace = false
+begins_bare_element Quote = false
+begins_bare_element _ = true

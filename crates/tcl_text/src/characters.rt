@@ -115,7 +115,7 @@ impl Text {
         joined(alloc, self.as_str(), at, new, at)
     }
 
-    /// The text without the characters behind the first `first` and before the last `last`; the same text where `last` isn't above `first`.
+    /// The text without the characters from the place `first` on and before the place `last`; the same text where `last` isn't above `first`.
     /// It answers `NoMemory` alone.
     pub fn without(&self, alloc: Global, first: usize, last: usize) -> Result<Text, TextFault>
         ensures ok { IfOk result (λ text. text ≡ without first last self.now) }

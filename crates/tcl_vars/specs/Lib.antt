@@ -1,3 +1,4 @@
+-- What the contracts cite.
 pub mod Change
 pub mod Name
 pub mod Named

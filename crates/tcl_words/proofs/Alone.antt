@@ -6,7 +6,7 @@ use Rattle.tcl_words.specs.Kinds.{class_means, kind_before}
 use Rattle.tcl_words.specs.Classes.{class_of}
 use Rattle.tcl_words.specs.Changes.{Rest, Read, put, piece_before, last_rest, Change, bytes, name, text_ends, word_ends, command_ends, word_begins, command_begins, changed}
 use Rattle.tcl_words.specs.Moves.{Move, move_of}
-use Rattle.tcl_words.specs.Reading.{Level, within, rest_of, at_end, past, past_opened, first_place, first_skip, opened_piece}
+use Rattle.tcl_words.specs.Reading.{Level, within, rest_of, at_end, past, past_opened, opened_place, first_skip, opened_piece}
 use Rattle.tcl_words.specs.declared.kind.BytePlace.{BytePlace}
 use Rattle.tcl_words.specs.declared.kind.BytePlace.TheVariants.{Start, Comment, Between, Expanded, Text, PastQuotes, InBraces, PastBraces}
 use Rattle.tcl_words.specs.declared.kind.Mode.{Mode}
@@ -85,14 +85,14 @@ past_ok opener mode behind go (Ok found) rest e = (found, (refl, e))
 past_ok opener mode behind go (Err fault) rest e = absurd (let h : past_opened opener mode behind go (Err fault) ≡ Ok rest = e in cc)
 
 pub room_left : (room at : ℕ) (opener : Opener) (mode : Mode) (behind : List ℕ) (go : ℕ → BytePlace → Read) (inner : ℕ → ℕ → BytePlace → Read) (rest : Rest) → past (Ok (Within opener mode)) room at behind go inner ≡ Ok rest →
-    (0 < room) × (past_opened opener mode behind go (inner (room - 1) (first_skip opener) (first_place opener)) ≡ Ok rest)
+    (0 < room) × (past_opened opener mode behind go (inner (room - 1) (first_skip opener) (opened_place opener)) ≡ Ok rest)
 room_left zero at opener mode behind go inner rest e = absurd (let h : past (Ok (Within opener mode)) zero at behind go inner ≡ Ok rest = e in cc)
-room_left (suc room) at opener mode behind go inner rest e = let h : room ≡ suc room - 1 = omega arith in (omega arith, ap (λ n. past_opened opener mode behind go (inner n (first_skip opener) (first_place opener))) (sym h) ∙ e)
+room_left (suc room) at opener mode behind go inner rest e = let h : room ≡ suc room - 1 = omega arith in (omega arith, ap (λ n. past_opened opener mode behind go (inner n (first_skip opener) (opened_place opener))) (sym h) ∙ e)
 
 room_goes : (room at : ℕ) (opener : Opener) (mode : Mode) (behind : List ℕ) (go : ℕ → BytePlace → Read) (inner : ℕ → ℕ → BytePlace → Read) → 0 < room →
-    past (Ok (Within opener mode)) room at behind go inner ≡ past_opened opener mode behind go (inner (room - 1) (first_skip opener) (first_place opener))
+    past (Ok (Within opener mode)) room at behind go inner ≡ past_opened opener mode behind go (inner (room - 1) (first_skip opener) (opened_place opener))
 room_goes zero at opener mode behind go inner some = absurd (omega (arith, some))
-room_goes (suc room) at opener mode behind go inner some = let h : room ≡ suc room - 1 = omega arith in ap (λ n. past_opened opener mode behind go (inner n (first_skip opener) (first_place opener))) h
+room_goes (suc room) at opener mode behind go inner some = let h : room ≡ suc room - 1 = omega arith in ap (λ n. past_opened opener mode behind go (inner n (first_skip opener) (opened_place opener))) h
 
 -- the reading of a text past its first byte, by a move that is known
 moved : List ℕ → Level → Move → ℕ → Read
@@ -127,7 +127,7 @@ module _ (b : ℕ) (text : List ℕ) (place : BytePlace) (at : ℕ) where
 
   goes_past : (other : List ℕ) (level : Level) (m : Move) (opener : Opener) (mode : Mode) (first second third rest : Rest) → move true text ≡ m → (move true text).step ≡ Ok (Within opener mode) → 0 < level.room →
       changed (move true text).changes third ≡ rest → piece_before (opened_piece opener text first.close) second ≡ third → opened_piece opener other first.close ≡ opened_piece opener text first.close →
-      rest_of other (within (level.room - 1)) (first_skip opener) (first_place opener) 0 ≡ Ok first → rest_of other level (suc first.close) (Text mode) (at + 1) ≡ Ok second → moved other level m at ≡ Ok rest
+      rest_of other (within (level.room - 1)) (first_skip opener) (opened_place opener) 0 ≡ Ok first → rest_of other level (suc first.close) (Text mode) (at + 1) ≡ Ok second → moved other level m at ≡ Ok rest
   unfolding moved
   goes_past other level m opener mode first second third rest same h some e f piece inner outer =
       ap (λ x. moved other level x at) (sym same)
@@ -184,13 +184,13 @@ module _ (b : ℕ) (text : List ℕ) (place : BytePlace) (at : ℕ) where
       let go : ℕ → BytePlace → Read = λ skip next. rest_of text (within room) skip next (at + 1) in
       let p : (third : Rest) × ((past (Ok (Within opener mode)) room at text go (λ room skip next. rest_of text (within room) skip next 0) ≡ Ok third) × (changed (move true text).changes third ≡ rest)) =
       put_ok (changed (move true text).changes) (past (Ok (Within opener mode)) room at text go (λ room skip next. rest_of text (within room) skip next 0)) rest e in
-      let q : (0 < room) × (past_opened opener mode text go (rest_of text (within (room - 1)) (first_skip opener) (first_place opener) 0) ≡ Ok p.0) =
+      let q : (0 < room) × (past_opened opener mode text go (rest_of text (within (room - 1)) (first_skip opener) (opened_place opener) 0) ≡ Ok p.0) =
       room_left room at opener mode text go (λ room skip next. rest_of text (within room) skip next 0) p.0 p.1.0 in
-      let r : (first : Rest) × ((rest_of text (within (room - 1)) (first_skip opener) (first_place opener) 0 ≡ Ok first) × (put (piece_before (opened_piece opener text first.close)) (go (suc first.close) (Text mode)) ≡ Ok p.0)) =
-      past_ok opener mode text go (rest_of text (within (room - 1)) (first_skip opener) (first_place opener) 0) p.0 q.1 in
+      let r : (first : Rest) × ((rest_of text (within (room - 1)) (first_skip opener) (opened_place opener) 0 ≡ Ok first) × (put (piece_before (opened_piece opener text first.close)) (go (suc first.close) (Text mode)) ≡ Ok p.0)) =
+      past_ok opener mode text go (rest_of text (within (room - 1)) (first_skip opener) (opened_place opener) 0) p.0 q.1 in
       let s : (second : Rest) × ((go (suc r.0.close) (Text mode) ≡ Ok second) × (piece_before (opened_piece opener text r.0.close) second ≡ p.0)) =
       put_ok (piece_before (opened_piece opener text r.0.close)) (go (suc r.0.close) (Text mode)) p.0 r.1.1 in
-      let i : Closed text (room - 1) (first_skip opener) (first_place opener) 0 r.0 = known (room - 1) (first_skip opener) (first_place opener) 0 r.0 r.1.0 in
+      let i : Closed text (room - 1) (first_skip opener) (opened_place opener) 0 r.0 = known (room - 1) (first_skip opener) (opened_place opener) 0 r.0 r.1.0 in
       let c : Closed text room (suc r.0.close) (Text mode) (at + 1) s.0 = known room (suc r.0.close) (Text mode) (at + 1) s.0 s.1.0 in
       let near : r.0.close ≡ 0 + length i.inner = i.close_at in
       let far : suc r.0.close ≤ length c.inner = c.skipped in
@@ -214,12 +214,12 @@ module _ (b : ℕ) (text : List ℕ) (place : BytePlace) (at : ℕ) where
         again = λ tail more m.
             goes_past (c.inner ++ c.closer ∷ tail) (within more) (move true (c.inner ++ c.closer ∷ tail)) opener mode r.0 s.0 p.0 rest (to_same c.inner c.closer c.after tail (Ok (Within opener mode)) c.text_is c.closes h skips) h
             (omega (arith, m, q.0)) p.1.1 s.1.1 (piece_cut opener c.inner (c.closer ∷ tail) r.0.close closed skips ∙ piece)
-            (ap (λ t. rest_of t (within (more - 1)) (first_skip opener) (first_place opener) 0) (ap (λ t. t ++ c.closer ∷ tail) mid.1 ∙ append_assoc i.inner (i.closer ∷ mid.0) (c.closer ∷ tail)) ∙ i.again (mid.0 ++ c.closer ∷ tail) (more - 1) (omega (arith, m)))
+            (ap (λ t. rest_of t (within (more - 1)) (first_skip opener) (opened_place opener) 0) (ap (λ t. t ++ c.closer ∷ tail) mid.1 ∙ append_assoc i.inner (i.closer ∷ mid.0) (c.closer ∷ tail)) ∙ i.again (mid.0 ++ c.closer ∷ tail) (more - 1) (omega (arith, m)))
             (c.again tail more m);
         alone = λ more m.
             goes_past c.inner (record { inside = false; room = more }) (move false c.inner) opener mode r.0 s.0 p.0 rest (to_cut c.inner c.closer c.after (Ok (Within opener mode)) c.text_is c.closes h skips) h
             (omega (arith, m, q.0)) p.1.1 s.1.1 piece
-            (ap (λ t. rest_of t (within (more - 1)) (first_skip opener) (first_place opener) 0) mid.1 ∙ i.again mid.0 (more - 1) (omega (arith, m)))
+            (ap (λ t. rest_of t (within (more - 1)) (first_skip opener) (opened_place opener) 0) mid.1 ∙ i.again mid.0 (more - 1) (omega (arith, m)))
             (c.alone more m);
       }
 

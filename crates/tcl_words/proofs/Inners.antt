@@ -4,7 +4,7 @@ use Rattle.std.specs.List.{slice_range}
 use Rattle.tcl_words.specs.Kinds.{kind_before, dollar_of}
 use Rattle.tcl_words.specs.Changes.{Rest, Read, put, piece_before, literal_before, Change, bytes, name, text_ends, word_ends, command_ends, word_begins, command_begins, changed, changed_by}
 use Rattle.tcl_words.specs.Moves.{Move, at_dollar, in_parens}
-use Rattle.tcl_words.specs.Reading.{Level, within, rest_of, at_end, past, past_opened, first_place, first_skip, opened_piece, commands_in, pieces_in, index_pieces_of, outermost}
+use Rattle.tcl_words.specs.Reading.{Level, within, rest_of, at_end, past, past_opened, opened_place, first_skip, opened_piece, commands_in, pieces_in, index_pieces_of, outermost}
 use Rattle.tcl_words.specs.Parts.{Whole, joined, no_parts, script_whole, index_whole}
 use Rattle.tcl_words.specs.declared.kind.Kind.{Kind}
 use Rattle.tcl_words.specs.declared.kind.Kind.TheVariants.{Blank, Newline, Semicolon, Hash, Dollar, Quote, OpenBracket, CloseBracket, OpenBrace, Expansion, CloseBrace, CloseParen, Backslash, Continuation, Other}
@@ -98,7 +98,7 @@ past_same : (step : Result Step ParseFault) (room at at' : â„•) (behind : List â
     SameText (past step room at behind go inner) (past step room at' behind go' inner)
 past_same (Ok (On skip next)) room at at' behind go go' inner stay same = rw stay (same skip)
 past_same (Ok (Within opener mode)) zero at at' behind go go' inner stay same = refl
-past_same (Ok (Within opener mode)) (suc room) at at' behind go go' inner stay same = rw stay (opened_same opener behind go go' (inner room (first_skip opener) (first_place opener)) same)
+past_same (Ok (Within opener mode)) (suc room) at at' behind go go' inner stay same = rw stay (opened_same opener behind go go' (inner room (first_skip opener) (opened_place opener)) same)
 past_same (Ok Ends) room at at' behind go go' inner stay same = (refl, refl)
 past_same (Err fault) room at at' behind go go' inner stay same = refl
 

@@ -10,7 +10,7 @@ use Rattle.tcl_words.specs.Changes.Change.{bytes as put_bytes}
 use Rattle.tcl_words.specs.Moves.{Move, in_text, at_dollar}
 use Rattle.tcl_words.specs.Reading.{rest_of, past, within}
 use Rattle.tcl_words.specs.Operands.{at_quote, quoted_rest, pieces_found, quoted_of}
-use Rattle.tcl_words.specs.Grammar.{TextEnding, leaves, fails, with_bytes, stops, is_plain, begins, ArePieces, IsInnerOf}
+use Rattle.tcl_words.specs.Grammar.{TextEnding, leaves, fails, with_bytes, ends_body, is_plain, begins, ArePieces, IsInnerOf}
 use Rattle.tcl_words.specs.Grammar.ArePieces.{stop, unended, byte, backslash, dollar, variable, braced_name, unclosed_name, element, faulty_index, bracket, faulty_script}
 use Rattle.tcl_words.specs.OperandGrammar.{IsBehindQuote}
 use Rattle.tcl_words.specs.declared.kind.Mode.TheVariants.{Quotes, Parens}
@@ -87,11 +87,11 @@ unfolding class_of
 end_step room text at = refl
 
 -- where a quote stops the pieces
-quote_left : (left : List ℕ) → stops true Quotes left ≡ true → (rest : List ℕ) × (left ≡ 34 ∷ rest)
+quote_left : (left : List ℕ) → ends_body true Quotes left ≡ true → (rest : List ℕ) × (left ≡ 34 ∷ rest)
 quote_left [] h = cc
 quote_left (b ∷ rest) h = (rest, ap (λ c. c ∷ rest) (eqb-true b 34 h))
 
-stop_step : (room : ℕ) (text : List ℕ) (at : ℕ) → stops true Quotes text ≡ true → quotes_read room text at ≡ put (with_text [] []) (quotes_read room text at)
+stop_step : (room : ℕ) (text : List ℕ) (at : ℕ) → ends_body true Quotes text ≡ true → quotes_read room text at ≡ put (with_text [] []) (quotes_read room text at)
 stop_step room text at h =
     let left = quote_left text h in
     let read : quotes_read room text at ≡ Ok (last_rest at) = ap (λ t. quotes_read room t at) left.1 ∙ end_step room left.0 at in

@@ -4,7 +4,7 @@ use Rattle.std.proofs.lemmas.List.{length-take, length-drop}
 use Rattle.tcl_words.specs.Kinds.{kind_before}
 use Rattle.tcl_words.specs.Changes.{Rest, Read, put, piece_before, last_rest, literal_before, pieces_of, Change, bytes, name, text_ends, word_ends, command_ends, word_begins, command_begins, changed, changed_by}
 use Rattle.tcl_words.specs.Moves.{move_of, lone}
-use Rattle.tcl_words.specs.Reading.{Level, within, rest_of, at_end, past, past_opened, first_place, first_skip, opened_piece, commands_in, pieces_in, index_pieces_of, outermost}
+use Rattle.tcl_words.specs.Reading.{Level, within, rest_of, at_end, past, past_opened, opened_place, first_skip, opened_piece, commands_in, pieces_in, index_pieces_of, outermost}
 use Rattle.tcl_words.specs.Room.{text_room, piece_room, pieces_room, words_room, commands_room}
 use Rattle.tcl_words.specs.declared.kind.BytePlace.{BytePlace}
 use Rattle.tcl_words.specs.declared.kind.BytePlace.TheVariants.{Start, Comment, Between, Expanded, Text, PastQuotes, InBraces, PastBraces}
@@ -98,9 +98,9 @@ stepped text level at cs rest known (Ok (Within opener mode)) e =
     let go : ℕ → BytePlace → Read = λ skip next. rest_of text level skip next (at + 1) in
     let inner : ℕ → ℕ → BytePlace → Read = λ room skip next. rest_of text (within room) skip next 0 in
     let p : (third : Rest) × ((past (Ok (Within opener mode)) level.room at text go inner ≡ Ok third) × (changed cs third ≡ rest)) = put_ok (changed cs) (past (Ok (Within opener mode)) level.room at text go inner) rest e in
-    let q : (0 < level.room) × (past_opened opener mode text go (inner (level.room - 1) (first_skip opener) (first_place opener)) ≡ Ok p.0) = room_left level.room at opener mode text go inner p.0 p.1.0 in
-    let r : (first : Rest) × ((inner (level.room - 1) (first_skip opener) (first_place opener) ≡ Ok first) × (put (piece_before (opened_piece opener text first.close)) (go (suc first.close) (Text mode)) ≡ Ok p.0)) =
-    past_ok opener mode text go (inner (level.room - 1) (first_skip opener) (first_place opener)) p.0 q.1 in
+    let q : (0 < level.room) × (past_opened opener mode text go (inner (level.room - 1) (first_skip opener) (opened_place opener)) ≡ Ok p.0) = room_left level.room at opener mode text go inner p.0 p.1.0 in
+    let r : (first : Rest) × ((inner (level.room - 1) (first_skip opener) (opened_place opener) ≡ Ok first) × (put (piece_before (opened_piece opener text first.close)) (go (suc first.close) (Text mode)) ≡ Ok p.0)) =
+    past_ok opener mode text go (inner (level.room - 1) (first_skip opener) (opened_place opener)) p.0 q.1 in
     let s : (second : Rest) × ((go (suc r.0.close) (Text mode) ≡ Ok second) × (piece_before (opened_piece opener text r.0.close) second ≡ p.0)) = put_ok (piece_before (opened_piece opener text r.0.close)) (go (suc r.0.close) (Text mode)) p.0 r.1.1 in
     subst (Roomy (suc (length text))) p.1.1
     (changed_roomy (suc (length text)) cs p.0 (subst (Roomy (suc (length text))) s.1.1 (piece_roomy opener text r.0.close s.0 (known level (suc r.0.close) (Text mode) (at + 1) s.0 s.1.0))))

@@ -1,6 +1,6 @@
 -- Steps. What the rest of a text gives to the parts of a script that are open before it, and what a byte puts in front of that.
 use Rattle.std.specs.Prelude.{ℕ, Bool, List, [], ◌∷◌, ◌++◌, Result, Ok, Err}
-use Rattle.tcl_words.specs.Spans.{word_of, command_of}
+use Rattle.tcl_words.specs.Spans.{word_of, command_from}
 use Rattle.tcl_words.specs.declared.script.WordForm.{WordForm}
 use Rattle.tcl_words.specs.declared.script.WordForm.TheVariants.{Bare, Quoted, Braced}
 use Rattle.tcl_words.specs.declared.script.Piece.{Piece}
@@ -83,7 +83,7 @@ changed_by (command_begins start) rest = record rest {
   pieces = [];
   end = 0;
   words = [];
-  commands = command_of start rest.words ∷ rest.commands;
+  commands = command_from start rest.words ∷ rest.commands;
 }
 
 -- the first of the changes stands first in the text

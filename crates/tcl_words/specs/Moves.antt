@@ -2,6 +2,7 @@
 use Rattle.std.specs.Prelude.{ℕ, zero, suc, ◌+◌, ◌-◌, Bool, true, false, List, [], ◌∷◌, ◌++◌, length, take, drop, slice_index, Result, Ok, Err}
 use Rattle.std.specs.List.{slice_range}
 use Rattle.tcl_text.specs.Backslash.{escape}
+use Rattle.tcl_text.specs.Bytes.{star}
 use Rattle.tcl_words.specs.Kinds.{dollar_of, kind_before}
 use Rattle.tcl_words.specs.Changes.{Change, bytes, name, text_ends, word_ends, command_ends, word_begins, command_begins}
 use Rattle.tcl_words.specs.declared.kind.Kind.{Kind}
@@ -31,11 +32,11 @@ on changes skip place = record { changes = changes; step = Ok (On skip place) }
 abbrev pub ends : Move
 ends = record { changes = []; step = Ok Ends }
 
-abbrev pub fails : ParseFault → Move
-fails fault = record { changes = []; step = Err fault }
+abbrev pub at_fault : ParseFault → Move
+at_fault fault = record { changes = []; step = Err fault }
 
-abbrev pub before : Change → Move → Move
-before change move = record { changes = change ∷ move.changes; step = move.step }
+abbrev pub change_before : Change → Move → Move
+change_before change move = record { changes = change ∷ move.changes; step = move.step }
 
 -- In each of the following `at` is the byte's position, and `behind` the text behind it.
 
@@ -45,7 +46,7 @@ at_dollar mode Alone b behind = on (bytes (b ∷ []) ∷ []) 0 (Text mode)
 at_dollar mode (Named n) b behind = on (name (take n behind) ∷ []) n (Text mode)
 at_dollar mode (Indexed n) b behind = record { changes = []; step = Ok (Within (Index n) mode) }
 at_dollar mode (Braced n) b behind = on (name (slice_range behind 1 (suc n)) ∷ []) (n + 2) (Text mode)
-at_dollar mode Unclosed b behind = fails MissingBrace
+at_dollar mode Unclosed b behind = at_fault MissingBrace
 
 -- where substitution goes on: in a bare word, in quotes and in an index
 abbrev pub in_text : Mode → Kind → ℕ → List ℕ → Move
@@ -94,11 +95,11 @@ abbrev pub at_word : Bool → ℕ → Kind → ℕ → ℕ → List ℕ → Move
 at_word expand start OpenBrace b at behind = on (word_begins BracedForm expand start ∷ []) 0 (InBraces 0)
 at_word expand start Expansion b at behind = on (word_begins BracedForm expand start ∷ []) 0 (InBraces 0)
 at_word expand start Quote b at behind = on (word_begins QuotedForm expand start ∷ []) 0 (Text Quotes)
-at_word expand start kind b at behind = before (word_begins BareForm expand start) (in_bare kind b at behind)
+at_word expand start kind b at behind = change_before (word_begins BareForm expand start) (in_bare kind b at behind)
 
 -- what was `{*}` with nothing behind it is the word `*` in braces
 abbrev pub lone : ℕ → List Change
-lone at = word_begins BracedForm false (at - 3) ∷ bytes (42 ∷ []) ∷ []
+lone at = word_begins BracedForm false (at - 3) ∷ bytes (star ∷ []) ∷ []
 
 abbrev pub in_expanded : Kind → ℕ → ℕ → List ℕ → Move
 in_expanded Blank b at behind = on (lone at ++ word_ends at ∷ []) 0 Between
@@ -124,7 +125,7 @@ in_start Semicolon b at behind = on [] 0 Start
 in_start Continuation b at behind = on [] (escape behind).length Start
 in_start CloseBracket b at behind = ends
 in_start Hash b at behind = on [] 0 Comment
-in_start kind b at behind = before (command_begins at) (in_between kind b at behind)
+in_start kind b at behind = change_before (command_begins at) (in_between kind b at behind)
 
 -- a backslash goes with the byte behind it, so that a newline may not end the comment
 abbrev pub in_comment : Kind → List ℕ → Move
@@ -140,9 +141,9 @@ move_of Between kind b at behind = in_between kind b at behind
 move_of Expanded kind b at behind = in_expanded kind b at behind
 move_of (Text Bare) kind b at behind = in_bare kind b at behind
 move_of (Text Quotes) kind b at behind = in_quotes kind b behind
-move_of PastQuotes kind b at behind = word_over kind at behind (fails ExtraAfterQuote)
+move_of PastQuotes kind b at behind = word_over kind at behind (at_fault ExtraAfterQuote)
 move_of (InBraces depth) kind b at behind = in_braces depth kind b behind
-move_of PastBraces kind b at behind = word_over kind at behind (fails ExtraAfterBrace)
+move_of PastBraces kind b at behind = word_over kind at behind (at_fault ExtraAfterBrace)
 move_of (Text Parens) kind b at behind = in_parens kind b behind
 
 -- the move at this position of a text

@@ -3,8 +3,9 @@ use Rattle.std.specs.Prelude.{ℕ, ◌+◌, ◌-◌, ◌≡◌, ◌≢◌, ◌<�
 use Rattle.std.specs.List.{slice_range}
 use Rattle.std.specs.Str.{IsCharBoundary}
 use Rattle.tcl_text.specs.Backslash.{escape}
+use Rattle.tcl_text.specs.Bytes.{star as star_byte}
 use Rattle.tcl_words.specs.Changes.{Rest, Read, put, last_rest, literal_before, changed, piece_before}
-use Rattle.tcl_words.specs.Spans.{command_of, word_of}
+use Rattle.tcl_words.specs.Spans.{command_from, word_of}
 use Rattle.tcl_words.specs.Moves.{Move}
 use Rattle.tcl_words.specs.Reading.{first_skip, at_end}
 use Rattle.tcl_words.specs.declared.kind.Kind.{Kind}
@@ -67,7 +68,7 @@ with_word parts end = record parts { words = parts.words ++ word_of parts.form p
 
 -- the parts once the open command has ended
 abbrev pub with_command : Parts → Parts
-with_command parts = record parts { commands = parts.commands ++ command_of parts.command_start parts.words ∷ []; words = [] }
+with_command parts = record parts { commands = parts.commands ++ command_from parts.command_start parts.words ∷ []; words = [] }
 
 -- the parts with one more piece, past which the mark is
 abbrev pub with_piece : Parts → Piece → ℕ → Parts
@@ -87,7 +88,7 @@ with_braced parts source at = record parts { pieces = parts.pieces ++ Literal (s
 
 -- the script, where the open command has these further words
 abbrev pub with_words : Parts → List Word → Rest → Whole
-with_words parts words rest = script_whole (parts.commands ++ command_of parts.command_start (parts.words ++ words) ∷ rest.commands) rest.close
+with_words parts words rest = script_whole (parts.commands ++ command_from parts.command_start (parts.words ++ words) ∷ rest.commands) rest.close
 
 -- the script, where the open word has these further pieces
 abbrev pub with_pieces : Parts → List Piece → Rest → Whole
@@ -132,7 +133,7 @@ pub record MayEnd (parts : Parts) (source : List ℕ) (at : ℕ) : Type 0 where
 -- `{*}` stands before this position
 pub record IsExpansion (source : List ℕ) (at : ℕ) : Type 0 where
   pub three : 3 ≤ at
-  pub star : slice_range source (at - 2) (at - 1) ≡ 42 ∷ []
+  pub star : slice_range source (at - 2) (at - 1) ≡ star_byte ∷ []
   pub cut_before : IsCharBoundary source (at - 2)
   pub cut_between : IsCharBoundary source (at - 1)
   pub cut_after : IsCharBoundary source at
@@ -202,27 +203,28 @@ ended (Text Parens) parts at = index_whole parts.pieces at
 ended place parts at = script_whole parts.commands at
 
 -- The code has done a move: what is open, joined with any rest, is what it was before the byte.
-abbrev pub Does : Parts → Parts → List ℕ → ℕ → BytePlace → Move → Result Step ParseFault → Type 0
-Does old new source at place move (Ok (On skip next)) =
+abbrev pub DoesMove : Parts → Parts → List ℕ → ℕ → BytePlace → Move → Result Step ParseFault → Type 0
+DoesMove old new source at place move (Ok (On skip next)) =
     (move.step ≡ Ok (On skip next))
     × ((rest : Read) → joined old source place at (put (changed move.changes) rest) ≡ joined new source next (at + 1 + skip) rest)
     × IsFine new source next (at + 1 + skip)
     × (at + 1 + skip ≤ length source)
     × (is_index next ≡ is_index place)
-Does old new source at place move (Ok (Within opener mode)) =
+DoesMove old new source at place move (Ok (Within opener mode)) =
     (move.step ≡ Ok (Within opener mode))
-    × ((own : Piece) (mark : ℕ) (rest : Read) → joined old source place at (put (changed move.changes) (put (piece_before own) rest)) ≡ joined (with_piece new own mark) source (Text mode) mark rest)
+    × ((own : Piece) (mark : ℕ) (rest : Read) → joined old source place at (put (changed move.changes) (put (piece_before own) rest))
+        ≡ joined (with_piece new own mark) source (Text mode) mark rest)
     × (new.literal ≡ [])
     × IsOpenerCut source at opener
     × (is_index (Text mode) ≡ is_index place)
-Does old new source at place move (Ok Ends) =
+DoesMove old new source at place move (Ok Ends) =
     (move.step ≡ Ok Ends)
     × (joined old source place at (put (changed move.changes) (Ok (last_rest at))) ≡ Ok (ended place new at))
     × IsCharBoundary source at
     × IsCharBoundary source (at + 1)
-Does old new source at place move (Err fault) = (move.step ≡ Err fault) ⊎ (fault ≡ NoMemory)
+DoesMove old new source at place move (Err fault) = (move.step ≡ Err fault) ⊎ (fault ≡ NoMemory)
 
 -- the text ends, and these are the commands of its script
-abbrev pub Finishes : Parts → Parts → List ℕ → BytePlace → ℕ → Result (Unit {0}) ParseFault → Type 0
-Finishes old new source place at (Ok done) = joined old source place at (at_end false place at) ≡ Ok (script_whole new.commands at)
-Finishes old new source place at (Err fault) = (at_end false place at ≡ Err fault) ⊎ (fault ≡ NoMemory)
+abbrev pub FinishesScript : Parts → Parts → List ℕ → BytePlace → ℕ → Result (Unit {0}) ParseFault → Type 0
+FinishesScript old new source place at (Ok done) = joined old source place at (at_end false place at) ≡ Ok (script_whole new.commands at)
+FinishesScript old new source place at (Err fault) = (at_end false place at ≡ Err fault) ⊎ (fault ≡ NoMemory)

@@ -5,7 +5,7 @@ use Rattle.tcl_interp.specs.declared.interp.SliceEnd.{SliceEnd}
 use Rattle.tcl_interp.specs.declared.interp.SliceEnd.TheVariants as slice
 use Rattle.tcl_interp.specs.Finish.{Rest, Idle, Spent, Broken}
 use Rattle.tcl_interp.specs.Interp.{IsRunning}
-use Rattle.tcl_control.specs.Table.{Table, first_commands}
+use Rattle.tcl_control.specs.Table.{NamedCommands, first_commands}
 use Rattle.tcl_jobs.specs.declared.job.Task.{Task}
 use Rattle.tcl_jobs.specs.declared.job.Task.TheVariants as task
 use Rattle.tk_input.specs.declared.event.LocalEvent.{LocalEvent}
@@ -43,7 +43,7 @@ pub record Program (M : Type 0) : Type 0 where
   pub aliases : List (List ℕ × M)
   pub budget : Budget
   pub store : Store
-  pub commands : Table
+  pub commands : NamedCommands
   pub steps : ℕ
   pub state : AppState
   pub work : Work

@@ -9,10 +9,7 @@ use std::alloc::Global;
 use tcl_text::answers::{
     Refusal, copy_answer, error, limit_reached, quoting_error, string_answer, text_answer,
 };
-use tcl_text::{SplitFault, Text, TextList};
-
-/// How many bytes a value has at most.
-const MAX_BYTES: usize = 65_536;
+use tcl_text::{MAX_BYTES, SplitFault, Text, TextList};
 
 /// The error of a configuration that is no list, or of a table with a key without a value. It has no number.
 fn bad_configuration(alloc: Global) -> Refusal

@@ -1,5 +1,6 @@
 -- Which lines are refused, and with which fault.
 use Rattle.std.specs.Prelude.{◌≡◌, ℕ, ◌<◌, ◌≤◌, ◌⊎◌, true, false, IsTrue, List, [], ◌∷◌, length, Some}
+use Rattle.tcl_text.specs.Limits.{last_moment}
 use Rattle.tk_base.specs.declared.rect.Rect.{Rect}
 use Rattle.tk_route.specs.Screen.{IsOnScreen, are_apart, shares_with_another}
 use Rattle.tk_route.specs.Values.{Values}
@@ -40,7 +41,7 @@ Covers rects line = ⊥
 
 -- what applies to a line at a moment, by what is known before it
 abbrev pub Refuses : Values → ℕ → HostLine → LineFault → Type 0
-Refuses known moment line BadLine = ¬ ((moment ≤ 1000000000000) × IsInRange line)
+Refuses known moment line BadLine = ¬ ((moment ≤ last_moment) × IsInRange line)
 Refuses known moment line TimeBack = moment < known.moment
 Refuses known moment line NoApp = NamesNobody known.rects line
 Refuses known moment line RectOverlap = Covers known.rects line

@@ -30,7 +30,7 @@ use Rattle.tk_session.specs.declared.stage.Format.TheVariants.{First, Second}
 use Rattle.tk_session.specs.declared.stage.Stage.{Stage}
 use Rattle.tk_session.specs.declared.stage.Stage.TheVariants as stages
 use Rattle.tk_session.specs.Names.{is_command_name, slot_of}
-use Rattle.tk_session.specs.Session.{heading, events, Plan, rects_of}
+use Rattle.tk_session.specs.Session.{heading, events, most_lines, Plan, rects_of}
 use Rattle.tcl_text.specs.Limits.{most_bytes, last_moment}
 
 infixl 10 ◌>>=◌
@@ -228,7 +228,7 @@ event_line_of format apps line = do
 unfoldable pub script_line_of : List ℕ → Option ℕ
 script_line_of line = do
   count ← behind (codes "script") line
-  number_of 0 65537 count
+  number_of 0 most_lines count
 
 unfoldable pub end_line_of : List ℕ → Option ℕ
 end_line_of line = do

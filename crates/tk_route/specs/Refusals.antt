@@ -1,6 +1,7 @@
 -- Which lines are refused, and with which fault.
 use Rattle.std.specs.Prelude.{◌≡◌, ℕ, ◌<◌, ◌≤◌, ◌⊎◌, true, false, IsTrue, List, [], ◌∷◌, length, Some}
 use Rattle.tcl_text.specs.Limits.{last_moment}
+use Rattle.tk_base.specs.Rect.{last_place}
 use Rattle.tk_base.specs.declared.rect.Rect.{Rect}
 use Rattle.tk_route.specs.Screen.{IsOnScreen, are_apart, shares_with_another}
 use Rattle.tk_route.specs.Values.{Values}
@@ -22,7 +23,7 @@ RefusesRects rects TooManyApps = (are_apart rects ≡ true) × (16 < length rect
 
 -- the line's numbers lie in the ranges of a session
 abbrev pub IsInRange : HostLine → Type 0
-IsInRange (Move x y) = (x ≤ 65535) × (y ≤ 65535)
+IsInRange (Move x y) = (x ≤ last_place) × (y ≤ last_place)
 IsInRange (Press button) = (1 ≤ button) × (button ≤ 5)
 IsInRange (Release button) = (1 ≤ button) × (button ≤ 5)
 IsInRange (Placed slot rect) = IsOnScreen rect

@@ -311,8 +311,8 @@ IsScript IsInner inside at text (command ∷ commands) ending =
     × (text ≡ gap ++ (own ++ rest)) × IsGap gap × (begins hash (own ++ rest) ≡ false)
     × IsWord IsInner inside rest (at + length gap) own word
     × AreFurtherWords IsInner inside
-        (IsRest (λ next after. IsScript IsInner inside next after commands ending) (λ last. (commands ≡ []) × IsEnding IsInner inside last ending))
-        (at + length gap + length own) rest words
+    (IsRest (λ next after. IsScript IsInner inside next after commands ending) (λ last. (commands ≡ []) × IsEnding IsInner inside last ending))
+    (at + length gap + length own) rest words
     × (command ≡ command_from (at + length gap) (word ∷ words))
 
 -- What brackets and indices hold where so many may still be opened in one another: a script, or the pieces of an index,

@@ -213,7 +213,7 @@ DoesMove old new source at place move (Ok (On skip next)) =
 DoesMove old new source at place move (Ok (Within opener mode)) =
     (move.step ≡ Ok (Within opener mode))
     × ((own : Piece) (mark : ℕ) (rest : Read) → joined old source place at (put (changed move.changes) (put (piece_before own) rest))
-        ≡ joined (with_piece new own mark) source (Text mode) mark rest)
+    ≡ joined (with_piece new own mark) source (Text mode) mark rest)
     × (new.literal ≡ [])
     × IsOpenerCut source at opener
     × (is_index (Text mode) ≡ is_index place)

@@ -1,3 +1,0 @@
--- What the contracts cite.
-pub mod Sample
-pub mod SampleFalls

@@ -16,10 +16,14 @@ ghost use Rattle.tcl_text.specs.declared.fault.LinkFault.TheVariants as link_fau
 use crate::message::{TOO_LONG, about, about_between, bad_name_text, limit};
 use crate::text::Text;
 use std::alloc::{AllocError, AllocFailed, Global};
+use std::fmt::{self, Display, Formatter, Write};
 use thiserror::Error;
 
 /// What a script is told where there would be more than 4,096 variables (19).
 const NO_ROOM: &str = "limit reached: variables";
+
+/// How a fault shows that memory was refused; a script is told nothing of it.
+const NO_MEMORY: &str = "out of memory";
 
 /// The text is no integer of 64 bits (1).
 #[derive(Clone, Copy, Debug, PartialEq, Eq, Drop, Error)]
@@ -67,13 +71,10 @@ impl NotBoolean {
 #[derive(Clone, Copy, Debug, PartialEq, Eq, Drop, Error)]
 pub enum ListFault {
     /// A brace that opens an element isn't closed.
-    #[error("unmatched open brace in list")]
     OpenBrace,
     /// A quote that opens an element isn't closed.
-    #[error("unmatched open quote in list")]
     OpenQuote,
     /// Something other than white space follows a closing brace or quote.
-    #[error("extra characters after list element")]
     ExtraCharacters,
 }
 
@@ -106,14 +107,18 @@ impl ListFault {
     }
 }
 
+impl Display for ListFault {
+    fn fmt<W: Write>(&self, formatter: &mut Formatter<W>) -> fmt::Result {
+        formatter.write_str(self.text())
+    }
+}
+
 /// Why a text was not made.
 #[derive(Clone, Copy, Debug, PartialEq, Eq, Drop, Error)]
 pub enum TextFault {
     /// The value would pass 65,536 bytes (4).
-    #[error("limit reached: value")]
     TooLong,
     /// Memory was refused.
-    #[error("out of memory")]
     NoMemory,
 }
 
@@ -140,6 +145,16 @@ impl TextFault {
     }
 }
 
+impl Display for TextFault {
+    fn fmt<W: Write>(&self, formatter: &mut Formatter<W>) -> fmt::Result {
+        let told = match self {
+            TextFault::NoMemory => NO_MEMORY,
+            _ => self.text(),
+        };
+        formatter.write_str(told)
+    }
+}
+
 impl From<AllocError> for TextFault {
     ghost from_gives = { λ _ e. e ≡ text_fault.NoMemory };
 
@@ -160,10 +175,8 @@ impl<T: Drop> From<AllocFailed<T>> for TextFault {
 #[derive(Clone, Copy, Debug, PartialEq, Eq, Drop, Error)]
 pub enum SplitFault {
     /// The text is no list (3).
-    #[error("{0}")]
     BadList(ListFault),
     /// Memory was refused.
-    #[error("out of memory")]
     NoMemory,
 }
 
@@ -189,6 +202,16 @@ impl SplitFault {
     }
 }
 
+impl Display for SplitFault {
+    fn fmt<W: Write>(&self, formatter: &mut Formatter<W>) -> fmt::Result {
+        let told = match self {
+            SplitFault::NoMemory => NO_MEMORY,
+            _ => self.text(),
+        };
+        formatter.write_str(told)
+    }
+}
+
 impl From<AllocError> for SplitFault {
     ghost from_gives = { λ _ e. e ≡ split_fault.NoMemory };
 
@@ -201,13 +224,10 @@ impl From<AllocError> for SplitFault {
 #[derive(Clone, Copy, Debug, PartialEq, Eq, Drop, Error)]
 pub enum EditFault {
     /// The value would pass 65,536 bytes (4).
-    #[error("limit reached: value")]
     TooLong,
     /// It is no list (3).
-    #[error("{0}")]
     BadList(ListFault),
     /// Memory was refused.
-    #[error("out of memory")]
     NoMemory,
 }
 
@@ -236,6 +256,16 @@ impl EditFault {
     }
 }
 
+impl Display for EditFault {
+    fn fmt<W: Write>(&self, formatter: &mut Formatter<W>) -> fmt::Result {
+        let told = match self {
+            EditFault::NoMemory => NO_MEMORY,
+            _ => self.text(),
+        };
+        formatter.write_str(told)
+    }
+}
+
 impl From<AllocError> for EditFault {
     ghost from_gives = { λ _ e. e ≡ edit_fault.NoMemory };
 
@@ -248,28 +278,20 @@ impl From<AllocError> for EditFault {
 #[derive(Clone, Copy, Debug, PartialEq, Eq, Drop, Error)]
 pub enum ParseFault {
     /// More than 65,536 bytes, bytes that are not UTF-8, or brackets and indices more than 200 deep (4).
-    #[error("limit reached: value")]
     TooLong,
     /// A word in braces never ends, or a variable's name in braces (5).
-    #[error("missing close-brace")]
     MissingBrace,
     /// A bracketed script never ends (6).
-    #[error("missing close-bracket")]
     MissingBracket,
     /// A word in quotes never ends (7).
-    #[error("missing quote")]
     MissingQuote,
     /// Something follows the brace that ends a word (8).
-    #[error("extra characters after close-brace")]
     ExtraAfterBrace,
     /// Something follows the quote that ends a word (9).
-    #[error("extra characters after close-quote")]
     ExtraAfterQuote,
     /// The index of an element never ends (10).
-    #[error("missing parenthesis")]
     MissingParen,
     /// Memory was refused.
-    #[error("out of memory")]
     NoMemory,
 }
 
@@ -316,6 +338,16 @@ impl ParseFault {
     }
 }
 
+impl Display for ParseFault {
+    fn fmt<W: Write>(&self, formatter: &mut Formatter<W>) -> fmt::Result {
+        let told = match self {
+            ParseFault::NoMemory => NO_MEMORY,
+            _ => self.text(),
+        };
+        formatter.write_str(told)
+    }
+}
+
 impl From<AllocError> for ParseFault {
     ghost from_gives = { λ _ e. e ≡ parse_fault.NoMemory };
 
@@ -336,16 +368,12 @@ impl<T: Drop> From<AllocFailed<T>> for ParseFault {
 #[derive(Clone, Copy, Debug, PartialEq, Eq, Drop, Error)]
 pub enum ReadFault {
     /// There is no such variable (15).
-    #[error("no such variable")]
     NoVariable,
     /// The array has no such element (16).
-    #[error("no such element in array")]
     NoElement,
     /// An array is read without an index (17).
-    #[error("variable is array")]
     IsArray,
     /// An element is meant of what is no array (18).
-    #[error("variable isn't array")]
     NotArray,
 }
 
@@ -379,6 +407,12 @@ impl ReadFault {
         ensures { IfOk result (λ text. text ≡ message (texts.read_text name.now self.now)) }
     {
         cannot(alloc, "read", name, self.reason())
+    }
+}
+
+impl Display for ReadFault {
+    fn fmt<W: Write>(&self, formatter: &mut Formatter<W>) -> fmt::Result {
+        formatter.write_str(self.reason())
     }
 }
 

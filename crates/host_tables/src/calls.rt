@@ -47,6 +47,13 @@ fn turns_told(alloc: Global, turns: &[Turn]) -> Result<String> {
     Ok(told)
 }
 
+fn budget_of(total: &str, refill: &str) -> Result<Budget> {
+    Ok(Budget {
+        total: number(total)?,
+        refill: number(refill)?,
+    })
+}
+
 fn app(alloc: Global, host: &mut Host<Service>, words: &str) -> Result<String>
     ensures { host.new.held.phase ≡ host.old.held.phase }
 {
@@ -54,18 +61,18 @@ fn app(alloc: Global, host: &mut Host<Service>, words: &str) -> Result<String>
     let [name, x, y, width, height, total, refill, script @ ..] = parts.as_slice() else {
         bail!("an application that lacks a word");
     };
-    let budget = Budget {
-        total: number(total)?,
-        refill: number(refill)?,
-    };
-    let rect = rect_of(x, y, width, height)?;
-    let name = Text::new(alloc, name)?;
+    let (rect, budget) = (rect_of(x, y, width, height)?, budget_of(total, refill)?);
     let script = Text::new(alloc, script.join(alloc, " ")?.as_str())?;
-    told(
-        alloc,
-        host.add_app(name, rect, script, budget, Aliases::new(alloc))
-            .map(|_slot| ()),
-    )
+    match host.add_app(
+        Text::new(alloc, name)?,
+        rect,
+        script,
+        budget,
+        Aliases::new(alloc),
+    ) {
+        Ok(_slot) => Ok(String::new(alloc)),
+        Err(fault) => fault_told(alloc, fault),
+    }
 }
 
 /// A call that may come before `start`.
@@ -76,6 +83,14 @@ fn early(alloc: Global, host: &mut Host<Service>, call: &str) -> Result<String> 
         ("turns", "") => turns_told(alloc, host.turns()),
         _ => bail!("no such call"),
     }
+}
+
+fn line(alloc: Global, host: &mut Host<Service>, moment: &str, words: &str) -> Result<String>
+    requires { host.old.held.phase ≢ Adding }
+    ensures { OnOk result (host.new.held.phase ≢ Adding) }
+{
+    let line = line_of(words_of(alloc, words, ' ')?.as_slice())?;
+    told(alloc, host.line(number(moment)?, line))
 }
 
 /// A call of a host that was started.
@@ -90,11 +105,7 @@ fn late(alloc: Global, host: &mut Host<Service>, call: &str) -> Result<String>
         ("end", moment) => told(alloc, host.end(number(moment)?)),
         ("line", words) => {
             let (moment, words) = first_word(words);
-            let words = words_of(alloc, words, ' ')?;
-            told(
-                alloc,
-                host.line(number(moment)?, line_of(words.as_slice())?),
-            )
+            line(alloc, host, moment, words)
         }
         ("section", slot) => section(alloc, host, slot),
         ("turns", "") => turns_told(alloc, host.turns()),

@@ -127,24 +127,28 @@ impl Streams {
         Ok(told)
     }
 
+    /// What a question about the text is answered, by its words.
+    fn asked(&self, alloc: Global, words: &[&str]) -> Result<String> {
+        match words {
+            ["read", piece, calls] => self.read(alloc, number(piece)?, number(calls)?),
+            ["endless", piece] => endless(alloc, number(piece)?),
+            ["write", writer @ ..] => self.write(alloc, sink_of(alloc, writer)?),
+            ["play", writer @ ..] => self.play(alloc, sink_of(alloc, writer)?),
+            ["run", piece, calls, writer @ ..] => {
+                let (piece, calls) = (number(piece)?, number(calls)?);
+                self.run(alloc, piece, calls, sink_of(alloc, writer)?)
+            }
+            ["outcome", outcome @ ..] => outcome_told(alloc, outcome_of(outcome)?),
+            _ => bail!("no such question"),
+        }
+    }
+
     /// What a question is answered.
     pub fn answer(&mut self, alloc: Global, question: &str) -> Result<String> {
         if let Some(text) = question.strip_prefix("text ") {
             self.text = String::from_str(alloc, text)?;
             return result_of(alloc, "");
         }
-        let words = words_of(alloc, question, ' ')?;
-        match words.as_slice() {
-            ["read", piece, calls] => self.read(alloc, number(piece)?, number(calls)?),
-            ["endless", piece] => endless(alloc, number(piece)?),
-            ["write", writer @ ..] => self.write(alloc, sink_of(alloc, writer)?),
-            ["play", writer @ ..] => self.play(alloc, sink_of(alloc, writer)?),
-            ["run", piece, calls, writer @ ..] => {
-                let sink = sink_of(alloc, writer)?;
-                self.run(alloc, number(piece)?, number(calls)?, sink)
-            }
-            ["outcome", outcome @ ..] => outcome_told(alloc, outcome_of(outcome)?),
-            _ => bail!("no such question"),
-        }
+        self.asked(alloc, words_of(alloc, question, ' ')?.as_slice())
     }
 }

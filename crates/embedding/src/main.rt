@@ -25,7 +25,10 @@ const BUDGET: Budget = Budget {
 fn main(rt: HostRuntime) -> Result<()> {
     let alloc = rt.alloc();
     let mut host: Host<Service> = Host::new(alloc, 64)?;
-    for (name, rect, script) in [("runaway", LEFT, "while 1 {}"), ("gauge", RIGHT, "after 5 {puts ready}")] {
+    for (name, rect, script) in [
+        ("runaway", LEFT, "while 1 {}"),
+        ("gauge", RIGHT, "after 5 {puts ready}"),
+    ] {
         let (name, script) = (Text::new(alloc, name)?, Text::new(alloc, script)?);
         host.add_app(name, rect, script, BUDGET, Aliases::new(alloc))?;
     }

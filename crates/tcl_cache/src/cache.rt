@@ -13,7 +13,6 @@ use tcl_words::{ParseFault, Script, parse};
 
 /// Scripts that were read, kept by their texts: those that were asked for last, and at most so many.
 pub struct ScriptCache {
-    alloc: Global,
     scripts: LruCache<String, Script>,
 }
 
@@ -38,10 +37,8 @@ impl ScriptCache {
         let Some(room) = NonZeroUsize::new(capacity) else {
             unreachable!();
         };
-        Ok(ScriptCache {
-            alloc,
-            scripts: LruCache::new(alloc, room)?,
-        })
+        let scripts = LruCache::new(alloc, room)?;
+        Ok(ScriptCache { scripts })
     }
 
     /// Whether the script of a text is kept. It takes no memory.
@@ -80,7 +77,7 @@ impl ScriptCache {
             self.raise(characters);
             return Ok(script);
         }
-        let script = parse(self.alloc, characters.as_bytes())?;
+        let script = parse(*self.scripts.allocator(), characters.as_bytes())?;
         self.keep(characters, &script)?;
         Ok(script)
     }
@@ -116,7 +113,7 @@ impl ScriptCache {
         ensures ok { OnOk result (self.new ≡ put_first text.now self.old) }
         ensures err { OnErr result (self.new ≡ self.old) }
     {
-        let key = String::from_str(self.alloc, text)?;
+        let key = String::from_str(*self.scripts.allocator(), text)?;
         let script = script.copy()?;
         self.scripts.put(key, script)?;
         Ok(())
@@ -126,9 +123,6 @@ impl ScriptCache {
 /// By hand: a proof sees one call where it is dropped, and not its parts.
 impl Drop for ScriptCache {
     fn drop(self) {
-        let ScriptCache {
-            alloc: _,
-            scripts: _,
-        } = self;
+        let ScriptCache { scripts: _ } = self;
     }
 }

@@ -4,7 +4,7 @@ use Rattle.tcl_text.specs.Answers.{Answer, Gives}
 use Rattle.tcl_text.specs.declared.commands.answers.Refusal.{Refusal}
 use Rattle.tcl_text.specs.declared.commands.answers.Refusal.TheVariants.{Error, NoMemory}
 use Rattle.tcl_vars.specs.Store.{Store, with_variable}
-use Rattle.tcl_vars.specs.declared.fault.SetFault.{SetFault}
+use Rattle.tcl_text.specs.declared.fault.SetFault.{SetFault}
 use Rattle.tcl_commands.specs.Done.{Done, keeps, Does}
 use Rattle.tcl_commands.specs.Texts.{cannot_set}
 use Rattle.tcl_commands.specs.Values.{value_set, changed_to}

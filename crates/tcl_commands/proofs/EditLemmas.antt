@@ -4,9 +4,9 @@ use Rattle.std.specs.List.{concat}
 use Rattle.tcl_text.specs.Answers.{Answer, answers, limit_text, items_in, items_or_error, ◌>>=◌}
 use Rattle.tcl_text.specs.Edit.{edited, within_limit, with_more, written_anew}
 use Rattle.tcl_text.specs.Readings.{list_of, list_form}
-use Rattle.tcl_text.specs.declared.splitting.ListFault.{ListFault}
+use Rattle.tcl_text.specs.declared.fault.ListFault.{ListFault}
 use Rattle.tcl_text.specs.declared.edit.Edit.TheVariants.{Characters, Items}
-use Rattle.tcl_text.specs.declared.edit.EditFault.TheVariants as edits
+use Rattle.tcl_text.specs.declared.fault.EditFault.TheVariants as edits
 use Rattle.tcl_vars.specs.Store.{Store, variable_in}
 use Rattle.tcl_commands.specs.Edits.{edit_told, edit_answer}
 use Rattle.tcl_commands.specs.Values.{value_or, changed, changed_to, lengthened, with_items}

@@ -1,4 +1,4 @@
--- What the steps of the commands of array(n) say.
+-- Steps. What the steps of the commands of array(n) say.
 use Rattle.std.specs.Prelude.{ℕ, if◌then◌else◌, List, [], ◌∷◌}
 use Rattle.tcl_commands.specs.Arrays.{is_wanted}
 

@@ -1,21 +1,20 @@
--- The commands of array(n): from the words after the sub-command. What is no array counts as an empty one, but for `array set`.
-use Rattle.std.specs.Prelude.{ℕ, true, Bool, nat_le, if◌then◌else◌, List, [], ◌∷◌, ◌++◌, length, map, filter, is_some, unwrap_or, Option, Some, None, Result, Ok, Err, codes}
+-- Meaning. The commands of array(n): from the words after the sub-command. What is no array counts as an empty one, but for `array set`.
+use Rattle.std.specs.Prelude.{ℕ, true, Bool, nat_le, if◌then◌else◌, List, [], ◌∷◌, length, map, filter, is_some, unwrap_or, Option, Some, None, Result, Ok, Err, codes}
 use Rattle.std.specs.Fmt.{decimal}
 use Rattle.std.specs.Str.{bytes_eq, chars}
 use Rattle.tcl_text.specs.Answers.{Answer, answers, limit_text, bad_option, wrong_args, items_in, truth}
 use Rattle.tcl_text.specs.Glob.{glob_matches}
 use Rattle.tcl_text.specs.Readings.{list_form}
 use Rattle.tcl_vars.specs.Table.{Table}
+use Rattle.tcl_vars.specs.Texts.{element_name}
 use Rattle.tcl_vars.specs.Store.{Store, elements_in, pairs_of, is_element_in, with_array, with_element, without_element}
-use Rattle.tcl_vars.specs.declared.fault.SetFault.{SetFault}
-use Rattle.tcl_vars.specs.declared.fault.SetFault.TheVariants.{NotArray}
+use Rattle.tcl_text.specs.declared.fault.SetFault.{SetFault}
+use Rattle.tcl_text.specs.declared.fault.SetFault.TheVariants.{NotArray}
 use Rattle.tcl_commands.specs.declared.arrays.ArrayCommand.{ArrayCommand}
 use Rattle.tcl_commands.specs.declared.arrays.ArrayCommand.TheVariants as command
-use Rattle.tcl_commands.specs.declared.usages.Usage.TheVariants as usage
 use Rattle.tcl_commands.specs.Done.{Done, keeps, one_done, each_done, pairs}
 use Rattle.tcl_commands.specs.Texts.{cannot_set, missing_value}
 use Rattle.tcl_commands.specs.Unset.{unset_told, unset_step}
-use Rattle.tcl_commands.specs.Usages.{usage_text}
 use Rattle.tcl_text.specs.Limits.{most_bytes}
 
 -- the elements of what a name means
@@ -34,12 +33,12 @@ elements_wanted (Some pattern) elements = filter (λ e. is_wanted pattern e.0) e
 -- array exists name
 abbrev pub array_exists : ℕ → List (List ℕ) → Store → Answer
 array_exists level (name ∷ []) store = truth (is_some (elements_in store level name))
-array_exists level _ store = wrong_args (usage_text usage.ArrayExists)
+array_exists level _ store = wrong_args (codes "array exists name")
 
 -- array size name
 abbrev pub array_size : ℕ → List (List ℕ) → Store → Answer
 array_size level (name ∷ []) store = answers (decimal (length (elements_named level name store)))
-array_size level _ store = wrong_args (usage_text usage.ArraySize)
+array_size level _ store = wrong_args (codes "array size name")
 
 -- array names name ?pattern?
 abbrev pub names_wanted : Option (List ℕ) → ℕ → List ℕ → Store → Answer
@@ -48,7 +47,7 @@ names_wanted pattern level name store = answers (list_form (map (λ e. e.0) (ele
 abbrev pub array_names : ℕ → List (List ℕ) → Store → Answer
 array_names level (name ∷ []) store = names_wanted None level name store
 array_names level (name ∷ pattern ∷ []) store = names_wanted (Some pattern) level name store
-array_names level _ store = wrong_args (usage_text usage.ArrayNames)
+array_names level _ store = wrong_args (codes "array names name ?pattern?")
 
 -- array get name ?pattern?
 abbrev pub pairs_wanted : Option (List ℕ) → ℕ → List ℕ → Store → Answer
@@ -57,7 +56,7 @@ pairs_wanted pattern level name store = answers (list_form (pairs_of (elements_w
 abbrev pub array_get : ℕ → List (List ℕ) → Store → Answer
 array_get level (name ∷ []) store = pairs_wanted None level name store
 array_get level (name ∷ pattern ∷ []) store = pairs_wanted (Some pattern) level name store
-array_get level _ store = wrong_args (usage_text usage.ArrayGet)
+array_get level _ store = wrong_args (codes "array get name ?pattern?")
 
 -- array unset name ?pattern?: without a pattern the array goes, else the elements that match
 abbrev pub unset_array : ℕ → List ℕ → Store → Option (Table (List ℕ)) → Done
@@ -71,17 +70,13 @@ abbrev pub array_unset : ℕ → List (List ℕ) → Store → Done
 array_unset level (name ∷ []) store = unset_array level name store (elements_in store level name)
 array_unset level (name ∷ pattern ∷ []) store =
     each_done (unset_element level name) (map (λ e. e.0) (elements_wanted (Some pattern) (elements_named level name store))) store
-array_unset level _ store = keeps store (wrong_args (usage_text usage.ArrayUnset))
+array_unset level _ store = keeps store (wrong_args (codes "array unset name ?pattern?"))
 
 -- the key that has no value behind it, if the items are odd
 abbrev pub odd_key : List (List ℕ) → Option (List ℕ)
 odd_key [] = None
 odd_key (key ∷ []) = Some key
 odd_key (key ∷ value ∷ items) = odd_key items
-
--- an element as it is named
-abbrev pub element_name : List ℕ → List ℕ → List ℕ
-element_name name index = name ++ codes "(" ++ index ++ codes ")"
 
 -- a variable of this name is set, or why it can't be
 abbrev pub set_told : List ℕ → Result Store SetFault → Result Store (List ℕ)
@@ -117,7 +112,7 @@ set_list level name store (Err text) = keeps store (Err text)
 -- array set name list
 abbrev pub array_set : ℕ → List (List ℕ) → Store → Done
 array_set level (name ∷ list ∷ []) store = set_list level name store (items_in list)
-array_set level _ store = keeps store (wrong_args (usage_text usage.ArraySet))
+array_set level _ store = keeps store (wrong_args (codes "array set name list"))
 
 -- the sub-command of this name
 unfoldable pub array_command_named : List ℕ → Option ArrayCommand
@@ -144,5 +139,5 @@ array_by name (Some sub) level words store = array_done sub level words store
 
 -- array option ?arg ..?
 abbrev pub array_words : ℕ → List (List ℕ) → Store → Done
-array_words level [] store = keeps store (wrong_args (usage_text usage.Array))
+array_words level [] store = keeps store (wrong_args (codes "array option ?arg ..?"))
 array_words level (name ∷ words) store = array_by name (array_command_named name) level words store

@@ -1,4 +1,4 @@
--- The commands on variables: from a command's words and the variables to what it leaves and answers.
+-- Meaning. The commands on variables: from a command's words and the variables to what it leaves and answers.
 use Rattle.std.specs.Prelude.{ℕ, if◌then◌else◌, List, [], ◌∷◌, Option, Some, None, codes}
 use Rattle.std.specs.Str.{bytes_eq}
 use Rattle.tcl_text.specs.Answers.{Answer}

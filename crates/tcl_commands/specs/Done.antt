@@ -1,4 +1,4 @@
--- What a command leaves of the variables, and what it answers.
+-- Meaning. What a command leaves of the variables, and what it answers.
 use Rattle.std.specs.Prelude.{◌≡◌, ℕ, List, [], ◌∷◌, Result, Ok, Err, ⊤}
 use Rattle.tcl_text.specs.Answers.{Answer}
 use Rattle.tcl_text.specs.declared.commands.answers.Refusal.{Refusal}

@@ -1,11 +1,11 @@
--- What commands answer that change a text in place.
+-- Steps. What commands answer that change a text in place.
 use Rattle.std.specs.Prelude.{ℕ, List, Result, Ok, Err}
 use Rattle.tcl_text.specs.Answers.{Answer, limit_text, fails}
 use Rattle.tcl_text.specs.Splitting.{fault_text}
 use Rattle.tcl_text.specs.Edit.{edited}
 use Rattle.tcl_text.specs.declared.edit.Edit.{Edit}
-use Rattle.tcl_text.specs.declared.edit.EditFault.{EditFault}
-use Rattle.tcl_text.specs.declared.edit.EditFault.TheVariants as edits
+use Rattle.tcl_text.specs.declared.fault.EditFault.{EditFault}
+use Rattle.tcl_text.specs.declared.fault.EditFault.TheVariants as edits
 use Rattle.tcl_commands.specs.Texts.{no_memory}
 
 -- a text as it is changed, or why it isn't

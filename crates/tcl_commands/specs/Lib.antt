@@ -7,5 +7,4 @@ pub mod Edits
 pub mod Links
 pub mod Texts
 pub mod Unset
-pub mod Usages
 pub mod Values

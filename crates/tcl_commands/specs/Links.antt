@@ -1,15 +1,13 @@
--- The commands of global(n) and upvar(n), with the frame that is linked to given by its level.
+-- Meaning. The commands of global(n) and upvar(n), with the frame that is linked to given by its level.
 use Rattle.std.specs.Prelude.{ℕ, ◌==◌, nat_eq, if◌then◌else◌, List, [], ◌∷◌, length, drop, is_none, Result, Ok, Err, codes, ◌%◌}
 use Rattle.std.specs.List.{starts_with}
 use Rattle.tcl_text.specs.Answers.{wrong_args}
 use Rattle.tcl_vars.specs.Name.{element_of}
 use Rattle.tcl_vars.specs.Store.{Store, with_link}
-use Rattle.tcl_vars.specs.declared.fault.LinkFault.{LinkFault}
-use Rattle.tcl_vars.specs.declared.fault.LinkFault.TheVariants.{BadName, Exists, Full, NoMemory}
+use Rattle.tcl_text.specs.declared.fault.LinkFault.{LinkFault}
+use Rattle.tcl_text.specs.declared.fault.LinkFault.TheVariants.{BadName, Exists, Full, NoMemory}
 use Rattle.tcl_commands.specs.Done.{Done, keeps, each_done, pairs}
 use Rattle.tcl_commands.specs.Texts.{cannot_link}
-use Rattle.tcl_commands.specs.Usages.{usage_text}
-use Rattle.tcl_commands.specs.declared.usages.Usage.TheVariants as usage
 
 -- a leading :: is dropped from a global variable's name
 abbrev pub global_name : List ℕ → List ℕ
@@ -35,7 +33,7 @@ link_globals level names store = each_done (global_step level) names store
 
 -- global name ?name ..?: in the global frame nothing is linked
 abbrev pub global_words : ℕ → List (List ℕ) → Store → Done
-global_words level [] store = keeps store (wrong_args (usage_text usage.Global))
+global_words level [] store = keeps store (wrong_args (codes "global name ?name ..?"))
 global_words level (name ∷ names) store = if level == 0 then keeps store (Ok []) else link_globals level (name ∷ names) store
 
 abbrev pub link_told : List ℕ → Result Store LinkFault → Result Store (List ℕ)
@@ -49,9 +47,12 @@ upvar_step level to_level pair store = link_told pair.1 (with_link store level p
 abbrev pub link_pairs : ℕ → ℕ → List (List ℕ) → Store → Done
 link_pairs level to_level names store = each_done (upvar_step level to_level) (pairs names) store
 
--- upvar ?level? other mine ?other mine ..?
+-- how `upvar` is used
+abbrev pub upvar_usage : List ℕ
+upvar_usage = codes "upvar ?level? other mine ?other mine ..?"
+
 abbrev pub upvar_words : ℕ → ℕ → List (List ℕ) → Store → Done
-upvar_words level to_level [] store = keeps store (wrong_args (usage_text usage.Upvar))
+upvar_words level to_level [] store = keeps store (wrong_args upvar_usage)
 upvar_words level to_level (other ∷ names) store =
     if length (other ∷ names) % 2 == 0 then link_pairs level to_level (other ∷ names) store
-    else keeps store (wrong_args (usage_text usage.Upvar))
+    else keeps store (wrong_args upvar_usage)

@@ -1,8 +1,8 @@
--- The command of unset(n).
+-- Meaning. The command of unset(n).
 use Rattle.std.specs.Prelude.{ℕ, Bool, true, false, if◌then◌else◌, List, [], ◌∷◌, Result, Ok, Err, codes}
 use Rattle.std.specs.Str.{bytes_eq}
 use Rattle.tcl_vars.specs.Store.{Store, without_variable}
-use Rattle.tcl_vars.specs.declared.fault.UnsetFault.{UnsetFault}
+use Rattle.tcl_text.specs.declared.fault.UnsetFault.{UnsetFault}
 use Rattle.tcl_commands.specs.Done.{Done, each_done}
 use Rattle.tcl_commands.specs.Texts.{cannot_unset}
 
@@ -19,7 +19,7 @@ abbrev pub unset_each : Bool → ℕ → List (List ℕ) → Store → Done
 unset_each quiet level names store = each_done (unset_step quiet level) names store
 
 -- unset ?-nocomplain? ?name ..?
-unfoldable pub unset_words : ℕ → List (List ℕ) → Store → Done
+abbrev pub unset_words : ℕ → List (List ℕ) → Store → Done
 unset_words level [] store = unset_each false level [] store
 unset_words level (first ∷ others) store =
     if bytes_eq first (codes "-nocomplain") then unset_each true level others store

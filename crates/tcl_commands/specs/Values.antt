@@ -1,17 +1,15 @@
--- The commands of set(n), incr(n), append(n) and lappend(n), and `info exists` of info(n): from the words after the name.
+-- Meaning. The commands of set(n), incr(n), append(n) and lappend(n), and `info exists` of info(n): from the words after the name.
 use Rattle.std.specs.Prelude.{ℕ, ◌^◌, nat_lt, ℤ, pos, negsuc, ◌+ℤ◌, Bool, if◌then◌else◌, List, [], ◌∷◌, ◌++◌, Option, None, Some, Result, Ok, Err, codes}
 use Rattle.std.specs.Fmt.{signed_decimal}
 use Rattle.std.specs.List.{concat}
 use Rattle.tcl_text.specs.Answers.{Answer, ◌>>=◌, answers, wrong_args, integer_in, items_in, truth}
 use Rattle.tcl_text.specs.Readings.{list_form}
 use Rattle.tcl_vars.specs.Store.{Store, variable_in, with_variable, has_variable}
-use Rattle.tcl_vars.specs.declared.fault.ReadFault.{ReadFault}
-use Rattle.tcl_vars.specs.declared.fault.ReadFault.TheVariants.{NoVariable, NoElement, IsArray, NotArray}
-use Rattle.tcl_vars.specs.declared.fault.SetFault.{SetFault}
+use Rattle.tcl_text.specs.declared.fault.ReadFault.{ReadFault}
+use Rattle.tcl_text.specs.declared.fault.ReadFault.TheVariants.{NoVariable, NoElement, IsArray, NotArray}
+use Rattle.tcl_text.specs.declared.fault.SetFault.{SetFault}
 use Rattle.tcl_commands.specs.Done.{Done, keeps}
 use Rattle.tcl_commands.specs.Texts.{cannot_read, cannot_set, too_large}
-use Rattle.tcl_commands.specs.Usages.{usage_text}
-use Rattle.tcl_commands.specs.declared.usages.Usage.TheVariants as usage
 
 -- a variable's value, or why it can't be read
 abbrev pub value_read : List ℕ → Result (List ℕ) ReadFault → Answer
@@ -27,7 +25,7 @@ value_set name value store (Err fault) = keeps store (cannot_set name fault)
 abbrev pub set_words : ℕ → List (List ℕ) → Store → Done
 set_words level (name ∷ []) store = keeps store (value_read name (variable_in store level name))
 set_words level (name ∷ value ∷ []) store = value_set name value store (with_variable store level name value)
-set_words level _ store = keeps store (wrong_args (usage_text usage.Set))
+set_words level _ store = keeps store (wrong_args (codes "set name ?value?"))
 
 -- a variable's value, where one that isn't there counts as this text
 abbrev pub value_or : List ℕ → List ℕ → Result (List ℕ) ReadFault → Answer
@@ -74,12 +72,12 @@ amount_in (Some word) = integer_in word
 abbrev pub incr_words : ℕ → List (List ℕ) → Store → Done
 incr_words level (name ∷ []) store = changed level name (codes "0") (increased (amount_in None)) store
 incr_words level (name ∷ n ∷ []) store = changed level name (codes "0") (increased (amount_in (Some n))) store
-incr_words level _ store = keeps store (wrong_args (usage_text usage.Incr))
+incr_words level _ store = keeps store (wrong_args (codes "incr name ?n?"))
 
 -- append name ?value ..?
 abbrev pub append_words : ℕ → List (List ℕ) → Store → Done
 append_words level (name ∷ values) store = changed level name [] (λ value. answers (value ++ concat values)) store
-append_words level [] store = keeps store (wrong_args (usage_text usage.Append))
+append_words level [] store = keeps store (wrong_args (codes "append name ?value ..?"))
 
 -- a list written anew with more items; without any it stays as it is written
 abbrev pub lengthened : List ℕ → List (List ℕ) → List (List ℕ) → Answer
@@ -94,9 +92,9 @@ with_items values value = do
 -- lappend name ?value ..?
 abbrev pub lappend_words : ℕ → List (List ℕ) → Store → Done
 lappend_words level (name ∷ values) store = changed level name [] (with_items values) store
-lappend_words level [] store = keeps store (wrong_args (usage_text usage.Lappend))
+lappend_words level [] store = keeps store (wrong_args (codes "lappend name ?value ..?"))
 
 -- info exists name
 abbrev pub exists_words : ℕ → List (List ℕ) → Store → Answer
 exists_words level (name ∷ []) store = truth (has_variable store level name)
-exists_words level _ store = wrong_args (usage_text usage.InfoExists)
+exists_words level _ store = wrong_args (codes "info exists name")

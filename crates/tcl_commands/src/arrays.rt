@@ -1,24 +1,26 @@
 //! The commands of array(n).
-ghost use Rattle.std.specs.Prelude.{◌≡◌, ◌<◌, length, map, filter, IfOk, string_bytes};
+ghost use Rattle.std.specs.Prelude.{◌≡◌, ◌<◌, length, map, filter, IfOk};
 ghost use Rattle.std.specs.Option.{option_copied};
 ghost use Rattle.tcl_text.specs.Answers.{Gives, items_in as items_of};
 ghost use Rattle.tcl_vars.specs.Store.{elements_in, pairs_of};
+ghost use Rattle.tcl_vars.specs.Texts.{element_name as named};
 ghost use Rattle.tcl_commands.specs.Done.{Does, Steps, each_done, pairs};
 ghost use Rattle.tcl_commands.specs.Texts.{cannot_set};
 ghost use Rattle.tcl_commands.specs.Arrays as spec;
 ghost use Rattle.tcl_commands.specs.ArraySteps.{pairs_matching};
 
-use crate::texts::{cannot_set, empty_answer, missing_value};
+use crate::texts::{Reply, cannot_set, empty_answer, missing_value};
 use crate::unset::unset_one;
-use crate::usages::{Usage, wrong_words};
 use std::alloc::{AllocError, Global};
-use tcl_text::answers::{Refusal, bad_option, decimal_answer, limit_reached, truth_answer};
+use tcl_text::answers::{
+    Refusal, bad_option, decimal_answer, limit_reached, truth_answer, wrong_args,
+};
 use tcl_text::items::{items_in, list_answer};
 use tcl_text::{Text, TextList};
-use tcl_vars::{Scopes, SetFault, UnsetFault};
+use tcl_vars::{Scopes, SetFault, UnsetFault, element_name};
 
 /// A command of `array`.
-#[derive(Clone, Copy, Debug, PartialEq, Eq)]
+#[derive(Clone, Copy)]
 pub enum ArrayCommand {
     Exists,
     Names,
@@ -30,95 +32,76 @@ pub enum ArrayCommand {
 
 /// `array option ?arg ..?`.
 #[tactic(auto, using(crate::proofs::DoneLemmas::kept))]
-pub fn array_words(
-    alloc: Global,
-    scopes: &mut Scopes,
-    level: usize,
-    words: &[Text],
-) -> Result<Text, Refusal>
+pub fn array_words(alloc: Global, scopes: &mut Scopes, level: usize, words: &[Text]) -> Reply
     requires { level < length scopes.old }
     ensures does { Does result scopes.new (spec.array_words level words.now scopes.old) }
     ensures levels { length scopes.new ≡ length scopes.old }
 {
     let Some((name, words)) = words.split_first() else {
-        return wrong_words(alloc, Usage::Array);
+        return wrong_args(alloc, "array option ?arg ..?");
     };
-    match array_command_named(name.as_str()) {
-        Some(command) => array_done(alloc, scopes, level, command, words),
+    match ArrayCommand::named(name.as_str()) {
+        Some(command) => command.done(alloc, scopes, level, words),
         None => bad_option(alloc, name),
     }
 }
 
-/// The sub-command of this name.
-#[tactic(auto, unfolding(crate::specs::Arrays::array_command_named))]
-fn array_command_named(name: &str) -> Option<ArrayCommand>
-    ensures { result ≡ spec.array_command_named name.now }
-{
-    match name {
-        "exists" => Some(ArrayCommand::Exists),
-        "names" => Some(ArrayCommand::Names),
-        "get" => Some(ArrayCommand::Get),
-        "set" => Some(ArrayCommand::Set),
-        "unset" => Some(ArrayCommand::Unset),
-        "size" => Some(ArrayCommand::Size),
-        _ => None,
+impl ArrayCommand {
+    /// The sub-command of this name.
+    #[tactic(auto, unfolding(crate::specs::Arrays::array_command_named))]
+    fn named(name: &str) -> Option<ArrayCommand>
+        ensures { result ≡ spec.array_command_named name.now }
+    {
+        match name {
+            "exists" => Some(ArrayCommand::Exists),
+            "names" => Some(ArrayCommand::Names),
+            "get" => Some(ArrayCommand::Get),
+            "set" => Some(ArrayCommand::Set),
+            "unset" => Some(ArrayCommand::Unset),
+            "size" => Some(ArrayCommand::Size),
+            _ => None,
+        }
+    }
+
+    /// What a sub-command does, called with the words after its name.
+    #[tactic(auto, using(crate::proofs::DoneLemmas::kept))]
+    fn done(self, alloc: Global, scopes: &mut Scopes, level: usize, words: &[Text]) -> Reply
+        requires { level < length scopes.old }
+        ensures does { Does result scopes.new (spec.array_done self level words.now scopes.old) }
+        ensures levels { length scopes.new ≡ length scopes.old }
+    {
+        match self {
+            ArrayCommand::Exists => array_exists(alloc, scopes, level, words),
+            ArrayCommand::Names => array_names(alloc, scopes, level, words),
+            ArrayCommand::Get => array_get(alloc, scopes, level, words),
+            ArrayCommand::Set => array_set(alloc, scopes, level, words),
+            ArrayCommand::Unset => array_unset(alloc, scopes, level, words),
+            ArrayCommand::Size => array_size(alloc, scopes, level, words),
+        }
     }
 }
 
-/// What a sub-command does, called with the words after its name.
-#[tactic(auto, using(crate::proofs::DoneLemmas::kept))]
-fn array_done(
-    alloc: Global,
-    scopes: &mut Scopes,
-    level: usize,
-    command: ArrayCommand,
-    words: &[Text],
-) -> Result<Text, Refusal>
-    requires { level < length scopes.old }
-    ensures does { Does result scopes.new (spec.array_done command level words.now scopes.old) }
-    ensures levels { length scopes.new ≡ length scopes.old }
-{
-    match command {
-        ArrayCommand::Exists => array_exists(alloc, scopes, level, words),
-        ArrayCommand::Names => array_names(alloc, scopes, level, words),
-        ArrayCommand::Get => array_get(alloc, scopes, level, words),
-        ArrayCommand::Set => array_set(alloc, scopes, level, words),
-        ArrayCommand::Unset => array_unset(alloc, scopes, level, words),
-        ArrayCommand::Size => array_size(alloc, scopes, level, words),
-    }
-}
-
-fn array_exists(
-    alloc: Global,
-    scopes: &Scopes,
-    level: usize,
-    words: &[Text],
-) -> Result<Text, Refusal>
+fn array_exists(alloc: Global, scopes: &Scopes, level: usize, words: &[Text]) -> Reply
     requires { level < length scopes.now }
     ensures { Gives result (spec.array_exists level words.now scopes.now) }
 {
     match words {
         [name] => truth_answer(alloc, scopes.has_array(level, name)),
-        _ => wrong_words(alloc, Usage::ArrayExists),
+        _ => wrong_args(alloc, "array exists name"),
     }
 }
 
-fn array_size(alloc: Global, scopes: &Scopes, level: usize, words: &[Text]) -> Result<Text, Refusal>
+fn array_size(alloc: Global, scopes: &Scopes, level: usize, words: &[Text]) -> Reply
     requires { level < length scopes.now }
     ensures { Gives result (spec.array_size level words.now scopes.now) }
 {
     match words {
         [name] => decimal_answer(alloc, scopes.array_size(level, name)),
-        _ => wrong_words(alloc, Usage::ArraySize),
+        _ => wrong_args(alloc, "array size name"),
     }
 }
 
-fn array_names(
-    alloc: Global,
-    scopes: &Scopes,
-    level: usize,
-    words: &[Text],
-) -> Result<Text, Refusal>
+fn array_names(alloc: Global, scopes: &Scopes, level: usize, words: &[Text]) -> Reply
     requires { level < length scopes.now }
     ensures { Gives result (spec.array_names level words.now scopes.now) }
 {
@@ -131,7 +114,7 @@ fn array_names(
             let names = names_wanted(alloc, scopes, level, name, pattern)?;
             list_answer(alloc, names.as_slice())
         }
-        _ => wrong_words(alloc, Usage::ArrayNames),
+        _ => wrong_args(alloc, "array names name ?pattern?"),
     }
 }
 
@@ -167,7 +150,7 @@ fn names_matching(alloc: Global, pattern: &Text, names: &[Text]) -> Result<TextL
     Ok(wanted)
 }
 
-fn array_get(alloc: Global, scopes: &Scopes, level: usize, words: &[Text]) -> Result<Text, Refusal>
+fn array_get(alloc: Global, scopes: &Scopes, level: usize, words: &[Text]) -> Reply
     requires { level < length scopes.now }
     ensures { Gives result (spec.array_get level words.now scopes.now) }
 {
@@ -180,7 +163,7 @@ fn array_get(alloc: Global, scopes: &Scopes, level: usize, words: &[Text]) -> Re
             let pairs = pairs_wanted(alloc, scopes, level, name, pattern)?;
             list_answer(alloc, pairs.as_slice())
         }
-        _ => wrong_words(alloc, Usage::ArrayGet),
+        _ => wrong_args(alloc, "array get name ?pattern?"),
     }
 }
 
@@ -217,12 +200,7 @@ fn pairs_matching(alloc: Global, pattern: &Text, pairs: &[Text]) -> Result<TextL
     Ok(wanted)
 }
 
-fn array_unset(
-    alloc: Global,
-    scopes: &mut Scopes,
-    level: usize,
-    words: &[Text],
-) -> Result<Text, Refusal>
+fn array_unset(alloc: Global, scopes: &mut Scopes, level: usize, words: &[Text]) -> Reply
     requires { level < length scopes.old }
     ensures does { Does result scopes.new (spec.array_unset level words.now scopes.old) }
     ensures levels { length scopes.new ≡ length scopes.old }
@@ -233,17 +211,12 @@ fn array_unset(
             let names = names_wanted(alloc, scopes, level, name, pattern)?;
             unset_elements(alloc, scopes, level, name, names.as_slice())
         }
-        _ => wrong_words(alloc, Usage::ArrayUnset),
+        _ => wrong_args(alloc, "array unset name ?pattern?"),
     }
 }
 
 /// Unsets a variable, if it is an array.
-fn unset_array(
-    alloc: Global,
-    scopes: &mut Scopes,
-    level: usize,
-    name: &Text,
-) -> Result<Text, Refusal>
+fn unset_array(alloc: Global, scopes: &mut Scopes, level: usize, name: &Text) -> Reply
     requires { level < length scopes.old }
     ensures does { Does result scopes.new
         (spec.unset_array level name.now scopes.old (elements_in scopes.old level name.now)) }
@@ -263,7 +236,7 @@ fn unset_elements(
     level: usize,
     name: &Text,
     indices: &[Text],
-) -> Result<Text, Refusal>
+) -> Reply
     requires { level < length scopes.old }
     ensures does { Does result scopes.new (each_done (spec.unset_element level name.now) indices.now scopes.old) }
     ensures levels { length scopes.new ≡ length scopes.old }
@@ -294,54 +267,27 @@ fn unset_element(
     }
 }
 
-fn array_set(
-    alloc: Global,
-    scopes: &mut Scopes,
-    level: usize,
-    words: &[Text],
-) -> Result<Text, Refusal>
+fn array_set(alloc: Global, scopes: &mut Scopes, level: usize, words: &[Text]) -> Reply
     requires { level < length scopes.old }
     ensures does { Does result scopes.new (spec.array_set level words.now scopes.old) }
     ensures levels { length scopes.new ≡ length scopes.old }
 {
     match words {
         [name, list] => set_list(alloc, scopes, level, name, list),
-        _ => wrong_words(alloc, Usage::ArraySet),
+        _ => wrong_args(alloc, "array set name list"),
     }
 }
 
 /// Sets the elements that a list gives, keys and values in turn.
-fn set_list(
-    alloc: Global,
-    scopes: &mut Scopes,
-    level: usize,
-    name: &Text,
-    list: &Text,
-) -> Result<Text, Refusal>
+fn set_list(alloc: Global, scopes: &mut Scopes, level: usize, name: &Text, list: &Text) -> Reply
     requires { level < length scopes.old }
     ensures does { Does result scopes.new (spec.set_list level name.now scopes.old (items_of list.now)) }
     ensures levels { length scopes.new ≡ length scopes.old }
 {
     let items = items_in(alloc, list)?;
-    set_even(alloc, scopes, level, name, items.as_slice())
-}
-
-/// Sets elements, where there are as many values as keys.
-fn set_even(
-    alloc: Global,
-    scopes: &mut Scopes,
-    level: usize,
-    name: &Text,
-    items: &[Text],
-) -> Result<Text, Refusal>
-    requires { level < length scopes.old }
-    ensures does { Does result scopes.new
-        (spec.set_even level name.now items.now scopes.old (spec.odd_key items.now)) }
-    ensures levels { length scopes.new ≡ length scopes.old }
-{
-    match odd_key(items) {
+    match odd_key(items.as_slice()) {
         Some(key) => missing_value(alloc, key.as_str()),
-        None => set_items(alloc, scopes, level, name, items),
+        None => set_items(alloc, scopes, level, name, items.as_slice()),
     }
 }
 
@@ -356,13 +302,7 @@ fn odd_key(items: &[Text]) -> Option<&Text>
     rest.first()
 }
 
-fn set_items(
-    alloc: Global,
-    scopes: &mut Scopes,
-    level: usize,
-    name: &Text,
-    items: &[Text],
-) -> Result<Text, Refusal>
+fn set_items(alloc: Global, scopes: &mut Scopes, level: usize, name: &Text, items: &[Text]) -> Reply
     requires { level < length scopes.old }
     ensures does { Does result scopes.new (spec.set_items level name.now items.now scopes.old) }
     ensures levels { length scopes.new ≡ length scopes.old }
@@ -391,13 +331,7 @@ fn make_array(alloc: Global, scopes: &mut Scopes, level: usize, name: &Text) -> 
 }
 
 #[tactic(auto, using(crate::proofs::EachLemmas::steps))]
-fn set_each(
-    alloc: Global,
-    scopes: &mut Scopes,
-    level: usize,
-    name: &Text,
-    items: &[Text],
-) -> Result<Text, Refusal>
+fn set_each(alloc: Global, scopes: &mut Scopes, level: usize, name: &Text, items: &[Text]) -> Reply
     requires { level < length scopes.old }
     ensures does { Does result scopes.new (each_done (spec.set_element level name.now) (pairs items.now) scopes.old) }
     ensures levels { length scopes.new ≡ length scopes.old }
@@ -435,19 +369,8 @@ fn set_element(
 
 /// Why an element can't be set.
 fn cannot_set_element(alloc: Global, name: &str, key: &str, fault: SetFault) -> Result<(), Refusal>
-    ensures { Gives result (cannot_set (spec.element_name name.now key.now) fault) }
+    ensures { Gives result (cannot_set (named name.now key.now) fault) }
 {
     let element = element_name(alloc, name, key)?;
     cannot_set(alloc, element.as_str(), fault)
-}
-
-/// An element as it is named.
-fn element_name(alloc: Global, name: &str, index: &str) -> Result<String, AllocError>
-    ensures { IfOk result (λ string. string_bytes string ≡ spec.element_name name.now index.now) }
-{
-    let mut string = String::from_str(alloc, name)?;
-    string.push_str("(")?;
-    string.push_str(index)?;
-    string.push_str(")")?;
-    Ok(string)
 }

@@ -7,6 +7,7 @@ ghost use Rattle.tcl_commands.specs.Values.{exists_words};
 
 use crate::arrays::array_words;
 use crate::links::{global_words, upvar_words};
+use crate::texts::Reply;
 use crate::unset::unset_words;
 use crate::values::{append_words, exists_words, incr_words, lappend_words, set_words};
 use std::alloc::{AllocError, Global};
@@ -15,7 +16,7 @@ use tcl_text::answers::Refusal;
 use tcl_vars::Scopes;
 
 /// A command on variables, which the manual page of its name describes, as set(n).
-#[derive(Clone, Copy, Debug, PartialEq, Eq)]
+#[derive(Clone, Copy)]
 pub enum VariableCommand {
     Set,
     Unset,
@@ -43,10 +44,10 @@ pub fn variable_command(
     let Some((name, arguments)) = words.split_first() else {
         return Ok(None);
     };
-    let Some(command) = command_named(name.as_str()) else {
+    let Some(command) = VariableCommand::named(name.as_str()) else {
         return Ok(None);
     };
-    match command_done(alloc, scopes, level, command, arguments) {
+    match command.done(alloc, scopes, level, arguments) {
         Ok(text) => Ok(Some(Ok(text))),
         Err(Refusal::Error(message)) => Ok(Some(Err(message))),
         Err(Refusal::NoMemory) => Err(AllocError),
@@ -68,50 +69,46 @@ pub fn call_variable_command(
     ensures does { IfOk result (λ answer. record { store = scopes.new; answer = answer } ≡ spec.command_done command level words.now scopes.old) }
     ensures levels { length scopes.new ≡ length scopes.old }
 {
-    match command_done(alloc, scopes, level, command, words) {
+    match command.done(alloc, scopes, level, words) {
         Ok(text) => Ok(Ok(text)),
         Err(Refusal::Error(message)) => Ok(Err(message)),
         Err(Refusal::NoMemory) => Err(AllocError),
     }
 }
 
-/// The command of this name.
-#[tactic(auto, unfolding(crate::specs::Commands::command_named))]
-fn command_named(name: &str) -> Option<VariableCommand>
-    ensures { result ≡ spec.command_named name.now }
-{
-    match name {
-        "set" => Some(VariableCommand::Set),
-        "unset" => Some(VariableCommand::Unset),
-        "incr" => Some(VariableCommand::Incr),
-        "append" => Some(VariableCommand::Append),
-        "lappend" => Some(VariableCommand::Lappend),
-        "array" => Some(VariableCommand::Array),
-        "global" => Some(VariableCommand::Global),
-        _ => None,
+impl VariableCommand {
+    /// The command of this name.
+    #[tactic(auto, unfolding(crate::specs::Commands::command_named))]
+    fn named(name: &str) -> Option<VariableCommand>
+        ensures { result ≡ spec.command_named name.now }
+    {
+        match name {
+            "set" => Some(VariableCommand::Set),
+            "unset" => Some(VariableCommand::Unset),
+            "incr" => Some(VariableCommand::Incr),
+            "append" => Some(VariableCommand::Append),
+            "lappend" => Some(VariableCommand::Lappend),
+            "array" => Some(VariableCommand::Array),
+            "global" => Some(VariableCommand::Global),
+            _ => None,
+        }
     }
-}
 
-/// What a command does, called with the words after its name.
-fn command_done(
-    alloc: Global,
-    scopes: &mut Scopes,
-    level: usize,
-    command: VariableCommand,
-    words: &[Text],
-) -> Result<Text, Refusal>
-    requires { level < length scopes.old }
-    ensures does { Does result scopes.new (spec.command_done command level words.now scopes.old) }
-    ensures levels { length scopes.new ≡ length scopes.old }
-{
-    match command {
-        VariableCommand::Set => set_words(alloc, scopes, level, words),
-        VariableCommand::Unset => unset_words(alloc, scopes, level, words),
-        VariableCommand::Incr => incr_words(alloc, scopes, level, words),
-        VariableCommand::Append => append_words(alloc, scopes, level, words),
-        VariableCommand::Lappend => lappend_words(alloc, scopes, level, words),
-        VariableCommand::Array => array_words(alloc, scopes, level, words),
-        VariableCommand::Global => global_words(alloc, scopes, level, words),
+    /// What a command does, called with the words after its name.
+    fn done(self, alloc: Global, scopes: &mut Scopes, level: usize, words: &[Text]) -> Reply
+        requires { level < length scopes.old }
+        ensures does { Does result scopes.new (spec.command_done self level words.now scopes.old) }
+        ensures levels { length scopes.new ≡ length scopes.old }
+    {
+        match self {
+            VariableCommand::Set => set_words(alloc, scopes, level, words),
+            VariableCommand::Unset => unset_words(alloc, scopes, level, words),
+            VariableCommand::Incr => incr_words(alloc, scopes, level, words),
+            VariableCommand::Append => append_words(alloc, scopes, level, words),
+            VariableCommand::Lappend => lappend_words(alloc, scopes, level, words),
+            VariableCommand::Array => array_words(alloc, scopes, level, words),
+            VariableCommand::Global => global_words(alloc, scopes, level, words),
+        }
     }
 }
 

@@ -6,10 +6,9 @@ mod commands;
 mod links;
 mod texts;
 mod unset;
-mod usages;
 mod values;
 
 pub use commands::{
     VariableCommand, call_variable_command, info_exists, upvar_command, variable_command,
 };
-pub use texts::{cannot_link, cannot_read, cannot_set, cannot_unset};
+pub use texts::cannot_set;

@@ -1,51 +1,29 @@
 //! The commands of global(n) and upvar(n).
-ghost use Rattle.std.specs.Prelude.{◌≡◌, ◌<◌, length, option_map, IfOk};
+ghost use Rattle.std.specs.Prelude.{◌≡◌, ◌<◌, length, IfOk};
 ghost use Rattle.tcl_commands.specs.Done.{Does, Steps};
 ghost use Rattle.tcl_commands.specs.Links as spec;
-ghost use Rattle.tcl_vars.specs.Name.{element_of};
 
-use crate::texts::{cannot_link, empty_answer};
-use crate::usages::{Usage, wrong_words};
+use crate::texts::{Reply, empty_answer};
 use std::alloc::{AllocError, Global};
 use tcl_text::Text;
-use tcl_text::answers::Refusal;
-use tcl_vars::{LinkFault, Scopes};
+use tcl_text::answers::{Refusal, wrong_args};
+use tcl_vars::{LinkFault, Scopes, element_of};
 
 /// `global name ?name ..?`: each name of the frame becomes a link to the global variable of that name, up to the
 /// first that can't. In the global frame it does nothing.
-#[tactic(auto, using(crate::proofs::DoneLemmas::kept))]
-pub fn global_words(
-    alloc: Global,
-    scopes: &mut Scopes,
-    level: usize,
-    words: &[Text],
-) -> Result<Text, Refusal>
+#[tactic(auto, using(crate::proofs::DoneLemmas::kept, crate::proofs::EachLemmas::steps))]
+pub fn global_words(alloc: Global, scopes: &mut Scopes, level: usize, words: &[Text]) -> Reply
     requires { level < length scopes.old }
     ensures does { Does result scopes.new (spec.global_words level words.now scopes.old) }
     ensures levels { length scopes.new ≡ length scopes.old }
 {
     if words.is_empty() {
-        return wrong_words(alloc, Usage::Global);
+        return wrong_args(alloc, "global name ?name ..?");
     }
     if level == 0 {
         return empty_answer(alloc);
     }
-    link_globals(alloc, scopes, level, words)
-}
-
-#[tactic(auto, using(crate::proofs::EachLemmas::steps))]
-fn link_globals(
-    alloc: Global,
-    scopes: &mut Scopes,
-    level: usize,
-    names: &[Text],
-) -> Result<Text, Refusal>
-    requires above { 0 < level }
-    requires level { level < length scopes.old }
-    ensures does { Does result scopes.new (spec.link_globals level names.now scopes.old) }
-    ensures levels { length scopes.new ≡ length scopes.old }
-{
-    let mut rest = names;
+    let mut rest = words;
     while let [name, others @ ..] = rest {
         link_global(alloc, scopes, level, name)?;
         rest = others;
@@ -53,6 +31,9 @@ fn link_globals(
     empty_answer(alloc)
 }
 
+/// Links a name of the frame to the global variable of that name; more than 4,096 variables are refused (19), and a name that can't be
+/// used, or exists, without a number.
+#[tactic(auto, unfolding(tcl_text::specs::Answers::bounded))]
 fn link_global(alloc: Global, scopes: &mut Scopes, level: usize, name: &Text) -> Result<(), Refusal>
     requires above { 0 < level }
     requires level { level < length scopes.old }
@@ -65,7 +46,7 @@ fn link_global(alloc: Global, scopes: &mut Scopes, level: usize, name: &Text) ->
         Err(LinkFault::NoMemory) => Err(Refusal::NoMemory),
         Err(fault) => {
             let told = name_told(name.as_str(), global.as_str(), fault);
-            cannot_link(alloc, told, fault)
+            Err(Refusal::Error(fault.text(alloc, told)?))
         }
     }
 }
@@ -80,13 +61,6 @@ fn name_told<'a>(written: &'a str, global: &'a str, fault: LinkFault) -> &'a str
     }
 }
 
-/// The array and the index of a name `array(index)`, none where the name means a variable.
-fn element_of<'a>(name: &'a str) -> Option<(&'a str, &'a str)>
-    ensures { option_map (λ p. (p.0.now, p.1.now)) result ≡ element_of name.now }
-{
-    name.strip_suffix(')')?.split_once('(')
-}
-
 /// A global variable's name without a leading `::`.
 fn global_name(alloc: Global, name: &Text) -> Result<Text, AllocError>
     ensures { IfOk result (λ global. global ≡ spec.global_name name.now) }
@@ -99,39 +73,23 @@ fn global_name(alloc: Global, name: &Text) -> Result<Text, AllocError>
 
 /// `upvar ?level? other mine ?other mine ..?` behind its level: each second name of the frame becomes a link to the
 /// name before it in the frame at another level, up to the first that can't.
-#[tactic(auto, using(crate::proofs::DoneLemmas::kept))]
+#[tactic(auto, using(crate::proofs::DoneLemmas::kept, crate::proofs::EachLemmas::steps))]
 pub fn upvar_words(
     alloc: Global,
     scopes: &mut Scopes,
     level: usize,
     to_level: usize,
     words: &[Text],
-) -> Result<Text, Refusal>
+) -> Reply
     requires level { level < length scopes.old }
     requires earlier { to_level < level }
     ensures does { Does result scopes.new (spec.upvar_words level to_level words.now scopes.old) }
     ensures levels { length scopes.new ≡ length scopes.old }
 {
     if words.is_empty() || words.len() % 2 != 0 {
-        return wrong_words(alloc, Usage::Upvar);
+        return wrong_args(alloc, "upvar ?level? other mine ?other mine ..?");
     }
-    link_pairs(alloc, scopes, level, to_level, words)
-}
-
-#[tactic(auto, using(crate::proofs::EachLemmas::steps))]
-fn link_pairs(
-    alloc: Global,
-    scopes: &mut Scopes,
-    level: usize,
-    to_level: usize,
-    names: &[Text],
-) -> Result<Text, Refusal>
-    requires level { level < length scopes.old }
-    requires earlier { to_level < level }
-    ensures does { Does result scopes.new (spec.link_pairs level to_level names.now scopes.old) }
-    ensures levels { length scopes.new ≡ length scopes.old }
-{
-    let mut rest = names;
+    let mut rest = words;
     while let [other, name, others @ ..] = rest {
         link_one(alloc, scopes, level, to_level, other, name)?;
         rest = others;
@@ -139,6 +97,8 @@ fn link_pairs(
     empty_answer(alloc)
 }
 
+/// Links a name of the frame to another one of an earlier frame, with the same refusals.
+#[tactic(auto, unfolding(tcl_text::specs::Answers::bounded))]
 fn link_one(
     alloc: Global,
     scopes: &mut Scopes,
@@ -155,6 +115,6 @@ fn link_one(
     match scopes.link(level, name, to_level, other) {
         Ok(()) => Ok(()),
         Err(LinkFault::NoMemory) => Err(Refusal::NoMemory),
-        Err(fault) => cannot_link(alloc, name.as_str(), fault),
+        Err(fault) => Err(Refusal::Error(fault.text(alloc, name.as_str())?)),
     }
 }

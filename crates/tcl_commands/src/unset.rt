@@ -3,20 +3,14 @@ ghost use Rattle.std.specs.Prelude.{◌≡◌, ◌<◌, length};
 ghost use Rattle.tcl_commands.specs.Done.{Does, Steps};
 ghost use Rattle.tcl_commands.specs.Unset as spec;
 
-use crate::texts::{cannot_unset, empty_answer};
+use crate::texts::{Reply, empty_answer};
 use std::alloc::Global;
 use tcl_text::Text;
 use tcl_text::answers::Refusal;
 use tcl_vars::{Scopes, UnsetFault};
 
 /// `unset ?-nocomplain? ?name ..?`: each is unset up to the first that can't be; with the switch, each that can be.
-#[tactic(auto, unfolding(crate::specs::Unset::unset_words))]
-pub fn unset_words(
-    alloc: Global,
-    scopes: &mut Scopes,
-    level: usize,
-    words: &[Text],
-) -> Result<Text, Refusal>
+pub fn unset_words(alloc: Global, scopes: &mut Scopes, level: usize, words: &[Text]) -> Reply
     requires { level < length scopes.old }
     ensures does { Does result scopes.new (spec.unset_words level words.now scopes.old) }
     ensures levels { length scopes.new ≡ length scopes.old }
@@ -37,7 +31,7 @@ fn unset_each(
     quiet: bool,
     level: usize,
     names: &[Text],
-) -> Result<Text, Refusal>
+) -> Reply
     requires { level < length scopes.old }
     ensures does { Does result scopes.new (spec.unset_each quiet level names.now scopes.old) }
     ensures levels { length scopes.new ≡ length scopes.old }
@@ -50,7 +44,8 @@ fn unset_each(
     empty_answer(alloc)
 }
 
-/// Unsets a variable, or quietly lets it be where it can't be unset.
+/// Unsets a variable, or quietly lets it be where it can't be unset (15, 16, 18).
+#[tactic(auto, unfolding(tcl_text::specs::Answers::bounded))]
 pub fn unset_one(
     alloc: Global,
     scopes: &mut Scopes,
@@ -69,7 +64,7 @@ pub fn unset_one(
             if quiet {
                 Ok(())
             } else {
-                cannot_unset(alloc, name.as_str(), fault)
+                Err(Refusal::Error(fault.text(alloc, name.as_str())?))
             }
         }
     }

@@ -8,10 +8,9 @@ ghost use Rattle.tcl_commands.specs.Done.{Does, IfNoMemory};
 ghost use Rattle.tcl_commands.specs.Edits.{edit_answer};
 ghost use Rattle.tcl_commands.specs.Values as spec;
 
-use crate::texts::{cannot_read, cannot_set, too_large};
-use crate::usages::{Usage, wrong_words};
+use crate::texts::{Reply, cannot_read, cannot_set, too_large};
 use std::alloc::{AllocError, Global};
-use tcl_text::answers::{Refusal, error, limit_reached, truth_answer};
+use tcl_text::answers::{Refusal, error, limit_reached, truth_answer, wrong_args};
 use tcl_text::integers::integer_of;
 use tcl_text::items::items_in;
 use tcl_text::{Edit, EditFault, Text};
@@ -19,12 +18,7 @@ use tcl_vars::{ChangeFault, ReadFault, Scopes, SetFault};
 
 /// `set name ?value?`: the variable's value, or the value that it is set to.
 #[tactic(auto, using(crate::proofs::DoneLemmas::kept))]
-pub fn set_words(
-    alloc: Global,
-    scopes: &mut Scopes,
-    level: usize,
-    words: &[Text],
-) -> Result<Text, Refusal>
+pub fn set_words(alloc: Global, scopes: &mut Scopes, level: usize, words: &[Text]) -> Reply
     requires { level < length scopes.old }
     ensures does { Does result scopes.new (spec.set_words level words.now scopes.old) }
     ensures no_memory { IfNoMemory result (scopes.new ≡ scopes.old) }
@@ -33,12 +27,12 @@ pub fn set_words(
     match words {
         [name] => value_of(alloc, scopes, level, name),
         [name, value] => set_to(alloc, scopes, level, name, value.copy()?),
-        _ => wrong_words(alloc, Usage::Set),
+        _ => wrong_args(alloc, "set name ?value?"),
     }
 }
 
 /// The value of a variable.
-fn value_of(alloc: Global, scopes: &Scopes, level: usize, name: &Text) -> Result<Text, Refusal>
+fn value_of(alloc: Global, scopes: &Scopes, level: usize, name: &Text) -> Reply
     requires { level < length scopes.now }
     ensures { Gives result (spec.value_read name.now (variable_in scopes.now level name.now)) }
 {
@@ -50,13 +44,7 @@ fn value_of(alloc: Global, scopes: &Scopes, level: usize, name: &Text) -> Result
 
 /// Sets a variable to a value, which is the answer.
 #[tactic(auto, using(crate::proofs::DoneLemmas::not_set))]
-fn set_to(
-    alloc: Global,
-    scopes: &mut Scopes,
-    level: usize,
-    name: &Text,
-    value: Text,
-) -> Result<Text, Refusal>
+fn set_to(alloc: Global, scopes: &mut Scopes, level: usize, name: &Text, value: Text) -> Reply
     requires { level < length scopes.old }
     ensures does { Does result scopes.new
         (spec.value_set name.now value scopes.old (with_variable scopes.old level name.now value)) }
@@ -73,12 +61,7 @@ fn set_to(
 
 /// `incr name ?n?`: the sum of the variable and n, to which the variable is set.
 #[tactic(auto, using(crate::proofs::DoneLemmas::kept))]
-pub fn incr_words(
-    alloc: Global,
-    scopes: &mut Scopes,
-    level: usize,
-    words: &[Text],
-) -> Result<Text, Refusal>
+pub fn incr_words(alloc: Global, scopes: &mut Scopes, level: usize, words: &[Text]) -> Reply
     requires { level < length scopes.old }
     ensures does { Does result scopes.new (spec.incr_words level words.now scopes.old) }
     ensures no_memory { IfNoMemory result (scopes.new ≡ scopes.old) }
@@ -87,7 +70,7 @@ pub fn incr_words(
     match words {
         [name] => increase(alloc, scopes, level, name, None),
         [name, amount] => increase(alloc, scopes, level, name, Some(amount)),
-        _ => wrong_words(alloc, Usage::Incr),
+        _ => wrong_args(alloc, "incr name ?n?"),
     }
 }
 
@@ -99,7 +82,7 @@ fn increase(
     level: usize,
     name: &Text,
     amount: Option<&Text>,
-) -> Result<Text, Refusal>
+) -> Reply
     requires { level < length scopes.old }
     ensures does { Does result scopes.new
         (spec.changed level name.now (codes "0") (spec.increased (spec.amount_in (option_copied amount.entry))) scopes.old) }
@@ -117,7 +100,7 @@ fn increased(
     level: usize,
     name: &Text,
     amount: Option<&Text>,
-) -> Result<Text, Refusal>
+) -> Reply
     requires { level < length scopes.now }
     ensures { Gives result
         (spec.value_changed (codes "0") name.now (spec.increased (spec.amount_in (option_copied amount.entry))) (variable_in scopes.now level name.now)) }
@@ -140,7 +123,7 @@ fn amount_in(alloc: Global, word: Option<&Text>) -> Result<i64, Refusal>
 
 /// A sum, where it fits 64 bits.
 #[tactic(auto, using(crate::proofs::SumLemmas::sums))]
-fn sum_of(alloc: Global, a: i64, b: i64) -> Result<Text, Refusal>
+fn sum_of(alloc: Global, a: i64, b: i64) -> Reply
     ensures { Gives result (spec.sum_of a b) }
 {
     match a.checked_add(b) {
@@ -150,13 +133,7 @@ fn sum_of(alloc: Global, a: i64, b: i64) -> Result<Text, Refusal>
 }
 
 /// The value of a variable, where one that isn't there counts as these characters.
-fn value_or(
-    alloc: Global,
-    scopes: &Scopes,
-    level: usize,
-    name: &Text,
-    absent: &str,
-) -> Result<Text, Refusal>
+fn value_or(alloc: Global, scopes: &Scopes, level: usize, name: &Text, absent: &str) -> Reply
     requires level { level < length scopes.now }
     requires short { length absent.now ≤ 22 }
     ensures { Gives result (spec.value_or absent.now name.now (variable_in scopes.now level name.now)) }
@@ -171,12 +148,7 @@ fn value_or(
 
 /// `append name ?value ..?`: the variable with the values behind it, to which it is set.
 #[tactic(auto, using(crate::proofs::DoneLemmas::kept))]
-pub fn append_words(
-    alloc: Global,
-    scopes: &mut Scopes,
-    level: usize,
-    words: &[Text],
-) -> Result<Text, Refusal>
+pub fn append_words(alloc: Global, scopes: &mut Scopes, level: usize, words: &[Text]) -> Reply
     requires { level < length scopes.old }
     ensures does { Does result scopes.new (spec.append_words level words.now scopes.old) }
     ensures levels { length scopes.new ≡ length scopes.old }
@@ -184,18 +156,12 @@ pub fn append_words(
     match words {
         [name, value] => append_one(alloc, scopes, level, name, value),
         [name, values @ ..] => append(alloc, scopes, level, name, values),
-        [] => wrong_words(alloc, Usage::Append),
+        [] => wrong_args(alloc, "append name ?value ..?"),
     }
 }
 
 /// Adds one value behind a variable, which needs no text of its own.
-fn append_one(
-    alloc: Global,
-    scopes: &mut Scopes,
-    level: usize,
-    name: &Text,
-    value: &Text,
-) -> Result<Text, Refusal>
+fn append_one(alloc: Global, scopes: &mut Scopes, level: usize, name: &Text, value: &Text) -> Reply
     requires { level < length scopes.old }
     ensures does { Does result scopes.new
         (spec.changed level name.now [] (λ text. answers (text ++ concat (value.now ∷ []))) scopes.old) }
@@ -205,13 +171,7 @@ fn append_one(
 }
 
 /// Adds values behind a variable.
-fn append(
-    alloc: Global,
-    scopes: &mut Scopes,
-    level: usize,
-    name: &Text,
-    values: &[Text],
-) -> Result<Text, Refusal>
+fn append(alloc: Global, scopes: &mut Scopes, level: usize, name: &Text, values: &[Text]) -> Reply
     requires { level < length scopes.old }
     ensures does { Does result scopes.new
         (spec.changed level name.now [] (λ value. answers (value ++ concat values.now)) scopes.old) }
@@ -223,13 +183,7 @@ fn append(
 }
 
 /// Changes a variable in place, where one that isn't there counts as empty.
-fn change(
-    alloc: Global,
-    scopes: &mut Scopes,
-    level: usize,
-    name: &Text,
-    edit: Edit<'_>,
-) -> Result<Text, Refusal>
+fn change(alloc: Global, scopes: &mut Scopes, level: usize, name: &Text, edit: Edit<'_>) -> Reply
     requires { level < length scopes.old }
     ensures does { Does result scopes.new (spec.changed level name.now [] (edit_answer edit.entry) scopes.old) }
     ensures levels { length scopes.new ≡ length scopes.old }
@@ -257,7 +211,7 @@ fn set_edited(
     level: usize,
     name: &Text,
     edit: Edit<'_>,
-) -> Result<Text, Refusal>
+) -> Reply
     requires { level < length scopes.old }
     ensures does { Does result scopes.new (spec.changed_to level name.now scopes.old (edit_answer edit.entry [])) }
     ensures levels { length scopes.new ≡ length scopes.old }
@@ -267,7 +221,7 @@ fn set_edited(
 }
 
 /// What becomes of the empty text.
-fn edited_empty(alloc: Global, edit: Edit<'_>) -> Result<Text, Refusal>
+fn edited_empty(alloc: Global, edit: Edit<'_>) -> Reply
     ensures { Gives result (edit_answer edit.entry []) }
 {
     let mut text = Text::of_short(alloc, "")?;
@@ -292,31 +246,20 @@ fn push_all(string: &mut String, texts: &[Text]) -> Result<(), AllocError>
 
 /// `lappend name ?value ..?`: the list that the variable is with the values behind its items, to which it is set.
 #[tactic(auto, using(crate::proofs::DoneLemmas::kept))]
-pub fn lappend_words(
-    alloc: Global,
-    scopes: &mut Scopes,
-    level: usize,
-    words: &[Text],
-) -> Result<Text, Refusal>
+pub fn lappend_words(alloc: Global, scopes: &mut Scopes, level: usize, words: &[Text]) -> Reply
     requires { level < length scopes.old }
     ensures does { Does result scopes.new (spec.lappend_words level words.now scopes.old) }
     ensures levels { length scopes.new ≡ length scopes.old }
 {
     match words {
         [name, values @ ..] => lappend(alloc, scopes, level, name, values),
-        [] => wrong_words(alloc, Usage::Lappend),
+        [] => wrong_args(alloc, "lappend name ?value ..?"),
     }
 }
 
 /// Adds values as items to the list that a variable is.
 #[tactic(auto, using(crate::proofs::DoneLemmas::changes))]
-fn lappend(
-    alloc: Global,
-    scopes: &mut Scopes,
-    level: usize,
-    name: &Text,
-    values: &[Text],
-) -> Result<Text, Refusal>
+fn lappend(alloc: Global, scopes: &mut Scopes, level: usize, name: &Text, values: &[Text]) -> Reply
     requires { level < length scopes.old }
     ensures does { Does result scopes.new
         (spec.changed level name.now [] (spec.with_items values.now) scopes.old) }
@@ -332,7 +275,7 @@ fn lappend(
 }
 
 /// The list that a variable is, as it is written.
-fn list_of(alloc: Global, scopes: &Scopes, level: usize, name: &Text) -> Result<Text, Refusal>
+fn list_of(alloc: Global, scopes: &Scopes, level: usize, name: &Text) -> Reply
     requires { level < length scopes.now }
     ensures { Gives result
         (spec.value_changed [] name.now (spec.with_items []) (variable_in scopes.now level name.now)) }
@@ -343,17 +286,12 @@ fn list_of(alloc: Global, scopes: &Scopes, level: usize, name: &Text) -> Result<
 }
 
 /// `info exists name`: whether there is a variable or element.
-pub fn exists_words(
-    alloc: Global,
-    scopes: &Scopes,
-    level: usize,
-    words: &[Text],
-) -> Result<Text, Refusal>
+pub fn exists_words(alloc: Global, scopes: &Scopes, level: usize, words: &[Text]) -> Reply
     requires { level < length scopes.now }
     ensures { Gives result (spec.exists_words level words.now scopes.now) }
 {
     match words {
         [name] => truth_answer(alloc, scopes.exists(level, name)),
-        _ => wrong_words(alloc, Usage::InfoExists),
+        _ => wrong_args(alloc, "info exists name"),
     }
 }

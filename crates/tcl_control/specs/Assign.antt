@@ -1,7 +1,7 @@
 -- Meaning. Variables that are set one after another.
 use Rattle.std.specs.Prelude.{ℕ, List, [], ◌∷◌, drop, Option, Some, None, Result, Ok, Err}
 use Rattle.tcl_vars.specs.Store.{Store, with_variable}
-use Rattle.tcl_vars.specs.declared.fault.SetFault.{SetFault}
+use Rattle.tcl_text.specs.declared.fault.SetFault.{SetFault}
 use Rattle.tcl_shapes.specs.declared.groups.Group.{Group}
 use Rattle.tcl_table.specs.Texts.{cannot_set}
 

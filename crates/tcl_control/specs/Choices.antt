@@ -4,7 +4,7 @@ use Rattle.std.specs.Str.{chars}
 use Rattle.tcl_text.specs.Glob.{glob_matches}
 use Rattle.tcl_text.specs.Readings.{list_of}
 use Rattle.tcl_text.specs.Splitting.{fault_text as list_text}
-use Rattle.tcl_text.specs.declared.splitting.ListFault.{ListFault}
+use Rattle.tcl_text.specs.declared.fault.ListFault.{ListFault}
 use Rattle.tcl_shapes.specs.Branches.{choices_of, arms_of}
 use Rattle.tcl_shapes.specs.declared.branches.Branch.{Branch}
 use Rattle.tcl_shapes.specs.declared.branches.Choices.{Choices}
@@ -13,6 +13,7 @@ use Rattle.tcl_control.specs.declared.choices.Matching.TheVariants.{Exact, Glob}
 use Rattle.tcl_control.specs.declared.code.Code.TheVariants.{Normal}
 use Rattle.tcl_control.specs.declared.plan.Plan.{Plan}
 use Rattle.tcl_control.specs.declared.plan.Plan.TheVariants.{Ends, Runs, Chooses}
+use Rattle.tcl_control.specs.declared.usages.Usage.TheVariants as usage
 use Rattle.tcl_control.specs.Commands.{fails, misused}
 use Rattle.tcl_table.specs.Texts.{about}
 use Rattle.tcl_text.specs.Answers.{message}
@@ -21,7 +22,7 @@ use Rattle.tcl_text.specs.Answers.{message}
 
 abbrev pub if_by : Option Choices → Plan
 if_by (Some choices) = Chooses choices
-if_by None = misused (codes "if cond ?then? body ?elseif cond ?then? body ..? ?else? ?body?")
+if_by None = misused usage.If
 
 -- if cond ?then? body ?elseif cond ?then? body ..? ?else? ?body?
 abbrev pub if_plan : List (List ℕ) → Plan
@@ -75,9 +76,6 @@ switched matching value pairs = by_pairs matching value (list_of pairs)
 abbrev pub bad_option : List ℕ → Plan
 bad_option word = fails (about (codes "bad option \"") word)
 
-abbrev pub switch_usage : Plan
-switch_usage = misused (codes "switch ?-exact|-glob? ?--? value pairs")
-
 -- behind -exact or -glob
 abbrev pub switched_past : Matching → List ℕ → List ℕ → List ℕ → Plan
 switched_past matching option value pairs = if bytes_eq option (codes "--") then switched matching value pairs else bad_option option
@@ -93,6 +91,6 @@ switch_plan (option ∷ value ∷ pairs ∷ []) =
 switch_plan (option ∷ other ∷ value ∷ pairs ∷ []) =
     if bytes_eq option (codes "-exact") then switched_past Exact other value pairs
     else (if bytes_eq option (codes "-glob") then switched_past Glob other value pairs
-    else (if bytes_eq option (codes "--") then switch_usage
+    else (if bytes_eq option (codes "--") then misused usage.Switch
     else bad_option option))
-switch_plan _ = switch_usage
+switch_plan _ = misused usage.Switch

@@ -5,8 +5,9 @@ use Rattle.std.specs.Fmt.{decimal}
 use Rattle.tcl_text.specs.Answers.{Answer}
 use Rattle.tcl_text.specs.Readings.{integer_of}
 use Rattle.tcl_text.specs.StringCommands.{concat_words}
-use Rattle.tcl_vars.specs.Store.{Store, with_variable, has_variable}
-use Rattle.tcl_vars.specs.declared.fault.SetFault.{SetFault}
+use Rattle.tcl_vars.specs.Store.{Store, with_variable}
+use Rattle.tcl_commands.specs.Values.{exists_words}
+use Rattle.tcl_text.specs.declared.fault.SetFault.{SetFault}
 use Rattle.tcl_control.specs.declared.code.Code.{Code}
 use Rattle.tcl_control.specs.declared.code.Code.TheVariants.{Normal, Error, Return, Break, Continue}
 use Rattle.tcl_control.specs.declared.code.ReturnCode.{ReturnCode}
@@ -17,30 +18,33 @@ use Rattle.tcl_control.specs.declared.turns.Test.TheVariants.{Holds, Items}
 use Rattle.tcl_control.specs.declared.turns.Turning.{Turning}
 use Rattle.tcl_shapes.specs.Groups.{groups_of, has_body}
 use Rattle.tcl_shapes.specs.declared.groups.Group.{Group}
-use Rattle.tcl_table.specs.Texts.{about, wrong_words, cannot_set}
+use Rattle.tcl_control.specs.declared.usages.Usage.{Usage}
+use Rattle.tcl_control.specs.declared.usages.Usage.TheVariants as usage
+use Rattle.tcl_control.specs.Usages.{misused_text}
+use Rattle.tcl_table.specs.Texts.{about, cannot_set}
 use Rattle.tcl_text.specs.Answers.{message}
 
 abbrev pub fails : List ℕ → Plan
 fails text = Ends Error text
 
 -- a wrong number of words
-abbrev pub misused : List ℕ → Plan
-misused usage = fails (wrong_words usage)
+unfoldable pub misused : Usage → Plan
+misused how = fails (misused_text how)
 
 -- ── codes ──
 
 abbrev pub break_plan : List (List ℕ) → Plan
 break_plan [] = Ends Break []
-break_plan _ = misused (codes "break")
+break_plan _ = misused usage.Break
 
 abbrev pub continue_plan : List (List ℕ) → Plan
 continue_plan [] = Ends Continue []
-continue_plan _ = misused (codes "continue")
+continue_plan _ = misused usage.Continue
 
 -- error message
 abbrev pub error_plan : List (List ℕ) → Plan
 error_plan (text ∷ []) = fails text
-error_plan _ = misused (codes "error message")
+error_plan _ = misused usage.Error
 
 -- the code of a number
 abbrev pub code_numbered : ℕ → Option ReturnCode
@@ -71,7 +75,7 @@ abbrev pub returns_code : List ℕ → List ℕ → Option ReturnCode → Plan
 returns_code word text (Some code) = Ends (Return code) text
 returns_code word text None = fails (about (codes "bad completion code \"") word)
 
-abbrev pub returns_as : List ℕ → List ℕ → List ℕ → Plan
+unfoldable pub returns_as : List ℕ → List ℕ → List ℕ → Plan
 returns_as option word text =
     if bytes_eq option (codes "-code") then returns_code word text (code_of word)
     else fails (about (codes "bad option \"") option)
@@ -82,7 +86,7 @@ return_plan [] = Ends (Return AsNormal) []
 return_plan (text ∷ []) = if bytes_eq text (codes "-code") then fails (codes "value for \"-code\" missing") else Ends (Return AsNormal) text
 return_plan (option ∷ word ∷ []) = returns_as option word []
 return_plan (option ∷ word ∷ text ∷ []) = returns_as option word text
-return_plan _ = misused (codes "return ?-code code? ?value?")
+return_plan _ = misused usage.Return
 
 -- ── scripts ──
 
@@ -90,7 +94,7 @@ return_plan _ = misused (codes "return ?-code code? ?value?")
 abbrev pub catch_plan : List (List ℕ) → Plan
 catch_plan (script ∷ []) = Catches script None
 catch_plan (script ∷ name ∷ []) = Catches script (Some name)
-catch_plan _ = misused (codes "catch script ?name?")
+catch_plan _ = misused usage.Catch
 
 -- words joined to one script
 abbrev pub on_joined : (List ℕ → Plan) → Answer → Plan
@@ -99,23 +103,23 @@ on_joined run (Err text) = fails text
 
 -- eval arg ?arg ..?
 abbrev pub eval_plan : List (List ℕ) → Plan
-eval_plan [] = misused (codes "eval arg ?arg ..?")
+eval_plan [] = misused usage.Eval
 eval_plan (word ∷ words) = on_joined Runs (concat_words (word ∷ words))
 
 -- expr arg ?arg ..?
 abbrev pub expr_plan : List (List ℕ) → Plan
-expr_plan [] = misused (codes "expr arg ?arg ..?")
+expr_plan [] = misused usage.Expr
 expr_plan (word ∷ words) = on_joined Evaluates (concat_words (word ∷ words))
 
 -- while cond body
 abbrev pub while_plan : List (List ℕ) → Plan
 while_plan (condition ∷ body ∷ []) = Turns (record { test = Holds condition; body = body; next = None })
-while_plan _ = misused (codes "while cond body")
+while_plan _ = misused usage.While
 
 -- for start cond next body
 abbrev pub for_plan : List (List ℕ) → Plan
 for_plan (start ∷ condition ∷ next ∷ body ∷ []) = Starts start (record { test = Holds condition; body = body; next = Some next })
-for_plan _ = misused (codes "for start cond next body")
+for_plan _ = misused usage.For
 
 -- the names and items of `foreach`, or an error
 abbrev pub each_plan : List ℕ → Result (List Group) (List ℕ) → Plan
@@ -129,7 +133,7 @@ last_of words = slice_index_or words (length words - 1) []
 abbrev pub foreach_plan : List (List ℕ) → Plan
 foreach_plan words =
     if has_body words && nat_lt 2 (length words) then each_plan (last_of words) (groups_of words)
-    else misused (codes "foreach names list ?names list ..? body")
+    else misused usage.Foreach
 
 -- ── levels ──
 
@@ -163,42 +167,35 @@ abbrev pub runs_at : List ℕ → List (List ℕ) → Option ℕ → Plan
 runs_at word words (Some count) = on_joined (RunsAt count) (concat_words words)
 runs_at word words None = fails (about (codes "bad level \"") word)
 
-abbrev pub uplevel_usage : List ℕ
-uplevel_usage = codes "uplevel ?level? arg ?arg ..?"
-
 -- one level up
 abbrev pub runs_up : ℕ → List (List ℕ) → Plan
 runs_up count words = runs_at (codes "1") words (relative count (Some 1))
 
 abbrev pub runs_up_at : ℕ → List ℕ → List (List ℕ) → Plan
-runs_up_at count word [] = misused uplevel_usage
+runs_up_at count word [] = misused usage.Uplevel
 runs_up_at count word (other ∷ words) = runs_at word (other ∷ words) (levels_left count word)
 
 -- uplevel ?level? arg ?arg ..?
 abbrev pub uplevel_plan : ℕ → List (List ℕ) → Plan
-uplevel_plan count [] = misused uplevel_usage
+uplevel_plan count [] = misused usage.Uplevel
 uplevel_plan count (word ∷ words) = if is_level word then runs_up_at count word words else runs_up count (word ∷ words)
 
 -- info level
 abbrev pub level_plan : ℕ → List (List ℕ) → Plan
 level_plan count [] = Ends Normal (message (decimal (count - 1)))
-level_plan count _ = misused (codes "info level")
+level_plan count _ = misused usage.InfoLevel
 
-abbrev pub flag : Bool → List ℕ
-flag true = codes "1"
-flag false = codes "0"
-
--- info exists name
-abbrev pub exists_plan : ℕ → Store → List (List ℕ) → Plan
-exists_plan level store (name ∷ []) = Ends Normal (flag (has_variable store level name))
-exists_plan level store _ = misused (codes "info exists name")
+-- a command that answers this
+abbrev pub texts_plan : Answer → Plan
+texts_plan (Ok text) = Ends Normal text
+texts_plan (Err text) = fails text
 
 -- info option ?arg ..?
 abbrev pub info_plan : ℕ → ℕ → Store → List (List ℕ) → Plan
-info_plan count level store [] = misused (codes "info option ?arg ..?")
+info_plan count level store [] = misused usage.Info
 info_plan count level store (option ∷ words) =
     if bytes_eq option (codes "level") then level_plan count words
-    else (if bytes_eq option (codes "exists") then exists_plan level store words
+    else (if bytes_eq option (codes "exists") then texts_plan (exists_words level words store)
     else fails (about (codes "bad option \"") option))
 
 -- ── variables ──
@@ -208,12 +205,6 @@ pub record Ending : Type 0 where
   pub store : Store
   pub code : Code
   pub text : List ℕ
-
--- ── texts and lists ──
-
-abbrev pub texts_plan : Answer → Plan
-texts_plan (Ok text) = Ends Normal text
-texts_plan (Err text) = fails text
 
 -- ── catch ──
 

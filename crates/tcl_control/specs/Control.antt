@@ -11,6 +11,7 @@ use Rattle.tcl_control.specs.declared.control.Call.{Call}
 use Rattle.tcl_control.specs.declared.control.Call.TheVariants.{Plans, Outside, Unknown}
 use Rattle.tcl_control.specs.declared.plan.Plan.{Plan}
 use Rattle.tcl_control.specs.declared.plan.Plan.TheVariants.{Ends}
+use Rattle.tcl_control.specs.declared.usages.Usage.TheVariants as usage
 use Rattle.tcl_control.specs.Commands.{Ending, break_plan, catch_plan, continue_plan, error_plan, eval_plan, expr_plan, fails, for_plan, foreach_plan, misused, info_plan, return_plan, uplevel_plan, while_plan, texts_plan}
 use Rattle.tcl_control.specs.Choices.{if_plan, switch_plan}
 use Rattle.tcl_control.specs.Procedures.{Changed, ProcedureCalled, changed, procedure_call, with_procedure, with_new_name}
@@ -45,12 +46,12 @@ recorded store context changed = record { store = store; context = record contex
 -- proc name params body
 abbrev pub proc_call : List (List ℕ) → Store → Context → Called
 proc_call (name ∷ parameters ∷ body ∷ []) store context = recorded store context (changed context.commands (with_procedure context.commands name parameters body))
-proc_call _ store context = keeps store context (misused (codes "proc name params body"))
+proc_call _ store context = keeps store context (misused usage.Proc)
 
 -- rename old new
 abbrev pub rename_call : List (List ℕ) → Store → Context → Called
 rename_call (old ∷ new ∷ []) store context = recorded store context (changed context.commands (with_new_name context.commands old new))
-rename_call _ store context = keeps store context (misused (codes "rename old new"))
+rename_call _ store context = keeps store context (misused usage.Rename)
 
 -- a procedure was called
 abbrev pub in_procedure : Context → ProcedureCalled → Called

@@ -12,4 +12,5 @@ pub mod Expressions
 pub mod ExpressionForms
 pub mod Procedures
 pub mod Turns
+pub mod Usages
 pub mod Variables

@@ -10,7 +10,9 @@ use Rattle.tcl_control.specs.declared.code.Code.{Code}
 use Rattle.tcl_control.specs.declared.code.Code.TheVariants.{Normal, Error}
 use Rattle.tcl_control.specs.Commands.{Ending, levels_left}
 use Rattle.tcl_table.specs.Levels.{here}
-use Rattle.tcl_table.specs.Texts.{about, wrong_words}
+use Rattle.tcl_control.specs.declared.usages.Usage.TheVariants.{Upvar}
+use Rattle.tcl_control.specs.Usages.{misused_text}
+use Rattle.tcl_table.specs.Texts.{about}
 
 abbrev pub answer_code : Answer → Code
 answer_code (Ok text) = Normal
@@ -43,11 +45,8 @@ place_of levels store None = None
 abbrev pub upvar_at : List ℕ → List ℕ → List (List ℕ) → Store → Ending
 upvar_at levels word names store = linked_ending word names (here levels store) store (place_of levels store (levels_left (length levels) word))
 
-abbrev pub upvar_usage : List ℕ
-upvar_usage = codes "upvar ?level? other mine ?other mine ..?"
-
 abbrev pub upvar_misused : Store → Ending
-upvar_misused store = record { store = store; code = Error; text = wrong_words upvar_usage }
+upvar_misused store = record { store = store; code = Error; text = misused_text Upvar }
 
 -- an odd count of words has a level; otherwise it is one up
 abbrev pub upvar_with : List ℕ → List ℕ → List (List ℕ) → Store → Ending

@@ -4,7 +4,6 @@ ghost use Rattle.tcl_control.specs.Assign.{done, on_set, first_of, assigned, gro
 
 use std::alloc::{AllocError, Global};
 use tcl_shapes::Group;
-use tcl_table::texts::cannot_set;
 use tcl_text::{ListItems, Text};
 use tcl_vars::{Scopes, SetFault};
 
@@ -24,7 +23,7 @@ pub fn set_one(
     match scopes.set(level, name, value) {
         Ok(()) => Ok(None),
         Err(SetFault::NoMemory) => Err(AllocError),
-        Err(fault) => Ok(Some(cannot_set(alloc, name, fault)?)),
+        Err(fault) => Ok(Some(fault.text(alloc, name.as_str())?)),
     }
 }
 

@@ -1,21 +1,16 @@
 ghost use Rattle.std.specs.Prelude.{◌≡◌, ◌∷◌, [], IfOk};
 ghost use Rattle.tcl_text.specs.Readings.{list_of};
 ghost use Rattle.tcl_shapes.specs.Branches.{choices_of, arms_of};
-ghost use Rattle.tcl_control.specs.Choices.{if_plan, ends_open, is_dash, matches, takes, body_of, arm_for, by_arms, by_pairs, switched, switched_past, switch_plan, switch_usage, bad_option, no_body};
+ghost use Rattle.tcl_control.specs.Choices.{if_plan, ends_open, is_dash, matches, takes, body_of, arm_for, by_arms, by_pairs, switched, switched_past, switch_plan, bad_option, no_body};
 
 use crate::code::Code;
-use crate::plan::Plan;
+use crate::plan::{Plan, fails};
+use crate::usages::{Usage, misused};
 use std::alloc::{AllocError, Global};
-use tcl_shapes::{Branch, if_choices, switch_arms};
+use tcl_shapes::{Branch, if_choices, list_fault, switch_arms};
 use tcl_table::Source;
-use tcl_table::texts::{about, list_fault};
+use tcl_table::texts::about;
 use tcl_text::{SplitFault, Text};
-
-fn fails(text: Text) -> Plan
-    ensures { result ≡ Plan.Ends Code.Error text }
-{
-    Plan::Ends(Code::Error, text)
-}
 
 /// `if` (if(n)).
 pub fn if_plan(alloc: Global, words: &[Text]) -> Result<Plan, AllocError>
@@ -23,15 +18,12 @@ pub fn if_plan(alloc: Global, words: &[Text]) -> Result<Plan, AllocError>
 {
     match if_choices(alloc, words)? {
         Some(choices) => Ok(Plan::Chooses(choices)),
-        None => Ok(fails(Text::of_short(
-            alloc,
-            "wrong # args: should be \"if cond ?then? body ?elseif cond ?then? body ..? ?else? ?body?\"",
-        )?)),
+        None => misused(alloc, Usage::If),
     }
 }
 
 /// How `switch` compares.
-#[derive(Clone, Copy, Debug, PartialEq, Eq)]
+#[derive(Clone, Copy)]
 pub enum Matching {
     Exact,
     Glob,
@@ -118,8 +110,7 @@ fn by_arms(
             if ends_open(arms.as_slice()) {
                 return no_body(alloc);
             }
-            let plan = arm_for(alloc, matching, value, arms.as_slice())?;
-            Ok(plan)
+            arm_for(alloc, matching, value, arms.as_slice())
         }
         None => no_body(alloc),
     }
@@ -144,15 +135,6 @@ fn bad_option(alloc: Global, word: &Text) -> Result<Plan, AllocError>
     ensures { IfOk result (λ plan. plan ≡ bad_option word.now) }
 {
     Ok(fails(about(alloc, "bad option \"", word.as_str())?))
-}
-
-fn switch_usage(alloc: Global) -> Result<Plan, AllocError>
-    ensures { IfOk result (λ plan. plan ≡ switch_usage) }
-{
-    Ok(fails(Text::of_short(
-        alloc,
-        "wrong # args: should be \"switch ?-exact|-glob? ?--? value pairs\"",
-    )?))
 }
 
 /// `switch` behind one option.
@@ -203,7 +185,7 @@ fn switched_by_two(
     } else if name == "-glob" {
         switched_past(alloc, Matching::Glob, other, value, pairs)
     } else if name == "--" {
-        switch_usage(alloc)
+        misused(alloc, Usage::Switch)
     } else {
         bad_option(alloc, option)
     }
@@ -214,18 +196,9 @@ pub fn switch_plan(alloc: Global, words: &[Text]) -> Result<Plan, AllocError>
     ensures { IfOk result (λ plan. plan ≡ switch_plan words.now) }
 {
     match words {
-        [value, pairs] => {
-            let plan = switched(alloc, Matching::Exact, value, pairs)?;
-            Ok(plan)
-        }
-        [option, value, pairs] => {
-            let plan = switched_by(alloc, option, value, pairs)?;
-            Ok(plan)
-        }
-        [option, other, value, pairs] => {
-            let plan = switched_by_two(alloc, option, other, value, pairs)?;
-            Ok(plan)
-        }
-        _ => switch_usage(alloc),
+        [value, pairs] => switched(alloc, Matching::Exact, value, pairs),
+        [option, value, pairs] => switched_by(alloc, option, value, pairs),
+        [option, other, value, pairs] => switched_by_two(alloc, option, other, value, pairs),
+        _ => misused(alloc, Usage::Switch),
     }
 }

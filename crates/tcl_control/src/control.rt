@@ -4,7 +4,7 @@ ghost use Rattle.tcl_text.specs.Commands.{command_answer};
 ghost use Rattle.tcl_text.specs.Readings.{integer_of};
 ghost use Rattle.tcl_text.specs.StringCommands.{concat_words};
 ghost use Rattle.tcl_vars.specs.Store.{with_variable};
-ghost use Rattle.tcl_control.specs.Commands.{code_number, stored_ending, caught_ending, break_plan, catch_plan, continue_plan, error_plan, eval_plan, expr_plan, for_plan, foreach_plan, info_plan, return_plan, texts_plan, uplevel_plan, while_plan, fails, misused, on_joined, code_of, code_of_integer, code_numbered, unsigned_of, absolute, relative, runs_up, uplevel_usage, returns_as, returns_code, is_level, levels_left, runs_at, level_plan, exists_plan};
+ghost use Rattle.tcl_control.specs.Commands.{code_number, stored_ending, caught_ending, break_plan, catch_plan, continue_plan, error_plan, eval_plan, expr_plan, for_plan, foreach_plan, info_plan, return_plan, texts_plan, uplevel_plan, while_plan, on_joined, code_of, code_of_integer, code_numbered, unsigned_of, absolute, relative, runs_up, returns_as, returns_code, is_level, levels_left, runs_at, level_plan};
 ghost use Rattle.tcl_vars.specs.Store.{Store};
 ghost use Rattle.tcl_control.specs.Control.{recorded_plan, proc_call, rename_call, builtin_call, by_command, call_of, keeps};
 ghost use Rattle.tcl_text.specs.Limits.{most_bytes};
@@ -14,13 +14,15 @@ use crate::code::{Code, ReturnCode};
 use crate::context::Context;
 use crate::define::{make_procedure, rename};
 use crate::expression::Expression;
-use crate::plan::Plan;
+use crate::plan::{Plan, fails};
 use crate::procedure::call_procedure;
 use crate::turns::{Looping, Test, Turning};
+use crate::usages::{Usage, misused};
 use crate::variables::{upvar_end, variable_end};
 use std::alloc::{AllocError, Global};
+use tcl_commands::info_exists;
 use tcl_shapes::{foreach_groups, has_body};
-use tcl_table::texts::{about, cannot_set, told};
+use tcl_table::texts::{about, told};
 use tcl_table::{Builtin, Command, CommandTable, Source, is_dotted, plain_name};
 use tcl_text::{Text, TextCommand};
 use tcl_vars::{Scopes, SetFault};
@@ -36,19 +38,13 @@ pub enum Call {
     Unknown,
 }
 
-fn fails(text: Text) -> Plan
-    ensures { result ≡ fails text }
-{
-    Plan::Ends(Code::Error, text)
-}
-
 /// `break` (break(n)).
 fn break_plan(alloc: Global, words: &[Text]) -> Result<Plan, AllocError>
     ensures { IfOk result (λ plan. plan ≡ break_plan words.now) }
 {
     match words {
         [] => Ok(Plan::Ends(Code::Break, Text::of_short(alloc, "")?)),
-        _ => Ok(fails(Text::of_short(alloc, "wrong # args: should be \"break\"")?)),
+        _ => misused(alloc, Usage::Break),
     }
 }
 
@@ -58,7 +54,7 @@ fn continue_plan(alloc: Global, words: &[Text]) -> Result<Plan, AllocError>
 {
     match words {
         [] => Ok(Plan::Ends(Code::Continue, Text::of_short(alloc, "")?)),
-        _ => Ok(fails(Text::of_short(alloc, "wrong # args: should be \"continue\"")?)),
+        _ => misused(alloc, Usage::Continue),
     }
 }
 
@@ -68,7 +64,7 @@ fn error_plan(alloc: Global, words: &[Text]) -> Result<Plan, AllocError>
 {
     match words {
         [text] => Ok(fails(text.copy()?)),
-        _ => Ok(fails(Text::of_short(alloc, "wrong # args: should be \"error message\"")?)),
+        _ => misused(alloc, Usage::Error),
     }
 }
 
@@ -79,7 +75,7 @@ fn catch_plan(alloc: Global, words: &[Text]) -> Result<Plan, AllocError>
     match words {
         [script] => Ok(Plan::Catches(Source::of_text(script.copy()?), None)),
         [script, name] => Ok(Plan::Catches(Source::of_text(script.copy()?), Some(name.copy()?))),
-        _ => Ok(fails(Text::of_short(alloc, "wrong # args: should be \"catch script ?name?\"")?)),
+        _ => misused(alloc, Usage::Catch),
     }
 }
 
@@ -113,7 +109,7 @@ fn while_plan(alloc: Global, table: &mut CommandTable, words: &[Text]) -> Result
             let turning = conditional(alloc, table, condition, body, None)?;
             Ok(Plan::Turns(turning))
         }
-        _ => Ok(fails(Text::of_short(alloc, "wrong # args: should be \"while cond body\"")?)),
+        _ => misused(alloc, Usage::While),
     }
 }
 
@@ -127,10 +123,7 @@ fn for_plan(alloc: Global, table: &mut CommandTable, words: &[Text]) -> Result<P
             let turning = conditional(alloc, table, condition, body, Some(next))?;
             Ok(Plan::Starts(Source::of_text(start.copy()?), turning))
         }
-        _ => Ok(fails(Text::of_short(
-            alloc,
-            "wrong # args: should be \"for start cond next body\"",
-        )?)),
+        _ => misused(alloc, Usage::For),
     }
 }
 
@@ -140,10 +133,7 @@ fn foreach_plan(alloc: Global, table: &mut CommandTable, words: &[Text]) -> Resu
     ensures plan { IfOk result (λ plan. plan ≡ foreach_plan words.now) }
 {
     if !(has_body(words) && words.len() > 2) {
-        return Ok(fails(Text::of_short(
-            alloc,
-            "wrong # args: should be \"foreach names list ?names list ..? body\"",
-        )?));
+        return misused(alloc, Usage::Foreach);
     }
     let body = Source::read_by(table, &words[words.len() - 1])?;
     match foreach_groups(alloc, words)? {
@@ -177,10 +167,9 @@ fn proc_plan(alloc: Global, context: &mut Context, words: &[Text]) -> Result<Pla
     match words {
         [name, parameters, body] => {
             let refused = make_procedure(alloc, &mut context.commands, name, parameters, body)?;
-            let plan = recorded(alloc, refused)?;
-            Ok(plan)
+            recorded(alloc, refused)
         }
-        _ => Ok(fails(Text::of_short(alloc, "wrong # args: should be \"proc name params body\"")?)),
+        _ => misused(alloc, Usage::Proc),
     }
 }
 
@@ -192,10 +181,9 @@ fn rename_plan(alloc: Global, context: &mut Context, words: &[Text]) -> Result<P
     match words {
         [old, new] => {
             let refused = rename(alloc, &mut context.commands, old, new)?;
-            let plan = recorded(alloc, refused)?;
-            Ok(plan)
+            recorded(alloc, refused)
         }
-        _ => Ok(fails(Text::of_short(alloc, "wrong # args: should be \"rename old new\"")?)),
+        _ => misused(alloc, Usage::Rename),
     }
 }
 
@@ -211,7 +199,7 @@ fn eval_plan(alloc: Global, words: &[Text]) -> Result<Plan, AllocError>
     ensures { IfOk result (λ plan. plan ≡ eval_plan words.now) }
 {
     match words {
-        [] => Ok(fails(Text::of_short(alloc, "wrong # args: should be \"eval arg ?arg ..?\"")?)),
+        [] => misused(alloc, Usage::Eval),
         [_, ..] => match concatenated(alloc, words)? {
             Ok(script) => Ok(Plan::Runs(Source::of_text(script))),
             Err(text) => Ok(fails(text)),
@@ -225,7 +213,7 @@ fn expr_plan(alloc: Global, table: &mut CommandTable, words: &[Text]) -> Result<
     ensures plan { IfOk result (λ plan. plan ≡ expr_plan words.now) }
 {
     match words {
-        [] => Ok(fails(Text::of_short(alloc, "wrong # args: should be \"expr arg ?arg ..?\"")?)),
+        [] => misused(alloc, Usage::Expr),
         [_, ..] => match concatenated(alloc, words)? {
             Ok(text) => Ok(Plan::Evaluates(Expression::read_by(alloc, table, &text)?)),
             Err(text) => Ok(fails(text)),
@@ -283,6 +271,8 @@ fn code_numbered(number: u64) -> Option<ReturnCode>
     }
 }
 
+/// `return` with a code, and a text.
+#[tactic(auto, unfolding(crate::specs::Commands::returns_as))]
 fn returns_as(alloc: Global, option: &Text, word: &Text, text: Text) -> Result<Plan, AllocError>
     ensures { IfOk result (λ plan. plan ≡ returns_as option.now word.now text) }
 {
@@ -313,18 +303,9 @@ fn return_plan(alloc: Global, words: &[Text]) -> Result<Plan, AllocError>
     match words {
         [] => Ok(Plan::Ends(Code::Return(ReturnCode::Normal), Text::of_short(alloc, "")?)),
         [text] => returns_value(alloc, text),
-        [option, word] => {
-            let plan = returns_as(alloc, option, word, Text::of_short(alloc, "")?)?;
-            Ok(plan)
-        }
-        [option, word, text] => {
-            let plan = returns_as(alloc, option, word, text.copy()?)?;
-            Ok(plan)
-        }
-        _ => Ok(fails(Text::of_short(
-            alloc,
-            "wrong # args: should be \"return ?-code code? ?value?\"",
-        )?)),
+        [option, word] => returns_as(alloc, option, word, Text::of_short(alloc, "")?),
+        [option, word, text] => returns_as(alloc, option, word, text.copy()?),
+        _ => misused(alloc, Usage::Return),
     }
 }
 
@@ -405,25 +386,16 @@ fn uplevel_plan(alloc: Global, count: usize, words: &[Text]) -> Result<Plan, All
     ensures { IfOk result (λ plan. plan ≡ uplevel_plan count words.now) }
 {
     let [first, rest @ ..] = words else {
-        return uplevel_usage(alloc);
+        return misused(alloc, Usage::Uplevel);
     };
     if !is_level(first.as_str().as_bytes()) {
         return runs_up(alloc, count, words);
     }
     if rest.is_empty() {
-        return uplevel_usage(alloc);
+        return misused(alloc, Usage::Uplevel);
     }
     let left = levels_left(alloc, count, first)?;
     runs_at(alloc, first.as_str(), rest, left)
-}
-
-fn uplevel_usage(alloc: Global) -> Result<Plan, AllocError>
-    ensures { IfOk result (λ plan. plan ≡ misused uplevel_usage) }
-{
-    Ok(fails(Text::of_short(
-        alloc,
-        "wrong # args: should be \"uplevel ?level? arg ?arg ..?\"",
-    )?))
 }
 
 /// `info level` at so many levels (info(n)).
@@ -436,26 +408,7 @@ fn level_plan(alloc: Global, count: usize, words: &[Text]) -> Result<Plan, Alloc
             let digits = format!(in alloc; "{number}")?;
             Ok(Plan::Ends(Code::Normal, told(alloc, digits.as_str())?))
         }
-        _ => Ok(fails(Text::of_short(alloc, "wrong # args: should be \"info level\"")?)),
-    }
-}
-
-/// `info exists` (info(n)).
-fn exists_plan(
-    alloc: Global,
-    scopes: &Scopes,
-    level: usize,
-    words: &[Text],
-) -> Result<Plan, AllocError>
-    requires { level < length scopes.now }
-    ensures { IfOk result (λ plan. plan ≡ exists_plan level scopes.now words.now) }
-{
-    match words {
-        [name] => {
-            let answer = if scopes.exists(level, name) { "1" } else { "0" };
-            Ok(Plan::Ends(Code::Normal, told(alloc, answer)?))
-        }
-        _ => Ok(fails(Text::of_short(alloc, "wrong # args: should be \"info exists name\"")?)),
+        _ => misused(alloc, Usage::InfoLevel),
     }
 }
 
@@ -471,15 +424,12 @@ fn info_plan(
     ensures { IfOk result (λ plan. plan ≡ info_plan count level scopes.now words.now) }
 {
     let [option, rest @ ..] = words else {
-        return Ok(fails(Text::of_short(
-            alloc,
-            "wrong # args: should be \"info option ?arg ..?\"",
-        )?));
+        return misused(alloc, Usage::Info);
     };
     if option.as_str() == "level" {
         level_plan(alloc, count, rest)
     } else if option.as_str() == "exists" {
-        exists_plan(alloc, scopes, level, rest)
+        Ok(plan_of(info_exists(alloc, scopes, level, rest)?))
     } else {
         Ok(fails(about(alloc, "bad option \"", option.as_str())?))
     }
@@ -506,9 +456,16 @@ pub fn error_end(text: Text) -> End
 fn texts_plan(alloc: Global, command: TextCommand, words: &[Text]) -> Result<Plan, AllocError>
     ensures { IfOk result (λ plan. plan ≡ texts_plan (command_answer command words.now)) }
 {
-    match command.answer(alloc, words)? {
-        Ok(text) => Ok(Plan::Ends(Code::Normal, text)),
-        Err(text) => Ok(fails(text)),
+    Ok(plan_of(command.answer(alloc, words)?))
+}
+
+/// A command ends that answers this.
+fn plan_of(answer: Result<Text, Text>) -> Plan
+    ensures { result ≡ texts_plan answer }
+{
+    match answer {
+        Ok(text) => Plan::Ends(Code::Normal, text),
+        Err(text) => fails(text),
     }
 }
 
@@ -620,7 +577,7 @@ fn caught_into(
             text: number,
         }),
         Err(SetFault::NoMemory) => Err(AllocError),
-        Err(fault) => Ok(error_end(cannot_set(alloc, name, fault)?)),
+        Err(fault) => Ok(error_end(fault.text(alloc, name.as_str())?)),
     }
 }
 

@@ -73,10 +73,7 @@ pub fn make_procedure(
         return Ok(Some(cannot_use(alloc, name)?));
     }
     match parameters_in(alloc, parameters)? {
-        Ok(parameters) => {
-            let refused = define(alloc, table, plain, body, parameters)?;
-            Ok(refused)
-        }
+        Ok(parameters) => define(alloc, table, plain, body, parameters),
         Err(text) => Ok(Some(text)),
     }
 }
@@ -157,10 +154,7 @@ pub fn rename(
         return Ok(Some(cannot_use(alloc, old)?));
     }
     match table.get(plain) {
-        Some(_) => {
-            let refused = name_anew(alloc, table, plain, new)?;
-            Ok(refused)
-        }
+        Some(_) => name_anew(alloc, table, plain, new),
         None => Ok(Some(message(
             alloc,
             "can't rename \"",

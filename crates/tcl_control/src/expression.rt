@@ -8,6 +8,7 @@ use tcl_expr::{Eval, Expr, ExprFault, parse_expr};
 use tcl_table::CommandTable;
 use tcl_table::texts::not_boolean;
 use tcl_text::Text;
+use tcl_words::ParseFault;
 
 /// How an expression was read.
 #[derive(Drop)]
@@ -46,7 +47,7 @@ impl Expression {
             Ok(expr) => Ok(Expression {
                 form: ExpressionForm::Read(expr),
             }),
-            Err(ExprFault::NoMemory) => Err(AllocError),
+            Err(ExprFault::Script(ParseFault::NoMemory)) => Err(AllocError),
             Err(fault) => Ok(Expression {
                 form: ExpressionForm::Faulty(text.copy()?, fault.text(alloc, text.as_str())?),
             }),

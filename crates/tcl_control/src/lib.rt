@@ -11,6 +11,7 @@ mod expression;
 mod plan;
 mod procedure;
 mod turns;
+mod usages;
 mod variables;
 
 pub use code::{Code, ReturnCode};
@@ -18,9 +19,4 @@ pub use context::Context;
 pub use control::{Call, End, call_command, caught};
 pub use expression::{Expression, truth};
 pub use plan::Plan;
-pub use procedure::pop_last;
-pub use tcl_shapes::{Branch, Branches, Choices};
-pub use tcl_table::{
-    Builtin, Command, CommandTable, Levels, Procedure, Source, first_commands, plain_name, texts,
-};
 pub use turns::{Looping, Test, Turning, Verdict, items_tested};

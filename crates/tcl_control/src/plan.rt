@@ -1,3 +1,6 @@
+ghost use Rattle.std.specs.Prelude.{◌≡◌};
+ghost use Rattle.tcl_control.specs.Commands as spec;
+
 use crate::code::Code;
 use crate::expression::Expression;
 use crate::turns::Looping;
@@ -26,4 +29,11 @@ pub enum Plan {
     Turns(Looping),
     /// A script runs, and then a loop is tested (for(n)).
     Starts(Source, Looping),
+}
+
+/// A command ends with an error of this text.
+pub fn fails(text: Text) -> Plan
+    ensures { result ≡ spec.fails text }
+{
+    Plan::Ends(Code::Error, text)
 }

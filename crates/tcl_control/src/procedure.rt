@@ -10,8 +10,9 @@ use crate::code::Code;
 use crate::plan::Plan;
 use std::alloc::{AllocError, Global};
 use tcl_shapes::Parameter;
-use tcl_table::texts::{limit, message};
+use tcl_table::texts::message;
 use tcl_table::{Levels, Procedure, plain_name};
+use tcl_text::message::limit;
 use tcl_text::{Text, TextFault};
 use tcl_vars::Scopes;
 
@@ -81,10 +82,7 @@ fn set_rest(
     ensures levels { length scopes.new ≡ length scopes.old }
 {
     match Text::join_list(alloc, words) {
-        Ok(form) => {
-            let refused = set_one(alloc, scopes, level, name, form)?;
-            Ok(refused)
-        }
+        Ok(form) => set_one(alloc, scopes, level, name, form),
         Err(TextFault::TooLong) => Ok(Some(limit(alloc)?)),
         Err(TextFault::NoMemory) => Err(AllocError),
     }
@@ -106,8 +104,7 @@ fn enter(
     let mut rest = words;
     'parameters: while let [parameter, behind @ ..] = left {
         if is_rest(parameter, behind) {
-            let refused = set_rest(alloc, scopes, level, &parameter.name, rest)?;
-            return Ok(refused);
+            return set_rest(alloc, scopes, level, &parameter.name, rest);
         }
         let value = value_for(alloc, &parameter.fallback, rest)?;
         match set_one(alloc, scopes, level, &parameter.name, value)? {
@@ -193,7 +190,7 @@ pub fn call_procedure(
 }
 
 /// Drops the last frame of variables, as where a procedure ends; the global one stays. It takes no memory.
-pub fn pop_last(scopes: &mut Scopes)
+fn pop_last(scopes: &mut Scopes)
     ensures { scopes.new ≡ popped scopes.old }
 {
     if scopes.levels() > 1 {

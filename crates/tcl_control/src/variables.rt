@@ -1,10 +1,11 @@
 //! The commands on variables, at the level of the script that calls them.
 ghost use Rattle.std.specs.Prelude.{◌≡◌, ◌<◌, length, IfOk};
-ghost use Rattle.tcl_table.specs.Texts.{wrong_words};
+ghost use Rattle.tcl_control.specs.Usages.{misused_text};
 ghost use Rattle.tcl_control.specs.Variables as spec;
 
 use crate::code::Code;
 use crate::control::{End, error_end, levels_left};
+use crate::usages::{Usage, misused_text};
 use std::alloc::{AllocError, Global};
 use tcl_commands::{VariableCommand, call_variable_command, upvar_command};
 use tcl_table::Levels;
@@ -83,12 +84,9 @@ fn upvar_at(
 }
 
 fn upvar_misused(alloc: Global) -> Result<End, AllocError>
-    ensures { IfOk result (λ end. end ≡ record { code = Code.Error; text = wrong_words spec.upvar_usage }) }
+    ensures { IfOk result (λ end. end ≡ record { code = Code.Error; text = misused_text Usage.Upvar }) }
 {
-    Ok(error_end(Text::of_short(
-        alloc,
-        "wrong # args: should be \"upvar ?level? other mine ?other mine ..?\"",
-    )?))
+    Ok(error_end(misused_text(alloc, Usage::Upvar)?))
 }
 
 /// `upvar` (upvar(n)).

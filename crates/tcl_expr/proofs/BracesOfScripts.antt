@@ -7,7 +7,7 @@ use Rattle.tcl_words.specs.Grammar.IsUnclosed.{ends, backslash, opens}
 use Rattle.tcl_expr.specs.Braces.{with_byte, braced}
 use Rattle.tcl_expr.specs.declared.braces.BracePlace.TheVariants.{Plain, Escaped, Indented}
 use Rattle.tcl_expr.specs.declared.fault.ExprFault.{ExprFault}
-use Rattle.tcl_expr.specs.declared.fault.ExprFault.TheVariants.{MissingBrace}
+use Rattle.tcl_expr.specs.Faults.{missing_brace}
 use Rattle.tcl_expr.proofs.BraceLemmas.{joined}
 
 abbrev Found : Type 0
@@ -116,13 +116,13 @@ braces_read own value rest is =
     ∙ ap (λ n. let read : Found = Ok (value, n) in read) (omega arith)
 
 -- where so many braces are open
-deep_unclosed : {text : List ℕ} → IsUnclosed text → (depth : ℕ) → braced Plain depth text ≡ Err MissingBrace
+deep_unclosed : {text : List ℕ} → IsUnclosed text → (depth : ℕ) → braced Plain depth text ≡ Err missing_brace
 deep_unclosed (ends {text} {value} h) depth = ap (braced Plain depth) (sym (append-nil text)) ∙ front_read h depth [] refl
 deep_unclosed (backslash before {value} h) depth = front_read h depth (92 ∷ []) refl
 deep_unclosed (opens before text {value} h more) depth =
     front_read h depth (123 ∷ text) refl ∙ ap (λ found. joined value (length before) (with_byte (123 ∷ []) found)) (deep_unclosed more (suc depth))
 
-pub unclosed_read : (text : List ℕ) → IsUnclosed text → braced Plain 0 text ≡ Err MissingBrace
+pub unclosed_read : (text : List ℕ) → IsUnclosed text → braced Plain 0 text ≡ Err missing_brace
 unclosed_read text is = deep_unclosed is 0
 
 -- each text is cut at the brace that closes it, or has none
@@ -139,11 +139,11 @@ module _ (cuts : Cuts) where
           let same : ◌≡◌ {A = Found} (Ok (meant, length own)) (Ok (value, n)) = sym (braces_read own meant rest is) ∙ ap (braced Plain 0) (sym cut) ∙ found in
           let parts : ◌≡◌ {A = List ℕ × ℕ} (meant, length own) (value, n) = cc in
           (own, rest, cut, subst (IsBraced own) (ap (λ p. p.0) parts) is, sym (ap (λ p. p.1) parts))
-      at (inr is) = let same : ◌≡◌ {A = Found} (Err MissingBrace) (Ok (value, n)) = sym (unclosed_read text is) ∙ found in absurd cc
+      at (inr is) = let same : ◌≡◌ {A = Found} (Err missing_brace) (Ok (value, n)) = sym (unclosed_read text is) ∙ found in absurd cc
 
-  pub unclosed_cut : (text : List ℕ) (fault : ExprFault) → braced Plain 0 text ≡ Err fault → IsUnclosed text × (fault ≡ MissingBrace)
+  pub unclosed_cut : (text : List ℕ) (fault : ExprFault) → braced Plain 0 text ≡ Err fault → IsUnclosed text × (fault ≡ missing_brace)
   unclosed_cut text fault told = at (cuts text)
     where
-      at : ((own : List ℕ) × (meant : List ℕ) × (rest : List ℕ) × (text ≡ own ++ 125 ∷ rest) × IsBraced own meant) ⊎ IsUnclosed text → IsUnclosed text × (fault ≡ MissingBrace)
+      at : ((own : List ℕ) × (meant : List ℕ) × (rest : List ℕ) × (text ≡ own ++ 125 ∷ rest) × IsBraced own meant) ⊎ IsUnclosed text → IsUnclosed text × (fault ≡ missing_brace)
       at (inl (own, meant, rest, cut, is)) = let same : ◌≡◌ {A = Found} (Ok (meant, length own)) (Err fault) = sym (braces_read own meant rest is) ∙ ap (braced Plain 0) (sym cut) ∙ told in absurd cc
-      at (inr is) = let same : ◌≡◌ {A = Found} (Err MissingBrace) (Err fault) = sym (unclosed_read text is) ∙ told in (is, cc)
+      at (inr is) = let same : ◌≡◌ {A = Found} (Err missing_brace) (Err fault) = sym (unclosed_read text is) ∙ told in (is, cc)

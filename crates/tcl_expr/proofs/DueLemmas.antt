@@ -5,7 +5,7 @@ use Rattle.tcl_words.specs.Reading.{index_pieces_of}
 use Rattle.tcl_words.specs.declared.script.Piece.{Piece}
 use Rattle.tcl_words.specs.declared.script.Piece.TheVariants as piece
 use Rattle.tcl_expr.specs.declared.fault.ExprFault.{ExprFault}
-use Rattle.tcl_expr.specs.declared.fault.ExprFault.TheVariants.{NoMemory}
+use Rattle.tcl_expr.specs.Faults.{no_memory}
 use Rattle.tcl_expr.specs.declared.step.Step.{Step}
 use Rattle.tcl_expr.specs.declared.step.Step.TheVariants as step
 use Rattle.tcl_expr.specs.declared.substitution.Due.{Due}
@@ -129,7 +129,7 @@ tree_fails old (Ok tree) fault e = absurd (let h : Ok (old ++ steps_of tree) ≡
 tree_fails old (Err own) fault e = let h : Err own ≡ Err fault = e in cc
 
 pub due_fails : (old steps : List Step) (expected : Result (List Step) ExprFault) (own : Due) (dues all : List Due) (fault : ExprFault) (new : List Step) (left : Result (List Step) ExprFault) → all ≡ dues ++ own ∷ [] →
-    with_steps old expected ≡ with_steps steps (dues_steps all) → GoesOn steps (before (due_steps own) (dues_steps dues)) (Err fault) new left → (expected ≡ Err fault) ⊎ (fault ≡ NoMemory)
+    with_steps old expected ≡ with_steps steps (dues_steps all) → GoesOn steps (before (due_steps own) (dues_steps dues)) (Err fault) new left → (expected ≡ Err fault) ⊎ (fault ≡ no_memory)
 due_fails old steps expected own dues all fault new left e so_far (inl h) = inl (fault_of old expected fault (so_far ∙ ap (with_steps steps) (ap dues_steps e ∙ last_first dues own (Ok []) ∙ h)))
 due_fails old steps expected own dues all fault new left e so_far (inr h) = inr h
 
@@ -159,6 +159,6 @@ steps_fail : (tree : Result Tree ExprFault) (fault : ExprFault) → tree_steps t
 steps_fail (Ok tree) fault e = absurd (let h : Ok (steps_of tree) ≡ Err fault = e in cc)
 steps_fail (Err own) fault e = let h : Err own ≡ Err fault = e in cc
 
-pub begun_fails : (room : ℕ) (pieces : List Piece) (dues : List Due) (fault : ExprFault) → dues ≡ [] → (before (text_steps room pieces) (dues_steps dues) ≡ Err fault) ⊎ (fault ≡ NoMemory) → (text_tree room pieces ≡ Err fault) ⊎ (fault ≡ NoMemory)
+pub begun_fails : (room : ℕ) (pieces : List Piece) (dues : List Due) (fault : ExprFault) → dues ≡ [] → (before (text_steps room pieces) (dues_steps dues) ≡ Err fault) ⊎ (fault ≡ no_memory) → (text_tree room pieces ≡ Err fault) ⊎ (fault ≡ no_memory)
 begun_fails room pieces dues fault none (inl e) = inl (steps_fail (text_tree room pieces) fault (sym (text_begun room pieces dues none) ∙ e))
 begun_fails room pieces dues fault none (inr e) = inr e

@@ -3,7 +3,8 @@ use Rattle.std.proofs.Common.{◌≡◌, ℕ, zero, suc, ◌+◌, ◌-◌, ◌�
 use Rattle.std.proofs.lemmas.Bool.Decides.{nat_tests}
 use Rattle.std.proofs.lemmas.List.{length-drop}
 use Rattle.tcl_expr.specs.declared.fault.ExprFault.{ExprFault}
-use Rattle.tcl_expr.specs.declared.fault.ExprFault.TheVariants.{TooLong, Syntax}
+use Rattle.tcl_expr.specs.declared.fault.ExprFault.TheVariants.{Syntax}
+use Rattle.tcl_expr.specs.Faults.{too_long}
 use Rattle.tcl_expr.specs.declared.operators.UnaryOperator.{UnaryOperator}
 use Rattle.tcl_expr.specs.declared.operators.Infix.{Infix}
 use Rattle.tcl_expr.specs.declared.tokens.Link.{Link}
@@ -442,14 +443,14 @@ module _ (text : List ℕ) (below : Below text) where
       opens o h = rw h refl
   paren_cut opened b behind w e f (inr none) =
       let room : 0 ≡ room_in opened = no_more opened none in
-      started_as opened (reading 0 AtOperand opened text) (Err TooLong)
-      (first_byte opened text b behind (Err TooLong) e (paren_moves opened (b ∷ behind) behind (mark_of b) f ∙ fails_to opened none))
-      (starts_past opened (fails TooLong) (Err TooLong) (subst (λ n. IsExpr n 11 text (fails TooLong)) room (deep b behind e f)) refl)
+      started_as opened (reading 0 AtOperand opened text) (Err too_long)
+      (first_byte opened text b behind (Err too_long) e (paren_moves opened (b ∷ behind) behind (mark_of b) f ∙ fails_to opened none))
+      (starts_past opened (fails too_long) (Err too_long) (subst (λ n. IsExpr n 11 text (fails too_long)) room (deep b behind e f)) refl)
     where
       no_more : (o : List Opened) → nat_lt (parens o) 200 ≡ false → 0 ≡ room_in o
       no_more o h = let k : 200 ≤ parens o = grind (arith, nat_tests) in omega (arith, k)
 
-      fails_to : (o : List Opened) → nat_lt (parens o) 200 ≡ false → at_paren o ≡ Err TooLong
+      fails_to : (o : List Opened) → nat_lt (parens o) 200 ≡ false → at_paren o ≡ Err too_long
       fails_to o h = rw h refl
 
   first_cut : (opened : List Opened) (b : ℕ) (behind : List ℕ) → Nests opened → past_blanks text ≡ b ∷ behind → (first : First) → first_of (mark_of b) ≡ first →

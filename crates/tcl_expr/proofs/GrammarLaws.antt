@@ -4,12 +4,13 @@ use Rattle.std.proofs.lemmas.Bool.{cases_lt}
 use Rattle.std.specs.Str.{IsUtf8, is_utf8}
 use Rattle.std.proofs.lemmas.Str.{is_utf8-from_IsUtf8, IsUtf8-from_is_utf8}
 use Rattle.tcl_expr.specs.declared.fault.ExprFault.{ExprFault}
-use Rattle.tcl_expr.specs.declared.fault.ExprFault.TheVariants.{TooLong, NoMemory}
+use Rattle.tcl_expr.specs.Faults.{too_long, no_memory}
 use Rattle.tcl_expr.specs.Trees.{Tree}
 use Rattle.tcl_expr.specs.Reading.{tree_of}
 use Rattle.tcl_expr.specs.Standing.{IsFaultOrMemory}
 use Rattle.tcl_words.specs.One.{One}
-use Rattle.tcl_expr.specs.Grammar.{IsText, IsWholeExpr, IsTreeOf, IsExprFault, IsExprParse, IsExpression, OneTreeOrFault}
+use Rattle.tcl_words.specs.Grammar.{IsText}
+use Rattle.tcl_expr.specs.Grammar.{IsWholeExpr, IsTreeOf, IsExprFault, IsExprParse, IsExpression, OneTreeOrFault}
 use Rattle.tcl_expr.specs.Grammar.IsExprFault.{no_text, faulty_text}
 use Rattle.tcl_expr.proofs.ReadLemmas.{tree_of-long, tree_of-not_utf8, tree_of-read}
 use Rattle.tcl_expr.proofs.GrammarRead.{decide, whole_read}
@@ -17,7 +18,7 @@ use Rattle.tcl_expr.proofs.GrammarCut.{whole_cut}
 
 -- a text, or none of an expression
 abbrev TextOrNone : List ℕ → Type 0
-TextOrNone text = IsText text ⊎ ((tree_of text ≡ Err TooLong) × (¬ IsText text))
+TextOrNone text = IsText text ⊎ ((tree_of text ≡ Err too_long) × (¬ IsText text))
 
 text_by : (text : List ℕ) → length text ≤ 65536 → (is_utf8 text ≡ true) ⊎ (is_utf8 text ≡ false) → TextOrNone text
 text_by text short (inl u) = inl (short, IsUtf8-from_is_utf8 text u)
@@ -52,7 +53,7 @@ tree_read text tree t = gives_read text (Ok tree) t.is_text t.cut
 
 tree_cut : (text : List ℕ) (tree : Tree) → TextOrNone text → tree_of text ≡ Ok tree → IsTreeOf text tree
 tree_cut text tree (inl t) e = record { is_text = t; cut = read_gives text (Ok tree) t e }
-tree_cut text tree (inr (none, h)) e = absurd (not_both (tree_of text) tree TooLong e none)
+tree_cut text tree (inr (none, h)) e = absurd (not_both (tree_of text) tree too_long e none)
 
 fault_read : (text : List ℕ) (fault : ExprFault) → TextOrNone text → IsExprFault text fault → tree_of text ≡ Err fault
 fault_read text fault (inl t) (faulty_text is g) = gives_read text (Err fault) is g
@@ -62,7 +63,7 @@ fault_read text fault (inr (r, h)) (no_text none) = r
 
 fault_cut : (text : List ℕ) (fault : ExprFault) → TextOrNone text → tree_of text ≡ Err fault → IsExprFault text fault
 fault_cut text fault (inl t) e = faulty_text t (read_gives text (Err fault) t e)
-fault_cut text fault (inr (none, h)) e = subst (IsExprFault text) (same_fault (tree_of text) TooLong fault none e) (no_text h)
+fault_cut text fault (inr (none, h)) e = subst (IsExprFault text) (same_fault (tree_of text) too_long fault none e) (no_text h)
 
 pub trees : (text : List ℕ) (tree : Tree) → IsTreeOf text tree ↔ (tree_of text ≡ Ok tree)
 trees text tree = (tree_read text tree, tree_cut text tree (text_or_none text))
@@ -77,7 +78,7 @@ expression_by text (Err fault) e ok = absurd (cc)
 pub expression_read : (text : List ℕ) → IsOk (tree_of text) → IsExpression text
 expression_read text ok = expression_by text (tree_of text) refl ok
 
-pub fault_told : (text : List ℕ) (fault : ExprFault) → IsFaultOrMemory (tree_of text) fault → IsExprFault text fault ⊎ (fault ≡ NoMemory)
+pub fault_told : (text : List ℕ) (fault : ExprFault) → IsFaultOrMemory (tree_of text) fault → IsExprFault text fault ⊎ (fault ≡ no_memory)
 fault_told text fault (inl e) = inl (fault_cut text fault (text_or_none text) e)
 fault_told text fault (inr e) = inr e
 
@@ -107,7 +108,7 @@ one_expr_parse text = record { it = tree_of text; holds = read_is_parse text (tr
 abbrev IsRead : List ℕ → Result (List ℕ) ExprFault → Type 0
 IsRead text answer = IfOk answer (λ _. IsOk (tree_of text)) × IfErr answer (λ fault. IsFaultOrMemory (tree_of text) fault)
 
-pub tree_answered : (text : List ℕ) (answer : Result (List ℕ) ExprFault) → IsRead text answer → (tree : Tree) → IsTreeOf text tree → IfErr answer (λ fault. fault ≡ NoMemory)
+pub tree_answered : (text : List ℕ) (answer : Result (List ℕ) ExprFault) → IsRead text answer → (tree : Tree) → IsTreeOf text tree → IfErr answer (λ fault. fault ≡ no_memory)
 tree_answered text (Ok expr) read tree is = tt
 tree_answered text (Err fault) (ok, inl e) tree is = absurd (not_both (tree_of text) tree fault (tree_read text tree is) e)
 tree_answered text (Err fault) (ok, inr e) tree is = e
@@ -116,7 +117,7 @@ not_ok : (read : Result Tree ExprFault) (fault : ExprFault) → read ≡ Err fau
 not_ok (Ok tree) fault e ok = cc
 not_ok (Err other) fault e ok = cc
 
-pub fault_answered : (text : List ℕ) (answer : Result (List ℕ) ExprFault) → IsRead text answer → (fault : ExprFault) → IsExprFault text fault → (answer ≡ Err fault) ⊎ (answer ≡ Err NoMemory)
+pub fault_answered : (text : List ℕ) (answer : Result (List ℕ) ExprFault) → IsRead text answer → (fault : ExprFault) → IsExprFault text fault → (answer ≡ Err fault) ⊎ (answer ≡ Err no_memory)
 fault_answered text (Ok expr) (ok, err) fault is = absurd (not_ok (tree_of text) fault (fault_read text fault (text_or_none text) is) ok)
 fault_answered text (Err told) (ok, inl e) fault is = inl (ap Err (same_fault (tree_of text) told fault e (fault_read text fault (text_or_none text) is)))
 fault_answered text (Err told) (ok, inr e) fault is = inr (ap Err e)

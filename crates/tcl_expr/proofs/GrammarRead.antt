@@ -4,10 +4,11 @@ use Rattle.std.proofs.lemmas.Bool.Decides.{nat_tests}
 use Rattle.tcl_text.specs.Readings.{boolean_of}
 use Rattle.tcl_words.specs.Operands.{bracket_of, substitution_of, quoted_of}
 use Rattle.tcl_words.specs.declared.script.Piece.{Piece}
-use Rattle.tcl_words.specs.declared.fault.ParseFault.{ParseFault}
+use Rattle.tcl_text.specs.declared.fault.ParseFault.{ParseFault}
 use Rattle.tcl_expr.specs.declared.braces.BracePlace.TheVariants.{Plain as Unescaped}
 use Rattle.tcl_expr.specs.declared.fault.ExprFault.{ExprFault}
-use Rattle.tcl_expr.specs.declared.fault.ExprFault.TheVariants.{TooLong, Syntax}
+use Rattle.tcl_expr.specs.declared.fault.ExprFault.TheVariants.{Syntax}
+use Rattle.tcl_expr.specs.Faults.{too_long}
 use Rattle.tcl_expr.specs.declared.operators.UnaryOperator.{UnaryOperator}
 use Rattle.tcl_expr.specs.declared.operators.UnaryOperator.TheVariants.{Negate, Keep, Complement, Not}
 use Rattle.tcl_expr.specs.declared.operators.Infix.{Infix}
@@ -458,9 +459,9 @@ read (signed {room} {text} b behind operator {ending} e f is) opened r g =
     (first_byte opened text b behind (move 0 AtOperand (Before operator ∷ opened)) e (sign_moves opened (b ∷ behind) behind operator (mark_of b) f))
     (read is (Before operator ∷ opened) r (guards_before operator opened))
 read (deep {text} b behind e f) opened r g =
-    first_byte opened text b behind (Err TooLong) e (paren_moves opened (b ∷ behind) behind (mark_of b) f ∙ none)
+    first_byte opened text b behind (Err too_long) e (paren_moves opened (b ∷ behind) behind (mark_of b) f ∙ none)
   where
-    none : at_paren opened ≡ Err TooLong
+    none : at_paren opened ≡ Err too_long
     none = rw (no_room opened r) refl
 read (in_parens {room} {text} b behind {inner} e f is s) opened r g =
     parens_come opened text behind inner s

@@ -12,7 +12,7 @@ use Rattle.tcl_words.specs.Grammar.IsBraced.{none, byte, pair, continuation, bra
 use Rattle.tcl_words.proofs.BracesCut.{BraceCut, braces_cut}
 use Rattle.tcl_expr.specs.declared.braces.BracePlace.TheVariants.{Plain}
 use Rattle.tcl_expr.specs.declared.fault.ExprFault.{ExprFault}
-use Rattle.tcl_expr.specs.declared.fault.ExprFault.TheVariants.{MissingBrace}
+use Rattle.tcl_expr.specs.Faults.{missing_brace}
 use Rattle.tcl_expr.specs.Braces.{braced}
 use Rattle.tcl_expr.specs.Tokens.{is_digit, is_alphabetic, is_name_byte}
 use Rattle.tcl_expr.specs.Counts.{name_bytes, digits, based_or, past_zero_by, past_zero, number_length}
@@ -236,7 +236,7 @@ found_by text value n (inl (own, inner, rest, cut, is)) e utf8 =
     let k : ◌≡◌ {A = Found} (Ok (inner, length own)) (Ok (value, n)) = sym (ap (braced Plain 0) cut ∙ braces_read own inner rest is) ∙ e in
     let parts : ◌≡◌ {A = List ℕ × ℕ} (inner, length own) (value, n) = cc in
     subst IsUtf8 (ap (λ p. p.0) parts) (braced_utf8 own inner rest text is cut utf8)
-found_by text value n (inr is) e utf8 = let k : ◌≡◌ {A = Found} (Err MissingBrace) (Ok (value, n)) = sym (unclosed_read text is) ∙ e in absurd cc
+found_by text value n (inr is) e utf8 = let k : ◌≡◌ {A = Found} (Err missing_brace) (Ok (value, n)) = sym (unclosed_read text is) ∙ e in absurd cc
 
 pub found_utf8 : (text value : List ℕ) (n : ℕ) → braced Plain 0 text ≡ Ok (value, n) → IsUtf8 text → IsUtf8 value
 found_utf8 text value n e utf8 = found_by text value n (braces_cut text) e utf8

@@ -2,11 +2,11 @@
 use Rattle.std.proofs.Common.{◌≡◌, ℕ, zero, suc, false, ◌+◌, ◌-◌, ◌<◌, List, ◌∷◌, length, take, drop, slice_index, get_or, arith, Some, None, Result, Ok, Err, refl, sym, ap, subst, ◌∙◌, ◌⊎◌, inl, inr}
 use Rattle.tcl_words.specs.Operands.{IsReadAs, bracket_of, substitution_of, quoted_of}
 use Rattle.tcl_words.specs.declared.script.Piece.{Piece}
-use Rattle.tcl_words.specs.declared.fault.ParseFault.{ParseFault}
+use Rattle.tcl_text.specs.declared.fault.ParseFault.{ParseFault}
 use Rattle.tcl_expr.specs.declared.fault.ExprFault.{ExprFault}
-use Rattle.tcl_expr.specs.declared.fault.ExprFault.TheVariants.{Syntax, NoMemory}
+use Rattle.tcl_expr.specs.declared.fault.ExprFault.TheVariants.{Syntax, Script}
+use Rattle.tcl_expr.specs.Faults.{no_memory}
 use Rattle.tcl_expr.specs.declared.parser.Parser.{Parser}
-use Rattle.tcl_expr.specs.Faults.{script_fault}
 use Rattle.tcl_expr.specs.Trees.{Tree}
 use Rattle.tcl_expr.specs.Steps.{steps_of}
 use Rattle.tcl_expr.specs.Substitution.{piece_tree, text_tree, Writes}
@@ -53,17 +53,17 @@ module _ (old new : Parser) (room : ℕ) (behind : List ℕ) (most : room ≡ 20
       subst (λ n. Follows new taken (with_pieces before (quoted_of n behind))) r
       (subst (λ x. Follows new taken (with_pieces before x)) (sym e) (subst (λ n. Follows new taken (with_operand taken before (text_tree n pieces))) r (written_stands old new before taken (text_tree room pieces) t s)))
 
-  pub bracket_refused : (fault : ParseFault) → IsReadAs (Err fault) (bracket_of room behind) → Takes old (Err (script_fault fault)) new (λ before. at_bracket before behind)
+  pub bracket_refused : (fault : ParseFault) → IsReadAs (Err fault) (bracket_of room behind) → Takes old (Err (Script fault)) new (λ before. at_bracket before behind)
   bracket_refused fault (inl e) = inr (λ before s. ap (λ n. with_piece before (bracket_of n behind)) (sym (room_is old room before most s)) ∙ ap (with_piece before) e)
-  bracket_refused fault (inr e) = inl (ap script_fault e)
+  bracket_refused fault (inr e) = inl (ap (λ f. Script f) e)
 
-  pub dollar_refused : (fault : ParseFault) → IsReadAs (Err fault) (substitution_of room behind) → Takes old (Err (script_fault fault)) new (λ before. at_dollar before behind)
+  pub dollar_refused : (fault : ParseFault) → IsReadAs (Err fault) (substitution_of room behind) → Takes old (Err (Script fault)) new (λ before. at_dollar before behind)
   dollar_refused fault (inl e) = inr (λ before s. ap (λ n. with_substitution before (substitution_of n behind)) (sym (room_is old room before most s)) ∙ ap (with_substitution before) e)
-  dollar_refused fault (inr e) = inl (ap script_fault e)
+  dollar_refused fault (inr e) = inl (ap (λ f. Script f) e)
 
-  pub quotes_refused : (fault : ParseFault) → IsReadAs (Err fault) (quoted_of room behind) → Takes old (Err (script_fault fault)) new (λ before. at_quote before behind)
+  pub quotes_refused : (fault : ParseFault) → IsReadAs (Err fault) (quoted_of room behind) → Takes old (Err (Script fault)) new (λ before. at_quote before behind)
   quotes_refused fault (inl e) = inr (λ before s. ap (λ n. with_pieces before (quoted_of n behind)) (sym (room_is old room before most s)) ∙ ap (with_pieces before) e)
-  quotes_refused fault (inr e) = inl (ap script_fault e)
+  quotes_refused fault (inr e) = inl (ap (λ f. Script f) e)
 
   pub dollar_alone : substitution_of room behind ≡ Ok None → Takes old (Err Syntax) new (λ before. at_dollar before behind)
   dollar_alone e = inr (λ before s. ap (λ n. with_substitution before (substitution_of n behind)) (sym (room_is old room before most s)) ∙ ap (with_substitution before) e)
@@ -71,19 +71,19 @@ module _ (old new : Parser) (room : ℕ) (behind : List ℕ) (most : room ≡ 20
   operand_fails : (before : List Opened) (taken : ℕ) (expected : Result Tree ExprFault) (fault : ExprFault) → expected ≡ Err fault → with_operand taken before expected ≡ Err fault
   operand_fails before taken expected fault e = ap (with_operand taken before) e
 
-  pub bracket_unwritten : (piece : Piece) (taken : ℕ) (fault : ExprFault) → bracket_of room behind ≡ Ok (piece, taken) → (piece_tree room piece ≡ Err fault) ⊎ (fault ≡ NoMemory) → Takes old (Err fault) new (λ before. at_bracket before behind)
+  pub bracket_unwritten : (piece : Piece) (taken : ℕ) (fault : ExprFault) → bracket_of room behind ≡ Ok (piece, taken) → (piece_tree room piece ≡ Err fault) ⊎ (fault ≡ no_memory) → Takes old (Err fault) new (λ before. at_bracket before behind)
   bracket_unwritten piece taken fault e (inl h) = inr (λ before s.
       let r : room ≡ room_in before = room_is old room before most s in
       ap (λ n. with_piece before (bracket_of n behind)) (sym r) ∙ ap (with_piece before) e ∙ operand_fails before taken (piece_tree (room_in before) piece) fault (ap (λ n. piece_tree n piece) (sym r) ∙ h))
   bracket_unwritten piece taken fault e (inr h) = inl h
 
-  pub dollar_unwritten : (piece : Piece) (taken : ℕ) (fault : ExprFault) → substitution_of room behind ≡ Ok (Some (piece, taken)) → (piece_tree room piece ≡ Err fault) ⊎ (fault ≡ NoMemory) → Takes old (Err fault) new (λ before. at_dollar before behind)
+  pub dollar_unwritten : (piece : Piece) (taken : ℕ) (fault : ExprFault) → substitution_of room behind ≡ Ok (Some (piece, taken)) → (piece_tree room piece ≡ Err fault) ⊎ (fault ≡ no_memory) → Takes old (Err fault) new (λ before. at_dollar before behind)
   dollar_unwritten piece taken fault e (inl h) = inr (λ before s.
       let r : room ≡ room_in before = room_is old room before most s in
       ap (λ n. with_substitution before (substitution_of n behind)) (sym r) ∙ ap (with_substitution before) e ∙ operand_fails before taken (piece_tree (room_in before) piece) fault (ap (λ n. piece_tree n piece) (sym r) ∙ h))
   dollar_unwritten piece taken fault e (inr h) = inl h
 
-  pub quotes_unwritten : (pieces : List Piece) (taken : ℕ) (fault : ExprFault) → quoted_of room behind ≡ Ok (pieces, taken) → (text_tree room pieces ≡ Err fault) ⊎ (fault ≡ NoMemory) → Takes old (Err fault) new (λ before. at_quote before behind)
+  pub quotes_unwritten : (pieces : List Piece) (taken : ℕ) (fault : ExprFault) → quoted_of room behind ≡ Ok (pieces, taken) → (text_tree room pieces ≡ Err fault) ⊎ (fault ≡ no_memory) → Takes old (Err fault) new (λ before. at_quote before behind)
   quotes_unwritten pieces taken fault e (inl h) = inr (λ before s.
       let r : room ≡ room_in before = room_is old room before most s in
       ap (λ n. with_pieces before (quoted_of n behind)) (sym r) ∙ ap (with_pieces before) e ∙ operand_fails before taken (text_tree (room_in before) pieces) fault (ap (λ n. text_tree n pieces) (sym r) ∙ h))

@@ -10,17 +10,17 @@ use Rattle.tcl_words.specs.OperandGrammar.IsSubstitution.{variable as name_behin
 use Rattle.tcl_words.specs.Operands.{bracket_of, substitution_of, quoted_of}
 use Rattle.tcl_words.specs.declared.script.Piece.{Piece}
 use Rattle.tcl_words.specs.declared.script.Piece.TheVariants as piece
-use Rattle.tcl_words.specs.declared.fault.ParseFault.{ParseFault}
+use Rattle.tcl_text.specs.declared.fault.ParseFault.{ParseFault}
 use Rattle.tcl_words.proofs.BracesCut.{braces_cut}
 use Rattle.tcl_words.proofs.OperandsRead.{bracket_read, bracket_is, substitution_read, substitution_is}
 use Rattle.tcl_words.proofs.QuotesRead.{quotes_given, quotes_are}
 use Rattle.tcl_expr.specs.declared.braces.BracePlace.TheVariants.{Plain as Unescaped}
 use Rattle.tcl_expr.specs.declared.fault.ExprFault.{ExprFault}
-use Rattle.tcl_expr.specs.declared.fault.ExprFault.TheVariants.{MissingBrace, Syntax}
+use Rattle.tcl_expr.specs.declared.fault.ExprFault.TheVariants.{Syntax, Script}
+use Rattle.tcl_expr.specs.Faults.{missing_brace}
 use Rattle.tcl_expr.specs.declared.tokens.Mark.{Mark}
 use Rattle.tcl_expr.specs.declared.tokens.Mark.TheVariants as mark
 use Rattle.tcl_expr.specs.Braces.{braced}
-use Rattle.tcl_expr.specs.Faults.{script_fault}
 use Rattle.tcl_expr.specs.Substitution.{piece_tree, text_tree}
 use Rattle.tcl_expr.specs.Tokens.{mark_of, is_digit, is_alphabetic, is_name_byte, begins_name_byte, ends_number}
 use Rattle.tcl_expr.specs.Counts.{name_bytes, digits, based_or, past_zero_by, past_zero, number_length}
@@ -59,16 +59,16 @@ with_count n (Err fault) = Err fault
 
 abbrev pub piece_at : ℕ → Result (Piece × ℕ) ParseFault → Found
 piece_at room (Ok found) = with_count found.1 (piece_tree room found.0)
-piece_at room (Err fault) = Err (script_fault fault)
+piece_at room (Err fault) = Err (Script fault)
 
 abbrev pub pieces_at : ℕ → Result (List Piece × ℕ) ParseFault → Found
 pieces_at room (Ok found) = with_count found.1 (text_tree room found.0)
-pieces_at room (Err fault) = Err (script_fault fault)
+pieces_at room (Err fault) = Err (Script fault)
 
 abbrev pub variable_at : ℕ → Result (Option (Piece × ℕ)) ParseFault → Found
 variable_at room (Ok (Some found)) = with_count found.1 (piece_tree room found.0)
 variable_at room (Ok None) = Err Syntax
-variable_at room (Err fault) = Err (script_fault fault)
+variable_at room (Err fault) = Err (Script fault)
 
 -- an operand that begins with a byte of this kind, where so many brackets and indices may stand in one another
 abbrev pub operand_of : ℕ → Mark → List ℕ → List ℕ → Found
@@ -241,21 +241,21 @@ operand_found room small (other_word b own rest same are stop e) = at_mark room 
 operand_found room small (braces own value rest is) =
     at_mark room 123 (own ++ 125 ∷ rest) mark.OpenBrace (leaves (Plain value) rest) brace_mark
     (ap (λ f. operand_ending (own ++ 125 ∷ rest) (brace_at f)) (braces_read own value rest is) ∙ left_past (Plain value) own 125 rest)
-operand_found room small (unclosed_braces text is) = at_mark room 123 text mark.OpenBrace (fails MissingBrace) brace_mark (ap (λ f. operand_ending text (brace_at f)) (unclosed_read text is))
+operand_found room small (unclosed_braces text is) = at_mark room 123 text mark.OpenBrace (fails missing_brace) brace_mark (ap (λ f. operand_ending text (brace_at f)) (unclosed_read text is))
 operand_found room small (quotes own rest pieces tree are is) =
     at_mark room 34 (own ++ 34 ∷ rest) mark.Quote (leaves tree rest) quote_mark
     (quotes_found room own rest pieces tree (quotes_given room (own ++ 34 ∷ rest) (Ok (pieces, suc (length own))) (own, rest, refl, are, refl)) (text_tree_is room small are is))
 operand_found room small (faulty_quotes text pieces fault are) =
-    at_mark room 34 text mark.Quote (fails (script_fault fault)) quote_mark (ap (λ f. operand_ending text (pieces_at room f)) (quotes_given room text (Err fault) (pieces, are)))
+    at_mark room 34 text mark.Quote (fails (Script fault)) quote_mark (ap (λ f. operand_ending text (pieces_at room f)) (quotes_given room text (Err fault) (pieces, are)))
 operand_found room small (bracket own rest is) =
     at_mark room 91 (own ++ 93 ∷ rest) mark.OpenBracket (leaves (Command own) rest) bracket_mark
     (bracket_found room own rest (bracket_read room (own ++ 93 ∷ rest) (Ok (piece.Bracket own, suc (length own))) (own, rest, refl, is, refl)))
 operand_found room small (faulty_bracket text fault is) =
-    at_mark room 91 text mark.OpenBracket (fails (script_fault fault)) bracket_mark (ap (λ f. operand_ending text (piece_at room f)) (bracket_read room text (Err fault) is))
+    at_mark room 91 text mark.OpenBracket (fails (Script fault)) bracket_mark (ap (λ f. operand_ending text (piece_at room f)) (bracket_read room text (Err fault) is))
 operand_found room small (variable text rest own tree sub is) =
     at_mark room 36 text mark.Dollar (leaves tree rest) dollar_mark (variable_found_in room text rest own tree (substitution_front sub) sub (piece_tree_is room small sub is))
 operand_found room small (faulty_variable text fault is) =
-    at_mark room 36 text mark.Dollar (fails (script_fault fault)) dollar_mark (ap (λ f. operand_ending text (variable_at room f)) (substitution_read room text (Err fault) is))
+    at_mark room 36 text mark.Dollar (fails (Script fault)) dollar_mark (ap (λ f. operand_ending text (variable_at room f)) (substitution_read room text (Err fault) is))
 operand_found room small (no_variable text h k) =
     at_mark room 36 text mark.Dollar (fails Syntax) dollar_mark (ap (λ f. operand_ending text (variable_at room f)) (substitution_read room text (Ok None) (h, k)))
 operand_found room small (none b behind h) = ap (operand_ending behind) (no_operand room (mark_of b) (b ∷ behind) behind h)
@@ -430,23 +430,23 @@ word_ending room b behind same name (own, rest, cut, are, stop) = subst (λ t. H
 
 brace_ending : (room : ℕ) (text : List ℕ) → ((own : List ℕ) × (value : List ℕ) × (rest : List ℕ) × (text ≡ own ++ 125 ∷ rest) × IsBraced own value) ⊎ IsUnclosed text → HasEnding room (123 ∷ text)
 brace_ending room text (inl (own, value, rest, cut, is)) = subst (λ t. HasEnding room (123 ∷ t)) (sym cut) (leaves (Plain value) rest, braces own value rest is)
-brace_ending room text (inr is) = (fails MissingBrace, unclosed_braces text is)
+brace_ending room text (inr is) = (fails missing_brace, unclosed_braces text is)
 
 quote_ending : (room : ℕ) → room ≤ 200 → (text : List ℕ) (found : Result (List Piece × ℕ) ParseFault) → IsBehindQuote room text found → HasEnding room (34 ∷ text)
 quote_ending room small text (Ok found) (own, rest, cut, are, count) =
     let has = text_has room found.0 (pieces_have room small are) in
     subst (λ t. HasEnding room (34 ∷ t)) (sym cut) (leaves has.0 rest, quotes own rest found.0 has.0 are has.2)
-quote_ending room small text (Err fault) (pieces, are) = (fails (script_fault fault), faulty_quotes text pieces fault are)
+quote_ending room small text (Err fault) (pieces, are) = (fails (Script fault), faulty_quotes text pieces fault are)
 
 bracket_ending : (room : ℕ) (text : List ℕ) (found : Result (Piece × ℕ) ParseFault) → IsBehindBracket room text found → HasEnding room (91 ∷ text)
 bracket_ending room text (Ok found) (own, rest, cut, is, same) = subst (λ t. HasEnding room (91 ∷ t)) (sym cut) (leaves (Command own) rest, bracket own rest is)
-bracket_ending room text (Err fault) is = (fails (script_fault fault), faulty_bracket text fault is)
+bracket_ending room text (Err fault) is = (fails (Script fault), faulty_bracket text fault is)
 
 dollar_ending : (room : ℕ) → room ≤ 200 → (text : List ℕ) (found : Result (Option (Piece × ℕ)) ParseFault) → IsBehindDollar room text found → HasEnding room (36 ∷ text)
 dollar_ending room small text (Ok None) (h, k) = (fails Syntax, no_variable text h k)
 dollar_ending room small text (Ok (Some found)) (rest, is, count) =
     let has : HasTree room found.0 = substitution_has room small is in (leaves has.0 rest, variable text rest found.0 has.0 is has.2)
-dollar_ending room small text (Err fault) is = (fails (script_fault fault), faulty_variable text fault is)
+dollar_ending room small text (Err fault) is = (fails (Script fault), faulty_variable text fault is)
 
 ending_by : (room : ℕ) → room ≤ 200 → (b : ℕ) (behind : List ℕ) (m : Mark) → mark_of b ≡ m → ByteOf m b → HasEnding room (b ∷ behind)
 ending_by room small b behind mark.Digit e digit = number_ending room b behind e (number_cut b behind (digit_counts b digit) (decide (b == 48)))

@@ -8,11 +8,11 @@ use Rattle.tcl_words.specs.OperandGrammar.IsSubstitution.{variable as name_behin
 use Rattle.tcl_words.specs.declared.kind.Mode.{Mode}
 use Rattle.tcl_words.specs.declared.script.Piece.{Piece}
 use Rattle.tcl_words.specs.declared.script.Piece.TheVariants as piece
-use Rattle.tcl_words.specs.declared.fault.ParseFault.TheVariants.{TooLong as TextTooLong}
+use Rattle.tcl_text.specs.declared.fault.ParseFault.TheVariants.{TooLong as TextTooLong}
 use Rattle.tcl_words.proofs.IndicesAlone.{index_by_itself}
 use Rattle.tcl_words.proofs.Parses.{index_walked}
 use Rattle.tcl_expr.specs.declared.fault.ExprFault.{ExprFault}
-use Rattle.tcl_expr.specs.declared.fault.ExprFault.TheVariants.{TooLong as ExprTooLong}
+use Rattle.tcl_expr.specs.Faults.{too_long}
 use Rattle.tcl_expr.specs.Substitution.{with_tree as with_part, joined_trees, element_tree, index_tree_by, piece_tree, text_tree}
 use Rattle.tcl_expr.specs.Trees.{Tree, Plain, Variable, Element, Command, Joined}
 use Rattle.tcl_expr.specs.Grammar.{IsPieceTree, IsTextTree, IsJoinedTree}
@@ -35,7 +35,7 @@ mutual
   piece_same (literal text) room u e = let k : Ok (Plain text) ≡ Ok u = e in cc
   piece_same (variable name) room u e = let k : Ok (Variable name) ≡ Ok u = e in cc
   piece_same (bracket script) room u e = let k : Ok (Command script) ≡ Ok u = e in cc
-  piece_same (element name own pieces tree is trees) zero u e = let k : Err ExprTooLong ≡ Ok u = e in absurd (cc)
+  piece_same (element name own pieces tree is trees) zero u e = let k : Err too_long ≡ Ok u = e in absurd (cc)
   piece_same (element name own pieces tree is trees) (suc room) u e =
       element_same name tree u (text_tree room pieces) (λ v f. text_same trees room v f) (ap (λ r. element_tree name (index_tree_by (piece_tree room) r)) (sym (index_walked own pieces is)) ∙ e)
 

@@ -6,7 +6,7 @@ use Rattle.std.proofs.Math.Seq.{drop-cons}
 use Rattle.std.specs.Str.{IsUtf8, is_utf8}
 use Rattle.std.proofs.lemmas.Str.{is_utf8-from_IsUtf8, IsUtf8-from_is_utf8}
 use Rattle.tcl_expr.specs.declared.fault.ExprFault.{ExprFault}
-use Rattle.tcl_expr.specs.declared.fault.ExprFault.TheVariants.{TooLong}
+use Rattle.tcl_expr.specs.Faults.{too_long}
 use Rattle.tcl_expr.specs.declared.step.Step.{Step}
 use Rattle.tcl_expr.specs.declared.parser.Parser.{Parser}
 use Rattle.tcl_expr.specs.Trees.{Tree}
@@ -23,11 +23,11 @@ short text h = grind (arith, nat_tests)
 long : (text : List ℕ) → 65536 < length text → nat_lt 65536 (length text) ≡ true
 long text h = grind (arith, nat_tests)
 
-pub tree_of-long : (text : List ℕ) → 65536 < length text → tree_of text ≡ Err TooLong
+pub tree_of-long : (text : List ℕ) → 65536 < length text → tree_of text ≡ Err too_long
 unfolding tree_of
 tree_of-long text h = rw (long text h) refl
 
-pub tree_of-not_utf8 : (text : List ℕ) → length text ≤ 65536 → (IsUtf8 text → ⊥) → tree_of text ≡ Err TooLong
+pub tree_of-not_utf8 : (text : List ℕ) → length text ≤ 65536 → (IsUtf8 text → ⊥) → tree_of text ≡ Err too_long
 unfolding tree_of
 tree_of-not_utf8 text h k = rw (short text h, not_utf8 text k) refl
 

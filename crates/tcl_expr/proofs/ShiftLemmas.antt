@@ -49,8 +49,6 @@ pub right_is : (z : ℤ) (k : ℕ) → FitsSigned w64 z → int_shr z (min k 63)
 right_is (pos a) k f = ap pos (sym (small a k f.sfits))
 right_is (negsuc a) k f = ap negsuc (sym (small a k f.sfits))
 
-pub ruleset rights = (right_is, to_z-of_z)
-
 pub left_count : (a z : ℤ) → pos 0 ≤ℤ z → in_64_bits (a *ℤ pos (2 ^ unsigned_abs z)) ≡ shifted_left a z
 left_count a (pos n) h = refl
 left_count a (negsuc n) h = absurd h.le
@@ -59,4 +57,9 @@ pub right_count : (a z : ℤ) → pos 0 ≤ℤ z → Some (down_quotient a (2 ^ 
 right_count a (pos n) h = refl
 right_count a (negsuc n) h = absurd h.le
 
-pub ruleset counts = (left_count, right_count, to_z-of_z)
+pub right_shift : (a z : ℤ) → FitsSigned w64 a → pos 0 ≤ℤ z → Some (int_shr a (min (unsigned_abs z) 63)) ≡ shifted_right a z
+right_shift a z f h = ap Some (right_is a (unsigned_abs z) f) ∙ right_count a z h
+
+pub ruleset counts = (left_count, to_z-of_z)
+
+pub ruleset rights = (right_shift, to_z-of_z)

@@ -1,10 +1,10 @@
 -- Steps. A text in braces: what it stands for, up to the brace that closes.
 use Rattle.std.specs.Prelude.{ℕ, suc, ◌-◌, Bool, false, ◌==◌, ◌&&◌, ◌||◌, if◌then◌else◌, List, [], ◌∷◌, ◌++◌, Result, Ok, Err}
-use Rattle.tcl_words.specs.Bytes.{tab, line_feed, space, backslash_sign, open_brace, close_brace}
+use Rattle.tcl_text.specs.Bytes.{tab, line_feed, space, backslash_sign, open_brace, close_brace}
 use Rattle.tcl_expr.specs.declared.braces.BracePlace.{BracePlace}
 use Rattle.tcl_expr.specs.declared.braces.BracePlace.TheVariants.{Plain, Escaped, Indented}
 use Rattle.tcl_expr.specs.declared.fault.ExprFault.{ExprFault}
-use Rattle.tcl_expr.specs.declared.fault.ExprFault.TheVariants.{MissingBrace}
+use Rattle.tcl_expr.specs.Faults.{missing_brace}
 
 -- a newline behind a backslash, and the blanks and tabs behind that, are one blank
 abbrev pub place_behind : BracePlace → ℕ → BracePlace
@@ -34,7 +34,7 @@ with_byte own (Err fault) = Err fault
 
 -- what a text stands for up to the brace that closes, with so many more open, and how many bytes stand before that brace
 abbrev pub braced : BracePlace → ℕ → List ℕ → Result (List ℕ × ℕ) ExprFault
-braced place depth [] = Err MissingBrace
+braced place depth [] = Err missing_brace
 braced place depth (b ∷ text) =
     if closes place depth b then Ok ([], 0)
     else with_byte (bytes_of place b) (braced (place_behind place b) (depth_behind place depth b) text)

@@ -3,9 +3,9 @@ use Rattle.std.specs.Prelude.{ℕ, zero, suc, ◌+◌, ◌≡◌, ◌⊎◌, Lis
 use Rattle.tcl_words.specs.Reading.{index_pieces_of}
 use Rattle.tcl_words.specs.declared.script.Piece.{Piece}
 use Rattle.tcl_words.specs.declared.script.Piece.TheVariants as piece
-use Rattle.tcl_words.specs.declared.fault.ParseFault.{ParseFault}
+use Rattle.tcl_text.specs.declared.fault.ParseFault.{ParseFault}
 use Rattle.tcl_expr.specs.declared.fault.ExprFault.{ExprFault}
-use Rattle.tcl_expr.specs.declared.fault.ExprFault.TheVariants.{NoMemory}
+use Rattle.tcl_expr.specs.Faults.{no_memory}
 use Rattle.tcl_expr.specs.declared.step.Step.{Step}
 use Rattle.tcl_expr.specs.declared.step.Step.TheVariants as step
 use Rattle.tcl_expr.specs.declared.substitution.Due.{Due}
@@ -57,7 +57,7 @@ dues_steps dues = steps_before dues (Ok [])
 -- Steps were written, and others are due: together they are those that were to be written.
 abbrev pub GoesOn : List Step → Result (List Step) ExprFault → Result (Unit {0}) ExprFault → List Step → Result (List Step) ExprFault → Type 0
 GoesOn old expected (Ok done) new left = with_steps old expected ≡ with_steps new left
-GoesOn old expected (Err fault) new left = (expected ≡ Err fault) ⊎ (fault ≡ NoMemory)
+GoesOn old expected (Err fault) new left = (expected ≡ Err fault) ⊎ (fault ≡ no_memory)
 
 -- ── how much is due, which falls with each that is written ──
 

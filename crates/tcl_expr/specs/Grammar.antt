@@ -2,17 +2,17 @@
 -- stands open while a text is read. What stands at the front of a text is read with how that goes on: with what is left, or with a fault.
 use Rattle.std.specs.Prelude.{ℕ, zero, suc, ◌-◌, ◌≡◌, ◌≢◌, ◌≤◌, nat_lt, Bool, true, false, not, if◌then◌else◌, List, [], ◌∷◌, ◌++◌, length, drop, Option, Some, None, Result, Ok, Err}
 use Rattle.std.specs.Char.{digit_value}
-use Rattle.std.specs.Str.{IsUtf8}
-use Rattle.tcl_words.specs.Bytes.{quote, dollar_sign, open_bracket, close_bracket, open_brace, close_brace}
+use Rattle.tcl_text.specs.Bytes.{quote, dollar_sign, open_bracket, close_bracket, open_brace, close_brace}
 use Rattle.tcl_text.specs.Readings.{boolean_of, base_named}
-use Rattle.tcl_words.specs.Grammar.{leaves as leaves_text, fails as text_fails, script, begins, begins_name, ArePieces, IsBraced, IsUnclosed, IsInnerOf, IsIndexOf}
+use Rattle.tcl_words.specs.Grammar.{leaves as leaves_text, fails as text_fails, script, begins, begins_name, ArePieces, IsBraced, IsUnclosed, IsInnerOf, IsIndexOf, IsText}
 use Rattle.tcl_words.specs.OperandGrammar.{IsSubstitution, IsFaultySubstitution}
 use Rattle.tcl_words.specs.declared.kind.Mode.TheVariants.{Quotes}
 use Rattle.tcl_words.specs.declared.script.Piece.{Piece}
 use Rattle.tcl_words.specs.declared.script.Piece.TheVariants as piece
-use Rattle.tcl_words.specs.declared.fault.ParseFault.{ParseFault}
+use Rattle.tcl_text.specs.declared.fault.ParseFault.{ParseFault}
 use Rattle.tcl_expr.specs.declared.fault.ExprFault.{ExprFault}
-use Rattle.tcl_expr.specs.declared.fault.ExprFault.TheVariants.{TooLong, MissingBrace, MissingParen, Syntax}
+use Rattle.tcl_expr.specs.declared.fault.ExprFault.TheVariants.{Syntax, Script}
+use Rattle.tcl_expr.specs.Faults.{too_long, missing_brace, missing_paren}
 use Rattle.tcl_expr.specs.declared.operators.UnaryOperator.{UnaryOperator}
 use Rattle.tcl_expr.specs.declared.operators.UnaryOperator.TheVariants.{Negate, Keep, Complement, Not}
 use Rattle.tcl_expr.specs.declared.operators.Infix.{Infix}
@@ -20,11 +20,10 @@ use Rattle.tcl_expr.specs.declared.tokens.Mark.{Mark}
 use Rattle.tcl_expr.specs.declared.tokens.Mark.TheVariants as mark
 use Rattle.tcl_expr.specs.declared.tokens.Link.{Link}
 use Rattle.tcl_expr.specs.declared.tokens.Link.TheVariants as link
-use Rattle.tcl_expr.specs.Faults.{script_fault}
 use Rattle.tcl_expr.specs.Operators.{level_of, between}
 use Rattle.tcl_expr.specs.Tokens.{mark_of, begins_newline, link_at, is_name_byte, begins_name_byte, ends_number}
 use Rattle.tcl_expr.specs.Trees.{Tree, Integer, Plain, Variable, Element, Command, Joined, Unary, Choice}
-use Rattle.tcl_text.specs.Limits.{most_bytes, most_nested}
+use Rattle.tcl_text.specs.Limits.{most_nested}
 
 -- ── what stands between operands and operators ──
 
@@ -148,15 +147,15 @@ pub data IsOperand (room : ℕ) : List ℕ → ExprEnding → Type 0 where
   other_word : (b : ℕ) (own rest : List ℕ) → mark_of b ≡ mark.Letter → AreNameBytes (b ∷ own) → begins_name_byte rest ≡ false → boolean_of (b ∷ own) ≡ None →
       IsOperand room (b ∷ (own ++ rest)) (fails Syntax)
   braces : (own value rest : List ℕ) → IsBraced own value → IsOperand room (open_brace ∷ (own ++ close_brace ∷ rest)) (leaves (Plain value) rest)
-  unclosed_braces : (text : List ℕ) → IsUnclosed text → IsOperand room (open_brace ∷ text) (fails MissingBrace)
+  unclosed_braces : (text : List ℕ) → IsUnclosed text → IsOperand room (open_brace ∷ text) (fails missing_brace)
   quotes : (own rest : List ℕ) (pieces : List Piece) (tree : Tree) → ArePieces (IsInnerOf room) true Quotes (own ++ quote ∷ rest) pieces (leaves_text (quote ∷ rest)) → IsTextTree pieces tree →
       IsOperand room (quote ∷ (own ++ quote ∷ rest)) (leaves tree rest)
-  faulty_quotes : (text : List ℕ) (pieces : List Piece) (fault : ParseFault) → ArePieces (IsInnerOf room) true Quotes text pieces (text_fails fault) → IsOperand room (quote ∷ text) (fails (script_fault fault))
+  faulty_quotes : (text : List ℕ) (pieces : List Piece) (fault : ParseFault) → ArePieces (IsInnerOf room) true Quotes text pieces (text_fails fault) → IsOperand room (quote ∷ text) (fails (Script fault))
   bracket : (own rest : List ℕ) → IsInnerOf room script (own ++ close_bracket ∷ rest) (leaves_text (close_bracket ∷ rest)) → IsOperand room (open_bracket ∷ (own ++ close_bracket ∷ rest)) (leaves (Command own) rest)
-  faulty_bracket : (text : List ℕ) (fault : ParseFault) → IsInnerOf room script text (text_fails fault) → IsOperand room (open_bracket ∷ text) (fails (script_fault fault))
+  faulty_bracket : (text : List ℕ) (fault : ParseFault) → IsInnerOf room script text (text_fails fault) → IsOperand room (open_bracket ∷ text) (fails (Script fault))
   -- a variable or an element
   variable : (text rest : List ℕ) (own : Piece) (tree : Tree) → IsSubstitution room text own rest → IsPieceTree own tree → IsOperand room (dollar_sign ∷ text) (leaves tree rest)
-  faulty_variable : (text : List ℕ) (fault : ParseFault) → IsFaultySubstitution room text fault → IsOperand room (dollar_sign ∷ text) (fails (script_fault fault))
+  faulty_variable : (text : List ℕ) (fault : ParseFault) → IsFaultySubstitution room text fault → IsOperand room (dollar_sign ∷ text) (fails (Script fault))
   -- a `$` with nothing that it could begin
   no_variable : (text : List ℕ) → begins_name text ≡ false → begins open_brace text ≡ false → IsOperand room (dollar_sign ∷ text) (fails Syntax)
   none : (b : ℕ) (behind : List ℕ) → begins_operand (mark_of b) ≡ false → IsOperand room (b ∷ behind) (fails Syntax)
@@ -180,7 +179,7 @@ first_of _ = operand
 -- what stands in parentheses, with what comes behind it
 abbrev pub closed_by : Tree → After → ExprEnding
 closed_by tree (linked link.Close behind) = leaves tree behind
-closed_by tree at_end = fails MissingParen
+closed_by tree at_end = fails missing_paren
 closed_by tree _ = fails Syntax
 
 abbrev pub closed : ExprEnding → ExprEnding
@@ -207,7 +206,7 @@ pub data IsExpr : ℕ → ℕ → List ℕ → ExprEnding → Type 0 where
   signed : {room : ℕ} {text : List ℕ} (b : ℕ) (behind : List ℕ) (operator : UnaryOperator) {ending : ExprEnding} → past_blanks text ≡ b ∷ behind → first_of (mark_of b) ≡ sign operator →
       IsExpr room 11 behind ending → IsExpr room 11 text (with_tree (Unary operator) ending)
   -- parentheses
-  deep : {text : List ℕ} (b : ℕ) (behind : List ℕ) → past_blanks text ≡ b ∷ behind → first_of (mark_of b) ≡ paren → IsExpr zero 11 text (fails TooLong)
+  deep : {text : List ℕ} (b : ℕ) (behind : List ℕ) → past_blanks text ≡ b ∷ behind → first_of (mark_of b) ≡ paren → IsExpr zero 11 text (fails too_long)
   parens : {room : ℕ} {text : List ℕ} (b : ℕ) (behind : List ℕ) {inner : ExprEnding} → past_blanks text ≡ b ∷ behind → first_of (mark_of b) ≡ paren →
       IsExpr room 0 behind inner → stops inner ≡ true → IsExpr (suc room) 11 text (closed inner)
   -- what binds tighter
@@ -232,10 +231,6 @@ abbrev pub whole_of : ExprEnding → Result Tree ExprFault
 whole_of (leaves tree left) = whole_by tree (after left)
 whole_of (fails fault) = Err fault
 
--- an expression's text: at most 65,536 bytes of UTF-8
-abbrev pub IsText : List ℕ → Type 0
-IsText text = (length text ≤ most_bytes) × IsUtf8 text
-
 -- The text as a whole is of this tree, or has this fault, as the levels of operators cut it. At most 200 parentheses, brackets and
 -- indices stand in one another.
 abbrev pub IsWholeExpr : List ℕ → Result Tree ExprFault → Type 0
@@ -249,7 +244,7 @@ pub record IsTreeOf (text : List ℕ) (tree : Tree) : Type 0 where
 -- The text is no expression, and this is its first fault from the left.
 pub data IsExprFault (text : List ℕ) : ExprFault → Type 0 where
   -- that it is no text counts before all else
-  no_text : ¬ IsText text → IsExprFault text TooLong
+  no_text : ¬ IsText text → IsExprFault text too_long
   faulty_text : {fault : ExprFault} → IsText text → IsWholeExpr text (Err fault) → IsExprFault text fault
 
 -- What the text is: an expression with this tree, or none, with this fault. Each text is one of both, and in one way alone.

@@ -1,6 +1,7 @@
 -- Meaning. What an application is told of a fault.
 use Rattle.std.specs.Prelude.{ℕ, List, [], ◌++◌, codes}
 use Rattle.tcl_text.specs.Splitting.{fault_text as list_fault_text}
+use Rattle.tcl_text.specs.FaultTexts.{parse_text}
 use Rattle.tcl_expr.specs.declared.operators.UnaryOperator.{UnaryOperator}
 use Rattle.tcl_expr.specs.declared.operators.UnaryOperator.TheVariants.{Negate, Keep, Complement, Not}
 use Rattle.tcl_expr.specs.declared.operators.ArithmeticOperator.{ArithmeticOperator}
@@ -37,19 +38,12 @@ operator_name (Arithmetic operator) = arithmetic_name operator
 
 -- of an expression with this source; want of memory has no such text
 abbrev pub parse_message : List ℕ → ExprFault → List ℕ
-parse_message source parse.TooLong = limit_text
-parse_message source parse.MissingBrace = codes "missing close-brace"
-parse_message source parse.MissingBracket = codes "missing close-bracket"
-parse_message source parse.MissingQuote = codes "missing \""
-parse_message source parse.ExtraAfterBrace = codes "extra characters after close-brace"
-parse_message source parse.ExtraAfterQuote = codes "extra characters after close-quote"
-parse_message source parse.MissingParen = codes "missing )"
+parse_message source (parse.Script fault) = message (parse_text fault)
 parse_message source parse.Syntax = message (codes "syntax error in expression \"" ++ source ++ codes "\"")
-parse_message source parse.NoMemory = []
 
 abbrev pub eval_message : EvalFault → List ℕ
 eval_message (eval.NotBoolean text) = message (codes "expected boolean value but got \"" ++ text ++ codes "\"")
-eval_message (eval.BadList fault) = list_fault_text fault
+eval_message (eval.BadList fault) = message (list_fault_text fault)
 eval_message eval.TooLong = limit_text
 eval_message eval.DivideByZero = codes "divide by zero"
 eval_message eval.Overflow = codes "integer value too large to represent"

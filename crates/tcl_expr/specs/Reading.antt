@@ -3,7 +3,8 @@ use Rattle.std.specs.Prelude.{ℕ, zero, suc, ◌-◌, Bool, true, false, not, �
 use Rattle.std.specs.Str.{is_utf8}
 use Rattle.tcl_text.specs.Readings.{boolean_of}
 use Rattle.tcl_expr.specs.declared.fault.ExprFault.{ExprFault}
-use Rattle.tcl_expr.specs.declared.fault.ExprFault.TheVariants.{TooLong, MissingParen, Syntax}
+use Rattle.tcl_expr.specs.declared.fault.ExprFault.TheVariants.{Syntax, Script}
+use Rattle.tcl_expr.specs.Faults.{too_long, missing_paren}
 use Rattle.tcl_expr.specs.declared.operators.UnaryOperator.{UnaryOperator}
 use Rattle.tcl_expr.specs.declared.operators.UnaryOperator.TheVariants.{Negate, Keep, Complement, Not}
 use Rattle.tcl_expr.specs.declared.operators.Infix.{Infix}
@@ -17,13 +18,12 @@ use Rattle.tcl_expr.specs.Counts.{number_length, name_bytes}
 use Rattle.tcl_expr.specs.Operators.{level_of, between}
 use Rattle.tcl_expr.specs.Trees.{Tree, Integer, Plain, Unary, Choice}
 use Rattle.tcl_expr.specs.Steps.{steps_of}
-use Rattle.tcl_expr.specs.Faults.{script_fault}
 use Rattle.tcl_expr.specs.Braces.{braced}
 use Rattle.tcl_expr.specs.declared.braces.BracePlace.TheVariants.{Plain as Unescaped}
 use Rattle.tcl_expr.specs.Substitution.{piece_tree, text_tree}
 use Rattle.tcl_words.specs.Operands.{bracket_of, substitution_of, quoted_of}
 use Rattle.tcl_words.specs.declared.script.Piece.{Piece}
-use Rattle.tcl_words.specs.declared.fault.ParseFault.{ParseFault}
+use Rattle.tcl_text.specs.declared.fault.ParseFault.{ParseFault}
 use Rattle.tcl_text.specs.Limits.{most_bytes, most_nested}
 
 -- ── what stands open ──
@@ -98,7 +98,7 @@ abbrev pub at_sign : UnaryOperator → List Opened → Result Move ExprFault
 at_sign operator opened = move 0 AtOperand (Before operator ∷ opened)
 
 abbrev pub at_paren : List Opened → Result Move ExprFault
-at_paren opened = if nat_lt (parens opened) most_nested then move 0 AtOperand (Paren ∷ opened) else Err TooLong
+at_paren opened = if nat_lt (parens opened) most_nested then move 0 AtOperand (Paren ∷ opened) else Err too_long
 
 abbrev pub at_number : ℕ → List Opened → List ℕ → Result Move ExprFault
 at_number n opened text = if ends_number (drop n text) then move (n - 1) (AtOperator (Integer (take n text))) opened else Err Syntax
@@ -120,17 +120,17 @@ with_operand skip opened (Err fault) = Err fault
 
 abbrev pub with_piece : List Opened → Result (Piece × ℕ) ParseFault → Result Move ExprFault
 with_piece opened (Ok found) = with_operand found.1 opened (piece_tree (room_in opened) found.0)
-with_piece opened (Err fault) = Err (script_fault fault)
+with_piece opened (Err fault) = Err (Script fault)
 
 abbrev pub with_pieces : List Opened → Result (List Piece × ℕ) ParseFault → Result Move ExprFault
 with_pieces opened (Ok found) = with_operand found.1 opened (text_tree (room_in opened) found.0)
-with_pieces opened (Err fault) = Err (script_fault fault)
+with_pieces opened (Err fault) = Err (Script fault)
 
 -- a `$` with nothing that it could begin is no operand
 abbrev pub with_substitution : List Opened → Result (Option (Piece × ℕ)) ParseFault → Result Move ExprFault
 with_substitution opened (Ok None) = Err Syntax
 with_substitution opened (Ok (Some found)) = with_operand found.1 opened (piece_tree (room_in opened) found.0)
-with_substitution opened (Err fault) = Err (script_fault fault)
+with_substitution opened (Err fault) = Err (Script fault)
 
 -- a bracket, a `$` and a quote, as in a script
 abbrev pub at_bracket : List Opened → List ℕ → Result Move ExprFault
@@ -214,7 +214,7 @@ move_of (AtOperator tree) opened text behind m = operator_move m opened tree tex
 -- the end of the text
 abbrev pub whole : List Opened → Tree → Result Tree ExprFault
 whole [] tree = Ok tree
-whole (Paren ∷ opened) tree = Err MissingParen
+whole (Paren ∷ opened) tree = Err missing_paren
 whole _ tree = Err Syntax
 
 abbrev pub at_end : OperandPlace → List Opened → Result Tree ExprFault
@@ -233,7 +233,7 @@ reading zero place opened (b ∷ text) = on_move (move_of place opened (b ∷ te
 
 -- The tree of a text, or its fault.
 unfoldable pub tree_of : List ℕ → Result Tree ExprFault
-tree_of text = if nat_lt most_bytes (length text) then Err TooLong else if not (is_utf8 text) then Err TooLong else reading 0 AtOperand [] text
+tree_of text = if nat_lt most_bytes (length text) then Err too_long else if not (is_utf8 text) then Err too_long else reading 0 AtOperand [] text
 
 -- and its steps
 abbrev pub compiled_by : Result Tree ExprFault → Result (List Step) ExprFault

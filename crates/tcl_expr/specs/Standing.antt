@@ -1,7 +1,8 @@
 -- Steps. How the code stands where it has read some of an expression, and what it makes of what comes next.
 use Rattle.std.specs.Prelude.{◌≡◌, ◌≢◌, ◌⊎◌, ℕ, Bool, true, false, List, [], ◌∷◌, ◌++◌, Option, Some, None, Result, Ok, Err}
 use Rattle.tcl_expr.specs.declared.fault.ExprFault.{ExprFault}
-use Rattle.tcl_expr.specs.declared.fault.ExprFault.TheVariants.{Syntax, NoMemory}
+use Rattle.tcl_expr.specs.declared.fault.ExprFault.TheVariants.{Syntax}
+use Rattle.tcl_expr.specs.Faults.{no_memory}
 use Rattle.tcl_expr.specs.declared.step.Step.{Step}
 use Rattle.tcl_expr.specs.declared.open.Open.{Open}
 use Rattle.tcl_expr.specs.declared.open.Open.TheVariants as open_form
@@ -43,7 +44,7 @@ StandsNext parser (Err fault) = ⊥
 abbrev pub Links : Link → Parser → Result (Unit {0}) ExprFault → Parser → Type 0
 Links link old (Ok done) new = (before : List Opened) (tree : Tree) → Stands old (AtOperator tree) before → StandsNext new (link_next before tree link)
 Links link old (Err fault) new =
-    (fault ≡ NoMemory) ⊎ ((before : List Opened) (tree : Tree) → Stands old (AtOperator tree) before → link_next before tree link ≡ Err fault)
+    (fault ≡ no_memory) ⊎ ((before : List Opened) (tree : Tree) → Stands old (AtOperator tree) before → link_next before tree link ≡ Err fault)
 
 -- the code goes where a move leads, and says how many further bytes it takes
 abbrev pub Follows : Parser → ℕ → Result Move ExprFault → Type 0
@@ -53,7 +54,7 @@ Follows parser skip (Err fault) = ⊥
 -- from wherever the code stands at such a place
 abbrev pub Takes : Parser → Result ℕ ExprFault → Parser → (List Opened → Result Move ExprFault) → Type 0
 Takes old (Ok skip) new expected = (before : List Opened) → Stands old AtOperand before → Follows new skip (expected before)
-Takes old (Err fault) new expected = (fault ≡ NoMemory) ⊎ ((before : List Opened) → Stands old AtOperand before → expected before ≡ Err fault)
+Takes old (Err fault) new expected = (fault ≡ no_memory) ⊎ ((before : List Opened) → Stands old AtOperand before → expected before ≡ Err fault)
 
 -- an operand of these steps
 pub record HasOperand (old new : Parser) (own : List Step) : Type 0 where
@@ -78,17 +79,17 @@ move_at text (AtOperator tree) before = operator_at text before tree
 abbrev pub TakesLink : Parser → Result ℕ ExprFault → Parser → List ℕ → Type 0
 TakesLink old (Ok skip) new text = (before : List Opened) (tree : Tree) → Stands old (AtOperator tree) before → Follows new skip (operator_at text before tree)
 TakesLink old (Err fault) new text =
-    (fault ≡ NoMemory) ⊎ ((before : List Opened) (tree : Tree) → Stands old (AtOperator tree) before → operator_at text before tree ≡ Err fault)
+    (fault ≡ no_memory) ⊎ ((before : List Opened) (tree : Tree) → Stands old (AtOperator tree) before → operator_at text before tree ≡ Err fault)
 
 abbrev pub TakesFound : Parser → Result ℕ ExprFault → Parser → Option (Link × ℕ) → Type 0
 TakesFound old (Ok skip) new found = (before : List Opened) (tree : Tree) → Stands old (AtOperator tree) before → Follows new skip (link_move before tree found)
 TakesFound old (Err fault) new found =
-    (fault ≡ NoMemory) ⊎ ((before : List Opened) (tree : Tree) → Stands old (AtOperator tree) before → link_move before tree found ≡ Err fault)
+    (fault ≡ no_memory) ⊎ ((before : List Opened) (tree : Tree) → Stands old (AtOperator tree) before → link_move before tree found ≡ Err fault)
 
 abbrev pub TakesToken : Parser → Result ℕ ExprFault → Parser → List ℕ → Type 0
 TakesToken old (Ok skip) new text = (place : OperandPlace) (before : List Opened) → Stands old place before → Follows new skip (move_at text place before)
 TakesToken old (Err fault) new text =
-    (fault ≡ NoMemory) ⊎ ((place : OperandPlace) (before : List Opened) → Stands old place before → move_at text place before ≡ Err fault)
+    (fault ≡ no_memory) ⊎ ((place : OperandPlace) (before : List Opened) → Stands old place before → move_at text place before ≡ Err fault)
 
 -- the end of the text: its steps are those of the tree
 abbrev pub IsWhole : Result Tree ExprFault → List Step → Type 0
@@ -99,7 +100,7 @@ abbrev pub Finishes : Parser → List Step → Type 0
 Finishes parser steps = (place : OperandPlace) (before : List Opened) → Stands parser place before → IsWhole (at_end place before) steps
 
 abbrev pub FailsAtEnd : Parser → ExprFault → Type 0
-FailsAtEnd parser fault = (fault ≡ NoMemory) ⊎ ((place : OperandPlace) (before : List Opened) → Stands parser place before → at_end place before ≡ Err fault)
+FailsAtEnd parser fault = (fault ≡ no_memory) ⊎ ((place : OperandPlace) (before : List Opened) → Stands parser place before → at_end place before ≡ Err fault)
 
 -- a fault, or else the tree
 abbrev pub end_answer : Option ExprFault → Tree → Result Tree ExprFault
@@ -112,4 +113,4 @@ EndsOpen opened answer = (before : List Opened) (tree : Tree) → opened ≡ all
 
 -- the fault, or want of memory
 abbrev pub IsFaultOrMemory : Result Tree ExprFault → ExprFault → Type 0
-IsFaultOrMemory read fault = (read ≡ Err fault) ⊎ (fault ≡ NoMemory)
+IsFaultOrMemory read fault = (read ≡ Err fault) ⊎ (fault ≡ no_memory)

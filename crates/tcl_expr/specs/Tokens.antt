@@ -1,7 +1,7 @@
 -- Meaning. What stands in front of a text where an operand or an operator is due.
 use Rattle.std.specs.Prelude.{ℕ, Bool, true, false, not, ◌==◌, nat_eq, nat_le, ◌&&◌, ◌||◌, if◌then◌else◌, List, [], ◌∷◌, drop, Option, Some, None, codes}
 use Rattle.std.specs.List.{starts_with}
-use Rattle.tcl_words.specs.Bytes.{line_feed, space, exclamation_mark, quote, dollar_sign, percent_sign, ampersand, open_paren, close_paren, star, plus_sign, minus_sign, slash, colon, less_sign, equals_sign, greater_sign, question_mark, open_bracket, backslash_sign, caret, underscore, open_brace, bar, tilde}
+use Rattle.tcl_text.specs.Bytes.{line_feed, space, exclamation_mark, quote, dollar_sign, percent_sign, ampersand, open_paren, close_paren, star, plus_sign, minus_sign, slash, colon, less_sign, equals_sign, greater_sign, question_mark, open_bracket, backslash_sign, caret, underscore, open_brace, bar, tilde}
 use Rattle.tcl_expr.specs.declared.operators.ArithmeticOperator.TheVariants.{Multiply, Divide, Remainder, Add, Subtract, ShiftLeft, ShiftRight, BitAnd, BitXor, BitOr}
 use Rattle.tcl_expr.specs.declared.operators.Comparison.{Comparison}
 use Rattle.tcl_expr.specs.declared.operators.Comparison.TheVariants as comparison

@@ -96,34 +96,24 @@ fn left_by(number: i64, count: u64) -> Option<i64>
     }
 }
 
-/// The number shifted to the right, rounded down.
-#[tactic(auto, using(crate::proofs::ShiftLemmas::rights))]
-fn right_by(number: i64, count: u64) -> i64
-    ensures { result ≡ exact.down_quotient number (2 ^ count) }
-{
-    number >> count.min(63)
-}
-
 /// The number shifted to the left, exact, where 64 bits hold it and the count isn't negative.
 #[tactic(auto, using(crate::proofs::ShiftLemmas::counts))]
 pub fn shifted_left(number: i64, count: i64) -> Option<i64>
     ensures { result ≡ exact.shifted_left number count }
 {
     if count < 0 {
-        None
-    } else {
-        left_by(number, count.unsigned_abs())
+        return None;
     }
+    left_by(number, count.unsigned_abs())
 }
 
 /// The number shifted to the right, rounded down, where the count isn't negative.
-#[tactic(auto, using(crate::proofs::ShiftLemmas::counts))]
+#[tactic(auto, using(crate::proofs::ShiftLemmas::rights))]
 pub fn shifted_right(number: i64, count: i64) -> Option<i64>
     ensures { result ≡ exact.shifted_right number count }
 {
     if count < 0 {
-        None
-    } else {
-        Some(right_by(number, count.unsigned_abs()))
+        return None;
     }
+    Some(number >> count.unsigned_abs().min(63))
 }

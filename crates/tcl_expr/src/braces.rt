@@ -1,13 +1,15 @@
 //! A text in braces, where only a backslash before a newline is substituted.
 ghost use Rattle.std.specs.Prelude.{◌≡◌, ◌⊎◌, ◌≤◌, ◌<◌, ◌+◌, ◌++◌, length, true, IfOk, IfErr, OnOk, Ok, Err};
 ghost use Rattle.tcl_expr.specs.Braces as braces;
+ghost use Rattle.tcl_expr.specs.Faults.{no_memory};
 ghost use Rattle.tcl_text.specs.Limits.{most_bytes};
 
 use crate::fault::ExprFault;
 use std::alloc::{AllocError, Global};
+use tcl_words::ParseFault;
 
 /// Where a byte of a text in braces stands.
-#[derive(Clone, Copy, Debug, PartialEq, Eq, Drop)]
+#[derive(Clone, Copy, Drop)]
 pub enum BracePlace {
     Plain,
     /// Behind a backslash.
@@ -76,7 +78,7 @@ pub fn braced(alloc: Global, text: &[u8]) -> Result<(Vec<u8>, usize), ExprFault>
     ensures found { IfOk result (λ found. braces.braced BracePlace.Plain 0 text.now ≡ Ok (found.0.items, found.1)) }
     ensures short { IfOk result (λ found. length found.0.items ≤ found.1) }
     ensures within { IfOk result (λ found. found.1 < length text.now) }
-    ensures fault { IfErr result (λ fault. (braces.braced BracePlace.Plain 0 text.now ≡ Err fault) ⊎ (fault ≡ ExprFault.NoMemory)) }
+    ensures fault { IfErr result (λ fault. (braces.braced BracePlace.Plain 0 text.now ≡ Err fault) ⊎ (fault ≡ no_memory)) }
 {
     let mut bytes = Vec::new(alloc);
     let mut place = BracePlace::Plain;
@@ -93,5 +95,5 @@ pub fn braced(alloc: Global, text: &[u8]) -> Result<(Vec<u8>, usize), ExprFault>
         count += 1;
         left = behind;
     }
-    Err(ExprFault::MissingBrace)
+    Err(ExprFault::Script(ParseFault::MissingBrace))
 }

@@ -87,10 +87,12 @@ impl Eval {
 
     /// The evaluation of an expression, from its beginning. It takes no memory.
     pub fn new(alloc: Global, expr: Expr) -> Eval
+        ensures tree { (tree : Tree) × IsTreeOf expr tree × (told result None ≡ evaluation tree) }
         ensures value { (tree : Tree) → IsTreeOf expr tree → told result None ≡ evaluation tree }
         ensures ready { result.state ≡ Ready }
         ensures walk { result ≡ evaluation_at 0 (compiled expr) [] Ready }
     {
+        let _source = expr.text();
         Eval {
             alloc,
             expr,

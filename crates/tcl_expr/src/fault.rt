@@ -1,3 +1,8 @@
+ghost use Rattle.std.specs.Prelude.{◌≡◌, ◌⊎◌};
+ghost use Rattle.tcl_expr.specs.Faults as faults;
+ghost use Rattle.tcl_expr.specs.declared.fault.ExprFault.TheVariants as expr_fault;
+ghost use Rattle.tcl_expr.specs.declared.fault.EvalFault.TheVariants as eval_fault;
+
 use crate::operators::NumberOperator;
 use std::alloc::{AllocError, AllocFailed};
 use tcl_text::{ListFault, SplitFault, Text, TextFault};
@@ -7,33 +12,13 @@ use thiserror::Error;
 /// Why a text is no expression (expr(n)).
 #[derive(Clone, Copy, Debug, PartialEq, Eq, Drop, Error)]
 pub enum ExprFault {
-    /// More than 65,536 bytes, bytes that are not UTF-8, or more than 200 parentheses, brackets and indices in one another (4).
-    #[error("limit reached: value")]
-    TooLong,
-    /// An operand in braces never ends, a variable's name in braces, or in a script in brackets a word in braces (5).
-    #[error("missing close-brace")]
-    MissingBrace,
-    /// A script in brackets never ends (6).
-    #[error("missing close-bracket")]
-    MissingBracket,
-    /// An operand in quotes never ends, or in a script in brackets a word in quotes (7).
-    #[error("missing quote")]
-    MissingQuote,
-    /// In a script in brackets something follows the brace that ends a word (8).
-    #[error("extra characters after close-brace")]
-    ExtraAfterBrace,
-    /// In a script in brackets something follows the quote that ends a word (9).
-    #[error("extra characters after close-quote")]
-    ExtraAfterQuote,
-    /// A parenthesis never ends, or the index of an element (10).
-    #[error("missing parenthesis")]
-    MissingParen,
+    /// A fault that a script can have too (4 to 10): 4 also for more than 200 parentheses, brackets and indices in one another, 5 also for
+    /// an operand in braces, 7 for one in quotes and 10 for a parenthesis that never ends; or memory was refused.
+    #[error("{0}")]
+    Script(ParseFault),
     /// Something stands where no operand or operator can (11).
     #[error("syntax error in expression")]
     Syntax,
-    /// Memory was refused.
-    #[error("out of memory")]
-    NoMemory,
 }
 
 /// Why an expression has no value (expr(n)).
@@ -56,110 +41,51 @@ pub enum EvalFault {
 }
 
 impl ExprFault {
-    ghost use Rattle.std.specs.Prelude.{◌≡◌};
-    ghost use Rattle.tcl_expr.specs.Faults.{expr_number};
-
     /// Its number; none where memory was refused.
     pub fn number(&self) -> Option<u32>
-        ensures { result ≡ expr_number self.now }
+        ensures { result ≡ faults.expr_number self.now }
     {
         match self {
-            ExprFault::TooLong => Some(4),
-            ExprFault::MissingBrace => Some(5),
-            ExprFault::MissingBracket => Some(6),
-            ExprFault::MissingQuote => Some(7),
-            ExprFault::ExtraAfterBrace => Some(8),
-            ExprFault::ExtraAfterQuote => Some(9),
-            ExprFault::MissingParen => Some(10),
+            ExprFault::Script(fault) => fault.number(),
             ExprFault::Syntax => Some(11),
-            ExprFault::NoMemory => None,
         }
     }
 }
 
 impl From<AllocError> for ExprFault {
-    ghost use Rattle.std.specs.Prelude.{◌≡◌};
-    ghost use Rattle.tcl_expr.specs.declared.fault.ExprFault.TheVariants.{NoMemory};
-
-    ghost from_gives = { λ _ e. e ≡ NoMemory };
+    ghost from_gives = { λ _ e. e ≡ faults.no_memory };
 
     fn from(_refused: AllocError) -> ExprFault {
-        ExprFault::NoMemory
+        ExprFault::Script(ParseFault::NoMemory)
     }
 }
 
 impl<T: Drop> From<AllocFailed<T>> for ExprFault {
-    ghost use Rattle.std.specs.Prelude.{◌≡◌};
-    ghost use Rattle.tcl_expr.specs.declared.fault.ExprFault.TheVariants.{NoMemory};
-
-    ghost from_gives = { λ _ e. e ≡ NoMemory };
+    ghost from_gives = { λ _ e. e ≡ faults.no_memory };
 
     fn from(_refused: AllocFailed<T>) -> ExprFault {
-        ExprFault::NoMemory
-    }
-}
-
-impl From<TextFault> for ExprFault {
-    ghost use Rattle.std.specs.Prelude.{◌≡◌};
-    ghost use Rattle.tcl_expr.specs.Faults.{parse_fault};
-
-    ghost from_gives = { λ fault e. e ≡ parse_fault fault };
-
-    fn from(fault: TextFault) -> ExprFault {
-        match fault {
-            TextFault::TooLong => ExprFault::TooLong,
-            TextFault::NoMemory => ExprFault::NoMemory,
-        }
+        ExprFault::Script(ParseFault::NoMemory)
     }
 }
 
 impl From<ParseFault> for ExprFault {
-    ghost use Rattle.std.specs.Prelude.{◌≡◌};
-    ghost use Rattle.tcl_expr.specs.Faults.{script_fault};
-
-    ghost from_gives = { λ fault e. e ≡ script_fault fault };
+    ghost from_gives = { λ fault e. e ≡ expr_fault.Script fault };
 
     fn from(fault: ParseFault) -> ExprFault {
-        match fault {
-            ParseFault::TooLong => ExprFault::TooLong,
-            ParseFault::MissingBrace => ExprFault::MissingBrace,
-            ParseFault::MissingBracket => ExprFault::MissingBracket,
-            ParseFault::MissingQuote => ExprFault::MissingQuote,
-            ParseFault::ExtraAfterBrace => ExprFault::ExtraAfterBrace,
-            ParseFault::ExtraAfterQuote => ExprFault::ExtraAfterQuote,
-            ParseFault::MissingParen => ExprFault::MissingParen,
-            ParseFault::NoMemory => ExprFault::NoMemory,
-        }
+        ExprFault::Script(fault)
     }
 }
 
 impl From<AllocError> for EvalFault {
-    ghost use Rattle.std.specs.Prelude.{◌≡◌};
-    ghost use Rattle.tcl_expr.specs.declared.fault.EvalFault.TheVariants.{NoMemory};
-
-    ghost from_gives = { λ _ e. e ≡ NoMemory };
+    ghost from_gives = { λ _ e. e ≡ eval_fault.NoMemory };
 
     fn from(_refused: AllocError) -> EvalFault {
         EvalFault::NoMemory
     }
 }
 
-impl<T: Drop> From<AllocFailed<T>> for EvalFault {
-    ghost use Rattle.std.specs.Prelude.{◌≡◌};
-    ghost use Rattle.tcl_expr.specs.declared.fault.EvalFault.TheVariants.{NoMemory};
-
-    ghost from_gives = { λ _ e. e ≡ NoMemory };
-
-    fn from(_refused: AllocFailed<T>) -> EvalFault {
-        EvalFault::NoMemory
-    }
-}
-
 impl From<SplitFault> for EvalFault {
-    ghost use Rattle.std.specs.Prelude.{◌≡◌};
-    ghost use Rattle.tcl_expr.specs.Faults.{split_fault};
-
-    ghost from_gives = { λ fault e. e ≡ split_fault fault };
+    ghost from_gives = { λ fault e. e ≡ faults.split_fault fault };
 
     fn from(fault: SplitFault) -> EvalFault {
         match fault {
@@ -170,10 +96,7 @@ impl From<SplitFault> for EvalFault {
 }
 
 impl From<TextFault> for EvalFault {
-    ghost use Rattle.std.specs.Prelude.{◌≡◌};
-    ghost use Rattle.tcl_expr.specs.Faults.{text_fault};
-
-    ghost from_gives = { λ fault e. e ≡ text_fault fault };
+    ghost from_gives = { λ fault e. e ≡ faults.text_fault fault };
 
     fn from(fault: TextFault) -> EvalFault {
         match fault {
@@ -184,13 +107,9 @@ impl From<TextFault> for EvalFault {
 }
 
 impl EvalFault {
-    ghost use Rattle.std.specs.Prelude.{◌≡◌, ◌⊎◌};
-    ghost use Rattle.tcl_expr.specs.Faults.{eval_number};
-    ghost use Rattle.tcl_expr.specs.declared.fault.EvalFault.TheVariants.{NoMemory};
-
     /// Its number; none where memory was refused.
     pub fn number(&self) -> Option<u32>
-        ensures { result ≡ eval_number self.now }
+        ensures { result ≡ faults.eval_number self.now }
     {
         match self {
             EvalFault::NotBoolean(_) => Some(2),
@@ -205,7 +124,7 @@ impl EvalFault {
 
     /// The same fault, or `NoMemory` where its text can't be shared.
     pub(crate) fn copied(&self) -> EvalFault
-        ensures { (result ≡ self.now) ⊎ (result ≡ NoMemory) }
+        ensures { (result ≡ self.now) ⊎ (result ≡ eval_fault.NoMemory) }
     {
         match self {
             EvalFault::NotBoolean(text) => match text.copy() {

@@ -3,13 +3,13 @@ ghost use Rattle.std.specs.Prelude.{◌≡◌, ◌≢◌, ◌↔◌, ℕ, ℤ, p
 ghost use Rattle.tcl_words.specs.Grammar.{IsBraced, IsUnclosed};
 ghost use Rattle.tcl_expr.specs.Arithmetic.{floor_quotient, floor_remainder, IsFloorDivision};
 ghost use Rattle.tcl_expr.specs.Braces.{braced};
+ghost use Rattle.tcl_expr.specs.Faults.{missing_brace};
 ghost use Rattle.tcl_expr.specs.Grammar.{IsTreeOf, IsExprFault, OneTreeOrFault};
 ghost use Rattle.tcl_expr.specs.Machine.{WeighsLess};
 ghost use Rattle.tcl_expr.specs.Reading.{tree_of};
 ghost use Rattle.tcl_expr.specs.Trees.{Tree};
 ghost use Rattle.tcl_expr.specs.declared.braces.BracePlace.TheVariants.{Plain};
 ghost use Rattle.tcl_expr.specs.declared.fault.ExprFault.{ExprFault as Fault};
-ghost use Rattle.tcl_expr.specs.declared.fault.ExprFault.TheVariants.{MissingBrace};
 
 use tcl_words::braces_are_cut;
 
@@ -45,10 +45,10 @@ pub fn one_tree_or_fault()
 /// Braces in an expression give what they give in a script, and are at fault exactly where those have no match.
 pub fn braces_are_those_of_scripts()
     ensures braced { (own value rest : List ℕ) → IsBraced own value → braced Plain 0 (own ++ 125 ∷ rest) ≡ Ok (value, length own) }
-    ensures unclosed { (text : List ℕ) → IsUnclosed text → braced Plain 0 text ≡ Err MissingBrace }
+    ensures unclosed { (text : List ℕ) → IsUnclosed text → braced Plain 0 text ≡ Err missing_brace }
     ensures only_braced { (text value : List ℕ) (n : ℕ) → braced Plain 0 text ≡ Ok (value, n) → (own : List ℕ) × (rest : List ℕ) × (text ≡ own ++ 125 ∷ rest)
         × IsBraced own value × (n ≡ length own) }
-    ensures only_unclosed { (text : List ℕ) (fault : Fault) → braced Plain 0 text ≡ Err fault → IsUnclosed text × (fault ≡ MissingBrace) }
+    ensures only_unclosed { (text : List ℕ) (fault : Fault) → braced Plain 0 text ≡ Err fault → IsUnclosed text × (fault ≡ missing_brace) }
 {
     braces_are_cut();
 }

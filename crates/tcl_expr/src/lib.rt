@@ -30,8 +30,5 @@ pub use laws::{
     braces_are_those_of_scripts, faults_are_told, one_tree_or_fault, questions_use_steps_up,
     quotients_round_down, trees_are_read,
 };
-pub use operators::{
-    ArithmeticOperator, BinaryOperator, Comparison, Infix, NumberOperator, TextOperator,
-    UnaryOperator,
-};
+pub use operators::{ArithmeticOperator, NumberOperator, UnaryOperator};
 pub use parse::parse_expr;

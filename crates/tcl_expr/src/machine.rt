@@ -84,8 +84,7 @@ fn join(alloc: Global, stack: &mut Operands) -> Result<Turn, EvalFault>
 {
     let right = stack.pop();
     let left = stack.pop();
-    let text = joined(alloc, left, right)?;
-    stack.push(text)?;
+    stack.push(joined(alloc, left, right)?)?;
     Ok(Turn::Skip(0))
 }
 
@@ -93,8 +92,7 @@ fn unary(alloc: Global, stack: &mut Operands, operator: UnaryOperator) -> Result
     ensures { Performs (Step.Unary operator) stack.old result stack.new }
 {
     let operand = stack.pop();
-    let value = unary_value(alloc, operator, operand)?;
-    stack.push(value)?;
+    stack.push(unary_value(alloc, operator, operand)?)?;
     Ok(Turn::Skip(0))
 }
 
@@ -103,16 +101,14 @@ fn binary(alloc: Global, stack: &mut Operands, operator: BinaryOperator) -> Resu
 {
     let right = stack.pop();
     let left = stack.pop();
-    let value = binary_value(alloc, operator, left, right)?;
-    stack.push(value)?;
+    stack.push(binary_value(alloc, operator, left, right)?)?;
     Ok(Turn::Skip(0))
 }
 
 fn and(alloc: Global, stack: &mut Operands, count: usize) -> Result<Turn, EvalFault>
     ensures { Performs (Step.And count) stack.old result stack.new }
 {
-    let value = stack.pop();
-    let truth = need_truth(alloc, value)?;
+    let truth = need_truth(alloc, stack.pop())?;
     if truth {
         return Ok(Turn::Skip(0));
     }
@@ -123,8 +119,7 @@ fn and(alloc: Global, stack: &mut Operands, count: usize) -> Result<Turn, EvalFa
 fn or(alloc: Global, stack: &mut Operands, count: usize) -> Result<Turn, EvalFault>
     ensures { Performs (Step.Or count) stack.old result stack.new }
 {
-    let value = stack.pop();
-    let truth = need_truth(alloc, value)?;
+    let truth = need_truth(alloc, stack.pop())?;
     if !truth {
         return Ok(Turn::Skip(0));
     }
@@ -135,8 +130,7 @@ fn or(alloc: Global, stack: &mut Operands, count: usize) -> Result<Turn, EvalFau
 fn truth(alloc: Global, stack: &mut Operands) -> Result<Turn, EvalFault>
     ensures { Performs Step.Truth stack.old result stack.new }
 {
-    let value = stack.pop();
-    let truth = need_truth(alloc, value)?;
+    let truth = need_truth(alloc, stack.pop())?;
     stack.push(truth_value(truth))?;
     Ok(Turn::Skip(0))
 }
@@ -144,8 +138,7 @@ fn truth(alloc: Global, stack: &mut Operands) -> Result<Turn, EvalFault>
 fn branch(alloc: Global, stack: &mut Operands, count: usize) -> Result<Turn, EvalFault>
     ensures { Performs (Step.Branch count) stack.old result stack.new }
 {
-    let value = stack.pop();
-    let truth = need_truth(alloc, value)?;
+    let truth = need_truth(alloc, stack.pop())?;
     if truth {
         Ok(Turn::Skip(0))
     } else {

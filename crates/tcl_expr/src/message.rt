@@ -1,21 +1,13 @@
 //! What an application is told of a fault.
-ghost use Rattle.std.specs.Prelude.{◌≡◌, ◌≤◌, ◌++◌, length, codes, IfOk};
-ghost use Rattle.tcl_expr.specs.Messages.{unary_name, arithmetic_name, operator_name};
-ghost use Rattle.tcl_text.specs.Answers.{message, limit_text};
-ghost use Rattle.tcl_text.specs.Splitting.{fault_text};
-ghost use Rattle.tcl_text.specs.Limits.{most_bytes};
+ghost use Rattle.std.specs.Prelude.{◌≡◌, ◌++◌, codes, IfOk};
+ghost use Rattle.tcl_expr.specs.Messages.{operator_name};
+ghost use Rattle.tcl_text.specs.Answers.{message};
 
 use crate::fault::{EvalFault, ExprFault};
 use crate::operators::{ArithmeticOperator, NumberOperator, UnaryOperator};
 use std::alloc::{AllocError, Global};
-use tcl_text::{ListFault, Text};
-
-/// The text that stands in place of one past 65,536 bytes.
-fn limit(alloc: Global) -> Result<Text, AllocError>
-    ensures { IfOk result (λ text. text ≡ limit_text) }
-{
-    Text::of_short(alloc, "limit reached: value")
-}
+use tcl_text::Text;
+use tcl_text::message::limit;
 
 /// A message about a subject, between what stands before it and a quote.
 #[tactic(auto, unfolding(tcl_text::specs::Answers::bounded))]
@@ -28,51 +20,25 @@ fn message_about(alloc: Global, before: &str, subject: &str) -> Result<Text, All
     Text::of_message(alloc, characters.as_str())
 }
 
-fn unary_name(operator: UnaryOperator) -> &'static str
-    ensures { result.now ≡ unary_name operator }
-{
-    match operator {
-        UnaryOperator::Negate => "-",
-        UnaryOperator::Keep => "+",
-        UnaryOperator::Complement => "~",
-        UnaryOperator::Not => "!",
-    }
-}
-
-fn arithmetic_name(operator: ArithmeticOperator) -> &'static str
-    ensures { result.now ≡ arithmetic_name operator }
-{
-    match operator {
-        ArithmeticOperator::Multiply => "*",
-        ArithmeticOperator::Divide => "/",
-        ArithmeticOperator::Remainder => "%",
-        ArithmeticOperator::Add => "+",
-        ArithmeticOperator::Subtract => "-",
-        ArithmeticOperator::ShiftLeft => "<<",
-        ArithmeticOperator::ShiftRight => ">>",
-        ArithmeticOperator::BitAnd => "&",
-        ArithmeticOperator::BitXor => "^",
-        ArithmeticOperator::BitOr => "|",
-    }
-}
-
+/// An operator on integers as it is written.
 fn operator_name(operator: NumberOperator) -> &'static str
     ensures { result.now ≡ operator_name operator }
 {
     match operator {
-        NumberOperator::Unary(operator) => unary_name(operator),
-        NumberOperator::Arithmetic(operator) => arithmetic_name(operator),
-    }
-}
-
-fn list_message(fault: ListFault) -> &'static str
-    ensures text { result.now ≡ fault_text fault }
-    ensures short { length result.now ≤ most_bytes }
-{
-    match fault {
-        ListFault::OpenBrace => "unmatched open brace in list",
-        ListFault::OpenQuote => "unmatched open quote in list",
-        ListFault::ExtraCharacters => "extra characters after list element",
+        NumberOperator::Unary(UnaryOperator::Negate) => "-",
+        NumberOperator::Unary(UnaryOperator::Keep) => "+",
+        NumberOperator::Unary(UnaryOperator::Complement) => "~",
+        NumberOperator::Unary(UnaryOperator::Not) => "!",
+        NumberOperator::Arithmetic(ArithmeticOperator::Multiply) => "*",
+        NumberOperator::Arithmetic(ArithmeticOperator::Divide) => "/",
+        NumberOperator::Arithmetic(ArithmeticOperator::Remainder) => "%",
+        NumberOperator::Arithmetic(ArithmeticOperator::Add) => "+",
+        NumberOperator::Arithmetic(ArithmeticOperator::Subtract) => "-",
+        NumberOperator::Arithmetic(ArithmeticOperator::ShiftLeft) => "<<",
+        NumberOperator::Arithmetic(ArithmeticOperator::ShiftRight) => ">>",
+        NumberOperator::Arithmetic(ArithmeticOperator::BitAnd) => "&",
+        NumberOperator::Arithmetic(ArithmeticOperator::BitXor) => "^",
+        NumberOperator::Arithmetic(ArithmeticOperator::BitOr) => "|",
     }
 }
 
@@ -86,21 +52,8 @@ impl ExprFault {
         ensures { IfOk result (λ text. text ≡ parse_message source.now self.now) }
     {
         match self {
-            ExprFault::TooLong => limit(alloc),
-            ExprFault::MissingBrace => Text::of_short(alloc, "missing close-brace"),
-            ExprFault::MissingBracket => Text::of_short(alloc, "missing close-bracket"),
-            ExprFault::MissingQuote => Text::of_short(alloc, "missing \""),
-            ExprFault::ExtraAfterBrace => Text::of_short(
-                alloc,
-                "extra characters after close-brace",
-            ),
-            ExprFault::ExtraAfterQuote => Text::of_short(
-                alloc,
-                "extra characters after close-quote",
-            ),
-            ExprFault::MissingParen => Text::of_short(alloc, "missing )"),
+            ExprFault::Script(fault) => fault.told(alloc),
             ExprFault::Syntax => message_about(alloc, "syntax error in expression \"", source),
-            ExprFault::NoMemory => Text::of_short(alloc, ""),
         }
     }
 }
@@ -111,6 +64,7 @@ impl EvalFault {
 
     /// The fault as an application is told of it. A message past 65,536 bytes is that of the limit (4). Refused memory has no such
     /// text: it is empty.
+    #[tactic(auto, unfolding(tcl_text::specs::Answers::bounded))]
     pub fn text(&self, alloc: Global) -> Result<Text, AllocError>
         ensures { IfOk result (λ text. text ≡ eval_message self.now) }
     {
@@ -118,7 +72,7 @@ impl EvalFault {
             EvalFault::NotBoolean(text) => {
                 message_about(alloc, "expected boolean value but got \"", text.as_str())
             }
-            EvalFault::BadList(fault) => Text::of_short(alloc, list_message(*fault)),
+            EvalFault::BadList(fault) => Text::of_message(alloc, fault.text()),
             EvalFault::TooLong => limit(alloc),
             EvalFault::DivideByZero => Text::of_short(alloc, "divide by zero"),
             EvalFault::Overflow => Text::of_short(alloc, "integer value too large to represent"),

@@ -1,4 +1,5 @@
 ghost use Rattle.std.specs.Prelude.{◌≡◌, ◌⊎◌, Err, IfOk, IfErr, IsOk};
+ghost use Rattle.tcl_expr.specs.Faults.{no_memory};
 ghost use Rattle.tcl_expr.specs.Grammar.{IsExpression, IsTreeOf, IsExprFault};
 ghost use Rattle.tcl_expr.specs.Reading.{tree_of};
 ghost use Rattle.tcl_expr.specs.Standing.{IsFaultOrMemory};
@@ -9,6 +10,7 @@ use crate::fault::ExprFault;
 use crate::reader::read_all;
 use std::alloc::Global;
 use tcl_text::Text;
+use tcl_words::ParseFault;
 
 /// How many bytes an expression has at most, as any text.
 const MAX_BYTES: usize = 65_536;
@@ -20,13 +22,13 @@ fn read_expr(alloc: Global, source: &[u8]) -> Result<Expr, ExprFault>
     ensures fault { IfErr result (λ fault. IsFaultOrMemory (tree_of source.now) fault) }
 {
     if source.len() > MAX_BYTES {
-        return Err(ExprFault::TooLong);
+        return Err(ExprFault::Script(ParseFault::TooLong));
     }
     let Ok(characters) = str::from_utf8(source) else {
-        return Err(ExprFault::TooLong);
+        return Err(ExprFault::Script(ParseFault::TooLong));
     };
     let steps = read_all(alloc, characters)?;
-    let text = Text::new(alloc, characters)?;
+    let text = Text::of_short(alloc, characters)?;
     Ok(Expr::new(alloc, text, steps)?)
 }
 
@@ -37,9 +39,9 @@ fn read_expr(alloc: Global, source: &[u8]) -> Result<Expr, ExprFault>
 pub fn parse_expr(alloc: Global, source: &[u8]) -> Result<Expr, ExprFault>
     ensures text { IfOk result (λ expr. expr ≡ source.now) }
     ensures expression { IfOk result (λ _. IsExpression source.now) }
-    ensures fault { IfErr result (λ fault. IsExprFault source.now fault ⊎ (fault ≡ ExprFault.NoMemory)) }
-    ensures read { (tree : Tree) → IsTreeOf source.now tree → IfErr result (λ fault. fault ≡ ExprFault.NoMemory) }
-    ensures told { (fault : ExprFault) → IsExprFault source.now fault → (result ≡ Err fault) ⊎ (result ≡ Err ExprFault.NoMemory) }
+    ensures fault { IfErr result (λ fault. IsExprFault source.now fault ⊎ (fault ≡ no_memory)) }
+    ensures read { (tree : Tree) → IsTreeOf source.now tree → IfErr result (λ fault. fault ≡ no_memory) }
+    ensures told { (fault : ExprFault) → IsExprFault source.now fault → (result ≡ Err fault) ⊎ (result ≡ Err no_memory) }
     ensures walk { IfOk result (λ _. IsOk (tree_of source.now)) }
     ensures walk_fault { IfErr result (λ fault. IsFaultOrMemory (tree_of source.now) fault) }
 {

@@ -2,6 +2,7 @@
 ghost use Rattle.std.specs.Prelude.{◌≡◌, ◌≤◌, ◌+◌, ◌-◌, ◌^◌, ◌<◌, length, drop, slice_index, IfOk, IfErr, OnOk, [], ◌∷◌, Ok};
 ghost use Rattle.std.specs.Str.{IsUtf8};
 ghost use Rattle.tcl_text.specs.Readings.{integer_of};
+ghost use Rattle.tcl_expr.specs.Faults.{no_memory};
 ghost use Rattle.tcl_expr.specs.Reading as reading;
 ghost use Rattle.tcl_expr.specs.Steps.{literal_step};
 ghost use Rattle.tcl_expr.specs.Standing as standing;
@@ -23,19 +24,18 @@ use crate::tokens::{
 };
 use std::alloc::{AllocError, Global};
 use tcl_text::Text;
-use tcl_words::{bracket_behind, quotes_behind, substitution_behind};
+use tcl_words::{ParseFault, bracket_behind, quotes_behind, substitution_behind};
 
 /// How many parentheses, brackets and indices may stand open in one another.
 const MAX_DEPTH: usize = 200;
 
 /// The text of some bytes, which are characters.
-fn text_of(alloc: Global, bytes: &[u8]) -> Result<Text, ExprFault>
+fn text_of(alloc: Global, bytes: &[u8]) -> Result<Text, AllocError>
     requires short { length bytes.now ≤ most_bytes }
     requires utf8 { IsUtf8 bytes.now }
-    ensures ok { IfOk result (λ text. text ≡ bytes.now) }
-    ensures err { IfErr result (λ fault. fault ≡ ExprFault.NoMemory) }
+    ensures { IfOk result (λ text. text ≡ bytes.now) }
 {
-    Ok(Text::new(alloc, str::from_utf8(bytes).unwrap())?)
+    Text::of_short(alloc, str::from_utf8(bytes).unwrap())
 }
 
 /// The step of an integer that is spelled so.
@@ -51,7 +51,7 @@ fn literal(spelling: Text) -> Step
 /// An operand of one step.
 fn push_operand(parser: &mut Parser, step: Step) -> Result<(), ExprFault>
     ensures ok { OnOk result (standing.HasOperand parser.old parser.new (step ∷ [])) }
-    ensures err { IfErr result (λ fault. fault ≡ ExprFault.NoMemory) }
+    ensures err { IfErr result (λ fault. fault ≡ no_memory) }
 {
     parser.steps.push(step)?;
     parser.is_due = false;
@@ -71,7 +71,7 @@ fn take_paren(parser: &mut Parser) -> Result<usize, ExprFault>
     ensures { standing.Takes parser.old result parser.new reading.at_paren }
 {
     if parser.parens >= MAX_DEPTH {
-        return Err(ExprFault::TooLong);
+        return Err(ExprFault::Script(ParseFault::TooLong));
     }
     parser.opened.push(Open::Paren)?;
     parser.parens += 1;
@@ -282,7 +282,7 @@ fn end_fault(opened: &mut Vec<Open>) -> Option<ExprFault>
 {
     match opened.pop() {
         None => None,
-        Some(Open::Paren) => Some(ExprFault::MissingParen),
+        Some(Open::Paren) => Some(ExprFault::Script(ParseFault::MissingParen)),
         Some(_) => Some(ExprFault::Syntax),
     }
 }

@@ -8,7 +8,10 @@ use crate::fault::ExprFault;
 use crate::step::Step;
 use std::alloc::Global;
 use tcl_text::Text;
-use tcl_words::Piece;
+use tcl_words::{ParseFault, Piece};
+
+/// Whether steps were written.
+pub type Written = Result<(), ExprFault>;
 
 /// What is still to be written, where so many indices may stand in one another.
 #[derive(Drop)]
@@ -30,7 +33,7 @@ fn begin_text<'a>(
     dues: &mut Vec<Due<'a>>,
     pieces: &'a [Piece],
     room: usize,
-) -> Result<(), ExprFault>
+) -> Written
     ensures goes { GoesOn steps.old.items (before (text_steps room pieces.now) (dues_steps dues.old.items)) result steps.new.items (dues_steps dues.new.items) }
     ensures less { OnOk result (dues_weight dues.new.items < text_weight room pieces.now + dues_weight dues.old.items) }
 {
@@ -39,7 +42,7 @@ fn begin_text<'a>(
             dues.push(Due::Others(others, room))?;
             dues.push(Due::Piece(own, room))?;
         }
-        None => steps.push(Step::Plain(Text::new(alloc, "")?))?,
+        None => steps.push(Step::Plain(Text::of_short(alloc, "")?))?,
     }
     Ok(())
 }
@@ -51,7 +54,7 @@ fn write_piece<'a>(
     dues: &mut Vec<Due<'a>>,
     piece: &'a Piece,
     room: usize,
-) -> Result<(), ExprFault>
+) -> Written
     ensures goes { GoesOn steps.old.items (before (piece_steps room piece.now) (dues_steps dues.old.items)) result steps.new.items (dues_steps dues.new.items) }
     ensures less { OnOk result (dues_weight dues.new.items < piece_weight room piece.now + dues_weight dues.old.items) }
 {
@@ -61,7 +64,7 @@ fn write_piece<'a>(
         Piece::Bracket(script) => steps.push(Step::Command(script.copy()?))?,
         Piece::Element(array, index) => {
             if room == 0 {
-                return Err(ExprFault::TooLong);
+                return Err(ExprFault::Script(ParseFault::TooLong));
             }
             dues.push(Due::Element(array))?;
             begin_text(alloc, steps, dues, index.pieces(), room - 1)?;
@@ -76,7 +79,7 @@ fn write_due<'a>(
     steps: &mut Vec<Step>,
     dues: &mut Vec<Due<'a>>,
     due: Due<'a>,
-) -> Result<(), ExprFault>
+) -> Written
     ensures goes { GoesOn steps.old.items (before (due_steps due.entry) (dues_steps dues.old.items)) result steps.new.items (dues_steps dues.new.items) }
     ensures less { OnOk result (dues_weight dues.new.items < due_weight due.entry + dues_weight dues.old.items) }
 {
@@ -96,7 +99,7 @@ fn write_due<'a>(
 }
 
 /// The steps of all that is due.
-fn write_dues(alloc: Global, steps: &mut Vec<Step>, mut dues: Vec<Due<'_>>) -> Result<(), ExprFault>
+fn write_dues(alloc: Global, steps: &mut Vec<Step>, mut dues: Vec<Due<'_>>) -> Written
     ensures { GoesOn steps.old.items (dues_steps dues.entry.items) result steps.new.items (dues_steps []) }
 {
     while let Some(due) = dues.pop() {
@@ -106,12 +109,7 @@ fn write_dues(alloc: Global, steps: &mut Vec<Step>, mut dues: Vec<Due<'_>>) -> R
 }
 
 /// The steps of a piece, where so many indices may stand in one another.
-pub fn push_piece(
-    alloc: Global,
-    steps: &mut Vec<Step>,
-    piece: &Piece,
-    room: usize,
-) -> Result<(), ExprFault>
+pub fn push_piece(alloc: Global, steps: &mut Vec<Step>, piece: &Piece, room: usize) -> Written
     ensures { Writes steps.old.items result steps.new.items (piece_tree room piece.now) }
 {
     let mut dues = Vec::new(alloc);
@@ -120,12 +118,7 @@ pub fn push_piece(
 }
 
 /// The steps of a text of these pieces.
-pub fn push_text(
-    alloc: Global,
-    steps: &mut Vec<Step>,
-    pieces: &[Piece],
-    room: usize,
-) -> Result<(), ExprFault>
+pub fn push_text(alloc: Global, steps: &mut Vec<Step>, pieces: &[Piece], room: usize) -> Written
     ensures { Writes steps.old.items result steps.new.items (text_tree room pieces.now) }
 {
     let mut dues = Vec::new(alloc);

@@ -1,15 +1,14 @@
 //! What stands in front of a text where an operand or an operator is due.
 ghost use Rattle.std.specs.Prelude.{◌≡◌, ◌≢◌, ◌≤◌, ◌<◌, ◌+◌, ◌^◌, length, IfOk, IfSome};
-ghost use Rattle.std.specs.Char as chars;
-ghost use Rattle.tcl_text.specs.Readings as readings;
 ghost use Rattle.tcl_expr.specs.Counts as counts;
 ghost use Rattle.tcl_expr.specs.Tokens as tokens;
 
 use crate::fault::ExprFault;
 use crate::operators::{ArithmeticOperator, BinaryOperator, Comparison, Infix, TextOperator};
+use tcl_text::{base_named, digit_value};
 
 /// What a byte can begin.
-#[derive(Clone, Copy, Debug, PartialEq, Eq, Drop)]
+#[derive(Clone, Copy, Drop)]
 pub enum Mark {
     White,
     Backslash,
@@ -40,7 +39,7 @@ pub enum Mark {
 }
 
 /// What stands between two operands, or behind the last one.
-#[derive(Clone, Copy, Debug, PartialEq, Eq, Drop)]
+#[derive(Clone, Copy, Drop)]
 pub enum Link {
     Infix(Infix),
     Question,
@@ -183,44 +182,6 @@ fn word_link(text: &[u8]) -> Option<(Link, usize)>
     }
 }
 
-fn less_link(next: Mark) -> (Link, usize)
-    ensures { result ≡ tokens.less_link next }
-{
-    match next {
-        Mark::Less => (arithmetic_link(ArithmeticOperator::ShiftLeft), 2),
-        Mark::Equals => (comparison_link(Comparison::LessOrEqual), 2),
-        _ => (comparison_link(Comparison::Less), 1),
-    }
-}
-
-fn greater_link(next: Mark) -> (Link, usize)
-    ensures { result ≡ tokens.greater_link next }
-{
-    match next {
-        Mark::Greater => (arithmetic_link(ArithmeticOperator::ShiftRight), 2),
-        Mark::Equals => (comparison_link(Comparison::GreaterOrEqual), 2),
-        _ => (comparison_link(Comparison::Greater), 1),
-    }
-}
-
-fn and_link(next: Mark) -> (Link, usize)
-    ensures { result ≡ tokens.and_link next }
-{
-    match next {
-        Mark::Ampersand => (Link::Infix(Infix::And), 2),
-        _ => (arithmetic_link(ArithmeticOperator::BitAnd), 1),
-    }
-}
-
-fn or_link(next: Mark) -> (Link, usize)
-    ensures { result ≡ tokens.or_link next }
-{
-    match next {
-        Mark::Bar => (Link::Infix(Infix::Or), 2),
-        _ => (arithmetic_link(ArithmeticOperator::BitOr), 1),
-    }
-}
-
 fn equals_link(operator: Comparison, next: Mark) -> Option<(Link, usize)>
     ensures { result ≡ tokens.equals_link operator next }
 {
@@ -235,6 +196,7 @@ pub fn link_at(text: &[u8]) -> Option<(Link, usize)>
     ensures { result ≡ tokens.link_at text.now }
 {
     let (first, behind) = text.split_first()?;
+    let next = first_mark(behind);
     match mark_of(*first) {
         Mark::Plus => Some((arithmetic_link(ArithmeticOperator::Add), 1)),
         Mark::Minus => Some((arithmetic_link(ArithmeticOperator::Subtract), 1)),
@@ -242,29 +204,31 @@ pub fn link_at(text: &[u8]) -> Option<(Link, usize)>
         Mark::Slash => Some((arithmetic_link(ArithmeticOperator::Divide), 1)),
         Mark::Percent => Some((arithmetic_link(ArithmeticOperator::Remainder), 1)),
         Mark::Caret => Some((arithmetic_link(ArithmeticOperator::BitXor), 1)),
-        Mark::Less => Some(less_link(first_mark(behind))),
-        Mark::Greater => Some(greater_link(first_mark(behind))),
-        Mark::Ampersand => Some(and_link(first_mark(behind))),
-        Mark::Bar => Some(or_link(first_mark(behind))),
-        Mark::Equals => equals_link(Comparison::Same, first_mark(behind)),
-        Mark::Bang => equals_link(Comparison::Different, first_mark(behind)),
+        Mark::Less => match next {
+            Mark::Less => Some((arithmetic_link(ArithmeticOperator::ShiftLeft), 2)),
+            Mark::Equals => Some((comparison_link(Comparison::LessOrEqual), 2)),
+            _ => Some((comparison_link(Comparison::Less), 1)),
+        },
+        Mark::Greater => match next {
+            Mark::Greater => Some((arithmetic_link(ArithmeticOperator::ShiftRight), 2)),
+            Mark::Equals => Some((comparison_link(Comparison::GreaterOrEqual), 2)),
+            _ => Some((comparison_link(Comparison::Greater), 1)),
+        },
+        Mark::Ampersand => match next {
+            Mark::Ampersand => Some((Link::Infix(Infix::And), 2)),
+            _ => Some((arithmetic_link(ArithmeticOperator::BitAnd), 1)),
+        },
+        Mark::Bar => match next {
+            Mark::Bar => Some((Link::Infix(Infix::Or), 2)),
+            _ => Some((arithmetic_link(ArithmeticOperator::BitOr), 1)),
+        },
+        Mark::Equals => equals_link(Comparison::Same, next),
+        Mark::Bang => equals_link(Comparison::Different, next),
         Mark::Question => Some((Link::Question, 1)),
         Mark::Colon => Some((Link::Colon, 1)),
         Mark::CloseParen => Some((Link::Close, 1)),
         Mark::Letter => word_link(text),
         _ => None,
-    }
-}
-
-/// The value of a digit or letter, from 0 to 35, and 36 for another byte.
-fn digit_value(byte: u8) -> u8
-    ensures { result ≡ chars.digit_value byte }
-{
-    match byte {
-        b'0'..=b'9' => byte - b'0',
-        b'A'..=b'Z' => byte - b'A' + 10,
-        b'a'..=b'z' => byte - b'a' + 10,
-        _ => 36,
     }
 }
 
@@ -279,17 +243,6 @@ fn digits(base: u8, text: &[u8]) -> usize
         }
     }
     text.len()
-}
-
-fn base_named(letter: u8) -> Option<u8>
-    ensures { result ≡ readings.base_named letter }
-{
-    match letter {
-        b'x' | b'X' => Some(16),
-        b'o' | b'O' => Some(8),
-        b'b' | b'B' => Some(2),
-        _ => None,
-    }
 }
 
 /// How long a number is, from the 0 that it begins with on: a base's letter needs a digit of the base behind it.

@@ -1,7 +1,7 @@
 -- What a reply makes of an evaluation that asked: one move.
 use Rattle.std.proofs.Common.{◌≡◌, ℕ, Bool, true, false, List, ◌∷◌, Option, Some, Result, Ok, Err, refl, ap, sym, ◌∙◌}
 use Rattle.tcl_vars.specs.Store.{Store, variable_in, element_in}
-use Rattle.tcl_vars.specs.declared.fault.ReadFault.{ReadFault}
+use Rattle.tcl_text.specs.declared.fault.ReadFault.{ReadFault}
 use Rattle.tcl_expr.specs.declared.ask.Ask.{Ask}
 use Rattle.tcl_expr.specs.declared.ask.Ask.TheVariants as ask
 use Rattle.tcl_expr.specs.Resuming.{Resumption, Tells, told, is_waiting, state_after}

@@ -53,18 +53,6 @@ module _ {K : Type 0} where
   LeavesRest More rest = IsRunning rest
   LeavesRest Exhausted rest = rest ≡ Spent
 
-  -- what is left to do after slices
-  abbrev pub LeavesAfter : SliceEnd → Rest K → Type 0
-  LeavesAfter (Done code text) rest = rest ≡ Idle
-  LeavesAfter More rest = rest ≢ Idle
-  LeavesAfter Exhausted rest = rest ≡ Spent
-
--- The end of all slices is the outcome, in the state that they leave.
-abbrev pub IsWhole : {S : Type 0} → SliceEnd → Outcome S → State S → Type 0
-IsWhole (Done code text) outcome state = outcome ≡ Ended state code text
-IsWhole More outcome state = ⊥
-IsWhole Exhausted outcome state = (outcome ≡ OutOfSteps state) × (state.steps ≡ 0)
-
 -- What a slice reaches: the outcome, in the state that it leaves, or a rest that has the same outcome.
 abbrev pub Reaches : {S : Type 0} → SliceEnd → Outcome S → State S → Outcome S → Type 0
 Reaches (Done code text) outcome state after = outcome ≡ Ended state code text

@@ -3,7 +3,7 @@ use Rattle.std.specs.Prelude.{◌≡◌, ℕ, ◌+◌, Bool, false, List, [], �
 use Rattle.tcl_words.specs.declared.script.Command.{Command}
 use Rattle.tcl_words.specs.declared.script.Word.{Word}
 use Rattle.tcl_words.specs.declared.script.Piece.{Piece}
-use Rattle.tcl_words.specs.declared.fault.ParseFault.{ParseFault}
+use Rattle.tcl_text.specs.declared.fault.ParseFault.{ParseFault}
 use Rattle.tcl_vars.specs.Store.{Store}
 use Rattle.tcl_control.specs.declared.context.Context.{Context}
 use Rattle.tcl_control.specs.Source.{script_of}

@@ -2,19 +2,12 @@
 use Rattle.std.specs.Prelude.{◌≡◌, ℕ, suc, List, []}
 use Rattle.tcl_vars.specs.Store.{Store}
 use Rattle.tcl_control.specs.declared.code.Code.{Code}
-use Rattle.tcl_control.specs.declared.turns.Test.{Test}
-use Rattle.tcl_control.specs.declared.turns.Test.TheVariants.{Items, Holds}
 use Rattle.tcl_control.specs.declared.context.Context.{Context}
 use Rattle.tcl_interp.specs.Outside.{Outside}
 use Rattle.tcl_interp.specs.Evaluation.{State, Outcome}
 use Rattle.tcl_interp.specs.Finish.{Doing, Calls, Tests, Steps, Ends, Waiting, Running, finish}
 use Rattle.tcl_interp.specs.declared.tasks.Act.{Act}
 use Rattle.tcl_interp.specs.Moves.{Moved, Standing, act_move}
-
--- a loop goes through items
-abbrev pub IsThroughItems : Test → Type 0
-IsThroughItems (Items groups) = Unit {0}
-IsThroughItems (Holds condition) = ⊥
 
 module _ {K : Type 0} where
   -- a step is needed

@@ -1,2 +1,2 @@
 -- Meaning. The texts of errors, which the commands share.
-pub use Rattle.tcl_control.specs.Texts.{limit_text, message, nesting_text, unknown_command, wrong_words, not_boolean, read_reason, cannot_read, cannot_set, about}
+pub use Rattle.tcl_control.specs.Texts.{limit_text, message, nesting_text, unknown_command, wrong_words, not_boolean, cannot_read, cannot_set, about}

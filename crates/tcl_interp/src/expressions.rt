@@ -1,34 +1,29 @@
 //! Evaluations of expressions, and the conditions of `if` and of loops.
-ghost use Rattle.std.specs.Prelude.{◌≡◌, ◌≢◌, ◌<◌, ◌∷◌, List, drop, length, true, IfOk};
-ghost use Rattle.tcl_vars.specs.Store.{variable_in, element_in};
+ghost use Rattle.std.specs.Prelude.{◌≡◌, ◌≢◌, ◌<◌, List, drop, length, IfOk};
 ghost use Rattle.tcl_expr.specs.declared.fault.EvalFault.TheVariants.{NoMemory};
-ghost use Rattle.tcl_expr.specs.Resuming.{is_waiting};
 ghost use Rattle.tcl_expr.specs.Messages.{eval_message};
 ghost use Rattle.tcl_control.specs.declared.code.Code.TheVariants.{Error};
 ghost use Rattle.tcl_control.specs.Expressions.{truth_of};
-ghost use Rattle.tcl_control.specs.Texts.{element_name};
 ghost use Rattle.tcl_interp.specs.Moves.{moved, standing, expression_begins, otherwise_move, choice_move, turn_move, chosen_move};
-ghost use Rattle.tcl_interp.specs.Finish.{Waiting, Begins, Ends, Evaluates, ForValue};
+ghost use Rattle.tcl_interp.specs.Finish.{Waiting, Ends, Evaluates};
 ghost use Rattle.tcl_interp.specs.Quiet.{MovesOn};
-ghost use Rattle.tcl_interp.specs.Replies.{found, reply_to};
+ghost use Rattle.tcl_interp.specs.Replies.{reply_to};
 ghost use Rattle.tcl_interp.specs.Rests.{doing_of, moved_of, standing_of, waits_of};
 
-use crate::machine::{Answered, Asking, Choosing, Frame, Now};
-use crate::words::wait;
+use crate::machine::{Answered, Asking, Choosing, Frame, Next, Now};
+use crate::words::{begin_for, wait};
 use std::alloc::{AllocError, Global};
-use tcl_control::texts::{cannot_read, cannot_read_element};
-use tcl_control::{Choices, Code, CommandTable, Context, Expression, Looping, Source, truth};
-use tcl_expr::{Ask, Eval, EvalFault};
+use tcl_control::{Code, Context, Expression, Looping, truth};
+use tcl_expr::{Ask, EvalFault};
+use tcl_shapes::Choices;
+use tcl_table::texts::cannot_read_element;
+use tcl_table::{CommandTable, Source};
 use tcl_text::Text;
 use tcl_vars::Scopes;
 use tcl_words::Script;
 
 /// An expression begins, unless it has a fault.
-pub fn begins<K: Drop>(
-    alloc: Global,
-    expression: &Expression,
-    room: u64,
-) -> Result<Now<K>, AllocError>
+pub fn begins<K: Drop>(alloc: Global, expression: &Expression, room: u64) -> Next<K>
     ensures { IfOk result (λ now. doing_of now ≡ expression_begins room expression.now) }
 {
     match expression.begin(alloc)? {
@@ -56,79 +51,27 @@ pub enum Reply {
     Value(Text),
 }
 
-/// The value of a variable, where variables are those of a level, or the error's text.
-fn variable_reply(
-    alloc: Global,
-    scopes: &Scopes,
-    level: usize,
-    name: &Text,
-) -> Result<Reply, AllocError>
-    requires { level < length scopes.now }
-    ensures { IfOk result (λ reply. reply ≡ found name.now (variable_in scopes.now level name.now)) }
-{
-    match scopes.get(level, name) {
-        Ok(value) => Ok(Reply::Given(value.copy()?)),
-        Err(fault) => Ok(Reply::Missing(cannot_read(alloc, name, fault)?)),
-    }
-}
-
-/// The value of an element, where variables are those of a level, or the error's text.
-fn element_reply(
-    alloc: Global,
-    scopes: &Scopes,
-    level: usize,
-    array: &Text,
-    index: &Text,
-) -> Result<Reply, AllocError>
-    requires { level < length scopes.now }
-    ensures { IfOk result (λ reply. reply ≡ found (element_name array.now index.now) (element_in scopes.now level array.now index.now)) }
-{
-    match scopes.get_element(level, array, index) {
-        Ok(value) => Ok(Reply::Given(value.copy()?)),
-        Err(fault) => Ok(Reply::Missing(cannot_read_element(alloc, array, index, fault)?)),
-    }
-}
-
 /// What is there for what an evaluation asks, where variables are those of a level.
 fn reply_to(alloc: Global, scopes: &Scopes, level: usize, ask: Ask) -> Result<Reply, AllocError>
     requires { level < length scopes.now }
     ensures { IfOk result (λ reply. reply ≡ reply_to level scopes.now ask) }
 {
     match ask {
-        Ask::Variable(name) => {
-            let reply = variable_reply(alloc, scopes, level, &name)?;
-            Ok(reply)
-        }
-        Ask::Element(array, index) => {
-            let reply = element_reply(alloc, scopes, level, &array, &index)?;
-            Ok(reply)
-        }
+        Ask::Variable(name) => match scopes.get(level, &name) {
+            Ok(value) => Ok(Reply::Given(value.copy()?)),
+            Err(fault) => Ok(Reply::Missing(fault.text(alloc, name.as_str())?)),
+        },
+        Ask::Element(array, index) => match scopes.get_element(level, &array, &index) {
+            Ok(value) => Ok(Reply::Given(value.copy()?)),
+            Err(fault) => Ok(Reply::Missing(cannot_read_element(alloc, &array, &index, fault)?)),
+        },
         Ask::Command(script) => Ok(Reply::Script(script)),
         Ask::Value(text) => Ok(Reply::Value(text)),
     }
 }
 
-/// An evaluation has asked for the result of a script.
-fn script_asked<K: Drop>(
-    alloc: Global,
-    frames: &mut Vec<Frame<K>>,
-    room: u64,
-    eval: Eval,
-    script: Script,
-) -> Result<Now<K>, AllocError>
-    requires { is_waiting eval.state ≡ true }
-    ensures { IfOk result (λ now. moved_of now frames.new.items ≡ moved (Begins room script) (ForValue room eval ∷ waits_of frames.old.items)) }
-{
-    let asking = Box::new(alloc, Asking { eval })?;
-    wait(frames, Frame::ForValue { room, asking })?;
-    Ok(Now::Begins {
-        room,
-        script: Source::of_script(script),
-    })
-}
-
 /// An evaluation has this fault.
-fn failed<K: Drop>(alloc: Global, fault: &EvalFault) -> Result<Now<K>, AllocError>
+fn failed<K: Drop>(alloc: Global, fault: &EvalFault) -> Next<K>
     ensures doing { IfOk result (λ now. doing_of now ≡ Ends Error (eval_message fault.now)) }
     ensures memory { IfOk result (λ now. fault.now ≢ NoMemory) }
 {
@@ -149,7 +92,7 @@ pub fn evaluate<K: Drop>(
     frames: &mut Vec<Frame<K>>,
     room: u64,
     answered: Box<Answered>,
-) -> Result<Now<K>, AllocError>
+) -> Next<K>
     ensures { IfOk result (λ now. MovesOn (standing
         (moved (Evaluates room answered.value.eval answered.value.given) (waits_of frames.old.items)) scopes.now context.now)
         (standing_of now frames.new.items scopes.now context.now)) }
@@ -172,7 +115,11 @@ pub fn evaluate<K: Drop>(
                     text,
                 });
             }
-            Reply::Script(script) => return script_asked(alloc, frames, room, eval, script),
+            Reply::Script(script) => {
+                let asking = Box::new(alloc, Asking { eval })?;
+                let script = Source::of_script(script);
+                return begin_for(frames, Frame::ForValue { room, asking }, room, script);
+            }
             Reply::Value(text) => {
                 return Ok(Now::Ends {
                     code: Code::Normal,
@@ -190,14 +137,13 @@ pub fn turn<K: Drop>(
     room: u64,
     turning: Looping,
     value: &Text,
-) -> Result<Now<K>, AllocError>
+) -> Next<K>
     ensures { IfOk result (λ now. moved_of now frames.new.items ≡ turn_move room turning (waits_of frames.old.items) (truth_of value.now)) }
 {
     match truth(alloc, value)? {
         Ok(true) => {
             let script = turning.get().body.copy()?;
-            wait(frames, Frame::ForBody { room, turning })?;
-            Ok(Now::Begins { room, script })
+            begin_for(frames, Frame::ForBody { room, turning }, room, script)
         }
         Ok(false) => Ok(Now::Ends {
             code: Code::Normal,
@@ -211,7 +157,7 @@ pub fn turn<K: Drop>(
 }
 
 /// No condition of `if` holds.
-fn otherwise<K: Drop>(alloc: Global, room: u64, body: &Option<Text>) -> Result<Now<K>, AllocError>
+fn otherwise<K: Drop>(alloc: Global, room: u64, body: &Option<Text>) -> Next<K>
     ensures { IfOk result (λ now. (waits : List (Waiting K)) → moved (doing_of now) waits ≡ otherwise_move room body.now waits) }
 {
     match body {
@@ -234,7 +180,7 @@ pub fn choose<K: Drop>(
     room: u64,
     choices: Choices,
     place: usize,
-) -> Result<Now<K>, AllocError>
+) -> Next<K>
     ensures table { table.new ≡ table.old }
     ensures now { IfOk result (λ now. moved_of now frames.new.items
         ≡ choice_move room (drop place choices.branches) choices.otherwise (waits_of frames.old.items)) }
@@ -258,7 +204,7 @@ pub fn chosen<K: Drop>(
     room: u64,
     choosing: Box<Choosing>,
     value: &Text,
-) -> Result<Now<K>, AllocError>
+) -> Next<K>
     ensures table { table.new ≡ table.old }
     ensures now { IfOk result (λ now. moved_of now frames.new.items
         ≡ chosen_move room (drop choosing.value.place choosing.value.choices.branches) choosing.value.choices.otherwise (waits_of frames.old.items)

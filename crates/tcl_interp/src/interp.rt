@@ -6,7 +6,8 @@ use crate::slices::{Ran, run};
 use crate::tasks::Tasks;
 use std::alloc::{AllocError, Global};
 use std::mem::replace;
-use tcl_control::{Code, Context, Levels, Source, first_commands};
+use tcl_control::{Code, Context};
+use tcl_table::{Levels, Source, first_commands};
 use tcl_text::Text;
 use tcl_vars::Scopes;
 
@@ -34,10 +35,10 @@ pub struct Interp<K> {
 }
 
 impl<K: Drop> Interp<K> {
-    ghost use Rattle.std.specs.Prelude.{◌≡◌, ◌≢◌, ◌⊎◌, ◌<◌, ◌≤◌, ◌+◌, [], Ok, IfOk, OnOk, OnErr, IsErr, All, sum};
+    ghost use Rattle.std.specs.Prelude.{◌≡◌, ◌≢◌, ◌⊎◌, ◌<◌, ◌≤◌, ◌+◌, Ok, IfOk, OnOk, OnErr, IsErr};
     ghost use Rattle.tcl_interp.specs.Finish.{finish, Idle, Running, Spent, Broken, rest_of_script, rest_of_task};
     ghost use Rattle.tcl_interp.specs.Rests.{doing_of, waits_of};
-    ghost use Rattle.tcl_interp.specs.Interp.{rest_of, left_of, budget_of, context_of, first_context, at_top, granted, state_of, LeavesRest, Reaches, LeavesAfter, IsWhole};
+    ghost use Rattle.tcl_interp.specs.Interp.{rest_of, left_of, budget_of, context_of, first_context, at_top, granted, state_of, LeavesRest, Reaches};
 
     /// An interpreter that takes at most `budget` steps in all, where outside commands have these names and replace others of theirs. A
     /// name that begins with a dot is an outside command's without being given.
@@ -212,76 +213,13 @@ impl<K: Drop> Interp<K> {
         ensures left_alone { T.left_alone tasks.new ≡ T.left_alone tasks.old }
     {
         match replace(&mut self.machine, Machine::Broken) {
-            Machine::Running(now) => {
-                let end = self.run_on(tasks, scopes, now, steps)?;
-                Ok(end)
-            }
+            Machine::Running(now) => self.run_on(tasks, scopes, now, steps),
             Machine::Spent => {
                 self.machine = Machine::Spent;
                 Ok(SliceEnd::Exhausted)
             }
             Machine::Broken => Err(AllocError),
             Machine::Idle => unreachable!(),
-        }
-    }
-
-    /// Runs slices of these sizes, in steps, in turn, as long as there is more to do: they are as one slice of all their steps.
-    pub fn run_slices<T: Tasks<Task = K>>(
-        &mut self,
-        tasks: &mut T,
-        scopes: &mut Scopes,
-        sizes: &[u64],
-    ) -> Result<SliceEnd, AllocError>
-        requires positive { All (λ size. 0 < size) sizes.now }
-        requires begun { rest_of self.old ≢ Idle }
-        ensures reached { IfOk result (λ end. Reaches end (finish T.outside (rest_of self.old) (state_of self.old (T.shows tasks.old) scopes.old))
-            (state_of self.new (T.shows tasks.new) scopes.new) (finish T.outside (rest_of self.new) (state_of self.new (T.shows tasks.new) scopes.new))) }
-        ensures rest { IfOk result (λ end. LeavesAfter end (rest_of self.new)) }
-        ensures more { result ≡ Ok SliceEnd.More → left_of self.new + sum sizes.now ≡ left_of self.old }
-        ensures exhausted { result ≡ Ok SliceEnd.Exhausted → left_of self.new ≡ 0 }
-        ensures most { left_of self.old ≤ left_of self.new + sum sizes.now }
-        ensures taken { left_of self.new ≤ left_of self.old }
-        ensures budget { budget_of self.new ≡ budget_of self.old }
-        ensures refused { OnErr result (rest_of self.new ≡ Broken) }
-        ensures left_alone { T.left_alone tasks.new ≡ T.left_alone tasks.old }
-    {
-        for size in sizes {
-            match self.run_slice(tasks, scopes, *size)? {
-                SliceEnd::More => {}
-                end => return Ok(end),
-            }
-        }
-        Ok(SliceEnd::More)
-    }
-
-    /// Runs slices of these sizes, in steps, and then of one size, to the end: whatever the sizes, it is the outcome of the evaluation.
-    pub fn run_to_end<T: Tasks<Task = K>>(
-        &mut self,
-        tasks: &mut T,
-        scopes: &mut Scopes,
-        sizes: &[u64],
-        then: u64,
-    ) -> Result<SliceEnd, AllocError>
-        requires each { All (λ size. 0 < size) sizes.now }
-        requires positive { 0 < then }
-        requires begun { rest_of self.old ≢ Idle }
-        ensures whole { IfOk result (λ end. IsWhole end (finish T.outside (rest_of self.old) (state_of self.old (T.shows tasks.old) scopes.old))
-            (state_of self.new (T.shows tasks.new) scopes.new)) }
-        ensures rest { IfOk result (λ end. LeavesAfter end (rest_of self.new)) }
-        ensures taken { left_of self.new ≤ left_of self.old }
-        ensures budget { budget_of self.new ≡ budget_of self.old }
-        ensures refused { OnErr result (rest_of self.new ≡ Broken) }
-        ensures left_alone { T.left_alone tasks.new ≡ T.left_alone tasks.old }
-    {
-        match self.run_slices(tasks, scopes, sizes)? {
-            SliceEnd::More => {}
-            end => return Ok(end),
-        }
-        'slices: loop {
-            match self.run_slice(tasks, scopes, then)? {
-                SliceEnd::More => {}
-                end => return Ok(end),
-            }
         }
     }
 }

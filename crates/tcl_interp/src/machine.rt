@@ -1,8 +1,11 @@
 ghost use Rattle.std.specs.Prelude.{◌≡◌, ◌<◌, is_some, length, true};
 ghost use Rattle.tcl_expr.specs.Resuming.{is_waiting};
 
-use tcl_control::{Choices, Code, Levels, Looping, Source};
+use std::alloc::AllocError;
+use tcl_control::{Code, Looping};
 use tcl_expr::Eval;
+use tcl_shapes::Choices;
+use tcl_table::{Levels, Source};
 use tcl_text::{Text, TextList};
 use tcl_words::{Index, Script};
 
@@ -108,6 +111,9 @@ pub enum Now<K> {
         text: Text,
     },
 }
+
+/// What is done next, unless memory is refused.
+pub type Next<K> = Result<Now<K>, AllocError>;
 
 /// What waits for something to end, with what is large behind a box.
 #[derive(Drop)]

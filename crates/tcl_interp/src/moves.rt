@@ -1,21 +1,23 @@
-ghost use Rattle.std.specs.Prelude.{◌≡◌, true, [], List, Some, IfOk, IsOk, MatchResult, MatchOption, ◌∷◌, Err};
+ghost use Rattle.std.specs.Prelude.{◌≡◌, true, [], List, drop, IfOk, IsOk, MatchResult, MatchOption, ◌∷◌, Err};
 ghost use Rattle.tcl_control.specs.Commands.{caught_ending};
 ghost use Rattle.tcl_control.specs.Levels.{here, popped};
 ghost use Rattle.tcl_control.specs.Source.{script_of};
 ghost use Rattle.tcl_interp.specs.Plans.{joined, callers, procedure_code, procedure_text};
 ghost use Rattle.tcl_interp.specs.Scripts.{out_of_global};
-ghost use Rattle.tcl_interp.specs.Moves.{begin_move, parsed_move, end_move, next_move, after_body_move, after_next_move, after_start_move, ending_move, moved, standing, global_end};
-ghost use Rattle.tcl_interp.specs.Finish.{Waiting, Begins, Ends, Evaluates, ForCommand};
-ghost use Rattle.tcl_interp.specs.Rests.{waiting_of, moved_of, waits_of, doing_of, left_in, standing_of};
+ghost use Rattle.tcl_interp.specs.Moves.{after_command, after_part, after_index, after_value_move, after_test_move, after_choice_move, begin_move, parsed_move, end_move, next_move, after_body_move, after_next_move, after_start_move, ending_move, moved, standing, global_end};
+ghost use Rattle.tcl_interp.specs.Finish.{Waiting, Begins, Ends, ForCommand};
+ghost use Rattle.tcl_interp.specs.Rests.{indexing_of, waiting_of, wording_of, moved_of, waits_of, doing_of, left_in, standing_of};
 ghost use Rattle.tcl_interp.specs.Advances.{MoveGives};
 ghost use Rattle.tcl_interp.specs.Quiet.{Leads, Stops};
 
 use crate::expressions::{chosen, evaluate, turn};
-use crate::machine::{Answered, Asking, Frame, Now, ScriptPlace};
-use crate::words::{after_part, go_on, longer_index, put_index, wait};
+use crate::machine::{
+    Answered, Asking, Choosing, Frame, Indexing, Next, Now, ScriptPlace, Wording,
+};
+use crate::words::{begin_for, go_on, longer_index, longer_word, put_index};
 use std::alloc::{AllocError, Global};
-use tcl_control::texts::fault_text;
-use tcl_control::{Code, CommandTable, Context, End, Looping, ReturnCode, Source, caught};
+use tcl_control::{Code, Context, End, Looping, ReturnCode, caught};
+use tcl_table::{CommandTable, Source};
 use tcl_text::Text;
 use tcl_vars::Scopes;
 use tcl_words::Script;
@@ -41,7 +43,7 @@ pub fn out_of_global(code: Code) -> Code
 
 /// A script that has been read begins.
 #[tactic(auto, using(tcl_table::proofs::SourceLemmas::script_walk))]
-fn first_command<K>(alloc: Global, script: Script, room: u64) -> Result<Now<K>, AllocError>
+fn first_command<K>(alloc: Global, script: Script, room: u64) -> Next<K>
     ensures { IfOk result (λ now. (waits : List (Waiting K)) → moved (doing_of now) waits ≡ parsed_move room waits (script_of script)) }
 {
     let _commands = script.commands();
@@ -56,12 +58,7 @@ fn first_command<K>(alloc: Global, script: Script, room: u64) -> Result<Now<K>, 
 }
 
 /// A script begins: it is read whole first, unless there is no room for it.
-pub fn begun<K: Drop>(
-    alloc: Global,
-    table: &mut CommandTable,
-    script: Source,
-    room: u64,
-) -> Result<Now<K>, AllocError>
+pub fn begun<K: Drop>(alloc: Global, table: &mut CommandTable, script: Source, room: u64) -> Next<K>
     ensures table { table.new ≡ table.old }
     ensures now { IfOk result (λ now. (waits : List (Waiting K)) → moved (doing_of now) waits ≡ begin_move room script waits) }
 {
@@ -75,25 +72,20 @@ pub fn begun<K: Drop>(
         Ok(script) => first_command(alloc, script, room - 1),
         Err(fault) => Ok(Now::Ends {
             code: Code::Error,
-            text: fault_text(alloc, fault)?,
+            text: fault.told(alloc)?,
         }),
     }
 }
 
 /// On to the next test of a loop.
-fn next_turn<K: Drop>(
-    frames: &mut Vec<Frame<K>>,
-    room: u64,
-    turning: Looping,
-) -> Result<Now<K>, AllocError>
+fn next_turn<K: Drop>(frames: &mut Vec<Frame<K>>, room: u64, turning: Looping) -> Next<K>
     ensures { IfOk result (λ now. moved_of now frames.new.items ≡ next_move room turning (waits_of frames.old.items) turning.next) }
 {
     match &turning.get().next {
         None => Ok(Now::Tests { room, turning }),
         Some(next) => {
             let script = next.copy()?;
-            wait(frames, Frame::ForNext { room, turning })?;
-            Ok(Now::Begins { room, script })
+            begin_for(frames, Frame::ForNext { room, turning }, room, script)
         }
     }
 }
@@ -106,7 +98,7 @@ fn after_body<K: Drop>(
     turning: Looping,
     code: Code,
     text: Text,
-) -> Result<Now<K>, AllocError>
+) -> Next<K>
     ensures { IfOk result (λ now. moved_of now frames.new.items ≡ after_body_move room turning (waits_of frames.old.items) code text) }
 {
     match code {
@@ -128,7 +120,7 @@ fn after_next<K: Drop>(
     turning: Looping,
     code: Code,
     text: Text,
-) -> Result<Now<K>, AllocError>
+) -> Next<K>
     ensures { IfOk result (λ now. (waits : List (Waiting K)) → moved (doing_of now) waits ≡ after_next_move room turning waits code text) }
 {
     match code {
@@ -162,7 +154,7 @@ fn after_catch<K: Drop>(
     name: Option<Text>,
     code: Code,
     text: Text,
-) -> Result<Now<K>, AllocError>
+) -> Next<K>
     ensures { IfOk result (λ now. standing_of now frames.new.items scopes.new context.now
         ≡ ending_move (caught_ending (here context.now.levels scopes.old) name code text scopes.old) context.now (waits_of frames.old.items)) }
 {
@@ -209,7 +201,7 @@ fn after_procedure<K: Drop>(
     context: &mut Context,
     code: Code,
     text: Text,
-) -> Result<Now<K>, AllocError>
+) -> Next<K>
     ensures now { IfOk result (λ now. (waits : List (Waiting K)) → standing (moved (doing_of now) waits) scopes.new context.new
         ≡ standing (moved (Ends (procedure_code code) (procedure_text code text)) waits) (popped scopes.old) (callers context.old)) }
 {
@@ -224,7 +216,7 @@ fn after_procedure<K: Drop>(
 }
 
 /// A script at global level that the interpreter began has ended: there is no loop around it.
-fn global_end<K: Drop>(alloc: Global, code: Code, text: Text) -> Result<Now<K>, AllocError>
+fn global_end<K: Drop>(alloc: Global, code: Code, text: Text) -> Next<K>
     ensures { IfOk result (λ now. doing_of now ≡ global_end (out_of_global code) text) }
 {
     match out_of_global(code) {
@@ -240,21 +232,107 @@ fn global_end<K: Drop>(alloc: Global, code: Code, text: Text) -> Result<Now<K>, 
     }
 }
 
-/// A script that an evaluation asked for has ended normally.
-fn value_given<K: Drop>(
+/// A command of a script has ended.
+fn after_command<K: Drop>(place: ScriptPlace, code: Code, text: Text) -> Now<K>
+    ensures { (waits : List (Waiting K)) → moved (doing_of result) waits ≡ after_command place.room (left_in place) waits code text }
+{
+    match code {
+        Code::Normal => Now::GoesOn {
+            place,
+            result: text,
+        },
+        code => Now::Ends { code, text },
+    }
+}
+
+/// A part of the words of a command has ended.
+fn after_part<K: Drop>(
+    alloc: Global,
+    scopes: &Scopes,
+    context: &Context,
+    frames: &mut Vec<Frame<K>>,
+    wording: Box<Wording>,
+    code: Code,
+    text: Text,
+) -> Next<K>
+    ensures { IfOk result (λ now. moved_of now frames.new.items
+        ≡ after_part (here context.now.levels scopes.now) scopes.now (wording_of wording.value) (waits_of frames.old.items) code text) }
+{
+    match code {
+        Code::Normal => {
+            let level = context.levels.here(scopes);
+            longer_word(alloc, scopes, level, frames, wording, text)
+        }
+        code => Ok(Now::Ends { code, text }),
+    }
+}
+
+/// A part of an index has ended.
+fn after_index<K: Drop>(alloc: Global, indexing: Box<Indexing>, code: Code, text: Text) -> Next<K>
+    ensures { IfOk result (λ now. (waits : List (Waiting K)) → moved (doing_of now) waits ≡ after_index (indexing_of indexing.value) waits code text) }
+{
+    match code {
+        Code::Normal => longer_index(alloc, indexing, text),
+        code => Ok(Now::Ends { code, text }),
+    }
+}
+
+/// A script that an evaluation asked for has ended.
+fn after_value<K: Drop>(
     alloc: Global,
     room: u64,
     asking: Box<Asking>,
+    code: Code,
     text: Text,
-) -> Result<Now<K>, AllocError>
-    ensures { IfOk result (λ now. doing_of now ≡ Evaluates room asking.value.eval (Some text)) }
+) -> Next<K>
+    ensures { IfOk result (λ now. (waits : List (Waiting K)) → moved (doing_of now) waits ≡ after_value_move room asking.value.eval waits code text) }
 {
-    let Asking { eval } = Box::into_inner(asking);
-    let given = Some(text);
-    Ok(Now::Evaluates {
-        room,
-        answered: Box::new(alloc, Answered { eval, given })?,
-    })
+    match code {
+        Code::Normal => {
+            let Asking { eval } = Box::into_inner(asking);
+            let given = Some(text);
+            let answered = Box::new(alloc, Answered { eval, given })?;
+            Ok(Now::Evaluates { room, answered })
+        }
+        code => Ok(Now::Ends { code, text }),
+    }
+}
+
+/// The condition of a loop has ended.
+fn after_test<K: Drop>(
+    alloc: Global,
+    frames: &mut Vec<Frame<K>>,
+    room: u64,
+    turning: Looping,
+    code: Code,
+    text: Text,
+) -> Next<K>
+    ensures { IfOk result (λ now. moved_of now frames.new.items ≡ after_test_move room turning (waits_of frames.old.items) code text) }
+{
+    match code {
+        Code::Normal => turn(alloc, frames, room, turning, &text),
+        code => Ok(Now::Ends { code, text }),
+    }
+}
+
+/// A condition of `if` has ended.
+fn after_choice<K: Drop>(
+    alloc: Global,
+    table: &mut CommandTable,
+    frames: &mut Vec<Frame<K>>,
+    room: u64,
+    choosing: Box<Choosing>,
+    code: Code,
+    text: Text,
+) -> Next<K>
+    ensures table { table.new ≡ table.old }
+    ensures now { IfOk result (λ now. moved_of now frames.new.items
+        ≡ after_choice_move room (drop choosing.value.place choosing.value.choices.branches) choosing.value.choices.otherwise (waits_of frames.old.items) code text) }
+{
+    match code {
+        Code::Normal => chosen(alloc, table, frames, room, choosing, &text),
+        code => Ok(Now::Ends { code, text }),
+    }
 }
 
 /// Something has ended, and what waited for it goes on.
@@ -266,67 +344,24 @@ fn ended<K: Drop>(
     frame: Frame<K>,
     code: Code,
     text: Text,
-) -> Result<Now<K>, AllocError>
+) -> Next<K>
     ensures { IfOk result (λ now. standing_of now frames.new.items scopes.new context.new
         ≡ end_move scopes.old context.old code text (waiting_of frame) (waits_of frames.old.items)) }
 {
     match frame {
-        Frame::ForCommand(place) => match code {
-            Code::Normal => Ok(Now::GoesOn {
-                place,
-                result: text,
-            }),
-            code => Ok(Now::Ends { code, text }),
-        },
-        Frame::ForPart(wording) => match code {
-            Code::Normal => {
-                let level = context.levels.here(scopes);
-                let now = after_part(alloc, scopes, level, frames, wording, text)?;
-                Ok(now)
-            }
-            code => Ok(Now::Ends { code, text }),
-        },
-        Frame::ForIndex(indexing) => match code {
-            Code::Normal => {
-                let now = longer_index(alloc, indexing, text)?;
-                Ok(now)
-            }
-            code => Ok(Now::Ends { code, text }),
-        },
-        Frame::ForValue { room, asking } => match code {
-            Code::Normal => {
-                let now = value_given(alloc, room, asking, text)?;
-                Ok(now)
-            }
-            code => Ok(Now::Ends { code, text }),
-        },
-        Frame::ForTest { room, turning } => match code {
-            Code::Normal => {
-                let now = turn(alloc, frames, room, turning, &text)?;
-                Ok(now)
-            }
-            code => Ok(Now::Ends { code, text }),
-        },
-        Frame::ForChoice { room, choosing } => match code {
-            Code::Normal => {
-                let now = chosen(alloc, &mut context.commands, frames, room, choosing, &text)?;
-                Ok(now)
-            }
-            code => Ok(Now::Ends { code, text }),
-        },
-        Frame::ForBody { room, turning } => {
-            let now = after_body(alloc, frames, room, turning, code, text)?;
-            Ok(now)
+        Frame::ForCommand(place) => Ok(after_command(place, code, text)),
+        Frame::ForPart(wording) => after_part(alloc, scopes, context, frames, wording, code, text),
+        Frame::ForIndex(indexing) => after_index(alloc, indexing, code, text),
+        Frame::ForValue { room, asking } => after_value(alloc, room, asking, code, text),
+        Frame::ForTest { room, turning } => after_test(alloc, frames, room, turning, code, text),
+        Frame::ForChoice { room, choosing } => {
+            let table = &mut context.commands;
+            after_choice(alloc, table, frames, room, choosing, code, text)
         }
-        Frame::ForNext { room, turning } => {
-            let now = after_next(alloc, room, turning, code, text)?;
-            Ok(now)
-        }
+        Frame::ForBody { room, turning } => after_body(alloc, frames, room, turning, code, text),
+        Frame::ForNext { room, turning } => after_next(alloc, room, turning, code, text),
         Frame::ForStart { room, turning } => Ok(after_start(room, turning, code, text)),
-        Frame::ForCatch(name) => {
-            let now = after_catch(alloc, scopes, context, frames, name, code, text)?;
-            Ok(now)
-        }
+        Frame::ForCatch(name) => after_catch(alloc, scopes, context, frames, name, code, text),
         Frame::ForLevels(levels) => {
             context.levels.join(levels)?;
             Ok(Now::Ends { code, text })
@@ -341,10 +376,7 @@ fn ended<K: Drop>(
             code: out_of_global(code),
             text,
         }),
-        Frame::ForAll => {
-            let now = global_end(alloc, code, text)?;
-            Ok(now)
-        }
+        Frame::ForAll => global_end(alloc, code, text),
     }
 }
 
@@ -441,10 +473,7 @@ fn advance<K: Drop>(
     ensures { IfOk result (MoveGives (standing_of now frames.old.items scopes.old context.old) frames.new.items scopes.new context.new) }
 {
     match now {
-        Now::Begins { room, script } => {
-            let next = script_begins(alloc, scopes, context, frames, script, room)?;
-            Ok(next)
-        }
+        Now::Begins { room, script } => script_begins(alloc, scopes, context, frames, script, room),
         Now::GoesOn { place, result } => {
             let level = context.levels.here(scopes);
             let now = go_on(alloc, scopes, level, frames, place, result)?;
@@ -452,8 +481,7 @@ fn advance<K: Drop>(
         }
         Now::Ends { code, text } => match wake(frames) {
             Some(Frame::ForCommand(place)) => {
-                let next = command_ended(alloc, scopes, context, frames, place, code, text)?;
-                Ok(next)
+                command_ended(alloc, scopes, context, frames, place, code, text)
             }
             Some(frame) => {
                 let now = ended(alloc, scopes, context, frames, frame, code, text)?;
@@ -495,7 +523,7 @@ pub fn quiet<K: Drop>(
     context: &mut Context,
     frames: &mut Vec<Frame<K>>,
     now: Now<K>,
-) -> Result<Now<K>, AllocError>
+) -> Next<K>
     ensures leads { IfOk result (λ due. Leads (standing_of now frames.old.items scopes.old context.old)
         (standing_of due frames.new.items scopes.new context.new)) }
     ensures due { IfOk result (λ due. Stops (moved_of due frames.new.items)) }

@@ -6,12 +6,13 @@ ghost use Rattle.tcl_interp.specs.Rests.{moved_of, doing_of, standing_of};
 ghost use Rattle.tcl_interp.specs.Runs.{Comes, IfPaused};
 ghost use Rattle.tcl_interp.specs.Steps.{NeedsStep, IsSettled, TakesStep, TakesNone, finish_from};
 
-use crate::machine::{Frame, Now};
+use crate::machine::{Frame, Next, Now};
 use crate::moves::{begun, quiet};
 use crate::steps::{call, resume, test};
 use crate::tasks::Tasks;
 use std::alloc::{AllocError, Global};
-use tcl_control::{Code, Context, Source};
+use tcl_control::{Code, Context};
+use tcl_table::Source;
 use tcl_text::Text;
 use tcl_vars::Scopes;
 use tcl_words::ParseFault;
@@ -36,7 +37,7 @@ fn begin_unread<T: Tasks>(
     context: &mut Context,
     script: Source,
     room: u64,
-) -> Result<Now<T::Task>, AllocError>
+) -> Next<T::Task>
     ensures context { context.new ≡ context.old }
     ensures now { IfOk result (λ now. (waits : List (Waiting T.Task)) → moved (doing_of now) waits ≡ begin_move room script waits) }
     ensures shows { T.shows tasks.new ≡ T.shows tasks.old }
@@ -44,8 +45,7 @@ fn begin_unread<T: Tasks>(
 {
     let source = source_of(tasks, script.text())?;
     source.keep(&mut context.commands)?;
-    let now = begun(alloc, &mut context.commands, source, room)?;
-    Ok(now)
+    begun(alloc, &mut context.commands, source, room)
 }
 
 /// Moves on without a step, and reads what is to be read, up to where a step is needed, a task is to be resumed, or all has ended.
@@ -56,7 +56,7 @@ fn read_on<T: Tasks>(
     context: &mut Context,
     frames: &mut Vec<Frame<T::Task>>,
     now: Now<T::Task>,
-) -> Result<Now<T::Task>, AllocError>
+) -> Next<T::Task>
     ensures leads { IfOk result (λ due. Leads (standing_of now frames.old.items scopes.old context.old)
         (standing_of due frames.new.items scopes.new context.new)) }
     ensures due { IfOk result (λ due. IsDue (moved_of due frames.new.items)) }
@@ -83,7 +83,7 @@ fn settle<T: Tasks>(
     context: &mut Context,
     frames: &mut Vec<Frame<T::Task>>,
     now: Now<T::Task>,
-) -> Result<Now<T::Task>, AllocError>
+) -> Next<T::Task>
     ensures ok { IfOk result (λ settled. TakesNone T.outside (standing_of now frames.old.items scopes.old context.old) (T.shows tasks.old)
         (standing_of settled frames.new.items scopes.new context.new) (T.shows tasks.new)) }
     ensures settled { IfOk result (λ settled. IsSettled (moved_of settled frames.new.items)) }
@@ -117,7 +117,7 @@ fn take_step<T: Tasks>(
     context: &mut Context,
     frames: &mut Vec<Frame<T::Task>>,
     now: Now<T::Task>,
-) -> Result<Now<T::Task>, AllocError>
+) -> Next<T::Task>
     requires { NeedsStep (doing_of now) }
     ensures ok { IfOk result (λ next. TakesStep T.outside (standing_of now frames.old.items scopes.old context.old) (T.shows tasks.old)
         (standing_of next frames.new.items scopes.new context.new) (T.shows tasks.new)) }
@@ -125,7 +125,7 @@ fn take_step<T: Tasks>(
 {
     match now {
         Now::Calls { room, words } => {
-            let next = call(
+            call(
                 alloc,
                 tasks,
                 scopes,
@@ -133,8 +133,7 @@ fn take_step<T: Tasks>(
                 frames,
                 words.as_slice(),
                 room,
-            )?;
-            Ok(next)
+            )
         }
         Now::Tests { room, turning } => {
             let next = test(alloc, scopes, context, frames, turning, room)?;
@@ -159,7 +158,7 @@ fn step_on<T: Tasks>(
     context: &mut Context,
     frames: &mut Vec<Frame<T::Task>>,
     now: Now<T::Task>,
-) -> Result<Now<T::Task>, AllocError>
+) -> Next<T::Task>
     requires { NeedsStep (doing_of now) }
     ensures ok { IfOk result (λ next. TakesStep T.outside (standing_of now frames.old.items scopes.old context.old) (T.shows tasks.old)
         (standing_of next frames.new.items scopes.new context.new) (T.shows tasks.new)) }
@@ -167,8 +166,7 @@ fn step_on<T: Tasks>(
     ensures left { T.left_alone tasks.new ≡ T.left_alone tasks.old }
 {
     let next = take_step(alloc, tasks, scopes, context, frames, now)?;
-    let settled = settle(alloc, tasks, scopes, context, frames, next)?;
-    Ok(settled)
+    settle(alloc, tasks, scopes, context, frames, next)
 }
 
 /// How far a slice came.

@@ -6,18 +6,19 @@ ghost use Rattle.tcl_interp.specs.Plans.{cut, others};
 ghost use Rattle.tcl_interp.specs.Finish.{Calls, ForLevels};
 ghost use Rattle.tcl_interp.specs.Moves.{moved, standing, plan_move, items_move, test_move, act_move};
 ghost use Rattle.tcl_interp.specs.Rests.{moved_of, standing_of, waits_of};
-ghost use Rattle.tcl_interp.specs.Steps.{IsThroughItems, TakesStep, Resumed};
+ghost use Rattle.tcl_interp.specs.Steps.{TakesStep, Resumed};
 
 use crate::expressions::{begins, choose};
-use crate::machine::{Frame, Now};
+use crate::machine::{Frame, Next, Now};
 use crate::tasks::{Act, Tasks};
-use crate::words::wait;
+use crate::words::{begin_for, wait};
 use std::alloc::{AllocError, Global};
-use tcl_control::texts::unknown_command;
 use tcl_control::{
-    Call, Code, Context, Looping, Plan, Source, Test, Turning, Verdict, call_command, items_tested,
+    Call, Code, Context, Looping, Plan, Test, Turning, Verdict, call_command, items_tested,
 };
 use tcl_shapes::Groups;
+use tcl_table::Source;
+use tcl_table::texts::unknown_command;
 use tcl_text::{Text, TextList};
 use tcl_vars::Scopes;
 
@@ -43,37 +44,24 @@ fn follow<K: Drop>(
     frames: &mut Vec<Frame<K>>,
     plan: Plan,
     room: u64,
-) -> Result<Now<K>, AllocError>
+) -> Next<K>
     ensures { IfOk result (λ now. (store : Store) → standing_of now frames.new.items store context.new
         ≡ plan_move room store context.old (waits_of frames.old.items) plan) }
 {
     match plan {
         Plan::Ends(code, text) => Ok(Now::Ends { code, text }),
         Plan::Runs(script) => Ok(Now::Begins { room, script }),
-        Plan::Catches(script, name) => {
-            wait(frames, Frame::ForCatch(name))?;
-            Ok(Now::Begins { room, script })
-        }
+        Plan::Catches(script, name) => begin_for(frames, Frame::ForCatch(name), room, script),
         Plan::RunsAt(count, script) => {
             run_at(alloc, context, frames, count)?;
             Ok(Now::Begins { room, script })
         }
-        Plan::Enters(script) => {
-            wait(frames, Frame::ForProcedure)?;
-            Ok(Now::Begins { room, script })
-        }
-        Plan::Evaluates(expression) => {
-            let now = begins(alloc, &expression, room)?;
-            Ok(now)
-        }
-        Plan::Chooses(choices) => {
-            let now = choose(alloc, &mut context.commands, frames, room, choices, 0)?;
-            Ok(now)
-        }
+        Plan::Enters(script) => begin_for(frames, Frame::ForProcedure, room, script),
+        Plan::Evaluates(expression) => begins(alloc, &expression, room),
+        Plan::Chooses(choices) => choose(alloc, &mut context.commands, frames, room, choices, 0),
         Plan::Turns(turning) => Ok(Now::Tests { room, turning }),
         Plan::Starts(script, turning) => {
-            wait(frames, Frame::ForStart { room, turning })?;
-            Ok(Now::Begins { room, script })
+            begin_for(frames, Frame::ForStart { room, turning }, room, script)
         }
     }
 }
@@ -86,7 +74,7 @@ fn act_on<K: Drop>(
     act: Act<K>,
     name: &str,
     room: u64,
-) -> Result<Now<K>, AllocError>
+) -> Next<K>
     ensures { IfOk result (λ now. (store : Store) → standing_of now frames.new.items store context.new
         ≡ act_move room name.now store context.old (waits_of frames.old.items) act) }
 {
@@ -122,7 +110,7 @@ fn test_items<K: Drop>(
     body: Source,
     next: Option<Source>,
     room: u64,
-) -> Result<Now<K>, AllocError>
+) -> Next<K>
     ensures { IfOk result (λ now. standing_of now frames.new.items scopes.new context.now
         ≡ items_move room (record { test = Test.Items groups; body = body; next = next }) context.now (waits_of frames.old.items)
         (items_tested (here context.now.levels scopes.old) groups scopes.old)) }
@@ -133,8 +121,7 @@ fn test_items<K: Drop>(
             let script = body.copy()?;
             let test = Test::Items(groups);
             let turning = Looping::new(alloc, Turning { test, body, next })?;
-            wait(frames, Frame::ForBody { room, turning })?;
-            Ok(Now::Begins { room, script })
+            begin_for(frames, Frame::ForBody { room, turning }, room, script)
         }
         Verdict::NoMore => Ok(Now::Ends {
             code: Code::Normal,
@@ -147,29 +134,6 @@ fn test_items<K: Drop>(
     }
 }
 
-/// A loop through items tests whether it has another turn.
-fn test_groups<K: Drop>(
-    alloc: Global,
-    scopes: &mut Scopes,
-    context: &Context,
-    frames: &mut Vec<Frame<K>>,
-    turning: Turning,
-    room: u64,
-) -> Result<Now<K>, AllocError>
-    requires { IsThroughItems turning.test }
-    ensures { IfOk result (λ now. standing_of now frames.new.items scopes.new context.now
-        ≡ test_move room turning scopes.old context.now (waits_of frames.old.items) turning.test) }
-{
-    let Turning { test, body, next } = turning;
-    match test {
-        Test::Items(groups) => {
-            let now = test_items(alloc, scopes, context, frames, groups, body, next, room)?;
-            Ok(now)
-        }
-        Test::Holds(_) => unreachable!(),
-    }
-}
-
 /// A loop tests whether it has another turn.
 pub fn test<K: Drop>(
     alloc: Global,
@@ -178,7 +142,7 @@ pub fn test<K: Drop>(
     frames: &mut Vec<Frame<K>>,
     turning: Looping,
     room: u64,
-) -> Result<Now<K>, AllocError>
+) -> Next<K>
     ensures { IfOk result (λ now. standing_of now frames.new.items scopes.new context.now
         ≡ test_move room turning scopes.old context.now (waits_of frames.old.items) turning.test) }
 {
@@ -189,9 +153,13 @@ pub fn test<K: Drop>(
             Ok(now)
         }
         Test::Items(_) => {
-            let turning = turning.into_inner();
-            let now = test_groups(alloc, scopes, context, frames, turning, room)?;
-            Ok(now)
+            let Turning { test, body, next } = turning.into_inner();
+            match test {
+                Test::Items(groups) => {
+                    test_items(alloc, scopes, context, frames, groups, body, next, room)
+                }
+                Test::Holds(_) => unreachable!(),
+            }
         }
     }
 }
@@ -234,7 +202,7 @@ fn call_named<T: Tasks>(
     name: &Text,
     arguments: &[Text],
     room: u64,
-) -> Result<Now<T::Task>, AllocError>
+) -> Next<T::Task>
     ensures ok { IfOk result (λ now. TakesStep T.outside
         (standing (moved (Calls room (name.now ∷ arguments.now)) (waits_of frames.old.items)) scopes.old context.old) (T.shows tasks.old)
         (standing_of now frames.new.items scopes.new context.new) (T.shows tasks.new)) }
@@ -266,7 +234,7 @@ pub fn call<T: Tasks>(
     frames: &mut Vec<Frame<T::Task>>,
     words: &[Text],
     room: u64,
-) -> Result<Now<T::Task>, AllocError>
+) -> Next<T::Task>
     ensures ok { IfOk result (λ now. TakesStep T.outside (standing (moved (Calls room words.now) (waits_of frames.old.items)) scopes.old context.old)
         (T.shows tasks.old) (standing_of now frames.new.items scopes.new context.new) (T.shows tasks.new)) }
     ensures left { T.left_alone tasks.new ≡ T.left_alone tasks.old }
@@ -294,12 +262,11 @@ pub fn resume<T: Tasks>(
     task: T::Task,
     code: Code,
     text: Text,
-) -> Result<Now<T::Task>, AllocError>
+) -> Next<T::Task>
     ensures ok { IfOk result (λ now. Resumed T.outside room task code text (waits_of frames.old.items) (T.shows tasks.old) scopes.old context.old
         (standing_of now frames.new.items scopes.new context.new) (T.shows tasks.new)) }
     ensures left { T.left_alone tasks.new ≡ T.left_alone tasks.old }
 {
     let act = tasks.resume(scopes, task, code, text)?;
-    let now = act_on(alloc, context, frames, act, "", room)?;
-    Ok(now)
+    act_on(alloc, context, frames, act, "", room)
 }

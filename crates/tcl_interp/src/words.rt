@@ -4,17 +4,21 @@ ghost use Rattle.tcl_text.specs.Readings.{list_of};
 ghost use Rattle.tcl_control.specs.Source.{script_of};
 ghost use Rattle.tcl_control.specs.Texts.{element_name};
 ghost use Rattle.tcl_interp.specs.Evaluation.{index_depth, split_words, words_of};
-ghost use Rattle.tcl_interp.specs.Moves.{with_more, piece_text, word_end, called_move, words_move, element_begins, element_end, indexes_move, longer_index, part_begins, part_move, word_part, go_on_move};
+ghost use Rattle.tcl_interp.specs.Finish.{Begins};
+ghost use Rattle.tcl_interp.specs.Moves.{moved, with_more, piece_text, word_end, called_move, words_move, element_begins, element_end, indexes_move, longer_index, part_begins, part_move, word_part, go_on_move};
 ghost use Rattle.tcl_interp.specs.Rests.{commands_in, doing_of, expand_in_front, indexing_of, IsSingle, left_in, moved_of, part_of, pieces_in, pieces_in_front, put_end, value_of, waiting_of, waits_of, wording_of, words_in_front};
 ghost use Rattle.tcl_text.specs.Limits.{most_bytes};
 
-use crate::machine::{Frame, Indexing, Now, ScriptPlace, Wording};
+use crate::machine::{Frame, Indexing, Next, Now, ScriptPlace, Wording};
 use std::alloc::{AllocError, Global};
-use tcl_control::texts::{cannot_read, cannot_read_element, fault_text, limit, list_fault};
-use tcl_control::{Code, Source};
+use tcl_control::Code;
+use tcl_shapes::list_fault;
+use tcl_table::Source;
+use tcl_table::texts::cannot_read_element;
+use tcl_text::message::limit;
 use tcl_text::{SplitFault, Text, TextFault, TextList};
 use tcl_vars::Scopes;
-use tcl_words::{Command, Index, ParseFault, Piece, Script, Word};
+use tcl_words::{Command, Index, Piece, Script, Word};
 
 /// A part of a word that is evaluated by itself: a script in brackets, or an element, by the array's name and the index.
 #[derive(Drop)]
@@ -60,7 +64,7 @@ fn piece_value(
         Piece::Literal(text) => Ok(Value::Plain(text.copy()?)),
         Piece::Variable(name) => match scopes.get(level, name) {
             Ok(value) => Ok(Value::Plain(value.copy()?)),
-            Err(fault) => Ok(Value::Fails(cannot_read(alloc, name, fault)?)),
+            Err(fault) => Ok(Value::Fails(fault.text(alloc, name.as_str())?)),
         },
         Piece::Element(name, index) => {
             Ok(Value::Waits(Part::Element(name.copy()?, index.copy()?)))
@@ -219,6 +223,19 @@ pub fn wait<K: Drop>(frames: &mut Vec<Frame<K>>, frame: Frame<K>) -> Result<(), 
     Ok(())
 }
 
+/// A script begins, and this waits for it.
+pub fn begin_for<K: Drop>(
+    frames: &mut Vec<Frame<K>>,
+    frame: Frame<K>,
+    room: u64,
+    script: Source,
+) -> Next<K>
+    ensures { IfOk result (λ now. moved_of now frames.new.items ≡ moved (Begins room script) (waiting_of frame ∷ waits_of frames.old.items)) }
+{
+    wait(frames, frame)?;
+    Ok(Now::Begins { room, script })
+}
+
 /// A script past the command that is next.
 fn past_command(place: ScriptPlace) -> ScriptPlace
     ensures room { result.room ≡ place.room }
@@ -236,7 +253,7 @@ fn called<K: Drop>(
     frames: &mut Vec<Frame<K>>,
     place: ScriptPlace,
     whole: TextList,
-) -> Result<Now<K>, AllocError>
+) -> Next<K>
     ensures { IfOk result (λ now. moved_of now frames.new.items
         ≡ called_move place.room (drop (place.next + 1) (commands_in place.script)) whole (waits_of frames.old.items)) }
 {
@@ -285,7 +302,7 @@ fn put_words<K: Drop>(
     place: ScriptPlace,
     from: usize,
     so_far: TextList,
-) -> Result<Now<K>, AllocError>
+) -> Next<K>
     requires { level < length scopes.now }
     ensures { IfOk result (λ now. moved_of now frames.new.items
         ≡ words_move level scopes.now place.room (drop (place.next + 1) (commands_in place.script)) (drop from (words_in_front (left_in place))) so_far
@@ -329,26 +346,11 @@ fn put_words<K: Drop>(
     called(alloc, frames, place, whole)
 }
 
-/// Puts the words together behind this one.
-fn put_words_past<K: Drop>(
-    alloc: Global,
-    scopes: &Scopes,
-    level: usize,
-    frames: &mut Vec<Frame<K>>,
-    place: ScriptPlace,
-    word: usize,
-    whole: TextList,
-) -> Result<Now<K>, AllocError>
-    requires { level < length scopes.now }
-    ensures { IfOk result (λ now. moved_of now frames.new.items
-        ≡ words_move level scopes.now place.room (drop (place.next + 1) (commands_in place.script)) (drop (word + 1) (words_in_front (left_in place))) whole
-        (waits_of frames.old.items)) }
+/// The place behind a word, where there is one.
+fn past_word(words: &[Word], word: usize) -> usize
+    ensures { drop result words.now ≡ drop (word + 1) words.now }
 {
-    if word < next_words(&place).len() {
-        put_words(alloc, scopes, level, frames, place, word + 1, whole)
-    } else {
-        called(alloc, frames, place, whole)
-    }
+    if word < words.len() { word + 1 } else { word }
 }
 
 /// The element of this array is to be read, with indices at most so deep in its index.
@@ -359,13 +361,13 @@ fn element_begins<K: Drop>(
     depth: u64,
     name: Text,
     index: Index,
-) -> Result<Now<K>, AllocError>
+) -> Next<K>
     ensures { IfOk result (λ now. doing_of now ≡ element_begins room depth name index) }
 {
     if depth == 0 {
         return Ok(Now::Ends {
             code: Code::Error,
-            text: fault_text(alloc, ParseFault::TooLong)?,
+            text: limit(alloc)?,
         });
     }
     let _pieces = index.pieces();
@@ -381,12 +383,7 @@ fn element_begins<K: Drop>(
 }
 
 /// A part of a word or of an index is to be evaluated.
-fn part_begins<K: Drop>(
-    alloc: Global,
-    room: u64,
-    depth: u64,
-    part: Part,
-) -> Result<Now<K>, AllocError>
+fn part_begins<K: Drop>(alloc: Global, room: u64, depth: u64, part: Part) -> Next<K>
     ensures { IfOk result (λ now. doing_of now ≡ part_begins room depth (part_of part)) }
 {
     match part {
@@ -409,7 +406,7 @@ fn word_part<K: Drop>(
     whole: TextList,
     so_far: Text,
     part: Part,
-) -> Result<Now<K>, AllocError>
+) -> Next<K>
     ensures { IfOk result (λ now. moved_of now frames.new.items
         ≡ word_part place.room (drop (place.next + 1) (commands_in place.script)) (expand_in_front (drop word (words_in_front (left_in place))))
         (drop (word + 1) (words_in_front (left_in place))) whole (drop piece (pieces_in_front (drop word (words_in_front (left_in place))))) so_far
@@ -442,7 +439,7 @@ fn element<K: Drop>(
     level: usize,
     name: &Text,
     index: &Text,
-) -> Result<Now<K>, AllocError>
+) -> Next<K>
     requires { level < length scopes.now }
     ensures { IfOk result (λ now. doing_of now ≡ element_end (element_name name.now index.now) (element_in scopes.now level name.now index.now)) }
 {
@@ -465,7 +462,7 @@ pub fn put_index<K: Drop>(
     level: usize,
     frames: &mut Vec<Frame<K>>,
     indexing: Box<Indexing>,
-) -> Result<Now<K>, AllocError>
+) -> Next<K>
     requires { level < length scopes.now }
     ensures { IfOk result (λ now. moved_of now frames.new.items ≡ indexes_move level scopes.now (indexing_of indexing.value) (waits_of frames.old.items)) }
 {
@@ -499,31 +496,13 @@ pub fn put_index<K: Drop>(
 }
 
 /// A part of an index has ended normally.
-pub fn longer_index<K: Drop>(
-    alloc: Global,
-    indexing: Box<Indexing>,
-    text: Text,
-) -> Result<Now<K>, AllocError>
+pub fn longer_index<K: Drop>(alloc: Global, indexing: Box<Indexing>, text: Text) -> Next<K>
     ensures { IfOk result (λ now. doing_of now ≡ longer_index (indexing_of indexing.value) text) }
 {
-    let Indexing {
-        room,
-        depth,
-        name,
-        index,
-        piece,
-        so_far,
-    } = Box::into_inner(indexing);
-    match joined(alloc, so_far, text)? {
+    let indexing = Box::into_inner(indexing);
+    match joined(alloc, indexing.so_far, text)? {
         Some(so_far) => {
-            let indexing = Indexing {
-                room,
-                depth,
-                name,
-                index,
-                piece,
-                so_far,
-            };
+            let indexing = Indexing { so_far, ..indexing };
             Ok(Now::Indexes(Box::new(alloc, indexing)?))
         }
         None => Ok(Now::Ends {
@@ -534,14 +513,14 @@ pub fn longer_index<K: Drop>(
 }
 
 /// A part of the words of a command has ended normally.
-pub fn after_part<K: Drop>(
+pub fn longer_word<K: Drop>(
     alloc: Global,
     scopes: &Scopes,
     level: usize,
     frames: &mut Vec<Frame<K>>,
     wording: Box<Wording>,
     text: Text,
-) -> Result<Now<K>, AllocError>
+) -> Next<K>
     requires { level < length scopes.now }
     ensures { IfOk result (λ now. moved_of now frames.new.items ≡ part_move level scopes.now (wording_of wording.value) (waits_of frames.old.items) text) }
 {
@@ -569,7 +548,10 @@ pub fn after_part<K: Drop>(
         Put::Whole(text) => {
             let more = with_word(alloc, whole, next_words(&place), word, text)?;
             match more {
-                Ok(whole) => put_words_past(alloc, scopes, level, frames, place, word, whole),
+                Ok(whole) => {
+                    let next = past_word(next_words(&place), word);
+                    put_words(alloc, scopes, level, frames, place, next, whole)
+                }
                 Err(text) => Ok(Now::Ends {
                     code: Code::Error,
                     text,
@@ -594,7 +576,7 @@ pub fn go_on<K: Drop>(
     frames: &mut Vec<Frame<K>>,
     place: ScriptPlace,
     previous: Text,
-) -> Result<Now<K>, AllocError>
+) -> Next<K>
     requires { level < length scopes.now }
     ensures { IfOk result (λ now. moved_of now frames.new.items ≡ go_on_move level scopes.now place.room (left_in place) previous (waits_of frames.old.items)) }
 {

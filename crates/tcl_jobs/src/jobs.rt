@@ -50,6 +50,9 @@ pub trait Jobs {
         ensures left { left_alone self.new ≡ left_alone self.old };
 }
 
+/// What a job, or a task of it, does next, unless memory is refused.
+pub type Acted<J> = Result<Act<Task<J>>, AllocError>;
+
 /// What a task of the job does then.
 fn act_for<J: Drop>(looked: Looked<J>) -> Act<Task<J>>
     ensures { result ≡ act_of looked }
@@ -61,11 +64,7 @@ fn act_for<J: Drop>(looked: Looked<J>) -> Act<Task<J>>
 }
 
 /// A command that begins a job, or a task of it, goes on with the job: it waits for a step, or has ended.
-pub fn look_at<T: Jobs>(
-    jobs: &mut T,
-    scopes: &Scopes,
-    job: T::Job,
-) -> Result<Act<Task<T::Job>>, AllocError>
+pub fn look_at<T: Jobs>(jobs: &mut T, scopes: &Scopes, job: T::Job) -> Acted<T::Job>
     ensures ok { IfOk result (λ act. record { shows = T.shows jobs.new; store = scopes.now; act = act }
         ≡ looked_told T.course (T.shows jobs.old) scopes.now job) }
     ensures left { T.left_alone jobs.new ≡ T.left_alone jobs.old }
@@ -75,11 +74,7 @@ pub fn look_at<T: Jobs>(
 }
 
 /// What a job waited for starts, its step being taken.
-fn start<T: Jobs>(
-    jobs: &mut T,
-    scopes: &Scopes,
-    job: T::Job,
-) -> Result<Act<Task<T::Job>>, AllocError>
+fn start<T: Jobs>(jobs: &mut T, scopes: &Scopes, job: T::Job) -> Acted<T::Job>
     ensures ok { IfOk result (λ act. record { shows = T.shows jobs.new; store = scopes.now; act = act }
         ≡ started_told T.course (T.shows jobs.old) scopes.now job) }
     ensures left { T.left_alone jobs.new ≡ T.left_alone jobs.old }
@@ -98,18 +93,17 @@ fn go_on<T: Jobs>(
     job: T::Job,
     code: Code,
     text: Text,
-) -> Result<Act<Task<T::Job>>, AllocError>
+) -> Acted<T::Job>
     ensures ok { IfOk result (λ act. record { shows = T.shows jobs.new; store = scopes.now; act = act }
         ≡ ended_told T.course code text (T.shows jobs.old) scopes.now job) }
     ensures left { T.left_alone jobs.new ≡ T.left_alone jobs.old }
 {
     let next = jobs.ended(job, code, text)?;
-    let act = look_at(jobs, scopes, next)?;
-    Ok(act)
+    look_at(jobs, scopes, next)
 }
 
 /// The answer of a script at global level, where there is no loop that a break or a continue could act on.
-fn end_at_global<J: Drop>(alloc: Global, code: Code, text: Text) -> Result<Act<Task<J>>, AllocError>
+fn end_at_global<J: Drop>(alloc: Global, code: Code, text: Text) -> Acted<J>
     ensures { IfOk result (λ act. act ≡ global_act code text) }
 {
     match code {
@@ -133,7 +127,7 @@ pub fn resume<T: Jobs>(
     task: Task<T::Job>,
     code: Code,
     text: Text,
-) -> Result<Act<Task<T::Job>>, AllocError>
+) -> Acted<T::Job>
     ensures ok { IfOk result (λ act. record { shows = T.shows jobs.new; store = scopes.now; act = act }
         ≡ resumes_of T.course (T.shows jobs.old) scopes.now task code text) }
     ensures left { T.left_alone jobs.new ≡ T.left_alone jobs.old }
@@ -143,17 +137,8 @@ pub fn resume<T: Jobs>(
             script,
             task: Task::Runs(job),
         }),
-        Task::Waits(job) => {
-            let act = start(jobs, scopes, job)?;
-            Ok(act)
-        }
-        Task::Runs(job) => {
-            let act = go_on(jobs, scopes, job, code, text)?;
-            Ok(act)
-        }
-        Task::Invoked => {
-            let act = end_at_global(alloc, code, text)?;
-            Ok(act)
-        }
+        Task::Waits(job) => start(jobs, scopes, job),
+        Task::Runs(job) => go_on(jobs, scopes, job, code, text),
+        Task::Invoked => end_at_global(alloc, code, text),
     }
 }

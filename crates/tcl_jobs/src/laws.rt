@@ -3,24 +3,17 @@
 ghost use Rattle.tcl_jobs.specs.Laws.{Determined, EndsLooked, GoesOn, Invoking, StepsFall, Unrolls};
 
 /// A job is what its look says: either it ends so; or a step is taken, what is next starts, its script runs at global level, and then comes, in
-/// the state that the script leaves, the job that its end makes of it.
+/// the state that the script leaves, the job that its end makes of it. Nothing else meets that equation: what a job comes to is given by it.
 pub fn unrolls<S, J>()
-    ensures { Unrolls S J }
+    ensures equation { Unrolls S J }
+    ensures determined { Determined S J }
 {}
 
-/// Nothing else meets that equation: what a job comes to is given by it.
-pub fn determined<S, J>()
-    ensures { Determined S J }
-{}
-
-/// A task that is resumed behind a script goes on with the job; so does one that begins with a script.
+/// A task that is resumed behind a script goes on with the job; so does one that begins with a script. A script whose end is the answer ends as a
+/// script at global level does.
 pub fn goes_on<S, J>()
-    ensures { GoesOn S J }
-{}
-
-/// A script whose end is the answer ends as a script at global level does.
-pub fn invoked<S, J>()
-    ensures { Invoking S J }
+    ensures job { GoesOn S J }
+    ensures invoked { Invoking S J }
 {}
 
 /// A job leaves at most the steps that it had, and fewer where something came next.

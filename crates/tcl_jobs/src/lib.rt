@@ -6,5 +6,5 @@ mod jobs;
 mod laws;
 
 pub use job::{Looked, Started, Task};
-pub use jobs::{Jobs, look_at, resume};
-pub use laws::{determined, ends_looked, goes_on, invoked, steps_fall, unrolls};
+pub use jobs::{Acted, Jobs, look_at, resume};
+pub use laws::{ends_looked, goes_on, steps_fall, unrolls};

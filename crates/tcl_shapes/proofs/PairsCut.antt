@@ -4,7 +4,7 @@ use native.Mathlib.Nat.{mul-zero, mul-suc, mul-add-mod_self_left}
 use Rattle.std.proofs.lemmas.Bool.{lt-ltb, le-ltb, cases_lt}
 use Rattle.tcl_text.specs.Readings.{list_of, IsList}
 use Rattle.tcl_text.specs.ListFaults.{IsListFault}
-use Rattle.tcl_text.specs.declared.splitting.ListFault.{ListFault}
+use Rattle.tcl_text.specs.declared.fault.ListFault.{ListFault}
 use Rattle.tcl_shapes.specs.declared.branches.Branch.{Branch}
 use Rattle.tcl_shapes.specs.declared.groups.Group.{Group}
 use Rattle.tcl_shapes.specs.Branches.{branch_of, arms_from, arms_of}

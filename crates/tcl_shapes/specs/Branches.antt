@@ -52,9 +52,11 @@ front branches choices = option_map (λ (c : Choices). record c { branches = bra
 
 -- One more word leads to this place, with these branches so far: for any words behind it, all that there is stays.
 abbrev pub Follows : Clause → List ℕ → List Branch → Option Clause → List Branch → Type 0
-Follows clause word branches (Some next) branches' = (words : List (List ℕ)) → front branches' (choices_from next words) ≡ front branches (choices_from clause (word ∷ words))
+Follows clause word branches (Some next) branches' =
+    (words : List (List ℕ)) → front branches' (choices_from next words) ≡ front branches (choices_from clause (word ∷ words))
 Follows clause word branches None branches' = (words : List (List ℕ)) → choices_from clause (word ∷ words) ≡ None
 
 -- One more item leads to this, with these arms so far: for any items behind it, all that there is stays.
 abbrev pub FollowsArm : Option (List ℕ) → List ℕ → List Branch → Option (List ℕ) → List Branch → Type 0
-FollowsArm held item arms next arms' = (items : List (List ℕ)) → option_map (λ more. arms' ++ more) (arms_from next items) ≡ option_map (λ more. arms ++ more) (arms_from held (item ∷ items))
+FollowsArm held item arms next arms' =
+    (items : List (List ℕ)) → option_map (λ more. arms' ++ more) (arms_from next items) ≡ option_map (λ more. arms ++ more) (arms_from held (item ∷ items))

@@ -3,7 +3,7 @@ use Rattle.std.specs.Prelude.{◌≡◌, ◌≢◌, ◌⊎◌, ℕ, zero, suc, L
 use Rattle.tcl_text.specs.Readings.{IsList}
 use Rattle.tcl_text.specs.ListFaults.{IsListFault}
 use Rattle.tcl_text.specs.Splitting.{fault_text}
-use Rattle.tcl_text.specs.declared.splitting.ListFault.{ListFault}
+use Rattle.tcl_text.specs.declared.fault.ListFault.{ListFault}
 use Rattle.tcl_shapes.specs.declared.branches.Branch.{Branch}
 use Rattle.tcl_shapes.specs.declared.branches.Choices.{Choices}
 use Rattle.tcl_shapes.specs.declared.groups.Group.{Group}

@@ -1,8 +1,8 @@
-ghost use Rattle.std.specs.Prelude.{◌≡◌, [], ◌∷◌, ◌++◌, drop, IfOk, OnOk, OnErr};
-ghost use Rattle.tcl_shapes.specs.Branches.{branch_of, choices_of, choices_from, arms_of, Follows, FollowsArm};
+ghost use Rattle.std.specs.Prelude.{◌≡◌, ◌++◌, drop, IfOk};
+ghost use Rattle.tcl_shapes.specs.Branches.{choices_of, choices_from, arms_of, Follows, FollowsArm};
 
+use crate::listing::Listing;
 use std::alloc::{AllocError, Global};
-use std::marker::Model;
 use tcl_text::Text;
 
 /// A body of `if` or `switch`, behind its condition or pattern; neither is read yet.
@@ -15,43 +15,7 @@ pub struct Branch {
 }
 
 /// Branches in order.
-pub struct Branches {
-    list: Vec<Branch>,
-}
-
-impl Model for Branches {
-    ghost use Rattle.std.specs.Prelude.{List};
-    ghost use Rattle.tcl_shapes.specs.declared.branches.Branch.{Branch};
-
-    ghost Value = { List Branch };
-
-    ghost view = { λ b. b.list.items };
-}
-
-impl Branches {
-    fn new(alloc: Global) -> Branches
-        ensures { result ≡ [] }
-    {
-        Branches {
-            list: Vec::new(alloc),
-        }
-    }
-
-    fn push(&mut self, test: Text, body: Text) -> Result<(), AllocError>
-        ensures ok { OnOk result (self.new ≡ self.old ++ branch_of test body ∷ []) }
-        ensures err { OnErr result (self.new ≡ self.old) }
-    {
-        self.list.push(Branch { test, body })?;
-        Ok(())
-    }
-
-    /// The branches, in order.
-    pub fn as_slice(&self) -> &[Branch]
-        ensures { result.now ≡ self.now }
-    {
-        self.list.as_slice()
-    }
-}
+pub type Branches = Listing<Branch>;
 
 /// What `if` chooses from: its branches, and a last body.
 pub struct Choices {
@@ -91,11 +55,13 @@ fn next_clause(
             if word.as_str() == "then" {
                 return Ok(Some(Clause::AtBody(test)));
             }
-            branches.push(test, word.copy()?)?;
+            let body = word.copy()?;
+            branches.push(Branch { test, body })?;
             Ok(Some(Clause::Behind))
         }
         Clause::AtBody(test) => {
-            branches.push(test, word.copy()?)?;
+            let body = word.copy()?;
+            branches.push(Branch { test, body })?;
             Ok(Some(Clause::Behind))
         }
         Clause::Behind => {
@@ -118,7 +84,7 @@ fn next_clause(
 pub fn if_choices(alloc: Global, words: &[Text]) -> Result<Option<Choices>, AllocError>
     ensures { IfOk result (λ choices. choices ≡ choices_of words.now) }
 {
-    let mut branches = Branches::new(alloc);
+    let mut branches = Listing::new(alloc);
     let mut clause = Clause::AtTest;
     for word in words {
         match next_clause(&mut branches, clause, word)? {
@@ -149,8 +115,9 @@ fn next_arm(
 {
     match held {
         None => Ok(Some(item.copy()?)),
-        Some(pattern) => {
-            arms.push(pattern, item.copy()?)?;
+        Some(test) => {
+            let body = item.copy()?;
+            arms.push(Branch { test, body })?;
             Ok(None)
         }
     }
@@ -162,7 +129,7 @@ fn next_arm(
 pub fn switch_arms(alloc: Global, items: &[Text]) -> Result<Option<Branches>, AllocError>
     ensures { IfOk result (λ arms. arms ≡ arms_of items.now) }
 {
-    let mut arms = Branches::new(alloc);
+    let mut arms = Listing::new(alloc);
     let mut held = None;
     for item in items {
         held = next_arm(&mut arms, held, item)?;
@@ -170,13 +137,6 @@ pub fn switch_arms(alloc: Global, items: &[Text]) -> Result<Option<Branches>, Al
     match held {
         None => Ok(Some(arms)),
         Some(_) => Ok(None),
-    }
-}
-
-/// By hand: a proof sees one call where it is dropped, and not its parts.
-impl Drop for Branches {
-    fn drop(self) {
-        let Branches { list: _ } = self;
     }
 }
 

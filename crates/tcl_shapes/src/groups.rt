@@ -1,11 +1,11 @@
-ghost use Rattle.std.specs.Prelude.{◌≡◌, [], ◌∷◌, ◌++◌, map, length, IfOk, OnOk, OnErr};
+ghost use Rattle.std.specs.Prelude.{◌≡◌, ◌++◌, map, length, IfOk};
 ghost use Rattle.std.specs.List.{list_any};
 ghost use Rattle.tcl_text.specs.Readings.{list_of};
 ghost use Rattle.tcl_shapes.specs.Groups.{group_named, group_of, groups_from, groups_of, has_body, next_place, advanced, has_more, FollowsGroup};
 
+use crate::listing::Listing;
 use crate::texts::list_fault;
 use std::alloc::{AllocError, Global};
-use std::marker::Model;
 use tcl_text::{ListItems, SplitFault, Text, TextList};
 
 /// A list of names of `foreach`, and its list of items (foreach(n)).
@@ -20,49 +20,14 @@ pub struct Group {
 }
 
 /// The groups of a `foreach`, in the order of its words.
-pub struct Groups {
-    list: Vec<Group>,
-}
+pub type Groups = Listing<Group>;
 
-impl Model for Groups {
-    ghost use Rattle.std.specs.Prelude.{List};
-    ghost use Rattle.tcl_shapes.specs.declared.groups.Group.{Group};
-
-    ghost Value = { List Group };
-
-    ghost view = { λ g. g.list.items };
-}
-
-impl Groups {
-    fn new(alloc: Global) -> Groups
-        ensures { result ≡ [] }
-    {
-        Groups {
-            list: Vec::new(alloc),
-        }
-    }
-
-    fn push(&mut self, group: Group) -> Result<(), AllocError>
-        ensures ok { OnOk result (self.new ≡ self.old ++ group ∷ []) }
-        ensures err { OnErr result (self.new ≡ self.old) }
-    {
-        self.list.push(group)?;
-        Ok(())
-    }
-
-    /// The groups, in order.
-    pub fn as_slice(&self) -> &[Group]
-        ensures { result.now ≡ self.now }
-    {
-        self.list.as_slice()
-    }
-
+impl Listing<Group> {
     /// Whether a group has items left: `foreach` takes another turn then (foreach(n)).
     pub fn has_more(&self) -> bool
         ensures { result ≡ list_any has_more self.now }
     {
-        self.list
-            .as_slice()
+        self.as_slice()
             .iter()
             .any(|group| group.next < group.items.len())
     }
@@ -71,9 +36,8 @@ impl Groups {
     pub fn advanced(self, alloc: Global) -> Result<Groups, AllocError>
         ensures { IfOk result (λ groups. groups ≡ map advanced self) }
     {
-        let Groups { list } = self;
-        let mut groups = Groups::new(alloc);
-        'turn: for group in list {
+        let mut groups = Listing::new(alloc);
+        'turn: for group in self.into_vec() {
             groups.push(past_turn(group))?;
         }
         Ok(groups)
@@ -126,8 +90,7 @@ fn group_of(alloc: Global, names: &Text, items: &Text) -> Result<Result<Group, T
             if names.is_empty() {
                 return Ok(Err(Text::of_short(alloc, "foreach varlist is empty")?));
             }
-            let group = group_named(alloc, names, items)?;
-            Ok(group)
+            group_named(alloc, names, items)
         }
         Err(SplitFault::BadList(fault)) => Ok(Err(list_fault(alloc, fault)?)),
         Err(SplitFault::NoMemory) => Err(AllocError),
@@ -161,7 +124,7 @@ fn next_group(
 pub fn foreach_groups(alloc: Global, words: &[Text]) -> Result<Result<Groups, Text>, AllocError>
     ensures { IfOk result (λ groups. groups ≡ groups_of words.now) }
 {
-    let mut groups = Groups::new(alloc);
+    let mut groups = Listing::new(alloc);
     let mut held = None;
     for word in words {
         match next_group(alloc, &mut groups, held, word)? {
@@ -177,11 +140,4 @@ pub fn has_body(words: &[Text]) -> bool
     ensures { result ≡ has_body words.now }
 {
     words.len() % 2 == 1
-}
-
-/// By hand: a proof sees one call where it is dropped, and not its parts.
-impl Drop for Groups {
-    fn drop(self) {
-        let Groups { list: _ } = self;
-    }
 }

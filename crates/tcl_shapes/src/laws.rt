@@ -26,8 +26,10 @@ pub fn switch_items_are_pairs()
 pub fn foreach_words_are_cut()
     ensures groups { (words : List (List ℕ)) (body : List ℕ) (groups : List Group) → AreGroups words groups → groups_of (words ++ body ∷ []) ≡ Ok groups }
     ensures fault { (words : List (List ℕ)) (body text : List ℕ) → AreFaulty words text → groups_of (words ++ body ∷ []) ≡ Err text }
-    ensures only_groups { (words : List (List ℕ)) (body : List ℕ) (groups : List Group) → has_body (words ++ body ∷ []) ≡ true → groups_of (words ++ body ∷ []) ≡ Ok groups → AreGroups words groups }
-    ensures only_fault { (words : List (List ℕ)) (body text : List ℕ) → has_body (words ++ body ∷ []) ≡ true → groups_of (words ++ body ∷ []) ≡ Err text → AreFaulty words text }
+    ensures only_groups { (words : List (List ℕ)) (body : List ℕ) (groups : List Group) → has_body (words ++ body ∷ []) ≡ true
+        → groups_of (words ++ body ∷ []) ≡ Ok groups → AreGroups words groups }
+    ensures only_fault { (words : List (List ℕ)) (body text : List ℕ) → has_body (words ++ body ∷ []) ≡ true
+        → groups_of (words ++ body ∷ []) ≡ Err text → AreFaulty words text }
 {
     lists_are_read();
     list_faults_are_told();
@@ -35,6 +37,8 @@ pub fn foreach_words_are_cut()
 
 /// After T turns a group of N names has its items from number N times T on, counted from 0, and asks for another turn where some are left.
 pub fn turns_take_items()
-    ensures more { (turns : ℕ) (group : Group) → group.next ≡ 0 → has_more (after_turns turns group) ≡ nat_lt (length group.names * turns) (length group.items) }
-    ensures items { (turns : ℕ) (group : Group) → group.next ≡ 0 → drop (after_turns turns group).next group.items ≡ drop (length group.names * turns) group.items }
+    ensures more { (turns : ℕ) (group : Group) → group.next ≡ 0
+        → has_more (after_turns turns group) ≡ nat_lt (length group.names * turns) (length group.items) }
+    ensures items { (turns : ℕ) (group : Group) → group.next ≡ 0
+        → drop (after_turns turns group).next group.items ≡ drop (length group.names * turns) group.items }
 {}

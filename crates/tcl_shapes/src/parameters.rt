@@ -1,12 +1,12 @@
-ghost use Rattle.std.specs.Prelude.{◌≡◌, [], ◌∷◌, ◌++◌, option_map, IfOk, OnOk, OnErr};
-ghost use Rattle.tcl_vars.specs.Name.{element_of};
+ghost use Rattle.std.specs.Prelude.{◌≡◌, IfOk};
 ghost use Rattle.tcl_text.specs.Readings.{list_of};
 ghost use Rattle.tcl_shapes.specs.Parameters.{has_colons, is_element, is_parameter_name, parameter_named, parameter_parts, parameter_of, parameters_of, parameters_in};
 
+use crate::listing::Listing;
 use crate::texts::list_fault;
 use std::alloc::{AllocError, Global};
-use std::marker::Model;
 use tcl_text::{SplitFault, Text};
+use tcl_vars::element_of;
 
 /// A parameter of a procedure, and its default (proc(n)). A call gives the last one the rest of its words where that is named `args`.
 #[derive(Drop)]
@@ -17,43 +17,7 @@ pub struct Parameter {
 }
 
 /// Parameters in order.
-pub struct Parameters {
-    list: Vec<Parameter>,
-}
-
-impl Model for Parameters {
-    ghost use Rattle.std.specs.Prelude.{List};
-    ghost use Rattle.tcl_shapes.specs.declared.parameters.Parameter.{Parameter};
-
-    ghost Value = { List Parameter };
-
-    ghost view = { λ p. p.list.items };
-}
-
-impl Parameters {
-    fn new(alloc: Global) -> Parameters
-        ensures { result ≡ [] }
-    {
-        Parameters {
-            list: Vec::new(alloc),
-        }
-    }
-
-    fn push(&mut self, parameter: Parameter) -> Result<(), AllocError>
-        ensures ok { OnOk result (self.new ≡ self.old ++ parameter ∷ []) }
-        ensures err { OnErr result (self.new ≡ self.old) }
-    {
-        self.list.push(parameter)?;
-        Ok(())
-    }
-
-    /// The parameters, in order.
-    pub fn as_slice(&self) -> &[Parameter]
-        ensures { result.now ≡ self.now }
-    {
-        self.list.as_slice()
-    }
-}
+pub type Parameters = Listing<Parameter>;
 
 fn has_colons(name: &[u8]) -> bool
     ensures { result ≡ has_colons name.now }
@@ -66,13 +30,6 @@ fn has_colons(name: &[u8]) -> bool
         rest = behind;
     }
     false
-}
-
-/// The array and the index of a name `array(index)`.
-fn element_of<'a>(name: &'a str) -> Option<(&'a str, &'a str)>
-    ensures { option_map (λ p. (p.0.now, p.1.now)) result ≡ element_of name.now }
-{
-    name.strip_suffix(')')?.split_once('(')
 }
 
 fn is_element(name: &str) -> bool
@@ -109,14 +66,8 @@ fn parameter_parts(alloc: Global, parts: &[Text]) -> Result<Result<Parameter, Te
     ensures { IfOk result (λ parameter. parameter ≡ parameter_parts parts.now) }
 {
     match parts {
-        [name] => {
-            let parameter = parameter_named(alloc, name, None)?;
-            Ok(parameter)
-        }
-        [name, fallback] => {
-            let parameter = parameter_named(alloc, name, Some(fallback.copy()?))?;
-            Ok(parameter)
-        }
+        [name] => parameter_named(alloc, name, None),
+        [name, fallback] => parameter_named(alloc, name, Some(fallback.copy()?)),
         _ => Ok(Err(Text::of_short(alloc, "bad parameter list")?)),
     }
 }
@@ -126,10 +77,7 @@ fn parameter_of(alloc: Global, item: &Text) -> Result<Result<Parameter, Text>, A
     ensures { IfOk result (λ parameter. parameter ≡ parameter_of (list_of item.now)) }
 {
     match item.split_list(alloc) {
-        Ok(parts) => {
-            let parameter = parameter_parts(alloc, parts.as_slice())?;
-            Ok(parameter)
-        }
+        Ok(parts) => parameter_parts(alloc, parts.as_slice()),
         Err(SplitFault::BadList(fault)) => Ok(Err(list_fault(alloc, fault)?)),
         Err(SplitFault::NoMemory) => Err(AllocError),
     }
@@ -139,7 +87,7 @@ fn parameter_of(alloc: Global, item: &Text) -> Result<Result<Parameter, Text>, A
 fn parameters_of(alloc: Global, items: &[Text]) -> Result<Result<Parameters, Text>, AllocError>
     ensures { IfOk result (λ parameters. parameters ≡ parameters_of items.now) }
 {
-    let mut parameters = Parameters::new(alloc);
+    let mut parameters = Listing::new(alloc);
     for item in items {
         match parameter_of(alloc, item)? {
             Ok(parameter) => parameters.push(parameter)?,
@@ -159,12 +107,5 @@ pub fn parameters_in(alloc: Global, list: &Text) -> Result<Result<Parameters, Te
         Ok(items) => parameters_of(alloc, items.as_slice()),
         Err(SplitFault::BadList(fault)) => Ok(Err(list_fault(alloc, fault)?)),
         Err(SplitFault::NoMemory) => Err(AllocError),
-    }
-}
-
-/// By hand: a proof sees one call where it is dropped, and not its parts.
-impl Drop for Parameters {
-    fn drop(self) {
-        let Parameters { list: _ } = self;
     }
 }

@@ -1,3 +1,2 @@
-pub mod NamedLemmas
 pub mod TableLemmas
 pub mod SourceLemmas

@@ -3,7 +3,7 @@ use Rattle.std.proofs.Common.{◌≡◌, ℕ, List, Ok, Err, IsOk, sym, ◌∙�
 use Rattle.tcl_words.specs.Grammar.{IsScriptOf, IsScriptFault}
 use Rattle.tcl_words.specs.Reading.{commands_of}
 use Rattle.tcl_words.specs.declared.script.Command.{Command}
-use Rattle.tcl_words.specs.declared.fault.ParseFault.{ParseFault}
+use Rattle.tcl_text.specs.declared.fault.ParseFault.{ParseFault}
 use Rattle.tcl_words.proofs.Parses.{parse_is_read, one_script_parse}
 use Rattle.tcl_table.specs.Source.{script_of}
 

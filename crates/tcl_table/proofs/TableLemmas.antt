@@ -2,7 +2,7 @@
 use Rattle.std.proofs.Common.{◌≡◌, ℕ, zero, suc, ◌+◌, ◌<◌, List, [], ◌∷◌, String, map, length, drop, get_or, refl, ap, sym, ◌∙◌, add-one, arith}
 use Rattle.tcl_table.specs.declared.command.Command.{Command}
 use Rattle.tcl_table.specs.declared.command.Command.TheVariants.{Outside}
-use Rattle.tcl_table.specs.Named.{named}
+use Rattle.tcl_vars.specs.Named.{named}
 use Rattle.tcl_table.specs.Table.{Table, with_value, with_outside}
 
 outside_suc : (names : List (List ℕ)) (i : ℕ) (table : Table) (d : List ℕ) → i < length names

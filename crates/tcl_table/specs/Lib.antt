@@ -1,6 +1,5 @@
 -- What the contracts cite.
 pub mod Levels
-pub mod Named
 pub mod Names
 pub mod Source
 pub mod SourceForms

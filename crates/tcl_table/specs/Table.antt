@@ -1,8 +1,7 @@
 -- Meaning. The commands by their names.
 use Rattle.std.specs.Prelude.{ℕ, Bool, true, false, ◌+◌, List, [], ◌∷◌, map, Option, if◌then◌else◌, Some, codes}
-use Rattle.std.specs.Str.{bytes_eq}
-use Rattle.std.specs.Map.{lookup, remove_entry}
-use Rattle.indexmap.specs.IndexMap.{insert_entry}
+use Rattle.tcl_vars.specs.Table.{Table as Named}
+pub use Rattle.tcl_vars.specs.Table.{value_at, with_value, without}
 use Rattle.tcl_table.specs.Names.{is_dotted}
 use Rattle.tcl_table.specs.declared.builtin.Builtin.{Builtin as BuiltinName}
 use Rattle.tcl_table.specs.declared.builtin.Builtin.TheVariants as builtin
@@ -14,19 +13,7 @@ use Rattle.tcl_text.specs.declared.commands.TextCommand.TheVariants as text
 
 -- names with commands, in the order in which they came
 abbrev pub Table : Type 0
-Table = List (List ℕ × Command)
-
--- the command of a name
-abbrev pub value_at : Table → List ℕ → Option Command
-value_at table name = lookup (bytes_eq name) table
-
--- the table with a command at a name: a name that is there keeps its place, and a new one comes last
-abbrev pub with_value : Table → List ℕ → Command → Table
-with_value table name command = insert_entry bytes_eq table name command
-
--- the table without a name
-abbrev pub without : Table → List ℕ → Table
-without table name = remove_entry (bytes_eq name) table
+Table = Named Command
 
 abbrev pub is_procedure : Command → Bool
 is_procedure (Procedure procedure) = true

@@ -2,7 +2,7 @@ use tcl_commands::VariableCommand;
 
 /// The commands that the interpreter has itself, those on texts and lists aside. Each has the name of its manual page: `Break` is that of
 /// break(n).
-#[derive(Clone, Copy, Debug, PartialEq, Eq)]
+#[derive(Clone, Copy)]
 pub enum Builtin {
     Break,
     Catch,

@@ -58,7 +58,7 @@ pub struct CommandTable {
 impl Model for CommandTable {
     ghost use Rattle.std.specs.Prelude.{ℕ, List};
     ghost use Rattle.tcl_table.specs.declared.command.Command.{Command};
-    ghost use Rattle.tcl_table.specs.Named.{named};
+    ghost use Rattle.tcl_vars.specs.Named.{named};
 
     ghost Value = { List (List ℕ × Command) };
 
@@ -255,27 +255,21 @@ fn add_variables(table: &mut CommandTable) -> Result<(), AllocError>
     Ok(())
 }
 
-fn add_text(table: &mut CommandTable, name: &str, command: TextCommand) -> Result<(), AllocError>
-    ensures { OnOk result (table.new ≡ with_value table.old name.now (Command.Texts command)) }
-{
-    table.insert(name, Command::Texts(command))
-}
-
 fn add_texts(table: &mut CommandTable) -> Result<(), AllocError>
     ensures { OnOk result (table.new ≡ with_texts texts table.old) }
 {
-    add_text(table, "list", TextCommand::List)?;
-    add_text(table, "llength", TextCommand::Llength)?;
-    add_text(table, "lindex", TextCommand::Lindex)?;
-    add_text(table, "lrange", TextCommand::Lrange)?;
-    add_text(table, "linsert", TextCommand::Linsert)?;
-    add_text(table, "lreplace", TextCommand::Lreplace)?;
-    add_text(table, "lsearch", TextCommand::Lsearch)?;
-    add_text(table, "lsort", TextCommand::Lsort)?;
-    add_text(table, "join", TextCommand::Join)?;
-    add_text(table, "split", TextCommand::Split)?;
-    add_text(table, "concat", TextCommand::Concat)?;
-    add_text(table, "string", TextCommand::String)?;
+    table.insert("list", Command::Texts(TextCommand::List))?;
+    table.insert("llength", Command::Texts(TextCommand::Llength))?;
+    table.insert("lindex", Command::Texts(TextCommand::Lindex))?;
+    table.insert("lrange", Command::Texts(TextCommand::Lrange))?;
+    table.insert("linsert", Command::Texts(TextCommand::Linsert))?;
+    table.insert("lreplace", Command::Texts(TextCommand::Lreplace))?;
+    table.insert("lsearch", Command::Texts(TextCommand::Lsearch))?;
+    table.insert("lsort", Command::Texts(TextCommand::Lsort))?;
+    table.insert("join", Command::Texts(TextCommand::Join))?;
+    table.insert("split", Command::Texts(TextCommand::Split))?;
+    table.insert("concat", Command::Texts(TextCommand::Concat))?;
+    table.insert("string", Command::Texts(TextCommand::String))?;
     Ok(())
 }
 

@@ -153,10 +153,7 @@ impl Source {
     {
         let Source { form } = self;
         match form {
-            SourceForm::Unread(text) => {
-                let reading = table.read(&text)?;
-                Ok(reading)
-            }
+            SourceForm::Unread(text) => table.read(&text),
             SourceForm::Read(script) => {
                 let _commands = script.commands();
                 Ok(Ok(script))

@@ -1,21 +1,12 @@
 //! The texts of errors, as scripts are told of them. In place of one past 65,536 bytes stands that of the limit (4).
-ghost use Rattle.std.specs.Prelude.{◌≡◌, ◌++◌, IfOk, string_bytes};
-ghost use Rattle.tcl_text.specs.Splitting.{fault_text as list_text};
-ghost use Rattle.tcl_words.specs.Faults.{text_of};
-ghost use Rattle.tcl_table.specs.Texts.{read_reason, cannot_read, cannot_set, element_name, not_boolean, unknown_command, about};
-ghost use Rattle.tcl_text.specs.Answers.{message, limit_text};
+ghost use Rattle.std.specs.Prelude.{◌≡◌, ◌++◌, IfOk};
+ghost use Rattle.tcl_table.specs.Texts.{cannot_read, not_boolean, unknown_command, about};
+ghost use Rattle.tcl_text.specs.Answers.{message};
+ghost use Rattle.tcl_vars.specs.Texts.{element_name};
 
 use std::alloc::{AllocError, Global};
-use tcl_text::{ListFault, Text};
-use tcl_vars::{ReadFault, SetFault};
-use tcl_words::ParseFault;
-
-/// The error that a value would pass 65,536 bytes (4).
-pub fn limit(alloc: Global) -> Result<Text, AllocError>
-    ensures { IfOk result (λ text. text ≡ limit_text) }
-{
-    Text::of_short(alloc, "limit reached: value")
-}
+use tcl_text::Text;
+use tcl_vars::{ReadFault, element_name};
 
 /// A message about a subject, between what stands before and after it; that of the limit (4) where it would pass 65,536 bytes.
 #[tactic(auto, unfolding(tcl_text::specs::Answers::bounded))]
@@ -28,13 +19,6 @@ pub fn message(alloc: Global, before: &str, subject: &str, after: &str) -> Resul
     Text::of_message(alloc, characters.as_str())
 }
 
-/// Why a variable can't be read, as its script is told of it: `NoVariable` (15), `NoElement` (16), `IsArray` (17) or `NotArray` (18).
-pub fn cannot_read(alloc: Global, name: &Text, fault: ReadFault) -> Result<Text, AllocError>
-    ensures { IfOk result (λ text. text ≡ cannot_read name.now fault) }
-{
-    message(alloc, "can't read \"", name.as_str(), read_reason(fault))
-}
-
 /// Why an element can't be read, as its script is told of it (15 to 18). It is named `name(index)`.
 pub fn cannot_read_element(
     alloc: Global,
@@ -45,52 +29,7 @@ pub fn cannot_read_element(
     ensures { IfOk result (λ text. text ≡ cannot_read (element_name name.now index.now) fault) }
 {
     let element = element_name(alloc, name.as_str(), index.as_str())?;
-    message(alloc, "can't read \"", element.as_str(), read_reason(fault))
-}
-
-/// An element as it is named.
-fn element_name(alloc: Global, name: &str, index: &str) -> Result<String, AllocError>
-    ensures { IfOk result (λ string. string_bytes string ≡ element_name name.now index.now) }
-{
-    let mut characters = String::from_str(alloc, name)?;
-    characters.push_str("(")?;
-    characters.push_str(index)?;
-    characters.push_str(")")?;
-    Ok(characters)
-}
-
-fn read_reason(fault: ReadFault) -> &'static str
-    ensures { result.now ≡ read_reason fault }
-{
-    match fault {
-        ReadFault::NoVariable => "\": no such variable",
-        ReadFault::NoElement => "\": no such element in array",
-        ReadFault::IsArray => "\": variable is array",
-        ReadFault::NotArray => "\": variable isn't array",
-    }
-}
-
-/// Why a variable can't be set, as its script is told of it: `IsArray` (17), `NotArray` (18) or `Full` (19). Refused memory has no such
-/// text: it is empty.
-pub fn cannot_set(alloc: Global, name: &Text, fault: SetFault) -> Result<Text, AllocError>
-    ensures { IfOk result (λ text. text ≡ cannot_set name.now fault) }
-{
-    match fault {
-        SetFault::IsArray => message(
-            alloc,
-            "can't set \"",
-            name.as_str(),
-            "\": variable is array",
-        ),
-        SetFault::NotArray => message(
-            alloc,
-            "can't set \"",
-            name.as_str(),
-            "\": variable isn't array",
-        ),
-        SetFault::Full => Text::of_short(alloc, "limit reached: variables"),
-        SetFault::NoMemory => Text::of_short(alloc, ""),
-    }
+    fault.text(alloc, element.as_str())
 }
 
 /// The error that a text is no boolean (2).
@@ -118,20 +57,6 @@ pub fn told(alloc: Global, characters: &str) -> Result<Text, AllocError>
     ensures { IfOk result (λ text. text ≡ message characters.now) }
 {
     Text::of_message(alloc, characters)
-}
-
-/// Why a text is no script (4 to 10), as its script is told of it. Refused memory has no such text: it is empty.
-pub fn fault_text(alloc: Global, fault: ParseFault) -> Result<Text, AllocError>
-    ensures { IfOk result (λ text. text ≡ message (text_of fault)) }
-{
-    told(alloc, fault.text())
-}
-
-/// Why a text is no list (3), as its script is told of it.
-pub fn list_fault(alloc: Global, fault: ListFault) -> Result<Text, AllocError>
-    ensures { IfOk result (λ text. text ≡ message (list_text fault)) }
-{
-    told(alloc, fault.text())
 }
 
 /// The error about a word: what stands before it, the word, and a quote that closes it.

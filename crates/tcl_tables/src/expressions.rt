@@ -10,21 +10,22 @@ use std::alloc::Global;
 use tables::{error_of, first_word, result_of};
 use tcl_expr::{Ask, Eval, EvalFault, ExprFault, parse_expr};
 use tcl_text::Text;
+use tcl_words::ParseFault;
 
 /// How many things an expression of a table asks at most.
 const MAX_ASKS: u32 = 1000;
 
 fn number_of_text(fault: ExprFault) -> &'static str {
     match fault {
-        ExprFault::TooLong => "4",
-        ExprFault::MissingBrace => "5",
-        ExprFault::MissingBracket => "6",
-        ExprFault::MissingQuote => "7",
-        ExprFault::ExtraAfterBrace => "8",
-        ExprFault::ExtraAfterQuote => "9",
-        ExprFault::MissingParen => "10",
+        ExprFault::Script(ParseFault::TooLong) => "4",
+        ExprFault::Script(ParseFault::MissingBrace) => "5",
+        ExprFault::Script(ParseFault::MissingBracket) => "6",
+        ExprFault::Script(ParseFault::MissingQuote) => "7",
+        ExprFault::Script(ParseFault::ExtraAfterBrace) => "8",
+        ExprFault::Script(ParseFault::ExtraAfterQuote) => "9",
+        ExprFault::Script(ParseFault::MissingParen) => "10",
+        ExprFault::Script(ParseFault::NoMemory) => "out of memory",
         ExprFault::Syntax => "11",
-        ExprFault::NoMemory => "out of memory",
     }
 }
 

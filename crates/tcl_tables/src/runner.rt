@@ -1,7 +1,7 @@
 //! An interpreter with its variables, whose outside commands are those of the panel.
-ghost use Rattle.std.specs.Prelude.{◌≡◌, ◌≢◌, ◌<◌, ◌+◌, IfOk, OnOk, All};
+ghost use Rattle.std.specs.Prelude.{◌≡◌, ◌≢◌, ◌<◌, ◌+◌, IfOk, OnOk, Ok};
 ghost use Rattle.tcl_interp.specs.Finish.{Idle};
-ghost use Rattle.tcl_interp.specs.Interp.{rest_of, left_of, budget_of, LeavesRest, LeavesAfter};
+ghost use Rattle.tcl_interp.specs.Interp.{rest_of, left_of, budget_of, LeavesRest};
 
 use crate::panel::Panel;
 use anyhow::{Result, bail};
@@ -53,6 +53,7 @@ impl Runner {
         requires positive { 0 < steps }
         requires begun { rest_of self.old.interp ≢ Idle }
         ensures rest { IfOk result (λ end. LeavesRest end (rest_of self.new.interp)) }
+        ensures more { result ≡ Ok SliceEnd.More → left_of self.new.interp + steps ≡ left_of self.old.interp }
     {
         let end = self
             .interp
@@ -60,20 +61,18 @@ impl Runner {
         Ok(end)
     }
 
-    /// Slices of these sizes, and then of one size, to the end.
-    pub fn to_end(&mut self, sizes: &[u64], then: u64) -> Result<SliceEnd>
-        requires each { All (λ size. 0 < size) sizes.now }
-        requires positive { 0 < then }
+    /// Slices of one size, to the end.
+    pub fn to_end(&mut self, size: u64) -> Result<SliceEnd>
+        requires positive { 0 < size }
         requires begun { rest_of self.old.interp ≢ Idle }
-        ensures rest { IfOk result (λ end. LeavesAfter end (rest_of self.new.interp)) }
+        ensures rest { IfOk result (λ end. LeavesRest end (rest_of self.new.interp)) }
     {
-        let end = self.interp.run_to_end(
-            &mut Panel { alloc: self.alloc },
-            &mut self.scopes,
-            sizes,
-            then,
-        )?;
-        Ok(end)
+        'slices: loop {
+            match self.slice(size)? {
+                SliceEnd::More => {}
+                end => return Ok(end),
+            }
+        }
     }
 
     /// How a script ends that is run in slices of one size, as a table has it.
@@ -82,7 +81,7 @@ impl Runner {
         requires positive { 0 < slice }
     {
         self.begin(script)?;
-        let end = self.to_end(&[], slice)?;
+        let end = self.to_end(slice)?;
         let left = self.steps_left();
         match end {
             SliceEnd::Done(Code::Error, text) => {

@@ -64,7 +64,7 @@ fn result(runner: &mut Runner, script: &str) -> Result<Text>
     ensures { OnOk result (rest_of runner.new.interp ≡ Idle) }
 {
     runner.begin(script)?;
-    match runner.to_end(&[1, 1], 2)? {
+    match runner.to_end(1)? {
         SliceEnd::Done(_, text) => Ok(text),
         _ => bail!("a script has no end"),
     }

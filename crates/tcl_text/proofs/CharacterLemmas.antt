@@ -2,37 +2,18 @@
 use Rattle.std.proofs.Common.{◌≡◌, ℕ, ◌+◌, ◌-◌, ◌<◌, ◌≤◌, ◌⊎◌, inl, inr, Bool, true, false, List, [], ◌∷◌, ◌++◌, length, take, drop, get_or, min, refl, sym, ap, subst, ◌∙◌, arith}
 use Rattle.std.specs.Str.{chars, IsUtf8, IsAscii, IsCharBoundary}
 use Rattle.std.specs.Char.{encode_utf8}
-use Rattle.std.proofs.lemmas.Str.{chars-append, chars-IsAscii, encode_ascii, inside_one, length-encode, len_utf8_bounds, char_from_byte, IsUtf8-take, IsCharBoundary-from_drop, IsAscii-take, IsAscii-drop, drop_past_char}
+use Rattle.std.proofs.lemmas.Str.{chars-append, chars-IsAscii, encode_ascii, inside_one, length-encode, len_utf8_bounds, IsUtf8-take, IsCharBoundary-from_drop, IsAscii-take, IsAscii-drop, drop_past_char}
 use Rattle.std.specs.Char.{len_utf8}
 use Rattle.std.proofs.lemmas.List.{length-append, length-drop}
 use Rattle.std.proofs.lemmas.Bool.{false≢true, cases_lt}
 use Rattle.std.proofs.lemmas.Bool.Decides.{nat_tests}
 use Rattle.std.proofs.lemmas.List.{take-append-drop, drop-drop, append-nil, append_assoc, take_all, take_more, drop_all, append_cancel_right}
 use Rattle.tcl_text.specs.Backslash.{is_white}
-use Rattle.tcl_text.specs.Readings.{skip_white}
 use Rattle.tcl_text.specs.StringCommands.{drop_white_end}
 
 -- white space is ASCII
 pub is_white-ascii : (c : ℕ) → is_white c ≡ true → c < 128
 is_white-ascii c h = grind (arith, nat_tests)
-
--- a text that begins with white space, and one that begins with another character
-pub skip_white-white : (c : ℕ) (rest text : List ℕ) → text ≡ encode_utf8 c ++ rest → is_white c ≡ true → skip_white rest ≡ skip_white text
-skip_white-white c rest text is white =
-    let one : encode_utf8 c ≡ c ∷ [] = encode_ascii c (is_white-ascii c white) in
-    rw (is, one, white) refl
-
-first_dark : (c b : ℕ) (rest bs : List ℕ) → b ∷ bs ≡ encode_utf8 c ++ rest → is_white c ≡ false → is_white b ≡ false
-first_dark c b rest bs is dark = go (is_white b) refl where
-  go : (w : Bool) → is_white b ≡ w → is_white b ≡ false
-  go false e = e
-  go true e =
-      let same : c ≡ b = char_from_byte (b ∷ bs) rest c is (is_white-ascii b e) (omega arith) in
-      absurd (false≢true (sym dark ∙ ap is_white same ∙ e))
-
-pub skip_white-dark : (c : ℕ) (rest text : List ℕ) → text ≡ encode_utf8 c ++ rest → is_white c ≡ false → text ≡ skip_white text
-skip_white-dark c rest [] is dark = refl
-skip_white-dark c rest (b ∷ bs) is dark = rw (first_dark c b rest bs is dark) refl
 
 -- a text that ends with white space, and one that ends with another character
 drop_white_end-push : (text : List ℕ) (c : ℕ) → is_white c ≡ true → drop_white_end (text ++ c ∷ []) ≡ drop_white_end text

@@ -9,7 +9,7 @@ use Rattle.tcl_text.specs.Readings.{integer_of, list_of, list_form}
 use Rattle.tcl_text.specs.Glob.{glob_matches}
 use Rattle.tcl_text.specs.Answers.{answers, bounded, integer_in, items_in}
 use Rattle.tcl_text.specs.Indices.{index_of, index_in}
-use Rattle.tcl_text.specs.StringCommands.{string_command_named}
+use Rattle.tcl_text.specs.StringCommands.{string_named}
 use Rattle.tcl_text.specs.ListCommands.{with_option}
 use Rattle.tcl_text.specs.Commands.{command_named, text_command_of}
 
@@ -22,11 +22,11 @@ unfolding glob_matches
 glob-range = refl
 
 string-match : text_command_of (codes "string" ∷ codes "match" ∷ codes "a?c" ∷ codes "abc" ∷ []) ≡ Some (Ok (codes "1"))
-unfolding command_named string_command_named glob_matches answers chars
+unfolding command_named string_named glob_matches answers chars
 string-match = refl
 
 string-range : text_command_of (codes "string" ∷ codes "range" ∷ codes "abcdef" ∷ codes "end-2" ∷ codes "end" ∷ []) ≡ Some (Ok (codes "def"))
-unfolding command_named string_command_named index_of index_in integer_of answers chars encode
+unfolding command_named string_named index_of index_in integer_of answers chars encode
 string-range = refl
 
 llength : text_command_of (codes "llength" ∷ codes "a {b c} d" ∷ []) ≡ Some (Ok (codes "3"))

@@ -13,10 +13,10 @@ use Rattle.tcl_text.proofs.Utf8Lemmas.{behind_ascii, cut_at_ascii}
 use Rattle.tcl_text.proofs.SplittingLemmas.{reading_between, reading_kind, told}
 use Rattle.tcl_text.specs.declared.splitting.ByteKind.{ByteKind}
 use Rattle.tcl_text.specs.declared.splitting.ByteKind.TheVariants.{White, OpenBrace, CloseBrace, Quote, Backslash, Other}
-use Rattle.tcl_text.specs.declared.splitting.ListFault.{ListFault}
-use Rattle.tcl_text.specs.declared.splitting.ListFault.TheVariants.{OpenQuote, ExtraCharacters}
-use Rattle.tcl_text.specs.declared.splitting.SplitFault.{SplitFault}
-use Rattle.tcl_text.specs.declared.splitting.SplitFault.TheVariants.{BadList, NoMemory}
+use Rattle.tcl_text.specs.declared.fault.ListFault.{ListFault}
+use Rattle.tcl_text.specs.declared.fault.ListFault.TheVariants.{OpenQuote, ExtraCharacters}
+use Rattle.tcl_text.specs.declared.fault.SplitFault.{SplitFault}
+use Rattle.tcl_text.specs.declared.fault.SplitFault.TheVariants.{BadList, NoMemory}
 
 -- the first mark of a text is of the kind of its first byte
 record FirstMark (c : ℕ) (cs : List ℕ) : Type 0 where

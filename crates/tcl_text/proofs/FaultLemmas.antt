@@ -1,8 +1,8 @@
 -- What a refused text or list means.
 use Rattle.std.proofs.Common.{◌≡◌, ◌≢◌, ℕ, ◌<◌, List, length, Result, Err, IfErr, sym, subst}
 use Rattle.tcl_text.specs.ListForm.{Joins}
-use Rattle.tcl_text.specs.declared.text.TextFault.{TextFault}
-use Rattle.tcl_text.specs.declared.text.TextFault.TheVariants.{TooLong, NoMemory}
+use Rattle.tcl_text.specs.declared.fault.TextFault.{TextFault}
+use Rattle.tcl_text.specs.declared.fault.TextFault.TheVariants.{TooLong, NoMemory}
 
 -- a form is refused where it is too long
 pub Joins-refused : (answer : Result (List ℕ) TextFault) (fault : TextFault) (form : List ℕ) → answer ≡ Err fault → (fault ≢ NoMemory → 65536 < length form) → Joins answer form

@@ -12,7 +12,7 @@ use Rattle.tcl_text.specs.Splitting.{items_before}
 use Rattle.tcl_text.proofs.KeptLists.{forms-cut}
 use Rattle.tcl_text.proofs.KeptSteps.{boundary_behind, part_forms, place_between, place_boundary}
 use Rattle.tcl_text.proofs.RoundTrip.{list_of-list_form}
-use Rattle.tcl_text.specs.declared.splitting.ListFault.{ListFault}
+use Rattle.tcl_text.specs.declared.fault.ListFault.{ListFault}
 
 -- ── an item ──
 

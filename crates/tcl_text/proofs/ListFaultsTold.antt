@@ -8,8 +8,8 @@ use Rattle.tcl_text.specs.Readings.{IsElement, IsElementEnd, ListPlace, Reading,
 use Rattle.tcl_text.specs.ListFaults.{IsFaultyElement, unclosed_brace, unclosed_quote, followed_brace, followed_quote, AreBeforeFault, IsListFault}
 use Rattle.tcl_text.specs.declared.splitting.ByteKind.{ByteKind}
 use Rattle.tcl_text.specs.declared.splitting.ByteKind.TheVariants.{White, OpenBrace, CloseBrace, Quote, Backslash, Other}
-use Rattle.tcl_text.specs.declared.splitting.ListFault.{ListFault}
-use Rattle.tcl_text.specs.declared.splitting.ListFault.TheVariants.{OpenBrace as UnmatchedBrace, OpenQuote as UnmatchedQuote, ExtraCharacters}
+use Rattle.tcl_text.specs.declared.fault.ListFault.{ListFault}
+use Rattle.tcl_text.specs.declared.fault.ListFault.TheVariants.{OpenBrace as UnmatchedBrace, OpenQuote as UnmatchedQuote, ExtraCharacters}
 use Rattle.tcl_text.proofs.ListReading.{braces_mark, quote_test, white_test, balanced_more}
 use Rattle.tcl_text.proofs.ListFaultsMeant.{IsUnclosedFrom, last_brace}
 

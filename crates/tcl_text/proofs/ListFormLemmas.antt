@@ -35,3 +35,10 @@ pub others_form-append : (xs ys : List (List ℕ)) → others_form (xs ++ ys) �
 others_form-append [] ys = refl
 others_form-append (x ∷ xs) ys =
     ap (λ (t : List ℕ). 32 ∷ (element_form x ++ t)) (others_form-append xs ys) ∙ ap (λ (t : List ℕ). 32 ∷ t) (sym (append_assoc (element_form x) (others_form xs) (others_form ys)))
+
+-- and of one item
+pub list_form-one : (x : List ℕ) → list_form (x ∷ []) ≡ element_form x
+unfolding list_form
+list_form-one x = refl
+
+pub ruleset list_form_one = (list_form-one)

@@ -9,9 +9,9 @@ use Rattle.tcl_text.specs.declared.splitting.ByteKind.{ByteKind}
 use Rattle.tcl_text.specs.declared.splitting.ByteKind.TheVariants.{White, OpenBrace, CloseBrace, Quote, Backslash, Other}
 use Rattle.tcl_text.specs.Splitting.{Splits}
 use Rattle.std.specs.Prelude.{IfOk}
-use Rattle.tcl_text.specs.declared.splitting.ListFault.{ListFault}
-use Rattle.tcl_text.specs.declared.splitting.SplitFault.{SplitFault}
-use Rattle.tcl_text.specs.declared.splitting.SplitFault.TheVariants.{BadList, NoMemory}
+use Rattle.tcl_text.specs.declared.fault.ListFault.{ListFault}
+use Rattle.tcl_text.specs.declared.fault.SplitFault.{SplitFault}
+use Rattle.tcl_text.specs.declared.fault.SplitFault.TheVariants.{BadList, NoMemory}
 
 -- ── from the function to the relation ──
 

@@ -5,7 +5,7 @@ use Rattle.std.specs.Prelude.{pos, negsuc}
 use Rattle.tcl_text.specs.Backslash.{kind_of, escape, marks}
 use Rattle.tcl_text.specs.Readings.{integer_of, boolean_of, list_of, list_form}
 use Rattle.tcl_text.specs.ListFaults.{IsListFault}
-use Rattle.tcl_text.specs.declared.splitting.ListFault.TheVariants.{OpenBrace, OpenQuote, ExtraCharacters}
+use Rattle.tcl_text.specs.declared.fault.ListFault.TheVariants.{OpenBrace, OpenQuote, ExtraCharacters}
 use Rattle.tcl_text.proofs.ListFaultsTold.{IsListFault-from_list_of}
 
 hexadecimal : integer_of (codes " -0X1f ") ≡ Some (negsuc 30)

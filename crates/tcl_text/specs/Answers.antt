@@ -1,8 +1,8 @@
--- What a command answers: its result or the text of its error, and the texts of the errors.
+-- Meaning. What a command answers: its result or the text of its error, and the texts of the errors.
 use Rattle.std.specs.Prelude.{◌≡◌, ℕ, ℤ, Bool, nat_le, if◌then◌else◌, List, ◌++◌, length, Option, Some, None, Result, Ok, Err, codes, ⊤}
 use Rattle.std.specs.Fmt.{decimal}
 use Rattle.tcl_text.specs.Readings.{integer_of, list_of}
-use Rattle.tcl_text.specs.declared.splitting.ListFault.{ListFault}
+use Rattle.tcl_text.specs.declared.fault.ListFault.{ListFault}
 use Rattle.tcl_text.specs.declared.commands.answers.Refusal.{Refusal}
 use Rattle.tcl_text.specs.declared.commands.answers.Refusal.TheVariants.{Error, NoMemory}
 use Rattle.tcl_text.specs.Limits.{most_bytes}

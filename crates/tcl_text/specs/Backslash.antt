@@ -1,21 +1,22 @@
--- What a backslash stands for, and a text as the marks that it is written in.
+-- Meaning. What a backslash stands for, and a text as the marks that it is written in.
 use Rattle.std.specs.Prelude.{ℕ, zero, suc, ◌+◌, ◌*◌, Bool, ◌&&◌, ◌||◌, ◌==◌, nat_lt, nat_le, if◌then◌else◌, List, [], ◌∷◌, take, encode_utf8}
 use Rattle.std.specs.Char.{digit_value}
+use Rattle.tcl_text.specs.Bytes.{alert, backspace, tab, line_feed, vertical_tab, form_feed, carriage_return, space, quote, digit_zero, digit_seven, capital_u, backslash_sign, letter_a, letter_b, letter_f, letter_n, letter_r, letter_t, letter_u, letter_v, letter_x, open_brace, close_brace}
 use Rattle.tcl_text.specs.declared.splitting.ByteKind.{ByteKind}
 use Rattle.tcl_text.specs.declared.splitting.ByteKind.TheVariants.{White, OpenBrace, CloseBrace, Quote, Backslash, Other}
 
 -- blank, tab, newline, vertical tab, form feed and carriage return
 abbrev pub is_white : ℕ → Bool
-is_white c = c == 32 || (nat_le 9 c && nat_le c 13)
+is_white c = c == space || (nat_le tab c && nat_le c carriage_return)
 
 -- what a byte is to the form of a list
 unfoldable pub kind_of : ℕ → ByteKind
 kind_of c =
     if is_white c then White
-    else (if c == 123 then OpenBrace
-    else (if c == 125 then CloseBrace
-    else (if c == 34 then Quote
-    else (if c == 92 then Backslash
+    else (if c == open_brace then OpenBrace
+    else (if c == close_brace then CloseBrace
+    else (if c == quote then Quote
+    else (if c == backslash_sign then Backslash
     else Other))))
 
 -- what stands for a character, and how many bytes it takes behind the backslash
@@ -50,31 +51,31 @@ numbered letter before digits =
 -- the control character that a letter names, or the byte itself
 abbrev pub named : ℕ → ℕ
 named c =
-    if c == 97 then 7
-    else (if c == 98 then 8
-    else (if c == 102 then 12
-    else (if c == 110 then 10
-    else (if c == 114 then 13
-    else (if c == 116 then 9
-    else (if c == 118 then 11
+    if c == letter_a then alert
+    else (if c == letter_b then backspace
+    else (if c == letter_f then form_feed
+    else (if c == letter_n then line_feed
+    else (if c == letter_r then carriage_return
+    else (if c == letter_t then tab
+    else (if c == letter_v then vertical_tab
     else c))))))
 
 -- how many blanks and tabs stand in front
 abbrev pub blanks : List ℕ → ℕ
 blanks [] = 0
-blanks (c ∷ cs) = if c == 32 || c == 9 then suc (blanks cs) else 0
+blanks (c ∷ cs) = if c == space || c == tab then suc (blanks cs) else 0
 
 -- What a backslash before this text stands for: a newline with the blanks behind it a blank; one to three octal digits up to
 -- 377, x with one or two hexadecimal digits, u with one to four and U with one to eight up to 10FFFF a character by its
 -- number; a letter of abfnrtv a control character; another byte itself; at the end of the text the backslash itself.
 unfoldable pub escape : List ℕ → Escape
-escape [] = record { meaning = 92 ∷ []; length = 0 }
+escape [] = record { meaning = backslash_sign ∷ []; length = 0 }
 escape (c ∷ cs) =
-    if c == 10 then (record { meaning = 32 ∷ []; length = suc (blanks cs) })
-    else (if nat_le 48 c && nat_le c 55 then numbered c 0 (digits_from 8 255 3 0 (c ∷ cs))
-    else (if c == 120 then numbered c 1 (digits_from 16 0xFF 2 0 cs)
-    else (if c == 117 then numbered c 1 (digits_from 16 0xFFFF 4 0 cs)
-    else (if c == 85 then numbered c 1 (digits_from 16 0x10FFFF 8 0 cs)
+    if c == line_feed then (record { meaning = space ∷ []; length = suc (blanks cs) })
+    else (if nat_le digit_zero c && nat_le c digit_seven then numbered c 0 (digits_from 8 255 3 0 (c ∷ cs))
+    else (if c == letter_x then numbered c 1 (digits_from 16 0xFF 2 0 cs)
+    else (if c == letter_u then numbered c 1 (digits_from 16 0xFFFF 4 0 cs)
+    else (if c == capital_u then numbered c 1 (digits_from 16 0x10FFFF 8 0 cs)
     else (record { meaning = named c ∷ []; length = 1 })))))
 
 -- A byte, or a backslash with all that it takes: how it is written, and what it stands for.
@@ -87,14 +88,14 @@ abbrev pub byte_mark : ℕ → Mark
 byte_mark b = record { kind = kind_of b; written = b ∷ []; meant = b ∷ [] }
 
 abbrev pub escape_mark : List ℕ → Mark
-escape_mark behind = record { kind = Backslash; written = 92 ∷ take (escape behind).length behind; meant = (escape behind).meaning }
+escape_mark behind = record { kind = Backslash; written = backslash_sign ∷ take (escape behind).length behind; meant = (escape behind).meaning }
 
 -- the marks of a text from the left, past the bytes that an earlier mark took
 abbrev pub marks_past : ℕ → List ℕ → List Mark
 marks_past taken [] = []
 marks_past (suc taken) (b ∷ bs) = marks_past taken bs
 marks_past zero (b ∷ bs) =
-    if b == 92 then escape_mark bs ∷ marks_past (escape bs).length bs
+    if b == backslash_sign then escape_mark bs ∷ marks_past (escape bs).length bs
     else byte_mark b ∷ marks_past 0 bs
 
 -- the marks that a text is written in

@@ -1,4 +1,4 @@
--- The commands that work on texts and lists alone: from its words to its answer.
+-- Meaning. The commands that work on texts and lists alone: from its words to its answer.
 use Rattle.std.specs.Prelude.{ℕ, List, [], ◌∷◌, Option, Some, None, option_map, if◌then◌else◌, codes}
 use Rattle.std.specs.Str.{bytes_eq}
 use Rattle.tcl_text.specs.Answers.{Answer}

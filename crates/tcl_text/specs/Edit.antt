@@ -1,11 +1,11 @@
--- What a text becomes by a change.
+-- Meaning. What a text becomes by a change.
 use Rattle.std.specs.Prelude.{ℕ, nat_le, if◌then◌else◌, List, ◌++◌, length, Result, Ok, Err}
 use Rattle.tcl_text.specs.Readings.{list_of, list_form}
-use Rattle.tcl_text.specs.declared.splitting.ListFault.{ListFault}
+use Rattle.tcl_text.specs.declared.fault.ListFault.{ListFault}
 use Rattle.tcl_text.specs.declared.edit.Edit.{Edit}
 use Rattle.tcl_text.specs.declared.edit.Edit.TheVariants.{Characters, Items}
-use Rattle.tcl_text.specs.declared.edit.EditFault.{EditFault}
-use Rattle.tcl_text.specs.declared.edit.EditFault.TheVariants.{TooLong, BadList}
+use Rattle.tcl_text.specs.declared.fault.EditFault.{EditFault}
+use Rattle.tcl_text.specs.declared.fault.EditFault.TheVariants.{TooLong, BadList}
 use Rattle.tcl_text.specs.Limits.{most_bytes}
 
 -- a value, where it isn't too long

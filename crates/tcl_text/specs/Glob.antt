@@ -1,5 +1,6 @@
--- Glob patterns. A pattern and a text are lists of characters here.
+-- Meaning. Glob patterns. A pattern and a text are lists of characters here.
 use Rattle.std.specs.Prelude.{◌≡◌, ◌≢◌, ℕ, Bool, true, false, ◌&&◌, ◌||◌, ◌==◌, nat_le, if◌then◌else◌, List, [], ◌∷◌, ◌++◌, ◌⊎◌, length, IsTrue}
+use Rattle.tcl_text.specs.Bytes.{star, minus_sign, question_mark, open_bracket, backslash_sign, close_bracket}
 
 -- whether a class has the character: its text is read from the left, a `-` between two characters
 -- makes them the ends of a range, and every other character stands for itself
@@ -8,7 +9,7 @@ in_class [] c = false
 in_class (low ∷ []) c = low == c
 in_class (low ∷ dash ∷ []) c = (low == c) || (dash == c)
 in_class (low ∷ dash ∷ high ∷ rest) c =
-    if dash == 45 then ((nat_le low c && nat_le c high) || in_class rest c) else ((low == c) || in_class (dash ∷ high ∷ rest) c)
+    if dash == minus_sign then ((nat_le low c && nat_le c high) || in_class rest c) else ((low == c) || in_class (dash ∷ high ∷ rest) c)
 
 -- no element of the list is x
 abbrev pub Lacks : ℕ → List ℕ → Type 0
@@ -17,23 +18,23 @@ Lacks x (y ∷ ys) = (y ≢ x) × Lacks x ys
 
 -- the text is a class up to its first `]`, which has the character, and then rest
 abbrev pub AllowsByClass : List ℕ → ℕ → List ℕ → Type 0
-AllowsByClass text c rest = (class : List ℕ) × Lacks 93 class × (text ≡ class ++ 93 ∷ rest) × IsTrue (in_class class c)
+AllowsByClass text c rest = (class : List ℕ) × Lacks close_bracket class × (text ≡ class ++ close_bracket ∷ rest) × IsTrue (in_class class c)
 
 -- the pattern begins with a part for one character, which allows c, and rest follows that part:
 -- `?`, a backslash and the character, a class up to its first `]`, or the character itself
 abbrev pub AllowsFirst : List ℕ → ℕ → List ℕ → Type 0
 AllowsFirst [] c rest = ⊥
 AllowsFirst (first ∷ after) c rest =
-    ((first ≡ 63) × (after ≡ rest))
-    ⊎ ((first ≡ 92) × (after ≡ c ∷ rest))
-    ⊎ ((first ≡ 91) × AllowsByClass after c rest)
-    ⊎ ((first ≢ 42) × (first ≢ 63) × (first ≢ 91) × (first ≢ 92) × (first ≡ c) × (after ≡ rest))
+    ((first ≡ question_mark) × (after ≡ rest))
+    ⊎ ((first ≡ backslash_sign) × (after ≡ c ∷ rest))
+    ⊎ ((first ≡ open_bracket) × AllowsByClass after c rest)
+    ⊎ ((first ≢ star) × (first ≢ question_mark) × (first ≢ open_bracket) × (first ≢ backslash_sign) × (first ≡ c) × (after ≡ rest))
 
 -- the pattern matches the whole text
 pub data GlobMatches : List ℕ → List ℕ → Type 0 where
   nothing_left : GlobMatches [] []
   -- `*` stands for any text
-  skips : {rest text : List ℕ} (skipped left : List ℕ) → text ≡ skipped ++ left → GlobMatches rest left → GlobMatches (42 ∷ rest) text
+  skips : {rest text : List ℕ} (skipped left : List ℕ) → text ≡ skipped ++ left → GlobMatches rest left → GlobMatches (star ∷ rest) text
   allows : {pattern rest left : List ℕ} {c : ℕ} → AllowsFirst pattern c rest → GlobMatches rest left → GlobMatches pattern (c ∷ left)
 
 -- ── the same as a function ──
@@ -57,16 +58,16 @@ some_end_passes test (c ∷ cs) = test (c ∷ cs) || some_end_passes test cs
 abbrev pub glob_from : PatternPlace → List ℕ → List ℕ → Bool
 glob_from at_part [] text = length text == 0
 glob_from at_part (p ∷ ps) text =
-    if p == 42 then some_end_passes (glob_from at_part ps) text
-    else (if p == 63 then first_passes (λ _. true) (glob_from at_part ps) text
-    else (if p == 91 then glob_from (inside_class []) ps text
-    else (if p == 92 then glob_from behind_backslash ps text
+    if p == star then some_end_passes (glob_from at_part ps) text
+    else (if p == question_mark then first_passes (λ _. true) (glob_from at_part ps) text
+    else (if p == open_bracket then glob_from (inside_class []) ps text
+    else (if p == backslash_sign then glob_from behind_backslash ps text
     else first_passes (λ c. p == c) (glob_from at_part ps) text)))
 glob_from behind_backslash [] text = false
 glob_from behind_backslash (p ∷ ps) text = first_passes (λ c. p == c) (glob_from at_part ps) text
 glob_from (inside_class class) [] text = false
 glob_from (inside_class class) (p ∷ ps) text =
-    if p == 93 then first_passes (in_class class) (glob_from at_part ps) text
+    if p == close_bracket then first_passes (in_class class) (glob_from at_part ps) text
     else glob_from (inside_class (class ++ p ∷ [])) ps text
 
 -- whether the pattern matches the whole text

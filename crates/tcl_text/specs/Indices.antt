@@ -1,7 +1,8 @@
--- Indices of list(n) and string(n): an integer, `end` or `end-N`.
+-- Meaning. Indices of list(n) and string(n): an integer, `end` or `end-N`.
 use Rattle.std.specs.Prelude.{ℕ, ◌+◌, ◌-◌, min, ℤ, pos, negsuc, Bool, false, not, ◌&&◌, nat_le, if◌then◌else◌, List, [], ◌∷◌, length, take, drop, slice_index, Option, Some, None, option_map, Result, Ok, codes}
 use Rattle.std.specs.Str.{bytes_eq}
 use Rattle.tcl_text.specs.Backslash.{is_white}
+use Rattle.tcl_text.specs.Bytes.{digit_zero, digit_nine}
 use Rattle.tcl_text.specs.Readings.{integer_of}
 use Rattle.tcl_text.specs.Answers.{bad_index}
 use Rattle.tcl_text.specs.declared.commands.indices.Index.{Index}
@@ -15,7 +16,7 @@ from_zero (negsuc n) = 0
 -- the text begins with a decimal digit and doesn't end with white space
 abbrev pub stands_alone : List ℕ → Bool
 stands_alone [] = false
-stands_alone (c ∷ cs) = nat_le 48 c && (nat_le c 57 && not (is_white (slice_index (c ∷ cs) (length cs))))
+stands_alone (c ∷ cs) = nat_le digit_zero c && (nat_le c digit_nine && not (is_white (slice_index (c ∷ cs) (length cs))))
 
 -- the index so many places before the last, where the text spells an unsigned integer
 abbrev pub index_from_end : List ℕ → Option Index

@@ -1,4 +1,4 @@
--- The items of a list, however they are kept.
+-- Steps. The items of a list, however they are kept.
 use Rattle.std.specs.Prelude.{ℕ, List}
 use Rattle.tcl_text.specs.declared.list_items.ItemsForm.{ItemsForm}
 use Rattle.tcl_text.specs.declared.list_items.ItemsForm.TheVariants.{Kept, Read}

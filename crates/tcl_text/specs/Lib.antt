@@ -1,12 +1,15 @@
 -- What the contracts cite.
+pub mod Bytes
 pub mod Glob
 pub mod GlobSteps
 pub mod Backslash
 pub mod Escaped
 pub mod ListForm
 pub mod Readings
+pub mod Characters
 pub mod ListFaults
 pub mod Faults
+pub mod FaultTexts
 pub mod Limits
 pub mod Answers
 pub mod Indices

@@ -1,4 +1,4 @@
--- The commands of list(n), llength(n), lindex(n), lrange(n), linsert(n), lreplace(n), lsearch(n), lsort(n), join(n) and split(n).
+-- Meaning. The commands of list(n), llength(n), lindex(n), lrange(n), linsert(n), lreplace(n), lsearch(n), lsort(n), join(n) and split(n).
 use Rattle.std.specs.Prelude.{ℕ, max, ℤ, Bool, true, false, ◌==◌, if◌then◌else◌, List, [], ◌∷◌, ◌++◌, length, take, drop, map, position, Result, Ok, codes}
 use Rattle.std.specs.Str.{chars, encode_utf8_all, bytes_eq}
 use Rattle.std.specs.Char.{encode_utf8}
@@ -7,6 +7,7 @@ use Rattle.std.specs.Ordering.{nat_cmp, int_cmp, is_lt}
 use Rattle.std.specs.List.{list_any}
 use Rattle.std.specs.Cmp.Lexicographic.{slice_cmp}
 use Rattle.tcl_text.specs.declared.commands.sorting.Order.{Order}
+use Rattle.tcl_text.specs.Bytes.{tab, line_feed, vertical_tab, form_feed, carriage_return, space}
 use Rattle.tcl_text.specs.Readings.{list_form}
 use Rattle.tcl_text.specs.Glob.{glob_matches}
 use Rattle.tcl_text.specs.Answers.{Answer, ◌>>=◌, answers, wrong_args, bad_option, integer_in, items_in, place}
@@ -206,7 +207,7 @@ split_text text separators = answers (list_form (parts_of text separators))
 
 -- blank, tab, newline, vertical tab, form feed and carriage return
 abbrev pub white_characters : List ℕ
-white_characters = 32 ∷ 9 ∷ 10 ∷ 11 ∷ 12 ∷ 13 ∷ []
+white_characters = space ∷ tab ∷ line_feed ∷ vertical_tab ∷ form_feed ∷ carriage_return ∷ []
 
 abbrev pub split_words : List (List ℕ) → Answer
 split_words (text ∷ []) = split_text text white_characters

@@ -1,5 +1,6 @@
--- What the steps of the commands of list(n) and its kin say to one another.
-use Rattle.std.specs.Prelude.{ℕ, Bool, List, [], ◌∷◌, ◌++◌, Option, Some, None}
+-- Steps. What the steps of the commands of list(n) and its kin say to one another.
+use Rattle.std.specs.Prelude.{◌≡◌, ℕ, Bool, List, [], ◌∷◌, ◌++◌, Option, Some, None, option_map}
+use Rattle.std.specs.Str.{chars}
 use Rattle.tcl_text.specs.ListCommands.{cut_at}
 
 -- the texts, each behind another
@@ -16,3 +17,7 @@ onto_first front (piece ∷ pieces) = (front ++ piece) ∷ pieces
 abbrev pub cut_once : (ℕ → Bool) → List ℕ → Option (List ℕ) → List (List ℕ)
 cut_once test piece None = piece ∷ []
 cut_once test piece (Some rest) = piece ∷ cut_at test rest
+
+-- the text up to its first separator, and what follows that, if it has one
+abbrev pub CutsOnce : (ℕ → Bool) → List ℕ → List ℕ → Option (List ℕ) → Type 0
+CutsOnce test text piece rest = cut_at test (chars text) ≡ cut_once test (chars piece) (option_map chars rest)

@@ -1,14 +1,15 @@
--- What can be read in a text: an integer, a boolean and a list, each as a relation on the whole text and as a function.
+-- Meaning. What can be read in a text: an integer, a boolean and a list, each as a relation on the whole text and as a function.
 use Rattle.std.specs.Prelude.{◌≡◌, ◌≢◌, ◌⊎◌, ℕ, zero, suc, ◌+◌, ◌*◌, ◌^◌, ℤ, pos, neg_ℤ, Bool, true, false, not, ◌&&◌, ◌||◌, ◌==◌, nat_lt, nat_le, if◌then◌else◌, List, [], ◌∷◌, ◌++◌, map, filter, IsTrue, Option, Some, None, Result, Ok, Err, codes, ⊤}
 use Rattle.std.specs.Char.{digit_value, to_ascii_lowercase}
 use Rattle.std.specs.Option.{option_map_or}
 use Rattle.std.specs.List.{list_all, join_with_byte, flat_map}
 use Rattle.std.specs.Str.Parse.{AllDigits, digits_value}
 use Rattle.tcl_text.specs.Backslash.{is_white, Mark, marks}
+use Rattle.tcl_text.specs.Bytes.{tab, line_feed, vertical_tab, form_feed, carriage_return, space, quote, hash, dollar_sign, plus_sign, minus_sign, digit_zero, semicolon, capital_b, capital_o, capital_x, open_bracket, backslash_sign, close_bracket, letter_b, letter_f, letter_n, letter_o, letter_r, letter_t, letter_v, letter_x, open_brace, close_brace}
 use Rattle.tcl_text.specs.declared.splitting.ByteKind.{ByteKind}
 use Rattle.tcl_text.specs.declared.splitting.ByteKind.TheVariants.{White, OpenBrace, CloseBrace, Quote}
-use Rattle.tcl_text.specs.declared.splitting.ListFault.{ListFault}
-use Rattle.tcl_text.specs.declared.splitting.ListFault.TheVariants.{OpenBrace as UnmatchedBrace, OpenQuote as UnmatchedQuote, ExtraCharacters}
+use Rattle.tcl_text.specs.declared.fault.ListFault.{ListFault}
+use Rattle.tcl_text.specs.declared.fault.ListFault.TheVariants.{OpenBrace as UnmatchedBrace, OpenQuote as UnmatchedQuote, ExtraCharacters}
 
 -- white space and nothing else
 abbrev pub IsBlank : List ℕ → Type 0
@@ -19,17 +20,17 @@ IsBlank text = IsTrue (list_all is_white text)
 -- the base that the letter of 0x, 0o or 0b names, in both cases
 abbrev pub base_named : ℕ → Option ℕ
 base_named c =
-    if c == 120 || c == 88 then Some 16
-    else (if c == 111 || c == 79 then Some 8
-    else (if c == 98 || c == 66 then Some 2
+    if c == letter_x || c == capital_x then Some 16
+    else (if c == letter_o || c == capital_o then Some 8
+    else (if c == letter_b || c == capital_b then Some 2
     else None))
 
 -- what opens digits of this base: 0 with a letter, or nothing, and then digits that begin with 0 are octal and others decimal
 abbrev pub OpensDigits : List ℕ → List ℕ → ℕ → Type 0
 OpensDigits [] [] base = ⊥
-OpensDigits [] (d ∷ ds) base = base ≡ (if d == 48 then 8 else 10)
+OpensDigits [] (d ∷ ds) base = base ≡ (if d == digit_zero then 8 else 10)
 OpensDigits (z ∷ []) digits base = ⊥
-OpensDigits (z ∷ letter ∷ []) digits base = (z ≡ 48) × (base_named letter ≡ Some base)
+OpensDigits (z ∷ letter ∷ []) digits base = (z ≡ digit_zero) × (base_named letter ≡ Some base)
 OpensDigits (z ∷ letter ∷ c ∷ cs) digits base = ⊥
 
 -- one digit or more of a base, and their value
@@ -46,7 +47,7 @@ pub record IsNumeral (text : List ℕ) (value : ℕ) : Type 0 where
 -- a sign, if any, and whether it is a minus
 abbrev pub IsSign : List ℕ → Bool → Type 0
 IsSign [] negative = negative ≡ false
-IsSign (c ∷ []) negative = (c ≡ 43) × (negative ≡ false) ⊎ (c ≡ 45) × (negative ≡ true)
+IsSign (c ∷ []) negative = (c ≡ plus_sign) × (negative ≡ false) ⊎ (c ≡ minus_sign) × (negative ≡ true)
 IsSign (c ∷ d ∷ cs) negative = ⊥
 
 -- the number with its sign, where it fits 64 bits
@@ -98,7 +99,7 @@ zero_numeral (c ∷ cs) = behind_zero (base_named c) c cs
 -- the number that a numeral in front spells, with white space behind it
 abbrev pub numeral_of : List ℕ → Option ℕ
 numeral_of [] = None
-numeral_of (c ∷ cs) = if c == 48 then zero_numeral cs else number_in 10 (c ∷ cs)
+numeral_of (c ∷ cs) = if c == digit_zero then zero_numeral cs else number_in 10 (c ∷ cs)
 
 abbrev pub signed_option : Bool → Option ℕ → Option ℤ
 signed_option negative None = None
@@ -107,8 +108,8 @@ signed_option negative (Some n) = signed negative n
 abbrev pub signed_numeral : List ℕ → Option ℤ
 signed_numeral [] = None
 signed_numeral (c ∷ cs) =
-    if c == 45 then signed_option true (numeral_of cs)
-    else (if c == 43 then signed_option false (numeral_of cs)
+    if c == minus_sign then signed_option true (numeral_of cs)
+    else (if c == plus_sign then signed_option false (numeral_of cs)
     else signed_option false (numeral_of (c ∷ cs)))
 
 -- a number that is below a bound
@@ -295,36 +296,39 @@ list_of text = elements (reading between (marks text))
 
 -- a byte that a list gives a meaning: white space, quote, braces, brackets, dollar, semicolon and backslash
 abbrev pub is_special : ℕ → Bool
-is_special c = is_white c || (c == 34 || (c == 36 || (c == 59 || (c == 91 || (c == 92 || (c == 93 || (c == 123 || c == 125)))))))
+is_special c =
+    is_white c
+    || (c == quote || (c == dollar_sign || (c == semicolon || (c == open_bracket
+    || (c == backslash_sign || (c == close_bracket || (c == open_brace || c == close_brace)))))))
 
 abbrev pub begins_comment : List ℕ → Bool
 begins_comment [] = false
-begins_comment (c ∷ cs) = c == 35
+begins_comment (c ∷ cs) = c == hash
 
 -- the letter behind a backslash that stands for a byte, or the byte itself
 abbrev pub letter_of : ℕ → ℕ
 letter_of c =
-    if c == 10 then 110
-    else (if c == 9 then 116
-    else (if c == 11 then 118
-    else (if c == 12 then 102
-    else (if c == 13 then 114
+    if c == line_feed then letter_n
+    else (if c == tab then letter_t
+    else (if c == vertical_tab then letter_v
+    else (if c == form_feed then letter_f
+    else (if c == carriage_return then letter_r
     else c))))
 
 -- each special byte behind a backslash
 abbrev pub with_backslashes : List ℕ → List ℕ
 with_backslashes [] = []
-with_backslashes (c ∷ cs) = if is_special c then 92 ∷ letter_of c ∷ with_backslashes cs else c ∷ with_backslashes cs
+with_backslashes (c ∷ cs) = if is_special c then backslash_sign ∷ letter_of c ∷ with_backslashes cs else c ∷ with_backslashes cs
 
 -- and a first # too
 abbrev pub backslashed : List ℕ → List ℕ
-backslashed item = if begins_comment item then 92 ∷ with_backslashes item else with_backslashes item
+backslashed item = if begins_comment item then backslash_sign ∷ with_backslashes item else with_backslashes item
 
 -- whether a backslash and a newline stand side by side, or a backslash at the end
 abbrev pub has_joined_line : List ℕ → Bool
 has_joined_line [] = false
-has_joined_line (c ∷ []) = c == 92
-has_joined_line (c ∷ d ∷ cs) = (c == 92 && d == 10) || has_joined_line (d ∷ cs)
+has_joined_line (c ∷ []) = c == backslash_sign
+has_joined_line (c ∷ d ∷ cs) = (c == backslash_sign && d == line_feed) || has_joined_line (d ∷ cs)
 
 -- whether an element can stand as it is, or in braces
 abbrev pub can_be_bare : List ℕ → Bool
@@ -338,9 +342,9 @@ abbrev pub element_form : List ℕ → List ℕ
 element_form [] = codes "{}"
 element_form (c ∷ cs) =
     if can_be_bare (c ∷ cs) then c ∷ cs
-    else (if can_be_braced (c ∷ cs) then 123 ∷ ((c ∷ cs) ++ 125 ∷ [])
+    else (if can_be_braced (c ∷ cs) then open_brace ∷ ((c ∷ cs) ++ close_brace ∷ [])
     else backslashed (c ∷ cs))
 
 -- the one text of the items: their elements with a blank between each two
 unfoldable pub list_form : List (List ℕ) → List ℕ
-list_form items = join_with_byte 32 (map element_form items)
+list_form items = join_with_byte space (map element_form items)

@@ -1,14 +1,15 @@
--- What the steps of splitting a list say, in the words of the readings.
+-- Steps. What the steps of splitting a list say, in the words of the readings.
 use Rattle.std.specs.Prelude.{◌≡◌, ℕ, ◌+◌, ◌<◌, ◌≤◌, ◌==◌, ◌⊎◌, IsUtf8, codes, Bool, true, false, List, [], ◌∷◌, ◌++◌, take, drop, length, slice_index, Option, Some, None, Result, Ok, Err, ⊤}
 use Rattle.std.specs.Borrow.{Bor}
 use Rattle.tcl_text.specs.Backslash.{is_white, marks}
+use Rattle.tcl_text.specs.Bytes.{quote, backslash_sign, close_brace}
 use Rattle.tcl_text.specs.Readings.{ListPlace, in_braces, in_quotes, in_bare, closed, Reading, onto, reading, list_of, are_balanced}
 use Rattle.tcl_text.specs.declared.splitting.ByteKind.{ByteKind}
 use Rattle.tcl_text.specs.declared.splitting.ByteKind.TheVariants.{White, OpenBrace, Quote}
-use Rattle.tcl_text.specs.declared.splitting.ListFault.{ListFault}
-use Rattle.tcl_text.specs.declared.splitting.ListFault.TheVariants.{OpenBrace as UnmatchedBrace, OpenQuote as UnmatchedQuote, ExtraCharacters}
-use Rattle.tcl_text.specs.declared.splitting.SplitFault.{SplitFault}
-use Rattle.tcl_text.specs.declared.splitting.SplitFault.TheVariants.{BadList, NoMemory}
+use Rattle.tcl_text.specs.declared.fault.ListFault.{ListFault}
+use Rattle.tcl_text.specs.declared.fault.ListFault.TheVariants.{OpenBrace as UnmatchedBrace, OpenQuote as UnmatchedQuote, ExtraCharacters}
+use Rattle.tcl_text.specs.declared.fault.SplitFault.{SplitFault}
+use Rattle.tcl_text.specs.declared.fault.SplitFault.TheVariants.{BadList, NoMemory}
 
 -- the message of a fault
 abbrev pub fault_text : ListFault → List ℕ
@@ -38,7 +39,7 @@ within false = in_bare
 
 -- the byte that ends it
 abbrev pub ends : Bool → ℕ → Bool
-ends true b = b == 34
+ends true b = b == quote
 ends false b = is_white b
 
 -- one step in braces: how many bytes it takes and how many braces are open behind it, or that the closing brace is here
@@ -46,7 +47,7 @@ abbrev pub StepsInBraces : ℕ → List ℕ → Option (ℕ × ℕ) → Type 0
 StepsInBraces depth text (Some step) =
     (step.0 ≤ length text) × (0 < step.0) × (step.1 ≤ depth + 1)
     × (reading (in_braces depth) (marks text) ≡ onto (take step.0 text) (reading (in_braces step.1) (marks (drop step.0 text))))
-StepsInBraces depth text None = (slice_index text 0 ≡ 125) × (reading (in_braces depth) (marks text) ≡ reading closed (marks (drop 1 text)))
+StepsInBraces depth text None = (slice_index text 0 ≡ close_brace) × (reading (in_braces depth) (marks text) ≡ reading closed (marks (drop 1 text)))
 
 -- and by it braces are balanced from there, or aren't
 abbrev pub KeepsBalance : ℕ → List ℕ → Option (ℕ × ℕ) → Type 0
@@ -56,7 +57,8 @@ KeepsBalance depth text None = are_balanced depth (marks text) ≡ false
 -- where the closing brace stands, or that there is none
 abbrev pub FindsBrace : List ℕ → Option ℕ → Type 0
 FindsBrace text (Some at) =
-    (at < length text) × (slice_index text at ≡ 125) × (reading (in_braces 0) (marks text) ≡ onto (take at text) (reading closed (marks (drop (at + 1) text))))
+    (at < length text) × (slice_index text at ≡ close_brace)
+    × (reading (in_braces 0) (marks text) ≡ onto (take at text) (reading closed (marks (drop (at + 1) text))))
 FindsBrace text None = reading (in_braces 0) (marks text) ≡ Err UnmatchedBrace
 
 -- how far an element in quotes or a bare one was read, and what it is so far
@@ -72,7 +74,7 @@ IsAtEnd quoted text at = at < length text → ends quoted (slice_index text at) 
 
 -- or at a backslash
 abbrev pub IsAtStop : Bool → List ℕ → ℕ → Type 0
-IsAtStop quoted text at = at < length text → (slice_index text at ≡ 92) ⊎ (ends quoted (slice_index text at) ≡ true)
+IsAtStop quoted text at = at < length text → (slice_index text at ≡ backslash_sign) ⊎ (ends quoted (slice_index text at) ≡ true)
 
 -- an element that ends here, and the list behind it
 abbrev pub ended : Result (List (List ℕ)) ListFault → Reading

@@ -1,4 +1,4 @@
--- The commands of string(n), and concat(n).
+-- Meaning. The commands of string(n), and concat(n).
 use Rattle.std.specs.Prelude.{ℕ, suc, not, ◌==◌, nat_eq, if◌then◌else◌, List, [], ◌∷◌, length, take, map, filter, Option, Some, None, option_map, replicate, codes}
 use Rattle.std.specs.List.{starts_with, concat, join_with_byte}
 use Rattle.std.specs.Str.{chars, encode_utf8_all, bytes_eq, str_to_ascii_lowercase, str_to_ascii_uppercase}
@@ -7,13 +7,12 @@ use Rattle.std.specs.Ordering.{nat_cmp}
 use Rattle.std.specs.Cmp.Lexicographic.{slice_cmp}
 use Rattle.std.specs.declared.cmp.Ordering.{Ordering}
 use Rattle.std.specs.declared.cmp.Ordering.TheVariants.{Less, Equal, Greater}
+use Rattle.tcl_text.specs.Bytes.{space}
 use Rattle.tcl_text.specs.Backslash.{is_white}
 use Rattle.tcl_text.specs.Readings.{skip_white}
 use Rattle.tcl_text.specs.Glob.{glob_matches}
 use Rattle.tcl_text.specs.Answers.{Answer, ◌>>=◌, answers, wrong_args, bad_option, integer_in, truth, place}
 use Rattle.tcl_text.specs.Indices.{index_in, from_zero, part}
-use Rattle.tcl_text.specs.declared.commands.strings.StringCommand.{StringCommand}
-use Rattle.tcl_text.specs.declared.commands.strings.StringCommand.TheVariants as string
 
 -- the text without white space at its end, and at both ends
 abbrev pub before_end : ℕ → List ℕ → List ℕ
@@ -95,46 +94,29 @@ abbrev pub string_trim : List (List ℕ) → Answer
 string_trim (text ∷ []) = answers (trimmed text)
 string_trim _ = wrong_args (codes "string trim s")
 
--- the command of this name
-unfoldable pub string_command_named : List ℕ → Option StringCommand
-string_command_named name =
-    if bytes_eq name (codes "length") then Some string.Length
-    else (if bytes_eq name (codes "index") then Some string.Index
-    else (if bytes_eq name (codes "range") then Some string.Range
-    else (if bytes_eq name (codes "compare") then Some string.Compare
-    else (if bytes_eq name (codes "equal") then Some string.Equal
-    else (if bytes_eq name (codes "match") then Some string.Match
-    else (if bytes_eq name (codes "first") then Some string.First
-    else (if bytes_eq name (codes "repeat") then Some string.Repeat
-    else (if bytes_eq name (codes "tolower") then Some string.ToLower
-    else (if bytes_eq name (codes "toupper") then Some string.ToUpper
-    else (if bytes_eq name (codes "trim") then Some string.Trim
-    else None))))))))))
-
-abbrev pub string_command : StringCommand → List (List ℕ) → Answer
-string_command string.Length words = string_length words
-string_command string.Index words = string_index words
-string_command string.Range words = string_range words
-string_command string.Compare words = string_compare words
-string_command string.Equal words = string_equal words
-string_command string.Match words = string_match words
-string_command string.First words = string_first words
-string_command string.Repeat words = string_repeat words
-string_command string.ToLower words = string_tolower words
-string_command string.ToUpper words = string_toupper words
-string_command string.Trim words = string_trim words
-
-abbrev pub string_or_error : List ℕ → Option StringCommand → List (List ℕ) → Answer
-string_or_error name (Some command) words = string_command command words
-string_or_error name None words = bad_option name
+-- the command of this name answers, or there is none
+unfoldable pub string_named : List ℕ → List (List ℕ) → Answer
+string_named name words =
+    if bytes_eq name (codes "length") then string_length words
+    else (if bytes_eq name (codes "index") then string_index words
+    else (if bytes_eq name (codes "range") then string_range words
+    else (if bytes_eq name (codes "compare") then string_compare words
+    else (if bytes_eq name (codes "equal") then string_equal words
+    else (if bytes_eq name (codes "match") then string_match words
+    else (if bytes_eq name (codes "first") then string_first words
+    else (if bytes_eq name (codes "repeat") then string_repeat words
+    else (if bytes_eq name (codes "tolower") then string_tolower words
+    else (if bytes_eq name (codes "toupper") then string_toupper words
+    else (if bytes_eq name (codes "trim") then string_trim words
+    else bad_option name))))))))))
 
 abbrev pub string_words : List (List ℕ) → Answer
 string_words [] = wrong_args (codes "string option ?arg ..?")
-string_words (name ∷ words) = string_or_error name (string_command_named name) words
+string_words (name ∷ words) = string_named name words
 
 -- the words without white space around them, those that aren't empty, with a blank between each two
 abbrev pub concatenated : List (List ℕ) → List ℕ
-concatenated words = join_with_byte 32 (filter (λ word. not (length word == 0)) (map trimmed words))
+concatenated words = join_with_byte space (filter (λ word. not (length word == 0)) (map trimmed words))
 
 abbrev pub concat_words : List (List ℕ) → Answer
 concat_words words = answers (concatenated words)

@@ -1,5 +1,6 @@
--- What the steps of the commands of string(n) and concat(n) say to one another.
+-- Steps. What the steps of the commands of string(n) and concat(n) say to one another.
 use Rattle.std.specs.Prelude.{ℕ, List, [], ◌∷◌, ◌++◌}
+use Rattle.tcl_text.specs.Bytes.{space}
 use Rattle.tcl_text.specs.Indices.{through}
 use Rattle.tcl_text.specs.declared.commands.indices.Index.{Index}
 use Rattle.tcl_text.specs.declared.commands.indices.Index.TheVariants.{FromStart, FromEnd}
@@ -8,7 +9,7 @@ use Rattle.tcl_text.specs.declared.commands.indices.Index.TheVariants.{FromStart
 abbrev pub with_word : List ℕ → List ℕ → List ℕ
 with_word text [] = text
 with_word [] (c ∷ cs) = c ∷ cs
-with_word (t ∷ ts) (c ∷ cs) = (t ∷ ts) ++ 32 ∷ (c ∷ cs)
+with_word (t ∷ ts) (c ∷ cs) = (t ∷ ts) ++ space ∷ (c ∷ cs)
 
 -- how many of so many bytes are looked at for the characters from one index to another: up to the last, where both count from the start
 abbrev pub reach : Index → Index → ℕ → ℕ

@@ -1,4 +1,4 @@
--- The bytes of a text, however it keeps them.
+-- Steps. The bytes of a text, however it keeps them.
 use Rattle.std.specs.Prelude.{ℕ, List, take}
 use Rattle.std.specs.Fmt.{signed_decimal}
 use Rattle.tcl_text.specs.Readings.{list_form}

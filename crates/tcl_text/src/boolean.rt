@@ -1,49 +1,26 @@
 ghost use Rattle.std.specs.Prelude.{◌≡◌, ◌∷◌, ◌↔◌, Bool, IsErr};
 ghost use Rattle.std.specs.Result.{result_ok};
+ghost use Rattle.tcl_text.specs.Bytes.{letter_o};
 ghost use Rattle.tcl_text.specs.Readings as readings;
 
+use crate::fault::NotBoolean;
 use crate::integer::integer_of_text;
 use crate::text::Text;
-use thiserror::Error;
-
-/// The text is no boolean (2).
-#[derive(Clone, Copy, Debug, PartialEq, Eq, Drop, Error)]
-#[error("expected boolean value")]
-pub struct NotBoolean;
-
-impl NotBoolean {
-    ghost use Rattle.std.specs.Prelude.{◌≡◌};
-    ghost use Rattle.tcl_text.specs.Faults.{not_boolean_number};
-
-    /// Its number.
-    pub fn number(&self) -> u32
-        ensures { result ≡ not_boolean_number }
-    {
-        2
-    }
-}
 
 impl Text {
     /// The boolean that the text is, as Tcl_GetBoolean(3) reads one: an integer, of which 0 is false, or in any case of its
     /// letters the beginning of exactly one of `yes`, `no`, `true`, `false`, `on` and `off`. `NotBoolean` (2) for any other text.
     /// It takes no memory.
+    #[tactic(auto, unfolding(crate::specs::Readings::boolean_of))]
     pub fn boolean(&self) -> Result<bool, NotBoolean>
         ensures read { (b : Bool) → (result ≡ Ok b) ↔ readings.IsBoolean self.now b }
         ensures refused { IsErr result ↔ ((b : Bool) → ¬ (readings.IsBoolean self.now b)) }
         ensures exact { result_ok result ≡ readings.boolean_of self.now }
     {
-        boolean_of_text(self).ok_or(NotBoolean)
-    }
-}
-
-/// The boolean that a text is, if any.
-#[tactic(auto, unfolding(crate::specs::Readings::boolean_of))]
-fn boolean_of_text(text: &Text) -> Option<bool>
-    ensures { result ≡ readings.boolean_of text.now }
-{
-    match integer_of_text(text) {
-        Some(number) => Some(number != 0),
-        None => boolean_word(text.as_str().as_bytes()),
+        if let Some(number) = integer_of_text(self) {
+            return Ok(number != 0);
+        }
+        boolean_word(self.as_str().as_bytes()).ok_or(NotBoolean)
     }
 }
 
@@ -66,7 +43,7 @@ fn boolean_word(text: &[u8]) -> Option<bool>
 /// The value of the only word that begins with `o` and the text: `on` or `off`.
 #[tactic(auto, using(crate::proofs::BooleanLemmas::second_letters))]
 fn on_or_off(text: &[u8]) -> Option<bool>
-    ensures { result ≡ readings.only_word (readings.words_begun (111 ∷ text.now)) }
+    ensures { result ≡ readings.only_word (readings.words_begun (letter_o ∷ text.now)) }
 {
     let (first, others) = text.split_first()?;
     match first.to_ascii_lowercase() {

@@ -15,7 +15,7 @@ mod splits;
 mod strings;
 
 use crate::text::Text;
-use answers::Refusal;
+use answers::{Refusal, Step};
 use lists::{
     join_words, lindex_words, linsert_words, list_words, llength_words, lrange_words,
     lreplace_words, lsearch_words,
@@ -102,7 +102,7 @@ impl TextCommand {
 }
 
 /// What a command answers to the words after its name.
-fn answer_of(alloc: Global, command: TextCommand, words: &[Text]) -> Result<Text, Refusal>
+fn answer_of(alloc: Global, command: TextCommand, words: &[Text]) -> Step
     ensures { Gives result (spec.command_answer command words.now) }
 {
     match command {

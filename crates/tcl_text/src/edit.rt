@@ -3,11 +3,10 @@ ghost use Rattle.std.specs.Prelude.{◌≡◌, ◌≢◌, ◌++◌, Ok, Err, IfO
 ghost use Rattle.tcl_text.specs.Edit.{edited, within_limit, with_more, written_anew};
 ghost use Rattle.tcl_text.specs.Readings.{list_form, list_of};
 
+use crate::fault::{EditFault, SplitFault, TextFault};
 use crate::list::TextList;
-use crate::splitting::{ListFault, SplitFault};
-use crate::text::{Text, TextFault};
+use crate::text::Text;
 use std::alloc::{AllocError, Global};
-use thiserror::Error;
 
 /// How a text is changed.
 #[derive(Clone, Copy)]
@@ -16,47 +15,6 @@ pub enum Edit<'a> {
     Characters(&'a str),
     /// Items are added to the list that it is, in its one form (lappend(n)).
     Items(&'a [Text]),
-}
-
-/// Why a text isn't changed.
-#[derive(Clone, Copy, Debug, PartialEq, Eq, Drop, Error)]
-pub enum EditFault {
-    /// The value would pass 65,536 bytes (4).
-    #[error("limit reached: value")]
-    TooLong,
-    /// It is no list (3).
-    #[error("{0}")]
-    BadList(ListFault),
-    /// Memory was refused.
-    #[error("out of memory")]
-    NoMemory,
-}
-
-impl EditFault {
-    ghost use Rattle.std.specs.Prelude.{◌≡◌};
-    ghost use Rattle.tcl_text.specs.Faults.{edit_number};
-
-    /// Its number; none where memory was refused.
-    pub fn number(&self) -> Option<u32>
-        ensures { result ≡ edit_number self.now }
-    {
-        match self {
-            EditFault::TooLong => Some(4),
-            EditFault::BadList(fault) => Some(fault.number()),
-            EditFault::NoMemory => None,
-        }
-    }
-}
-
-impl From<AllocError> for EditFault {
-    ghost use Rattle.std.specs.Prelude.{◌≡◌};
-    ghost use Rattle.tcl_text.specs.declared.edit.EditFault.TheVariants.{NoMemory};
-
-    ghost from_gives = { λ _ e. e ≡ NoMemory };
-
-    fn from(_refused: AllocError) -> EditFault {
-        EditFault::NoMemory
-    }
 }
 
 impl Text {
@@ -104,22 +62,24 @@ fn push_items(alloc: Global, text: &mut Text, items: &[Text]) -> Result<(), Edit
 {
     match text.push_items(alloc, items) {
         Ok(true) => Ok(()),
-        Ok(false) => push_anew(alloc, text, items),
+        Ok(false) => {
+            *text = written_anew(alloc, text, items)?;
+            Ok(())
+        }
         Err(TextFault::TooLong) => Err(EditFault::TooLong),
         Err(TextFault::NoMemory) => Err(EditFault::NoMemory),
     }
 }
 
-// Adds items to the list that a text is, which is read.
+// The list that a text is, which is read, with more items behind it.
 #[tactic(auto, using(crate::proofs::EditLemmas::anew))]
-fn push_anew(alloc: Global, text: &mut Text, items: &[Text]) -> Result<(), EditFault>
-    ensures ok { OnOk result (written_anew (with_more items.now (list_of text.old)) ≡ Ok text.new) }
-    ensures refused { IfErr result (λ fault. fault ≢ EditFault.NoMemory → written_anew (with_more items.now (list_of text.old)) ≡ Err fault) }
-    ensures err { OnErr result (text.new ≡ text.old) }
+fn written_anew(alloc: Global, text: &Text, items: &[Text]) -> Result<Text, EditFault>
+    ensures ok { IfOk result (λ written. written_anew (with_more items.now (list_of text.now)) ≡ Ok written) }
+    ensures refused { IfErr result (λ fault. fault ≢ EditFault.NoMemory → written_anew (with_more items.now (list_of text.now)) ≡ Err fault) }
 {
     let all = with_more(alloc, text, items)?;
-    *text = list_text(alloc, all.as_slice())?;
-    Ok(())
+    let written = list_text(alloc, all.as_slice())?;
+    Ok(written)
 }
 
 // The items of the list that a text is, with more behind them.

@@ -1,6 +1,7 @@
 //! Glob patterns, as `string match` of string(n) has them.
 ghost use Rattle.std.specs.Prelude.{◌≡◌, ◌<◌, ◌↔◌, [], List, ℕ, ◌∷◌, ◌+◌, length, IsTrue, IfSome, IfNone};
 ghost use Rattle.std.specs.Str.{chars};
+ghost use Rattle.tcl_text.specs.Bytes.{minus_sign, star};
 ghost use Rattle.tcl_text.specs.Glob.{in_class, AllowsByClass, AllowsFirst, GlobMatches, glob_matches};
 ghost use Rattle.tcl_text.specs.GlobSteps.{HasPart, Stops, Runs};
 
@@ -45,9 +46,9 @@ fn matches_whole(pattern: &str, text: &str) -> bool
 fn find_run<'p, 't>(pattern: &'p str, text: &'t str) -> Option<(&'p str, &'t str)>
     ensures found { IfSome result (λ rests.
         GlobMatches (chars rests.0.now) (chars rests.1.now)
-        ↔ GlobMatches (42 ∷ chars pattern.now) (chars text.now)) }
+        ↔ GlobMatches (star ∷ chars pattern.now) (chars text.now)) }
     ensures stops { IfSome result (λ rests. Stops (chars rests.0.now) (chars rests.1.now)) }
-    ensures none { IfNone result (GlobMatches (42 ∷ chars pattern.now) (chars text.now) → ⊥) }
+    ensures none { IfNone result (GlobMatches (star ∷ chars pattern.now) (chars text.now) → ⊥) }
     ensures shorter { IfSome result (λ rests. length rests.0.now < length pattern.now + 1) }
 {
     let mut from = text;
@@ -154,8 +155,8 @@ fn class_has(class: &str, character: char) -> bool
 
 /// The upper end of a range whose lower end stands before this text, and what follows it.
 fn range_end(after: &str) -> Option<(char, &str)>
-    ensures found { IfSome result (λ parts. chars after.now ≡ 45 ∷ parts.0 ∷ chars parts.1.now) }
-    ensures none { IfNone result ((high : ℕ) (rest : List ℕ) → chars after.now ≡ 45 ∷ high ∷ rest → ⊥) }
+    ensures found { IfSome result (λ parts. chars after.now ≡ minus_sign ∷ parts.0 ∷ chars parts.1.now) }
+    ensures none { IfNone result ((high : ℕ) (rest : List ℕ) → chars after.now ≡ minus_sign ∷ high ∷ rest → ⊥) }
     ensures shorter { IfSome result (λ parts. length parts.1.now < length after.now) }
 {
     let end = after_character(after, '-')?;

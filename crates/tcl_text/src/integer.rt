@@ -4,29 +4,12 @@ ghost use Rattle.std.specs.Fmt.{signed_decimal};
 ghost use Rattle.std.specs.Result.{result_ok};
 ghost use Rattle.tcl_text.specs.Readings as readings;
 
+use crate::fault::NotInteger;
 use crate::number::{NUMBER_DIGITS, NumberText};
 use crate::text::Text;
 use crate::white_space::{is_blank, skip_white};
 use itoa::Buffer;
 use std::alloc::{AllocError, Global};
-use thiserror::Error;
-
-/// The text is no integer of 64 bits (1).
-#[derive(Clone, Copy, Debug, PartialEq, Eq, Drop, Error)]
-#[error("expected integer")]
-pub struct NotInteger;
-
-impl NotInteger {
-    ghost use Rattle.std.specs.Prelude.{◌≡◌};
-    ghost use Rattle.tcl_text.specs.Faults.{not_integer_number};
-
-    /// Its number.
-    pub fn number(&self) -> u32
-        ensures { result ≡ not_integer_number }
-    {
-        1
-    }
-}
 
 impl Text {
     /// The integer that the text spells, as Tcl's expr(n) reads one: an optional sign, then decimal digits, `0x`, `0o` or `0b`
@@ -90,7 +73,8 @@ pub fn digit_value(byte: u8) -> u8
     }
 }
 
-fn base_named(letter: u8) -> Option<u64>
+/// The base that a letter behind a leading 0 names.
+pub fn base_named(letter: u8) -> Option<u8>
     ensures { result ≡ readings.base_named letter }
 {
     match letter {
@@ -132,7 +116,7 @@ fn zero_numeral(text: &[u8]) -> Option<u64>
     match text {
         [] => Some(0),
         [letter, digits @ ..] => match base_named(*letter) {
-            Some(base) => number_in(base, digits),
+            Some(base) => number_in(u64::from(base), digits),
             None => number_from(8, 0, text),
         },
     }

@@ -6,7 +6,7 @@ ghost use Rattle.tcl_text.specs.ListForm.{Joins};
 ghost use Rattle.tcl_text.specs.ListFaults.{IsListFault};
 ghost use Rattle.tcl_text.specs.Readings.{IsBoolean, IsInteger, IsList, boolean_of, integer_of, list_form, list_of};
 ghost use Rattle.tcl_text.specs.Splitting.{Splits};
-ghost use Rattle.tcl_text.specs.declared.splitting.ListFault.{ListFault};
+ghost use Rattle.tcl_text.specs.declared.fault.ListFault.{ListFault};
 
 /// At most one integer belongs to a text.
 pub fn one_integer()

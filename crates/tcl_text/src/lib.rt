@@ -3,10 +3,11 @@
 
 mod backslash;
 mod boolean;
-mod characters;
+pub mod characters;
 mod commands;
 mod compared;
 mod edit;
+mod fault;
 mod glob;
 mod integer;
 pub mod laws;
@@ -23,11 +24,13 @@ mod text;
 mod white_space;
 
 pub use backslash::{Escape, Meaning, escape_behind};
-pub use boolean::NotBoolean;
 pub use commands::{TextCommand, answers, integers, items};
-pub use edit::{Edit, EditFault};
-pub use integer::NotInteger;
+pub use edit::Edit;
+pub use fault::{
+    ChangeFault, EditFault, LinkFault, ListFault, NotBoolean, NotInteger, ParseFault, ReadFault,
+    SetFault, SplitFault, TextFault, UnsetFault,
+};
+pub use integer::{base_named, digit_value};
 pub use list::TextList;
 pub use list_items::ListItems;
-pub use splitting::{ListFault, SplitFault};
-pub use text::{Text, TextFault};
+pub use text::Text;

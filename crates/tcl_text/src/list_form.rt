@@ -1,12 +1,14 @@
-ghost use Rattle.std.specs.Prelude.{◌≡◌, ◌≢◌, ◌++◌, ◌∷◌, [], ◌<◌, ◌≤◌, take, drop, length, true, slice_index, string_bytes, IfErr, OnOk, OnErr, not};
+ghost use Rattle.std.specs.Prelude.{◌≡◌, ◌≢◌, ◌++◌, ◌∷◌, [], ◌<◌, ◌≤◌, take, drop, length, true, slice_index, string_bytes, IfOk, IfErr, OnOk, OnErr, not};
 ghost use Rattle.std.specs.List.{list_all};
 ghost use Rattle.tcl_text.specs.Backslash as backslash;
+ghost use Rattle.tcl_text.specs.Limits.{most_bytes};
 ghost use Rattle.tcl_text.specs.ListForm.{Joins, StopsAtSpecial, form_text};
 ghost use Rattle.tcl_text.specs.Readings as readings;
 
+use crate::fault::TextFault;
 use crate::list_string::ListString;
 use crate::splitting::brace_step;
-use crate::text::{Text, TextFault};
+use crate::text::Text;
 use crate::white_space::is_white;
 use std::alloc::{AllocError, Global};
 
@@ -183,5 +185,17 @@ impl Text {
     {
         let list = ListString::new(alloc, items)?;
         Ok(Text::of_list(alloc, list)?)
+    }
+
+    /// The text as an element of a list: the list of this item alone. `TooLong` (4) where that passes 65,536 bytes.
+    #[tactic(auto, using(crate::proofs::ListFormLemmas::list_form_one))]
+    pub fn list_element(&self, alloc: Global) -> Result<Text, TextFault>
+        ensures ok { IfOk result (λ text. text ≡ readings.list_form (self.now ∷ [])) }
+        ensures too_long { IfErr result (λ fault. fault ≢ TextFault.NoMemory
+            → most_bytes < length (readings.list_form (self.now ∷ []))) }
+    {
+        let mut form = String::new(alloc);
+        push_element(&mut form, self.as_str())?;
+        Text::from_string(alloc, form)
     }
 }

@@ -4,9 +4,9 @@ ghost use Rattle.tcl_text.specs.ItemsForm.{items_of};
 ghost use Rattle.tcl_text.specs.Readings.{list_of};
 ghost use Rattle.tcl_text.specs.Splitting.{Splits};
 
+use crate::fault::SplitFault;
 use crate::list::TextList;
 use crate::list_string::ListString;
-use crate::splitting::SplitFault;
 use crate::text::Text;
 use std::alloc::{AllocError, Global};
 use std::marker::Model;

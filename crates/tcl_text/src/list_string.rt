@@ -3,11 +3,13 @@ ghost use Rattle.tcl_text.specs.ListCommands.{spliced};
 ghost use Rattle.tcl_text.specs.ListForm.{others_form};
 ghost use Rattle.tcl_text.specs.ListString.{AreEnds, ends_behind};
 ghost use Rattle.tcl_text.specs.Readings.{element_form, list_form};
-ghost use Rattle.tcl_text.specs.Limits.{most_bytes};
+ghost use Rattle.tcl_text.specs.Bytes.{space};
+ghost use Rattle.tcl_text.specs.Limits.{most_bytes, most_string};
 
+use crate::fault::TextFault;
 use crate::list_form::push_element;
 use crate::splitting::first_element;
-use crate::text::{MAX_BYTES, Text, TextFault};
+use crate::text::{MAX_BYTES, Text};
 use std::alloc::{AllocError, Global};
 use std::marker::Model;
 use std::rc::Rc;
@@ -36,7 +38,7 @@ impl Model for ListString {
 
 /// Adds the form of an item, behind a blank.
 fn push_form(string: &mut String, item: &str) -> Result<(), AllocError>
-    ensures { OnOk result (string_bytes string.new ≡ (string_bytes string.old ++ 32 ∷ []) ++ element_form item.now) }
+    ensures { OnOk result (string_bytes string.new ≡ (string_bytes string.old ++ space ∷ []) ++ element_form item.now) }
 {
     string.push(' ')?;
     push_element(string, item)?;
@@ -46,11 +48,11 @@ fn push_form(string: &mut String, item: &str) -> Result<(), AllocError>
 /// Adds the forms of items, each behind a blank, and where each ends. `TooLong` where the form of the list passes 65,536 bytes; it stops
 /// soon after that.
 fn push_forms(string: &mut String, ends: &mut Vec<u32>, items: &[Text]) -> Result<(), TextFault>
-    requires { length (string_bytes string.old) ≤ 65537 }
+    requires { length (string_bytes string.old) ≤ most_string }
     ensures forms { OnOk result (string_bytes string.new ≡ string_bytes string.old ++ others_form items.now) }
     ensures places { OnOk result (ends.new.items ≡ ends.old.items ++ ends_behind (length (string_bytes string.old)) items.now) }
-    ensures short { OnOk result (length (string_bytes string.new) ≤ 65537) }
-    ensures too_long { IfErr result (λ fault. fault ≢ TextFault.NoMemory → 65537 < length (string_bytes string.old ++ others_form items.now)) }
+    ensures short { OnOk result (length (string_bytes string.new) ≤ most_string) }
+    ensures too_long { IfErr result (λ fault. fault ≢ TextFault.NoMemory → most_string < length (string_bytes string.old ++ others_form items.now)) }
 {
     for item in items {
         push_form(string, item.as_str())?;
@@ -78,7 +80,7 @@ fn push_ends(ends: &mut Vec<u32>, others: &[u32], from: u32, to: u32) -> Result<
 
 /// Adds a list to the string and the ends of another. On an error the string is as it was, and the ends that were there stay in front.
 fn push_kept(string: &mut String, ends: &mut Vec<u32>, more: &ListString) -> Result<(), AllocError>
-    requires { length (string_bytes string.old) + length (others_form more.now) ≤ 65537 }
+    requires { length (string_bytes string.old) + length (others_form more.now) ≤ most_string }
     ensures forms { OnOk result (string_bytes string.new ≡ string_bytes string.old ++ others_form more.now) }
     ensures places { OnOk result (ends.new.items ≡ ends.old.items ++ ends_behind (length (string_bytes string.old)) more.now) }
     ensures same { OnErr result (string_bytes string.new ≡ string_bytes string.old) }
@@ -126,7 +128,7 @@ impl ListString {
     /// How many bytes the string has: one more than the form, where there are items.
     fn width(&self) -> usize
         ensures value { result ≡ length (others_form self.now) }
-        ensures within { result ≤ 65537 }
+        ensures within { result ≤ most_string }
     {
         self.string.as_str().len()
     }
@@ -135,7 +137,7 @@ impl ListString {
     fn place(&self, number: usize) -> usize
         requires { number ≤ length self.now }
         ensures value { result ≡ length (others_form (take number self.now)) }
-        ensures within { result ≤ 65537 }
+        ensures within { result ≤ most_string }
     {
         if number == 0 {
             0
@@ -213,7 +215,7 @@ impl ListString {
 
     /// Adds the items of another list.
     fn push(&mut self, more: &ListString) -> Result<(), AllocError>
-        requires { length (others_form self.old) + length (others_form more.now) ≤ 65537 }
+        requires { length (others_form self.old) + length (others_form more.now) ≤ most_string }
         ensures ok { OnOk result (self.new ≡ self.old ++ more.now) }
         ensures err { OnErr result (self.new ≡ self.old) }
     {
@@ -227,24 +229,9 @@ impl ListString {
         }
     }
 
-    /// Adds the items of another list to one that has no other owner; false, and nothing is done, where it has one.
-    fn push_alone(list: &mut Rc<ListString>, more: &ListString) -> Result<bool, AllocError>
-        requires { length (others_form list.old.value) + length (others_form more.now) ≤ 65537 }
-        ensures ok { IfOk result (λ done. MatchBool done (list.new.value ≡ list.old.value ++ more.now) (list.new.value ≡ list.old.value)) }
-        ensures err { OnErr result (list.new.value ≡ list.old.value) }
-    {
-        match Rc::get_mut(list) {
-            Some(alone) => {
-                alone.push(more)?;
-                Ok(true)
-            }
-            None => Ok(false),
-        }
-    }
-
     /// The list with the items of another behind it.
     fn longer(&self, alloc: Global, more: &ListString) -> Result<ListString, AllocError>
-        requires { length (others_form self.now) + length (others_form more.now) ≤ 65537 }
+        requires { length (others_form self.now) + length (others_form more.now) ≤ most_string }
         ensures { IfOk result (λ list. list ≡ self.now ++ more.now) }
     {
         let mut list = self.part(alloc, 0, self.len())?;
@@ -267,7 +254,8 @@ impl ListString {
         if width > MAX_STRING {
             return Err(TextFault::TooLong);
         }
-        if ListString::push_alone(list, &more)? {
+        if let Some(alone) = Rc::get_mut(list) {
+            alone.push(&more)?;
             return Ok(());
         }
         let longer = Rc::as_ref(list).longer(alloc, &more)?;

@@ -1,6 +1,6 @@
 //! The texts of errors, for commands that answer with a text or with that of an error.
 ghost use Rattle.std.specs.Prelude.{◌≡◌, ◌++◌, IfOk, OnOk, string_bytes};
-ghost use Rattle.tcl_text.specs.Answers.{bad_option as bad_option_of, quoted, wrong_args as wrong_args_of};
+ghost use Rattle.tcl_text.specs.Answers.{bad_option as bad_option_of, limit_text, quoted, wrong_args as wrong_args_of};
 
 use crate::text::Text;
 use std::alloc::{AllocError, Global};
@@ -16,6 +16,13 @@ pub fn short_text(alloc: Global, characters: &str) -> Result<Text, AllocError>
         Ok(text) => Ok(text),
         Err(_) => Err(AllocError),
     }
+}
+
+/// The message that stands in place of a text past 65,536 bytes (4).
+pub fn limit(alloc: Global) -> Result<Text, AllocError>
+    ensures { IfOk result (λ text. text ≡ limit_text) }
+{
+    Text::of_short(alloc, "limit reached: value")
 }
 
 /// The error for a wrong number of words: `wrong # args: should be` and the usage. It has no number.
@@ -38,17 +45,14 @@ pub fn bad_option(alloc: Global, word: &str) -> Result<Answer, AllocError>
 pub fn with_quoted(alloc: Global, message: &str, word: &str) -> Result<String, AllocError>
     ensures { IfOk result (λ string. string_bytes string ≡ message.now ++ quoted word.now) }
 {
-    let mut string = String::from_str(alloc, message)?;
-    push_quoted(&mut string, word)?;
-    Ok(string)
+    format!(in alloc; "{message}\"{word}\"")
 }
 
 /// A word in quotation marks with what stands before and behind it.
 pub fn quoting(alloc: Global, before: &str, word: &str, behind: &str) -> Result<String, AllocError>
     ensures { IfOk result (λ string. string_bytes string ≡ before.now ++ (quoted word.now ++ behind.now)) }
 {
-    let mut message = String::from_str(alloc, before)?;
-    push_quoted(&mut message, word)?;
+    let mut message = with_quoted(alloc, before, word)?;
     message.push_str(behind)?;
     Ok(message)
 }

@@ -1,5 +1,6 @@
 ghost use Rattle.std.specs.Prelude.{◌≡◌, ◌≤◌, take, length, IsUtf8};
 ghost use Rattle.std.specs.Fmt.{signed_decimal};
+ghost use Rattle.tcl_text.specs.Limits.{most_digits};
 
 /// How many digits of a number are kept in place beside it, a sign among them.
 pub const NUMBER_DIGITS: usize = 15;
@@ -8,9 +9,9 @@ pub const NUMBER_DIGITS: usize = 15;
 #[derive(Clone, Copy)]
 pub struct NumberText {
     number: i64,
-    digits: [u8; 15],
+    digits: [u8; NUMBER_DIGITS],
     length: u8,
-    ghost fits: { length ≤ 15 },
+    ghost fits: { length ≤ most_digits },
     ghost utf8: { ∥ IsUtf8 (take length digits) ∥₁ },
     ghost spells: { take length digits ≡ signed_decimal number },
 }
@@ -18,14 +19,15 @@ pub struct NumberText {
 impl NumberText {
     ghost use Rattle.std.specs.Prelude.{◌≡◌, ◌≤◌, length};
     ghost use Rattle.std.specs.Fmt.{signed_decimal};
+    ghost use Rattle.tcl_text.specs.Limits.{most_digits};
 
     /// This integer, whose digits these are.
     pub fn new(number: i64, digits: &str) -> NumberText
-        requires few { length digits.now ≤ 15 }
+        requires few { length digits.now ≤ most_digits }
         requires spells { digits.now ≡ signed_decimal number }
         ensures { result.number ≡ number }
     {
-        let mut kept = [0; 15];
+        let mut kept = [0; NUMBER_DIGITS];
         kept[..digits.len()].copy_from_slice(digits.as_bytes());
         NumberText {
             number,

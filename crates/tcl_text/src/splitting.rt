@@ -2,54 +2,18 @@ ghost use Rattle.std.specs.Prelude.{◌≡◌, ◌+◌, ◌<◌, ◌≤◌, ◌+
 ghost use Rattle.tcl_text.specs.Backslash as backslash;
 ghost use Rattle.tcl_text.specs.Escaped.{bytes_meant};
 ghost use Rattle.tcl_text.specs.Readings as readings;
-ghost use Rattle.tcl_text.specs.Splitting.{FindsBrace, GivesBehind, GivesElement, GivesItem, IsAtEnd, IsAtStop, KeepsBalance, ReadsTo, Splits, StepsInBraces, Unescapes, ends, is_behind_element, begins_bare, fault_text, within};
+ghost use Rattle.tcl_text.specs.Splitting.{FindsBrace, GivesBehind, GivesElement, GivesItem, IsAtEnd, IsAtStop, KeepsBalance, ReadsTo, Splits, StepsInBraces, Unescapes, ends, is_behind_element, begins_bare, within};
 ghost use Rattle.tcl_text.specs.Limits.{most_bytes};
 
 use crate::backslash::{Meaning, escape_behind};
+use crate::fault::{ListFault, SplitFault};
 use crate::list::TextList;
 use crate::text::Text;
-use crate::white_space::{is_white, skip_white};
-use std::alloc::{AllocError, AllocFailed, Global};
-use thiserror::Error;
-
-/// How a text fails to be a list (3).
-#[derive(Clone, Copy, Debug, PartialEq, Eq, Drop, Error)]
-pub enum ListFault {
-    /// A brace that opens an element isn't closed.
-    #[error("unmatched open brace in list")]
-    OpenBrace,
-    /// A quote that opens an element isn't closed.
-    #[error("unmatched open quote in list")]
-    OpenQuote,
-    /// Something other than white space follows a closing brace or quote.
-    #[error("extra characters after list element")]
-    ExtraCharacters,
-}
-
-impl ListFault {
-    ghost use Rattle.tcl_text.specs.Faults.{bad_list_number};
-
-    /// Its number.
-    pub fn number(&self) -> u32
-        ensures { result ≡ bad_list_number }
-    {
-        3
-    }
-
-    /// The fault as a script is told of it.
-    pub fn text(&self) -> &'static str
-        ensures { result.now ≡ fault_text self.now }
-    {
-        match self {
-            ListFault::OpenBrace => "unmatched open brace in list",
-            ListFault::OpenQuote => "unmatched open quote in list",
-            ListFault::ExtraCharacters => "extra characters after list element",
-        }
-    }
-}
+use crate::white_space::{behind_white, is_white};
+use std::alloc::{AllocError, Global};
 
 /// What a byte is to the form of a list.
-#[derive(Clone, Copy, Debug, PartialEq, Eq)]
+#[derive(Clone, Copy)]
 pub enum ByteKind {
     White,
     OpenBrace,
@@ -57,43 +21,6 @@ pub enum ByteKind {
     Quote,
     Backslash,
     Other,
-}
-
-/// Why a text was not split.
-#[derive(Clone, Copy, Debug, PartialEq, Eq, Drop, Error)]
-pub enum SplitFault {
-    /// The text is no list (3).
-    #[error("{0}")]
-    BadList(ListFault),
-    /// Memory was refused.
-    #[error("out of memory")]
-    NoMemory,
-}
-
-impl SplitFault {
-    ghost use Rattle.std.specs.Prelude.{◌≡◌};
-    ghost use Rattle.tcl_text.specs.Faults.{split_number};
-
-    /// Its number; none where memory was refused.
-    pub fn number(&self) -> Option<u32>
-        ensures { result ≡ split_number self.now }
-    {
-        match self {
-            SplitFault::BadList(fault) => Some(fault.number()),
-            SplitFault::NoMemory => None,
-        }
-    }
-}
-
-impl From<AllocError> for SplitFault {
-    ghost use Rattle.std.specs.Prelude.{◌≡◌};
-    ghost use Rattle.tcl_text.specs.declared.splitting.SplitFault.TheVariants.{NoMemory};
-
-    ghost from_gives = { λ _ e. e ≡ NoMemory };
-
-    fn from(_refused: AllocError) -> SplitFault {
-        SplitFault::NoMemory
-    }
 }
 
 /// What the byte is to the form of a list.
@@ -297,25 +224,17 @@ pub fn first_element(alloc: Global, text: &str) -> Result<(Text, &str), SplitFau
     }
 }
 
-/// The text behind the white space in front.
-fn trimmed(text: &str) -> &str
-    ensures { result.now ≡ readings.skip_white text.now }
-{
-    let behind = skip_white(text.as_bytes());
-    &text[text.len() - behind.len()..]
-}
-
 /// The items of the list that the text is.
 pub fn items_of(alloc: Global, text: &str) -> Result<TextList, SplitFault>
     requires { length text.now ≤ most_bytes }
     ensures { Splits result (readings.list_of text.now) }
 {
     let mut items = TextList::new(alloc);
-    let mut rest = trimmed(text);
+    let mut rest = behind_white(text);
     while !rest.is_empty() {
         let (item, behind) = first_element(alloc, rest)?;
         items.push(item)?;
-        rest = trimmed(behind);
+        rest = behind_white(behind);
     }
     Ok(items)
 }

@@ -5,66 +5,18 @@ ghost use Rattle.tcl_text.specs.Edit.{with_more, written_anew};
 ghost use Rattle.tcl_text.specs.Readings.{list_form, list_of};
 ghost use Rattle.tcl_text.specs.Limits.{most_bytes};
 
-use crate::edit::EditFault;
+use crate::fault::{EditFault, TextFault};
 use crate::list_string::ListString;
+use crate::message::limit;
 use crate::number::NumberText;
 use crate::shared::SharedText;
 use crate::short::{SHORT_BYTES, ShortText};
-use std::alloc::{AllocError, AllocFailed, Global};
+use std::alloc::{AllocError, Global};
 use std::marker::Model;
 use std::rc::Rc;
-use thiserror::Error;
 
 /// How many bytes a text has at most.
 pub const MAX_BYTES: usize = 65_536;
-
-/// Why a text was not made.
-#[derive(Clone, Copy, Debug, PartialEq, Eq, Drop, Error)]
-pub enum TextFault {
-    /// The value would pass 65,536 bytes (4).
-    #[error("limit reached: value")]
-    TooLong,
-    /// Memory was refused.
-    #[error("out of memory")]
-    NoMemory,
-}
-
-impl TextFault {
-    ghost use Rattle.std.specs.Prelude.{◌≡◌};
-    ghost use Rattle.tcl_text.specs.Faults.{text_number};
-
-    /// Its number; none where memory was refused.
-    pub fn number(&self) -> Option<u32>
-        ensures { result ≡ text_number self.now }
-    {
-        match self {
-            TextFault::TooLong => Some(4),
-            TextFault::NoMemory => None,
-        }
-    }
-}
-
-impl From<AllocError> for TextFault {
-    ghost use Rattle.std.specs.Prelude.{◌≡◌};
-    ghost use Rattle.tcl_text.specs.declared.text.TextFault.TheVariants.{NoMemory};
-
-    ghost from_gives = { λ _ e. e ≡ NoMemory };
-
-    fn from(_refused: AllocError) -> TextFault {
-        TextFault::NoMemory
-    }
-}
-
-impl<T: Drop> From<AllocFailed<T>> for TextFault {
-    ghost use Rattle.std.specs.Prelude.{◌≡◌};
-    ghost use Rattle.tcl_text.specs.declared.text.TextFault.TheVariants.{NoMemory};
-
-    ghost from_gives = { λ _ e. e ≡ NoMemory };
-
-    fn from(_refused: AllocFailed<T>) -> TextFault {
-        TextFault::NoMemory
-    }
-}
 
 /// How a text keeps its characters.
 #[derive(Drop)]
@@ -170,7 +122,8 @@ impl TextForm {
         ensures ok { IfOk result (λ done. MatchBool done
             (written_anew (with_more items.now (list_of (form_bytes self.old))) ≡ Ok (form_bytes self.new))
             (form_bytes self.new ≡ form_bytes self.old)) }
-        ensures too_long { IfErr result (λ fault. fault ≢ TextFault.NoMemory → written_anew (with_more items.now (list_of (form_bytes self.old))) ≡ Err EditFault.TooLong) }
+        ensures too_long { IfErr result (λ fault. fault ≢ TextFault.NoMemory
+            → written_anew (with_more items.now (list_of (form_bytes self.old))) ≡ Err EditFault.TooLong) }
         ensures err { OnErr result (form_bytes self.new ≡ form_bytes self.old) }
         ensures short { length (form_bytes self.new) ≤ most_bytes }
     {
@@ -234,7 +187,7 @@ impl Text {
         ensures { IfOk result (λ text. text ≡ bounded characters.now) }
     {
         if characters.len() > MAX_BYTES {
-            return Text::of_short(alloc, "limit reached: value");
+            return limit(alloc);
         }
         Text::of_short(alloc, characters)
     }
@@ -346,7 +299,8 @@ impl Text {
         ensures ok { IfOk result (λ done. MatchBool done
             (written_anew (with_more items.now (list_of self.old)) ≡ Ok self.new)
             (self.new ≡ self.old)) }
-        ensures too_long { IfErr result (λ fault. fault ≢ TextFault.NoMemory → written_anew (with_more items.now (list_of self.old)) ≡ Err EditFault.TooLong) }
+        ensures too_long { IfErr result (λ fault. fault ≢ TextFault.NoMemory
+            → written_anew (with_more items.now (list_of self.old)) ≡ Err EditFault.TooLong) }
         ensures err { OnErr result (self.new ≡ self.old) }
     {
         self.form.push_items(alloc, items)

@@ -25,6 +25,14 @@ pub fn skip_white(text: &[u8]) -> &[u8]
     rest
 }
 
+/// The text behind the white space in front.
+pub fn behind_white(text: &str) -> &str
+    ensures { result.now ≡ readings.skip_white text.now }
+{
+    let behind = skip_white(text.as_bytes());
+    &text[text.len() - behind.len()..]
+}
+
 /// Whether the bytes are white space and nothing else.
 pub fn is_blank(text: &[u8]) -> bool
     ensures { result ≡ list_all backslash.is_white text.now }

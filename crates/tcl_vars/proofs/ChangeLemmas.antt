@@ -2,18 +2,18 @@
 use Rattle.std.proofs.Common.{◌≡◌, ◌≢◌, ℕ, ◌+◌, ◌<◌, ◌≤◌, ◌-◌, Bool, true, false, MatchBool, List, [], length, set, add-zero, Option, None, Some, Ok, Err, Result, ok_or, refl, sym, ap, ◌∙◌, subst, arith}
 use Rattle.std.proofs.lemmas.List.{set-get_or}
 use Rattle.tcl_text.specs.declared.edit.Edit.{Edit}
-use Rattle.tcl_text.specs.declared.edit.EditFault.{EditFault}
+use Rattle.tcl_text.specs.declared.fault.EditFault.{EditFault}
 use Rattle.tcl_vars.specs.declared.content.Content.{Content}
 use Rattle.tcl_vars.specs.declared.content.Content.TheVariants.{Scalar, Array}
-use Rattle.tcl_vars.specs.declared.fault.ReadFault.TheVariants.{NoElement}
+use Rattle.tcl_text.specs.declared.fault.ReadFault.TheVariants.{NoElement}
 use Rattle.tcl_vars.specs.declared.content.Outcome.TheVariants.{Added}
-use Rattle.tcl_vars.specs.declared.fault.ChangeFault.{ChangeFault}
+use Rattle.tcl_text.specs.declared.fault.ChangeFault.{ChangeFault}
 use Rattle.tcl_vars.specs.Change.{change_fault, told_by, changed_by, ChangesContent, KeepsContent, ChangesText, KeepsText, ChangesHere, KeepsHere, ChangesAt}
 use Rattle.tcl_vars.specs.Name.{Place}
 use Rattle.tcl_vars.specs.Put.{PutsText, Sets}
 use Rattle.tcl_vars.specs.Sound.{IsSound}
 use Rattle.tcl_vars.specs.Store.{Store, Frame, content_at, end_of, frame_at, link_of, text_at, text_of, variable_count, with_new_content, within_limit}
-use Rattle.tcl_vars.specs.declared.fault.SetFault.TheVariants.{Full}
+use Rattle.tcl_text.specs.declared.fault.SetFault.TheVariants.{Full}
 use Rattle.tcl_vars.specs.Table.{Table, value_at, with_value}
 use Rattle.tcl_vars.proofs.LinkLemmas.{led-here}
 use Rattle.tcl_vars.proofs.PutLemmas.{AfterPut-content}

@@ -7,11 +7,11 @@ use Rattle.std.proofs.lemmas.Grind.{get_or-set_at}
 use Rattle.std.proofs.lemmas.Bool.Decides.{eqb_tells}
 use Rattle.tcl_vars.specs.declared.content.Content.{Content}
 use Rattle.tcl_vars.specs.declared.content.Content.TheVariants.{Scalar, Array, Link}
-use Rattle.tcl_vars.specs.declared.fault.ReadFault.TheVariants as reads
-use Rattle.tcl_vars.specs.declared.fault.SetFault.{SetFault}
-use Rattle.tcl_vars.specs.declared.fault.SetFault.TheVariants as sets
-use Rattle.tcl_vars.specs.declared.fault.UnsetFault.{UnsetFault}
-use Rattle.tcl_vars.specs.declared.fault.LinkFault.TheVariants as links
+use Rattle.tcl_text.specs.declared.fault.ReadFault.TheVariants as reads
+use Rattle.tcl_text.specs.declared.fault.SetFault.{SetFault}
+use Rattle.tcl_text.specs.declared.fault.SetFault.TheVariants as sets
+use Rattle.tcl_text.specs.declared.fault.UnsetFault.{UnsetFault}
+use Rattle.tcl_text.specs.declared.fault.LinkFault.TheVariants as links
 use Rattle.tcl_vars.specs.Name.{Place, place_of}
 use Rattle.tcl_vars.specs.Sound.{LinksDescend}
 use Rattle.tcl_vars.specs.Store.{Store, Frame, frame_with_rest, frame_at, content_at, with_content, variable_count, link_of, indexed, led_by, led, end_of, place_in, element_place_in, text_of, text_at, content_with, within_limit, with_new_content, with_text_at, with_variable, with_element, content_without, with_rest, without_text_at, without_variable, without_element, array_state, with_array_of, with_array_at, with_array, is_plain, holds_value, variable_place, with_link, is_there, is_there_at}

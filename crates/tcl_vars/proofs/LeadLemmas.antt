@@ -3,7 +3,7 @@ use Rattle.std.proofs.Common.{◌≡◌, ◌≢◌, ℕ, zero, suc, ◌<◌, ◌
 use Rattle.std.specs.List.{starts_with}
 use Rattle.std.proofs.lemmas.List.{get_or-set_other}
 use Rattle.tcl_vars.specs.declared.content.Content.TheVariants.{Link}
-use Rattle.tcl_vars.specs.declared.fault.LinkFault.TheVariants as links
+use Rattle.tcl_text.specs.declared.fault.LinkFault.TheVariants as links
 use Rattle.tcl_vars.specs.Name.{Place, element_of, place_of_parts, place_in_frame, place_of}
 use Rattle.tcl_vars.specs.Sound.{LinksDescend}
 use Rattle.tcl_vars.specs.Store.{Store, frame_at, content_at, with_content, link_of, indexed, led_by, led, end_of, place_in, text_of, text_at, variable_in, is_plain, holds_value, variable_place, within_limit, with_link}

@@ -1,9 +1,9 @@
 -- Links and arrays that are made.
 use Rattle.std.proofs.Common.{◌≡◌, ℕ, ◌<◌, ◌≤◌, Bool, true, false, not, if◌then◌else◌, List, [], Option, None, Some, Ok, Err, Result, sym, ap, ◌∙◌}
 use Rattle.tcl_vars.specs.declared.content.Content.TheVariants.{Array, Link}
-use Rattle.tcl_vars.specs.declared.fault.LinkFault.{LinkFault}
-use Rattle.tcl_vars.specs.declared.fault.LinkFault.TheVariants as links
-use Rattle.tcl_vars.specs.declared.fault.SetFault.TheVariants as sets
+use Rattle.tcl_text.specs.declared.fault.LinkFault.{LinkFault}
+use Rattle.tcl_text.specs.declared.fault.LinkFault.TheVariants as links
+use Rattle.tcl_text.specs.declared.fault.SetFault.TheVariants as sets
 use Rattle.tcl_vars.specs.Name.{Place}
 use Rattle.tcl_vars.specs.Store.{Store, content_at, with_content, variable_count, within_limit, is_plain, holds_value, variable_place, with_link, place_in, array_state, with_array_of, with_array_at, with_array}
 use Rattle.tcl_vars.proofs.StoreLemmas.{within_limit-ok, within_limit-full}

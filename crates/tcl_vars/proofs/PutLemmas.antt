@@ -4,8 +4,8 @@ use Rattle.tcl_vars.specs.declared.content.Content.{Content}
 use Rattle.tcl_vars.specs.declared.content.Outcome.{Outcome}
 use Rattle.tcl_vars.specs.declared.content.Outcome.TheVariants.{Added, Linked}
 use Rattle.tcl_vars.specs.declared.content.Content.TheVariants.{Scalar, Array}
-use Rattle.tcl_vars.specs.declared.fault.SetFault.{SetFault}
-use Rattle.tcl_vars.specs.declared.fault.SetFault.TheVariants.{Full}
+use Rattle.tcl_text.specs.declared.fault.SetFault.{SetFault}
+use Rattle.tcl_text.specs.declared.fault.SetFault.TheVariants.{Full}
 use Rattle.tcl_vars.specs.Name.{Place}
 use Rattle.tcl_vars.specs.Put.{PutsText, RefusesText, AfterPut, AfterContent, RefusesContent, IsReason, new_count}
 use Rattle.tcl_vars.specs.Store.{Frame, content_count, frame_count, content_with, link_of}

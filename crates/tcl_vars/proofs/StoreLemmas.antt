@@ -6,7 +6,7 @@ use Rattle.std.proofs.lemmas.Grind.{get_or-set_at}
 use Rattle.std.proofs.lemmas.Bool.{true_from_ne_false, false_from_ne_true}
 use Rattle.std.proofs.lemmas.Bool.Decides.{eqb_tells, nat_tests}
 use Rattle.std.proofs.lemmas.List.Sums.{sum_by-set}
-use Rattle.tcl_vars.specs.declared.fault.SetFault.{SetFault}
+use Rattle.tcl_text.specs.declared.fault.SetFault.{SetFault}
 use Rattle.tcl_vars.specs.Name.{Place}
 use Rattle.tcl_vars.specs.Put.{PutsText, Sets}
 use Rattle.tcl_vars.specs.Sound.{AllBelow, FramesDescend, IsSound}

@@ -2,8 +2,8 @@
 use Rattle.std.proofs.Common.{◌≡◌, ◌≢◌, ℕ, ◌+◌, ◌-◌, ◌<◌, Bool, true, false, cond, List, Option, None, Some, is_some, if◌then◌else◌, MatchBool, Ok, Err, Result, length, set, refl, sym, ap, ◌∙◌, subst, arith, length-set}
 use Rattle.tcl_vars.specs.declared.content.Content.{Content}
 use Rattle.tcl_vars.specs.declared.content.Content.TheVariants.{Scalar, Array, Link}
-use Rattle.tcl_vars.specs.declared.fault.UnsetFault.{UnsetFault}
-use Rattle.tcl_vars.specs.declared.fault.UnsetFault.TheVariants.{NoElement}
+use Rattle.tcl_text.specs.declared.fault.UnsetFault.{UnsetFault}
+use Rattle.tcl_text.specs.declared.fault.UnsetFault.TheVariants.{NoElement}
 use Rattle.tcl_vars.specs.Name.{Place}
 use Rattle.tcl_vars.specs.Sound.{IsBelow, AllBelow, IsSound}
 use Rattle.tcl_vars.specs.Store.{Store, Frame, frame_at, content_at, content_count, frame_count, variable_count, content_without, frame_with_rest, without_text_at, end_of, is_there, link_of}

@@ -1,16 +1,16 @@
 -- Meaning. What changing a text that is there does in one content, in one frame and in the store.
-use Rattle.std.specs.Prelude.{◌≡◌, ◌≢◌, ℕ, List, Option, None, Some, Result, Ok, Err}
+use Rattle.std.specs.Prelude.{◌≡◌, ◌≢◌, ℕ, List, Option, None, Some, Result, Ok, Err, IfErr, OnOk, OnErr}
 use Rattle.tcl_text.specs.Edit.{edited}
 use Rattle.tcl_text.specs.declared.edit.Edit.{Edit}
-use Rattle.tcl_text.specs.declared.edit.EditFault.{EditFault}
-use Rattle.tcl_text.specs.declared.edit.EditFault.TheVariants as edits
+use Rattle.tcl_text.specs.declared.fault.EditFault.{EditFault}
+use Rattle.tcl_text.specs.declared.fault.EditFault.TheVariants as edits
 use Rattle.tcl_vars.specs.declared.content.Content.{Content}
-use Rattle.tcl_vars.specs.declared.fault.ReadFault.{ReadFault}
-use Rattle.tcl_vars.specs.declared.fault.ChangeFault.{ChangeFault}
-use Rattle.tcl_vars.specs.declared.fault.ChangeFault.TheVariants.{Unread, TooLong, BadList, NoMemory}
+use Rattle.tcl_text.specs.declared.fault.ReadFault.{ReadFault}
+use Rattle.tcl_text.specs.declared.fault.ChangeFault.{ChangeFault}
+use Rattle.tcl_text.specs.declared.fault.ChangeFault.TheVariants.{Unread, TooLong, BadList, NoMemory}
 use Rattle.tcl_vars.specs.Name.{Place}
 use Rattle.tcl_vars.specs.Put.{PutsContent, PutsText, Sets}
-use Rattle.tcl_vars.specs.Store.{Store, Frame, content_at, link_of, text_at, text_of, variable_in, with_text_at, with_variable}
+use Rattle.tcl_vars.specs.Store.{Store, Frame, content_at, end_of, link_of, text_at, text_of, variable_in, with_text_at, with_variable}
 use Rattle.tcl_vars.specs.Table.{value_at}
 
 -- why a text isn't changed
@@ -64,6 +64,12 @@ pub record ChangesAt (old : Store) (place : Option Place) (edit : Edit) (new : S
   pub value : List ℕ
   pub changed : changed_by edit (text_at old place) ≡ Ok value
   pub set : with_text_at old place value ≡ Ok new
+
+-- what comes of changing the text to which a place leads: it is changed, or it is refused and nothing changes
+pub record ChangesThere (old : Store) (place : Place) (edit : Edit) (result : Result (Unit {0}) ChangeFault) (new : Store) : Type 0 where
+  pub ok : OnOk result (ChangesAt old (end_of old place) edit new)
+  pub refused : IfErr result (λ fault. fault ≢ NoMemory → changed_by edit (text_at old (end_of old place)) ≡ Err fault)
+  pub err : OnErr result (new ≡ old)
 
 -- the text of the variable or element that a name means is changed
 pub record Changes (old : Store) (level : ℕ) (name : List ℕ) (edit : Edit) (new : Store) : Type 0 where

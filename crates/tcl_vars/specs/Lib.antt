@@ -1,5 +1,4 @@
 pub mod Change
-pub mod Faults
 pub mod Name
 pub mod Named
 pub mod Owned
@@ -9,5 +8,6 @@ pub mod Shown
 pub mod Sound
 pub mod Store
 pub mod Table
+pub mod Texts
 pub mod Unset
 pub mod Way

@@ -1,12 +1,12 @@
 -- Meaning. What setting a text does in one content and in one frame, with room for so many more variables.
-use Rattle.std.specs.Prelude.{◌≡◌, ◌≢◌, ℕ, ◌+◌, ◌<◌, ◌≤◌, List, Option, None, Some, Ok, Result, MatchResult}
+use Rattle.std.specs.Prelude.{◌≡◌, ◌≢◌, ℕ, ◌+◌, ◌<◌, ◌≤◌, List, Option, None, Some, Ok, Err, Result, MatchResult, IfErr, OnOk, OnErr}
 use Rattle.tcl_vars.specs.declared.content.Content.{Content}
-use Rattle.tcl_vars.specs.declared.fault.SetFault.{SetFault}
-use Rattle.tcl_vars.specs.declared.fault.SetFault.TheVariants.{Full}
+use Rattle.tcl_text.specs.declared.fault.SetFault.{SetFault}
+use Rattle.tcl_text.specs.declared.fault.SetFault.TheVariants.{Full, NoMemory}
 use Rattle.tcl_vars.specs.declared.content.Outcome.{Outcome}
 use Rattle.tcl_vars.specs.declared.content.Outcome.TheVariants.{Added, Linked}
 use Rattle.tcl_vars.specs.Name.{Place}
-use Rattle.tcl_vars.specs.Store.{Store, Frame, content_count, frame_count, content_at, content_with, with_text_at, link_of}
+use Rattle.tcl_vars.specs.Store.{Store, Frame, content_count, frame_count, content_at, content_with, text_at, end_of, with_text_at, link_of}
 use Rattle.tcl_vars.specs.Table.{value_at, with_value}
 
 -- the content is no link and becomes this one, which has so many variables more, for which there is room
@@ -63,3 +63,10 @@ AfterPut old place value room (Linked back) new = (link_of (value_at old place.v
 pub record Sets (old : Store) (place : Place) (value : List ℕ) (gives : Result Store SetFault) : Type 0 where
   pub linkless : link_of (content_at old place) ≡ None
   pub given : with_text_at old (Some place) value ≡ gives
+
+-- what comes of setting the text to which a place leads: it is read there then, or it is refused and nothing changes
+pub record SetsThere (old : Store) (place : Place) (value : List ℕ) (result : Result (Unit {0}) SetFault) (new : Store) : Type 0 where
+  pub ok : OnOk result (with_text_at old (end_of old place) value ≡ Ok new)
+  pub refused : IfErr result (λ fault. fault ≢ NoMemory → with_text_at old (end_of old place) value ≡ Err fault)
+  pub err : OnErr result (new ≡ old)
+  pub read : OnOk result (text_at new (end_of new place) ≡ Ok value)

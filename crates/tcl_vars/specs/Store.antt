@@ -3,14 +3,14 @@ use Rattle.std.specs.Prelude.{Bool, true, false, not, ◌&&◌, is_none, nat_eq,
 use Rattle.std.specs.List.{starts_with}
 use Rattle.tcl_vars.specs.declared.content.Content.{Content}
 use Rattle.tcl_vars.specs.declared.content.Content.TheVariants.{Scalar, Array, Link}
-use Rattle.tcl_vars.specs.declared.fault.ReadFault.{ReadFault}
-use Rattle.tcl_vars.specs.declared.fault.ReadFault.TheVariants as reads
-use Rattle.tcl_vars.specs.declared.fault.SetFault.{SetFault}
-use Rattle.tcl_vars.specs.declared.fault.SetFault.TheVariants as sets
-use Rattle.tcl_vars.specs.declared.fault.LinkFault.{LinkFault}
-use Rattle.tcl_vars.specs.declared.fault.LinkFault.TheVariants as links
-use Rattle.tcl_vars.specs.declared.fault.UnsetFault.{UnsetFault}
-use Rattle.tcl_vars.specs.declared.fault.UnsetFault.TheVariants as unsets
+use Rattle.tcl_text.specs.declared.fault.ReadFault.{ReadFault}
+use Rattle.tcl_text.specs.declared.fault.ReadFault.TheVariants as reads
+use Rattle.tcl_text.specs.declared.fault.SetFault.{SetFault}
+use Rattle.tcl_text.specs.declared.fault.SetFault.TheVariants as sets
+use Rattle.tcl_text.specs.declared.fault.LinkFault.{LinkFault}
+use Rattle.tcl_text.specs.declared.fault.LinkFault.TheVariants as links
+use Rattle.tcl_text.specs.declared.fault.UnsetFault.{UnsetFault}
+use Rattle.tcl_text.specs.declared.fault.UnsetFault.TheVariants as unsets
 use Rattle.tcl_vars.specs.Name.{Place, element_of, place_of}
 use Rattle.tcl_vars.specs.Table.{Table, value_at, with_value, without}
 use Rattle.tcl_text.specs.Limits.{most_variables}
@@ -240,7 +240,8 @@ content_without None element = Err unsets.NoVariable
 content_without (Some (Scalar text)) None = Ok None
 content_without (Some (Scalar text)) (Some index) = Err unsets.NotArray
 content_without (Some (Array elements)) None = Ok None
-content_without (Some (Array elements)) (Some index) = if is_some (value_at elements index) then Ok (Some (Array (without elements index))) else Err unsets.NoElement
+content_without (Some (Array elements)) (Some index) =
+    if is_some (value_at elements index) then Ok (Some (Array (without elements index))) else Err unsets.NoElement
 content_without (Some (Link level name)) element = Err unsets.NoVariable
 
 -- the frame in which this is left of the content of a variable

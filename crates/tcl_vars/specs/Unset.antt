@@ -1,11 +1,12 @@
 -- Meaning. What unsetting does in one content, in one frame and in the store.
-use Rattle.std.specs.Prelude.{false, ◌≡◌, ◌≢◌, ℕ, ◌+◌, List, Option, None, Some, Result, Ok, Err}
+use Rattle.std.specs.Prelude.{false, ◌≡◌, ◌≢◌, ℕ, ◌+◌, List, Option, None, Some, Result, Ok, Err, IfErr, OnOk, OnErr}
 use Rattle.tcl_vars.specs.declared.content.Content.{Content}
 use Rattle.tcl_vars.specs.declared.content.Removal.{Removal}
 use Rattle.tcl_vars.specs.declared.content.Removal.TheVariants.{Whole, Element, Linked}
-use Rattle.tcl_vars.specs.declared.fault.UnsetFault.{UnsetFault}
+use Rattle.tcl_text.specs.declared.fault.UnsetFault.{UnsetFault}
+use Rattle.tcl_text.specs.declared.fault.UnsetFault.TheVariants.{NoMemory}
 use Rattle.tcl_vars.specs.Name.{Place}
-use Rattle.tcl_vars.specs.Store.{Store, Frame, content_at, content_count, frame_count, content_without, frame_with_rest, without_text_at, is_there, link_of}
+use Rattle.tcl_vars.specs.Store.{Store, Frame, content_at, content_count, frame_count, content_without, frame_with_rest, end_of, without_text_at, is_there, is_there_at, link_of}
 use Rattle.tcl_vars.specs.Table.{value_at}
 
 -- the whole goes, which counts so many
@@ -51,3 +52,10 @@ pub record Unsets (old : Store) (place : Place) (gives : Result Store UnsetFault
 pub record IsGone (old new : Store) (place : Place) : Type 0 where
   pub gone : is_there (content_at new place) place.element ≡ false
   pub links : (other : Place) → link_of (content_at new other) ≡ link_of (content_at old other)
+
+-- what comes of unsetting the text to which a place leads: it is there no more, or it is refused and nothing changes
+pub record UnsetsThere (old : Store) (place : Place) (result : Result (Unit {0}) UnsetFault) (new : Store) : Type 0 where
+  pub ok : OnOk result (without_text_at old (end_of old place) ≡ Ok new)
+  pub refused : IfErr result (λ fault. fault ≢ NoMemory → without_text_at old (end_of old place) ≡ Err fault)
+  pub err : OnErr result (new ≡ old)
+  pub gone : OnOk result (is_there_at new (end_of new place) ≡ false)

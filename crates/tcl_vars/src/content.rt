@@ -7,10 +7,9 @@ ghost use Rattle.tcl_vars.specs.Store.{array_state, content_count, content_witho
 ghost use Rattle.tcl_vars.specs.Unset.{AfterUnset};
 ghost use Rattle.tcl_vars.specs.Table.{value_at, with_value, without};
 
-use crate::fault::{ChangeFault, ReadFault, SetFault, UnsetFault};
 use crate::table::Table;
 use std::alloc::Global;
-use tcl_text::{Edit, EditFault, Text};
+use tcl_text::{ChangeFault, Edit, EditFault, ReadFault, SetFault, Text, UnsetFault};
 
 /// What a name of a frame stands for.
 #[derive(Drop)]
@@ -204,7 +203,8 @@ impl Content {
     /// Takes out an element, or tells how many variables go with the whole (unset(n)).
     pub(crate) fn unset(&mut self, element: Option<&str>) -> Result<Removal, UnsetFault>
         ensures ok { IfOk result (λ done. AfterUnset self.old (option_copied element.entry) done self.new) }
-        ensures refused { IfErr result (λ fault. (link_of (Some self.old) ≡ None) × (content_without (Some self.old) (option_copied element.entry) ≡ Err fault)) }
+        ensures refused { IfErr result (λ fault. (link_of (Some self.old) ≡ None)
+            × (content_without (Some self.old) (option_copied element.entry) ≡ Err fault)) }
         ensures err { OnErr result (self.new ≡ self.old) }
     {
         match (self, element) {
@@ -228,7 +228,8 @@ fn put_element(
     room: usize,
 ) -> Result<usize, SetFault>
     requires { IsShort index.now }
-    ensures ok { IfOk result (λ added. (elements.new ≡ with_value elements.old index.now value) × (length elements.new ≡ length elements.old + added) × (added ≤ room)) }
+    ensures ok { IfOk result (λ added. (elements.new ≡ with_value elements.old index.now value)
+        × (length elements.new ≡ length elements.old + added) × (added ≤ room)) }
     ensures full { IfErr result (λ fault. fault ≢ SetFault.NoMemory →
         (fault ≡ SetFault.Full) × (length elements.old + room < length (with_value elements.old index.now value))) }
     ensures err { OnErr result (elements.new ≡ elements.old) }

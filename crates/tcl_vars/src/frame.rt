@@ -10,11 +10,10 @@ ghost use Rattle.tcl_vars.specs.Table.{value_at, with_value, weight_of};
 ghost use Rattle.tcl_text.specs.Limits.{most_variables};
 
 use crate::content::{Content, Outcome, Removal};
-use crate::fault::{ChangeFault, ReadFault, SetFault, UnsetFault};
 use crate::name::Place;
 use crate::table::Table;
 use std::alloc::{AllocError, Global};
-use tcl_text::{Edit, Text};
+use tcl_text::{ChangeFault, Edit, ReadFault, SetFault, Text, UnsetFault};
 
 /// The names of one frame, in the order in which they came.
 pub(crate) type Frame = Table<Content>;
@@ -46,7 +45,15 @@ pub(crate) fn put(
     ensures err { OnErr result (frame.new ≡ frame.old) }
 {
     match frame.get_mut(place.variable) {
-        None => put_new(alloc, frame, place, value, room),
+        None => {
+            let added = new_count(place.element);
+            if room < added {
+                return Err(SetFault::Full);
+            }
+            let content = new_content(alloc, place.element, value)?;
+            frame.insert(place.variable, content)?;
+            Ok(Outcome::Added(added))
+        }
         Some(content) => {
             let outcome = content.put(place.element, value, room)?;
             Ok(outcome)
@@ -122,29 +129,6 @@ pub(crate) fn give(
     }
     frame.insert(variable, content)?;
     Ok(Some(1))
-}
-
-// Sets the text of a place of the frame whose variable isn't there.
-fn put_new(
-    alloc: Global,
-    frame: &mut Frame,
-    place: Place<'_>,
-    value: Text,
-    room: usize,
-) -> Result<Outcome, SetFault>
-    requires absent { value_at frame.old place.variable.now ≡ None }
-    requires short { IsShortPlace (shown place) }
-    ensures ok { IfOk result (λ done. AfterPut frame.old (shown place.entry) value room done frame.new) }
-    ensures refused { IfErr result (λ fault. fault ≢ SetFault.NoMemory → RefusesText frame.old (shown place.entry) value room fault) }
-    ensures err { OnErr result (frame.new ≡ frame.old) }
-{
-    let added = new_count(place.element);
-    if room < added {
-        return Err(SetFault::Full);
-    }
-    let content = new_content(alloc, place.element, value)?;
-    frame.insert(place.variable, content)?;
-    Ok(Outcome::Added(added))
 }
 
 // How many variables a new variable counts: an array comes with its first element.

@@ -3,13 +3,15 @@
 
 mod arrays;
 mod content;
-mod fault;
 mod frame;
 mod name;
 mod scopes;
 mod table;
+mod texts;
 
 pub use content::Content;
-pub use fault::{ChangeFault, LinkFault, ReadFault, SetFault, UnsetFault};
+pub use name::element_of;
 pub use scopes::Scopes;
 pub use table::Table;
+pub use tcl_text::{ChangeFault, LinkFault, ReadFault, SetFault, UnsetFault};
+pub use texts::element_name;

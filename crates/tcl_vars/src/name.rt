@@ -37,7 +37,7 @@ impl<'a> Place<'a> {
 }
 
 /// The array and the index of a name `array(index)`, none where the name means a variable (Tcl(n), "Variable substitution").
-fn element_of<'a>(name: &'a str) -> Option<(&'a str, &'a str)>
+pub fn element_of<'a>(name: &'a str) -> Option<(&'a str, &'a str)>
     ensures { option_map (λ p. (p.0.now, p.1.now)) result ≡ element_of name.now }
 {
     name.strip_suffix(')')?.split_once('(')

@@ -1,21 +1,20 @@
 ghost use Rattle.std.specs.Prelude.{◌≡◌, ◌≢◌, ◌<◌, ◌≤◌, ◌-◌, [], ◌∷◌, ◌++◌, length, take, IfOk, IfErr, OnOk, OnErr, map, unwrap_or, is_some, false, MatchResult, MatchOption, MatchBool, Ok, Err, Some, None};
 ghost use Rattle.std.specs.Option.{option_copied};
 ghost use Rattle.std.specs.Bool.{OnTrue};
-ghost use Rattle.tcl_vars.specs.Change.{Changes, ChangesAt, ChangesHere, KeepsHere, changed_by};
-ghost use Rattle.tcl_vars.specs.Put.{Sets};
+ghost use Rattle.tcl_vars.specs.Change.{Changes, ChangesHere, ChangesThere, KeepsHere, changed_by};
+ghost use Rattle.tcl_vars.specs.Put.{Sets, SetsThere};
 ghost use Rattle.tcl_vars.specs.Short.{IsShortPlace};
 ghost use Rattle.tcl_vars.specs.Shown.{shown};
 ghost use Rattle.tcl_vars.specs.Sound.{IsBelow};
 ghost use Rattle.tcl_vars.specs.Table.{weight_of};
-ghost use Rattle.tcl_vars.specs.Unset.{IsGone, Unsets};
-ghost use Rattle.tcl_vars.specs.Store.{content_at, link_of, end_of, text_at, variable_in, element_in, with_text_at, with_variable, with_element, without_text_at, without_variable, without_element, is_there_at, content_count, variable_count, with_content, with_link, with_array, has_variable, is_element_in, elements_in, pairs_of};
+ghost use Rattle.tcl_vars.specs.Unset.{IsGone, Unsets, UnsetsThere};
+ghost use Rattle.tcl_vars.specs.Store.{content_at, link_of, end_of, text_at, variable_in, element_in, with_variable, with_element, without_variable, without_element, content_count, variable_count, with_content, with_link, with_array, has_variable, is_element_in, elements_in, pairs_of};
 ghost use Rattle.tcl_text.specs.Limits.{most_variables};
 
 use crate::arrays::{names_of, pairs_of};
 use crate::content::{
     Content, Outcome, array_state, elements_of, holds_value, is_there, link_of, text_of,
 };
-use crate::fault::{ChangeFault, LinkFault, ReadFault, SetFault, UnsetFault};
 use crate::frame::{Frame, change, give, put, unset, variable_count};
 use crate::name::{
     OwnPlace, Place, element_place, is_given, is_plain, place_of, place_of_text, variable_place,
@@ -23,7 +22,7 @@ use crate::name::{
 use crate::table::Table;
 use std::alloc::{AllocError, Global};
 use std::marker::Model;
-use tcl_text::{Edit, Text, TextList};
+use tcl_text::{ChangeFault, Edit, LinkFault, ReadFault, SetFault, Text, TextList, UnsetFault};
 
 /// How many variables there are at most: every name of every frame counts, and every element of an array.
 pub const MAX_VARIABLES: usize = 4096;
@@ -417,10 +416,7 @@ impl Scopes {
     fn write(&mut self, place: Place<'_>, value: Text) -> Result<(), SetFault>
         requires level { place.level < length self.old }
         requires short { IsShortPlace (shown place) }
-        ensures ok { OnOk result (with_text_at self.old (end_of self.old (shown place.entry)) value ≡ Ok self.new) }
-        ensures refused { IfErr result (λ fault. fault ≢ SetFault.NoMemory → with_text_at self.old (end_of self.old (shown place.entry)) value ≡ Err fault) }
-        ensures err { OnErr result (self.new ≡ self.old) }
-        ensures read { OnOk result (text_at self.new (end_of self.new (shown place.entry)) ≡ Ok value) }
+        ensures { SetsThere self.old (shown place.entry) value result self.new }
     {
         let _ = &self.frames;
         match self.put(place, value)? {
@@ -436,10 +432,7 @@ impl Scopes {
     fn write_linked(&mut self, place: Place<'_>, value: Text) -> Result<(), SetFault>
         requires level { place.level < length self.old }
         requires short { IsShortPlace (shown place) }
-        ensures ok { OnOk result (with_text_at self.old (end_of self.old (shown place.entry)) value ≡ Ok self.new) }
-        ensures refused { IfErr result (λ fault. fault ≢ SetFault.NoMemory → with_text_at self.old (end_of self.old (shown place.entry)) value ≡ Err fault) }
-        ensures err { OnErr result (self.new ≡ self.old) }
-        ensures read { OnOk result (text_at self.new (end_of self.new (shown place.entry)) ≡ Ok value) }
+        ensures { SetsThere self.old (shown place.entry) value result self.new }
     {
         let _ = &self.frames;
         let end = match self.lead(place) {
@@ -476,9 +469,7 @@ impl Scopes {
     fn change_at(&mut self, place: Place<'_>, edit: Edit<'_>) -> Result<(), ChangeFault>
         requires level { place.level < length self.old }
         requires short { IsShortPlace (shown place) }
-        ensures ok { OnOk result (ChangesAt self.old (end_of self.old (shown place.entry)) edit.entry self.new) }
-        ensures refused { IfErr result (λ fault. fault ≢ ChangeFault.NoMemory → changed_by edit.entry (text_at self.old (end_of self.old (shown place.entry))) ≡ Err fault) }
-        ensures err { OnErr result (self.new ≡ self.old) }
+        ensures { ChangesThere self.old (shown place.entry) edit.entry result self.new }
     {
         let _ = &self.frames;
         let done = self.change_here(place, edit)?;
@@ -493,9 +484,7 @@ impl Scopes {
     fn change_linked(&mut self, place: Place<'_>, edit: Edit<'_>) -> Result<(), ChangeFault>
         requires level { place.level < length self.old }
         requires short { IsShortPlace (shown place) }
-        ensures ok { OnOk result (ChangesAt self.old (end_of self.old (shown place.entry)) edit.entry self.new) }
-        ensures refused { IfErr result (λ fault. fault ≢ ChangeFault.NoMemory → changed_by edit.entry (text_at self.old (end_of self.old (shown place.entry))) ≡ Err fault) }
-        ensures err { OnErr result (self.new ≡ self.old) }
+        ensures { ChangesThere self.old (shown place.entry) edit.entry result self.new }
     {
         let _ = &self.frames;
         let end = match self.lead(place) {
@@ -525,10 +514,7 @@ impl Scopes {
     fn erase(&mut self, place: Place<'_>) -> Result<(), UnsetFault>
         requires level { place.level < length self.old }
         requires short { IsShortPlace (shown place) }
-        ensures ok { OnOk result (without_text_at self.old (end_of self.old (shown place.entry)) ≡ Ok self.new) }
-        ensures refused { IfErr result (λ fault. fault ≢ UnsetFault.NoMemory → without_text_at self.old (end_of self.old (shown place.entry)) ≡ Err fault) }
-        ensures err { OnErr result (self.new ≡ self.old) }
-        ensures gone { OnOk result (is_there_at self.new (end_of self.new (shown place.entry)) ≡ false) }
+        ensures { UnsetsThere self.old (shown place.entry) result self.new }
     {
         let _ = &self.frames;
         if self.take(place)? {
@@ -542,10 +528,7 @@ impl Scopes {
     fn erase_linked(&mut self, place: Place<'_>) -> Result<(), UnsetFault>
         requires level { place.level < length self.old }
         requires short { IsShortPlace (shown place) }
-        ensures ok { OnOk result (without_text_at self.old (end_of self.old (shown place.entry)) ≡ Ok self.new) }
-        ensures refused { IfErr result (λ fault. fault ≢ UnsetFault.NoMemory → without_text_at self.old (end_of self.old (shown place.entry)) ≡ Err fault) }
-        ensures err { OnErr result (self.new ≡ self.old) }
-        ensures gone { OnOk result (is_there_at self.new (end_of self.new (shown place.entry)) ≡ false) }
+        ensures { UnsetsThere self.old (shown place.entry) result self.new }
     {
         let _ = &self.frames;
         let end = match self.lead(place) {

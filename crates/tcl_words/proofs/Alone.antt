@@ -16,7 +16,7 @@ use Rattle.tcl_words.specs.declared.kind.Opener.TheVariants.{Bracket, Index}
 use Rattle.tcl_words.specs.declared.kind.Step.{Step}
 use Rattle.tcl_words.specs.declared.kind.Step.TheVariants.{On, Within, Ends}
 use Rattle.tcl_words.specs.declared.script.Piece.TheVariants.{Bracket as BracketPiece, Element}
-use Rattle.tcl_words.specs.declared.fault.ParseFault.{ParseFault}
+use Rattle.tcl_text.specs.declared.fault.ParseFault.{ParseFault}
 use Rattle.tcl_words.proofs.Cuts.{IsCloser, FitsStep, step_cut, step_same}
 use Rattle.tcl_words.proofs.Closers.{class_ends, class_closes}
 

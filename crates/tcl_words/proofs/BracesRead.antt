@@ -13,7 +13,7 @@ use Rattle.tcl_words.specs.Grammar.IsUnclosed.{ends, backslash, opens}
 use Rattle.tcl_words.specs.declared.kind.Kind.{Kind}
 use Rattle.tcl_words.specs.declared.kind.Kind.TheVariants.{Blank, Newline, Semicolon, Hash, Dollar, Quote, OpenBracket, CloseBracket, OpenBrace, Expansion, CloseBrace, CloseParen, Backslash, Continuation, Other}
 use Rattle.tcl_words.specs.declared.kind.BytePlace.TheVariants.{InBraces, PastBraces}
-use Rattle.tcl_words.specs.declared.fault.ParseFault.TheVariants.{MissingBrace}
+use Rattle.tcl_text.specs.declared.fault.ParseFault.TheVariants.{MissingBrace}
 use Rattle.tcl_words.proofs.ClassLemmas.{byte_is, expansion_or, newline_or}
 use Rattle.tcl_words.proofs.StepLemmas.{after_move, moved_by, read_at, skip_read}
 

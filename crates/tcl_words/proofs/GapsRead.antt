@@ -16,7 +16,7 @@ use Rattle.tcl_words.specs.declared.kind.Kind.{Kind}
 use Rattle.tcl_words.specs.declared.kind.Kind.TheVariants.{Blank, Newline, Semicolon, Hash, Dollar, Quote, OpenBracket, CloseBracket, OpenBrace, Expansion, CloseBrace, CloseParen, Backslash, Continuation, Other}
 use Rattle.tcl_words.specs.declared.kind.BytePlace.{BytePlace}
 use Rattle.tcl_words.specs.declared.kind.BytePlace.TheVariants.{Start, Comment, Between}
-use Rattle.tcl_words.specs.declared.fault.ParseFault.TheVariants.{MissingBracket}
+use Rattle.tcl_text.specs.declared.fault.ParseFault.TheVariants.{MissingBracket}
 use Rattle.tcl_words.proofs.ClassLemmas.{byte_is, expansion_or, continuation_or, other_class}
 use Rattle.tcl_words.proofs.StepLemmas.{moved_by, read_at, put-put, put-none}
 

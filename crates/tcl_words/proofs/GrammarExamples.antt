@@ -10,8 +10,8 @@ use Rattle.tcl_words.specs.OperandGrammar.{IsBehindBracket, IsBehindDollar, IsBe
 use Rattle.tcl_words.specs.declared.script.WordForm.TheVariants.{Bare, Quoted, Braced}
 use Rattle.tcl_words.specs.declared.script.Piece.TheVariants.{Literal, Variable, Element, Bracket}
 use Rattle.tcl_words.specs.declared.script.Command.{Command}
-use Rattle.tcl_words.specs.declared.fault.ParseFault.TheVariants.{MissingBrace, MissingBracket, ExtraAfterBrace, MissingParen}
-use Rattle.tcl_words.specs.declared.fault.ParseFault.{ParseFault}
+use Rattle.tcl_text.specs.declared.fault.ParseFault.TheVariants.{MissingBrace, MissingBracket, ExtraAfterBrace, MissingParen}
+use Rattle.tcl_text.specs.declared.fault.ParseFault.{ParseFault}
 use Rattle.tcl_words.proofs.Grammars.{read_is_cut, told_is_cut}
 use Rattle.tcl_words.proofs.OperandsRead.{bracket_is, substitution_is}
 use Rattle.tcl_words.proofs.QuotesRead.{quotes_are}

@@ -9,8 +9,8 @@ use Rattle.tcl_words.specs.Grammar.{TextEnding, leaves, fails, IsText, IsInnerOf
 use Rattle.tcl_words.specs.Grammar.IsScriptFault.{no_text, faulty_text}
 use Rattle.tcl_words.specs.declared.kind.BytePlace.TheVariants.{Start}
 use Rattle.tcl_words.specs.declared.script.Command.{Command}
-use Rattle.tcl_words.specs.declared.fault.ParseFault.{ParseFault}
-use Rattle.tcl_words.specs.declared.fault.ParseFault.TheVariants.{TooLong, NoMemory}
+use Rattle.tcl_text.specs.declared.fault.ParseFault.{ParseFault}
+use Rattle.tcl_text.specs.declared.fault.ParseFault.TheVariants.{TooLong, NoMemory}
 use Rattle.tcl_words.proofs.ScriptsRead.{GivesCommands, script_read, inner_reads}
 use Rattle.tcl_words.proofs.ScriptsCut.{IsScriptCut, script_found, inner_cuts}
 

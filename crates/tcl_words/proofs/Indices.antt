@@ -4,7 +4,7 @@ use Rattle.tcl_words.specs.Reading.{pieces_in, index_pieces_of, outermost}
 use Rattle.tcl_words.specs.Grammar.{TextEnding, leaves, fails, stops, ArePieces, IsInnerOf, IsIndexOf, IsIndexFault}
 use Rattle.tcl_words.specs.declared.kind.Mode.TheVariants.{Parens}
 use Rattle.tcl_words.specs.declared.script.Piece.{Piece}
-use Rattle.tcl_words.specs.declared.fault.ParseFault.{ParseFault}
+use Rattle.tcl_text.specs.declared.fault.ParseFault.{ParseFault}
 use Rattle.tcl_words.proofs.PiecesRead.{GivesText, GivesPieces, pieces_read}
 use Rattle.tcl_words.proofs.ScriptsRead.{inner_reads}
 use Rattle.tcl_words.proofs.PiecesCut.{IsPiecesCut, pieces_found}

@@ -26,8 +26,8 @@ use Rattle.tcl_words.specs.declared.kind.Step.TheVariants.{On, Within, Ends}
 use Rattle.tcl_words.specs.declared.nesting.Origin.{Origin}
 use Rattle.tcl_words.specs.declared.nesting.Waiting.{Waiting}
 use Rattle.tcl_words.specs.declared.script.Piece.{Piece}
-use Rattle.tcl_words.specs.declared.fault.ParseFault.{ParseFault}
-use Rattle.tcl_words.specs.declared.fault.ParseFault.TheVariants.{TooLong, NoMemory, MissingQuote}
+use Rattle.tcl_text.specs.declared.fault.ParseFault.{ParseFault}
+use Rattle.tcl_text.specs.declared.fault.ParseFault.TheVariants.{TooLong, NoMemory, MissingQuote}
 use Rattle.tcl_words.proofs.Joins.{slice_none, slice_behind}
 use Rattle.tcl_words.proofs.Nests.{chain_fault, rest_skip}
 use Rattle.tcl_words.proofs.Readers.{moved_cut, to_base, parse_found, ended_close, first_fine, end_reads, chain_inside}

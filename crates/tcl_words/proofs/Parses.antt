@@ -5,8 +5,8 @@ use Rattle.tcl_words.specs.Grammar.{IsScriptOf, IsScriptFault, IsScriptParse, Is
 use Rattle.tcl_words.specs.One.{One}
 use Rattle.tcl_words.specs.declared.script.Piece.{Piece}
 use Rattle.tcl_words.specs.declared.script.Command.{Command}
-use Rattle.tcl_words.specs.declared.fault.ParseFault.{ParseFault}
-use Rattle.tcl_words.specs.declared.fault.ParseFault.TheVariants.{NoMemory}
+use Rattle.tcl_text.specs.declared.fault.ParseFault.{ParseFault}
+use Rattle.tcl_text.specs.declared.fault.ParseFault.TheVariants.{NoMemory}
 use Rattle.tcl_words.proofs.Grammars.{commands_of-script, script-commands_of, commands_of-fault, fault-commands_of}
 use Rattle.tcl_words.proofs.Indices.{index_pieces_of-index, index-index_pieces_of, index_pieces_of-fault, fault-index_pieces_of}
 

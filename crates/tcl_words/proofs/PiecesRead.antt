@@ -19,7 +19,7 @@ use Rattle.tcl_words.specs.declared.kind.Opener.TheVariants.{Bracket as BracketO
 use Rattle.tcl_words.specs.declared.kind.Step.TheVariants.{Within}
 use Rattle.tcl_words.specs.declared.script.Piece.{Piece}
 use Rattle.tcl_words.specs.declared.script.Piece.TheVariants.{Literal, Variable, Element, Bracket}
-use Rattle.tcl_words.specs.declared.fault.ParseFault.{ParseFault}
+use Rattle.tcl_text.specs.declared.fault.ParseFault.{ParseFault}
 use Rattle.tcl_words.proofs.ClassLemmas.{plain_move, backslash_move, dollar_move, bracket_move}
 use Rattle.tcl_words.proofs.StepLemmas.{after_move, moved_by, put-none, skip_drop, skip_read, skip_past, skip_element}
 use Rattle.tcl_words.proofs.NameLemmas.{dollar-named, dollar-indexed, dollar-alone, dollar-braced, dollar-unclosed, take_front, slice_braced}

@@ -20,7 +20,7 @@ use Rattle.tcl_words.specs.declared.kind.Dollar.{Dollar as DollarForm}
 use Rattle.tcl_words.specs.declared.kind.Opener.TheVariants.{Bracket as BracketOpener, Index as IndexOpener}
 use Rattle.tcl_words.specs.declared.script.Piece.{Piece}
 use Rattle.tcl_words.specs.declared.script.Piece.TheVariants.{Variable, Element, Bracket}
-use Rattle.tcl_words.specs.declared.fault.ParseFault.{ParseFault}
+use Rattle.tcl_text.specs.declared.fault.ParseFault.{ParseFault}
 use Rattle.tcl_words.proofs.ClassLemmas.{byte_is, other_class, continuation_or, expansion_or}
 use Rattle.tcl_words.proofs.StepLemmas.{put-none}
 use Rattle.tcl_words.proofs.NameLemmas.{dollar-named, dollar-indexed, dollar-alone, dollar-braced, dollar-unclosed, drop_front, take_front, slice_braced}

@@ -22,8 +22,8 @@ use Rattle.tcl_words.specs.declared.kind.Step.TheVariants.{On, Within, Ends}
 use Rattle.tcl_words.specs.declared.nesting.Origin.{Origin}
 use Rattle.tcl_words.specs.declared.nesting.Waiting.{Waiting}
 use Rattle.tcl_words.specs.declared.script.Piece.{Piece}
-use Rattle.tcl_words.specs.declared.fault.ParseFault.{ParseFault}
-use Rattle.tcl_words.specs.declared.fault.ParseFault.TheVariants.{NoMemory}
+use Rattle.tcl_text.specs.declared.fault.ParseFault.{ParseFault}
+use Rattle.tcl_text.specs.declared.fault.ParseFault.TheVariants.{NoMemory}
 use Rattle.tcl_words.proofs.Closers.{none_outside}
 use Rattle.tcl_words.proofs.Inners.{script_alone, index_alone}
 use Rattle.tcl_words.proofs.Texts.{commands_of-read}

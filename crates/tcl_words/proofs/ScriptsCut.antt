@@ -16,7 +16,7 @@ use Rattle.tcl_words.specs.declared.kind.Kind.TheVariants.{Blank, Newline, Semic
 use Rattle.tcl_words.specs.declared.script.Piece.{Piece}
 use Rattle.tcl_words.specs.declared.script.Word.{Word}
 use Rattle.tcl_words.specs.declared.script.Command.{Command}
-use Rattle.tcl_words.specs.declared.fault.ParseFault.TheVariants.{TooLong}
+use Rattle.tcl_text.specs.declared.fault.ParseFault.TheVariants.{TooLong}
 use Rattle.std.proofs.Common.{nat_eq}
 use Rattle.tcl_words.proofs.ClassLemmas.{byte_is}
 use Rattle.tcl_words.proofs.WordsRead.{both}

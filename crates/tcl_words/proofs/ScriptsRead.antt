@@ -18,8 +18,8 @@ use Rattle.tcl_words.specs.declared.kind.Opener.TheVariants.{Bracket as BracketO
 use Rattle.tcl_words.specs.declared.script.Piece.TheVariants.{Element, Bracket}
 use Rattle.tcl_words.specs.declared.script.Word.{Word}
 use Rattle.tcl_words.specs.declared.script.Command.{Command}
-use Rattle.tcl_words.specs.declared.fault.ParseFault.{ParseFault}
-use Rattle.tcl_words.specs.declared.fault.ParseFault.TheVariants.{TooLong, MissingBracket}
+use Rattle.tcl_text.specs.declared.fault.ParseFault.{ParseFault}
+use Rattle.tcl_text.specs.declared.fault.ParseFault.TheVariants.{TooLong, MissingBracket}
 use Rattle.tcl_words.proofs.StepLemmas.{read_at, skip_past}
 use Rattle.tcl_words.proofs.StopLemmas.{paren_read}
 use Rattle.tcl_words.proofs.NameLemmas.{take_front, slice_index_text}

@@ -9,8 +9,8 @@ use Rattle.tcl_words.specs.Changes.Change.{word_ends, text_ends, command_ends}
 use Rattle.tcl_words.specs.Moves.{Move, fails, word_over, in_between, in_text}
 use Rattle.tcl_words.specs.declared.kind.Mode.{Mode}
 use Rattle.tcl_words.specs.declared.kind.Mode.TheVariants.{Bare, Quotes, Parens}
-use Rattle.tcl_words.specs.declared.fault.ParseFault.{ParseFault}
-use Rattle.tcl_words.specs.declared.fault.ParseFault.TheVariants.{MissingBracket, ExtraAfterBrace, ExtraAfterQuote}
+use Rattle.tcl_text.specs.declared.fault.ParseFault.{ParseFault}
+use Rattle.tcl_text.specs.declared.fault.ParseFault.TheVariants.{MissingBracket, ExtraAfterBrace, ExtraAfterQuote}
 use Rattle.tcl_words.specs.Reading.{Level, rest_of, end_of}
 use Rattle.tcl_words.specs.Grammar.{stops, unended_fault}
 use Rattle.tcl_words.specs.declared.kind.Kind.{Kind}

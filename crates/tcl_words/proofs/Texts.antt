@@ -8,8 +8,8 @@ use Rattle.tcl_words.specs.Reading.{commands_of, commands_in, rest_of, outermost
 use Rattle.tcl_words.specs.Room.{text_room, commands_room}
 use Rattle.tcl_words.specs.declared.kind.BytePlace.TheVariants.{Start}
 use Rattle.tcl_words.specs.declared.script.Command.{Command}
-use Rattle.tcl_words.specs.declared.fault.ParseFault.{ParseFault}
-use Rattle.tcl_words.specs.declared.fault.ParseFault.TheVariants.{TooLong, NoMemory}
+use Rattle.tcl_text.specs.declared.fault.ParseFault.{ParseFault}
+use Rattle.tcl_text.specs.declared.fault.ParseFault.TheVariants.{TooLong, NoMemory}
 use Rattle.tcl_words.proofs.Rooms.{commands_fit}
 
 short_test : (text : List ℕ) → length text ≤ 65536 → nat_lt 65536 (length text) ≡ false

@@ -12,8 +12,8 @@ use Rattle.tcl_words.specs.declared.script.WordForm.TheVariants.{Bare as BareFor
 use Rattle.tcl_words.specs.declared.script.Piece.{Piece}
 use Rattle.tcl_words.specs.declared.script.Piece.TheVariants.{Literal}
 use Rattle.tcl_words.specs.declared.script.Word.{Word}
-use Rattle.tcl_words.specs.declared.fault.ParseFault.{ParseFault}
-use Rattle.tcl_words.specs.declared.fault.ParseFault.TheVariants.{MissingBrace, ExtraAfterBrace, ExtraAfterQuote}
+use Rattle.tcl_text.specs.declared.fault.ParseFault.{ParseFault}
+use Rattle.tcl_text.specs.declared.fault.ParseFault.TheVariants.{MissingBrace, ExtraAfterBrace, ExtraAfterQuote}
 use Rattle.tcl_words.proofs.WordsRead.{both}
 use Rattle.tcl_words.proofs.BracesCut.{decided, braces_cut}
 use Rattle.tcl_words.proofs.PiecesCut.{InnerCuts, IsPiecesCut, pieces_found}

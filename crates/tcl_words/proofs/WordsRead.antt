@@ -24,8 +24,8 @@ use Rattle.tcl_words.specs.declared.script.WordForm.TheVariants.{Bare as BareFor
 use Rattle.tcl_words.specs.declared.script.Piece.{Piece}
 use Rattle.tcl_words.specs.declared.script.Piece.TheVariants.{Literal}
 use Rattle.tcl_words.specs.declared.script.Word.{Word}
-use Rattle.tcl_words.specs.declared.fault.ParseFault.{ParseFault}
-use Rattle.tcl_words.specs.declared.fault.ParseFault.TheVariants.{MissingBracket, ExtraAfterBrace, ExtraAfterQuote}
+use Rattle.tcl_text.specs.declared.fault.ParseFault.{ParseFault}
+use Rattle.tcl_text.specs.declared.fault.ParseFault.TheVariants.{MissingBracket, ExtraAfterBrace, ExtraAfterQuote}
 use Rattle.tcl_words.proofs.ClassLemmas.{byte_is, expansion_or, other_class}
 use Rattle.tcl_words.proofs.StepLemmas.{after_move, moved_by, read_at, put-put, put-none}
 use Rattle.tcl_words.proofs.StopLemmas.{word_stops, quote_read}

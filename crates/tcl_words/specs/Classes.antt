@@ -1,7 +1,7 @@
 -- Meaning. What bytes are by themselves.
 use Rattle.std.specs.Prelude.{ℕ, Bool, ◌==◌, nat_eq, nat_le, ◌&&◌, ◌||◌, if◌then◌else◌, List, [], ◌∷◌}
 use Rattle.std.specs.List.{starts_with}
-use Rattle.tcl_words.specs.Bytes.{tab, line_feed, space, quote, hash, dollar_sign, close_paren, star, semicolon, open_bracket, backslash_sign, close_bracket, underscore, open_brace, close_brace}
+use Rattle.tcl_text.specs.Bytes.{tab, line_feed, space, quote, hash, dollar_sign, close_paren, star, semicolon, open_bracket, backslash_sign, close_bracket, underscore, open_brace, close_brace}
 use Rattle.tcl_words.specs.declared.kind.Kind.{Kind}
 use Rattle.tcl_words.specs.declared.kind.Kind.TheVariants.{Blank, Newline, Semicolon, Hash, Dollar, Quote, OpenBracket, CloseBracket, OpenBrace, CloseBrace, CloseParen, Backslash, Other}
 

@@ -1,7 +1,7 @@
 -- Steps. What a byte can mean in a script by what stands behind it.
 use Rattle.std.specs.Prelude.{ℕ, zero, suc, ◌+◌, Bool, ◌==◌, nat_eq, if◌then◌else◌, List, [], ◌∷◌, drop, Option, Some, None}
 use Rattle.std.specs.List.{starts_with}
-use Rattle.tcl_words.specs.Bytes.{open_paren, colon, open_brace, close_brace}
+use Rattle.tcl_text.specs.Bytes.{open_paren, colon, open_brace, close_brace}
 use Rattle.tcl_words.specs.Classes.{is_letter, class_of, begins_newline, begins_expansion}
 use Rattle.tcl_words.specs.declared.kind.Kind.{Kind}
 use Rattle.tcl_words.specs.declared.kind.Kind.TheVariants.{CloseBracket, OpenBrace, Expansion, CloseParen, Backslash, Continuation, Other}

@@ -1,9 +1,7 @@
 -- What the contracts cite.
-pub mod Bytes
 pub mod Chain
 pub mod Changes
 pub mod Classes
-pub mod Faults
 pub mod Kinds
 pub mod Moves
 pub mod Operands

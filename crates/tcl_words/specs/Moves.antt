@@ -16,8 +16,8 @@ use Rattle.tcl_words.specs.declared.kind.Opener.TheVariants.{Bracket, Index}
 use Rattle.tcl_words.specs.declared.kind.Step.{Step}
 use Rattle.tcl_words.specs.declared.kind.Step.TheVariants.{On, Within, Ends}
 use Rattle.tcl_words.specs.declared.script.WordForm.TheVariants.{Bare as BareForm, Quoted as QuotedForm, Braced as BracedForm}
-use Rattle.tcl_words.specs.declared.fault.ParseFault.{ParseFault}
-use Rattle.tcl_words.specs.declared.fault.ParseFault.TheVariants.{MissingBrace, ExtraAfterBrace, ExtraAfterQuote}
+use Rattle.tcl_text.specs.declared.fault.ParseFault.{ParseFault}
+use Rattle.tcl_text.specs.declared.fault.ParseFault.TheVariants.{MissingBrace, ExtraAfterBrace, ExtraAfterQuote}
 
 pub record Move : Type 0 where
   pub changes : List Change

@@ -1,13 +1,13 @@
 -- Meaning. What a bracket, a `$` or a quote begins in an expression, by the grammar of scripts: what it gives and how many bytes behind it
 -- are its own, or its fault. `room` is how many brackets and indices may still be opened in one another.
 use Rattle.std.specs.Prelude.{◌≡◌, ℕ, suc, ◌+◌, true, false, List, ◌∷◌, ◌++◌, length, Option, Some, None, Result, Ok, Err}
-use Rattle.tcl_words.specs.Bytes.{quote, open_paren, close_paren, close_bracket, open_brace, close_brace}
+use Rattle.tcl_text.specs.Bytes.{quote, open_paren, close_paren, close_bracket, open_brace, close_brace}
 use Rattle.tcl_words.specs.Grammar.{leaves, fails, script, index, begins, begins_letter, begins_name, IsName, HasNoBrace, ArePieces, IsInnerOf}
 use Rattle.tcl_words.specs.declared.kind.Mode.TheVariants.{Quotes}
 use Rattle.tcl_words.specs.declared.script.Piece.{Piece}
 use Rattle.tcl_words.specs.declared.script.Piece.TheVariants.{Variable, Element, Bracket}
-use Rattle.tcl_words.specs.declared.fault.ParseFault.{ParseFault}
-use Rattle.tcl_words.specs.declared.fault.ParseFault.TheVariants.{MissingBrace}
+use Rattle.tcl_text.specs.declared.fault.ParseFault.{ParseFault}
+use Rattle.tcl_text.specs.declared.fault.ParseFault.TheVariants.{MissingBrace}
 
 -- the text behind a bracket: a script up to the bracket that closes it
 abbrev pub IsBehindBracket : ℕ → List ℕ → Result (Piece × ℕ) ParseFault → Type 0

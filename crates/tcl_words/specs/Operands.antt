@@ -1,7 +1,8 @@
 -- Steps. What a `$`, a bracket or a quote begins in a text that is no script, as an expression: it is read as in a script, where so many
 -- brackets and indices may be opened in one another. What it gives, and how many of the bytes behind its opener are its own.
-use Rattle.std.specs.Prelude.{ℕ, zero, suc, ◌+◌, ◌≡◌, ◌≤◌, ◌<◌, ◌⊎◌, true, false, List, [], ◌∷◌, length, take, drop, Option, Some, None, Result, Ok, Err}
+use Rattle.std.specs.Prelude.{ℕ, zero, suc, ◌+◌, ◌≡◌, ◌≤◌, ◌<◌, ◌⊎◌, true, false, List, [], ◌∷◌, length, take, drop, slice_index, Option, Some, None, Result, Ok, Err}
 use Rattle.std.specs.List.{slice_range}
+use Rattle.tcl_text.specs.Limits.{most_bytes, most_nested}
 use Rattle.tcl_words.specs.Kinds.{kind_before, dollar_of}
 use Rattle.tcl_words.specs.Changes.{Read, put, last_rest, literal_before, changed}
 use Rattle.tcl_words.specs.Moves.{Move, in_text}
@@ -20,8 +21,15 @@ use Rattle.tcl_words.specs.declared.kind.Opener.TheVariants.{Bracket, Index}
 use Rattle.tcl_words.specs.declared.nesting.Origin.{Origin}
 use Rattle.tcl_words.specs.declared.script.Piece.{Piece}
 use Rattle.tcl_words.specs.declared.script.Piece.TheVariants.{Variable}
-use Rattle.tcl_words.specs.declared.fault.ParseFault.{ParseFault}
-use Rattle.tcl_words.specs.declared.fault.ParseFault.TheVariants.{TooLong, MissingBrace, MissingQuote, NoMemory}
+use Rattle.tcl_text.specs.declared.fault.ParseFault.{ParseFault}
+use Rattle.tcl_text.specs.declared.fault.ParseFault.TheVariants.{TooLong, MissingBrace, MissingQuote, NoMemory}
+
+-- an opener may stand at this position of a text, behind which so many brackets and indices may be opened in one another
+pub record MayOpen (room : ℕ) (source : List ℕ) (at : ℕ) : Type 0 where
+  pub short : length source ≤ most_bytes
+  pub within : at < length source
+  pub ascii : slice_index source at < 128
+  pub nested : room ≤ most_nested
 
 -- ── brackets and variables ──
 

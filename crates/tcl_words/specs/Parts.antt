@@ -25,8 +25,8 @@ use Rattle.tcl_words.specs.declared.script.Piece.{Piece}
 use Rattle.tcl_words.specs.declared.script.Piece.TheVariants.{Literal}
 use Rattle.tcl_words.specs.declared.script.Word.{Word}
 use Rattle.tcl_words.specs.declared.script.Command.{Command}
-use Rattle.tcl_words.specs.declared.fault.ParseFault.{ParseFault}
-use Rattle.tcl_words.specs.declared.fault.ParseFault.TheVariants.{NoMemory}
+use Rattle.tcl_text.specs.declared.fault.ParseFault.{ParseFault}
+use Rattle.tcl_text.specs.declared.fault.ParseFault.TheVariants.{NoMemory}
 use Rattle.tcl_text.specs.Limits.{most_bytes}
 
 pub record Parts : Type 0 where
@@ -119,6 +119,15 @@ pub record IsCut (parts : Parts) (source : List ℕ) (at : ℕ) : Type 0 where
   pub before : parts.mark ≤ at
   pub boundary : IsCharBoundary source parts.mark
   pub short : length parts.literal ≤ parts.mark
+
+-- the literal that is open may end at this position
+pub record MayEnd (parts : Parts) (source : List ℕ) (at : ℕ) : Type 0 where
+  pub ordered : parts.mark ≤ at
+  pub within : at ≤ length source
+  pub short : length source ≤ most_bytes
+  pub kept : length parts.literal ≤ parts.mark
+  pub begins : IsCharBoundary source parts.mark
+  pub ends : IsCharBoundary source at
 
 -- `{*}` stands before this position
 pub record IsExpansion (source : List ℕ) (at : ℕ) : Type 0 where

@@ -17,8 +17,8 @@ use Rattle.tcl_words.specs.declared.kind.Step.TheVariants.{On, Within, Ends}
 use Rattle.tcl_words.specs.declared.script.Piece.{Piece}
 use Rattle.tcl_words.specs.declared.script.Piece.TheVariants.{Element, Bracket}
 use Rattle.tcl_words.specs.declared.script.Command.{Command}
-use Rattle.tcl_words.specs.declared.fault.ParseFault.{ParseFault}
-use Rattle.tcl_words.specs.declared.fault.ParseFault.TheVariants.{TooLong, MissingBrace, MissingBracket, MissingQuote, MissingParen}
+use Rattle.tcl_text.specs.declared.fault.ParseFault.{ParseFault}
+use Rattle.tcl_text.specs.declared.fault.ParseFault.TheVariants.{TooLong, MissingBrace, MissingBracket, MissingQuote, MissingParen}
 use Rattle.tcl_text.specs.Limits.{most_bytes, most_nested}
 
 -- How what is read stands in other scripts: whether it ends at a closing bracket or parenthesis, and how many

@@ -1,7 +1,7 @@
 ghost use Rattle.std.specs.Prelude.{◌≡◌, ◌≢◌, ◌<◌};
 
 /// What a byte of a script can mean by itself, and with what stands behind it.
-#[derive(Clone, Copy, Debug, PartialEq, Eq, Drop)]
+#[derive(Clone, Copy, PartialEq, Eq, Drop)]
 pub enum Kind {
     /// Blank, tab, vertical tab, form feed or carriage return.
     Blank,
@@ -27,7 +27,7 @@ pub enum Kind {
 }
 
 /// Where in a script a byte stands.
-#[derive(Clone, Copy, Debug, PartialEq, Eq, Drop)]
+#[derive(Clone, Copy, PartialEq, Eq, Drop)]
 pub enum BytePlace {
     /// A command may begin.
     Start,
@@ -48,7 +48,7 @@ pub enum BytePlace {
 }
 
 /// Where a text with substitution stands.
-#[derive(Clone, Copy, Debug, PartialEq, Eq, Drop)]
+#[derive(Clone, Copy, PartialEq, Eq, Drop)]
 pub enum Mode {
     /// In a word without quotes and braces.
     Bare,
@@ -59,7 +59,7 @@ pub enum Mode {
 }
 
 /// What a `$` is, by what stands behind it.
-#[derive(Clone, Copy, Debug, PartialEq, Eq, Drop)]
+#[derive(Clone, Copy, Drop)]
 pub enum Dollar {
     /// A text: no name follows.
     Alone,
@@ -74,7 +74,7 @@ pub enum Dollar {
 }
 
 /// What is read by itself within a script, before the script goes on.
-#[derive(Clone, Copy, Debug, PartialEq, Eq, Drop)]
+#[derive(Clone, Copy, Drop)]
 pub enum Opener {
     /// A script in brackets.
     Bracket,
@@ -83,7 +83,7 @@ pub enum Opener {
 }
 
 /// How reading goes on past a byte.
-#[derive(Clone, Copy, Debug, PartialEq, Eq, Drop)]
+#[derive(Clone, Copy, Drop)]
 pub enum Step {
     /// At a place, past so many further bytes.
     On(usize, BytePlace),

@@ -9,7 +9,7 @@ ghost use Rattle.tcl_words.specs.Joining.{lines_of, CommandsAlike};
 ghost use Rattle.tcl_words.specs.declared.kind.Mode.{Mode};
 ghost use Rattle.tcl_words.specs.declared.script.Piece.{Piece};
 ghost use Rattle.tcl_words.specs.declared.script.Command.{Command};
-ghost use Rattle.tcl_words.specs.declared.fault.ParseFault.{ParseFault};
+ghost use Rattle.tcl_text.specs.declared.fault.ParseFault.{ParseFault};
 
 /// The function that reads a text's commands is the grammar, both ways.
 pub fn commands_are_read()

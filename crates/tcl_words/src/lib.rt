@@ -1,7 +1,6 @@
 //! Tcl scripts, read whole into commands, words and pieces.
 #![tactic(auto)]
 
-mod fault;
 mod kind;
 mod laws;
 mod look;
@@ -13,11 +12,11 @@ mod read;
 mod reader;
 mod script;
 
-pub use fault::ParseFault;
 pub use laws::{
     braces_are_cut, commands_are_read, faults_are_told, indices_are_read, lines_are_a_script,
     one_script_or_fault, operands_are_read, spans_are_slices,
 };
-pub use operands::{bracket_behind, quotes_behind, substitution_behind};
+pub use operands::{Found, bracket_behind, quotes_behind, substitution_behind};
 pub use parser::parse;
 pub use script::{Command, Index, Piece, Pieces, Script, Span, Word, WordForm, Words};
+pub use tcl_text::ParseFault;

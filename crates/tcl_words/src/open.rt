@@ -1,7 +1,7 @@
 ghost use Rattle.std.specs.Prelude.{◌≡◌, ◌<◌, ◌≤◌, ◌+◌, ◌-◌, [], ◌∷◌, ◌++◌, length, OnOk, IfOk, encode_utf8, false};
 ghost use Rattle.std.specs.List.{slice_range};
 ghost use Rattle.std.specs.Str.{IsCharBoundary};
-ghost use Rattle.tcl_words.specs.Parts.{with_word, with_command, with_piece, with_literal, with_braced, so_far, no_parts};
+ghost use Rattle.tcl_words.specs.Parts.{MayEnd, with_word, with_command, with_piece, with_literal, with_braced, so_far, no_parts};
 ghost use Rattle.tcl_text.specs.Limits.{most_bytes};
 
 use crate::script::{Command, Piece, Pieces, Span, Word, WordForm, Words};
@@ -150,12 +150,7 @@ impl Open {
 
     /// The text of the literal that is open.
     fn take_literal(&mut self, alloc: Global, source: &str, end: usize) -> Result<Text, AllocError>
-        requires ordered { self.old.mark ≤ end }
-        requires within { end ≤ length source.now }
-        requires short { length source.now ≤ most_bytes }
-        requires kept { length self.old.literal ≤ self.old.mark }
-        requires begins { IsCharBoundary source.now self.old.mark }
-        requires ends { IsCharBoundary source.now end }
+        requires { MayEnd self.old source.now end }
         ensures text { IfOk result (λ text. text ≡ so_far self.old source.now end) }
         ensures ok { OnOk result (self.new ≡ record self.old { literal = []; mark = end }) }
     {
@@ -171,12 +166,7 @@ impl Open {
 
     /// The literal that is open ends; it is a piece where it has bytes.
     pub fn end_literal(&mut self, alloc: Global, source: &str, end: usize) -> Result<(), AllocError>
-        requires ordered { self.old.mark ≤ end }
-        requires within { end ≤ length source.now }
-        requires short { length source.now ≤ most_bytes }
-        requires kept { length self.old.literal ≤ self.old.mark }
-        requires begins { IsCharBoundary source.now self.old.mark }
-        requires ends { IsCharBoundary source.now end }
+        requires { MayEnd self.old source.now end }
         ensures ok { OnOk result (self.new ≡ with_literal self.old source.now end) }
     {
         if self.literal.is_empty() && self.mark == end {
@@ -189,12 +179,7 @@ impl Open {
 
     /// The literal that is open ends, which is all of a word in braces.
     pub fn end_braced(&mut self, alloc: Global, source: &str, end: usize) -> Result<(), AllocError>
-        requires ordered { self.old.mark ≤ end }
-        requires within { end ≤ length source.now }
-        requires short { length source.now ≤ most_bytes }
-        requires kept { length self.old.literal ≤ self.old.mark }
-        requires begins { IsCharBoundary source.now self.old.mark }
-        requires ends { IsCharBoundary source.now end }
+        requires { MayEnd self.old source.now end }
         ensures ok { OnOk result (self.new ≡ with_braced self.old source.now end) }
     {
         let text = self.take_literal(alloc, source, end)?;

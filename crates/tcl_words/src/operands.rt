@@ -1,15 +1,14 @@
 //! What a `$`, a bracket or a quote begins in a text that is no script.
 
-ghost use Rattle.std.specs.Prelude.{◌≡◌, ◌≢◌, ◌<◌, ◌≤◌, ◌+◌, ◌⊎◌, [], length, drop, slice_index, Err, true, false, IfOk, IfErr};
+ghost use Rattle.std.specs.Prelude.{◌≡◌, ◌≢◌, ◌<◌, ◌≤◌, ◌+◌, ◌⊎◌, [], length, drop, Err, true, false, IfOk, IfErr};
 ghost use Rattle.std.specs.Str.{IsCharBoundary};
 ghost use Rattle.tcl_words.specs.Kinds.{kind_before as kind_meant};
 ghost use Rattle.tcl_words.specs.Parts.{IsCut, IsOpenerCut, StandsAt, no_parts};
 ghost use Rattle.tcl_words.specs.Reading.{first_skip};
 ghost use Rattle.tcl_words.specs.Chain.{own, opened as opened_origin, IsReading};
-ghost use Rattle.tcl_words.specs.Operands.{opened_of, bracket_of, substitution_of, quoted_of, quoted_rest, outer, IsReadAs, EndsAt, GoesOn};
+ghost use Rattle.tcl_words.specs.Operands.{opened_of, bracket_of, substitution_of, quoted_of, quoted_rest, outer, IsReadAs, EndsAt, GoesOn, MayOpen};
 ghost use Rattle.tcl_text.specs.Limits.{most_bytes, most_nested};
 
-use crate::fault::ParseFault;
 use crate::kind::{BytePlace, Dollar, Kind, Mode, Opener, Step};
 use crate::nesting::{Origin, Reader};
 use crate::open::{Open, text_of};
@@ -17,6 +16,10 @@ use crate::read::{dollar_at, look, read_text, unfinished};
 use crate::reader::{opened, piece_of};
 use crate::script::{Piece, Pieces};
 use std::alloc::Global;
+use tcl_text::ParseFault;
+
+/// What was found, and how many bytes are read with it.
+pub type Found<T> = Result<(T, usize), ParseFault>;
 
 /// How what an opener at a place opens begins, where so many may be opened in one another.
 fn opened_at(at: usize, opener: Opener, room: usize) -> Origin
@@ -53,13 +56,7 @@ fn read_inside(alloc: Global, source: &str, first: Origin) -> Result<(Open, usiz
 }
 
 /// What an opener at a place opens.
-fn read_opened(
-    alloc: Global,
-    source: &str,
-    at: usize,
-    opener: Opener,
-    room: usize,
-) -> Result<(Piece, usize), ParseFault>
+fn read_opened(alloc: Global, source: &str, at: usize, opener: Opener, room: usize) -> Found<Piece>
     requires short { length source.now ≤ most_bytes }
     requires within { at < length source.now }
     requires room { room ≤ most_nested }
@@ -78,16 +75,8 @@ fn read_opened(
 /// The script that a bracket at a place opens, where so many brackets and indices may be opened in one another, and how many bytes
 /// behind the place are read with the bracket that closes it (Tcl(n), "Command substitution"). A place counts the bytes before it.
 /// `TooLong` (4) where there is no room; else the first fault of the script (4 to 10), or `MissingBracket` (6) where it never ends.
-pub fn bracket_behind(
-    alloc: Global,
-    source: &str,
-    at: usize,
-    room: usize,
-) -> Result<(Piece, usize), ParseFault>
-    requires short { length source.now ≤ most_bytes }
-    requires within { at < length source.now }
-    requires ascii { slice_index source.now at < 128 }
-    requires room { room ≤ most_nested }
+pub fn bracket_behind(alloc: Global, source: &str, at: usize, room: usize) -> Found<Piece>
+    requires { MayOpen room source.now at }
     ensures { IsReadAs result (bracket_of room (drop (at + 1) source.now)) }
 {
     read_opened(alloc, source, at, Opener::Bracket, room)
@@ -102,10 +91,7 @@ pub fn substitution_behind(
     at: usize,
     room: usize,
 ) -> Result<Option<(Piece, usize)>, ParseFault>
-    requires short { length source.now ≤ most_bytes }
-    requires within { at < length source.now }
-    requires ascii { slice_index source.now at < 128 }
-    requires room { room ≤ most_nested }
+    requires { MayOpen room source.now at }
     ensures { IsReadAs result (substitution_of room (drop (at + 1) source.now)) }
 {
     let start = at + 1;
@@ -160,16 +146,8 @@ fn read_quoted(
 /// The pieces between a quote at a place and the next one, where so many brackets and indices may be opened in one another,
 /// and how many bytes behind the place are read with the quote that ends them (Tcl(n), "Double quotes"). The first fault of what
 /// stands in them is told (4 to 10), as `TooLong` (4) where there is no room; else `MissingQuote` (7) where no quote ends them.
-pub fn quotes_behind(
-    alloc: Global,
-    source: &str,
-    at: usize,
-    room: usize,
-) -> Result<(Pieces, usize), ParseFault>
-    requires short { length source.now ≤ most_bytes }
-    requires within { at < length source.now }
-    requires ascii { slice_index source.now at < 128 }
-    requires room { room ≤ most_nested }
+pub fn quotes_behind(alloc: Global, source: &str, at: usize, room: usize) -> Found<Pieces>
+    requires { MayOpen room source.now at }
     ensures { IsReadAs result (quoted_of room (drop (at + 1) source.now)) }
 {
     let text = &source[at + 1..];

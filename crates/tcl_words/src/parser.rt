@@ -3,11 +3,10 @@ ghost use Rattle.tcl_words.specs.Grammar.{IsScriptOf, IsScriptFault};
 ghost use Rattle.tcl_words.specs.Reading.{commands_of};
 ghost use Rattle.tcl_words.specs.declared.script.Command.{Command};
 
-use crate::fault::ParseFault;
 use crate::reader::read_all;
 use crate::script::Script;
 use std::alloc::Global;
-use tcl_text::Text;
+use tcl_text::{ParseFault, Text};
 
 /// How many bytes a script has at most, as any text.
 const MAX_BYTES: usize = 65_536;
@@ -25,7 +24,7 @@ fn read_script(alloc: Global, source: &[u8]) -> Result<Script, ParseFault>
         return Err(ParseFault::TooLong);
     };
     let commands = read_all(alloc, text)?;
-    let text = Text::new(alloc, text)?;
+    let text = Text::of_short(alloc, text)?;
     Ok(Script::new(alloc, text, commands)?)
 }
 

@@ -13,13 +13,12 @@ ghost use Rattle.tcl_words.specs.Reading.{at_end};
 ghost use Rattle.tcl_words.specs.declared.script.Piece.TheVariants.{Variable};
 ghost use Rattle.tcl_text.specs.Limits.{most_bytes};
 
-use crate::fault::ParseFault;
 use crate::kind::{BytePlace, Dollar, Kind, Mode, Opener, Step};
 use crate::look::{dollar_of, kind_before};
 use crate::open::{Open, text_of};
 use crate::script::{Piece, WordForm};
 use std::alloc::{AllocError, Global};
-use tcl_text::{Escape, Meaning, escape_behind};
+use tcl_text::{Escape, Meaning, ParseFault, escape_behind};
 
 /// What the backslash at a place stands for.
 fn escape_at(source: &str, at: usize) -> Escape

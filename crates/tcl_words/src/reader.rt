@@ -7,7 +7,6 @@ ghost use Rattle.tcl_words.specs.Parts.{IsOpenerCut, no_parts};
 ghost use Rattle.tcl_words.specs.Chain.{outset, own, opened as opened_origin, IsReading, IsOpening, IsEnding, IsParse, Goes};
 ghost use Rattle.tcl_text.specs.Limits.{most_bytes};
 
-use crate::fault::ParseFault;
 use crate::kind::{BytePlace, Mode, Opener, Step};
 use crate::nesting::{Origin, Reader, Waiting};
 use crate::open::{Open, text_of};
@@ -15,6 +14,7 @@ use crate::read::{finish, read_byte, unfinished};
 use crate::script::{Command, Index, Piece, Pieces, Script};
 use std::alloc::Global;
 use std::mem;
+use tcl_text::ParseFault;
 
 /// How many brackets and indices may stand within one another.
 const MAX_DEPTH: usize = 200;

@@ -1,10 +1,9 @@
 ghost use Rattle.std.specs.Prelude.{◌≡◌, ◌⊎◌, length, IfOk, IfErr, IsOk};
 
-use crate::fault::ParseFault;
 use std::alloc::{AllocError, Global};
 use std::marker::Model;
 use std::rc::Rc;
-use tcl_text::Text;
+use tcl_text::{ParseFault, Text};
 
 /// A stretch of the source, from its first byte up to the byte after its last. Its places count the bytes of the script that the
 /// part belongs to; in a script in brackets they count from behind the bracket.

@@ -1,4 +1,4 @@
--- The command of after(n): what it answers, and what its application has waiting then.
+-- Meaning. The command of after(n): what it answers, and what its application has waiting then.
 use Rattle.std.specs.Prelude.{ℕ, ◌+◌, min, ℤ, pos, negsuc, if◌then◌else◌, List, [], ◌∷◌, ◌++◌, map, find, Option, Some, None, Ok, Err, codes}
 use Rattle.std.specs.Fmt.{decimal}
 use Rattle.std.specs.Option.{option_map_or, option_or}

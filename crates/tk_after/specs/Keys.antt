@@ -1,4 +1,4 @@
--- The entries of all applications in the order of their keys, and what one application has among them.
+-- Steps. The entries of all applications in the order of their keys, and what one application has among them.
 use Rattle.std.specs.Prelude.{◌≡◌, ℕ, ◌^◌, ◌<◌, Bool, false, ◌==◌, List, ◌++◌, length, map, Option, Some, None, IfSome}
 use Rattle.std.specs.BTreeMap.{insert_entry, is_at}
 use Rattle.std.specs.List.{AllByRecursion}

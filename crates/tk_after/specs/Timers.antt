@@ -1,4 +1,4 @@
--- Timers and idle scripts: what one application has waiting, among those of all applications.
+-- Meaning. Timers and idle scripts: what one application has waiting, among those of all applications.
 use Rattle.std.specs.Prelude.{◌≡◌, ◌≢◌, ℕ, ◌+◌, ◌-◌, ◌^◌, ◌<◌, ◌≤◌, Bool, false, ◌||◌, ◌==◌, not, nat_le, nat_eq, if◌then◌else◌, List, [], ◌∷◌, ◌++◌, length, map, filter, find, min, All, Contains, Option, Some, None, is_none, option_and_then, IfSome}
 use Rattle.std.specs.List.{filter_map}
 use Rattle.std.specs.Map.{lookup}

@@ -11,7 +11,7 @@ use crate::answers::{name_of, no_event};
 use crate::entry::Entry;
 use crate::timers::Timers;
 use std::alloc::{AllocError, Global};
-use tcl_text::message::{Answer, bad_option, short_text, wrong_args};
+use tcl_text::message::{Answer, bad_option, limit, short_text, wrong_args};
 use tcl_text::{Text, TextCommand, TextFault};
 
 /// The most milliseconds that a timer waits, and the latest moment of a session.
@@ -209,7 +209,7 @@ fn list_text(alloc: Global, words: &[Text]) -> Result<Answer, AllocError>
 {
     match Text::join_list(alloc, words) {
         Ok(text) => Ok(Ok(text)),
-        Err(TextFault::TooLong) => Ok(Err(short_text(alloc, "limit reached: value")?)),
+        Err(TextFault::TooLong) => Ok(Err(limit(alloc)?)),
         Err(TextFault::NoMemory) => Err(AllocError),
     }
 }

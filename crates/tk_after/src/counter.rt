@@ -5,7 +5,7 @@ use std::alloc::AllocError;
 use std::collections::HashMap;
 
 /// What is counted for one application.
-#[derive(Clone, Copy, Debug, PartialEq, Eq)]
+#[derive(Clone, Copy)]
 pub struct Counter {
     /// The number that comes next. Numbers are never given again.
     pub next: u64,

@@ -7,6 +7,7 @@ ghost use Rattle.tk_virtual.specs.Virtual as virtuals_of;
 
 use crate::tag::is_live;
 use std::alloc::{AllocError, Global};
+use tcl_text::message::limit;
 use tcl_text::{Text, TextFault, TextList};
 use tk_base::Win;
 use tk_events::Event;
@@ -119,7 +120,7 @@ fn with_fields(
             let _characters = text.as_str();
             Ok(Ok(text))
         }
-        Err(TextFault::TooLong) => Ok(Err(Text::of_short(alloc, "limit reached: value")?)),
+        Err(TextFault::TooLong) => Ok(Err(limit(alloc)?)),
         Err(TextFault::NoMemory) => Err(AllocError),
     }
 }

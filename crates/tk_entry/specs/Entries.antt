@@ -1,22 +1,12 @@
 -- An entry of entry(n): its text, its cursor, and what edits make of them. Places count characters.
-use Rattle.std.specs.Prelude.{ℕ, ◌+◌, ◌-◌, min, max, Bool, false, not, ◌&&◌, ◌==◌, nat_le, nat_lt, if◌then◌else◌, List, [], ◌∷◌, ◌++◌, length, take, drop, Option, Some, None, option_map, codes}
-use Rattle.std.specs.Str.{chars, encode_utf8_all, bytes_eq}
+use Rattle.std.specs.Prelude.{ℕ, ◌+◌, ◌-◌, min, Bool, false, not, ◌&&◌, ◌==◌, nat_le, nat_lt, if◌then◌else◌, List, [], ◌∷◌, Option, Some, None, option_map, codes}
+use Rattle.std.specs.Str.{chars, bytes_eq}
+use Rattle.tcl_text.specs.Characters.{size, with_inserted, without}
 use Rattle.tcl_text.specs.Indices.{from_zero}
 use Rattle.tcl_text.specs.Readings.{integer_of}
 use Rattle.tk_entry.specs.declared.entry.Entry.{Entry}
 use Rattle.tk_entry.specs.declared.keys.Move.{Move}
 use Rattle.tk_entry.specs.declared.keys.Move.TheVariants.{Left, Right, Home, End}
-
--- how many characters a text has
-abbrev pub size : List ℕ → ℕ
-size text = length (chars text)
-
--- its first n characters, and what stands behind them
-abbrev pub front : ℕ → List ℕ → List ℕ
-front n text = encode_utf8_all (take n (chars text))
-
-abbrev pub behind : ℕ → List ℕ → List ℕ
-behind n text = encode_utf8_all (drop n (chars text))
 
 -- ---- what an entry shows
 
@@ -47,14 +37,14 @@ index_in word all cursor =
 -- `insert index text`: the text stands behind the first so many characters, and the cursor moves on where it stands there or behind
 abbrev pub inserted : ℕ → List ℕ → List ℕ → ℕ → Entry
 inserted at new text cursor = record {
-  text = front at text ++ (new ++ behind at text);
+  text = with_inserted at new text;
   cursor = if nat_le at cursor then cursor + size new else cursor;
 }
 
 -- `delete first last`: the characters from the first place on and before the last are gone, and the cursor moves back by those before it
 abbrev pub deleted : ℕ → ℕ → List ℕ → ℕ → Entry
 deleted first last text cursor = record {
-  text = front first text ++ behind (max first last) text;
+  text = without first last text;
   cursor = cursor - (min cursor last - first);
 }
 

@@ -3,7 +3,7 @@ ghost use Rattle.std.specs.Prelude.{◌≡◌};
 ghost use Rattle.std.specs.Str.{chars};
 ghost use Rattle.tk_entry.specs.Columns.{columns, characters_within};
 
-use crate::characters::split_first_char;
+use tcl_text::characters::split_first_char;
 use unicode_width::UnicodeWidthStr;
 
 /// The greatest number of characters, from the first on, whose columns, each by itself, are at most so many together.

@@ -1,12 +1,12 @@
-ghost use Rattle.std.specs.Prelude.{◌≡◌, ◌≢◌, ◌<◌, ◌≤◌, ◌++◌, [], min, max, length, IfOk, IfErr, IfSome, string_bytes};
+ghost use Rattle.std.specs.Prelude.{◌≡◌, ◌≢◌, ◌<◌, ◌≤◌, [], min, length, IfOk, IfErr, IfSome};
 ghost use Rattle.std.specs.Option.{option_copied};
-ghost use Rattle.tk_entry.specs.Entries.{size, front, behind, shown, cursor_in, index_in, inserted, deleted, edited};
+ghost use Rattle.tk_entry.specs.Entries.{shown, cursor_in, index_in, inserted, deleted, edited};
+ghost use Rattle.tcl_text.specs.Characters.{size};
 ghost use Rattle.tcl_text.specs.Limits.{most_bytes};
 
-use crate::characters::{character_count, cut_behind};
 use crate::index::index_in;
 use std::alloc::{AllocError, Global};
-use tcl_text::{Text, TextFault};
+use tcl_text::{Text, TextFault, characters};
 
 /// What an entry holds (entry(n)). Where its `-textvariable` names a variable that can be read, it shows that variable's text in place of its own;
 /// the calls take it as `variable`. An edit starts from what the entry shows and gives another entry, whose own text is what it made; the caller
@@ -43,7 +43,7 @@ impl Entry {
         ensures { result ≡ cursor_in (shown (option_copied variable.entry) self.now) self.now }
     {
         let text = self.shown(variable);
-        self.cursor.min(character_count(text.as_str()))
+        self.cursor.min(characters::count(text.as_str()))
     }
 
     /// How many characters stand before an index (`index` of entry(n)); none where the word is no index. It takes no memory.
@@ -52,7 +52,7 @@ impl Entry {
             (cursor_in (shown (option_copied variable.entry) self.now) self.now) }
         ensures bound { IfSome result (λ at. at ≤ most_bytes) }
     {
-        let size = character_count(self.shown(variable).as_str());
+        let size = characters::count(self.shown(variable).as_str());
         index_in(word, size, self.cursor.min(size))
     }
 
@@ -110,15 +110,14 @@ fn with_inserted(
     ensures too_long { IfErr result (λ fault. fault ≢ TextFault.NoMemory
         → most_bytes < length (inserted at new.now text.now (min cursor (size text.now))).text) }
 {
-    let cursor = cursor.min(character_count(text.as_str()));
-    let (before, after) = cut_behind(text.as_str(), at);
+    let cursor = cursor.min(characters::count(text.as_str()));
     let passed = if at <= cursor {
-        character_count(new.as_str())
+        characters::count(new.as_str())
     } else {
         0
     };
     Ok(Entry {
-        text: joined(alloc, before, new.as_str(), after)?,
+        text: text.with_inserted(alloc, at, new.as_str())?,
         cursor: cursor + passed,
     })
 }
@@ -136,27 +135,11 @@ fn without(
     ensures too_long { IfErr result (λ fault. fault ≢ TextFault.NoMemory
         → most_bytes < length (deleted first last text.now (min cursor (size text.now))).text) }
 {
-    let cursor = cursor.min(character_count(text.as_str()));
-    let (before, _) = cut_behind(text.as_str(), first);
-    let (_, after) = cut_behind(text.as_str(), first.max(last));
+    let cursor = cursor.min(characters::count(text.as_str()));
     Ok(Entry {
-        text: joined(alloc, before, "", after)?,
+        text: text.without(alloc, first, last)?,
         cursor: cursor - cursor.min(last).saturating_sub(first),
     })
-}
-
-/// Texts one behind the other.
-fn joined(alloc: Global, before: &str, between: &str, after: &str) -> Result<Text, TextFault>
-    ensures ok { IfOk result (λ text. text ≡ before.now ++ (between.now ++ after.now)) }
-    ensures short { IfOk result (λ text. length text ≤ most_bytes) }
-    ensures too_long { IfErr result (λ fault. fault ≢ TextFault.NoMemory → most_bytes < length (before.now ++ (between.now ++ after.now))) }
-{
-    let mut string = String::from_str(alloc, before)?;
-    string.push_str(between)?;
-    string.push_str(after)?;
-    let text = Text::new(alloc, string.as_str())?;
-    let _characters = text.as_str();
-    Ok(text)
 }
 
 /// By hand: a proof sees one call where it is dropped, and not its parts.

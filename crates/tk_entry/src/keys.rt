@@ -3,13 +3,14 @@ ghost use Rattle.std.specs.Prelude.{◌≡◌, ◌≢◌, ◌<◌, ◌≤◌, le
 ghost use Rattle.std.specs.Option.{option_copied};
 ghost use Rattle.std.specs.Str.{chars};
 ghost use Rattle.tk_entry.specs.Columns.{characters_within};
-ghost use Rattle.tk_entry.specs.Entries.{size, shown, is_typed, by_text, by_backspace, by_delete, moved, move_named};
+ghost use Rattle.tk_entry.specs.Entries.{shown, is_typed, by_text, by_backspace, by_delete, moved, move_named};
+ghost use Rattle.tcl_text.specs.Characters.{size};
 ghost use Rattle.tcl_text.specs.Limits.{most_bytes};
 
-use crate::characters::{character_count, split_first_char};
 use crate::columns::characters_within;
 use crate::entry::Entry;
 use std::alloc::Global;
+use tcl_text::characters::{self, split_first_char};
 use tcl_text::{Text, TextFault};
 
 /// How the cursor goes by keys.
@@ -129,7 +130,7 @@ impl Entry {
     fn size(&self, variable: Option<&Text>) -> usize
         ensures { result ≡ size (shown (option_copied variable.entry) self.now) }
     {
-        character_count(self.shown(variable).as_str())
+        characters::count(self.shown(variable).as_str())
     }
 }
 

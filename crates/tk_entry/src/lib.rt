@@ -1,7 +1,6 @@
 //! The text and the insertion cursor of an entry (entry(n)), by characters.
 #![tactic(auto)]
 
-mod characters;
 mod columns;
 mod entry;
 mod index;

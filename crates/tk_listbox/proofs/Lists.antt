@@ -4,8 +4,8 @@ use Rattle.std.proofs.lemmas.Bool.Decides.{nat_tests}
 use Rattle.tcl_text.specs.Edit.{with_more, within_limit, written_anew}
 use Rattle.tcl_text.specs.ListForm.{others_form}
 use Rattle.tcl_text.specs.Readings.{element_form, list_form, list_of}
-use Rattle.tcl_text.specs.declared.edit.EditFault.{EditFault}
-use Rattle.tcl_text.specs.declared.edit.EditFault.TheVariants.{TooLong}
+use Rattle.tcl_text.specs.declared.fault.EditFault.{EditFault}
+use Rattle.tcl_text.specs.declared.fault.EditFault.TheVariants.{TooLong}
 use Rattle.tcl_text.proofs.EditLemmas.{within, beyond}
 use Rattle.tcl_text.proofs.ListFormLemmas.{list_form-cons}
 use Rattle.tcl_text.proofs.RoundTrip.{list_of-list_form}

@@ -3,7 +3,7 @@ use Rattle.std.specs.Prelude.{ℕ, if◌then◌else◌, List, [], ◌∷◌, Opt
 use Rattle.std.specs.Option.{option_and_then}
 use Rattle.std.specs.Str.{bytes_eq}
 use Rattle.tcl_text.specs.Readings.{list_of}
-use Rattle.tcl_text.specs.declared.splitting.ListFault.{ListFault}
+use Rattle.tcl_text.specs.declared.fault.ListFault.{ListFault}
 use Rattle.tk_options.specs.Forms.{amount_in}
 use Rattle.tk_parcels.specs.declared.request.Side.{Side}
 use Rattle.tk_parcels.specs.declared.request.Side.TheVariants.{Top, Bottom, Left, Right}

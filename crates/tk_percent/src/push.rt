@@ -11,20 +11,12 @@ use tcl_text::message::short_text;
 use tcl_text::{Text, TextFault};
 use tk_keys::Keysym;
 
-/// A text as an element of a list.
-fn element_of(alloc: Global, item: &Text) -> Result<Text, TextFault>
-    ensures ok { IfOk result (λ text. text ≡ element item.now) }
-    ensures too_long { IfErr result (λ fault. fault ≢ TextFault.NoMemory → most_bytes < length (element item.now)) }
-{
-    Text::join_list(alloc, &[item.copy()?])
-}
-
 /// Adds a text as an element of a list.
 pub fn push_element(alloc: Global, text: &mut Text, item: &Text) -> Result<(), TextFault>
     ensures ok { OnOk result (text.new ≡ text.old ++ element item.now) }
     ensures too_long { IfErr result (λ fault. fault ≢ TextFault.NoMemory → most_bytes < length (text.old ++ element item.now)) }
 {
-    match element_of(alloc, item) {
+    match item.list_element(alloc) {
         Ok(element) => text.push_str(alloc, element.as_str()),
         Err(fault) => Err(fault),
     }

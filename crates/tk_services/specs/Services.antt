@@ -5,7 +5,7 @@ use Rattle.std.specs.List.{join_with_byte}
 use Rattle.std.specs.Str.{bytes_eq, str_to_ascii_uppercase}
 use Rattle.tcl_text.specs.Answers.{◌>>=◌, Answer, answers, fails, integer_in, quoted}
 use Rattle.tcl_text.specs.Readings.{list_of}
-use Rattle.tcl_text.specs.declared.splitting.ListFault.{ListFault}
+use Rattle.tcl_text.specs.declared.fault.ListFault.{ListFault}
 use Rattle.tk_services.specs.declared.service.Service.{Service}
 use Rattle.tk_services.specs.declared.service.ServiceKind.{ServiceKind}
 use Rattle.tk_services.specs.declared.service.ServiceKind.TheVariants.{Const, Upper, Table, Sum, Fail}

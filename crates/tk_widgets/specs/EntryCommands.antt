@@ -4,7 +4,8 @@ use Rattle.std.specs.Fmt.{decimal}
 use Rattle.std.specs.Str.{bytes_eq}
 use Rattle.tcl_text.specs.Answers.{◌>>=◌, answers, bad_index, bad_option, wrong_args}
 use Rattle.tk_entry.specs.declared.entry.Entry.{Entry}
-use Rattle.tk_entry.specs.Entries.{size, shown, cursor_in, index_in, inserted, deleted, edited, by_text, by_backspace, by_delete}
+use Rattle.tcl_text.specs.Characters.{size}
+use Rattle.tk_entry.specs.Entries.{shown, cursor_in, index_in, inserted, deleted, edited, by_text, by_backspace, by_delete}
 use Rattle.tk_options.specs.declared.option.OptionName.TheVariants.{State}
 use Rattle.tk_widgets.specs.declared.outcome.Change.TheVariants.{PutCursor}
 use Rattle.tk_widgets.specs.declared.widget.EntryWidget.{EntryWidget}

@@ -62,7 +62,8 @@ impl Widget {
         alloc: Global,
         all: &Settings,
     ) -> Result<Option<VariableWrite>, AllocError>
-        ensures { IfOk result (λ wanted. wanted ≡ spec.write (spec.own_text_after all.now self.now) true (spec.linked (last_setting OptionName.TextVariable all.now))) }
+        ensures { IfOk result (λ wanted. wanted ≡ spec.write (spec.own_text_after all.now self.now) true
+            (spec.linked (last_setting OptionName.TextVariable all.now))) }
     {
         let Some(name) = all.value(OptionName::TextVariable) else {
             return Ok(None);

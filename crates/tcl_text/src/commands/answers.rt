@@ -2,11 +2,16 @@
 ghost use Rattle.std.specs.Prelude.{◌≡◌, ◌++◌, string_bytes};
 ghost use Rattle.std.specs.Fmt.{decimal};
 ghost use Rattle.tcl_text.specs.Answers.{Gives, Refuses, answers, bounded, truth as truth_of, place as place_of, limit_text, quoted, wrong_args as wrong_args_of, bad_option as bad_option_of, bad_index as bad_index_of, expected_integer};
+ghost use Rattle.tcl_text.specs.declared.commands.answers.Refusal.TheVariants as refusal;
 
-use crate::message::{quoting, with_quoted};
-use crate::text::{Text, TextFault};
+use crate::fault::TextFault;
+use crate::message::{limit, quoting, with_quoted};
+use crate::text::Text;
 use itoa::Buffer;
 use std::alloc::{AllocError, AllocFailed, Global};
+
+/// What a step of a command answers, or why it gave nothing.
+pub type Step = Result<Text, Refusal>;
 
 /// Why a step of a command gave nothing.
 #[derive(Drop)]
@@ -18,10 +23,7 @@ pub enum Refusal {
 }
 
 impl From<AllocError> for Refusal {
-    ghost use Rattle.std.specs.Prelude.{◌≡◌};
-    ghost use Rattle.tcl_text.specs.declared.commands.answers.Refusal.TheVariants.{NoMemory};
-
-    ghost from_gives = { λ _ e. e ≡ NoMemory };
+    ghost from_gives = { λ _ e. e ≡ refusal.NoMemory };
 
     fn from(_refused: AllocError) -> Refusal {
         Refusal::NoMemory
@@ -29,10 +31,7 @@ impl From<AllocError> for Refusal {
 }
 
 impl<T: Drop> From<AllocFailed<T>> for Refusal {
-    ghost use Rattle.std.specs.Prelude.{◌≡◌};
-    ghost use Rattle.tcl_text.specs.declared.commands.answers.Refusal.TheVariants.{NoMemory};
-
-    ghost from_gives = { λ _ e. e ≡ NoMemory };
+    ghost from_gives = { λ _ e. e ≡ refusal.NoMemory };
 
     fn from(_refused: AllocFailed<T>) -> Refusal {
         Refusal::NoMemory
@@ -41,7 +40,7 @@ impl<T: Drop> From<AllocFailed<T>> for Refusal {
 
 /// An answer of these characters, or the error of a value past 65,536 bytes (4).
 #[tactic(auto, using(crate::proofs::AnswerLemmas::bounds))]
-pub fn text_answer(alloc: Global, characters: &str) -> Result<Text, Refusal>
+pub fn text_answer(alloc: Global, characters: &str) -> Step
     ensures { Gives result (answers characters.now) }
 {
     match Text::new(alloc, characters) {
@@ -53,7 +52,7 @@ pub fn text_answer(alloc: Global, characters: &str) -> Result<Text, Refusal>
 
 /// An answer of the characters of a string, which it takes over, or the error of a value past 65,536 bytes (4).
 #[tactic(auto, using(crate::proofs::AnswerLemmas::bounds))]
-pub fn string_answer(alloc: Global, string: String) -> Result<Text, Refusal>
+pub fn string_answer(alloc: Global, string: String) -> Step
     ensures { Gives result (answers (string_bytes string)) }
 {
     match Text::from_string(alloc, string) {
@@ -65,7 +64,7 @@ pub fn string_answer(alloc: Global, string: String) -> Result<Text, Refusal>
 
 /// A text as it is.
 #[tactic(auto, using(crate::proofs::AnswerLemmas::bounds))]
-pub fn copy_answer(text: &Text) -> Result<Text, Refusal>
+pub fn copy_answer(text: &Text) -> Step
     ensures { Gives result (answers text.now) }
 {
     let _characters = text.as_str();
@@ -74,7 +73,7 @@ pub fn copy_answer(text: &Text) -> Result<Text, Refusal>
 
 /// A text that is given away, as it is.
 #[tactic(auto, using(crate::proofs::AnswerLemmas::bounds))]
-pub fn own_answer(text: Text) -> Result<Text, Refusal>
+pub fn own_answer(text: Text) -> Step
     ensures { Gives result (answers text) }
 {
     let _characters = text.as_str();
@@ -82,7 +81,7 @@ pub fn own_answer(text: Text) -> Result<Text, Refusal>
 }
 
 /// A number in decimal.
-pub fn decimal_answer(alloc: Global, number: usize) -> Result<Text, Refusal>
+pub fn decimal_answer(alloc: Global, number: usize) -> Step
     ensures { Gives result (answers (decimal number)) }
 {
     let mut buffer = Buffer::new();
@@ -90,7 +89,7 @@ pub fn decimal_answer(alloc: Global, number: usize) -> Result<Text, Refusal>
 }
 
 /// A place, counted from 0, in decimal, or -1 where there is none, as lsearch(n) answers.
-pub fn place_answer(alloc: Global, place: Option<usize>) -> Result<Text, Refusal>
+pub fn place_answer(alloc: Global, place: Option<usize>) -> Step
     ensures { Gives result (place_of place) }
 {
     match place {
@@ -100,7 +99,7 @@ pub fn place_answer(alloc: Global, place: Option<usize>) -> Result<Text, Refusal
 }
 
 /// The answer 1 or 0.
-pub fn truth_answer(alloc: Global, truth: bool) -> Result<Text, Refusal>
+pub fn truth_answer(alloc: Global, truth: bool) -> Step
     ensures { Gives result (truth_of truth) }
 {
     text_answer(alloc, if truth { "1" } else { "0" })
@@ -110,9 +109,9 @@ pub fn truth_answer(alloc: Global, truth: bool) -> Result<Text, Refusal>
 pub fn limit_reached(alloc: Global) -> Refusal
     ensures { Refuses result limit_text }
 {
-    match Text::new(alloc, "limit reached: value") {
+    match limit(alloc) {
         Ok(text) => Refusal::Error(text),
-        Err(_) => Refusal::NoMemory,
+        Err(AllocError) => Refusal::NoMemory,
     }
 }
 

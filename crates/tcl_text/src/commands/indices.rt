@@ -10,7 +10,7 @@ use crate::white_space::is_white;
 use std::alloc::Global;
 
 /// A place in a row of items.
-#[derive(Clone, Copy, Debug, PartialEq, Eq)]
+#[derive(Clone, Copy)]
 pub enum Index {
     /// So many items behind the first.
     FromStart(i64),

@@ -2,7 +2,7 @@
 ghost use Rattle.tcl_text.specs.Answers.{Gives, integer_in};
 
 use crate::commands::answers::{Refusal, not_integer};
-use crate::integer::NotInteger;
+use crate::fault::NotInteger;
 use crate::text::Text;
 use std::alloc::Global;
 

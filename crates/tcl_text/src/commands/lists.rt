@@ -8,24 +8,25 @@ ghost use Rattle.tcl_text.specs.ListCommands as spec;
 ghost use Rattle.tcl_text.specs.ListSteps.{behind};
 
 use crate::commands::answers::{
-    Refusal, bad_option, copy_answer, decimal_answer, limit_reached, own_answer, place_answer,
-    string_answer, text_answer, wrong_args,
+    Refusal, Step, bad_option, copy_answer, decimal_answer, limit_reached, own_answer,
+    place_answer, string_answer, text_answer, wrong_args,
 };
 use crate::commands::indices::{Index, index_in};
 use crate::commands::items::{items_in, list_answer};
+use crate::fault::TextFault;
 use crate::list_string::ListString;
-use crate::text::{Text, TextFault};
+use crate::text::Text;
 use std::alloc::{AllocError, Global};
 
 /// `list ?value ..?`: the list of the words.
-pub fn list_words(alloc: Global, words: &[Text]) -> Result<Text, Refusal>
+pub fn list_words(alloc: Global, words: &[Text]) -> Step
     ensures { Gives result (spec.list_words words.now) }
 {
     list_answer(alloc, words)
 }
 
 /// `llength list`: how many items the list has.
-pub fn llength_words(alloc: Global, words: &[Text]) -> Result<Text, Refusal>
+pub fn llength_words(alloc: Global, words: &[Text]) -> Step
     ensures { Gives result (spec.llength_words words.now) }
 {
     match words {
@@ -50,7 +51,7 @@ fn item_count(alloc: Global, list: &Text) -> Result<usize, Refusal>
 
 /// `lindex list ?index?`: the item at the index, or the empty text where there is none. Without an
 /// index it is the word itself, which need not be a list.
-pub fn lindex_words(alloc: Global, words: &[Text]) -> Result<Text, Refusal>
+pub fn lindex_words(alloc: Global, words: &[Text]) -> Step
     ensures { Gives result (spec.lindex_words words.now) }
 {
     match words {
@@ -61,7 +62,7 @@ pub fn lindex_words(alloc: Global, words: &[Text]) -> Result<Text, Refusal>
 }
 
 /// The item at an index of the list that a word is.
-fn item_of_word(alloc: Global, list: &Text, index: &Text) -> Result<Text, Refusal>
+fn item_of_word(alloc: Global, list: &Text, index: &Text) -> Step
     ensures { Gives result (spec.of_items (spec.item_at index.now) list.now) }
 {
     if let Some(kept) = list.as_list(alloc) {
@@ -71,7 +72,7 @@ fn item_of_word(alloc: Global, list: &Text, index: &Text) -> Result<Text, Refusa
     item_of_items(alloc, items.as_slice(), index)
 }
 
-fn item_of_kept(alloc: Global, list: &ListString, index: &Text) -> Result<Text, Refusal>
+fn item_of_kept(alloc: Global, list: &ListString, index: &Text) -> Step
     ensures { Gives result (spec.item_at index.now list.now) }
 {
     let index = index_in(alloc, index)?;
@@ -79,7 +80,7 @@ fn item_of_kept(alloc: Global, list: &ListString, index: &Text) -> Result<Text, 
 }
 
 /// The item of a kept list at an index, or the empty text where there is none.
-fn kept_item_answer(alloc: Global, list: &ListString, index: Index) -> Result<Text, Refusal>
+fn kept_item_answer(alloc: Global, list: &ListString, index: Index) -> Step
     ensures { Gives result (answers (spec.item_or_empty (part index index list.now))) }
 {
     let count = list.len();
@@ -93,7 +94,7 @@ fn kept_item_answer(alloc: Global, list: &ListString, index: Index) -> Result<Te
     }
 }
 
-fn item_of_items(alloc: Global, items: &[Text], index: &Text) -> Result<Text, Refusal>
+fn item_of_items(alloc: Global, items: &[Text], index: &Text) -> Step
     ensures { Gives result (spec.item_at index.now items.now) }
 {
     let index = index_in(alloc, index)?;
@@ -113,7 +114,7 @@ fn items_between(items: &[Text], first: Index, last: Index) -> &[Text]
 }
 
 /// `lrange list first last`: the items from one index to another, as a list.
-pub fn lrange_words(alloc: Global, words: &[Text]) -> Result<Text, Refusal>
+pub fn lrange_words(alloc: Global, words: &[Text]) -> Step
     ensures { Gives result (spec.lrange_words words.now) }
 {
     match words {
@@ -123,7 +124,7 @@ pub fn lrange_words(alloc: Global, words: &[Text]) -> Result<Text, Refusal>
 }
 
 /// The list of the items from one index to another of the list that a word is.
-fn range_of_word(alloc: Global, list: &Text, first: &Text, last: &Text) -> Result<Text, Refusal>
+fn range_of_word(alloc: Global, list: &Text, first: &Text, last: &Text) -> Step
     ensures { Gives result (spec.of_items (spec.range_of first.now last.now) list.now) }
 {
     if let Some(kept) = list.as_list(alloc) {
@@ -133,12 +134,7 @@ fn range_of_word(alloc: Global, list: &Text, first: &Text, last: &Text) -> Resul
     range_of_items(alloc, items.as_slice(), first, last)
 }
 
-fn range_of_kept(
-    alloc: Global,
-    list: &ListString,
-    first: &Text,
-    last: &Text,
-) -> Result<Text, Refusal>
+fn range_of_kept(alloc: Global, list: &ListString, first: &Text, last: &Text) -> Step
     ensures { Gives result (spec.range_of first.now last.now list.now) }
 {
     let first = index_in(alloc, first)?;
@@ -147,12 +143,7 @@ fn range_of_kept(
 }
 
 /// The list of the items of a kept list from one index to another.
-fn kept_range_answer(
-    alloc: Global,
-    list: &ListString,
-    first: Index,
-    last: Index,
-) -> Result<Text, Refusal>
+fn kept_range_answer(alloc: Global, list: &ListString, first: Index, last: Index) -> Step
     ensures { Gives result (answers (list_form (part first last list.now))) }
 {
     let count = list.len();
@@ -163,7 +154,7 @@ fn kept_range_answer(
     kept_answer(alloc, part)
 }
 
-fn range_of_items(alloc: Global, items: &[Text], first: &Text, last: &Text) -> Result<Text, Refusal>
+fn range_of_items(alloc: Global, items: &[Text], first: &Text, last: &Text) -> Step
     ensures { Gives result (spec.range_of first.now last.now items.now) }
 {
     let first = index_in(alloc, first)?;
@@ -173,7 +164,7 @@ fn range_of_items(alloc: Global, items: &[Text], first: &Text, last: &Text) -> R
 
 /// A list that is kept, as an answer.
 #[tactic(auto, using(crate::proofs::AnswerLemmas::bounds))]
-fn kept_answer(alloc: Global, list: ListString) -> Result<Text, Refusal>
+fn kept_answer(alloc: Global, list: ListString) -> Step
     ensures { Gives result (answers (list_form list)) }
 {
     Ok(Text::of_list(alloc, list)?)
@@ -181,7 +172,7 @@ fn kept_answer(alloc: Global, list: ListString) -> Result<Text, Refusal>
 
 /// `linsert list index ?value ..?`: the list with the values put in before the item at the index;
 /// `end` puts them behind the last.
-pub fn linsert_words(alloc: Global, words: &[Text]) -> Result<Text, Refusal>
+pub fn linsert_words(alloc: Global, words: &[Text]) -> Step
     ensures { Gives result (spec.linsert_words words.now) }
 {
     match words {
@@ -191,12 +182,7 @@ pub fn linsert_words(alloc: Global, words: &[Text]) -> Result<Text, Refusal>
 }
 
 /// The list that a word is, with values put in before an index.
-fn insert_into_word(
-    alloc: Global,
-    list: &Text,
-    index: &Text,
-    values: &[Text],
-) -> Result<Text, Refusal>
+fn insert_into_word(alloc: Global, list: &Text, index: &Text, values: &[Text]) -> Step
     ensures { Gives result (spec.of_items (spec.inserted index.now values.now) list.now) }
 {
     if let Some(kept) = list.as_list(alloc) {
@@ -206,12 +192,7 @@ fn insert_into_word(
     insert_into_items(alloc, items.as_slice(), index, values)
 }
 
-fn insert_into_kept(
-    alloc: Global,
-    list: &ListString,
-    index: &Text,
-    values: &[Text],
-) -> Result<Text, Refusal>
+fn insert_into_kept(alloc: Global, list: &ListString, index: &Text, values: &[Text]) -> Step
     ensures { Gives result (spec.inserted index.now values.now list.now) }
 {
     let index = index_in(alloc, index)?;
@@ -219,12 +200,7 @@ fn insert_into_kept(
     splice_of_kept(alloc, list, place, place, values)
 }
 
-fn insert_into_items(
-    alloc: Global,
-    items: &[Text],
-    index: &Text,
-    values: &[Text],
-) -> Result<Text, Refusal>
+fn insert_into_items(alloc: Global, items: &[Text], index: &Text, values: &[Text]) -> Step
     ensures { Gives result (spec.inserted index.now values.now items.now) }
 {
     let index = index_in(alloc, index)?;
@@ -234,7 +210,7 @@ fn insert_into_items(
 
 /// `lreplace list first last ?value ..?`: the list with the values in place of the items from one
 /// index to another; with the last before the first they go before the first.
-pub fn lreplace_words(alloc: Global, words: &[Text]) -> Result<Text, Refusal>
+pub fn lreplace_words(alloc: Global, words: &[Text]) -> Step
     ensures { Gives result (spec.lreplace_words words.now) }
 {
     match words {
@@ -244,63 +220,41 @@ pub fn lreplace_words(alloc: Global, words: &[Text]) -> Result<Text, Refusal>
 }
 
 /// The list that a word is, with values in place of the items from one index to another.
-fn replace_in_word(
-    alloc: Global,
-    list: &Text,
-    first: &Text,
-    last: &Text,
-    values: &[Text],
-) -> Result<Text, Refusal>
+fn replace_in_word(alloc: Global, list: &Text, first: &Text, last: &Text, values: &[Text]) -> Step
     ensures { Gives result (spec.of_items (spec.replaced first.now last.now values.now) list.now) }
 {
     if let Some(kept) = list.as_list(alloc) {
-        return replace_in_kept(alloc, kept, first, last, values);
+        return replace_kept(alloc, kept, first, last, values);
     }
     let items = items_in(alloc, list)?;
-    replace_in_items(alloc, items.as_slice(), first, last, values)
+    replace_items(alloc, items.as_slice(), first, last, values)
 }
 
-fn replace_in_kept(
+fn replace_kept(
     alloc: Global,
     list: &ListString,
     first: &Text,
     last: &Text,
     values: &[Text],
-) -> Result<Text, Refusal>
+) -> Step
     ensures { Gives result (spec.replaced first.now last.now values.now list.now) }
 {
-    let first = index_in(alloc, first)?;
-    let last = index_in(alloc, last)?;
-    let from = first.before(list.len());
-    let to = from.max(last.through(list.len()));
+    let from = index_in(alloc, first)?.before(list.len());
+    let to = from.max(index_in(alloc, last)?.through(list.len()));
     splice_of_kept(alloc, list, from, to, values)
 }
 
-fn replace_in_items(
-    alloc: Global,
-    items: &[Text],
-    first: &Text,
-    last: &Text,
-    values: &[Text],
-) -> Result<Text, Refusal>
+fn replace_items(alloc: Global, items: &[Text], first: &Text, last: &Text, values: &[Text]) -> Step
     ensures { Gives result (spec.replaced first.now last.now values.now items.now) }
 {
-    let first = index_in(alloc, first)?;
-    let last = index_in(alloc, last)?;
-    let from = first.before(items.len());
-    let to = from.max(last.through(items.len()));
+    let from = index_in(alloc, first)?.before(items.len());
+    let to = from.max(index_in(alloc, last)?.through(items.len()));
     splice_answer(alloc, items, from, to, values)
 }
 
 /// The list with the values in place of the items between two places.
 #[tactic(auto, using(crate::proofs::AnswerLemmas::bounds))]
-fn splice_of_kept(
-    alloc: Global,
-    list: &ListString,
-    from: usize,
-    to: usize,
-    values: &[Text],
-) -> Result<Text, Refusal>
+fn splice_of_kept(alloc: Global, list: &ListString, from: usize, to: usize, values: &[Text]) -> Step
     requires in_order { from ≤ to }
     requires within { to ≤ length list.now }
     ensures { Gives result (answers (list_form (spec.spliced list.now from to values.now))) }
@@ -313,13 +267,7 @@ fn splice_of_kept(
 }
 
 /// The list of the items with the values in place of those between two places.
-fn splice_answer(
-    alloc: Global,
-    items: &[Text],
-    from: usize,
-    to: usize,
-    values: &[Text],
-) -> Result<Text, Refusal>
+fn splice_answer(alloc: Global, items: &[Text], from: usize, to: usize, values: &[Text]) -> Step
     requires in_order { from ≤ to }
     requires within { to ≤ length items.now }
     ensures { Gives result (answers (list_form (spec.spliced items.now from to values.now))) }
@@ -342,7 +290,7 @@ fn push_copies(list: &mut Vec<Text>, texts: &[Text]) -> Result<(), AllocError>
 }
 
 /// `lsearch ?-exact|-glob? list pattern`: the place of the first item that matches, or -1.
-pub fn lsearch_words(alloc: Global, words: &[Text]) -> Result<Text, Refusal>
+pub fn lsearch_words(alloc: Global, words: &[Text]) -> Step
     ensures { Gives result (spec.lsearch_words words.now) }
 {
     match words {
@@ -354,7 +302,7 @@ pub fn lsearch_words(alloc: Global, words: &[Text]) -> Result<Text, Refusal>
 
 /// The place of the first item that matches in the way that the option names.
 #[tactic(auto, unfolding(crate::specs::ListCommands::search_by))]
-fn search_by(alloc: Global, option: &Text, list: &Text, pattern: &Text) -> Result<Text, Refusal>
+fn search_by(alloc: Global, option: &Text, list: &Text, pattern: &Text) -> Step
     ensures { Gives result (spec.search_by option.now pattern.now list.now) }
 {
     match option.as_str() {
@@ -364,14 +312,14 @@ fn search_by(alloc: Global, option: &Text, list: &Text, pattern: &Text) -> Resul
     }
 }
 
-fn search_exact(alloc: Global, list: &Text, pattern: &Text) -> Result<Text, Refusal>
+fn search_exact(alloc: Global, list: &Text, pattern: &Text) -> Step
     ensures { Gives result (spec.search_in (spec.is_exactly pattern.now) list.now) }
 {
     let items = items_in(alloc, list)?;
     place_answer(alloc, place_of_equal(items.as_slice(), pattern))
 }
 
-fn search_glob(alloc: Global, list: &Text, pattern: &Text) -> Result<Text, Refusal>
+fn search_glob(alloc: Global, list: &Text, pattern: &Text) -> Step
     ensures { Gives result (spec.search_in (spec.is_like pattern.now) list.now) }
 {
     let items = items_in(alloc, list)?;
@@ -395,7 +343,7 @@ fn place_of_match(items: &[Text], pattern: &Text) -> Option<usize>
 }
 
 /// `join list ?text?`: the items with the text, or a blank, between each two.
-pub fn join_words(alloc: Global, words: &[Text]) -> Result<Text, Refusal>
+pub fn join_words(alloc: Global, words: &[Text]) -> Step
     ensures { Gives result (spec.join_words words.now) }
 {
     match words {
@@ -405,7 +353,7 @@ pub fn join_words(alloc: Global, words: &[Text]) -> Result<Text, Refusal>
     }
 }
 
-fn join_list_by(alloc: Global, list: &Text, between: &str) -> Result<Text, Refusal>
+fn join_list_by(alloc: Global, list: &Text, between: &str) -> Step
     ensures { Gives result (spec.join_list_by list.now between.now) }
 {
     let items = items_in(alloc, list)?;

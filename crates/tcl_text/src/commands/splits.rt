@@ -1,15 +1,15 @@
 //! The command of split(n).
-ghost use Rattle.std.specs.Prelude.{◌≡◌, ◌≤◌, ◌<◌, ◌++◌, ◌∷◌, [], length, map, option_map, IfOk, IfSome, OnOk};
+ghost use Rattle.std.specs.Prelude.{◌≡◌, ◌≤◌, ◌<◌, ◌++◌, ◌∷◌, [], length, IfOk, IfSome, OnOk};
 ghost use Rattle.std.specs.Option.{option_copied};
 ghost use Rattle.std.specs.Str.{chars, encode_utf8_all};
 ghost use Rattle.memchr.specs.Find.{IsFirstByte, is_byte};
 ghost use Rattle.tcl_text.specs.Answers.{Gives};
 ghost use Rattle.tcl_text.specs.ListCommands as spec;
-ghost use Rattle.tcl_text.specs.ListSteps.{cut_once};
+ghost use Rattle.tcl_text.specs.ListSteps.{CutsOnce};
 ghost use Rattle.tcl_text.specs.Limits.{most_bytes};
 
 use crate::characters::split_first_char;
-use crate::commands::answers::{Refusal, wrong_args};
+use crate::commands::answers::{Step, wrong_args};
 use crate::commands::items::list_answer;
 use crate::text::Text;
 use memchr::memchr;
@@ -17,7 +17,7 @@ use std::alloc::{AllocError, Global};
 
 /// `split text ?chars?`: the parts of the text between the characters, or between white space; with
 /// no characters at all, each character of the text.
-pub fn split_words(alloc: Global, words: &[Text]) -> Result<Text, Refusal>
+pub fn split_words(alloc: Global, words: &[Text]) -> Step
     ensures { Gives result (spec.split_words words.now) }
 {
     match words {
@@ -27,14 +27,14 @@ pub fn split_words(alloc: Global, words: &[Text]) -> Result<Text, Refusal>
     }
 }
 
-fn split_at_white(alloc: Global, text: &str) -> Result<Text, Refusal>
+fn split_at_white(alloc: Global, text: &str) -> Step
     requires { length text.now ≤ most_bytes }
     ensures { Gives result (spec.split_text text.now spec.white_characters) }
 {
     split_text(alloc, text, " \t\n\u{b}\u{c}\r")
 }
 
-fn split_text(alloc: Global, text: &str, separators: &str) -> Result<Text, Refusal>
+fn split_text(alloc: Global, text: &str, separators: &str) -> Step
     requires { length text.now ≤ most_bytes }
     ensures { Gives result (spec.split_text text.now (chars separators.now)) }
 {
@@ -83,9 +83,7 @@ fn pieces_of(alloc: Global, text: &str, separators: &str) -> Result<Vec<Text>, A
 
 /// The text up to its first separator, and what follows that, if it has one.
 fn cut_piece<'t>(text: &'t str, separators: &str) -> (&'t str, Option<&'t str>)
-    ensures cut { spec.cut_at (spec.is_one_of (chars separators.now)) (chars text.now)
-        ≡ cut_once (spec.is_one_of (chars separators.now)) (chars result.0.now)
-        (option_map chars (option_copied result.1)) }
+    ensures cut { CutsOnce (spec.is_one_of (chars separators.now)) text.now result.0.now (option_copied result.1) }
     ensures short { length result.0.now ≤ length text.now }
     ensures shorter { IfSome result.1 (λ rest. length rest.now < length text.now) }
 {
@@ -100,9 +98,7 @@ fn cut_piece<'t>(text: &'t str, separators: &str) -> (&'t str, Option<&'t str>)
 /// The same for one separator that is a byte.
 fn cut_at_byte(text: &str, separator: u8) -> (&str, Option<&str>)
     requires { separator < 128 }
-    ensures cut { spec.cut_at (spec.is_one_of (separator ∷ [])) (chars text.now)
-        ≡ cut_once (spec.is_one_of (separator ∷ [])) (chars result.0.now)
-        (option_map chars (option_copied result.1)) }
+    ensures cut { CutsOnce (spec.is_one_of (separator ∷ [])) text.now result.0.now (option_copied result.1) }
     ensures short { length result.0.now ≤ length text.now }
     ensures shorter { IfSome result.1 (λ rest. length rest.now < length text.now) }
 {
@@ -121,9 +117,7 @@ fn find_byte(text: &str, byte: u8) -> Option<usize>
 
 /// The same for any separators, by the characters one after another.
 fn cut_at_character<'t>(text: &'t str, separators: &str) -> (&'t str, Option<&'t str>)
-    ensures cut { spec.cut_at (spec.is_one_of (chars separators.now)) (chars text.now)
-        ≡ cut_once (spec.is_one_of (chars separators.now)) (chars result.0.now)
-        (option_map chars (option_copied result.1)) }
+    ensures cut { CutsOnce (spec.is_one_of (chars separators.now)) text.now result.0.now (option_copied result.1) }
     ensures short { length result.0.now ≤ length text.now }
     ensures shorter { IfSome result.1 (λ rest. length rest.now < length text.now) }
 {

@@ -8,9 +8,9 @@ ghost use Rattle.tcl_text.specs.Indices.{part};
 ghost use Rattle.tcl_text.specs.StringCommands as spec;
 ghost use Rattle.tcl_text.specs.StringSteps.{reach, with_word};
 
-use crate::characters::{character_count, split_characters, trimmed};
+use crate::characters::{self, split_characters, trimmed};
 use crate::commands::answers::{
-    Refusal, bad_option, decimal_answer, limit_reached, place_answer, string_answer, text_answer,
+    Step, bad_option, decimal_answer, limit_reached, place_answer, string_answer, text_answer,
     truth_answer, wrong_args,
 };
 use crate::commands::indices::{Index, index_in};
@@ -20,32 +20,16 @@ use memchr::memmem;
 use std::alloc::{AllocError, Global};
 use std::cmp::Ordering;
 
-/// A command of `string`.
-#[derive(Clone, Copy, Debug, PartialEq, Eq)]
-pub enum StringCommand {
-    Length,
-    Index,
-    Range,
-    Compare,
-    Equal,
-    Match,
-    First,
-    Repeat,
-    ToLower,
-    ToUpper,
-    Trim,
-}
-
-fn string_length(alloc: Global, words: &[Text]) -> Result<Text, Refusal>
+fn string_length(alloc: Global, words: &[Text]) -> Step
     ensures { Gives result (spec.string_length words.now) }
 {
     match words {
-        [text] => decimal_answer(alloc, character_count(text.as_str())),
+        [text] => decimal_answer(alloc, characters::count(text.as_str())),
         _ => wrong_args(alloc, "string length s"),
     }
 }
 
-fn string_index(alloc: Global, words: &[Text]) -> Result<Text, Refusal>
+fn string_index(alloc: Global, words: &[Text]) -> Step
     ensures { Gives result (spec.string_index words.now) }
 {
     match words {
@@ -57,7 +41,7 @@ fn string_index(alloc: Global, words: &[Text]) -> Result<Text, Refusal>
     }
 }
 
-fn string_range(alloc: Global, words: &[Text]) -> Result<Text, Refusal>
+fn string_range(alloc: Global, words: &[Text]) -> Step
     ensures { Gives result (spec.string_range words.now) }
 {
     match words {
@@ -78,7 +62,7 @@ fn characters_in(text: &str, first: Index, last: Index) -> &str
     if let Some(front) = ascii_front(text, first, last) {
         return bytes_in(front, first, last);
     }
-    let count = character_count(text);
+    let count = characters::count(text);
     let (front, _behind) = split_characters(text, last.through(count));
     let (_before, part) = split_characters(front, first.before(count));
     part
@@ -114,7 +98,7 @@ fn bytes_in(text: &str, first: Index, last: Index) -> &str
     &text[start..end]
 }
 
-fn string_compare(alloc: Global, words: &[Text]) -> Result<Text, Refusal>
+fn string_compare(alloc: Global, words: &[Text]) -> Step
     ensures { Gives result (spec.string_compare words.now) }
 {
     match words {
@@ -133,7 +117,7 @@ fn sign_of(ordering: Ordering) -> &'static str
     }
 }
 
-fn string_equal(alloc: Global, words: &[Text]) -> Result<Text, Refusal>
+fn string_equal(alloc: Global, words: &[Text]) -> Step
     ensures { Gives result (spec.string_equal words.now) }
 {
     match words {
@@ -142,7 +126,7 @@ fn string_equal(alloc: Global, words: &[Text]) -> Result<Text, Refusal>
     }
 }
 
-fn string_match(alloc: Global, words: &[Text]) -> Result<Text, Refusal>
+fn string_match(alloc: Global, words: &[Text]) -> Step
     ensures { Gives result (spec.string_match words.now) }
 {
     match words {
@@ -151,33 +135,25 @@ fn string_match(alloc: Global, words: &[Text]) -> Result<Text, Refusal>
     }
 }
 
-fn string_tolower(alloc: Global, words: &[Text]) -> Result<Text, Refusal>
+fn string_tolower(alloc: Global, words: &[Text]) -> Step
     ensures { Gives result (spec.string_tolower words.now) }
 {
     match words {
-        [text] => {
-            let mut string = String::from_str(alloc, text.as_str())?;
-            string.make_ascii_lowercase();
-            string_answer(alloc, string)
-        }
+        [text] => string_answer(alloc, text.as_str().to_ascii_lowercase(alloc)?),
         _ => wrong_args(alloc, "string tolower s"),
     }
 }
 
-fn string_toupper(alloc: Global, words: &[Text]) -> Result<Text, Refusal>
+fn string_toupper(alloc: Global, words: &[Text]) -> Step
     ensures { Gives result (spec.string_toupper words.now) }
 {
     match words {
-        [text] => {
-            let mut string = String::from_str(alloc, text.as_str())?;
-            string.make_ascii_uppercase();
-            string_answer(alloc, string)
-        }
+        [text] => string_answer(alloc, text.as_str().to_ascii_uppercase(alloc)?),
         _ => wrong_args(alloc, "string toupper s"),
     }
 }
 
-fn string_trim(alloc: Global, words: &[Text]) -> Result<Text, Refusal>
+fn string_trim(alloc: Global, words: &[Text]) -> Step
     ensures { Gives result (spec.string_trim words.now) }
 {
     match words {
@@ -186,7 +162,7 @@ fn string_trim(alloc: Global, words: &[Text]) -> Result<Text, Refusal>
     }
 }
 
-fn string_first(alloc: Global, words: &[Text]) -> Result<Text, Refusal>
+fn string_first(alloc: Global, words: &[Text]) -> Step
     ensures { Gives result (spec.string_first words.now) }
 {
     match words {
@@ -204,7 +180,7 @@ fn characters_before(needle: &str, text: &str) -> Option<usize>
     }
     let place = find_text(text, needle)?;
     let (before, _from) = text.split_at(place);
-    Some(character_count(before))
+    Some(characters::count(before))
 }
 
 /// The byte at which the needle first stands in the text.
@@ -214,7 +190,7 @@ fn find_text(text: &str, needle: &str) -> Option<usize>
     memmem::find(text.as_bytes(), needle.as_bytes())
 }
 
-fn string_repeat(alloc: Global, words: &[Text]) -> Result<Text, Refusal>
+fn string_repeat(alloc: Global, words: &[Text]) -> Step
     ensures { Gives result (spec.string_repeat words.now) }
 {
     match words {
@@ -228,7 +204,7 @@ fn string_repeat(alloc: Global, words: &[Text]) -> Result<Text, Refusal>
 
 /// So many copies of a text, one after another.
 #[tactic(auto, using(crate::proofs::StringLemmas::repeats))]
-fn repeated(alloc: Global, text: &str, count: u64) -> Result<Text, Refusal>
+fn repeated(alloc: Global, text: &str, count: u64) -> Step
     ensures { Gives result (answers (concat (replicate count text.now))) }
 {
     if text.is_empty() {
@@ -253,7 +229,7 @@ fn copies(alloc: Global, text: &str, count: u64) -> Result<String, AllocError>
 
 /// `concat ?arg ..?`: the words without white space around them, those that aren't empty, with a
 /// blank between each two.
-pub fn concat_words(alloc: Global, words: &[Text]) -> Result<Text, Refusal>
+pub fn concat_words(alloc: Global, words: &[Text]) -> Step
     ensures { Gives result (spec.concat_words words.now) }
 {
     if let [word] = words
@@ -289,54 +265,32 @@ fn push_word(string: &mut String, word: &str) -> Result<(), AllocError>
     Ok(())
 }
 
-/// The command of `string` with this name.
-#[tactic(auto, unfolding(crate::specs::StringCommands::string_command_named))]
-fn string_command_named(name: &str) -> Option<StringCommand>
-    ensures { result ≡ spec.string_command_named name.now }
-{
-    match name {
-        "length" => Some(StringCommand::Length),
-        "index" => Some(StringCommand::Index),
-        "range" => Some(StringCommand::Range),
-        "compare" => Some(StringCommand::Compare),
-        "equal" => Some(StringCommand::Equal),
-        "match" => Some(StringCommand::Match),
-        "first" => Some(StringCommand::First),
-        "repeat" => Some(StringCommand::Repeat),
-        "tolower" => Some(StringCommand::ToLower),
-        "toupper" => Some(StringCommand::ToUpper),
-        "trim" => Some(StringCommand::Trim),
-        _ => None,
-    }
-}
-
 /// `string NAME ?arg ..?`: what the command of that name answers to the words after it.
-pub fn string_words(alloc: Global, words: &[Text]) -> Result<Text, Refusal>
+pub fn string_words(alloc: Global, words: &[Text]) -> Step
     ensures { Gives result (spec.string_words words.now) }
 {
     match words {
-        [name, arguments @ ..] => match string_command_named(name.as_str()) {
-            Some(command) => string_command(alloc, command, arguments),
-            None => bad_option(alloc, name),
-        },
+        [name, arguments @ ..] => string_named(alloc, name, arguments),
         [] => wrong_args(alloc, "string option ?arg ..?"),
     }
 }
 
-fn string_command(alloc: Global, command: StringCommand, words: &[Text]) -> Result<Text, Refusal>
-    ensures { Gives result (spec.string_command command words.now) }
+#[tactic(auto, unfolding(crate::specs::StringCommands::string_named))]
+fn string_named(alloc: Global, name: &Text, words: &[Text]) -> Step
+    ensures { Gives result (spec.string_named name.now words.now) }
 {
-    match command {
-        StringCommand::Length => string_length(alloc, words),
-        StringCommand::Index => string_index(alloc, words),
-        StringCommand::Range => string_range(alloc, words),
-        StringCommand::Compare => string_compare(alloc, words),
-        StringCommand::Equal => string_equal(alloc, words),
-        StringCommand::Match => string_match(alloc, words),
-        StringCommand::First => string_first(alloc, words),
-        StringCommand::Repeat => string_repeat(alloc, words),
-        StringCommand::ToLower => string_tolower(alloc, words),
-        StringCommand::ToUpper => string_toupper(alloc, words),
-        StringCommand::Trim => string_trim(alloc, words),
+    match name.as_str() {
+        "length" => string_length(alloc, words),
+        "index" => string_index(alloc, words),
+        "range" => string_range(alloc, words),
+        "compare" => string_compare(alloc, words),
+        "equal" => string_equal(alloc, words),
+        "match" => string_match(alloc, words),
+        "first" => string_first(alloc, words),
+        "repeat" => string_repeat(alloc, words),
+        "tolower" => string_tolower(alloc, words),
+        "toupper" => string_toupper(alloc, words),
+        "trim" => string_trim(alloc, words),
+        _ => bad_option(alloc, name),
     }
 }

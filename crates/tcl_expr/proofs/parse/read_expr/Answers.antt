@@ -17,8 +17,8 @@ returns-in_err-steps-clause-fault c =
     rw (p.1, p.2) (fault_is c.args.source.now c.in_err-steps.field-0.0 c.if-source-gt-MAX_BYTES.false c.in-Ok.ensures.cases.1
     (subst (λ text. IsFaultOrMemory (reading 0 AtOperand [] text) c.in_err-steps.field-0.0) c.in-Ok.ensures.cases.0 c.in_err-steps.ensures.fault))
 
-pub new-requires-2 : goal.new-requires-2
-new-requires-2 c =
-    ap compiled (c.in_ok-text.ensures.ok ∙ c.in-Ok.ensures.cases.0)
+pub new-requires : goal.new-requires
+new-requires c =
+    ap compiled (c.in_ok-text.ensures ∙ c.in-Ok.ensures.cases.0)
     ∙ compiled_is c.args.source.now c.in_ok-steps.steps.items c.if-source-gt-MAX_BYTES.false c.in-Ok.ensures.cases.1
     (subst (λ text. compiled_by (reading 0 AtOperand [] text) ≡ Ok c.in_ok-steps.steps.items) c.in-Ok.ensures.cases.0 c.in_ok-steps.ensures.steps)

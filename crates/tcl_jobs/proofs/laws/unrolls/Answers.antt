@@ -1,5 +1,8 @@
-use Rattle.tcl_jobs.proofs.Unrolled.{unrolls}
+use Rattle.tcl_jobs.proofs.Unrolled.{unrolls, determined}
 use Rattle.tcl_jobs.proofs.laws.unrolls.Goals as goal
 
-pub returns : goal.returns
-returns g c = unrolls
+pub returns-clause-equation : goal.returns-clause-equation
+returns-clause-equation g c = unrolls
+
+pub returns-clause-determined : goal.returns-clause-determined
+returns-clause-determined g c = determined

@@ -6,8 +6,8 @@ use Rattle.tcl_text.proofs.splitting.items_of.Goals as goal
 
 pub loop-rest-init : goal.loop-rest-init
 loop-rest-init c = record {
-  splits = SplitsTo-start c.args.text.now c.trimmed-rest.result.now c.new-items.result c.new-items.ensures c.requires c.trimmed-rest.ensures;
-  utf8 = c.trimmed-rest.utf8;
+  splits = SplitsTo-start c.args.text.now c.behind_white-rest.result.now c.new-items.result c.new-items.ensures c.requires c.behind_white-rest.ensures;
+  utf8 = c.behind_white-rest.utf8;
 }
 
 pub loop-rest-smaller : goal.loop-rest-smaller
@@ -15,14 +15,14 @@ loop-rest-smaller c =
     let behind = c.in_ok-item.behind.now in
     let shorter : length behind < length c.loop-rest.rest.now = c.in_ok-item.ensures.0 in
     let trimmed : length (skip_white behind) ≤ length behind = skip_white_within behind in
-    omega (arith, ap length c.trimmed-rest-in-loop-rest.ensures)
+    omega (arith, ap length c.behind_white-rest-in-loop-rest.ensures)
 
 pub loop-rest-preserved : goal.loop-rest-preserved
 loop-rest-preserved c = record {
   splits =
-      SplitsTo-item c.args.text.now c.loop-rest.items c.push.new.self c.loop-rest.rest.now c.in_ok-item.item c.in_ok-item.behind.now c.trimmed-rest-in-loop-rest.result.now
-      c.loop-rest.invariant.splits c.in_ok-item.ensures.0 c.in_ok-item.ensures.1 c.in_ok-push.ensures.ok c.trimmed-rest-in-loop-rest.ensures;
-  utf8 = c.trimmed-rest-in-loop-rest.utf8;
+      SplitsTo-item c.args.text.now c.loop-rest.items c.push.new.self c.loop-rest.rest.now c.in_ok-item.item c.in_ok-item.behind.now c.behind_white-rest-in-loop-rest.result.now
+      c.loop-rest.invariant.splits c.in_ok-item.ensures.0 c.in_ok-item.ensures.1 c.in_ok-push.ensures.ok c.behind_white-rest-in-loop-rest.ensures;
+  utf8 = c.behind_white-rest-in-loop-rest.utf8;
 }
 
 pub returns : goal.returns

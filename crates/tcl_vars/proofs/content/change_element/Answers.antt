@@ -1,6 +1,6 @@
 -- The element is the one at its index.
 use Rattle.std.proofs.Common.{◌≡◌, Some, refl, sym, ap, ◌∙◌, arith, ok_or}
-use Rattle.tcl_vars.specs.declared.fault.ReadFault.TheVariants.{NoElement}
+use Rattle.tcl_text.specs.declared.fault.ReadFault.TheVariants.{NoElement}
 use Rattle.std.proofs.lemmas.Result.{err_from_is_err_and}
 use Rattle.tcl_vars.specs.Change.{changed_by}
 use Rattle.tcl_vars.specs.Table.{value_at, with_value}

@@ -1,7 +1,7 @@
 -- A map's look-up is that of its named entries.
 use Rattle.std.proofs.Common.{◌∙◌, sym, ap}
 use Rattle.tcl_table.specs.Table.{value_at}
-use Rattle.tcl_table.proofs.NamedLemmas.{lookup-named}
+use Rattle.tcl_vars.proofs.NamedLemmas.{lookup-named}
 use Rattle.tcl_table.proofs.command.CommandTable.get.Goals as goal
 
 pub returns : goal.returns

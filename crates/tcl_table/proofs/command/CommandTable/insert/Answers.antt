@@ -1,7 +1,7 @@
 -- An insertion is that of the named entries.
 use Rattle.std.proofs.Common.{◌∙◌, ap}
 use Rattle.tcl_table.specs.Table.{with_value}
-use Rattle.tcl_table.proofs.NamedLemmas.{named-inserted}
+use Rattle.tcl_vars.proofs.NamedLemmas.{named-inserted}
 use Rattle.tcl_table.proofs.command.CommandTable.insert.Goals as goal
 
 pub returns-clause-ok : goal.returns-clause-ok

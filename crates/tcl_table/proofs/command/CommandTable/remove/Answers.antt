@@ -1,8 +1,8 @@
 -- A map's removal is that of its named entries.
 use Rattle.std.proofs.Common.{◌∙◌, sym, ap}
 use Rattle.tcl_table.specs.Table.{value_at, without}
-use Rattle.tcl_table.specs.Named.{named}
-use Rattle.tcl_table.proofs.NamedLemmas.{lookup-named, named-remove_entry}
+use Rattle.tcl_vars.specs.Named.{named}
+use Rattle.tcl_vars.proofs.NamedLemmas.{lookup-named, named-remove_entry}
 use Rattle.tcl_table.proofs.command.CommandTable.remove.Goals as goal
 
 pub returns-clause-value : goal.returns-clause-value

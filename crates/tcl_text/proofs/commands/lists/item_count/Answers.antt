@@ -2,7 +2,7 @@ use Rattle.std.proofs.Common.{◌≡◌, ℕ, List, Result, Ok, ap, length, subs
 use Rattle.tcl_text.specs.Answers.{◌>>=◌, items_in, items_or_error}
 use Rattle.tcl_text.specs.ListCommands.{count_in}
 use Rattle.tcl_text.specs.Readings.{list_of}
-use Rattle.tcl_text.specs.declared.splitting.ListFault.{ListFault}
+use Rattle.tcl_text.specs.declared.fault.ListFault.{ListFault}
 use Rattle.tcl_text.proofs.commands.lists.item_count.Goals as goal
 
 count_known : (list : List ℕ) (items : List (List ℕ)) (count : ℕ) → list_of list ≡ Ok items → count ≡ length items → count_in list ≡ Ok count

@@ -13,4 +13,4 @@ split_at-requires c = OccursAt-boundary c.args.text.now c.args.needle.now c.in_o
 
 pub returns : goal.returns
 returns c =
-    ap Some (c.character_count.ensures ∙ ap (λ (t : List ℕ). length (chars t)) c.split_at.ensures.front) ∙ characters_before-some c.args.needle.now c.args.text.now c.in_ok-place.place (λ e. grind (arith, nat_tests)) c.in_ok-place.ensures
+    ap Some (c.count.ensures.count ∙ ap (λ (t : List ℕ). length (chars t)) c.split_at.ensures.front) ∙ characters_before-some c.args.needle.now c.args.text.now c.in_ok-place.place (λ e. grind (arith, nat_tests)) c.in_ok-place.ensures

@@ -13,7 +13,8 @@ pub returns-then-width-gt-MAX_STRING-clause-too_long : goal.returns-then-width-g
 returns-then-width-gt-MAX_STRING-clause-too_long c = λ _.
     added_long c.args.list.now.value c.as_ref.result.now c.in_ok-more.more c.args.items.now c.as_ref.ensures c.in_ok-more.ensures.ok (omega arith)
 
-pub push_alone-requires : goal.push_alone-requires
-push_alone-requires c =
+pub push-requires : goal.push-requires
+push-requires c =
     let held : length (others_form c.as_ref.result.now) ≡ length (others_form c.args.list.now.value) = ap (λ (t : List (List ℕ)). length (others_form t)) c.as_ref.ensures in
-    omega (arith, held)
+    let alone : length (others_form c.in-Some.alone.now) ≡ length (others_form c.args.list.now.value) = ap (λ (t : List (List ℕ)). length (others_form t)) c.in-Some.ensures.value in
+    omega (arith, held, alone)

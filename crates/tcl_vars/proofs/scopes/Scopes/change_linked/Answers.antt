@@ -9,12 +9,16 @@ use Rattle.tcl_vars.proofs.ChangeLemmas.{ChangesAt-led, ChangesHere-linkless}
 use Rattle.tcl_vars.proofs.LinkLemmas.{led-end}
 use Rattle.tcl_vars.proofs.scopes.Scopes.change_linked.Goals as goal
 
-pub returns-clause-ok : goal.returns-clause-ok
-returns-clause-ok c =
+pub returns : goal.returns
+returns c =
     let own = c.place.ensures ∙ c.in_ok-end-in-Some.ensures in
     let linkless : link_of (content_at c.args.self.now (shown c.in-Some.found.place)) ≡ None
     = led-end c.args.self.now (LinksDescend-frames c.args.self.now (subst FramesDescend c.self.view_is c.self.invariant.descending)) c.args.place.level (shown c.args.place) (shown c.in-Some.found.place) (le_refl _) c.in-Some.ensures.1 in
-    ChangesAt-led c.args.self.now (shown c.args.place) c.args.edit (shown c.in-Some.found.place) c.change_here.new.self c.in-Some.ensures.1
-    (subst (λ place. ChangesHere c.args.self.now place c.args.edit c.change_here.new.self) own
-    (ChangesHere-linkless c.args.self.now c.change_here.new.self (shown c.place.result) c.args.edit c.in_ok-change_here.field-0
-    (ap (λ place. link_of (content_at c.args.self.now place)) own ∙ linkless) c.in_ok-change_here.ensures.ok))
+    record {
+      ok = ChangesAt-led c.args.self.now (shown c.args.place) c.args.edit (shown c.in-Some.found.place) c.change_here.new.self c.in-Some.ensures.1
+          (subst (λ place. ChangesHere c.args.self.now place c.args.edit c.change_here.new.self) own
+          (ChangesHere-linkless c.args.self.now c.change_here.new.self (shown c.place.result) c.args.edit c.in_ok-change_here.field-0
+          (ap (λ place. link_of (content_at c.args.self.now place)) own ∙ linkless) c.in_ok-change_here.ensures.ok));
+      refused = tt;
+      err = tt;
+    }

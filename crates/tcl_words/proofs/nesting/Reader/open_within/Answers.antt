@@ -1,5 +1,5 @@
 use Rattle.std.proofs.Common.{◌∙◌, inl, arith}
-use Rattle.tcl_words.specs.declared.fault.ParseFault.TheVariants.{TooLong}
+use Rattle.tcl_text.specs.declared.fault.ParseFault.TheVariants.{TooLong}
 use Rattle.tcl_words.proofs.Nests.{chain_fault}
 use Rattle.tcl_words.proofs.Readers.{opening_as}
 use Rattle.tcl_words.proofs.nesting.Reader.open_within.Goals as goal

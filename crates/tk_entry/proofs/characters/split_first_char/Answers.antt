@@ -1,7 +1,0 @@
-use Rattle.std.proofs.Common.{sym, ◌∙◌}
-use Rattle.std.proofs.lemmas.Str.{chars_past_char}
-use Rattle.tk_entry.proofs.characters.split_first_char.Goals as goal
-
-pub returns-clause-cut : goal.returns-clause-cut
-returns-clause-cut c =
-    rw c.as_str.ensures (chars_past_char _ _ _ c.utf8.text (sym c.chars-rest.ensures.rest ∙ c.in_ok-first.ensures.steps.0))

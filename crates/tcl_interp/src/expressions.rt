@@ -207,7 +207,7 @@ pub fn chosen<K: Drop>(
     ensures table { table.new ≡ table.old }
     ensures now { IfOk result (λ now. moved_of now frames.new.items
         ≡ chosen_move room (drop choosing.value.place choosing.value.choices.branches) choosing.value.choices.otherwise (waits_of frames.old.items)
-        (truth_of value.now)) }
+        (truth_of_text value.now)) }
 {
     let Choosing { choices, place } = Box::into_inner(choosing);
     match truth(alloc, value)? {

@@ -13,8 +13,8 @@ returns-in-Plans-clause-ok g c =
     call_plan g.T.Tasks.outside c.args.room c.args.name.now c.args.arguments.now (waits_of c.args.frames.now.items) (g.T.Tasks.shows c.args.tasks.now) c.args.scopes.now c.args.context.now
     scopes c.call_command.new.context c.in-Plans.plan after (rw c.in-Plans.is at c.in_ok-plan.ensures) (followed scopes)) c.follow.ensures
 
-pub returns-in-Outside-clause-ok : goal.returns-in-Outside-clause-ok
-returns-in-Outside-clause-ok g c =
+pub returns-in_ok-act-in-Outside-clause-ok : goal.returns-in_ok-act-in-Outside-clause-ok
+returns-in_ok-act-in-Outside-clause-ok g c =
     let scopes = c.call_outside.new.scopes in
     let waits = waits_of c.args.frames.now.items in
     IfOk-weaker c.act_on.result _ _ (λ now acted.

@@ -10,7 +10,7 @@ use Rattle.tcl_expr.specs.declared.parser.Parser.{Parser}
 use Rattle.tcl_expr.specs.Trees.{Tree}
 use Rattle.tcl_expr.specs.Steps.{steps_of}
 use Rattle.tcl_expr.specs.Substitution.{piece_tree, text_tree, Writes}
-use Rattle.tcl_expr.specs.Reading.{Opened, AtOperand, Move, room_in, with_operand, with_piece, with_pieces, with_substitution, at_bracket, at_dollar, at_quote, operand_move}
+use Rattle.tcl_expr.specs.Reading.{Opened, AtOperand, ReadingMove, room_in, with_operand, with_piece, with_pieces, with_substitution, at_bracket, at_dollar, at_quote, operand_move}
 use Rattle.tcl_expr.specs.Standing.{Stands, FollowsMove, Takes, operand_at}
 use Rattle.tcl_expr.specs.Tokens.{mark_of}
 use Rattle.tcl_expr.specs.declared.tokens.Mark.{Mark}
@@ -91,7 +91,7 @@ module _ (old new : Parser) (room : ℕ) (behind : List ℕ) (most : room ≡ 20
 
 -- ── where an operand is due ──
 
-pub takes_as : (old : Parser) (result : Result ℕ ExprFault) (new : Parser) (expected other : List Opened → Result Move ExprFault) → ((before : List Opened) → other before ≡ expected before) → Takes old result new expected → Takes old result new other
+pub takes_as : (old : Parser) (result : Result ℕ ExprFault) (new : Parser) (expected other : List Opened → Result ReadingMove ExprFault) → ((before : List Opened) → other before ≡ expected before) → Takes old result new expected → Takes old result new other
 takes_as old (Ok skip) new expected other e t = λ before s. subst (FollowsMove new skip) (sym (e before)) (t before s)
 takes_as old (Err fault) new expected other e (inl refused) = inl refused
 takes_as old (Err fault) new expected other e (inr t) = inr (λ before s. e before ∙ t before s)

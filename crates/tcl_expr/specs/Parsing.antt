@@ -67,9 +67,9 @@ own_written Paren = []
 own_written (Question a) = steps_of a ++ step.Branch 0 ∷ []
 own_written (Otherwise a b) = chosen_steps a b ++ step.Jump 0 ∷ []
 
-abbrev pub written : List Opened → List Step
-written [] = []
-written (own ∷ opened) = written opened ++ own_written own
+abbrev pub opened_written : List Opened → List Step
+opened_written [] = []
+opened_written (own ∷ opened) = opened_written opened ++ own_written own
 
 -- and what the code keeps of it, with so many steps before it
 abbrev pub kept : Opened → ℕ → Open
@@ -81,12 +81,12 @@ kept (Otherwise a b) n = open_form.Otherwise (n + length (chosen_steps a b))
 
 abbrev pub all_kept : List Opened → List Open
 all_kept [] = []
-all_kept (own ∷ opened) = all_kept opened ++ kept own (length (written opened)) ∷ []
+all_kept (own ∷ opened) = all_kept opened ++ kept own (length (opened_written opened)) ∷ []
 
 -- the code keeps this, with these steps behind it
 pub record Holds (kept_opened : List Open) (steps : List Step) (opened : List Opened) (own : List Step) : Type 0 where
   pub marks : kept_opened ≡ all_kept opened
-  pub steps_are : steps ≡ written opened ++ own
+  pub steps_are : steps ≡ opened_written opened ++ own
 
 -- the code closed what ends at a level
 abbrev pub Closes : ℕ → List Open → List Step → List Open → List Step → Type 0

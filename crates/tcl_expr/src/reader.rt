@@ -309,8 +309,8 @@ fn finish(parser: Parser) -> Result<Vec<Step>, ExprFault>
 /// The steps of a text's tree, in one pass over its bytes.
 pub fn read_all(alloc: Global, source: &str) -> Result<Vec<Step>, ExprFault>
     requires { length source.now ≤ most_bytes }
-    ensures steps { IfOk result (λ steps. reading.compiled_by (reading.reading 0 reading.AtOperand [] source.now) ≡ Ok steps.items) }
-    ensures fault { IfErr result (λ fault. standing.IsFaultOrMemory (reading.reading 0 reading.AtOperand [] source.now) fault) }
+    ensures steps { IfOk result (λ steps. reading.compiled_by (reading.tree_reading 0 reading.AtOperand [] source.now) ≡ Ok steps.items) }
+    ensures fault { IfErr result (λ fault. standing.IsFaultOrMemory (reading.tree_reading 0 reading.AtOperand [] source.now) fault) }
 {
     let mut parser = Parser {
         steps: Vec::new(alloc),

@@ -30,8 +30,8 @@ use Rattle.tcl_interp.specs.Outside.{Outside}
 use Rattle.tcl_interp.specs.Evaluation.{State, Outcome, Ended, OutOfSteps, seen_level, and_then, on_normal, with_step, on_read, with_joined, words_of, on_words, index_pieces, element_read, on_index, pieces_meaning, index_depth, element_meaning}
 use Rattle.tcl_interp.specs.Expressions.{with_truth, on_value, if_holds, run_meaning, tree_meaning, expression_meaning, otherwise_meaning, choices_meaning}
 use Rattle.tcl_interp.specs.Plans.{loop_ended, after_body, after_next, next_turn}
-use Rattle.tcl_interp.specs.Scripts.{out_of_global, call_meaning, on_parsed, script_meaning}
-use Rattle.tcl_interp.specs.Finish.{Wording, Indexing, Doing, Begins, GoesOn, Indexes, Evaluates, Calls, Tests, Steps, Resumes, Ends, Waiting, ForCommand, ForPart, ForIndex, ForValue, ForTest, ForChoice, ForBody, ForNext, ForStart, ForCatch, ForLevels, ForProcedure, ForScript, ForAll, Running, at_global, script_rest, words_rest, word_done, index_rest, value_rest, choice_rest, turn_rest, loop_rest, waiting_meaning, waits_meaning, finish}
+use Rattle.tcl_interp.specs.Scripts.{out_of_global, at_global, call_meaning, on_parsed, script_meaning}
+use Rattle.tcl_interp.specs.Finish.{Wording, Indexing, Doing, Begins, GoesOn, Indexes, Evaluates, Calls, Tests, Steps, Resumes, Ends, Waiting, ForCommand, ForPart, ForIndex, ForValue, ForTest, ForChoice, ForBody, ForNext, ForStart, ForCatch, ForLevels, ForProcedure, ForScript, ForAll, Running, script_rest, words_rest, word_done, index_rest, value_rest, choice_rest, turn_rest, loop_rest, waiting_meaning, waits_meaning, finish}
 use Rattle.tcl_interp.specs.Quiet.{told_run, EvaluationMoves, MovesBy, LeadsBy, Leads}
 use Rattle.tcl_interp.specs.Moves.{Moved, Standing, Part, Script, ElementOf, variable_value, WordEnd, Whole, Failed, AtPart, join_end, piece_end, word_end, with_more_words, moved, standing, more_move, index_begins, element_begins, part_begins, word_move, words_move, element_end, index_move, indexes_move, parsed_move, begin_move, go_on_move, after_command, after_part, longer_index, after_index, begun_as, expression_begins, value_given, asked_move, answer_move, otherwise_move, choice_move, after_value_move, turn_move, after_test_move, chosen_move, after_choice_move, next_move, after_body_move, after_next_move, after_start_move, global_end, end_move}
 

@@ -6,9 +6,8 @@ use Rattle.tcl_control.specs.declared.code.Code.TheVariants.{Normal, Error, Retu
 use Rattle.tcl_control.specs.declared.context.Context.{Context}
 use Rattle.tcl_interp.specs.Outside.{Outside, Falls}
 use Rattle.tcl_interp.specs.Evaluation.{State, Outcome, Ended, OutOfSteps, and_then}
-use Rattle.tcl_interp.specs.Finish.{at_global}
 use Rattle.tcl_interp.specs.Plans.{run_at}
-use Rattle.tcl_interp.specs.Scripts.{script_meaning, out_of_global, on_act, after_step, act_meaning, task_meaning}
+use Rattle.tcl_interp.specs.Scripts.{script_meaning, out_of_global, at_global, on_act, after_step, act_meaning, task_meaning}
 use Rattle.tcl_interp.proofs.Bounds.{Bounded, and_then_same, stepped_same, within_run_at, within_script, after_step_same}
 use Rattle.tcl_jobs.specs.declared.job.Looked.{Looked}
 use Rattle.tcl_jobs.specs.declared.job.Looked.TheVariants.{Wants, Ends}

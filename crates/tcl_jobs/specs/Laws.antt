@@ -4,9 +4,8 @@ use Rattle.tcl_vars.specs.Store.{Store}
 use Rattle.tcl_control.specs.declared.code.Code.{Code}
 use Rattle.tcl_interp.specs.Outside.{Told}
 use Rattle.tcl_interp.specs.Evaluation.{State, Outcome, Ended, OutOfSteps, and_then}
-use Rattle.tcl_interp.specs.Finish.{at_global}
 use Rattle.tcl_interp.specs.Plans.{run_at}
-use Rattle.tcl_interp.specs.Scripts.{script_meaning, task_meaning}
+use Rattle.tcl_interp.specs.Scripts.{script_meaning, task_meaning, at_global}
 use Rattle.tcl_jobs.specs.declared.job.Looked.{Looked}
 use Rattle.tcl_jobs.specs.declared.job.Looked.TheVariants.{Wants, Ends}
 use Rattle.tcl_jobs.specs.declared.job.Started.{Started}

@@ -4,9 +4,9 @@ use Rattle.tcl_shapes.specs.declared.branches.Branch.{Branch}
 use Rattle.tcl_shapes.specs.declared.branches.Clause.{Clause}
 use Rattle.tcl_shapes.specs.declared.branches.Choices.{Choices}
 use Rattle.tcl_shapes.specs.declared.groups.Group.{Group}
-use Rattle.tcl_shapes.specs.Ahead.{ahead}
+use Rattle.tcl_shapes.specs.Ahead.{ahead, with_branches}
 use Rattle.tcl_shapes.specs.Groups.{groups_from}
-use Rattle.tcl_shapes.specs.Branches.{choices_from, with_branches}
+use Rattle.tcl_shapes.specs.Branches.{choices_from}
 
 module _ {X : Type 0} where
   at_suc : (xs : List X) (i : ℕ) (d : X) → i < length xs → drop i xs ≡ get_or xs i d ∷ drop (suc i) xs

@@ -8,7 +8,8 @@ use Rattle.tcl_vars.specs.declared.content.Content.TheVariants.{Scalar, Array}
 use Rattle.tcl_text.specs.declared.fault.ReadFault.TheVariants.{NoElement}
 use Rattle.tcl_vars.specs.declared.content.Outcome.TheVariants.{Added}
 use Rattle.tcl_text.specs.declared.fault.ChangeFault.{ChangeFault}
-use Rattle.tcl_vars.specs.Change.{change_fault, told_by, edited_by, ChangesContent, KeepsContent, ChangesText, KeepsText, ChangesHere, KeepsHere, ChangesAt}
+use Rattle.tcl_vars.specs.Change.{change_fault, told_by, edited_by}
+use Rattle.tcl_vars.specs.Changing.{ChangesContent, KeepsContent, ChangesText, KeepsText, ChangesHere, KeepsHere, ChangesAt}
 use Rattle.tcl_vars.specs.Name.{Place}
 use Rattle.tcl_vars.specs.Put.{PutsText, Sets}
 use Rattle.tcl_vars.specs.Sound.{IsSound}

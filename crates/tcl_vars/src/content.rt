@@ -1,6 +1,7 @@
 ghost use Rattle.std.specs.Prelude.{◌≡◌, ◌≢◌, ◌+◌, ◌<◌, ◌≤◌, length, List, ℕ, ok_or, option_map, MatchBool, ◌↔◌, MatchResult, Ok, Err, Some, None, false, IsOk, IsSome, IfOk, IfErr, IfSome, OnOk, OnErr};
 ghost use Rattle.std.specs.Option.{option_copied};
-ghost use Rattle.tcl_vars.specs.Change.{ChangesContent, KeepsContent, edited_by};
+ghost use Rattle.tcl_vars.specs.Change.{edited_by};
+ghost use Rattle.tcl_vars.specs.Changing.{ChangesContent, KeepsContent};
 ghost use Rattle.tcl_vars.specs.Put.{AfterContent, RefusesContent};
 ghost use Rattle.tcl_vars.specs.Short.{IsShort};
 ghost use Rattle.tcl_vars.specs.Store.{array_state, content_count, content_without, elements_of, holds_value, is_there, link_of, text_of};

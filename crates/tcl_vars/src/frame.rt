@@ -1,6 +1,6 @@
 ghost use Rattle.std.specs.Prelude.{◌≡◌, ◌≢◌, ◌+◌, ◌<◌, ◌≤◌, None, Ok, IfOk, IfErr, IfSome, MatchBool, MatchOption, OnErr};
 ghost use Rattle.std.specs.Option.{option_copied};
-ghost use Rattle.tcl_vars.specs.Change.{ChangesText, KeepsText};
+ghost use Rattle.tcl_vars.specs.Changing.{ChangesText, KeepsText};
 ghost use Rattle.tcl_vars.specs.Put.{RefusesText, AfterPut, new_count};
 ghost use Rattle.tcl_vars.specs.Short.{IsShort, IsShortPlace};
 ghost use Rattle.tcl_vars.specs.Shown.{shown};

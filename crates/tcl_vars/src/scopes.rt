@@ -1,7 +1,8 @@
 ghost use Rattle.std.specs.Prelude.{◌≡◌, ◌≢◌, ◌<◌, ◌≤◌, ◌-◌, [], ◌∷◌, ◌++◌, length, take, IfOk, IfErr, OnOk, OnErr, map, unwrap_or, is_some, false, MatchResult, MatchOption, MatchBool, Ok, Err, Some, None};
 ghost use Rattle.std.specs.Option.{option_copied};
 ghost use Rattle.std.specs.Bool.{OnTrue};
-ghost use Rattle.tcl_vars.specs.Change.{Changes, ChangesHere, ChangesThere, KeepsHere, edited_by};
+ghost use Rattle.tcl_vars.specs.Change.{Changes, edited_by};
+ghost use Rattle.tcl_vars.specs.Changing.{ChangesHere, ChangesThere, KeepsHere};
 ghost use Rattle.tcl_vars.specs.Put.{Sets, SetsThere};
 ghost use Rattle.tcl_vars.specs.Short.{IsShortPlace};
 ghost use Rattle.tcl_vars.specs.Shown.{shown};

@@ -10,7 +10,7 @@ use Rattle.tcl_text.specs.Backslash.{Digits, Escape, digits_from, numbered, blan
 use Rattle.tcl_words.specs.Kinds.{class_means, name_bytes, past_colons, name_length, to_brace, one_further, dollar_braced, dollar_named, dollar_of}
 use Rattle.tcl_words.specs.Classes.{begins_newline, begins_expansion, is_name_byte}
 use Rattle.tcl_words.specs.Changes.{name, word_begins, command_begins}
-use Rattle.tcl_words.specs.Moves.{Move, on, change_before, at_dollar, move_of}
+use Rattle.tcl_words.specs.Moves.{ByteMove, on, change_before, at_dollar, move_of}
 use Rattle.tcl_words.specs.Reading.{first_skip}
 use Rattle.tcl_words.specs.declared.kind.Kind.{Kind}
 use Rattle.tcl_words.specs.declared.kind.Kind.TheVariants.{Blank, Newline, Semicolon, Hash, Dollar, Quote, OpenBracket, CloseBracket, OpenBrace, Expansion, CloseBrace, CloseParen, Backslash, Continuation, Other}
@@ -485,7 +485,7 @@ step_same Dollar place b at c xs tail other closer fits =
     move_dollar place b at (length xs) (xs ++ c ∷ tail) (xs ++ c ∷ other)
     (λ mode f. dollar_cut mode b c xs tail closer f ∙ dollar_back mode b c xs other (length xs) closer (fits_by (dollar_cut mode b c xs tail closer f) f)) fits
   where
-    fits_by : {m n : Move} → m ≡ n → FitsStep m.step (length xs) → FitsStep n.step (length xs)
+    fits_by : {m n : ByteMove} → m ≡ n → FitsStep m.step (length xs) → FitsStep n.step (length xs)
     fits_by e f = rw e at f
 step_same Quote place b at c xs tail other closer fits = move_quote place b at (xs ++ c ∷ tail) (xs ++ c ∷ other)
 step_same OpenBracket place b at c xs tail other closer fits = move_openbracket place b at (xs ++ c ∷ tail) (xs ++ c ∷ other)

@@ -6,7 +6,7 @@ use Rattle.tcl_words.specs.Classes.{class_of, begins_newline, begins_expansion}
 use Rattle.tcl_words.specs.Grammar.{class_ends, ends_word}
 use Rattle.tcl_words.specs.Changes.{put, changed, last_rest}
 use Rattle.tcl_words.specs.Changes.Change.{command_begins}
-use Rattle.tcl_words.specs.Moves.{Move, move_of, on, in_comment, change_before}
+use Rattle.tcl_words.specs.Moves.{ByteMove, move_of, on, in_comment, change_before}
 use Rattle.tcl_words.specs.Reading.{Level, rest_of, past, within, end_or_fault}
 use Rattle.tcl_words.specs.Grammar.{begins, IsSeparator, AreBlanks, IsNote, IsLastNote, IsGap}
 use Rattle.tcl_words.specs.Grammar.AreBlanks.{none as no_blanks, blank as one_blank, continuation as continued_blanks}
@@ -195,7 +195,7 @@ start_kinds inside Other b at text h k n = refl
 pub start_read : (level : Level) (text : List ℕ) (at : ℕ) → ends_word level.inside text ≡ false → begins 35 text ≡ false → rest_of text level 0 Start at ≡ put (changed (command_begins at ∷ [])) (rest_of text level 0 Between at)
 start_read level [] at h k = cc
 start_read level (b ∷ text) at h k =
-    let move : Move = move_of Between (kind_before level.inside b text) b at text in
+    let move : ByteMove = move_of Between (kind_before level.inside b text) b at text in
     moved_by (change_before (command_begins at) move) Start b text level at (start_kinds level.inside (class_of b) b at text h (other_class b 35 Hash k (byte_is b Hash)) (λ e. byte_is b Continuation e))
     ∙ sym (put-put (changed (command_begins at ∷ [])) (changed move.changes)
     (past move.step level.room at text (λ skip next. rest_of text level skip next (at + 1)) (λ room skip next. rest_of text (within room) skip next 0)))

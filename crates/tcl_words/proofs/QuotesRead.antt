@@ -7,7 +7,7 @@ use Rattle.tcl_words.specs.Kinds.{class_means, dollar_of}
 use Rattle.tcl_words.specs.Classes.{class_of, begins_newline, begins_expansion}
 use Rattle.tcl_words.specs.Changes.{Read, put, last_rest, literal_before, piece_before, changed}
 use Rattle.tcl_words.specs.Changes.Change.{bytes as put_bytes}
-use Rattle.tcl_words.specs.Moves.{Move, in_text, at_dollar}
+use Rattle.tcl_words.specs.Moves.{ByteMove, in_text, at_dollar}
 use Rattle.tcl_words.specs.Reading.{rest_of, past, within}
 use Rattle.tcl_words.specs.Operands.{at_quote, quoted_rest, pieces_found, quoted_of}
 use Rattle.tcl_words.specs.Grammar.{TextEnding, leaves, fails, with_bytes, ends_body, is_plain, begins, ArePieces, IsInnerOf}
@@ -34,7 +34,7 @@ abbrev quotes_read : ℕ → List ℕ → ℕ → Read
 quotes_read room text at = quoted_rest room text 0 at
 
 -- what the text behind a byte gives with this move
-abbrev after_byte : Move → ℕ → ℕ → List ℕ → Read
+abbrev after_byte : ByteMove → ℕ → ℕ → List ℕ → Read
 after_byte move room at text =
     put (changed move.changes)
     (past move.step room at text (λ skip next. quoted_rest room text skip (at + 1)) (λ room skip next. rest_of text (within room) skip next 0))

@@ -8,8 +8,8 @@ use Rattle.tcl_words.specs.Classes.{class_of}
 use Rattle.tcl_words.specs.Changes.{Read}
 use Rattle.tcl_words.specs.declared.script.Command.{Command}
 use Rattle.tcl_words.specs.Moves.{move_at}
-use Rattle.tcl_words.specs.Reading.{Level, rest_of, at_end, within, opened_place, first_skip, opened_piece, commands_in, index_pieces_of, outermost}
-use Rattle.tcl_words.specs.Parts.{Parts, joined, no_parts, with_piece, script_whole, is_index, ended, DoesMove, IsFine, IsOpenerCut, name_before}
+use Rattle.tcl_words.specs.Reading.{Level, rest_of, read_at_end, within, opened_place, first_skip, opened_piece, commands_in, index_pieces_of, outermost}
+use Rattle.tcl_words.specs.Parts.{Parts, joined_parts, no_parts, with_piece, script_whole, is_index, ended, DoesMove, IsFine, IsOpenerCut, name_before}
 use Rattle.tcl_words.specs.Chain.{outset, origin_level, own, opened, waits_for, IsWaiting, IsChain, IsReading, IsOpening, IsClosing, IsParse}
 use Rattle.tcl_words.specs.declared.kind.BytePlace.{BytePlace}
 use Rattle.tcl_words.specs.declared.kind.BytePlace.TheVariants.{Start, Comment, Between, Expanded, Text, PastQuotes, InBraces, PastBraces}
@@ -129,7 +129,7 @@ opening_reads {first} s ws o p n opener mode r some =
     rest_skip (drop (o.base + (n + 1)) s) level (first_skip opener) (opened_place opener) 0 cut.0 ∙ ap (rest_of (drop (first_skip opener) (drop (o.base + (n + 1)) s)) level 0 (opened_place opener)) k in (
       record {
         chain = chain_push s first o ws (waits_for o p n opener mode) r.chain refl (r.waits some);
-        reads = ap (joined (no_parts (first_skip opener)) (drop (o.base + (n + 1)) s) (opened_place opener) (first_skip opener)) (sym rest);
+        reads = ap (joined_parts (no_parts (first_skip opener)) (drop (o.base + (n + 1)) s) (opened_place opener) (first_skip opener)) (sym rest);
         fine = first_fine (drop (o.base + (n + 1)) s) opener cut;
         base = base;
         within = begins.0;
@@ -248,8 +248,8 @@ ending_reads {first} s ws w o p place n utf8 short r =
       record {
         chain = q.0;
         reads =
-            ap (λ x. joined (with_piece w.parts x (w.at + 1 + n + 1)) (drop w.origin.base s) (Text w.mode) (w.at + 1 + n + 1) (rest_of (drop (w.at + 1 + n + 1) (drop w.origin.base s)) (origin_level w.origin) 0 (Text w.mode) (w.at + 1 + n + 1))) (sym piece)
-            ∙ ap (λ x. joined (with_piece w.parts (opened_piece w.opener (drop (w.at + 1) (drop w.origin.base s)) (ended place p n).close) x) (drop w.origin.base s) (Text w.mode) x (rest_of (drop x (drop w.origin.base s)) (origin_level w.origin) 0 (Text w.mode) x)) (sym end)
+            ap (λ x. joined_parts (with_piece w.parts x (w.at + 1 + n + 1)) (drop w.origin.base s) (Text w.mode) (w.at + 1 + n + 1) (rest_of (drop (w.at + 1 + n + 1) (drop w.origin.base s)) (origin_level w.origin) 0 (Text w.mode) (w.at + 1 + n + 1))) (sym piece)
+            ∙ ap (λ x. joined_parts (with_piece w.parts (opened_piece w.opener (drop (w.at + 1) (drop w.origin.base s)) (ended place p n).close) x) (drop w.origin.base s) (Text w.mode) x (rest_of (drop x (drop w.origin.base s)) (origin_level w.origin) 0 (Text w.mode) x)) (sym end)
             ∙ resume_read s w (ended place p n) waiting ends room;
         fine = record { before = omega arith; boundary = to_base s w.origin.base (w.at + 1 + n + 1) waiting.base.0 cut; short = (let none : length w.parts.literal ≡ 0 = ap length waiting.literal in omega (arith, none)) };
         base = waiting.base;
@@ -291,9 +291,9 @@ first_reading s utf8 = record {
   room = omega arith;
 }
 
-found_fault : (s : List ℕ) (fault : ParseFault) (r : Read) → joined (no_parts 0) s Start 0 r ≡ Err fault → commands_in r ≡ Err fault
-found_fault s fault (Ok rest) e = absurd (let h : joined (no_parts 0) s Start 0 (Ok rest) ≡ Err fault = e in cc)
-found_fault s fault (Err other) e = let h : joined (no_parts 0) s Start 0 (Err other) ≡ Err fault = e in cc
+found_fault : (s : List ℕ) (fault : ParseFault) (r : Read) → joined_parts (no_parts 0) s Start 0 r ≡ Err fault → commands_in r ≡ Err fault
+found_fault s fault (Ok rest) e = absurd (let h : joined_parts (no_parts 0) s Start 0 (Ok rest) ≡ Err fault = e in cc)
+found_fault s fault (Err other) e = let h : joined_parts (no_parts 0) s Start 0 (Err other) ≡ Err fault = e in cc
 
 pub outset_fault : (s : List ℕ) (fault : ParseFault) → own s outset ≡ Err fault → commands_in (rest_of s outermost 0 Start 0) ≡ Err fault
 outset_fault s fault e = found_fault s fault (rest_of s outermost 0 Start 0) e
@@ -302,11 +302,11 @@ pub outset_faults : (s : List ℕ) (fault : ParseFault) → (own s outset ≡ Er
 outset_faults s fault (inl e) = inl (outset_fault s fault e)
 outset_faults s fault (inr e) = inr e
 
-found_commands : (s : List ℕ) (commands : List Command) (close : ℕ) (r : Read) → joined (no_parts 0) s Start 0 r ≡ Ok (script_whole commands close) → commands_in r ≡ Ok commands
+found_commands : (s : List ℕ) (commands : List Command) (close : ℕ) (r : Read) → joined_parts (no_parts 0) s Start 0 r ≡ Ok (script_whole commands close) → commands_in r ≡ Ok commands
 found_commands s commands close (Ok rest) e =
     let is : script_whole ([] ++ rest.commands) rest.close ≡ script_whole commands close = (let h : Ok (script_whole ([] ++ rest.commands) rest.close) ≡ Ok (script_whole commands close) = e in cc) in
     ap (λ w. Ok w.commands) is
-found_commands s commands close (Err fault) e = absurd (let h : joined (no_parts 0) s Start 0 (Err fault) ≡ Ok (script_whole commands close) = e in cc)
+found_commands s commands close (Err fault) e = absurd (let h : joined_parts (no_parts 0) s Start 0 (Err fault) ≡ Ok (script_whole commands close) = e in cc)
 
 drop_all : (xs : List ℕ) (n : ℕ) → length xs ≤ n → drop n xs ≡ []
 drop_all [] zero h = refl
@@ -315,15 +315,15 @@ drop_all (x ∷ xs) zero h = absurd (omega (arith, h))
 drop_all (x ∷ xs) (suc n) h = drop_all xs n (omega (arith, h))
 
 -- where nothing is left to read
-pub end_reads : {first : Origin} (s : List ℕ) (ws : List Waiting) (o : Origin) (p : Parts) (place : BytePlace) (n : ℕ) → IsReading first s ws o p place n → length s ≤ o.base + n → joined p (drop o.base s) place n (at_end o.inside place n) ≡ own s o
+pub end_reads : {first : Origin} (s : List ℕ) (ws : List Waiting) (o : Origin) (p : Parts) (place : BytePlace) (n : ℕ) → IsReading first s ws o p place n → length s ≤ o.base + n → joined_parts p (drop o.base s) place n (read_at_end o.inside place n) ≡ own s o
 end_reads s ws o p place n r end =
     let none : drop n (drop o.base s) ≡ [] = drop_all (drop o.base s) n (omega (arith, end, length-drop o.base s)) in
-    ap (λ t. joined p (drop o.base s) place n (rest_of t (origin_level o) 0 place n)) (sym none) ∙ r.reads
+    ap (λ t. joined_parts p (drop o.base s) place n (rest_of t (origin_level o) 0 place n)) (sym none) ∙ r.reads
 
-pub unfinished_fault : (s : List ℕ) (ws : List Waiting) (o : Origin) (p : Parts) (place : BytePlace) (n : ℕ) (fault : ParseFault) → IsReading outset s ws o p place n → length s ≤ o.base + n → o.inside ≡ true → ((at : ℕ) → at_end true place at ≡ Err fault) →
+pub unfinished_fault : (s : List ℕ) (ws : List Waiting) (o : Origin) (p : Parts) (place : BytePlace) (n : ℕ) (fault : ParseFault) → IsReading outset s ws o p place n → length s ≤ o.base + n → o.inside ≡ true → ((at : ℕ) → read_at_end true place at ≡ Err fault) →
     commands_in (rest_of s outermost 0 Start 0) ≡ Err fault
 unfinished_fault s ws o p place n fault r end inside told =
-    let here : own s o ≡ Err fault = sym (end_reads s ws o p place n r end) ∙ ap (λ b. joined p (drop o.base s) place n (at_end b place n)) inside ∙ ap (joined p (drop o.base s) place n) (told n) in
+    let here : own s o ≡ Err fault = sym (end_reads s ws o p place n r end) ∙ ap (λ b. joined_parts p (drop o.base s) place n (read_at_end b place n)) inside ∙ ap (joined_parts p (drop o.base s) place n) (told n) in
     outset_fault s fault (chain_fault s outset o ws fault r.chain here)
 
 pub chain_inside : (s : List ℕ) (first o : Origin) (w : Waiting) (ws : List Waiting) → IsChain s first (w ∷ ws) o → o.inside ≡ true
@@ -338,7 +338,7 @@ outside_first s (w ∷ ws) o chain e = absurd (let h : o.inside ≡ true = chain
 pub record Finishing (s : List ℕ) (p : Parts) (place : BytePlace) : Type 0 where
   pub fine : IsFine p s place (length s)
   pub script : is_index place ≡ false
-  pub reads : joined p s place (length s) (at_end false place (length s)) ≡ own s outset
+  pub reads : joined_parts p s place (length s) (read_at_end false place (length s)) ≡ own s outset
 
 pub finishing : (s : List ℕ) (ws : List Waiting) (o : Origin) (p : Parts) (place : BytePlace) (n : ℕ) → IsReading outset s ws o p place n → length s ≤ o.base + n → o.inside ≡ false → Finishing s p place
 finishing s ws o p place n r end outside =
@@ -349,16 +349,16 @@ finishing s ws o p place n r end outside =
       fine = subst (λ k. IsFine p s place k) all (subst (λ k. IsFine p (drop k s) place n) base r.fine);
       script = r.index ∙ ap (λ x. is_index x.place) first;
       reads =
-          ap (λ k. joined p s place k (at_end false place k)) (sym all)
-          ∙ ap (λ k. joined p (drop k s) place n (at_end false place n)) (sym base)
-          ∙ ap (λ b. joined p (drop o.base s) place n (at_end b place n)) (sym outside)
+          ap (λ k. joined_parts p s place k (read_at_end false place k)) (sym all)
+          ∙ ap (λ k. joined_parts p (drop k s) place n (read_at_end false place n)) (sym base)
+          ∙ ap (λ b. joined_parts p (drop o.base s) place n (read_at_end b place n)) (sym outside)
           ∙ end_reads s ws o p place n r end
           ∙ ap (own s) first;
     }
 
-pub finished : (s : List ℕ) (p new : Parts) (place : BytePlace) → Finishing s p place → joined p s place (length s) (at_end false place (length s)) ≡ Ok (script_whole new.commands (length s)) → commands_in (rest_of s outermost 0 Start 0) ≡ Ok new.commands
+pub finished : (s : List ℕ) (p new : Parts) (place : BytePlace) → Finishing s p place → joined_parts p s place (length s) (read_at_end false place (length s)) ≡ Ok (script_whole new.commands (length s)) → commands_in (rest_of s outermost 0 Start 0) ≡ Ok new.commands
 finished s p new place f e = found_commands s new.commands (length s) (rest_of s outermost 0 Start 0) (sym f.reads ∙ e)
 
-pub finish_fault : (s : List ℕ) (p : Parts) (place : BytePlace) (fault : ParseFault) → Finishing s p place → (at_end false place (length s) ≡ Err fault) ⊎ (fault ≡ NoMemory) → (commands_in (rest_of s outermost 0 Start 0) ≡ Err fault) ⊎ (fault ≡ NoMemory)
-finish_fault s p place fault f (inl e) = inl (outset_fault s fault (sym f.reads ∙ ap (joined p s place (length s)) e))
+pub finish_fault : (s : List ℕ) (p : Parts) (place : BytePlace) (fault : ParseFault) → Finishing s p place → (read_at_end false place (length s) ≡ Err fault) ⊎ (fault ≡ NoMemory) → (commands_in (rest_of s outermost 0 Start 0) ≡ Err fault) ⊎ (fault ≡ NoMemory)
+finish_fault s p place fault f (inl e) = inl (outset_fault s fault (sym f.reads ∙ ap (joined_parts p s place (length s)) e))
 finish_fault s p place fault f (inr e) = inr e

@@ -2,7 +2,7 @@
 use Rattle.std.proofs.Common.{◌≡◌, ℕ, zero, suc, ◌+◌, inl, inr, Bool, true, false, List, [], ◌∷◌, ◌++◌, length, take, refl, sym, ap, subst, ◌∙◌, length-append, arith, Ok, Err}
 use Rattle.std.specs.List.{slice_range}
 use Rattle.tcl_words.specs.Classes.{class_of}
-use Rattle.tcl_words.specs.Changes.{Rest, Read, put, piece_before, changed, last_rest}
+use Rattle.tcl_words.specs.Changes.{TextRest, Read, put, piece_before, changed, last_rest}
 use Rattle.tcl_words.specs.Spans.{command_from}
 use Rattle.tcl_words.specs.Changes.Change.{command_begins, command_ends}
 use Rattle.tcl_words.specs.Reading.{Level, rest_of, past_opened, within, end_or_fault}
@@ -29,7 +29,7 @@ use Rattle.tcl_words.proofs.GapsRead.{IsOpen, at_start, at_between, blanks_read,
 
 -- these words and commands are read, up to this position less what is left
 pub record GivesLeft (r : Read) (stop : ℕ) (words : List Word) (commands : List Command) (left : List ℕ) : Type 0 where
-  pub rest : Rest
+  pub rest : TextRest
   pub is : r ≡ Ok rest
   pub words_are : rest.words ≡ words
   pub commands_are : rest.commands ≡ commands

@@ -3,10 +3,10 @@ use Rattle.std.proofs.Common.{◌≡◌, ℕ, Bool, true, false, List, [], ◌�
 use Rattle.tcl_words.specs.Kinds.{kind_before, class_means}
 use Rattle.tcl_words.specs.Classes.{class_of}
 use Rattle.tcl_words.specs.Grammar.{class_ends, ends_word}
-use Rattle.tcl_words.specs.Changes.{Rest, Read, put, changed, last_rest}
+use Rattle.tcl_words.specs.Changes.{TextRest, Read, put, changed, last_rest}
 use Rattle.tcl_text.specs.Backslash.{escape}
 use Rattle.tcl_words.specs.Changes.Change.{word_ends, text_ends, command_ends}
-use Rattle.tcl_words.specs.Moves.{Move, at_fault, word_over, in_between, in_text}
+use Rattle.tcl_words.specs.Moves.{ByteMove, at_fault, word_over, in_between, in_text}
 use Rattle.tcl_words.specs.declared.kind.Mode.{Mode}
 use Rattle.tcl_words.specs.declared.kind.Mode.TheVariants.{Bare, Quotes, Parens}
 use Rattle.tcl_text.specs.declared.fault.ParseFault.{ParseFault}
@@ -26,7 +26,7 @@ pub data EndsWords : BytePlace → Type 0 where
   quotes : EndsWords PastQuotes
   braces : EndsWords PastBraces
 
-over_kind : (other : Move) (inside : Bool) (kind : Kind) (b at : ℕ) (text : List ℕ) (level : Level) → class_ends inside kind text ≡ true →
+over_kind : (other : ByteMove) (inside : Bool) (kind : Kind) (b at : ℕ) (text : List ℕ) (level : Level) → class_ends inside kind text ≡ true →
     after_move (word_over (class_means inside kind text) at text other) level at text ≡ put (changed (word_ends at ∷ [])) (after_move (in_between (class_means inside kind text) b at text) level at text)
 over_kind other inside Blank b at text level e = ap (put (changed (word_ends at ∷ []))) (sym (put-none (rest_of text level 0 Between (at + 1))))
 over_kind other inside Newline b at text level e = sym (put-put (changed (word_ends at ∷ [])) (changed (command_ends ∷ [])) (rest_of text level 0 Start (at + 1)))
@@ -67,10 +67,10 @@ pub paren_read : (room : ℕ) (text : List ℕ) (at : ℕ) → rest_of (41 ∷ t
 unfolding class_of
 paren_read room text at = refl
 
-abbrev cleared : Rest → Rest
+abbrev cleared : TextRest → TextRest
 cleared rest = record rest { bytes = []; pieces = [] }
 
-clear_from : (f : Rest → Rest) (r s : Read) → ((x : Rest) → cleared (f x) ≡ f x) → r ≡ put f s → r ≡ put cleared r
+clear_from : (f : TextRest → TextRest) (r s : Read) → ((x : TextRest) → cleared (f x) ≡ f x) → r ≡ put f s → r ≡ put cleared r
 clear_from f r s h e = e ∙ again s ∙ ap (put cleared) (sym e)
   where
     again : (q : Read) → put f q ≡ put cleared (put f q)

@@ -5,10 +5,10 @@ use Rattle.tcl_words.specs.Kinds.{kind_before, class_means}
 use Rattle.tcl_words.specs.Classes.{class_of, begins_expansion}
 use Rattle.tcl_words.specs.Grammar.{class_ends, ends_word}
 use Rattle.tcl_text.specs.Backslash.{escape}
-use Rattle.tcl_words.specs.Changes.{Rest, Read, put, changed, pieces_of}
+use Rattle.tcl_words.specs.Changes.{TextRest, Read, put, changed, word_pieces}
 use Rattle.tcl_words.specs.Spans.{word_of}
 use Rattle.tcl_words.specs.Changes.Change.{bytes as put_bytes, text_ends, word_ends, word_begins, command_ends}
-use Rattle.tcl_words.specs.Moves.{Move, move_of, on, lone, in_expanded, in_between, change_before, word_over}
+use Rattle.tcl_words.specs.Moves.{ByteMove, move_of, on, lone, in_expanded, in_between, change_before, word_over}
 use Rattle.tcl_words.specs.Moves.{at_fault as fails_with}
 use Rattle.tcl_words.specs.Reading.{Level, rest_of, past, within, end_or_fault}
 use Rattle.tcl_words.specs.Grammar.{TextEnding, fails, Inner, IsInnerOf, begins_bare, begins_mark, IsBraced, IsUnclosed, IsOwnWord, IsFaultyOwn, IsMark, IsWord, IsFaultyWord}
@@ -88,7 +88,7 @@ bare_kinds false inside CloseBrace b at text h h1 h2 h3 h4 = refl
 bare_kinds true inside Other b at text h h1 h2 h3 h4 = refl
 bare_kinds false inside Other b at text h h1 h2 h3 h4 = refl
 
-begun : (level : Level) (form : WordForm) (expand : Bool) (start : ℕ) (move : Move) (at : ℕ) (text : List ℕ) →
+begun : (level : Level) (form : WordForm) (expand : Bool) (start : ℕ) (move : ByteMove) (at : ℕ) (text : List ℕ) →
     after_move (change_before (word_begins form expand start) move) level at text ≡ put (changed (word_begins form expand start ∷ [])) (after_move move level at text)
 begun level form expand start move at text =
     sym (put-put (changed (word_begins form expand start ∷ [])) (changed move.changes)
@@ -100,7 +100,7 @@ bare_begins level expand [] at h = cc
 bare_begins level expand (b ∷ text) at h =
     let two = both (not (class_ends level.inside (class_of b) text)) (not (b == 123) && not (b == 34)) h in
     let more = both (not (b == 123)) (not (b == 34)) two.1 in
-    let move : Move = move_of (Text Bare) (kind_before level.inside b text) b at text in
+    let move : ByteMove = move_of (Text Bare) (kind_before level.inside b text) b at text in
     moved_by (change_before (word_begins BareForm expand (word_start expand at)) move) (word_place expand) b text level at
     (bare_kinds expand level.inside (class_of b) b at text (not_true (class_ends level.inside (class_of b) text) two.0)
     (other_class b 123 OpenBrace (not_true (b == 123) more.0) (byte_is b OpenBrace)) (λ e. byte_is b Expansion e)
@@ -134,17 +134,17 @@ brace_begins level false text at h =
     (ap (λ t. move_of Between (if t then Expansion else OpenBrace) 123 at text) h)
 
 -- a word that was read, with its start and its end
-abbrev pub word_front : Word → Rest → Rest
+abbrev pub word_front : Word → TextRest → TextRest
 word_front word rest = record rest { bytes = []; pieces = []; end = 0; words = word ∷ rest.words }
 
 bare_front : (expand : Bool) (start end : ℕ) (bytes : List ℕ) (after : List Piece) (r : Read) →
-    put (changed (word_begins BareForm expand start ∷ [])) (put (with_text bytes after) (put (changed (word_ends end ∷ [])) r)) ≡ put (word_front (word_of BareForm expand start (pieces_of BareForm bytes after) end)) r
+    put (changed (word_begins BareForm expand start ∷ [])) (put (with_text bytes after) (put (changed (word_ends end ∷ [])) r)) ≡ put (word_front (word_of BareForm expand start (word_pieces BareForm bytes after) end)) r
 bare_front expand start end bytes after (Ok rest) = refl
 bare_front expand start end bytes after (Err fault) = refl
 
 quoted_front : (expand : Bool) (start end : ℕ) (bytes : List ℕ) (after : List Piece) (r : Read) →
     put (changed (word_begins QuotedForm expand start ∷ [])) (put (with_text bytes after) (put (changed (text_ends ∷ [])) (put (changed (word_ends end ∷ [])) r)))
-    ≡ put (word_front (word_of QuotedForm expand start (pieces_of QuotedForm bytes after) end)) r
+    ≡ put (word_front (word_of QuotedForm expand start (word_pieces QuotedForm bytes after) end)) r
 quoted_front expand start end bytes after (Ok rest) = refl
 quoted_front expand start end bytes after (Err fault) = refl
 
@@ -286,7 +286,7 @@ own_read inside room inner {rest} (braced_word own {value} are) expand at ends =
 
 -- What follows the quote or the brace that ends a word.
 
-over_other : (inside : Bool) (kind : Kind) (at : ℕ) (text : List ℕ) (other : Move) → class_ends inside kind text ≡ false → kind ≢ Continuation → word_over (class_means inside kind text) at text other ≡ other
+over_other : (inside : Bool) (kind : Kind) (at : ℕ) (text : List ℕ) (other : ByteMove) → class_ends inside kind text ≡ false → kind ≢ Continuation → word_over (class_means inside kind text) at text other ≡ other
 over_other inside Blank at text other h n = cc
 over_other inside Newline at text other h n = cc
 over_other inside Semicolon at text other h n = cc

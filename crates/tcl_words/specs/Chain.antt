@@ -3,7 +3,7 @@ use Rattle.std.specs.Prelude.{ℕ, suc, ◌+◌, ◌-◌, ◌≡◌, ◌<◌, �
 use Rattle.std.specs.List.{slice_range}
 use Rattle.std.specs.Str.{IsCharBoundary}
 use Rattle.tcl_words.specs.Reading.{Level, rest_of, opened_place, first_skip, opened_piece, commands_of, index_pieces_of}
-use Rattle.tcl_words.specs.Parts.{Parts, Whole, joined, no_parts, with_piece, is_index, ended, IsFine, IsOpenerCut}
+use Rattle.tcl_words.specs.Parts.{Parts, Whole, joined_parts, no_parts, with_piece, is_index, ended, IsFine, IsOpenerCut}
 use Rattle.tcl_words.specs.declared.kind.BytePlace.{BytePlace}
 use Rattle.tcl_words.specs.declared.kind.BytePlace.TheVariants.{Start, Text}
 use Rattle.tcl_words.specs.declared.kind.Opener.{Opener}
@@ -25,7 +25,7 @@ origin_level origin = record { inside = origin.inside; room = origin.room }
 -- what a script or an index gives by itself
 abbrev pub own : List ℕ → Origin → Result Whole ParseFault
 own source origin =
-    joined (no_parts origin.skip) (drop origin.base source) origin.place origin.skip
+    joined_parts (no_parts origin.skip) (drop origin.base source) origin.place origin.skip
     (rest_of (drop origin.base source) (origin_level origin) origin.skip origin.place 0)
 
 -- how that begins which is opened at this position
@@ -33,16 +33,16 @@ abbrev pub opened : Origin → ℕ → Opener → Origin
 opened origin at opener = record { base = origin.base + (at + 1); inside = true; room = origin.room - 1; skip = first_skip opener; place = opened_place opener }
 
 -- what waits, once it has what it waited for
-abbrev pub resumed : List ℕ → Waiting → Result Whole ParseFault → Result Whole ParseFault
-resumed source waiting (Ok whole) =
+abbrev pub waiting_resumed : List ℕ → Waiting → Result Whole ParseFault → Result Whole ParseFault
+waiting_resumed source waiting (Ok whole) =
     let behind : List ℕ = drop (waiting.at + 1) (drop waiting.origin.base source) in
     let end : ℕ = waiting.at + 1 + suc whole.close in
-    joined (with_piece waiting.parts (opened_piece waiting.opener behind whole.close) end) (drop waiting.origin.base source) (Text waiting.mode) end
+    joined_parts (with_piece waiting.parts (opened_piece waiting.opener behind whole.close) end) (drop waiting.origin.base source) (Text waiting.mode) end
     (rest_of behind (origin_level waiting.origin) (suc whole.close) (Text waiting.mode) (waiting.at + 1))
-resumed source waiting (Err fault) = Err fault
+waiting_resumed source waiting (Err fault) = Err fault
 
 pub record IsWaiting (source : List ℕ) (waiting : Waiting) : Type 0 where
-  pub resumes : resumed source waiting (own source (opened waiting.origin waiting.at waiting.opener)) ≡ own source waiting.origin
+  pub resumes : waiting_resumed source waiting (own source (opened waiting.origin waiting.at waiting.opener)) ≡ own source waiting.origin
   pub literal : waiting.parts.literal ≡ []
   pub index : is_index (Text waiting.mode) ≡ is_index waiting.origin.place
   pub base : IsCharBoundary source waiting.origin.base
@@ -59,7 +59,7 @@ IsChain source first (waiting ∷ others) origin =
 -- it, at this position from its base; these wait for it, the outermost of which began first.
 pub record IsReading (first : Origin) (source : List ℕ) (others : List Waiting) (origin : Origin) (parts : Parts) (place : BytePlace) (next : ℕ) : Type 0 where
   pub chain : IsChain source first others origin
-  pub reads : joined parts (drop origin.base source) place next (rest_of (drop next (drop origin.base source)) (origin_level origin) 0 place next)
+  pub reads : joined_parts parts (drop origin.base source) place next (rest_of (drop next (drop origin.base source)) (origin_level origin) 0 place next)
       ≡ own source origin
   pub fine : IsFine parts (drop origin.base source) place next
   pub base : IsCharBoundary source origin.base
@@ -72,7 +72,8 @@ abbrev pub waits_for : Origin → Parts → ℕ → Opener → Mode → Waiting
 waits_for origin parts at opener mode = record { origin = origin; parts = parts; at = at; opener = opener; mode = mode }
 
 -- a bracket or a parenthesis opens at this position
-pub record IsOpening (first : Origin) (source : List ℕ) (others : List Waiting) (origin : Origin) (parts : Parts) (at : ℕ) (opener : Opener) (mode : Mode) : Type 0 where
+pub record IsOpening (first : Origin) (source : List ℕ) (others : List Waiting) (origin : Origin) (parts : Parts)
+    (at : ℕ) (opener : Opener) (mode : Mode) : Type 0 where
   pub chain : IsChain source first others origin
   pub waits : 0 < origin.room → IsWaiting source (waits_for origin parts at opener mode)
   pub full : origin.room ≡ 0 → own source origin ≡ Err TooLong

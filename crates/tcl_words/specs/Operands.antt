@@ -5,8 +5,8 @@ use Rattle.std.specs.List.{slice_range}
 use Rattle.tcl_text.specs.Limits.{most_bytes, most_nested}
 use Rattle.tcl_words.specs.Kinds.{kind_before, dollar_of}
 use Rattle.tcl_words.specs.Changes.{Read, put, last_rest, literal_before, changed}
-use Rattle.tcl_words.specs.Moves.{Move, in_text}
-use Rattle.tcl_words.specs.Parts.{Parts, Whole, joined, IsCut}
+use Rattle.tcl_words.specs.Moves.{ByteMove, in_text}
+use Rattle.tcl_words.specs.Parts.{Parts, Whole, joined_parts, IsCut}
 use Rattle.tcl_words.specs.Reading.{within, rest_of, past, opened_place, first_skip, opened_piece}
 use Rattle.tcl_words.specs.Chain.{IsClosing}
 use Rattle.tcl_words.specs.declared.kind.Kind.{Kind}
@@ -72,7 +72,7 @@ abbrev pub quoted_rest : ℕ → List ℕ → ℕ → ℕ → Read
 quoted_rest room [] skip at = Err MissingQuote
 quoted_rest room (b ∷ text) (suc skip) at = quoted_rest room text skip (at + 1)
 quoted_rest room (b ∷ text) zero at =
-    let move : Move = in_text Parens (kind_before false b text) b text in
+    let move : ByteMove = in_text Parens (kind_before false b text) b text in
     at_quote (kind_before false b text) at
     (put (changed move.changes)
     (past move.step room at text (λ skip next. quoted_rest room text skip (at + 1)) (λ room skip next. rest_of text (within room) skip next 0)))
@@ -102,7 +102,7 @@ EndsAt first source parts close = (place : BytePlace) × IsClosing first source 
 
 -- what was read of a text in quotes, with the rest of it
 abbrev pub quoted_whole : ℕ → List ℕ → Parts → ℕ → Result Whole ParseFault
-quoted_whole room source parts next = joined parts source (Text Parens) next (quoted_rest room (drop next source) 0 next)
+quoted_whole room source parts next = joined_parts parts source (Text Parens) next (quoted_rest room (drop next source) 0 next)
 
 -- reading goes on at a position past this one, and gives the same in all
 pub record ReadsOn (room : ℕ) (source : List ℕ) (old : Parts) (at : ℕ) (new : Parts) (next : ℕ) : Type 0 where

@@ -7,9 +7,9 @@ ghost use Rattle.tcl_text.specs.Backslash.{escape};
 ghost use Rattle.tcl_text.specs.Escaped.{bytes_meant};
 ghost use Rattle.tcl_words.specs.Kinds.{kind_before as kind_meant, dollar_of as dollar_meant};
 ghost use Rattle.tcl_words.specs.Classes.{begins_expansion, begins_newline};
-ghost use Rattle.tcl_words.specs.Moves.{Move, word_over, in_text, at_dollar, in_bare, in_quotes, in_parens, in_braces, at_word, in_expanded, in_between, in_start, in_comment, move_of, move_at, at_fault};
+ghost use Rattle.tcl_words.specs.Moves.{ByteMove, word_over, in_text, at_dollar, in_bare, in_quotes, in_parens, in_braces, at_word, in_expanded, in_between, in_start, in_comment, move_of, move_at, at_fault};
 ghost use Rattle.tcl_words.specs.Parts.{DoesMove, DollarFits, IsFine, IsCut, IsExpansion, StandsAt, EndsWord, Escaped, FinishesScript, is_index, with_piece, with_literal};
-ghost use Rattle.tcl_words.specs.Reading.{at_end};
+ghost use Rattle.tcl_words.specs.Reading.{read_at_end};
 ghost use Rattle.tcl_words.specs.declared.script.Piece.TheVariants.{Variable};
 ghost use Rattle.tcl_text.specs.Limits.{most_bytes};
 
@@ -217,7 +217,7 @@ fn end_word(
 ) -> Result<Step, ParseFault>
     requires stands { StandsAt source.now at byte kind }
     requires ends { EndsWord kind }
-    ensures { (other : Move) → DoesMove parts.old parts.new source.now at BytePlace.PastBraces (word_over kind at (drop (at + 1) source.now) other) result }
+    ensures { (other : ByteMove) → DoesMove parts.old parts.new source.now at BytePlace.PastBraces (word_over kind at (drop (at + 1) source.now) other) result }
 {
     parts.end_word(alloc, at)?;
     match kind {
@@ -594,7 +594,7 @@ pub fn finish(
 
 /// The fault of a text that ends where a bracket or a parenthesis is to come.
 pub fn unfinished(place: BytePlace) -> ParseFault
-    ensures { (at : ℕ) → at_end true place at ≡ Err result }
+    ensures { (at : ℕ) → read_at_end true place at ≡ Err result }
 {
     match place {
         BytePlace::Text(Mode::Quotes) => ParseFault::MissingQuote,

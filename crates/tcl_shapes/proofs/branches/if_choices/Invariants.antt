@@ -1,6 +1,7 @@
 use Rattle.std.proofs.Common.{◌≡◌, drop}
 use Rattle.tcl_shapes.specs.declared.branches.Clause.TheVariants.{AtTest}
-use Rattle.tcl_shapes.specs.Branches.{choices_from, with_branches}
+use Rattle.tcl_shapes.specs.Ahead.{with_branches}
+use Rattle.tcl_shapes.specs.Branches.{choices_from}
 use Rattle.tcl_shapes.proofs.branches.if_choices.Given as goal
 
 -- with what the words that are left offer, there is all

@@ -15,8 +15,7 @@ pub(crate) fn sum(alloc: Global, config: &Text, args: &[Text]) -> Result<Text, R
 {
     let words = listed(alloc, config, args)?;
     let total = total(alloc, words.as_slice())?;
-    let answer = whole(alloc, total)?;
-    Ok(answer)
+    whole(alloc, total)
 }
 
 /// The sum of integers, however large.

@@ -7,10 +7,6 @@ use Rattle.tcl_text.specs.declared.fault.SetFault.{SetFault}
 use Rattle.tcl_text.specs.declared.fault.UnsetFault.{UnsetFault}
 use Rattle.tcl_text.specs.declared.fault.LinkFault.{LinkFault}
 
--- what no definition gives and no script is told
-abbrev pub no_memory_text : List ℕ
-no_memory_text = codes "out of memory"
-
 abbrev pub cannot_read : {T : Type 0} → List ℕ → ReadFault → Result T (List ℕ)
 cannot_read name fault = fails (read_text name fault)
 

@@ -1,5 +1,5 @@
 -- Changing a text that is there.
-use Rattle.std.proofs.Common.{◌≡◌, ◌≢◌, ℕ, ◌+◌, ◌<◌, ◌≤◌, ◌-◌, Bool, true, false, MatchBool, List, [], length, set, add-zero, Option, None, Some, Ok, Err, Result, ok_or, refl, sym, ap, ◌∙◌, subst, arith}
+use Rattle.std.proofs.Common.{◌≡◌, ◌≢◌, ℕ, ◌+◌, ◌<◌, ◌≤◌, ◌-◌, Bool, true, false, MatchBool, List, [], length, set, add-zero, Option, None, Some, Ok, Err, Result, IfOk, OnErr, ok_or, refl, sym, ap, ◌∙◌, subst, arith}
 use Rattle.std.proofs.lemmas.List.{set-get_or}
 use Rattle.tcl_text.specs.declared.edit.Edit.{Edit}
 use Rattle.tcl_text.specs.declared.fault.EditFault.{EditFault}
@@ -89,6 +89,12 @@ module _ (store : Store) (place : Place) (edit : Edit) where
   pub KeepsAt-direct : (fault : ChangeFault) → KeepsHere store place edit fault → edited_by edit (text_at store (end_of store place)) ≡ Err fault
   KeepsAt-direct fault h = ap (λ p. edited_by edit (text_at store p)) (led-here store place h.linkless) ∙ h.why
 
+  pub KeepsHere-frame : (fault : ChangeFault) → KeepsText (frame_at store place.level) place edit fault → KeepsHere store place edit fault
+  KeepsHere-frame fault h = record {
+    linkless = h.linkless;
+    why = h.why;
+  }
+
   pub ChangesAt-led : (end : Place) (new : Store) → end_of store place ≡ Some end → ChangesHere store end edit new → ChangesAt store (end_of store place) edit new
   ChangesAt-led end new leads h = subst (λ p. ChangesAt store p edit new) (sym leads) (record {
     value = h.value;
@@ -124,6 +130,12 @@ module _ (store : Store) (count : ℕ) (sound : IsSound store count) (place : Pl
       → IsSound (set store place.level new) count
   IsSound-change true h = subst (IsSound (set store place.level new)) (add-zero count) (IsSound-set store count sound place within h.value 0 new (h.puts (4096 - count)))
   IsSound-change false h = IsSound-same store count sound place.level new h.1
+
+  pub IsSound-changed : (result : Result Bool ChangeFault)
+      → IfOk result (λ done. MatchBool done (ChangesText (frame_at store place.level) place edit new) ((link_of (value_at (frame_at store place.level) place.variable) ≢ None) × (new ≡ frame_at store place.level)))
+      → OnErr result (new ≡ frame_at store place.level) → IsSound (set store place.level new) count
+  IsSound-changed (Ok done) changed same = IsSound-change done changed
+  IsSound-changed (Err fault) changed same = IsSound-same store count sound place.level new same
 
   pub AfterChange-store : (done : Bool) → MatchBool done (ChangesText (frame_at store place.level) place edit new) ((link_of (value_at (frame_at store place.level) place.variable) ≢ None) × (new ≡ frame_at store place.level))
       → MatchBool done (ChangesHere store place edit (set store place.level new)) ((link_of (content_at store place) ≢ None) × (set store place.level new ≡ store))

@@ -506,8 +506,7 @@ impl Scopes {
     {
         let alloc = self.alloc;
         let frame = &mut self.frames[place.level];
-        let done = change(alloc, frame, place, edit)?;
-        Ok(done)
+        change(alloc, frame, place, edit)
     }
 
     // Unsets the text to which a place leads.

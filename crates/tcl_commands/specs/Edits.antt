@@ -1,12 +1,11 @@
 -- Steps. What commands answer that change a text in place.
 use Rattle.std.specs.Prelude.{ℕ, List, Result, Ok, Err}
 use Rattle.tcl_text.specs.Answers.{Answer, limit_text, fails}
-use Rattle.tcl_text.specs.FaultTexts.{list_text}
+use Rattle.tcl_text.specs.FaultTexts.{list_text, no_memory_text}
 use Rattle.tcl_text.specs.Edit.{edited}
 use Rattle.tcl_text.specs.declared.edit.Edit.{Edit}
 use Rattle.tcl_text.specs.declared.fault.EditFault.{EditFault}
 use Rattle.tcl_text.specs.declared.fault.EditFault.TheVariants as edits
-use Rattle.tcl_commands.specs.Texts.{no_memory_text}
 
 -- a text as it is changed, or why it isn't
 abbrev pub edit_told : Result (List ℕ) EditFault → Answer

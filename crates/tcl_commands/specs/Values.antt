@@ -2,14 +2,14 @@
 use Rattle.std.specs.Prelude.{ℕ, ◌^◌, nat_lt, ℤ, pos, negsuc, ◌+ℤ◌, Bool, if◌then◌else◌, List, [], ◌∷◌, ◌++◌, Option, None, Some, Result, Ok, Err, codes}
 use Rattle.std.specs.Fmt.{signed_decimal}
 use Rattle.std.specs.List.{concat}
-use Rattle.tcl_text.specs.Answers.{Answer, ◌>>=◌, answers, wrong_args, integer_in, items_in, truth}
+use Rattle.tcl_text.specs.Answers.{Answer, ◌>>=◌, answers, wrong_args, too_large, integer_in, items_in, truth}
 use Rattle.tcl_text.specs.Readings.{list_form}
 use Rattle.tcl_vars.specs.Store.{Store, variable_in, with_variable, has_variable}
 use Rattle.tcl_text.specs.declared.fault.ReadFault.{ReadFault}
 use Rattle.tcl_text.specs.declared.fault.ReadFault.TheVariants.{NoVariable, NoElement, IsArray, NotArray}
 use Rattle.tcl_text.specs.declared.fault.SetFault.{SetFault}
 use Rattle.tcl_commands.specs.Done.{Done, keeps}
-use Rattle.tcl_commands.specs.Texts.{cannot_read, cannot_set, too_large}
+use Rattle.tcl_commands.specs.Texts.{cannot_read, cannot_set}
 
 -- a variable's value, or why it can't be read
 abbrev pub value_read : List ℕ → Result (List ℕ) ReadFault → Answer

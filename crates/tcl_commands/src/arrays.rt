@@ -9,11 +9,11 @@ ghost use Rattle.tcl_commands.specs.Texts.{cannot_set};
 ghost use Rattle.tcl_commands.specs.Arrays as spec;
 ghost use Rattle.tcl_commands.specs.ArraySteps.{pairs_matching};
 
-use crate::texts::{Reply, cannot_set, empty_answer, missing_value};
+use crate::texts::{Reply, cannot_set, empty_answer};
 use crate::unset::unset_one;
 use std::alloc::{AllocError, Global};
 use tcl_text::answers::{
-    Refusal, bad_option, decimal_answer, limit_reached, truth_answer, wrong_args,
+    Refusal, bad_option, decimal_answer, limit_reached, missing_value, truth_answer, wrong_args,
 };
 use tcl_text::items::{items_in, list_answer};
 use tcl_text::{MAX_BYTES, Text, TextList};

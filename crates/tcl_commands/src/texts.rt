@@ -5,8 +5,7 @@ ghost use Rattle.tcl_commands.specs.Texts as spec;
 
 use std::alloc::Global;
 use tcl_text::Text;
-use tcl_text::answers::{Refusal, error_about};
-use tcl_text::message::too_large_text;
+use tcl_text::answers::Refusal;
 use tcl_vars::{ReadFault, SetFault};
 
 /// What a command replies: its result, or why there is none.
@@ -29,21 +28,6 @@ pub fn cannot_set<T>(alloc: Global, name: &str, fault: SetFault) -> Result<T, Re
         SetFault::NoMemory => Err(Refusal::NoMemory),
         _ => Err(Refusal::Error(fault.text(alloc, name)?)),
     }
-}
-
-/// The error that a sum is past 64 bits (13).
-#[tactic(auto, unfolding(tcl_text::specs::Messages::bounded))]
-pub fn too_large<T>(alloc: Global) -> Result<T, Refusal>
-    ensures { Gives result spec.too_large }
-{
-    Err(Refusal::Error(too_large_text(alloc)?))
-}
-
-/// The error that the last of keys and values is a key.
-pub fn missing_value<T>(alloc: Global, key: &str) -> Result<T, Refusal>
-    ensures { Gives result (spec.missing_value key.now) }
-{
-    Err(error_about(alloc, "value for ", key, " missing"))
 }
 
 /// The empty result.

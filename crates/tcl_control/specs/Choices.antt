@@ -14,7 +14,7 @@ use Rattle.tcl_control.specs.declared.code.Code.TheVariants.{Normal}
 use Rattle.tcl_control.specs.declared.plan.Plan.{Plan}
 use Rattle.tcl_control.specs.declared.plan.Plan.TheVariants.{Ends, Runs, Chooses}
 use Rattle.tcl_control.specs.declared.usages.Usage.TheVariants as usage
-use Rattle.tcl_control.specs.Commands.{bad_option, failed_plan, misused}
+use Rattle.tcl_control.specs.Commands.{bad_option_plan, failed_plan, misused}
 use Rattle.tcl_text.specs.Answers.{message}
 
 -- ── if ──
@@ -74,7 +74,7 @@ switched matching value pairs = by_pairs matching value (list_of pairs)
 
 -- behind -exact or -glob
 abbrev pub switched_past : Matching → List ℕ → List ℕ → List ℕ → Plan
-switched_past matching option value pairs = if bytes_eq option (codes "--") then switched matching value pairs else bad_option option
+switched_past matching option value pairs = if bytes_eq option (codes "--") then switched matching value pairs else bad_option_plan option
 
 -- switch ?-exact|-glob? ?--? value pairs
 abbrev pub switch_plan : List (List ℕ) → Plan
@@ -83,10 +83,10 @@ switch_plan (option ∷ value ∷ pairs ∷ []) =
     if bytes_eq option (codes "-exact") then switched Exact value pairs
     else (if bytes_eq option (codes "-glob") then switched Glob value pairs
     else (if bytes_eq option (codes "--") then switched Exact value pairs
-    else bad_option option))
+    else bad_option_plan option))
 switch_plan (option ∷ other ∷ value ∷ pairs ∷ []) =
     if bytes_eq option (codes "-exact") then switched_past Exact other value pairs
     else (if bytes_eq option (codes "-glob") then switched_past Glob other value pairs
     else (if bytes_eq option (codes "--") then misused usage.Switch
-    else bad_option option))
+    else bad_option_plan option))
 switch_plan _ = misused usage.Switch

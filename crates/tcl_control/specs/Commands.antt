@@ -23,7 +23,7 @@ use Rattle.tcl_shapes.specs.declared.groups.Group.{Group}
 use Rattle.tcl_control.specs.declared.usages.Usage.{Usage}
 use Rattle.tcl_control.specs.declared.usages.Usage.TheVariants as usage
 use Rattle.tcl_control.specs.Usages.{misused_text}
-use Rattle.tcl_table.specs.Texts.{cannot_set}
+use Rattle.tcl_table.specs.Texts.{cannot_set_text}
 use Rattle.tcl_text.specs.Messages.{bad_option_text, message, quoted}
 
 abbrev pub failed_plan : List ℕ → Plan
@@ -34,8 +34,8 @@ unfoldable pub misused : Usage → Plan
 misused how = failed_plan (misused_text how)
 
 -- a word that is no option
-abbrev pub bad_option : List ℕ → Plan
-bad_option word = failed_plan (message (bad_option_text word))
+abbrev pub bad_option_plan : List ℕ → Plan
+bad_option_plan word = failed_plan (message (bad_option_text word))
 
 -- ── codes ──
 
@@ -84,7 +84,7 @@ returns_code word text None = failed_plan (message (codes "bad completion code "
 unfoldable pub returns_as : List ℕ → List ℕ → List ℕ → Plan
 returns_as option word text =
     if bytes_eq option (codes "-code") then returns_code word text (code_of word)
-    else bad_option option
+    else bad_option_plan option
 
 -- return ?-code code? ?value?
 abbrev pub return_plan : List (List ℕ) → Plan
@@ -204,7 +204,7 @@ info_plan count level store [] = misused usage.Info
 info_plan count level store (option ∷ words) =
     if bytes_eq option (codes "level") then level_plan count words
     else (if bytes_eq option (codes "exists") then texts_plan (exists_words level words store)
-    else bad_option option)
+    else bad_option_plan option)
 
 -- ── variables ──
 
@@ -225,7 +225,7 @@ code_number Continue = codes "4"
 
 abbrev pub stored_ending : List ℕ → List ℕ → Store → Result Store SetFault → Ending
 stored_ending number name store (Ok changed) = record { store = changed; code = Normal; text = number }
-stored_ending number name store (Err fault) = record { store = store; code = Error; text = cannot_set name fault }
+stored_ending number name store (Err fault) = record { store = store; code = Error; text = cannot_set_text name fault }
 
 -- a script has ended so: its code is answered, and its result is put into the variable
 abbrev pub caught_ending : ℕ → Option (List ℕ) → Code → List ℕ → Store → Ending

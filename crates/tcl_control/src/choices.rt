@@ -2,7 +2,7 @@ ghost use Rattle.std.specs.Prelude.{◌≡◌, ◌∷◌, [], IfOk};
 ghost use Rattle.tcl_text.specs.Readings.{list_of};
 ghost use Rattle.tcl_shapes.specs.Branches.{choices_of, arms_of};
 ghost use Rattle.tcl_control.specs.Choices.{if_plan, ends_open, is_dash, matches, takes, body_of, arm_for, by_arms, by_pairs, switched, switched_past, switch_plan, no_body};
-ghost use Rattle.tcl_control.specs.Commands.{bad_option};
+ghost use Rattle.tcl_control.specs.Commands.{bad_option_plan};
 
 use crate::code::Code;
 use crate::plan::{Plan, fails};
@@ -133,8 +133,8 @@ fn switched(
 }
 
 /// A command ends with the error that a word is no option. It has no number.
-pub fn bad_option(alloc: Global, word: &Text) -> Result<Plan, AllocError>
-    ensures { IfOk result (λ plan. plan ≡ bad_option word.now) }
+pub fn bad_option_plan(alloc: Global, word: &Text) -> Result<Plan, AllocError>
+    ensures { IfOk result (λ plan. plan ≡ bad_option_plan word.now) }
 {
     Ok(fails(bad_option_text(alloc, word.as_str())?))
 }
@@ -151,7 +151,7 @@ fn switched_by(alloc: Global, option: &Text, value: &Text, pairs: &Text) -> Resu
     } else if name == "--" {
         switched(alloc, Matching::Exact, value, pairs)
     } else {
-        bad_option(alloc, option)
+        bad_option_plan(alloc, option)
     }
 }
 
@@ -167,7 +167,7 @@ fn switched_past(
     if option.as_str() == "--" {
         switched(alloc, matching, value, pairs)
     } else {
-        bad_option(alloc, option)
+        bad_option_plan(alloc, option)
     }
 }
 
@@ -189,7 +189,7 @@ fn switched_by_two(
     } else if name == "--" {
         misused(alloc, Usage::Switch)
     } else {
-        bad_option(alloc, option)
+        bad_option_plan(alloc, option)
     }
 }
 

@@ -9,7 +9,7 @@ ghost use Rattle.tcl_vars.specs.Store.{Store};
 ghost use Rattle.tcl_control.specs.Control.{recorded_plan, proc_call, rename_call, builtin_call, by_command, call_of, keeps_all};
 ghost use Rattle.tcl_text.specs.Limits.{most_bytes};
 
-use crate::choices::{bad_option, if_plan, switch_plan};
+use crate::choices::{bad_option_plan, if_plan, switch_plan};
 use crate::code::{Code, ReturnCode};
 use crate::context::Context;
 use crate::define::{make_procedure, rename};
@@ -277,7 +277,7 @@ fn returns_as(alloc: Global, option: &Text, word: &Text, text: Text) -> Result<P
     ensures { IfOk result (λ plan. plan ≡ returns_as option.now word.now text) }
 {
     if option.as_str() != "-code" {
-        return bad_option(alloc, option);
+        return bad_option_plan(alloc, option);
     }
     match code_of(word) {
         Some(code) => Ok(Plan::Ends(Code::Return(code), text)),
@@ -439,7 +439,7 @@ fn info_plan(
     } else if option.as_str() == "exists" {
         Ok(plan_of(info_exists(alloc, scopes, level, rest)?))
     } else {
-        bad_option(alloc, option)
+        bad_option_plan(alloc, option)
     }
 }
 

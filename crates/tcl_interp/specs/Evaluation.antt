@@ -16,7 +16,7 @@ use Rattle.tcl_control.specs.declared.code.Code.{Code}
 use Rattle.tcl_control.specs.declared.code.Code.TheVariants.{Normal, Error}
 use Rattle.tcl_control.specs.declared.context.Context.{Context}
 use Rattle.tcl_control.specs.Levels.{here}
-use Rattle.tcl_control.specs.Texts.{limit_text, message, cannot_read, element_name}
+use Rattle.tcl_control.specs.Texts.{limit_text, message, cannot_read_text, element_name}
 use Rattle.tcl_text.specs.Limits.{most_bytes, most_nested}
 
 -- What the object of the outside commands shows, the variables, the levels and the commands, and how many steps are left.
@@ -56,7 +56,7 @@ with_step state after = stepped state.steps state after
 -- with the value of a variable
 abbrev pub on_read : {S : Type 0} → List ℕ → State S → (State S → List ℕ → Outcome S) → Result (List ℕ) ReadFault → Outcome S
 on_read name state after (Ok value) = after state value
-on_read name state after (Err fault) = Ended state Error (cannot_read name fault)
+on_read name state after (Err fault) = Ended state Error (cannot_read_text name fault)
 
 abbrev pub with_value_of : {S : Type 0} → List ℕ → State S → (State S → List ℕ → Outcome S) → Outcome S
 with_value_of name state after = on_read name state after (variable_in state.store (seen_level state) name)

@@ -28,7 +28,7 @@ use Rattle.tcl_control.specs.ExpressionForms.{evaluation_begins}
 use Rattle.tcl_control.specs.Commands.{Ending, caught_ending}
 use Rattle.tcl_control.specs.Levels.{here, popped}
 use Rattle.tcl_control.specs.Source.{script_of}
-use Rattle.tcl_control.specs.Texts.{limit_text, message, nesting_text, break_outside, continue_outside, cannot_read, element_name, unknown_command}
+use Rattle.tcl_control.specs.Texts.{limit_text, message, nesting_text, break_outside, continue_outside, cannot_read_text, element_name, unknown_command}
 use Rattle.tcl_control.specs.Turns.{Tested, More, NoMore, Fails as TestFails, items_tested}
 use Rattle.tcl_interp.specs.declared.tasks.Act.{Act}
 use Rattle.tcl_interp.specs.declared.tasks.Act.TheVariants.{Done, Step, Run, Unknown}
@@ -64,7 +64,7 @@ pub data PieceText : Type 0 where
 
 abbrev pub variable_value : List ℕ → Result (List ℕ) ReadFault → PieceText
 variable_value name (Ok value) = Plain value
-variable_value name (Err fault) = Fails (cannot_read name fault)
+variable_value name (Err fault) = Fails (cannot_read_text name fault)
 
 -- where variables are those of a level
 abbrev pub piece_text : ℕ → Store → Piece → PieceText
@@ -145,7 +145,7 @@ module _ {K : Type 0} where
 
   abbrev pub element_end : List ℕ → Result (List ℕ) ReadFault → Doing K
   element_end name (Ok value) = Ends Normal value
-  element_end name (Err fault) = Ends Error (cannot_read name fault)
+  element_end name (Err fault) = Ends Error (cannot_read_text name fault)
 
   -- an index that comes so far
   abbrev pub index_move : ℕ → Store → Indexing → List (Waiting K) → WordEnd → Moved K
@@ -170,7 +170,7 @@ module _ {K : Type 0} where
   -- it goes on with the value of a variable of this name
   abbrev pub value_given : ℕ → Resumption → List ℕ → Result (List ℕ) ReadFault → Doing K
   value_given room evaluation name (Ok value) = Evaluates room evaluation (Some value)
-  value_given room evaluation name (Err fault) = Ends Error (cannot_read name fault)
+  value_given room evaluation name (Err fault) = Ends Error (cannot_read_text name fault)
 
   -- it has asked for something, or has ended
   abbrev pub asked_move : ℕ → Store → ℕ → Resumption → List (Waiting K) → Ask → Moved K

@@ -10,9 +10,12 @@ abbrev pub group_named : List (List ℕ) → Result (List (List ℕ)) ListFault 
 group_named names (Ok items) = Ok (record { names = names; items = items; next = 0 })
 group_named names (Err fault) = Err (message (list_text fault))
 
+abbrev pub no_names_text : List ℕ
+no_names_text = codes "foreach varlist is empty"
+
 -- a list of names, which isn't empty, and a list of items
 abbrev pub group_of : Result (List (List ℕ)) ListFault → Result (List (List ℕ)) ListFault → Result Group (List ℕ)
-group_of (Ok []) items = Err (codes "foreach varlist is empty")
+group_of (Ok []) items = Err no_names_text
 group_of (Ok (name ∷ names)) items = group_named (name ∷ names) items
 group_of (Err fault) items = Err (message (list_text fault))
 

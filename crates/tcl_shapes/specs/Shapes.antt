@@ -7,7 +7,7 @@ use Rattle.tcl_text.specs.declared.fault.ListFault.{ListFault}
 use Rattle.tcl_shapes.specs.declared.branches.Branch.{Branch}
 use Rattle.tcl_shapes.specs.declared.branches.Choices.{Choices}
 use Rattle.tcl_shapes.specs.declared.groups.Group.{Group}
-use Rattle.tcl_shapes.specs.Groups.{advanced}
+use Rattle.tcl_shapes.specs.Groups.{advanced, no_names_text}
 use Rattle.tcl_text.specs.Answers.{message}
 
 -- cond ?then? body: a `then` right behind the condition is never the body
@@ -52,7 +52,7 @@ IsNoList word text = (fault : ListFault) × IsListFault word fault × (text ≡ 
 abbrev pub IsNoGroup : List ℕ → List ℕ → List ℕ → Type 0
 IsNoGroup names items text =
     IsNoList names text
-    ⊎ ((IsList names [] × (text ≡ codes "foreach varlist is empty")) ⊎ ((own : List (List ℕ)) × IsList names own × (own ≢ []) × IsNoList items text))
+    ⊎ ((IsList names [] × (text ≡ no_names_text)) ⊎ ((own : List (List ℕ)) × IsList names own × (own ≢ []) × IsNoList items text))
 
 -- ?names items ..?: the words before the body of `foreach`, which itself needs one pair at least
 abbrev pub AreGroups : List (List ℕ) → List Group → Type 0

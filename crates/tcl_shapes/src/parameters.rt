@@ -7,6 +7,9 @@ use std::alloc::{AllocError, Global};
 use tcl_text::{SplitFault, Text};
 use tcl_vars::element_of;
 
+/// What is told of items that are no parameters.
+const BAD_LIST: &str = "bad parameter list";
+
 /// A parameter of a procedure, and its default (proc(n)). A call gives the last one the rest of its words where that is named `args`.
 #[derive(Drop)]
 pub struct Parameter {
@@ -57,7 +60,7 @@ fn parameter_named(
             fallback,
         }))
     } else {
-        Ok(Err(Text::of_short(alloc, "bad parameter list")?))
+        Ok(Err(Text::of_short(alloc, BAD_LIST)?))
     }
 }
 
@@ -67,7 +70,7 @@ fn parameter_parts(alloc: Global, parts: &[Text]) -> Result<Result<Parameter, Te
     match parts {
         [name] => parameter_named(alloc, name, None),
         [name, fallback] => parameter_named(alloc, name, Some(fallback.copy()?)),
-        _ => Ok(Err(Text::of_short(alloc, "bad parameter list")?)),
+        _ => Ok(Err(Text::of_short(alloc, BAD_LIST)?)),
     }
 }
 

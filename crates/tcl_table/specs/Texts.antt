@@ -20,8 +20,8 @@ continue_outside = codes "invoked \"continue\" outside of a loop"
 abbrev pub unknown_command : List ℕ → List ℕ
 unknown_command name = message (codes "invalid command name " ++ quoted name)
 
-abbrev pub cannot_read : List ℕ → ReadFault → List ℕ
-cannot_read name fault = message (read_text name fault)
+abbrev pub cannot_read_text : List ℕ → ReadFault → List ℕ
+cannot_read_text name fault = message (read_text name fault)
 
-abbrev pub cannot_set : List ℕ → SetFault → List ℕ
-cannot_set name fault = message (set_text name fault)
+abbrev pub cannot_set_text : List ℕ → SetFault → List ℕ
+cannot_set_text name fault = message (set_text name fault)

@@ -1,6 +1,6 @@
 //! The texts of errors, as scripts are told of them. In place of one past 65,536 bytes stands that of the limit (4).
 ghost use Rattle.std.specs.Prelude.{◌≡◌, IfOk};
-ghost use Rattle.tcl_table.specs.Texts.{cannot_read, unknown_command};
+ghost use Rattle.tcl_table.specs.Texts.{cannot_read_text, unknown_command};
 ghost use Rattle.tcl_vars.specs.Texts.{element_name};
 
 use std::alloc::{AllocError, Global};
@@ -15,7 +15,7 @@ pub fn cannot_read_element(
     index: &Text,
     fault: ReadFault,
 ) -> Result<Text, AllocError>
-    ensures { IfOk result (λ text. text ≡ cannot_read (element_name name.now index.now) fault) }
+    ensures { IfOk result (λ text. text ≡ cannot_read_text (element_name name.now index.now) fault) }
 {
     let element = element_name(alloc, name.as_str(), index.as_str())?;
     fault.text(alloc, element.as_str())

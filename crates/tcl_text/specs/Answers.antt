@@ -7,7 +7,7 @@ use Rattle.tcl_text.specs.declared.commands.answers.Refusal.{Refusal}
 use Rattle.tcl_text.specs.declared.commands.answers.Refusal.TheVariants.{Error, NoMemory}
 use Rattle.tcl_text.specs.Limits.{most_bytes}
 use Rattle.tcl_text.specs.FaultTexts.{integer_text, list_text}
-pub use Rattle.tcl_text.specs.Messages.{limit_text, message, quoted, wrong_args_text, bad_option_text, bad_index_text, too_large_text}
+pub use Rattle.tcl_text.specs.Messages.{limit_text, message, quoted, wrong_args_text, bad_option_text, bad_index_text, missing_value_text, too_large_text}
 unfoldable pub use Rattle.tcl_text.specs.Messages.{bounded}
 
 -- a command's result, or the text of its error
@@ -37,6 +37,12 @@ bad_option word = fails (bad_option_text word)
 
 abbrev pub bad_index : {T : Type 0} → List ℕ → Result T (List ℕ)
 bad_index word = fails (bad_index_text word)
+
+abbrev pub missing_value : {T : Type 0} → List ℕ → Result T (List ℕ)
+missing_value word = fails (missing_value_text word)
+
+abbrev pub too_large : {T : Type 0} → Result T (List ℕ)
+too_large = fails too_large_text
 
 abbrev pub expected_integer : {T : Type 0} → List ℕ → Result T (List ℕ)
 expected_integer word = fails (integer_text word)

@@ -34,6 +34,10 @@ bad_index_text word = codes "bad index " ++ quoted word
 abbrev pub bad_name_text : List ℕ → List ℕ
 bad_name_text name = codes "can't use name " ++ quoted name
 
+-- a word has no value behind it
+abbrev pub missing_value_text : List ℕ → List ℕ
+missing_value_text word = codes "value for " ++ (quoted word ++ codes " missing")
+
 -- an integer is past 64 bits
 abbrev pub too_large_text : List ℕ
 too_large_text = codes "integer value too large to represent"

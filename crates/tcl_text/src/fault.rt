@@ -19,6 +19,18 @@ use std::alloc::{AllocError, AllocFailed, Global};
 use std::fmt::{self, Display, Formatter, Write};
 use thiserror::Error;
 
+/// There is no such variable (15).
+const NO_VARIABLE: &str = "no such variable";
+
+/// The array has no such element (16).
+const NO_ELEMENT: &str = "no such element in array";
+
+/// An array is meant without an index (17).
+const IS_ARRAY: &str = "variable is array";
+
+/// An element is meant of what is no array (18).
+const NOT_ARRAY: &str = "variable isn't array";
+
 /// What a script is told where there would be more than 4,096 variables (19).
 const NO_ROOM: &str = "limit reached: variables";
 
@@ -193,7 +205,7 @@ impl SplitFault {
 
     /// The fault as a script is told of it. Refused memory has no such text: it is empty.
     pub fn text(&self) -> &'static str
-        ensures { result.now ≡ texts.split_text self.now }
+        ensures { result.now ≡ texts.split_fault_text self.now }
     {
         match self {
             SplitFault::BadList(fault) => fault.text(),
@@ -394,10 +406,10 @@ impl ReadFault {
         ensures { result.now ≡ texts.read_reason self.now }
     {
         match self {
-            ReadFault::NoVariable => "no such variable",
-            ReadFault::NoElement => "no such element in array",
-            ReadFault::IsArray => "variable is array",
-            ReadFault::NotArray => "variable isn't array",
+            ReadFault::NoVariable => NO_VARIABLE,
+            ReadFault::NoElement => NO_ELEMENT,
+            ReadFault::IsArray => IS_ARRAY,
+            ReadFault::NotArray => NOT_ARRAY,
         }
     }
 
@@ -420,16 +432,12 @@ impl Display for ReadFault {
 #[derive(Clone, Copy, Debug, PartialEq, Eq, Drop, Error)]
 pub enum SetFault {
     /// An array is set without an index (17).
-    #[error("variable is array")]
     IsArray,
     /// An element is meant of what is no array (18).
-    #[error("variable isn't array")]
     NotArray,
     /// There would be more than 4,096 variables: each name of a frame counts one, and each element of an array one more (19).
-    #[error("limit reached: variables")]
     Full,
     /// Memory was refused.
-    #[error("out of memory")]
     NoMemory,
 }
 
@@ -446,17 +454,34 @@ impl SetFault {
         }
     }
 
+    // What it shows.
+    fn reason(&self) -> &'static str
+        ensures { result.now ≡ texts.set_reason self.now }
+    {
+        match self {
+            SetFault::IsArray => IS_ARRAY,
+            SetFault::NotArray => NOT_ARRAY,
+            SetFault::Full => NO_ROOM,
+            SetFault::NoMemory => NO_MEMORY,
+        }
+    }
+
     /// Why the variable of this name can't be set, as its script is told of it; the text of the limit (4) stands in place of one past
     /// 65,536 bytes. Refused memory has no such text: it is empty.
     pub fn text(&self, alloc: Global, name: &str) -> Result<Text, AllocError>
         ensures { IfOk result (λ text. text ≡ message (texts.set_text name.now self.now)) }
     {
         match self {
-            SetFault::IsArray => cannot(alloc, "set", name, "variable is array"),
-            SetFault::NotArray => cannot(alloc, "set", name, "variable isn't array"),
             SetFault::Full => Text::of_short(alloc, NO_ROOM),
             SetFault::NoMemory => Text::of_short(alloc, ""),
+            _ => cannot(alloc, "set", name, self.reason()),
         }
+    }
+}
+
+impl Display for SetFault {
+    fn fmt<W: Write>(&self, formatter: &mut Formatter<W>) -> fmt::Result {
+        formatter.write_str(self.reason())
     }
 }
 
@@ -472,16 +497,12 @@ impl From<AllocError> for SetFault {
 #[derive(Clone, Copy, Debug, PartialEq, Eq, Drop, Error)]
 pub enum ChangeFault {
     /// It can't be read (15 to 18).
-    #[error("{0}")]
     Unread(ReadFault),
     /// The value would pass 65,536 bytes (4).
-    #[error("limit reached: value")]
     TooLong,
     /// It is no list (3).
-    #[error("{0}")]
     BadList(ListFault),
     /// Memory was refused.
-    #[error("out of memory")]
     NoMemory,
 }
 
@@ -495,6 +516,18 @@ impl ChangeFault {
             ChangeFault::TooLong => Some(4),
             ChangeFault::BadList(_) => Some(3),
             ChangeFault::NoMemory => None,
+        }
+    }
+
+    // What it shows.
+    fn reason(&self) -> &'static str
+        ensures { result.now ≡ texts.change_reason self.now }
+    {
+        match self {
+            ChangeFault::Unread(fault) => fault.reason(),
+            ChangeFault::TooLong => TOO_LONG,
+            ChangeFault::BadList(fault) => fault.text(),
+            ChangeFault::NoMemory => NO_MEMORY,
         }
     }
 
@@ -512,6 +545,12 @@ impl ChangeFault {
     }
 }
 
+impl Display for ChangeFault {
+    fn fmt<W: Write>(&self, formatter: &mut Formatter<W>) -> fmt::Result {
+        formatter.write_str(self.reason())
+    }
+}
+
 impl From<AllocError> for ChangeFault {
     ghost from_gives = { λ _ e. e ≡ change_fault.NoMemory };
 
@@ -524,16 +563,12 @@ impl From<AllocError> for ChangeFault {
 #[derive(Clone, Copy, Debug, PartialEq, Eq, Drop, Error)]
 pub enum UnsetFault {
     /// There is no such variable (15).
-    #[error("no such variable")]
     NoVariable,
     /// The array has no such element (16).
-    #[error("no such element in array")]
     NoElement,
     /// An element is meant of what is no array (18).
-    #[error("variable isn't array")]
     NotArray,
     /// Memory was refused.
-    #[error("out of memory")]
     NoMemory,
 }
 
@@ -550,17 +585,33 @@ impl UnsetFault {
         }
     }
 
+    // What it shows.
+    fn reason(&self) -> &'static str
+        ensures { result.now ≡ texts.unset_reason self.now }
+    {
+        match self {
+            UnsetFault::NoVariable => NO_VARIABLE,
+            UnsetFault::NoElement => NO_ELEMENT,
+            UnsetFault::NotArray => NOT_ARRAY,
+            UnsetFault::NoMemory => NO_MEMORY,
+        }
+    }
+
     /// Why the variable of this name can't be unset, as its script is told of it; the text of the limit (4) stands in place of one past
     /// 65,536 bytes. Refused memory has no such text: it is empty.
     pub fn text(&self, alloc: Global, name: &str) -> Result<Text, AllocError>
         ensures { IfOk result (λ text. text ≡ message (texts.unset_text name.now self.now)) }
     {
         match self {
-            UnsetFault::NoVariable => cannot(alloc, "unset", name, "no such variable"),
-            UnsetFault::NoElement => cannot(alloc, "unset", name, "no such element in array"),
-            UnsetFault::NotArray => cannot(alloc, "unset", name, "variable isn't array"),
             UnsetFault::NoMemory => Text::of_short(alloc, ""),
+            _ => cannot(alloc, "unset", name, self.reason()),
         }
+    }
+}
+
+impl Display for UnsetFault {
+    fn fmt<W: Write>(&self, formatter: &mut Formatter<W>) -> fmt::Result {
+        formatter.write_str(self.reason())
     }
 }
 
@@ -576,16 +627,12 @@ impl From<AllocError> for UnsetFault {
 #[derive(Clone, Copy, Debug, PartialEq, Eq, Drop, Error)]
 pub enum LinkFault {
     /// The name means an element, or a variable of the global frame by a leading `::`.
-    #[error("can't use name")]
     BadName,
     /// There is a variable of this name that is no link.
-    #[error("already exists")]
     Exists,
     /// There would be more than 4,096 variables, as for `SetFault::Full` (19).
-    #[error("limit reached: variables")]
     Full,
     /// Memory was refused.
-    #[error("out of memory")]
     NoMemory,
 }
 
@@ -601,6 +648,18 @@ impl LinkFault {
         }
     }
 
+    // What it shows.
+    fn reason(&self) -> &'static str
+        ensures { result.now ≡ texts.link_reason self.now }
+    {
+        match self {
+            LinkFault::BadName => "bad name",
+            LinkFault::Exists => "variable exists",
+            LinkFault::Full => NO_ROOM,
+            LinkFault::NoMemory => NO_MEMORY,
+        }
+    }
+
     /// Why a link of this name can't be made, as its script is told of it; the text of the limit (4) stands in place of one past 65,536
     /// bytes. Refused memory has no such text: it is empty.
     pub fn text(&self, alloc: Global, name: &str) -> Result<Text, AllocError>
@@ -612,6 +671,12 @@ impl LinkFault {
             LinkFault::Full => Text::of_short(alloc, NO_ROOM),
             LinkFault::NoMemory => Text::of_short(alloc, ""),
         }
+    }
+}
+
+impl Display for LinkFault {
+    fn fmt<W: Write>(&self, formatter: &mut Formatter<W>) -> fmt::Result {
+        formatter.write_str(self.reason())
     }
 }
 

@@ -29,6 +29,12 @@ pub fn limit(alloc: Global) -> Result<Text, AllocError>
     Text::of_short(alloc, TOO_LONG)
 }
 
+/// What stands before the word in quotation marks in the text of the error for a word that has no value behind it.
+pub const VALUE_FOR: &str = "value for ";
+
+/// What stands behind it.
+pub const MISSING: &str = " missing";
+
 /// The text of the error for an integer past 64 bits (13).
 pub fn too_large_text(alloc: Global) -> Result<Text, AllocError>
     ensures { IfOk result (λ text. text ≡ too_large_text) }

@@ -4,7 +4,7 @@ ghost use Rattle.tcl_text.specs.Answers.{Gives, quoted};
 ghost use Rattle.tk_pack_commands.specs.Faults as spec;
 
 use std::alloc::{AllocError, Global};
-use tcl_text::answers::{Refusal, error, error_about, quoting_error};
+use tcl_text::answers::{Refusal, error, error_about, missing_value, quoting_error};
 use tcl_text::message::quoting;
 use tcl_text::{NotBoolean, Text};
 
@@ -57,7 +57,7 @@ pub fn bad_value<T>(alloc: Global, value: &Text, name: &Text) -> Result<T, Refus
 pub fn no_value<T>(alloc: Global, name: &Text) -> Result<T, Refusal>
     ensures { Gives result (spec.no_value name.now) }
 {
-    Err(error_about(alloc, "value for ", name.as_str(), " missing"))
+    missing_value(alloc, name.as_str())
 }
 
 /// The error for a word that is no boolean (2).

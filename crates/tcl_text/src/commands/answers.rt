@@ -1,12 +1,15 @@
 //! What the steps of a command answer, and the texts of their errors.
 ghost use Rattle.std.specs.Prelude.{◌≡◌, ◌++◌, string_bytes};
 ghost use Rattle.std.specs.Fmt.{decimal};
-ghost use Rattle.tcl_text.specs.Answers.{Gives, Refuses, answers, truth as truth_of, place as place_of, wrong_args as wrong_args_of, bad_option as bad_option_of, bad_index as bad_index_of, expected_integer};
+ghost use Rattle.tcl_text.specs.Answers.{Gives, Refuses, answers, truth as truth_of, place as place_of, wrong_args as wrong_args_of, bad_option as bad_option_of, bad_index as bad_index_of, missing_value as missing_value_of, too_large as too_large_of, expected_integer};
 ghost use Rattle.tcl_text.specs.Messages.{bounded, limit_text, quoted};
 ghost use Rattle.tcl_text.specs.declared.commands.answers.Refusal.TheVariants as refusal;
 
 use crate::fault::{NotInteger, TextFault};
-use crate::message::{about, about_between, bad_option_text, limit, wrong_args_text};
+use crate::message::{
+    MISSING, VALUE_FOR, about, about_between, bad_option_text, limit, too_large_text,
+    wrong_args_text,
+};
 use crate::text::Text;
 use itoa::Buffer;
 use std::alloc::{AllocError, AllocFailed, Global};
@@ -147,6 +150,21 @@ pub fn bad_index<T>(alloc: Global, word: &Text) -> Result<T, Refusal>
     ensures { Gives result (bad_index_of word.now) }
 {
     Err(quoting_error(alloc, "bad index ", word.as_str()))
+}
+
+/// The error for a word that has no value behind it. It has a number only where the word is an option (23).
+pub fn missing_value<T>(alloc: Global, word: &str) -> Result<T, Refusal>
+    ensures { Gives result (missing_value_of word.now) }
+{
+    Err(error_about(alloc, VALUE_FOR, word, MISSING))
+}
+
+/// The error for an integer past 64 bits (13).
+#[tactic(auto, unfolding(crate::specs::Messages::bounded))]
+pub fn too_large<T>(alloc: Global) -> Result<T, Refusal>
+    ensures { Gives result too_large_of }
+{
+    Err(Refusal::Error(too_large_text(alloc)?))
 }
 
 /// The error for a word that is no integer (1).

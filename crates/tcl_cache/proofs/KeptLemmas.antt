@@ -6,7 +6,7 @@ use Rattle.std.specs.Option.{option_map_or}
 use Rattle.std.proofs.lemmas.Slice.Eq.{bytes_eq-Decides}
 use Rattle.std.proofs.lemmas.List.{take_all}
 use Rattle.lru.specs.LruCache.{LruCache, promoted, put_entries}
-use Rattle.tcl_cache.specs.Kept.{without}
+use Rattle.tcl_cache.specs.Kept.{other_texts}
 use Rattle.tcl_cache.specs.Entries.{texts_of, AreTheirs}
 
 -- the test by which a map finds the key with these bytes
@@ -14,12 +14,12 @@ abbrev pub is_key : {Z : Type 0} → List ℕ → String Z → Bool
 is_key text k = bytes_eq text (string_bytes k)
 
 -- what isn't among texts isn't taken out
-pub without_none : (text : List ℕ) (texts : List (List ℕ)) → list_any (bytes_eq text) texts ≡ false → without text texts ≡ texts
+pub without_none : (text : List ℕ) (texts : List (List ℕ)) → list_any (bytes_eq text) texts ≡ false → other_texts text texts ≡ texts
 without_none text [] none = refl
 without_none text (other ∷ texts) none = by (bytes_eq text other) none (without_none text texts)
   where
-    by : (b : Bool) → b || list_any (bytes_eq text) texts ≡ false → (list_any (bytes_eq text) texts ≡ false → without text texts ≡ texts)
-        → cond (not b) (other ∷ without text texts) (without text texts) ≡ other ∷ texts
+    by : (b : Bool) → b || list_any (bytes_eq text) texts ≡ false → (list_any (bytes_eq text) texts ≡ false → other_texts text texts ≡ texts)
+        → cond (not b) (other ∷ other_texts text texts) (other_texts text texts) ≡ other ∷ texts
     by true none rest = absurd (cc)
     by false none rest = ap (λ ts. other ∷ ts) (rest none)
 
@@ -42,7 +42,7 @@ module _ {Z V : Type 0} (text : List ℕ) where
 
   -- an entry that is found, and what is left without it
   abbrev IsFound : List (String Z × V) → String Z × V → Type 0
-  IsFound es e = (lookup_entry (is_key text) es ≡ Some e) × (string_bytes e.0 ≡ text) × (texts_of (remove_entry (is_key text) es) ≡ without text (texts_of es)) × (suc (length (texts_of (remove_entry (is_key text) es))) ≡ length es)
+  IsFound es e = (lookup_entry (is_key text) es ≡ Some e) × (string_bytes e.0 ≡ text) × (texts_of (remove_entry (is_key text) es) ≡ other_texts text (texts_of es)) × (suc (length (texts_of (remove_entry (is_key text) es))) ≡ length es)
 
   found : (es : List (String Z × V)) → IsDistinct string_eq (keys_of es) → list_any (bytes_eq text) (texts_of es) ≡ true → (e : String Z × V) × IsFound es e
   unfolding IsDistinct
@@ -56,7 +56,7 @@ module _ {Z V : Type 0} (text : List ℕ) where
       by : (b : Bool) → bytes_eq text (string_bytes f.0) ≡ b → b || list_any (bytes_eq text) (texts_of es) ≡ true
           → (list_any (bytes_eq text) (texts_of es) ≡ true → (e : String Z × V) × IsFound es e)
           → (e : String Z × V) × ((cond b (Some f) (lookup_entry (is_key text) es) ≡ Some e) × (string_bytes e.0 ≡ text)
-          × (texts_of (cond b es (f ∷ remove_entry (is_key text) es)) ≡ cond (not b) (string_bytes f.0 ∷ without text (texts_of es)) (without text (texts_of es)))
+          × (texts_of (cond b es (f ∷ remove_entry (is_key text) es)) ≡ cond (not b) (string_bytes f.0 ∷ other_texts text (texts_of es)) (other_texts text (texts_of es)))
           × (suc (length (texts_of (cond b es (f ∷ remove_entry (is_key text) es)))) ≡ suc (length es)))
       by true is kept rest =
           let same : text ≡ string_bytes f.0 = (bytes_eq-Decides text (string_bytes f.0)).0 is in
@@ -67,13 +67,13 @@ module _ {Z V : Type 0} (text : List ℕ) where
 
   -- a text that is kept goes first
   pub raised : (es : List (String Z × V)) (capacity : ℕ) → IsDistinct string_eq (keys_of es) → length es ≤ capacity → list_any (bytes_eq text) (texts_of es) ≡ true
-      → texts_of (promoted (is_key text) es) ≡ take capacity (text ∷ without text (texts_of es))
+      → texts_of (promoted (is_key text) es) ≡ take capacity (text ∷ other_texts text (texts_of es))
   raised es capacity distinct fits kept =
       let there = found es distinct kept in
       let first : texts_of (promoted (is_key text) es) ≡ string_bytes there.0.0 ∷ texts_of (remove_entry (is_key text) es) = ap (λ (o : Option (String Z × V)). texts_of (option_map_or (λ e. e ∷ remove_entry (is_key text) es) o es)) there.1.0 in
-      let same : string_bytes there.0.0 ∷ texts_of (remove_entry (is_key text) es) ≡ text ∷ without text (texts_of es) = ap (λ t. t ∷ texts_of (remove_entry (is_key text) es)) there.1.1 ∙ ap (λ ts. text ∷ ts) there.1.2 in
-      let short : length (text ∷ without text (texts_of es)) ≤ capacity = omega (arith, ap length there.1.2, there.1.3) in
-      first ∙ same ∙ sym (take_all capacity (text ∷ without text (texts_of es)) short)
+      let same : string_bytes there.0.0 ∷ texts_of (remove_entry (is_key text) es) ≡ text ∷ other_texts text (texts_of es) = ap (λ t. t ∷ texts_of (remove_entry (is_key text) es)) there.1.1 ∙ ap (λ ts. text ∷ ts) there.1.2 in
+      let short : length (text ∷ other_texts text (texts_of es)) ≤ capacity = omega (arith, ap length there.1.2, there.1.3) in
+      first ∙ same ∙ sym (take_all capacity (text ∷ other_texts text (texts_of es)) short)
 
   -- a text that isn't kept is put first
   texts_of-take : (n : ℕ) (es : List (String Z × V)) → texts_of (take n es) ≡ take n (texts_of es)
@@ -82,7 +82,7 @@ module _ {Z V : Type 0} (text : List ℕ) where
   texts_of-take (suc n) (e ∷ es) = ap (λ ts. string_bytes e.0 ∷ ts) (texts_of-take n es)
 
   pub put_new : (key : String Z) (value : V) (es : List (String Z × V)) (capacity : ℕ) → 0 < capacity → string_bytes key ≡ text → list_any (bytes_eq text) (texts_of es) ≡ false
-      → texts_of ((key, value) ∷ take (capacity - 1) es) ≡ take capacity (text ∷ without text (texts_of es))
+      → texts_of ((key, value) ∷ take (capacity - 1) es) ≡ take capacity (text ∷ other_texts text (texts_of es))
   put_new key value es zero some same none = absurd (omega arith)
   put_new key value es (suc n) some same none =
       let less : suc n - 1 ≡ n = omega arith in

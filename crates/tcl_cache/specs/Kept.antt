@@ -14,9 +14,9 @@ none_kept capacity = record { texts = []; capacity = capacity }
 abbrev pub is_kept : List ℕ → Kept → Bool
 is_kept text kept = list_any (bytes_eq text) kept.texts
 
-abbrev pub without : List ℕ → List (List ℕ) → List (List ℕ)
-without text texts = filter (λ other. not (bytes_eq text other)) texts
+abbrev pub other_texts : List ℕ → List (List ℕ) → List (List ℕ)
+other_texts text texts = filter (λ other. not (bytes_eq text other)) texts
 
 -- A text that is asked for goes first, and those past the capacity go.
 abbrev pub put_first : List ℕ → Kept → Kept
-put_first text kept = record kept { texts = take kept.capacity (text ∷ without text kept.texts) }
+put_first text kept = record kept { texts = take kept.capacity (text ∷ other_texts text kept.texts) }

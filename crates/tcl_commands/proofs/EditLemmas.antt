@@ -9,7 +9,7 @@ use Rattle.tcl_text.specs.declared.edit.Edit.TheVariants.{Characters, Items}
 use Rattle.tcl_text.specs.declared.fault.EditFault.TheVariants as edits
 use Rattle.tcl_vars.specs.Store.{Store, variable_in}
 use Rattle.tcl_commands.specs.Edits.{edit_told, edit_answer}
-use Rattle.tcl_commands.specs.Values.{value_or, changed, changed_to, lengthened, with_items}
+use Rattle.tcl_commands.specs.Values.{value_or, variable_changed, changed_to, lengthened, with_items}
 
 same_change : (level : ℕ) (name : List ℕ) (store : Store) (f g : List ℕ → Answer) → ((value : List ℕ) → f value ≡ g value) → (read : Answer)
     → changed_to level name store (read >>= f) ≡ changed_to level name store (read >>= g)
@@ -29,7 +29,7 @@ unfolding edited
 characters_same characters more same value = within (value ++ characters.now) ∙ ap (λ t. answers (value ++ t)) same
 
 pub appends : (characters : Bor (List ℕ)) (values : List (List ℕ)) (level : ℕ) (name : List ℕ) (store : Store) → characters.now ≡ concat values
-    → changed level name [] (edit_answer (Characters characters)) store ≡ changed level name [] (λ value. answers (value ++ concat values)) store
+    → variable_changed level name [] (edit_answer (Characters characters)) store ≡ variable_changed level name [] (λ value. answers (value ++ concat values)) store
 appends characters values level name store same =
     same_change level name store (edit_answer (Characters characters)) (λ value. answers (value ++ concat values)) (characters_same characters (concat values) same) (value_or [] name (variable_in store level name))
 
@@ -43,7 +43,7 @@ unfolding edited items_in
 items_same items v vs same value = ap (λ more. edit_told (written_anew (with_more more (list_of value)))) same ∙ listed (list_of value) value v vs
 
 pub lappends : (items : Bor (List (List ℕ))) (values : List (List ℕ)) (level : ℕ) (name : List ℕ) (store : Store) → items.now ≡ values → 0 < length values
-    → changed level name [] (edit_answer (Items items)) store ≡ changed level name [] (with_items values) store
+    → variable_changed level name [] (edit_answer (Items items)) store ≡ variable_changed level name [] (with_items values) store
 lappends items [] level name store same some = absurd (omega (arith, some))
 lappends items (v ∷ vs) level name store same some =
     same_change level name store (edit_answer (Items items)) (with_items (v ∷ vs)) (items_same items v vs same) (value_or [] name (variable_in store level name))

@@ -2,7 +2,7 @@
 use Rattle.std.specs.Prelude.{ℕ, true, Bool, nat_le, if◌then◌else◌, List, [], ◌∷◌, length, map, filter, is_some, unwrap_or, Option, Some, None, Result, Ok, Err, codes}
 use Rattle.std.specs.Fmt.{decimal}
 use Rattle.std.specs.Str.{bytes_eq, chars}
-use Rattle.tcl_text.specs.Answers.{Answer, answers, limit_text, bad_option, wrong_args, items_in, truth}
+use Rattle.tcl_text.specs.Answers.{Answer, answers, limit_text, bad_option, missing_value, wrong_args, items_in, truth}
 use Rattle.tcl_text.specs.Glob.{glob_matches}
 use Rattle.tcl_text.specs.Readings.{list_form}
 use Rattle.tcl_vars.specs.Table.{Table}
@@ -13,7 +13,7 @@ use Rattle.tcl_text.specs.declared.fault.SetFault.TheVariants.{NotArray}
 use Rattle.tcl_commands.specs.declared.arrays.ArrayCommand.{ArrayCommand}
 use Rattle.tcl_commands.specs.declared.arrays.ArrayCommand.TheVariants as command
 use Rattle.tcl_commands.specs.Done.{Done, keeps, one_done, each_done, pairs}
-use Rattle.tcl_commands.specs.Texts.{cannot_set, missing_value}
+use Rattle.tcl_commands.specs.Texts.{cannot_set}
 use Rattle.tcl_commands.specs.Unset.{unset_told, unset_step}
 use Rattle.tcl_text.specs.Limits.{most_bytes}
 

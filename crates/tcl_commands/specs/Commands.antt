@@ -12,8 +12,8 @@ use Rattle.tcl_commands.specs.Unset.{unset_words}
 use Rattle.tcl_commands.specs.Values.{set_words, incr_words, append_words, lappend_words}
 
 -- the command of this name
-unfoldable pub command_named : List ℕ → Option VariableCommand
-command_named name =
+unfoldable pub variable_command_named : List ℕ → Option VariableCommand
+variable_command_named name =
     if bytes_eq name (codes "set") then Some command.Set
     else (if bytes_eq name (codes "unset") then Some command.Unset
     else (if bytes_eq name (codes "incr") then Some command.Incr
@@ -34,18 +34,18 @@ command_done command.Array level words store = array_words level words store
 command_done command.Global level words store = global_words level words store
 
 -- what is left and answered; no answer of another command
-pub record Told : Type 0 where
+pub record Handled : Type 0 where
   pub store : Store
   pub answer : Option Answer
 
-abbrev pub told : Done → Told
-told done = record { store = done.store; answer = Some done.answer }
+abbrev pub handled : Done → Handled
+handled done = record { store = done.store; answer = Some done.answer }
 
-abbrev pub told_by : Option VariableCommand → ℕ → List (List ℕ) → Store → Told
-told_by None level words store = record { store = store; answer = None }
-told_by (Some command) level words store = told (command_done command level words store)
+abbrev pub handled_by : Option VariableCommand → ℕ → List (List ℕ) → Store → Handled
+handled_by None level words store = record { store = store; answer = None }
+handled_by (Some command) level words store = handled (command_done command level words store)
 
 -- the first word names the command
-abbrev pub variable_command_of : ℕ → List (List ℕ) → Store → Told
+abbrev pub variable_command_of : ℕ → List (List ℕ) → Store → Handled
 variable_command_of level [] store = record { store = store; answer = None }
-variable_command_of level (name ∷ words) store = told_by (command_named name) level words store
+variable_command_of level (name ∷ words) store = handled_by (variable_command_named name) level words store

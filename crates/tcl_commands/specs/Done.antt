@@ -28,18 +28,18 @@ IfNoMemory (Err NoMemory) fact = fact
 -- ── commands on several variables ──
 
 -- what follows a step, unless it was refused
-abbrev pub and_then : (Store → Done) → Store → Result Store (List ℕ) → Done
-and_then others store (Ok new) = others new
-and_then others store (Err text) = keeps store (Err text)
+abbrev pub unless_refused : (Store → Done) → Store → Result Store (List ℕ) → Done
+unless_refused others store (Ok new) = others new
+unless_refused others store (Err text) = keeps store (Err text)
 
 -- one step alone
 abbrev pub one_done : Store → Result Store (List ℕ) → Done
-one_done store step = and_then (λ new. keeps new (Ok [])) store step
+one_done store step = unless_refused (λ new. keeps new (Ok [])) store step
 
 -- a step for each, up to the first that is refused
 abbrev pub each_done : {X : Type 0} → (X → Store → Result Store (List ℕ)) → List X → Store → Done
 each_done step [] store = keeps store (Ok [])
-each_done step (x ∷ xs) store = and_then (each_done step xs) store (step x store)
+each_done step (x ∷ xs) store = unless_refused (each_done step xs) store (step x store)
 
 -- the items two by two; an odd one at the end is left out
 abbrev pub pairs : List (List ℕ) → List (List ℕ × List ℕ)

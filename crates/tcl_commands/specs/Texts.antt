@@ -1,15 +1,11 @@
 -- Meaning. The errors of commands on variables.
-use Rattle.std.specs.Prelude.{ℕ, List, ◌++◌, Result, codes}
-use Rattle.tcl_text.specs.Answers.{fails, quoted}
+use Rattle.std.specs.Prelude.{ℕ, List, Result}
+use Rattle.tcl_text.specs.Answers.{fails}
 use Rattle.tcl_text.specs.FaultTexts.{read_text, set_text, unset_text, link_text}
 use Rattle.tcl_text.specs.declared.fault.ReadFault.{ReadFault}
 use Rattle.tcl_text.specs.declared.fault.SetFault.{SetFault}
 use Rattle.tcl_text.specs.declared.fault.UnsetFault.{UnsetFault}
 use Rattle.tcl_text.specs.declared.fault.LinkFault.{LinkFault}
-
--- what no definition gives and no script is told
-abbrev pub no_memory : List ℕ
-no_memory = codes "out of memory"
 
 abbrev pub cannot_read : {T : Type 0} → List ℕ → ReadFault → Result T (List ℕ)
 cannot_read name fault = fails (read_text name fault)
@@ -22,10 +18,3 @@ cannot_unset name fault = fails (unset_text name fault)
 
 abbrev pub cannot_link : {T : Type 0} → List ℕ → LinkFault → Result T (List ℕ)
 cannot_link name fault = fails (link_text name fault)
-
-abbrev pub too_large : {T : Type 0} → Result T (List ℕ)
-too_large = fails (codes "integer value too large to represent")
-
--- a last key that has no value behind it
-abbrev pub missing_value : {T : Type 0} → List ℕ → Result T (List ℕ)
-missing_value key = fails (codes "value for " ++ quoted key ++ codes " missing")

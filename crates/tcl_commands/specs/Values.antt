@@ -2,14 +2,14 @@
 use Rattle.std.specs.Prelude.{ℕ, ◌^◌, nat_lt, ℤ, pos, negsuc, ◌+ℤ◌, Bool, if◌then◌else◌, List, [], ◌∷◌, ◌++◌, Option, None, Some, Result, Ok, Err, codes}
 use Rattle.std.specs.Fmt.{signed_decimal}
 use Rattle.std.specs.List.{concat}
-use Rattle.tcl_text.specs.Answers.{Answer, ◌>>=◌, answers, wrong_args, integer_in, items_in, truth}
+use Rattle.tcl_text.specs.Answers.{Answer, ◌>>=◌, answers, wrong_args, too_large, integer_in, items_in, truth}
 use Rattle.tcl_text.specs.Readings.{list_form}
 use Rattle.tcl_vars.specs.Store.{Store, variable_in, with_variable, has_variable}
 use Rattle.tcl_text.specs.declared.fault.ReadFault.{ReadFault}
 use Rattle.tcl_text.specs.declared.fault.ReadFault.TheVariants.{NoVariable, NoElement, IsArray, NotArray}
 use Rattle.tcl_text.specs.declared.fault.SetFault.{SetFault}
 use Rattle.tcl_commands.specs.Done.{Done, keeps}
-use Rattle.tcl_commands.specs.Texts.{cannot_read, cannot_set, too_large}
+use Rattle.tcl_commands.specs.Texts.{cannot_read, cannot_set}
 
 -- a variable's value, or why it can't be read
 abbrev pub value_read : List ℕ → Result (List ℕ) ReadFault → Answer
@@ -45,8 +45,8 @@ changed_to level name store (Ok value) = value_set name value store (with_variab
 changed_to level name store (Err text) = keeps store (Err text)
 
 -- a variable is changed, where one that isn't there counts as this text
-abbrev pub changed : ℕ → List ℕ → List ℕ → (List ℕ → Answer) → Store → Done
-changed level name absent change store = changed_to level name store (value_changed absent name change (variable_in store level name))
+abbrev pub variable_changed : ℕ → List ℕ → List ℕ → (List ℕ → Answer) → Store → Done
+variable_changed level name absent change store = changed_to level name store (value_changed absent name change (variable_in store level name))
 
 -- a sum in 64 bits
 abbrev pub is_in_range : ℤ → Bool
@@ -70,13 +70,13 @@ amount_in (Some word) = integer_in word
 
 -- incr name ?n?
 abbrev pub incr_words : ℕ → List (List ℕ) → Store → Done
-incr_words level (name ∷ []) store = changed level name (codes "0") (increased (amount_in None)) store
-incr_words level (name ∷ n ∷ []) store = changed level name (codes "0") (increased (amount_in (Some n))) store
+incr_words level (name ∷ []) store = variable_changed level name (codes "0") (increased (amount_in None)) store
+incr_words level (name ∷ n ∷ []) store = variable_changed level name (codes "0") (increased (amount_in (Some n))) store
 incr_words level _ store = keeps store (wrong_args (codes "incr name ?n?"))
 
 -- append name ?value ..?
 abbrev pub append_words : ℕ → List (List ℕ) → Store → Done
-append_words level (name ∷ values) store = changed level name [] (λ value. answers (value ++ concat values)) store
+append_words level (name ∷ values) store = variable_changed level name [] (λ value. answers (value ++ concat values)) store
 append_words level [] store = keeps store (wrong_args (codes "append name ?value ..?"))
 
 -- a list written anew with more items; without any it stays as it is written
@@ -91,7 +91,7 @@ with_items values value = do
 
 -- lappend name ?value ..?
 abbrev pub lappend_words : ℕ → List (List ℕ) → Store → Done
-lappend_words level (name ∷ values) store = changed level name [] (with_items values) store
+lappend_words level (name ∷ values) store = variable_changed level name [] (with_items values) store
 lappend_words level [] store = keeps store (wrong_args (codes "lappend name ?value ..?"))
 
 -- info exists name

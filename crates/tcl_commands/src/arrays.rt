@@ -9,14 +9,14 @@ ghost use Rattle.tcl_commands.specs.Texts.{cannot_set};
 ghost use Rattle.tcl_commands.specs.Arrays as spec;
 ghost use Rattle.tcl_commands.specs.ArraySteps.{pairs_matching};
 
-use crate::texts::{Reply, cannot_set, empty_answer, missing_value};
+use crate::texts::{Reply, cannot_set, empty_answer};
 use crate::unset::unset_one;
 use std::alloc::{AllocError, Global};
 use tcl_text::answers::{
-    Refusal, bad_option, decimal_answer, limit_reached, truth_answer, wrong_args,
+    Refusal, bad_option, decimal_answer, limit_reached, missing_value, truth_answer, wrong_args,
 };
 use tcl_text::items::{items_in, list_answer};
-use tcl_text::{Text, TextList};
+use tcl_text::{MAX_BYTES, Text, TextList};
 use tcl_vars::{Scopes, SetFault, UnsetFault, element_name};
 
 /// A command of `array`.
@@ -357,7 +357,7 @@ fn set_element(
     ensures steps { Steps result scopes.old scopes.new (spec.set_element level name.now (key.now, value.now) scopes.old) }
     ensures levels { length scopes.new ≡ length scopes.old }
 {
-    if name.as_str().len() + key.as_str().len() + 2 > 65_536 {
+    if name.as_str().len() + key.as_str().len() + 2 > MAX_BYTES {
         return Err(limit_reached(alloc));
     }
     match scopes.set_element(level, name, key, value.copy()?) {

@@ -78,9 +78,9 @@ pub fn call_variable_command(
 
 impl VariableCommand {
     /// The command of this name.
-    #[tactic(auto, unfolding(crate::specs::Commands::command_named))]
+    #[tactic(auto, unfolding(crate::specs::Commands::variable_command_named))]
     fn named(name: &str) -> Option<VariableCommand>
-        ensures { result ≡ spec.command_named name.now }
+        ensures { result ≡ spec.variable_command_named name.now }
     {
         match name {
             "set" => Some(VariableCommand::Set),

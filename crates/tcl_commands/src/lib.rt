@@ -11,4 +11,5 @@ mod values;
 pub use commands::{
     VariableCommand, call_variable_command, info_exists, upvar_command, variable_command,
 };
+pub use links::UPVAR_USAGE;
 pub use texts::cannot_set;

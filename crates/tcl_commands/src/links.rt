@@ -33,7 +33,7 @@ pub fn global_words(alloc: Global, scopes: &mut Scopes, level: usize, words: &[T
 
 /// Links a name of the frame to the global variable of that name; more than 4,096 variables are refused (19), and a name that can't be
 /// used, or exists, without a number.
-#[tactic(auto, unfolding(tcl_text::specs::Answers::bounded))]
+#[tactic(auto, unfolding(tcl_text::specs::Messages::bounded))]
 fn link_global(alloc: Global, scopes: &mut Scopes, level: usize, name: &Text) -> Result<(), Refusal>
     requires above { 0 < level }
     requires level { level < length scopes.old }
@@ -71,6 +71,9 @@ fn global_name(alloc: Global, name: &Text) -> Result<Text, AllocError>
     Text::of_short(alloc, rest)
 }
 
+/// How `upvar` is used.
+pub const UPVAR_USAGE: &str = "upvar ?level? other mine ?other mine ..?";
+
 /// `upvar ?level? other mine ?other mine ..?` behind its level: each second name of the frame becomes a link to the
 /// name before it in the frame at another level, up to the first that can't.
 #[tactic(auto, using(crate::proofs::DoneLemmas::kept, crate::proofs::EachLemmas::steps))]
@@ -87,7 +90,7 @@ pub fn upvar_words(
     ensures levels { length scopes.new ≡ length scopes.old }
 {
     if words.is_empty() || words.len() % 2 != 0 {
-        return wrong_args(alloc, "upvar ?level? other mine ?other mine ..?");
+        return wrong_args(alloc, UPVAR_USAGE);
     }
     let mut rest = words;
     while let [other, name, others @ ..] = rest {
@@ -98,7 +101,7 @@ pub fn upvar_words(
 }
 
 /// Links a name of the frame to another one of an earlier frame, with the same refusals.
-#[tactic(auto, unfolding(tcl_text::specs::Answers::bounded))]
+#[tactic(auto, unfolding(tcl_text::specs::Messages::bounded))]
 fn link_one(
     alloc: Global,
     scopes: &mut Scopes,

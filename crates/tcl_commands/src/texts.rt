@@ -5,14 +5,14 @@ ghost use Rattle.tcl_commands.specs.Texts as spec;
 
 use std::alloc::Global;
 use tcl_text::Text;
-use tcl_text::answers::{Refusal, error, error_about};
+use tcl_text::answers::Refusal;
 use tcl_vars::{ReadFault, SetFault};
 
 /// What a command replies: its result, or why there is none.
 pub type Reply = Result<Text, Refusal>;
 
 /// Why a variable can't be read (15 to 18), as its script is told of it. A text past 65,536 bytes is that of the limit (4).
-#[tactic(auto, unfolding(tcl_text::specs::Answers::bounded))]
+#[tactic(auto, unfolding(tcl_text::specs::Messages::bounded))]
 pub fn cannot_read<T>(alloc: Global, name: &str, fault: ReadFault) -> Result<T, Refusal>
     ensures { Gives result (spec.cannot_read name.now fault) }
 {
@@ -20,7 +20,7 @@ pub fn cannot_read<T>(alloc: Global, name: &str, fault: ReadFault) -> Result<T, 
 }
 
 /// Why a variable can't be set (17 to 19), as its script is told of it. A text past 65,536 bytes is that of the limit (4).
-#[tactic(auto, unfolding(tcl_text::specs::Answers::bounded))]
+#[tactic(auto, unfolding(tcl_text::specs::Messages::bounded))]
 pub fn cannot_set<T>(alloc: Global, name: &str, fault: SetFault) -> Result<T, Refusal>
     ensures { Gives result (spec.cannot_set name.now fault) }
 {
@@ -28,20 +28,6 @@ pub fn cannot_set<T>(alloc: Global, name: &str, fault: SetFault) -> Result<T, Re
         SetFault::NoMemory => Err(Refusal::NoMemory),
         _ => Err(Refusal::Error(fault.text(alloc, name)?)),
     }
-}
-
-/// The error that a sum is past 64 bits (13).
-pub fn too_large<T>(alloc: Global) -> Result<T, Refusal>
-    ensures { Gives result spec.too_large }
-{
-    Err(error(alloc, "integer value too large to represent"))
-}
-
-/// The error that the last of keys and values is a key.
-pub fn missing_value<T>(alloc: Global, key: &str) -> Result<T, Refusal>
-    ensures { Gives result (spec.missing_value key.now) }
-{
-    Err(error_about(alloc, "value for ", key, " missing"))
 }
 
 /// The empty result.

@@ -45,7 +45,7 @@ fn unset_each(
 }
 
 /// Unsets a variable, or quietly lets it be where it can't be unset (15, 16, 18).
-#[tactic(auto, unfolding(tcl_text::specs::Answers::bounded))]
+#[tactic(auto, unfolding(tcl_text::specs::Messages::bounded))]
 pub fn unset_one(
     alloc: Global,
     scopes: &mut Scopes,

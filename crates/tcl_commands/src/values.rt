@@ -3,14 +3,15 @@ ghost use Rattle.std.specs.Prelude.{◌≡◌, ◌<◌, ◌≤◌, [], ◌∷◌
 ghost use Rattle.std.specs.List.{concat};
 ghost use Rattle.std.specs.Option.{option_copied};
 ghost use Rattle.tcl_text.specs.Answers.{Gives, answers};
+ghost use Rattle.tcl_text.specs.Limits.{most_in_place};
 ghost use Rattle.tcl_vars.specs.Store.{variable_in, with_variable};
 ghost use Rattle.tcl_commands.specs.Done.{Does, IfNoMemory};
 ghost use Rattle.tcl_commands.specs.Edits.{edit_answer};
 ghost use Rattle.tcl_commands.specs.Values as spec;
 
-use crate::texts::{Reply, cannot_read, cannot_set, too_large};
+use crate::texts::{Reply, cannot_read, cannot_set};
 use std::alloc::{AllocError, Global};
-use tcl_text::answers::{Refusal, error, limit_reached, truth_answer, wrong_args};
+use tcl_text::answers::{Refusal, too_large, truth_answer, wrong_args};
 use tcl_text::integers::integer_of;
 use tcl_text::items::items_in;
 use tcl_text::{Edit, EditFault, Text};
@@ -85,7 +86,7 @@ fn increase(
 ) -> Reply
     requires { level < length scopes.old }
     ensures does { Does result scopes.new
-        (spec.changed level name.now (codes "0") (spec.increased (spec.amount_in (option_copied amount.entry))) scopes.old) }
+        (spec.variable_changed level name.now (codes "0") (spec.increased (spec.amount_in (option_copied amount.entry))) scopes.old) }
     ensures no_memory { IfNoMemory result (scopes.new ≡ scopes.old) }
     ensures levels { length scopes.new ≡ length scopes.old }
 {
@@ -135,7 +136,7 @@ fn sum_of(alloc: Global, a: i64, b: i64) -> Reply
 /// The value of a variable, where one that isn't there counts as these characters.
 fn value_or(alloc: Global, scopes: &Scopes, level: usize, name: &Text, absent: &str) -> Reply
     requires level { level < length scopes.now }
-    requires short { length absent.now ≤ 22 }
+    requires short { length absent.now ≤ most_in_place }
     ensures { Gives result (spec.value_or absent.now name.now (variable_in scopes.now level name.now)) }
 {
     match scopes.get(level, name) {
@@ -164,7 +165,7 @@ pub fn append_words(alloc: Global, scopes: &mut Scopes, level: usize, words: &[T
 fn append_one(alloc: Global, scopes: &mut Scopes, level: usize, name: &Text, value: &Text) -> Reply
     requires { level < length scopes.old }
     ensures does { Does result scopes.new
-        (spec.changed level name.now [] (λ text. answers (text ++ concat (value.now ∷ []))) scopes.old) }
+        (spec.variable_changed level name.now [] (λ text. answers (text ++ concat (value.now ∷ []))) scopes.old) }
     ensures levels { length scopes.new ≡ length scopes.old }
 {
     change(alloc, scopes, level, name, Edit::Characters(value.as_str()))
@@ -174,7 +175,7 @@ fn append_one(alloc: Global, scopes: &mut Scopes, level: usize, name: &Text, val
 fn append(alloc: Global, scopes: &mut Scopes, level: usize, name: &Text, values: &[Text]) -> Reply
     requires { level < length scopes.old }
     ensures does { Does result scopes.new
-        (spec.changed level name.now [] (λ value. answers (value ++ concat values.now)) scopes.old) }
+        (spec.variable_changed level name.now [] (λ value. answers (value ++ concat values.now)) scopes.old) }
     ensures levels { length scopes.new ≡ length scopes.old }
 {
     let mut more = String::new(alloc);
@@ -183,9 +184,10 @@ fn append(alloc: Global, scopes: &mut Scopes, level: usize, name: &Text, values:
 }
 
 /// Changes a variable in place, where one that isn't there counts as empty.
+#[tactic(auto, unfolding(tcl_text::specs::Messages::bounded))]
 fn change(alloc: Global, scopes: &mut Scopes, level: usize, name: &Text, edit: Edit<'_>) -> Reply
     requires { level < length scopes.old }
-    ensures does { Does result scopes.new (spec.changed level name.now [] (edit_answer edit.entry) scopes.old) }
+    ensures does { Does result scopes.new (spec.variable_changed level name.now [] (edit_answer edit.entry) scopes.old) }
     ensures levels { length scopes.new ≡ length scopes.old }
 {
     match scopes.change(level, name, edit) {
@@ -196,10 +198,8 @@ fn change(alloc: Global, scopes: &mut Scopes, level: usize, name: &Text, edit: E
         Err(ChangeFault::Unread(ReadFault::NoElement)) => {
             set_edited(alloc, scopes, level, name, edit)
         }
-        Err(ChangeFault::Unread(fault)) => cannot_read(alloc, name.as_str(), fault),
-        Err(ChangeFault::TooLong) => Err(limit_reached(alloc)),
-        Err(ChangeFault::BadList(fault)) => Err(error(alloc, fault.text())),
         Err(ChangeFault::NoMemory) => Err(Refusal::NoMemory),
+        Err(fault) => Err(Refusal::Error(fault.text(alloc, name.as_str())?)),
     }
 }
 
@@ -221,15 +221,15 @@ fn set_edited(
 }
 
 /// What becomes of the empty text.
+#[tactic(auto, unfolding(tcl_text::specs::Messages::bounded))]
 fn edited_empty(alloc: Global, edit: Edit<'_>) -> Reply
     ensures { Gives result (edit_answer edit.entry []) }
 {
     let mut text = Text::of_short(alloc, "")?;
     match text.edit(alloc, edit) {
         Ok(()) => Ok(text),
-        Err(EditFault::TooLong) => Err(limit_reached(alloc)),
-        Err(EditFault::BadList(fault)) => Err(error(alloc, fault.text())),
         Err(EditFault::NoMemory) => Err(Refusal::NoMemory),
+        Err(fault) => Err(Refusal::Error(Text::of_message(alloc, fault.text())?)),
     }
 }
 
@@ -262,7 +262,7 @@ pub fn lappend_words(alloc: Global, scopes: &mut Scopes, level: usize, words: &[
 fn lappend(alloc: Global, scopes: &mut Scopes, level: usize, name: &Text, values: &[Text]) -> Reply
     requires { level < length scopes.old }
     ensures does { Does result scopes.new
-        (spec.changed level name.now [] (spec.with_items values.now) scopes.old) }
+        (spec.variable_changed level name.now [] (spec.with_items values.now) scopes.old) }
     ensures levels { length scopes.new ≡ length scopes.old }
 {
     match values {

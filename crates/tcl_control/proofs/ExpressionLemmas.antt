@@ -7,9 +7,9 @@ use Rattle.tcl_expr.specs.Reading.{tree_of, compiled, compiled_by}
 use Rattle.tcl_expr.specs.Trees.{Tree}
 use Rattle.tcl_expr.proofs.GrammarLaws.{expr_parse_is_read, one_expr_parse}
 use Rattle.tcl_control.specs.Expressions.{tree_or_text, expression_of}
-use Rattle.tcl_control.specs.ExpressionForms.{begun, evaluation_begins}
+use Rattle.tcl_control.specs.ExpressionForms.{evaluation_begun, evaluation_begins}
 
-begins_by : (text : List ℕ) (tree : Result Tree ExprFault) → IsOk tree → Ok (evaluation_at 0 (compiled_by tree) [] Ready) ≡ begun text (compiled_by tree)
+begins_by : (text : List ℕ) (tree : Result Tree ExprFault) → IsOk tree → Ok (evaluation_at 0 (compiled_by tree) [] Ready) ≡ evaluation_begun text (compiled_by tree)
 begins_by text (Ok tree) read = refl
 begins_by text (Err fault) read = cc
 

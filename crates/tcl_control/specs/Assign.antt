@@ -3,7 +3,7 @@ use Rattle.std.specs.Prelude.{ℕ, List, [], ◌∷◌, drop, Option, Some, None
 use Rattle.tcl_vars.specs.Store.{Store, with_variable}
 use Rattle.tcl_text.specs.declared.fault.SetFault.{SetFault}
 use Rattle.tcl_shapes.specs.declared.groups.Group.{Group}
-use Rattle.tcl_table.specs.Texts.{cannot_set}
+use Rattle.tcl_table.specs.Texts.{cannot_set_text}
 
 -- the variables then, and the text of the first refusal, which leaves what was set before
 pub record Assigned : Type 0 where
@@ -15,16 +15,16 @@ done store = record { store = store; refused = None }
 
 abbrev pub on_set : List ℕ → Store → (Store → Assigned) → Result Store SetFault → Assigned
 on_set name store rest (Ok changed) = rest changed
-on_set name store rest (Err fault) = record { store = store; refused = Some (cannot_set name fault) }
+on_set name store rest (Err fault) = record { store = store; refused = Some (cannot_set_text name fault) }
 
-abbrev pub first_of : List (List ℕ) → List ℕ
-first_of [] = []
-first_of (item ∷ items) = item
+abbrev pub first_item : List (List ℕ) → List ℕ
+first_item [] = []
+first_item (item ∷ items) = item
 
 -- names are given items in turn; missing items are empty
 abbrev pub assigned : ℕ → List (List ℕ) → List (List ℕ) → Store → Assigned
 assigned level [] items store = done store
-assigned level (name ∷ names) items store = on_set name store (assigned level names (drop 1 items)) (with_variable store level name (first_of items))
+assigned level (name ∷ names) items store = on_set name store (assigned level names (drop 1 items)) (with_variable store level name (first_item items))
 
 abbrev pub behind_assigned : (Store → Assigned) → Assigned → Option (List ℕ) → Assigned
 behind_assigned rest assigned None = rest assigned.store

@@ -3,7 +3,7 @@ use Rattle.std.specs.Prelude.{◌||◌, ◌&&◌, ◌==◌, ◌-◌, length, sli
 use Rattle.std.specs.Str.{chars}
 use Rattle.tcl_text.specs.Glob.{glob_matches}
 use Rattle.tcl_text.specs.Readings.{list_of}
-use Rattle.tcl_text.specs.Splitting.{fault_text as list_text}
+use Rattle.tcl_text.specs.FaultTexts.{list_text}
 use Rattle.tcl_text.specs.declared.fault.ListFault.{ListFault}
 use Rattle.tcl_shapes.specs.Branches.{choices_of, arms_of}
 use Rattle.tcl_shapes.specs.declared.branches.Branch.{Branch}
@@ -14,8 +14,7 @@ use Rattle.tcl_control.specs.declared.code.Code.TheVariants.{Normal}
 use Rattle.tcl_control.specs.declared.plan.Plan.{Plan}
 use Rattle.tcl_control.specs.declared.plan.Plan.TheVariants.{Ends, Runs, Chooses}
 use Rattle.tcl_control.specs.declared.usages.Usage.TheVariants as usage
-use Rattle.tcl_control.specs.Commands.{fails, misused}
-use Rattle.tcl_table.specs.Texts.{about}
+use Rattle.tcl_control.specs.Commands.{bad_option_plan, failed_plan, misused}
 use Rattle.tcl_text.specs.Answers.{message}
 
 -- ── if ──
@@ -60,7 +59,7 @@ arm_for matching value [] = Ends Normal []
 arm_for matching value (arm ∷ arms) = if takes matching value arm arms then body_of (arm ∷ arms) else arm_for matching value arms
 
 abbrev pub no_body : Plan
-no_body = fails (codes "extra switch pattern with no body")
+no_body = failed_plan (codes "extra switch pattern with no body")
 
 abbrev pub by_arms : Matching → List ℕ → Option (List Branch) → Plan
 by_arms matching value (Some arms) = if ends_open arms then no_body else arm_for matching value arms
@@ -68,17 +67,14 @@ by_arms matching value None = no_body
 
 abbrev pub by_pairs : Matching → List ℕ → Result (List (List ℕ)) ListFault → Plan
 by_pairs matching value (Ok items) = by_arms matching value (arms_of items)
-by_pairs matching value (Err fault) = fails (message (list_text fault))
+by_pairs matching value (Err fault) = failed_plan (message (list_text fault))
 
 abbrev pub switched : Matching → List ℕ → List ℕ → Plan
 switched matching value pairs = by_pairs matching value (list_of pairs)
 
-abbrev pub bad_option : List ℕ → Plan
-bad_option word = fails (about (codes "bad option \"") word)
-
 -- behind -exact or -glob
 abbrev pub switched_past : Matching → List ℕ → List ℕ → List ℕ → Plan
-switched_past matching option value pairs = if bytes_eq option (codes "--") then switched matching value pairs else bad_option option
+switched_past matching option value pairs = if bytes_eq option (codes "--") then switched matching value pairs else bad_option_plan option
 
 -- switch ?-exact|-glob? ?--? value pairs
 abbrev pub switch_plan : List (List ℕ) → Plan
@@ -87,10 +83,10 @@ switch_plan (option ∷ value ∷ pairs ∷ []) =
     if bytes_eq option (codes "-exact") then switched Exact value pairs
     else (if bytes_eq option (codes "-glob") then switched Glob value pairs
     else (if bytes_eq option (codes "--") then switched Exact value pairs
-    else bad_option option))
+    else bad_option_plan option))
 switch_plan (option ∷ other ∷ value ∷ pairs ∷ []) =
     if bytes_eq option (codes "-exact") then switched_past Exact other value pairs
     else (if bytes_eq option (codes "-glob") then switched_past Glob other value pairs
     else (if bytes_eq option (codes "--") then misused usage.Switch
-    else bad_option option))
+    else bad_option_plan option))
 switch_plan _ = misused usage.Switch

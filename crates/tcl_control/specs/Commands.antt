@@ -1,10 +1,12 @@
 -- Meaning. The commands that run scripts or change how they run: for each, what it does with its words.
-use Rattle.std.specs.Prelude.{ℕ, ◌+◌, ◌-◌, ◌||◌, ◌&&◌, nat_le, nat_lt, nat_eq, Bool, true, false, ℤ, pos, negsuc, List, [], ◌∷◌, ◌++◌, length, drop, slice_index_or, if◌then◌else◌, Option, Some, None, Result, Ok, Err, codes, bytes_eq}
+use Rattle.std.specs.Prelude.{ℕ, ◌+◌, ◌-◌, ◌||◌, ◌&&◌, nat_lt, nat_eq, Bool, true, false, ℤ, pos, negsuc, List, [], ◌∷◌, ◌++◌, length, drop, slice_index_or, if◌then◌else◌, Option, Some, None, Result, Ok, Err, codes, bytes_eq}
 use Rattle.std.specs.List.{starts_with}
 use Rattle.std.specs.Fmt.{decimal}
 use Rattle.tcl_text.specs.Answers.{Answer}
+use Rattle.tcl_text.specs.Bytes.{hash}
 use Rattle.tcl_text.specs.Readings.{integer_of}
 use Rattle.tcl_text.specs.StringCommands.{concat_words}
+use Rattle.tcl_words.specs.Classes.{is_digit}
 use Rattle.tcl_vars.specs.Store.{Store, with_variable}
 use Rattle.tcl_commands.specs.Values.{exists_words}
 use Rattle.tcl_text.specs.declared.fault.SetFault.{SetFault}
@@ -21,15 +23,19 @@ use Rattle.tcl_shapes.specs.declared.groups.Group.{Group}
 use Rattle.tcl_control.specs.declared.usages.Usage.{Usage}
 use Rattle.tcl_control.specs.declared.usages.Usage.TheVariants as usage
 use Rattle.tcl_control.specs.Usages.{misused_text}
-use Rattle.tcl_table.specs.Texts.{about, cannot_set}
-use Rattle.tcl_text.specs.Answers.{message}
+use Rattle.tcl_table.specs.Texts.{cannot_set_text}
+use Rattle.tcl_text.specs.Messages.{bad_option_text, message, quoted}
 
-abbrev pub fails : List ℕ → Plan
-fails text = Ends Error text
+abbrev pub failed_plan : List ℕ → Plan
+failed_plan text = Ends Error text
 
 -- a wrong number of words
 unfoldable pub misused : Usage → Plan
-misused how = fails (misused_text how)
+misused how = failed_plan (misused_text how)
+
+-- a word that is no option
+abbrev pub bad_option_plan : List ℕ → Plan
+bad_option_plan word = failed_plan (message (bad_option_text word))
 
 -- ── codes ──
 
@@ -43,7 +49,7 @@ continue_plan _ = misused usage.Continue
 
 -- error message
 abbrev pub error_plan : List (List ℕ) → Plan
-error_plan (text ∷ []) = fails text
+error_plan (text ∷ []) = failed_plan text
 error_plan _ = misused usage.Error
 
 -- the code of a number
@@ -73,17 +79,17 @@ code_of word =
 
 abbrev pub returns_code : List ℕ → List ℕ → Option ReturnCode → Plan
 returns_code word text (Some code) = Ends (Return code) text
-returns_code word text None = fails (about (codes "bad completion code \"") word)
+returns_code word text None = failed_plan (message (codes "bad completion code " ++ quoted word))
 
 unfoldable pub returns_as : List ℕ → List ℕ → List ℕ → Plan
 returns_as option word text =
     if bytes_eq option (codes "-code") then returns_code word text (code_of word)
-    else fails (about (codes "bad option \"") option)
+    else bad_option_plan option
 
 -- return ?-code code? ?value?
 abbrev pub return_plan : List (List ℕ) → Plan
 return_plan [] = Ends (Return AsNormal) []
-return_plan (text ∷ []) = if bytes_eq text (codes "-code") then fails (codes "value for \"-code\" missing") else Ends (Return AsNormal) text
+return_plan (text ∷ []) = if bytes_eq text (codes "-code") then failed_plan (codes "value for \"-code\" missing") else Ends (Return AsNormal) text
 return_plan (option ∷ word ∷ []) = returns_as option word []
 return_plan (option ∷ word ∷ text ∷ []) = returns_as option word text
 return_plan _ = misused usage.Return
@@ -99,7 +105,7 @@ catch_plan _ = misused usage.Catch
 -- words joined to one script
 abbrev pub on_joined : (List ℕ → Plan) → Answer → Plan
 on_joined run (Ok script) = run script
-on_joined run (Err text) = fails text
+on_joined run (Err text) = failed_plan text
 
 -- eval arg ?arg ..?
 abbrev pub eval_plan : List (List ℕ) → Plan
@@ -124,7 +130,7 @@ for_plan _ = misused usage.For
 -- the names and items of `foreach`, or an error
 abbrev pub each_plan : List ℕ → Result (List Group) (List ℕ) → Plan
 each_plan body (Ok groups) = Turns (record { test = Items groups; body = body; next = None })
-each_plan body (Err text) = fails text
+each_plan body (Err text) = failed_plan text
 
 abbrev pub last_of : List (List ℕ) → List ℕ
 last_of words = slice_index_or words (length words - 1) []
@@ -137,13 +143,10 @@ foreach_plan words =
 
 -- ── levels ──
 
-abbrev pub is_digit : ℕ → Bool
-is_digit byte = nat_le 48 byte && nat_le byte 57
-
 -- the first word of uplevel is a level where it begins with a digit or `#`
 abbrev pub is_level : List ℕ → Bool
 is_level [] = false
-is_level (byte ∷ bytes) = is_digit byte || nat_eq byte 35
+is_level (byte ∷ bytes) = is_digit byte || nat_eq byte hash
 
 -- a number from 0 on
 abbrev pub unsigned_of : Option ℤ → Option ℕ
@@ -161,11 +164,16 @@ relative count None = None
 
 -- How many of so many levels a word leaves: `#N` counts from the global level along the callers, and N up from the own one.
 abbrev pub levels_left : ℕ → List ℕ → Option ℕ
-levels_left count word = if starts_with nat_eq word (codes "#") then absolute count (unsigned_of (integer_of (drop 1 word))) else relative count (unsigned_of (integer_of word))
+levels_left count word =
+    if starts_with nat_eq word (codes "#") then absolute count (unsigned_of (integer_of (drop 1 word))) else relative count (unsigned_of (integer_of word))
+
+-- there is no such level
+abbrev pub bad_level : List ℕ → List ℕ
+bad_level word = message (codes "bad level " ++ quoted word)
 
 abbrev pub runs_at : List ℕ → List (List ℕ) → Option ℕ → Plan
 runs_at word words (Some count) = on_joined (RunsAt count) (concat_words words)
-runs_at word words None = fails (about (codes "bad level \"") word)
+runs_at word words None = failed_plan (bad_level word)
 
 -- one level up
 abbrev pub runs_up : ℕ → List (List ℕ) → Plan
@@ -188,7 +196,7 @@ level_plan count _ = misused usage.InfoLevel
 -- a command that answers this
 abbrev pub texts_plan : Answer → Plan
 texts_plan (Ok text) = Ends Normal text
-texts_plan (Err text) = fails text
+texts_plan (Err text) = failed_plan text
 
 -- info option ?arg ..?
 abbrev pub info_plan : ℕ → ℕ → Store → List (List ℕ) → Plan
@@ -196,7 +204,7 @@ info_plan count level store [] = misused usage.Info
 info_plan count level store (option ∷ words) =
     if bytes_eq option (codes "level") then level_plan count words
     else (if bytes_eq option (codes "exists") then texts_plan (exists_words level words store)
-    else fails (about (codes "bad option \"") option))
+    else bad_option_plan option)
 
 -- ── variables ──
 
@@ -217,7 +225,7 @@ code_number Continue = codes "4"
 
 abbrev pub stored_ending : List ℕ → List ℕ → Store → Result Store SetFault → Ending
 stored_ending number name store (Ok changed) = record { store = changed; code = Normal; text = number }
-stored_ending number name store (Err fault) = record { store = store; code = Error; text = cannot_set name fault }
+stored_ending number name store (Err fault) = record { store = store; code = Error; text = cannot_set_text name fault }
 
 -- a script has ended so: its code is answered, and its result is put into the variable
 abbrev pub caught_ending : ℕ → Option (List ℕ) → Code → List ℕ → Store → Ending

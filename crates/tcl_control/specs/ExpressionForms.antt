@@ -10,12 +10,12 @@ use Rattle.tcl_control.specs.declared.expression.ExpressionForm.{ExpressionForm}
 use Rattle.tcl_control.specs.declared.expression.ExpressionForm.TheVariants.{Read, Faulty}
 
 -- the evaluation of an expression from its beginning, or the text of its fault
-abbrev pub begun : List ℕ → Result (List Step) ExprFault → Result Resumption (List ℕ)
-begun text (Ok steps) = Ok (record { steps = steps; stack = []; state = Ready })
-begun text (Err fault) = Err (parse_message text fault)
+abbrev pub evaluation_begun : List ℕ → Result (List Step) ExprFault → Result Resumption (List ℕ)
+evaluation_begun text (Ok steps) = Ok (record { steps = steps; stack = []; state = Ready })
+evaluation_begun text (Err fault) = Err (parse_message text fault)
 
 unfoldable pub evaluation_begins : List ℕ → Result Resumption (List ℕ)
-evaluation_begins text = begun text (compiled text)
+evaluation_begins text = evaluation_begun text (compiled text)
 
 -- the text of an expression, whether or not it could be read
 abbrev pub expression_text : ExpressionForm → List ℕ
@@ -23,6 +23,6 @@ expression_text (Read expr) = expr
 expression_text (Faulty text told) = text
 
 -- where a fault's text is kept, it is that of the expression
-abbrev pub HasFault : ExpressionForm → Type 0
-HasFault (Read expr) = Unit {0}
-HasFault (Faulty text told) = evaluation_begins text ≡ Err told
+abbrev pub HasToldFault : ExpressionForm → Type 0
+HasToldFault (Read expr) = Unit {0}
+HasToldFault (Faulty text told) = evaluation_begins text ≡ Err told

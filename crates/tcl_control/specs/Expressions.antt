@@ -5,7 +5,8 @@ use Rattle.tcl_expr.specs.declared.fault.ExprFault.{ExprFault}
 use Rattle.tcl_expr.specs.Messages.{parse_message}
 use Rattle.tcl_expr.proofs.GrammarLaws.{one_expr_parse}
 use Rattle.tcl_expr.specs.Trees.{Tree}
-use Rattle.tcl_table.specs.Texts.{not_boolean}
+use Rattle.tcl_text.specs.FaultTexts.{boolean_text}
+use Rattle.tcl_text.specs.Messages.{message}
 
 -- the tree of an expression, or the text of its fault
 abbrev pub tree_or_text : List ℕ → Result Tree ExprFault → Result Tree (List ℕ)
@@ -22,7 +23,7 @@ expression_of text = tree_or_text text (one_expr_parse text).it
 -- a value as a boolean, or the error's text
 abbrev pub truth_or_text : List ℕ → Option Bool → Result Bool (List ℕ)
 truth_or_text value (Some truth) = Ok truth
-truth_or_text value None = Err (not_boolean value)
+truth_or_text value None = Err (message (boolean_text value))
 
-abbrev pub truth_of : List ℕ → Result Bool (List ℕ)
-truth_of value = truth_or_text value (boolean_of value)
+abbrev pub truth_of_text : List ℕ → Result Bool (List ℕ)
+truth_of_text value = truth_or_text value (boolean_of value)

@@ -11,12 +11,11 @@ use Rattle.tcl_table.specs.declared.procedure.Procedure.{Procedure}
 use Rattle.tcl_control.specs.declared.plan.Plan.{Plan}
 use Rattle.tcl_control.specs.declared.plan.Plan.TheVariants.{Enters}
 use Rattle.tcl_control.specs.Assign.{Assigned, on_set, done}
-use Rattle.tcl_control.specs.Commands.{fails}
+use Rattle.tcl_control.specs.Commands.{failed_plan}
 use Rattle.tcl_table.specs.Levels.{popped}
 use Rattle.tcl_table.specs.Names.{is_dotted, plain_name}
-use Rattle.tcl_table.specs.Table.{Table, is_procedure, procedure_count, value_at, with_value, without}
-use Rattle.tcl_table.specs.Texts.{about, wrong_words}
-use Rattle.tcl_text.specs.Answers.{limit_text, message}
+use Rattle.tcl_table.specs.Table.{NamedCommands, is_procedure, procedure_count, value_at, with_value, without}
+use Rattle.tcl_text.specs.Messages.{bad_name_text, limit_text, message, quoted, wrong_args_text}
 use Rattle.tcl_text.specs.Limits.{most_bytes, most_procedures}
 
 -- ── calls ──
@@ -61,7 +60,7 @@ usage_words (parameter ∷ parameters) = codes " " ++ usage_word parameter param
 
 -- how a procedure is called, by the name that it was called by
 abbrev pub usage : List ℕ → List Parameter → List ℕ
-usage name parameters = message (wrong_words (plain_name name ++ usage_words parameters))
+usage name parameters = message (wrong_args_text (plain_name name ++ usage_words parameters))
 
 -- what the call of a procedure leaves, and what is to be done: its frame is the last one
 pub record ProcedureCalled : Type 0 where
@@ -71,7 +70,7 @@ pub record ProcedureCalled : Type 0 where
 
 abbrev pub by_entered : List ℕ → ℕ → List ℕ → Assigned → Option (List ℕ) → ProcedureCalled
 by_entered body level levels assigned None = record { store = assigned.store; levels = levels ++ level ∷ []; plan = Enters body }
-by_entered body level levels assigned (Some text) = record { store = popped assigned.store; levels = levels; plan = fails text }
+by_entered body level levels assigned (Some text) = record { store = popped assigned.store; levels = levels; plan = failed_plan text }
 
 abbrev pub entered_call : Procedure → ℕ → List ℕ → Assigned → ProcedureCalled
 entered_call procedure level levels assigned = by_entered procedure.body level levels assigned assigned.refused
@@ -80,7 +79,7 @@ entered_call procedure level levels assigned = by_entered procedure.body level l
 abbrev pub procedure_call : List ℕ → Procedure → List (List ℕ) → Store → List ℕ → ProcedureCalled
 procedure_call name procedure words store levels =
     if fits procedure.parameters words then entered_call procedure (length store) levels (entered (length store) procedure.parameters words (store ++ [] ∷ []))
-    else record { store = store; levels = levels; plan = fails (usage name procedure.parameters) }
+    else record { store = store; levels = levels; plan = failed_plan (usage name procedure.parameters) }
 
 -- ── the table ──
 
@@ -89,61 +88,61 @@ holds_procedure None = false
 holds_procedure (Some command) = is_procedure command
 
 -- at most 1,024 procedures
-abbrev pub has_room : Table → List ℕ → Bool
+abbrev pub has_room : NamedCommands → List ℕ → Bool
 has_room table name = holds_procedure (value_at table name) || nat_lt (procedure_count table) most_procedures
 
 abbrev pub cannot_use : List ℕ → List ℕ
-cannot_use name = about (codes "can't use name \"") name
+cannot_use name = message (bad_name_text name)
 
 -- the table in which a procedure has a name, or the error's text
-abbrev pub defined : Table → List ℕ → List ℕ → Result (List Parameter) (List ℕ) → Result Table (List ℕ)
+abbrev pub defined : NamedCommands → List ℕ → List ℕ → Result (List Parameter) (List ℕ) → Result NamedCommands (List ℕ)
 defined table name body (Ok parameters) =
     if has_room table name then Ok (with_value table name (command.Procedure (record { parameters = parameters; body = body })))
     else Err (codes "limit reached: procedures")
 defined table name body (Err text) = Err text
 
 -- proc name params body
-abbrev pub with_procedure : Table → List ℕ → List ℕ → List ℕ → Result Table (List ℕ)
+abbrev pub with_procedure : NamedCommands → List ℕ → List ℕ → List ℕ → Result NamedCommands (List ℕ)
 with_procedure table name parameters body =
     if is_dotted (plain_name name) then Err (cannot_use name)
     else defined table (plain_name name) body (parameters_in (list_of parameters))
 
 abbrev pub not_there : List ℕ → List ℕ
-not_there name = message (codes "can't rename \"" ++ name ++ codes "\": command doesn't exist")
+not_there name = message (codes "can't rename " ++ (quoted name ++ codes ": command doesn't exist"))
 
 abbrev pub there_already : List ℕ → List ℕ
-there_already name = message (codes "can't rename to \"" ++ name ++ codes "\": command already exists")
+there_already name = message (codes "can't rename to " ++ (quoted name ++ codes ": command already exists"))
 
 -- why a command can't get a name
-abbrev pub name_refused : Table → List ℕ → Option (List ℕ)
+abbrev pub name_refused : NamedCommands → List ℕ → Option (List ℕ)
 name_refused table name =
     if is_dotted (plain_name name) then Some (cannot_use name)
     else (if is_some (value_at table (plain_name name)) then Some (there_already name)
     else None)
 
-abbrev pub placed : Table → List ℕ → List ℕ → Command → Option (List ℕ) → Result Table (List ℕ)
+abbrev pub placed : NamedCommands → List ℕ → List ℕ → Command → Option (List ℕ) → Result NamedCommands (List ℕ)
 placed table old new command None = Ok (with_value (without table old) (plain_name new) command)
 placed table old new command (Some text) = Err text
 
 -- the command of a plain name gets another one, or none
-abbrev pub named_anew : Table → List ℕ → List ℕ → Command → Result Table (List ℕ)
+abbrev pub named_anew : NamedCommands → List ℕ → List ℕ → Command → Result NamedCommands (List ℕ)
 named_anew table old new command = if (length new == 0) then Ok (without table old) else placed table old new command (name_refused table new)
 
-abbrev pub renamed : Table → List ℕ → List ℕ → Option Command → Result Table (List ℕ)
+abbrev pub renamed : NamedCommands → List ℕ → List ℕ → Option Command → Result NamedCommands (List ℕ)
 renamed table old new (Some command) = named_anew table (plain_name old) new command
 renamed table old new None = Err (not_there old)
 
 -- rename old new
-abbrev pub with_new_name : Table → List ℕ → List ℕ → Result Table (List ℕ)
+abbrev pub with_new_name : NamedCommands → List ℕ → List ℕ → Result NamedCommands (List ℕ)
 with_new_name table old new =
     if is_dotted (plain_name old) then Err (cannot_use old)
     else renamed table old new (value_at table (plain_name old))
 
 -- the table after a change that can be refused, and the text of the refusal, which changes nothing
 pub record Changed : Type 0 where
-  pub table : Table
+  pub table : NamedCommands
   pub refused : Option (List ℕ)
 
-abbrev pub changed : Table → Result Table (List ℕ) → Changed
-changed old (Ok new) = record { table = new; refused = None }
-changed old (Err text) = record { table = old; refused = Some text }
+abbrev pub table_changed : NamedCommands → Result NamedCommands (List ℕ) → Changed
+table_changed old (Ok new) = record { table = new; refused = None }
+table_changed old (Err text) = record { table = old; refused = Some text }

@@ -2,7 +2,8 @@
 use Rattle.std.specs.Prelude.{ℕ, List, codes}
 use Rattle.tcl_control.specs.declared.usages.Usage.{Usage}
 use Rattle.tcl_control.specs.declared.usages.Usage.TheVariants.{Break, Continue, Error, Catch, Return, Eval, Expr, While, For, Foreach, If, Switch, Proc, Rename, Uplevel, Upvar, Info, InfoLevel}
-use Rattle.tcl_table.specs.Texts.{message, wrong_words}
+use Rattle.tcl_commands.specs.Links.{upvar_usage}
+use Rattle.tcl_text.specs.Messages.{message, wrong_args_text}
 
 abbrev pub usage_text : Usage → List ℕ
 usage_text Break = codes "break"
@@ -20,9 +21,9 @@ usage_text Switch = codes "switch ?-exact|-glob? ?--? value pairs"
 usage_text Proc = codes "proc name params body"
 usage_text Rename = codes "rename old new"
 usage_text Uplevel = codes "uplevel ?level? arg ?arg ..?"
-usage_text Upvar = codes "upvar ?level? other mine ?other mine ..?"
+usage_text Upvar = upvar_usage
 usage_text Info = codes "info option ?arg ..?"
 usage_text InfoLevel = codes "info level"
 
 abbrev pub misused_text : Usage → List ℕ
-misused_text usage = message (wrong_words (usage_text usage))
+misused_text usage = message (wrong_args_text (usage_text usage))

@@ -8,11 +8,10 @@ use Rattle.tcl_commands.specs.Links.{upvar_words}
 use Rattle.tcl_commands.specs.declared.commands.VariableCommand.{VariableCommand}
 use Rattle.tcl_control.specs.declared.code.Code.{Code}
 use Rattle.tcl_control.specs.declared.code.Code.TheVariants.{Normal, Error}
-use Rattle.tcl_control.specs.Commands.{Ending, levels_left}
+use Rattle.tcl_control.specs.Commands.{Ending, bad_level, levels_left}
 use Rattle.tcl_table.specs.Levels.{here}
 use Rattle.tcl_control.specs.declared.usages.Usage.TheVariants.{Upvar}
 use Rattle.tcl_control.specs.Usages.{misused_text}
-use Rattle.tcl_table.specs.Texts.{about}
 
 abbrev pub answer_code : Answer → Code
 answer_code (Ok text) = Normal
@@ -32,18 +31,18 @@ variable_ending command levels words store = done_ending (command_done command (
 
 -- names are linked to those of the frame that this level names, which must be an earlier one
 abbrev pub linked_ending : List ℕ → List (List ℕ) → ℕ → Store → Option ℕ → Ending
-linked_ending word names level store None = record { store = store; code = Error; text = about (codes "bad level \"") word }
+linked_ending word names level store None = record { store = store; code = Error; text = bad_level word }
 linked_ending word names level store (Some place) =
     if nat_lt place level then done_ending (upvar_words level place names store)
-    else record { store = store; code = Error; text = about (codes "bad level \"") word }
+    else record { store = store; code = Error; text = bad_level word }
 
 -- the place of the frame where only so many of the levels are
-abbrev pub place_of : List ℕ → Store → Option ℕ → Option ℕ
-place_of levels store (Some count) = Some (here (take count levels) store)
-place_of levels store None = None
+abbrev pub place_among : List ℕ → Store → Option ℕ → Option ℕ
+place_among levels store (Some count) = Some (here (take count levels) store)
+place_among levels store None = None
 
 abbrev pub upvar_at : List ℕ → List ℕ → List (List ℕ) → Store → Ending
-upvar_at levels word names store = linked_ending word names (here levels store) store (place_of levels store (levels_left (length levels) word))
+upvar_at levels word names store = linked_ending word names (here levels store) store (place_among levels store (levels_left (length levels) word))
 
 abbrev pub upvar_misused : Store → Ending
 upvar_misused store = record { store = store; code = Error; text = misused_text Upvar }

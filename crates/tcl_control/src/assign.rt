@@ -1,6 +1,6 @@
 ghost use Rattle.std.specs.Prelude.{◌≡◌, ◌<◌, length, drop, IfOk, Ok};
 ghost use Rattle.tcl_vars.specs.Store.{with_variable};
-ghost use Rattle.tcl_control.specs.Assign.{done, on_set, first_of, assigned, groups_assigned};
+ghost use Rattle.tcl_control.specs.Assign.{done, on_set, first_item, assigned, groups_assigned};
 
 use std::alloc::{AllocError, Global};
 use tcl_shapes::Group;
@@ -30,7 +30,7 @@ pub fn set_one(
 /// The item at a place, or the empty text.
 #[tactic(auto, using(crate::proofs::AssignLemmas::item_there, crate::proofs::AssignLemmas::no_item_there))]
 fn item_at(alloc: Global, items: &ListItems, at: usize) -> Result<Text, AllocError>
-    ensures { IfOk result (λ item. item ≡ first_of (drop at items.now)) }
+    ensures { IfOk result (λ item. item ≡ first_item (drop at items.now)) }
 {
     match items.get(alloc, at)? {
         Some(item) => Ok(item),

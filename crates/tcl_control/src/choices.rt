@@ -1,15 +1,16 @@
 ghost use Rattle.std.specs.Prelude.{◌≡◌, ◌∷◌, [], IfOk};
 ghost use Rattle.tcl_text.specs.Readings.{list_of};
 ghost use Rattle.tcl_shapes.specs.Branches.{choices_of, arms_of};
-ghost use Rattle.tcl_control.specs.Choices.{if_plan, ends_open, is_dash, matches, takes, body_of, arm_for, by_arms, by_pairs, switched, switched_past, switch_plan, bad_option, no_body};
+ghost use Rattle.tcl_control.specs.Choices.{if_plan, ends_open, is_dash, matches, takes, body_of, arm_for, by_arms, by_pairs, switched, switched_past, switch_plan, no_body};
+ghost use Rattle.tcl_control.specs.Commands.{bad_option_plan};
 
 use crate::code::Code;
 use crate::plan::{Plan, fails};
 use crate::usages::{Usage, misused};
 use std::alloc::{AllocError, Global};
-use tcl_shapes::{Branch, if_choices, list_fault, switch_arms};
+use tcl_shapes::{Branch, if_choices, switch_arms};
 use tcl_table::Source;
-use tcl_table::texts::about;
+use tcl_text::message::bad_option_text;
 use tcl_text::{SplitFault, Text};
 
 /// `if` (if(n)).
@@ -126,15 +127,16 @@ fn switched(
 {
     match pairs.split_list(alloc) {
         Ok(items) => by_arms(alloc, matching, value, items.as_slice()),
-        Err(SplitFault::BadList(fault)) => Ok(fails(list_fault(alloc, fault)?)),
+        Err(SplitFault::BadList(fault)) => Ok(fails(fault.told(alloc)?)),
         Err(SplitFault::NoMemory) => Err(AllocError),
     }
 }
 
-fn bad_option(alloc: Global, word: &Text) -> Result<Plan, AllocError>
-    ensures { IfOk result (λ plan. plan ≡ bad_option word.now) }
+/// A command ends with the error that a word is no option. It has no number.
+pub fn bad_option_plan(alloc: Global, word: &Text) -> Result<Plan, AllocError>
+    ensures { IfOk result (λ plan. plan ≡ bad_option_plan word.now) }
 {
-    Ok(fails(about(alloc, "bad option \"", word.as_str())?))
+    Ok(fails(bad_option_text(alloc, word.as_str())?))
 }
 
 /// `switch` behind one option.
@@ -149,7 +151,7 @@ fn switched_by(alloc: Global, option: &Text, value: &Text, pairs: &Text) -> Resu
     } else if name == "--" {
         switched(alloc, Matching::Exact, value, pairs)
     } else {
-        bad_option(alloc, option)
+        bad_option_plan(alloc, option)
     }
 }
 
@@ -165,7 +167,7 @@ fn switched_past(
     if option.as_str() == "--" {
         switched(alloc, matching, value, pairs)
     } else {
-        bad_option(alloc, option)
+        bad_option_plan(alloc, option)
     }
 }
 
@@ -187,7 +189,7 @@ fn switched_by_two(
     } else if name == "--" {
         misused(alloc, Usage::Switch)
     } else {
-        bad_option(alloc, option)
+        bad_option_plan(alloc, option)
     }
 }
 

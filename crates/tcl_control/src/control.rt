@@ -4,12 +4,12 @@ ghost use Rattle.tcl_text.specs.Commands.{command_answer};
 ghost use Rattle.tcl_text.specs.Readings.{integer_of};
 ghost use Rattle.tcl_text.specs.StringCommands.{concat_words};
 ghost use Rattle.tcl_vars.specs.Store.{with_variable};
-ghost use Rattle.tcl_control.specs.Commands.{code_number, stored_ending, caught_ending, break_plan, catch_plan, continue_plan, error_plan, eval_plan, expr_plan, for_plan, foreach_plan, info_plan, return_plan, texts_plan, uplevel_plan, while_plan, on_joined, code_of, code_of_integer, code_numbered, unsigned_of, absolute, relative, runs_up, returns_as, returns_code, is_level, levels_left, runs_at, level_plan};
+ghost use Rattle.tcl_control.specs.Commands.{code_number, stored_ending, caught_ending, break_plan, catch_plan, continue_plan, error_plan, eval_plan, expr_plan, for_plan, foreach_plan, info_plan, return_plan, texts_plan, uplevel_plan, while_plan, on_joined, code_of, code_of_integer, code_numbered, unsigned_of, absolute, relative, runs_up, returns_as, returns_code, is_level, levels_left, bad_level, runs_at, level_plan};
 ghost use Rattle.tcl_vars.specs.Store.{Store};
-ghost use Rattle.tcl_control.specs.Control.{recorded_plan, proc_call, rename_call, builtin_call, by_command, call_of, keeps};
+ghost use Rattle.tcl_control.specs.Control.{recorded_plan, proc_call, rename_call, builtin_call, by_command, call_of, keeps_all};
 ghost use Rattle.tcl_text.specs.Limits.{most_bytes};
 
-use crate::choices::{if_plan, switch_plan};
+use crate::choices::{bad_option_plan, if_plan, switch_plan};
 use crate::code::{Code, ReturnCode};
 use crate::context::Context;
 use crate::define::{make_procedure, rename};
@@ -22,8 +22,8 @@ use crate::variables::{upvar_end, variable_end};
 use std::alloc::{AllocError, Global};
 use tcl_commands::info_exists;
 use tcl_shapes::{foreach_groups, has_body};
-use tcl_table::texts::{about, told};
 use tcl_table::{Builtin, Command, CommandTable, Source, is_dotted, plain_name};
+use tcl_text::message::about;
 use tcl_text::{Text, TextCommand};
 use tcl_vars::{Scopes, SetFault};
 
@@ -277,11 +277,11 @@ fn returns_as(alloc: Global, option: &Text, word: &Text, text: Text) -> Result<P
     ensures { IfOk result (λ plan. plan ≡ returns_as option.now word.now text) }
 {
     if option.as_str() != "-code" {
-        return Ok(fails(about(alloc, "bad option \"", option.as_str())?));
+        return bad_option_plan(alloc, option);
     }
     match code_of(word) {
         Some(code) => Ok(Plan::Ends(Code::Return(code), text)),
-        None => Ok(fails(about(alloc, "bad completion code \"", word.as_str())?)),
+        None => Ok(fails(about(alloc, "bad completion code ", word.as_str())?)),
     }
 }
 
@@ -334,7 +334,7 @@ pub fn levels_left(alloc: Global, count: usize, word: &Text) -> Result<Option<us
     ensures { IfOk result (λ left. left ≡ levels_left count word.now) }
 {
     match word.as_str().strip_prefix("#") {
-        Some(rest) => Ok(absolute(count, unsigned(&told(alloc, rest)?))),
+        Some(rest) => Ok(absolute(count, unsigned(&Text::of_short(alloc, rest)?))),
         None => Ok(relative(count, unsigned(word))),
     }
 }
@@ -357,6 +357,13 @@ fn relative(count: usize, number: Option<u64>) -> Option<usize>
     }
 }
 
+/// The text of the error that there is no such level. It has no number.
+pub fn bad_level(alloc: Global, word: &str) -> Result<Text, AllocError>
+    ensures { IfOk result (λ text. text ≡ bad_level word.now) }
+{
+    about(alloc, "bad level ", word)
+}
+
 fn runs_at(
     alloc: Global,
     word: &str,
@@ -370,7 +377,7 @@ fn runs_at(
             Ok(script) => Ok(Plan::RunsAt(count, Source::of_text(script))),
             Err(text) => Ok(fails(text)),
         },
-        None => Ok(fails(about(alloc, "bad level \"", word)?)),
+        None => Ok(fails(bad_level(alloc, word)?)),
     }
 }
 
@@ -399,6 +406,7 @@ fn uplevel_plan(alloc: Global, count: usize, words: &[Text]) -> Result<Plan, All
 }
 
 /// `info level` at so many levels (info(n)).
+#[tactic(auto, unfolding(tcl_text::specs::Messages::bounded))]
 fn level_plan(alloc: Global, count: usize, words: &[Text]) -> Result<Plan, AllocError>
     ensures { IfOk result (λ plan. plan ≡ level_plan count words.now) }
 {
@@ -406,7 +414,7 @@ fn level_plan(alloc: Global, count: usize, words: &[Text]) -> Result<Plan, Alloc
         [] => {
             let number = if count == 0 { 0 } else { count - 1 };
             let digits = format!(in alloc; "{number}")?;
-            Ok(Plan::Ends(Code::Normal, told(alloc, digits.as_str())?))
+            Ok(Plan::Ends(Code::Normal, Text::of_message(alloc, digits.as_str())?))
         }
         _ => misused(alloc, Usage::InfoLevel),
     }
@@ -431,7 +439,7 @@ fn info_plan(
     } else if option.as_str() == "exists" {
         Ok(plan_of(info_exists(alloc, scopes, level, rest)?))
     } else {
-        Ok(fails(about(alloc, "bad option \"", option.as_str())?))
+        bad_option_plan(alloc, option)
     }
 }
 
@@ -528,13 +536,10 @@ pub fn call_command(
 {
     let plain = plain_name(name.as_str());
     if is_dotted(plain) {
-        return Ok(Call::Outside(told(alloc, plain)?));
+        return Ok(Call::Outside(Text::of_short(alloc, plain)?));
     }
     match context.commands.get(plain) {
-        Some(Command::Builtin(builtin)) => {
-            let call = builtin_call(alloc, *builtin, scopes, context, words)?;
-            Ok(call)
-        }
+        Some(Command::Builtin(builtin)) => builtin_call(alloc, *builtin, scopes, context, words),
         Some(Command::Texts(command)) => Ok(Call::Plans(texts_plan(alloc, *command, words)?)),
         Some(Command::Procedure(procedure)) => {
             let plan = call_procedure(alloc, scopes, &mut context.levels, name, procedure, words)?;

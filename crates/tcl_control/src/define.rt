@@ -3,21 +3,24 @@ ghost use Rattle.std.specs.Prelude.{◌≡◌, IfOk, IsSome, OnOk, Ok};
 ghost use Rattle.tcl_shapes.specs.Parameters.{parameters_in};
 ghost use Rattle.tcl_text.specs.Readings.{list_of};
 ghost use Rattle.tcl_table.specs.Names.{plain_name};
-ghost use Rattle.tcl_control.specs.Procedures.{holds_procedure, has_room, changed, defined, cannot_use, with_procedure, name_refused, named_anew, with_new_name};
+ghost use Rattle.tcl_control.specs.Procedures.{holds_procedure, has_room, table_changed, defined, cannot_use, with_procedure, name_refused, named_anew, with_new_name};
 ghost use Rattle.tcl_table.specs.Table.{value_at, with_value, without};
 ghost use Rattle.tcl_table.specs.declared.command.Command.{Command as CommandValue};
 
 use std::alloc::{AllocError, Global};
 use tcl_shapes::{Parameters, parameters_in};
-use tcl_table::texts::{about, message};
 use tcl_table::{Command, CommandTable, Procedure, Source, is_dotted, plain_name};
 use tcl_text::Text;
+use tcl_text::message::{about_between, bad_name_text};
+
+/// How many procedures there are at most.
+const MAX_PROCEDURES: usize = 1024;
 
 /// Whether there is room for a procedure of a name: it has that of a procedure, or there are few enough.
 fn has_room(table: &CommandTable, name: &str) -> bool
     ensures { result ≡ has_room table.now name.now }
 {
-    holds_procedure(table.get(name)) || table.procedures() < 1024
+    holds_procedure(table.get(name)) || table.procedures() < MAX_PROCEDURES
 }
 
 fn holds_procedure(command: Option<&Command>) -> bool
@@ -38,7 +41,7 @@ fn define(
     parameters: Parameters,
 ) -> Result<Option<Text>, AllocError>
     ensures { IfOk result (λ refused. record { table = table.new; refused = refused }
-        ≡ changed table.old (defined table.old name.now body.now (Ok parameters))) }
+        ≡ table_changed table.old (defined table.old name.now body.now (Ok parameters))) }
 {
     if !has_room(table, name) {
         return Ok(Some(Text::of_short(alloc, "limit reached: procedures")?));
@@ -54,7 +57,7 @@ fn define(
 fn cannot_use(alloc: Global, name: &Text) -> Result<Text, AllocError>
     ensures { IfOk result (λ text. text ≡ cannot_use name.now) }
 {
-    about(alloc, "can't use name \"", name.as_str())
+    bad_name_text(alloc, name.as_str())
 }
 
 /// Makes a procedure, or tells the error's text (proc(n)).
@@ -66,7 +69,7 @@ pub fn make_procedure(
     body: &Text,
 ) -> Result<Option<Text>, AllocError>
     ensures { IfOk result (λ refused. record { table = table.new; refused = refused }
-        ≡ changed table.old (with_procedure table.old name.now parameters.now body.now)) }
+        ≡ table_changed table.old (with_procedure table.old name.now parameters.now body.now)) }
 {
     let plain = plain_name(name.as_str());
     if is_dotted(plain) {
@@ -91,11 +94,11 @@ fn name_refused(
         return Ok(Some(cannot_use(alloc, name)?));
     }
     match table.get(plain) {
-        Some(_) => Ok(Some(message(
+        Some(_) => Ok(Some(about_between(
             alloc,
-            "can't rename to \"",
+            "can't rename to ",
             name.as_str(),
-            "\": command already exists",
+            ": command already exists",
         )?)),
         None => Ok(None),
     }
@@ -125,7 +128,7 @@ fn name_anew(
 ) -> Result<Option<Text>, AllocError>
     requires { IsSome (value_at table.old old.now) }
     ensures { IfOk result (λ refused. (command : CommandValue) → value_at table.old old.now ≡ Some command → record { table = table.new; refused = refused }
-        ≡ changed table.old (named_anew table.old old.now new.now command)) }
+        ≡ table_changed table.old (named_anew table.old old.now new.now command)) }
 {
     if new.as_str().is_empty() {
         let _command = table.remove(old);
@@ -147,7 +150,7 @@ pub fn rename(
     old: &Text,
     new: &Text,
 ) -> Result<Option<Text>, AllocError>
-    ensures { IfOk result (λ refused. record { table = table.new; refused = refused } ≡ changed table.old (with_new_name table.old old.now new.now)) }
+    ensures { IfOk result (λ refused. record { table = table.new; refused = refused } ≡ table_changed table.old (with_new_name table.old old.now new.now)) }
 {
     let plain = plain_name(old.as_str());
     if is_dotted(plain) {
@@ -155,11 +158,11 @@ pub fn rename(
     }
     match table.get(plain) {
         Some(_) => name_anew(alloc, table, plain, new),
-        None => Ok(Some(message(
+        None => Ok(Some(about_between(
             alloc,
-            "can't rename \"",
+            "can't rename ",
             old.as_str(),
-            "\": command doesn't exist",
+            ": command doesn't exist",
         )?)),
     }
 }

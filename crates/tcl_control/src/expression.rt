@@ -1,12 +1,11 @@
 ghost use Rattle.std.specs.Prelude.{◌≡◌, IfOk};
-ghost use Rattle.tcl_control.specs.Expressions.{truth_of};
+ghost use Rattle.tcl_control.specs.Expressions.{truth_of_text};
 ghost use Rattle.tcl_control.specs.ExpressionForms.{evaluation_begins};
 
 use std::alloc::{AllocError, Global};
 use std::marker::Model;
 use tcl_expr::{Eval, Expr, ExprFault, parse_expr};
 use tcl_table::CommandTable;
-use tcl_table::texts::not_boolean;
 use tcl_text::Text;
 use tcl_words::ParseFault;
 
@@ -26,13 +25,13 @@ pub struct Expression {
 
 impl Model for Expression {
     ghost use Rattle.std.specs.Prelude.{ℕ, List};
-    ghost use Rattle.tcl_control.specs.ExpressionForms.{expression_text, HasFault};
+    ghost use Rattle.tcl_control.specs.ExpressionForms.{expression_text, HasToldFault};
 
     ghost Value = { List ℕ };
 
     ghost view = { λ e. expression_text e.form };
 
-    ghost invariant = { λ e. HasFault e.form };
+    ghost invariant = { λ e. HasToldFault e.form };
 }
 
 impl Expression {
@@ -107,11 +106,11 @@ impl Expression {
 
 /// The value of a condition of `if`, `while` or `for` as a boolean (expr(n)), or the text of the error that it is none (2).
 pub fn truth(alloc: Global, value: &Text) -> Result<Result<bool, Text>, AllocError>
-    ensures { IfOk result (λ truth. truth ≡ truth_of value.now) }
+    ensures { IfOk result (λ truth. truth ≡ truth_of_text value.now) }
 {
     match value.boolean() {
         Ok(truth) => Ok(Ok(truth)),
-        Err(_) => Ok(Err(not_boolean(alloc, value)?)),
+        Err(fault) => Ok(Err(fault.text(alloc, value.as_str())?)),
     }
 }
 

@@ -14,7 +14,7 @@ mod turns;
 mod usages;
 mod variables;
 
-pub use code::{Code, ReturnCode};
+pub use code::{Code, ReturnCode, STRAY_BREAK, STRAY_CONTINUE};
 pub use context::Context;
 pub use control::{Call, End, call_command, caught};
 pub use expression::{Expression, truth};

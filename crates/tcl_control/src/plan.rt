@@ -33,7 +33,7 @@ pub enum Plan {
 
 /// A command ends with an error of this text.
 pub fn fails(text: Text) -> Plan
-    ensures { result ≡ spec.fails text }
+    ensures { result ≡ spec.failed_plan text }
 {
     Plan::Ends(Code::Error, text)
 }

@@ -10,9 +10,8 @@ use crate::code::Code;
 use crate::plan::Plan;
 use std::alloc::{AllocError, Global};
 use tcl_shapes::Parameter;
-use tcl_table::texts::message;
 use tcl_table::{Levels, Procedure, plain_name};
-use tcl_text::message::limit;
+use tcl_text::message::{limit, wrong_args_text};
 use tcl_text::{Text, TextFault};
 use tcl_vars::Scopes;
 
@@ -156,7 +155,7 @@ fn usage(alloc: Global, name: &str, parameters: &[Parameter]) -> Result<Text, Al
     ensures { IfOk result (λ text. text ≡ usage name.now parameters.now) }
 {
     let words = usage_words(alloc, plain_name(name), parameters)?;
-    message(alloc, "wrong # args: should be \"", words.as_str(), "\"")
+    wrong_args_text(alloc, words.as_str())
 }
 
 /// Calls a procedure with these words behind a name: it gets a frame of its own, in which its body is to run.

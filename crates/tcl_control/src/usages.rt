@@ -5,8 +5,9 @@ ghost use Rattle.tcl_control.specs.Usages as spec;
 
 use crate::plan::{Plan, fails};
 use std::alloc::{AllocError, Global};
-use tcl_table::texts::message;
+use tcl_commands::UPVAR_USAGE;
 use tcl_text::Text;
+use tcl_text::message::wrong_args_text;
 
 /// A command, or a form of one, with a usage of its own.
 #[derive(Clone, Copy)]
@@ -52,7 +53,7 @@ impl Usage {
             Usage::Proc => "proc name params body",
             Usage::Rename => "rename old new",
             Usage::Uplevel => "uplevel ?level? arg ?arg ..?",
-            Usage::Upvar => "upvar ?level? other mine ?other mine ..?",
+            Usage::Upvar => UPVAR_USAGE,
             Usage::Info => "info option ?arg ..?",
             Usage::InfoLevel => "info level",
         }
@@ -63,7 +64,7 @@ impl Usage {
 pub fn misused_text(alloc: Global, usage: Usage) -> Result<Text, AllocError>
     ensures { IfOk result (λ text. text ≡ spec.misused_text usage) }
 {
-    message(alloc, "wrong # args: should be \"", usage.text(), "\"")
+    wrong_args_text(alloc, usage.text())
 }
 
 /// A command ends with that error.

@@ -4,12 +4,11 @@ ghost use Rattle.tcl_control.specs.Usages.{misused_text};
 ghost use Rattle.tcl_control.specs.Variables as spec;
 
 use crate::code::Code;
-use crate::control::{End, error_end, levels_left};
+use crate::control::{End, bad_level, error_end, levels_left};
 use crate::usages::{Usage, misused_text};
 use std::alloc::{AllocError, Global};
 use tcl_commands::{VariableCommand, call_variable_command, upvar_command};
 use tcl_table::Levels;
-use tcl_table::texts::about;
 use tcl_text::Text;
 use tcl_vars::Scopes;
 
@@ -61,7 +60,7 @@ fn linked(
             let answer = upvar_command(alloc, scopes, level, place, names)?;
             Ok(end_of(answer))
         }
-        _ => Ok(error_end(about(alloc, "bad level \"", word)?)),
+        _ => Ok(error_end(bad_level(alloc, word)?)),
     }
 }
 

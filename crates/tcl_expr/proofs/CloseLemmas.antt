@@ -10,7 +10,7 @@ use Rattle.tcl_expr.specs.Trees.{Tree}
 use Rattle.tcl_expr.specs.Steps.{steps_of}
 use Rattle.tcl_expr.specs.Reading.{Opened, Before, After, Paren, Question, Otherwise, ended, ends_at, Closed, close, at_colon, at_close}
 use Rattle.tcl_expr.specs.declared.fault.ExprFault.TheVariants.{Syntax}
-use Rattle.tcl_expr.specs.Parsing.{ends_open, infix_hole, infix_written, own_written, written, kept, all_kept, chosen_steps, open_ended, EndsLast, Holds, Closes}
+use Rattle.tcl_expr.specs.Parsing.{is_ended_at, infix_hole, infix_written, own_written, opened_written, kept, all_kept, chosen_steps, open_ended, EndsLast, Holds, Closes}
 
 pub append_nil : (xs : List Step) → xs ++ [] ≡ xs
 append_nil [] = refl
@@ -61,7 +61,7 @@ ended_steps level (Otherwise a b) w tree h =
     ∙ ap (λ l. w ++ (chosen_steps a b ++ step.Jump (length (steps_of tree)) ∷ l)) (append_nil (steps_of tree))
     ∙ ap (λ l. w ++ l) (append_assoc (steps_of a) (step.Branch (suc (length (steps_of b))) ∷ steps_of b) (step.Jump (length (steps_of tree)) ∷ steps_of tree))
 
-kept_ends : (level n : ℕ) (own : Opened) → ends_open level (kept own n) ≡ ends_at level own
+kept_ends : (level n : ℕ) (own : Opened) → is_ended_at level (kept own n) ≡ ends_at level own
 kept_ends level n (Before operator) = refl
 kept_ends level n (After operator a) = refl
 kept_ends level n Paren = refl
@@ -87,13 +87,13 @@ pub go_on_closing : (level : ℕ) (opened opened' : List Open) (steps steps' : L
     (rest : List Opened) × (tree' : Tree) × Holds opened' steps' rest (steps_of tree') × (close level rest tree' ≡ close level before tree)
 go_on_closing level opened opened' steps steps' (last, e, ends, s) [] tree h = absurd (no_end opened' last (sym h.marks ∙ e))
 go_on_closing level opened opened' steps steps' (last, e, ends, s) (own ∷ rest) tree h =
-    let same = same_last (all_kept rest) opened' (kept own (length (written rest))) last (sym h.marks ∙ e) in
-    let here : ends_at level own ≡ true = sym (kept_ends level (length (written rest)) own) ∙ ap (ends_open level) same.1 ∙ ends in (
+    let same = same_last (all_kept rest) opened' (kept own (length (opened_written rest))) last (sym h.marks ∙ e) in
+    let here : ends_at level own ≡ true = sym (kept_ends level (length (opened_written rest)) own) ∙ ap (is_ended_at level) same.1 ∙ ends in (
       rest,
       ended own tree,
       record {
         marks = sym same.0;
-        steps_are = s ∙ ap (λ l. open_ended l steps) (sym same.1) ∙ ap (open_ended (kept own (length (written rest)))) h.steps_are ∙ ended_steps level own (written rest) tree here;
+        steps_are = s ∙ ap (λ l. open_ended l steps) (sym same.1) ∙ ap (open_ended (kept own (length (opened_written rest)))) h.steps_are ∙ ended_steps level own (opened_written rest) tree here;
       },
       rw here refl,
     )
@@ -105,8 +105,8 @@ pub done_closing : (level : ℕ) (opened opened' : List Open) (steps steps' : Li
 done_closing level opened opened' steps steps' (o, s, any) [] tree h = record { marks = o ∙ h.marks; steps_are = s ∙ h.steps_are }
 done_closing level opened opened' steps steps' (o, s, inl none) (own ∷ rest) tree h = absurd (no_end (all_kept rest) _ (sym none ∙ h.marks))
 done_closing level opened opened' steps steps' (o, s, inr (below, last, e, ends)) (own ∷ rest) tree h =
-    let same = same_last (all_kept rest) below (kept own (length (written rest))) last (sym h.marks ∙ e) in
-    let here : ends_at level own ≡ false = sym (kept_ends level (length (written rest)) own) ∙ ap (ends_open level) same.1 ∙ ends in
+    let same = same_last (all_kept rest) below (kept own (length (opened_written rest))) last (sym h.marks ∙ e) in
+    let here : ends_at level own ≡ false = sym (kept_ends level (length (opened_written rest)) own) ∙ ap (is_ended_at level) same.1 ∙ ends in
     rw here (record { marks = o ∙ h.marks; steps_are = s ∙ h.steps_are })
 
 -- what is left to close gives what is to be closed
@@ -137,13 +137,13 @@ pub infix_opens : (opened : List Open) (steps : List Step) (before : List Opened
 infix_opens opened steps before tree operator h =
     record {
       marks = ap (λ l. l ++ open_form.After operator (length steps) ∷ []) h.marks
-          ∙ ap (λ n. all_kept before ++ open_form.After operator n ∷ []) (ap length h.steps_are ∙ length-append (written before) (steps_of tree));
+          ∙ ap (λ n. all_kept before ++ open_form.After operator n ∷ []) (ap length h.steps_are ∙ length-append (opened_written before) (steps_of tree));
       steps_are = ap (λ l. l ++ infix_hole operator) h.steps_are ∙ infix_put operator ∙ sym (append_nil _);
     }
   where
-    infix_put : (o : Infix) → (written before ++ steps_of tree) ++ infix_hole o ≡ written before ++ infix_written o tree
-    infix_put infixed.And = append_assoc (written before) (steps_of tree) (step.And 0 ∷ [])
-    infix_put infixed.Or = append_assoc (written before) (steps_of tree) (step.Or 0 ∷ [])
+    infix_put : (o : Infix) → (opened_written before ++ steps_of tree) ++ infix_hole o ≡ opened_written before ++ infix_written o tree
+    infix_put infixed.And = append_assoc (opened_written before) (steps_of tree) (step.And 0 ∷ [])
+    infix_put infixed.Or = append_assoc (opened_written before) (steps_of tree) (step.Or 0 ∷ [])
     infix_put (infixed.Binary o) = append_nil _
 
 pub question_opens : (opened : List Open) (steps : List Step) (before : List Opened) (tree : Tree) → Holds opened steps before (steps_of tree) →
@@ -151,8 +151,8 @@ pub question_opens : (opened : List Open) (steps : List Step) (before : List Ope
 question_opens opened steps before tree h =
     record {
       marks = ap (λ l. l ++ open_form.Question (length steps) ∷ []) h.marks
-          ∙ ap (λ n. all_kept before ++ open_form.Question n ∷ []) (ap length h.steps_are ∙ length-append (written before) (steps_of tree));
-      steps_are = ap (λ l. l ++ step.Branch 0 ∷ []) h.steps_are ∙ append_assoc (written before) (steps_of tree) (step.Branch 0 ∷ []) ∙ sym (append_nil _);
+          ∙ ap (λ n. all_kept before ++ open_form.Question n ∷ []) (ap length h.steps_are ∙ length-append (opened_written before) (steps_of tree));
+      steps_are = ap (λ l. l ++ step.Branch 0 ∷ []) h.steps_are ∙ append_assoc (opened_written before) (steps_of tree) (step.Branch 0 ∷ []) ∙ sym (append_nil _);
     }
 
 -- what stands last in what is kept is of its own kind
@@ -174,21 +174,21 @@ pub colon_opens : (opened opened' : List Open) (steps : List Step) (before : Lis
     × Holds (opened' ++ open_form.Otherwise (length steps) ∷ []) (set steps mark (step.Branch (length steps - mark)) ++ step.Jump 0 ∷ []) (Otherwise a tree ∷ rest) []
 colon_opens opened opened' steps [] tree mark h e = absurd (no_end opened' _ (sym h.marks ∙ e))
 colon_opens opened opened' steps (own ∷ rest) tree mark h e =
-    let same = same_last (all_kept rest) opened' (kept own (length (written rest))) (open_form.Question mark) (sym h.marks ∙ e) in
-    let q = not_question own (length (written rest)) mark same.1 in
-    let s : steps ≡ (written rest ++ (steps_of q.0 ++ step.Branch 0 ∷ [])) ++ steps_of tree = h.steps_are ∙ ap (λ o. (written rest ++ own_written o) ++ steps_of tree) q.1 in (
+    let same = same_last (all_kept rest) opened' (kept own (length (opened_written rest))) (open_form.Question mark) (sym h.marks ∙ e) in
+    let q = not_question own (length (opened_written rest)) mark same.1 in
+    let s : steps ≡ (opened_written rest ++ (steps_of q.0 ++ step.Branch 0 ∷ [])) ++ steps_of tree = h.steps_are ∙ ap (λ o. (opened_written rest ++ own_written o) ++ steps_of tree) q.1 in (
       q.0,
       rest,
       ap (λ o. o ∷ rest) q.1,
       record {
         marks = ap (λ l. l ++ open_form.Otherwise (length steps) ∷ []) (sym same.0)
-            ∙ ap (λ n. all_kept rest ++ open_form.Otherwise n ∷ []) (ap length s ∙ chosen_length (written rest) q.0 tree);
+            ∙ ap (λ n. all_kept rest ++ open_form.Otherwise n ∷ []) (ap length s ∙ chosen_length (opened_written rest) q.0 tree);
         steps_are =
             ap (λ l. set l mark (step.Branch (length l - mark)) ++ step.Jump 0 ∷ []) s
-            ∙ ap (λ m. set ((written rest ++ (steps_of q.0 ++ step.Branch 0 ∷ [])) ++ steps_of tree) m (step.Branch (length ((written rest ++ (steps_of q.0 ++ step.Branch 0 ∷ [])) ++ steps_of tree) - m)) ++ step.Jump 0 ∷ []) (sym q.2)
-            ∙ patched (written rest) (steps_of q.0) (steps_of tree) (step.Jump 0 ∷ []) (step.Branch 0) _
-            ∙ ap (λ n. written rest ++ (steps_of q.0 ++ step.Branch n ∷ (steps_of tree ++ step.Jump 0 ∷ []))) (counted (written rest) (steps_of q.0) (steps_of tree) (step.Branch 0))
-            ∙ ap (λ l. written rest ++ l) (sym (append_assoc (steps_of q.0) (step.Branch (suc (length (steps_of tree))) ∷ steps_of tree) (step.Jump 0 ∷ [])))
+            ∙ ap (λ m. set ((opened_written rest ++ (steps_of q.0 ++ step.Branch 0 ∷ [])) ++ steps_of tree) m (step.Branch (length ((opened_written rest ++ (steps_of q.0 ++ step.Branch 0 ∷ [])) ++ steps_of tree) - m)) ++ step.Jump 0 ∷ []) (sym q.2)
+            ∙ patched (opened_written rest) (steps_of q.0) (steps_of tree) (step.Jump 0 ∷ []) (step.Branch 0) _
+            ∙ ap (λ n. opened_written rest ++ (steps_of q.0 ++ step.Branch n ∷ (steps_of tree ++ step.Jump 0 ∷ []))) (counted (opened_written rest) (steps_of q.0) (steps_of tree) (step.Branch 0))
+            ∙ ap (λ l. opened_written rest ++ l) (sym (append_assoc (steps_of q.0) (step.Branch (suc (length (steps_of tree))) ∷ steps_of tree) (step.Jump 0 ∷ [])))
             ∙ sym (append_nil _);
       },
     )
@@ -213,11 +213,11 @@ pub paren_ends : (opened opened' : List Open) (steps own : List Step) (before : 
     (rest : List Opened) × (before ≡ Paren ∷ rest) × Holds opened' steps rest own
 paren_ends opened opened' steps own [] h e = absurd (no_end opened' _ (sym h.marks ∙ e))
 paren_ends opened opened' steps own (first ∷ rest) h e =
-    let same = same_last (all_kept rest) opened' (kept first (length (written rest))) open_form.Paren (sym h.marks ∙ e) in
-    let p = not_paren first (length (written rest)) same.1 in (
+    let same = same_last (all_kept rest) opened' (kept first (length (opened_written rest))) open_form.Paren (sym h.marks ∙ e) in
+    let p = not_paren first (length (opened_written rest)) same.1 in (
       rest,
       ap (λ o. o ∷ rest) p,
-      record { marks = sym same.0; steps_are = h.steps_are ∙ ap (λ o. (written rest ++ own_written o) ++ own) p ∙ ap (λ l. l ++ own) (append_nil (written rest)) },
+      record { marks = sym same.0; steps_are = h.steps_are ∙ ap (λ o. (opened_written rest ++ own_written o) ++ own) p ∙ ap (λ l. l ++ own) (append_nil (opened_written rest)) },
     )
 
 pub paren_fault : (opened : List Open) (steps own : List Step) (before : List Opened) (tree : Tree) → Holds opened steps before own →

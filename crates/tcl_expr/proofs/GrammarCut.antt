@@ -11,7 +11,7 @@ use Rattle.tcl_expr.specs.declared.tokens.Link.{Link}
 use Rattle.tcl_expr.specs.declared.tokens.Link.TheVariants as link
 use Rattle.tcl_expr.specs.Tokens.{mark_of, link_at}
 use Rattle.tcl_expr.specs.Trees.{Tree, Unary, Choice}
-use Rattle.tcl_expr.specs.Reading.{Opened, Before, After as Pending, Paren, Question, Otherwise, parens, ends_at, Closed, close, ended, AtOperand, AtOperator, move, at_colon, at_close, at_paren, room_in, on_move, reading, whole}
+use Rattle.tcl_expr.specs.Reading.{Opened, Before, After as Pending, Paren, Question, Otherwise, parens, ends_at, Closed, close, ended, AtOperand, AtOperator, move, at_colon, at_close, at_paren, room_in, on_move, tree_reading, whole}
 use Rattle.tcl_expr.specs.Operators.{level_of, between}
 use Rattle.tcl_expr.specs.Grammar.{blank_mark, past_blanks, After, at_end, linked, nothing, after_link, after_blanks, after, ExprEnding, leaves, fails, goes_on, stops, with_tree, First, sign, paren, operand, first_of, closed_by, closed, colon_fault, unchosen, IsExpr, whole_by, IsWholeExpr}
 use Rattle.tcl_expr.specs.Grammar.IsExpr.{lacks, operand_read, signed, deep, parens as in_parens, tighter, operated, choice, no_choice}
@@ -301,8 +301,8 @@ after_shorter text behind own e = go (past_blanks text) (past_shorter text) e
 
 -- what is read from a text on, whatever stands open before it
 record Cuts (text : List ℕ) : Type 0 where
-  operands : (opened : List Opened) → Nests opened → Started opened text (reading 0 AtOperand opened text)
-  operators : (opened : List Opened) (tree : Tree) → Nests opened → Continues opened 11 tree text (reading 0 (AtOperator tree) opened text)
+  operands : (opened : List Opened) → Nests opened → Started opened text (tree_reading 0 AtOperand opened text)
+  operators : (opened : List Opened) (tree : Tree) → Nests opened → Continues opened 11 tree text (tree_reading 0 (AtOperator tree) opened text)
 
 abbrev Below : List ℕ → Type 0
 Below text = (other : List ℕ) → length other < length text → Cuts other
@@ -348,7 +348,7 @@ module _ (text : List ℕ) (below : Below text) where
   question_filled opened a tree (linked link.Question behind) e h w = absurd (cc)
   question_filled opened a tree (linked link.Colon behind) e h w =
       let s = (below behind (after_shorter text behind link.Colon e)).operands (Otherwise a tree ∷ opened) w in
-      inl (behind, s.0, e, s.1, otherwise_filled opened a tree s.0 (reading 0 AtOperand (Otherwise a tree ∷ opened) behind) s.2)
+      inl (behind, s.0, e, s.1, otherwise_filled opened a tree s.0 (tree_reading 0 AtOperand (Otherwise a tree ∷ opened) behind) s.2)
   question_filled opened a tree (linked link.Close behind) e h w = inr (Syntax, ap colon_fault e, refl)
   question_filled opened a tree nothing e h w = inr (Syntax, ap colon_fault e, refl)
 
@@ -379,18 +379,18 @@ module _ (text : List ℕ) (below : Below text) where
       let most = (levels operator).most in
       let high : level_of operator ≤ 11 = omega (arith, most) in
       let at : Closed = close (level_of operator) opened tree in
-      infix_continues operator opened 11 tree text behind (reading 0 AtOperand (Pending operator at.tree ∷ at.opened) behind) high e
+      infix_continues operator opened 11 tree text behind (tree_reading 0 AtOperand (Pending operator at.tree ∷ at.opened) behind) high e
       ((below behind (after_shorter text behind (link.Infix operator) e)).operands (Pending operator at.tree ∷ at.opened) (held.holds, held.nests))
   operator_next opened tree w (linked link.Question behind) e =
       let held = left_open 1 opened tree w in
       let at : Closed = close 1 opened tree in
-      question_continues opened 11 tree text behind (reading 0 AtOperand (Question at.tree ∷ at.opened) behind) (omega arith) e
+      question_continues opened 11 tree text behind (tree_reading 0 AtOperand (Question at.tree ∷ at.opened) behind) (omega arith) e
       ((below behind (after_shorter text behind link.Question e)).operands (Question at.tree ∷ at.opened) (none_looser at.opened held.holds, held.nests))
   operator_next opened tree w (linked link.Colon behind) e = end_reads opened tree (linked link.Colon behind) e refl w
   operator_next opened tree w (linked link.Close behind) e = end_reads opened tree (linked link.Close behind) e refl w
   operator_next opened tree w nothing e = end_reads opened tree nothing e refl w
 
-  operator_cut : (opened : List Opened) (tree : Tree) → Nests opened → Continues opened 11 tree text (reading 0 (AtOperator tree) opened text)
+  operator_cut : (opened : List Opened) (tree : Tree) → Nests opened → Continues opened 11 tree text (tree_reading 0 (AtOperator tree) opened text)
   operator_cut opened tree w = subst (λ given. Continues opened 11 tree text given) (sym (reading_goes opened tree text)) (operator_next opened tree w (after text) refl)
 
   -- an operand, and what comes behind it
@@ -403,8 +403,8 @@ module _ (text : List ℕ) (below : Below text) where
   started_as opened given other e s = subst (λ r. Started opened text r) (sym e) s
 
   operand_past : (opened : List Opened) (behind : List ℕ) (found : Result (Tree × ℕ) ExprFault) → length behind < length text → Nests opened →
-      PastParen (λ tree left. Continues opened 11 tree left (on_move (moved opened found) (λ further place left. reading further place left behind))) (operand_ending behind found)
-      (on_move (moved opened found) (λ further place left. reading further place left behind))
+      PastParen (λ tree left. Continues opened 11 tree left (on_move (moved opened found) (λ further place left. tree_reading further place left behind))) (operand_ending behind found)
+      (on_move (moved opened found) (λ further place left. tree_reading further place left behind))
   operand_past opened behind (Ok found) short w =
       let h = drop_shorter found.1 behind in
       subst (λ given. Continues opened 11 found.0 (drop found.1 behind) given) (sym (reading_skip found.1 (AtOperator found.0) opened behind))
@@ -426,15 +426,15 @@ module _ (text : List ℕ) (below : Below text) where
   inner_stops opened (fails fault) given f = refl
 
   paren_cut : (opened : List Opened) (b : ℕ) (behind : List ℕ) → Nests opened → past_blanks text ≡ b ∷ behind → first_of (mark_of b) ≡ paren →
-      (nat_lt (parens opened) 200 ≡ true) ⊎ (nat_lt (parens opened) 200 ≡ false) → Started opened text (reading 0 AtOperand opened text)
+      (nat_lt (parens opened) 200 ≡ true) ⊎ (nat_lt (parens opened) 200 ≡ false) → Started opened text (tree_reading 0 AtOperand opened text)
   paren_cut opened b behind w e f (inl some) =
       let s = (below behind (first_shorter text b behind e)).operands (Paren ∷ opened) w in
       let room : suc (room_in (Paren ∷ opened)) ≡ room_in opened = one_less opened some in
-      started_as opened (reading 0 AtOperand opened text) (reading 0 AtOperand (Paren ∷ opened) behind)
+      started_as opened (tree_reading 0 AtOperand opened text) (tree_reading 0 AtOperand (Paren ∷ opened) behind)
       (first_byte opened text b behind (move 0 AtOperand (Paren ∷ opened)) e (paren_moves opened (b ∷ behind) behind (mark_of b) f ∙ opens opened some))
-      (starts_past opened (closed s.0) (reading 0 AtOperand (Paren ∷ opened) behind)
-      (subst (λ n. IsExpr n 11 text (closed s.0)) room (in_parens b behind e f s.1 (inner_stops opened s.0 (reading 0 AtOperand (Paren ∷ opened) behind) s.2)))
-      (paren_past opened s.0 (reading 0 AtOperand (Paren ∷ opened) behind) s.2))
+      (starts_past opened (closed s.0) (tree_reading 0 AtOperand (Paren ∷ opened) behind)
+      (subst (λ n. IsExpr n 11 text (closed s.0)) room (in_parens b behind e f s.1 (inner_stops opened s.0 (tree_reading 0 AtOperand (Paren ∷ opened) behind) s.2)))
+      (paren_past opened s.0 (tree_reading 0 AtOperand (Paren ∷ opened) behind) s.2))
     where
       one_less : (o : List Opened) → nat_lt (parens o) 200 ≡ true → suc (room_in (Paren ∷ o)) ≡ room_in o
       one_less o h = let k : parens o < 200 = grind (arith, nat_tests) in omega (arith, k)
@@ -443,7 +443,7 @@ module _ (text : List ℕ) (below : Below text) where
       opens o h = rw h refl
   paren_cut opened b behind w e f (inr none) =
       let room : 0 ≡ room_in opened = no_more opened none in
-      started_as opened (reading 0 AtOperand opened text) (Err too_long)
+      started_as opened (tree_reading 0 AtOperand opened text) (Err too_long)
       (first_byte opened text b behind (Err too_long) e (paren_moves opened (b ∷ behind) behind (mark_of b) f ∙ fails_to opened none))
       (starts_past opened (fails too_long) (Err too_long) (subst (λ n. IsExpr n 11 text (fails too_long)) room (deep b behind e f)) refl)
     where
@@ -454,27 +454,27 @@ module _ (text : List ℕ) (below : Below text) where
       fails_to o h = rw h refl
 
   first_cut : (opened : List Opened) (b : ℕ) (behind : List ℕ) → Nests opened → past_blanks text ≡ b ∷ behind → (first : First) → first_of (mark_of b) ≡ first →
-      Started opened text (reading 0 AtOperand opened text)
+      Started opened text (tree_reading 0 AtOperand opened text)
   first_cut opened b behind w e operand f =
       let small : room_in opened ≤ 200 = omega arith in
       let found : Result (Tree × ℕ) ExprFault = operand_of (room_in opened) (mark_of b) (b ∷ behind) behind in
-      started_as opened (reading 0 AtOperand opened text) (on_move (moved opened found) (λ further place left. reading further place left behind))
+      started_as opened (tree_reading 0 AtOperand opened text) (on_move (moved opened found) (λ further place left. tree_reading further place left behind))
       (first_byte opened text b behind (moved opened found) e (operand_moves opened (b ∷ behind) behind (mark_of b) f (not_blank text b behind e)))
-      (starts_past opened (operand_ending behind found) (on_move (moved opened found) (λ further place left. reading further place left behind)) (operand_read b behind e f (operand_is (room_in opened) small b behind))
+      (starts_past opened (operand_ending behind found) (on_move (moved opened found) (λ further place left. tree_reading further place left behind)) (operand_read b behind e f (operand_is (room_in opened) small b behind))
       (operand_past opened behind found (first_shorter text b behind e) w))
   first_cut opened b behind w e (sign operator) f =
       let s = (below behind (first_shorter text b behind e)).operands (Before operator ∷ opened) w in
-      started_as opened (reading 0 AtOperand opened text) (reading 0 AtOperand (Before operator ∷ opened) behind)
+      started_as opened (tree_reading 0 AtOperand opened text) (tree_reading 0 AtOperand (Before operator ∷ opened) behind)
       (first_byte opened text b behind (move 0 AtOperand (Before operator ∷ opened)) e (sign_moves opened (b ∷ behind) behind operator (mark_of b) f))
-      (starts_past opened (with_tree (Unary operator) s.0) (reading 0 AtOperand (Before operator ∷ opened) behind) (signed b behind operator e f s.1)
-      (sign_past opened operator s.0 (reading 0 AtOperand (Before operator ∷ opened) behind) s.2))
+      (starts_past opened (with_tree (Unary operator) s.0) (tree_reading 0 AtOperand (Before operator ∷ opened) behind) (signed b behind operator e f s.1)
+      (sign_past opened operator s.0 (tree_reading 0 AtOperand (Before operator ∷ opened) behind) s.2))
   first_cut opened b behind w e paren f = paren_cut opened b behind w e f (decide (nat_lt (parens opened) 200))
 
-  operand_cut_by : (opened : List Opened) → Nests opened → (rest : List ℕ) → past_blanks text ≡ rest → Started opened text (reading 0 AtOperand opened text)
+  operand_cut_by : (opened : List Opened) → Nests opened → (rest : List ℕ) → past_blanks text ≡ rest → Started opened text (tree_reading 0 AtOperand opened text)
   operand_cut_by opened w [] e = (fails Syntax, lower (room_in opened) 11 (level_in opened) text (fails Syntax) (level_most opened) (lacks e), lacks_read opened text e)
   operand_cut_by opened w (b ∷ behind) e = first_cut opened b behind w e (first_of (mark_of b)) refl
 
-  operand_cut : (opened : List Opened) → Nests opened → Started opened text (reading 0 AtOperand opened text)
+  operand_cut : (opened : List Opened) → Nests opened → Started opened text (tree_reading 0 AtOperand opened text)
   operand_cut opened w = operand_cut_by opened w (past_blanks text) refl
 
 cuts : (n : ℕ) (text : List ℕ) → length text ≤ n → Cuts text
@@ -485,5 +485,5 @@ gives : (text : List ℕ) (given : Result Tree ExprFault) → Started [] text gi
 gives text given (leaves tree left, is, (stop, e)) = (leaves tree left, is, stops_by tree left stop, sym e)
 gives text given (fails fault, is, e) = (fails fault, is, refl, sym e)
 
-pub whole_cut : (text : List ℕ) → IsWholeExpr text (reading 0 AtOperand [] text)
-whole_cut text = gives text (reading 0 AtOperand [] text) ((cuts (length text) text (omega arith)).operands [] tt)
+pub whole_cut : (text : List ℕ) → IsWholeExpr text (tree_reading 0 AtOperand [] text)
+whole_cut text = gives text (tree_reading 0 AtOperand [] text) ((cuts (length text) text (omega arith)).operands [] tt)

@@ -1,6 +1,8 @@
 -- What the grammar relates is read.
-use Rattle.std.proofs.Common.{◌≡◌, ℕ, zero, suc, ◌-◌, ◌≤◌, ◌⊎◌, inl, inr, nat_lt, nat_le, ◌==◌, Bool, true, false, not, List, [], ◌∷◌, drop, take, Option, Some, None, Result, Ok, Err, refl, sym, ap, subst, ◌∙◌, eqb-true, arith}
+use Rattle.std.proofs.Common.{◌≡◌, ℕ, zero, suc, ◌-◌, ◌≤◌, ◌⊎◌, inl, inr, nat_lt, nat_le, ◌==◌, Bool, true, false, not, List, [], ◌∷◌, drop, take, Option, Some, None, Result, Ok, Err, refl, sym, ap, subst, ◌∙◌, arith}
+use Rattle.std.proofs.lemmas.Bool.{and_parts}
 use Rattle.std.proofs.lemmas.Bool.Decides.{nat_tests}
+use Rattle.std.specs.Prelude.{nat_eq}
 use Rattle.tcl_text.specs.Readings.{boolean_of}
 use Rattle.tcl_words.specs.Operands.{bracket_of, substitution_of, quoted_of}
 use Rattle.tcl_words.specs.declared.script.Piece.{Piece}
@@ -24,10 +26,12 @@ use Rattle.tcl_expr.specs.declared.tokens.Link.{Link}
 use Rattle.tcl_expr.specs.declared.tokens.Link.TheVariants as link
 use Rattle.tcl_expr.specs.Braces.{braced}
 use Rattle.tcl_expr.specs.Substitution.{piece_tree, text_tree}
-use Rattle.tcl_expr.specs.Tokens.{mark_of, begins_newline, link_at, ends_number}
-use Rattle.tcl_expr.specs.Counts.{number_length, name_bytes}
+use Rattle.tcl_expr.specs.Tokens.{mark_of, link_at, ends_number}
+use Rattle.tcl_words.specs.Classes.{begins_newline}
+use Rattle.tcl_words.specs.Kinds.{name_bytes}
+use Rattle.tcl_expr.specs.Counts.{number_length}
 use Rattle.tcl_expr.specs.Trees.{Tree, Unary, Choice}
-use Rattle.tcl_expr.specs.Reading.{Opened, Before, After as Pending, Paren, Question, Otherwise, parens, ends_at, Closed, close, OperandPlace, AtOperand, AtOperator, Move, move, Next, link_next, link_move, at_infix, at_question, at_colon, at_close, at_paren, at_number, at_brace, word_or_fault, with_piece, with_pieces, with_substitution, with_operand, room_in, with_skip, operand_move, operator_move, on_move, reading, whole}
+use Rattle.tcl_expr.specs.Reading.{Opened, Before, After as Pending, Paren, Question, Otherwise, parens, ends_at, Closed, close, OperandPlace, AtOperand, AtOperator, ReadingMove, move, Next, link_next, link_move, at_infix, at_question, at_colon, at_close, at_paren, at_number, at_brace, word_or_fault, with_piece, with_pieces, with_substitution, with_operand, room_in, with_skip, operand_move, operator_move, on_move, tree_reading, whole}
 use Rattle.tcl_expr.specs.Operators.{level_of, arithmetic_level, comparison_level, between}
 use Rattle.tcl_expr.specs.Grammar.{blank_mark, past_blanks, After, at_end, linked, nothing, after_link, after_blanks, after, ExprEnding, leaves, fails, goes_on, stops, with_tree, sign, paren, operand, first_of, closed_by, closed, colon_fault, unchosen, IsExpr, whole_by, whole_of}
 use Rattle.tcl_expr.specs.Grammar.IsExpr.{lacks, operand_read, signed, deep, parens as in_parens, tighter, operated, choice, no_choice}
@@ -36,20 +40,22 @@ use Rattle.tcl_expr.proofs.StandLemmas.{reading_skip}
 
 -- ── blanks ──
 
-newline : (behind : List ℕ) (place : OperandPlace) (opened : List Opened) → reading 1 place opened (10 ∷ behind) ≡ reading 0 place opened (10 ∷ behind)
+newline : (behind : List ℕ) (place : OperandPlace) (opened : List Opened) → tree_reading 1 place opened (10 ∷ behind) ≡ tree_reading 0 place opened (10 ∷ behind)
 unfolding mark_of
 newline behind AtOperand opened = refl
 newline behind (AtOperator tree) opened = refl
 
-is_newline : (b : ℕ) (behind : List ℕ) (place : OperandPlace) (opened : List Opened) → begins_newline (b ∷ behind) ≡ true → reading 1 place opened (b ∷ behind) ≡ reading 0 place opened (b ∷ behind)
-is_newline b behind place opened h = subst (λ c. reading 1 place opened (c ∷ behind) ≡ reading 0 place opened (c ∷ behind)) (sym (eqb-true b 10 h)) (newline behind place opened)
+is_newline : (b : ℕ) (behind : List ℕ) (place : OperandPlace) (opened : List Opened) → begins_newline (b ∷ behind) ≡ true → tree_reading 1 place opened (b ∷ behind) ≡ tree_reading 0 place opened (b ∷ behind)
+is_newline b behind place opened h =
+    let first : 10 ≡ b = grind (arith, nat_tests, (and_parts (nat_eq 10 b) true h).0) in
+    subst (λ c. tree_reading 1 place opened (c ∷ behind) ≡ tree_reading 0 place opened (c ∷ behind)) first (newline behind place opened)
 
-newline_behind : (behind : List ℕ) (place : OperandPlace) (opened : List Opened) → begins_newline behind ≡ true → reading 1 place opened behind ≡ reading 0 place opened behind
+newline_behind : (behind : List ℕ) (place : OperandPlace) (opened : List Opened) → begins_newline behind ≡ true → tree_reading 1 place opened behind ≡ tree_reading 0 place opened behind
 newline_behind [] place opened h = absurd (cc)
 newline_behind (b ∷ behind) place opened h = is_newline b behind place opened h
 
 -- a blank is as if it weren't there
-blank_step : (b : ℕ) (behind : List ℕ) (place : OperandPlace) (opened : List Opened) (m : Mark) → mark_of b ≡ m → blank_mark m behind ≡ true → reading 0 place opened (b ∷ behind) ≡ reading 0 place opened behind
+blank_step : (b : ℕ) (behind : List ℕ) (place : OperandPlace) (opened : List Opened) (m : Mark) → mark_of b ≡ m → blank_mark m behind ≡ true → tree_reading 0 place opened (b ∷ behind) ≡ tree_reading 0 place opened behind
 blank_step b behind AtOperand opened mark.White e h = rw e refl
 blank_step b behind (AtOperator tree) opened mark.White e h = rw e refl
 blank_step b behind AtOperand opened mark.Backslash e h = rw (e, h) (newline_behind behind AtOperand opened h)
@@ -60,12 +66,12 @@ pub decide : (b : Bool) → (b ≡ true) ⊎ (b ≡ false)
 decide true = inl refl
 decide false = inr refl
 
-pub blanks : (place : OperandPlace) (opened : List Opened) (text : List ℕ) → reading 0 place opened text ≡ reading 0 place opened (past_blanks text)
+pub blanks : (place : OperandPlace) (opened : List Opened) (text : List ℕ) → tree_reading 0 place opened text ≡ tree_reading 0 place opened (past_blanks text)
 blanks place opened [] = refl
 blanks place opened (b ∷ behind) = go (blanks place opened behind) (decide (blank_mark (mark_of b) behind))
   where
-    go : reading 0 place opened behind ≡ reading 0 place opened (past_blanks behind) → (blank_mark (mark_of b) behind ≡ true) ⊎ (blank_mark (mark_of b) behind ≡ false) →
-        reading 0 place opened (b ∷ behind) ≡ reading 0 place opened (past_blanks (b ∷ behind))
+    go : tree_reading 0 place opened behind ≡ tree_reading 0 place opened (past_blanks behind) → (blank_mark (mark_of b) behind ≡ true) ⊎ (blank_mark (mark_of b) behind ≡ false) →
+        tree_reading 0 place opened (b ∷ behind) ≡ tree_reading 0 place opened (past_blanks (b ∷ behind))
     go further (inl h) = rw h (blank_step b behind place opened (mark_of b) refl h ∙ further)
     go further (inr h) = rw h refl
 
@@ -154,7 +160,7 @@ guards_otherwise a b opened = λ m h i. not_zero m i.least
 -- ── operands ──
 
 -- an operand, with as many of the bytes behind its first
-abbrev pub moved : List Opened → Result (Tree × ℕ) ExprFault → Result Move ExprFault
+abbrev pub moved : List Opened → Result (Tree × ℕ) ExprFault → Result ReadingMove ExprFault
 moved opened (Ok found) = move found.1 (AtOperator found.0) opened
 moved opened (Err fault) = Err fault
 
@@ -234,7 +240,7 @@ paren_moves opened text behind m f = absurd (cc)
 -- ── what stands behind an operand ──
 
 abbrev pub on_next : Result Next ExprFault → List ℕ → Result Tree ExprFault
-on_next (Ok next) behind = reading 0 next.place next.opened behind
+on_next (Ok next) behind = tree_reading 0 next.place next.opened behind
 on_next (Err fault) behind = Err fault
 
 abbrev pub goes : List Opened → Tree → After → Result Tree ExprFault
@@ -249,21 +255,21 @@ operator_moves opened tree b behind mark.Backslash e h = rw (e, h) refl
 operator_moves opened tree b behind m e h = refl
 
 on_link : (opened : List Opened) (tree : Tree) (behind : List ℕ) (found : Option (Link × ℕ)) →
-    on_move (link_move opened tree found) (λ further next left. reading further next left behind) ≡ goes opened tree (after_link behind found)
+    on_move (link_move opened tree found) (λ further next left. tree_reading further next left behind) ≡ goes opened tree (after_link behind found)
 on_link opened tree behind None = refl
 on_link opened tree behind (Some found) = go (link_next opened tree found.0)
   where
-    go : (next : Result Next ExprFault) → on_move (with_skip (found.1 - 1) next) (λ further place left. reading further place left behind) ≡ on_next next (drop (found.1 - 1) behind)
+    go : (next : Result Next ExprFault) → on_move (with_skip (found.1 - 1) next) (λ further place left. tree_reading further place left behind) ≡ on_next next (drop (found.1 - 1) behind)
     go (Ok next) = reading_skip (found.1 - 1) next.place next.opened behind
     go (Err fault) = refl
 
-pub reading_goes : (opened : List Opened) (tree : Tree) (text : List ℕ) → reading 0 (AtOperator tree) opened text ≡ goes opened tree (after text)
+pub reading_goes : (opened : List Opened) (tree : Tree) (text : List ℕ) → tree_reading 0 (AtOperator tree) opened text ≡ goes opened tree (after text)
 reading_goes opened tree text = blanks (AtOperator tree) opened text ∙ go (past_blanks text) (λ b behind e. not_blank text b behind e)
   where
-    go : (rest : List ℕ) → ((b : ℕ) (behind : List ℕ) → rest ≡ b ∷ behind → blank_mark (mark_of b) behind ≡ false) → reading 0 (AtOperator tree) opened rest ≡ goes opened tree (after_blanks rest)
+    go : (rest : List ℕ) → ((b : ℕ) (behind : List ℕ) → rest ≡ b ∷ behind → blank_mark (mark_of b) behind ≡ false) → tree_reading 0 (AtOperator tree) opened rest ≡ goes opened tree (after_blanks rest)
     go [] none = refl
     go (b ∷ behind) none =
-        ap (λ moved_on. on_move moved_on (λ further next left. reading further next left behind)) (operator_moves opened tree b behind (mark_of b) refl (none b behind refl))
+        ap (λ moved_on. on_move moved_on (λ further next left. tree_reading further next left behind)) (operator_moves opened tree b behind (mark_of b) refl (none b behind refl))
         ∙ on_link opened tree behind (link_at (b ∷ behind))
 
 -- ── expressions ──
@@ -272,27 +278,27 @@ reading_goes opened tree text = blanks (AtOperator tree) opened text ∙ go (pas
 pub record Reached (n : ℕ) (opened : List Opened) (text : List ℕ) (tree : Tree) (left : List ℕ) : Type 0 where
   pub more : List Opened
   pub last : Tree
-  pub reads : reading 0 AtOperand opened text ≡ reading 0 (AtOperator last) more left
+  pub reads : tree_reading 0 AtOperand opened text ≡ tree_reading 0 (AtOperator last) more left
   pub closes : (m : ℕ) → m ≤ n → close m more last ≡ close m opened tree
 
 abbrev pub Comes : ℕ → List Opened → List ℕ → ExprEnding → Type 0
 Comes n opened text (leaves tree left) = Reached n opened text tree left
-Comes n opened text (fails fault) = reading 0 AtOperand opened text ≡ Err fault
+Comes n opened text (fails fault) = tree_reading 0 AtOperand opened text ≡ Err fault
 
 abbrev pub Reads : ℕ → ℕ → List ℕ → ExprEnding → Type 0
 Reads room n text ending = (opened : List Opened) → room ≡ room_in opened → Guards n opened → Comes n opened text ending
 
 -- what stands first
-pub first_byte : (opened : List Opened) (text : List ℕ) (b : ℕ) (behind : List ℕ) (next : Result Move ExprFault) → past_blanks text ≡ b ∷ behind → operand_move (mark_of b) opened (b ∷ behind) behind ≡ next →
-    reading 0 AtOperand opened text ≡ on_move next (λ further place left. reading further place left behind)
+pub first_byte : (opened : List Opened) (text : List ℕ) (b : ℕ) (behind : List ℕ) (next : Result ReadingMove ExprFault) → past_blanks text ≡ b ∷ behind → operand_move (mark_of b) opened (b ∷ behind) behind ≡ next →
+    tree_reading 0 AtOperand opened text ≡ on_move next (λ further place left. tree_reading further place left behind)
 first_byte opened text b behind next e m =
-    blanks AtOperand opened text ∙ ap (reading 0 AtOperand opened) e ∙ ap (λ moved_on. on_move moved_on (λ further place left. reading further place left behind)) m
+    blanks AtOperand opened text ∙ ap (tree_reading 0 AtOperand opened) e ∙ ap (λ moved_on. on_move moved_on (λ further place left. tree_reading further place left behind)) m
 
-pub lacks_read : (opened : List Opened) (text : List ℕ) → past_blanks text ≡ [] → reading 0 AtOperand opened text ≡ Err Syntax
-lacks_read opened text e = blanks AtOperand opened text ∙ ap (reading 0 AtOperand opened) e
+pub lacks_read : (opened : List Opened) (text : List ℕ) → past_blanks text ≡ [] → tree_reading 0 AtOperand opened text ≡ Err Syntax
+lacks_read opened text e = blanks AtOperand opened text ∙ ap (tree_reading 0 AtOperand opened) e
 
 operand_comes : (opened : List Opened) (text behind : List ℕ) (found : Result (Tree × ℕ) ExprFault) →
-    reading 0 AtOperand opened text ≡ on_move (moved opened found) (λ further place left. reading further place left behind) → Comes 11 opened text (operand_ending behind found)
+    tree_reading 0 AtOperand opened text ≡ on_move (moved opened found) (λ further place left. tree_reading further place left behind) → Comes 11 opened text (operand_ending behind found)
 operand_comes opened text behind (Ok found) e = record {
   more = opened;
   last = found.0;
@@ -301,7 +307,7 @@ operand_comes opened text behind (Ok found) e = record {
 }
 operand_comes opened text behind (Err fault) e = e
 
-signed_comes : (opened : List Opened) (text behind : List ℕ) (operator : UnaryOperator) (ending : ExprEnding) → reading 0 AtOperand opened text ≡ reading 0 AtOperand (Before operator ∷ opened) behind →
+signed_comes : (opened : List Opened) (text behind : List ℕ) (operator : UnaryOperator) (ending : ExprEnding) → tree_reading 0 AtOperand opened text ≡ tree_reading 0 AtOperand (Before operator ∷ opened) behind →
     Comes 11 (Before operator ∷ opened) behind ending → Comes 11 opened text (with_tree (Unary operator) ending)
 signed_comes opened text behind operator (leaves tree left) e c = record {
   more = c.more;
@@ -329,11 +335,11 @@ zero_least n = omega arith
 
 -- past what was read, reading goes as behind its tree
 past_closed : (n : ℕ) (opened : List Opened) (text : List ℕ) (tree : Tree) (left : List ℕ) → Reached n opened text tree left → goes_on (after left) ≡ false →
-    reading 0 AtOperand opened text ≡ goes opened tree (after left)
+    tree_reading 0 AtOperand opened text ≡ goes opened tree (after left)
 past_closed n opened text tree left c h =
     c.reads ∙ reading_goes c.more c.last left ∙ goes_closed opened tree c.last c.more (after left) h (c.closes 0 (zero_least n))
 
-closed_comes : (opened : List Opened) (text : List ℕ) (tree : Tree) (next : After) → goes_on next ≡ false → reading 0 AtOperand opened text ≡ goes (Paren ∷ opened) tree next →
+closed_comes : (opened : List Opened) (text : List ℕ) (tree : Tree) (next : After) → goes_on next ≡ false → tree_reading 0 AtOperand opened text ≡ goes (Paren ∷ opened) tree next →
     Comes 11 opened text (closed_by tree next)
 closed_comes opened text tree at_end h e = e
 closed_comes opened text tree (linked (link.Infix operator) behind) h e = absurd (cc)
@@ -342,7 +348,7 @@ closed_comes opened text tree (linked link.Colon behind) h e = e
 closed_comes opened text tree (linked link.Close behind) h e = record { more = opened; last = tree; reads = e; closes = λ m k. refl }
 closed_comes opened text tree nothing h e = e
 
-parens_come : (opened : List Opened) (text behind : List ℕ) (inner : ExprEnding) → stops inner ≡ true → reading 0 AtOperand opened text ≡ reading 0 AtOperand (Paren ∷ opened) behind →
+parens_come : (opened : List Opened) (text behind : List ℕ) (inner : ExprEnding) → stops inner ≡ true → tree_reading 0 AtOperand opened text ≡ tree_reading 0 AtOperand (Paren ∷ opened) behind →
     Comes 0 (Paren ∷ opened) behind inner → Comes 11 opened text (closed inner)
 parens_come opened text behind (leaves tree left) h e c =
     let k : goes_on (after left) ≡ false = not_true (goes_on (after left)) h in
@@ -355,14 +361,14 @@ tighter_comes n opened text (fails fault) c = c
 
 -- behind an operator that goes on
 past_infix : (opened : List Opened) (text : List ℕ) (operator : Infix) (a : Tree) (left behind : List ℕ) → Guards (level_of operator) opened → Reached (level_of operator) opened text a left →
-    after left ≡ linked (link.Infix operator) behind → reading 0 AtOperand opened text ≡ reading 0 AtOperand (Pending operator a ∷ opened) behind
+    after left ≡ linked (link.Infix operator) behind → tree_reading 0 AtOperand opened text ≡ tree_reading 0 AtOperand (Pending operator a ∷ opened) behind
 past_infix opened text operator a left behind g c e =
     c.reads
     ∙ reading_goes c.more c.last left
     ∙ ap (goes c.more c.last) e
     ∙ ap (λ closed_at. on_next (at_infix operator closed_at) behind) (c.closes (level_of operator) (omega arith) ∙ stays (level_of operator) (level_of operator) opened a g (omega arith) (levels operator))
 
-infix_comes : (opened : List Opened) (text behind : List ℕ) (operator : Infix) (a : Tree) (ending : ExprEnding) → reading 0 AtOperand opened text ≡ reading 0 AtOperand (Pending operator a ∷ opened) behind →
+infix_comes : (opened : List Opened) (text behind : List ℕ) (operator : Infix) (a : Tree) (ending : ExprEnding) → tree_reading 0 AtOperand opened text ≡ tree_reading 0 AtOperand (Pending operator a ∷ opened) behind →
     Comes (suc (level_of operator)) (Pending operator a ∷ opened) behind ending → Comes (level_of operator) opened text (with_tree (between operator a) ending)
 infix_comes opened text behind operator a (leaves tree left) e c = record {
   more = c.more;
@@ -382,7 +388,7 @@ pub one : InLevels 1
 one = record { least = omega arith; most = omega arith }
 
 past_question : (opened : List Opened) (text : List ℕ) (a : Tree) (left behind : List ℕ) → Guards 0 opened → Reached 1 opened text a left → after left ≡ linked link.Question behind →
-    reading 0 AtOperand opened text ≡ reading 0 AtOperand (Question a ∷ opened) behind
+    tree_reading 0 AtOperand opened text ≡ tree_reading 0 AtOperand (Question a ∷ opened) behind
 past_question opened text a left behind g c e =
     c.reads
     ∙ reading_goes c.more c.last left
@@ -390,11 +396,11 @@ past_question opened text a left behind g c e =
     ∙ ap (λ closed_at. on_next (at_question closed_at) behind) (c.closes 1 (omega arith) ∙ stays 0 1 opened a g (omega arith) one)
 
 past_colon : (opened : List Opened) (text : List ℕ) (a b : Tree) (left behind : List ℕ) → Reached 0 (Question a ∷ opened) text b left → after left ≡ linked link.Colon behind →
-    reading 0 AtOperand (Question a ∷ opened) text ≡ reading 0 AtOperand (Otherwise a b ∷ opened) behind
+    tree_reading 0 AtOperand (Question a ∷ opened) text ≡ tree_reading 0 AtOperand (Otherwise a b ∷ opened) behind
 past_colon opened text a b left behind c e =
     c.reads ∙ reading_goes c.more c.last left ∙ ap (goes c.more c.last) e ∙ ap (λ (k : Closed). on_next (at_colon k.opened k.tree) behind) (c.closes 0 (omega arith))
 
-choice_comes : (opened : List Opened) (text behind : List ℕ) (a b : Tree) (ending : ExprEnding) → reading 0 AtOperand opened text ≡ reading 0 AtOperand (Otherwise a b ∷ opened) behind →
+choice_comes : (opened : List Opened) (text behind : List ℕ) (a b : Tree) (ending : ExprEnding) → tree_reading 0 AtOperand opened text ≡ tree_reading 0 AtOperand (Otherwise a b ∷ opened) behind →
     Comes 0 (Otherwise a b ∷ opened) behind ending → Comes 0 opened text (with_tree (Choice a b) ending)
 choice_comes opened text behind a b (leaves tree left) e c = record {
   more = c.more;
@@ -428,7 +434,7 @@ colon_fails opened a b fault nothing h e = ap Err (same_fault fault e)
     same_fault f p = cc
 
 unchosen_fails : (opened : List Opened) (text behind : List ℕ) (a : Tree) (fault : ExprFault) (ending : ExprEnding) → stops ending ≡ true → unchosen ending ≡ Some fault →
-    reading 0 AtOperand opened text ≡ reading 0 AtOperand (Question a ∷ opened) behind → Comes 0 (Question a ∷ opened) behind ending → reading 0 AtOperand opened text ≡ Err fault
+    tree_reading 0 AtOperand opened text ≡ tree_reading 0 AtOperand (Question a ∷ opened) behind → Comes 0 (Question a ∷ opened) behind ending → tree_reading 0 AtOperand opened text ≡ Err fault
 unchosen_fails opened text behind a fault (leaves tree left) h u e c =
     let k : goes_on (after left) ≡ false = not_true (goes_on (after left)) h in
     e ∙ past_closed 0 (Question a ∷ opened) behind tree left c k ∙ colon_fails opened a tree fault (after left) k u
@@ -494,11 +500,11 @@ whole_comes tree (linked link.Colon behind) h = refl
 whole_comes tree (linked link.Close behind) h = refl
 whole_comes tree nothing h = refl
 
-whole_read_by : (text : List ℕ) (ending : ExprEnding) → stops ending ≡ true → Comes 0 [] text ending → reading 0 AtOperand [] text ≡ whole_of ending
+whole_read_by : (text : List ℕ) (ending : ExprEnding) → stops ending ≡ true → Comes 0 [] text ending → tree_reading 0 AtOperand [] text ≡ whole_of ending
 whole_read_by text (leaves tree left) h c =
     let k : goes_on (after left) ≡ false = not_true (goes_on (after left)) h in
     past_closed 0 [] text tree left c k ∙ whole_comes tree (after left) k
 whole_read_by text (fails fault) h c = c
 
-pub whole_read : (text : List ℕ) (ending : ExprEnding) → IsExpr 200 0 text ending → stops ending ≡ true → reading 0 AtOperand [] text ≡ whole_of ending
+pub whole_read : (text : List ℕ) (ending : ExprEnding) → IsExpr 200 0 text ending → stops ending ≡ true → tree_reading 0 AtOperand [] text ≡ whole_of ending
 whole_read text ending is h = let r : 200 ≡ room_in [] = omega arith in whole_read_by text ending h (read is [] r tt)

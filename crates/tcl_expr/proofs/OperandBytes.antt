@@ -14,8 +14,9 @@ use Rattle.tcl_expr.specs.declared.braces.BracePlace.TheVariants.{Plain}
 use Rattle.tcl_expr.specs.declared.fault.ExprFault.{ExprFault}
 use Rattle.tcl_expr.specs.Faults.{missing_brace}
 use Rattle.tcl_expr.specs.Braces.{braced}
-use Rattle.tcl_expr.specs.Tokens.{is_digit, is_alphabetic, is_name_byte}
-use Rattle.tcl_expr.specs.Counts.{name_bytes, digits, based_or, past_zero_by, past_zero, number_length}
+use Rattle.tcl_words.specs.Classes.{is_digit, is_alphabetic, is_name_byte}
+use Rattle.tcl_words.specs.Kinds.{name_bytes}
+use Rattle.tcl_expr.specs.Counts.{digits, based_or, past_zero_by, past_zero, number_length}
 use Rattle.tcl_expr.proofs.BracesOfScripts.{braces_read, unclosed_read}
 use Rattle.tcl_expr.proofs.ReadLemmas.{at_position}
 

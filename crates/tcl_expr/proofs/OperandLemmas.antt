@@ -10,8 +10,8 @@ use Rattle.tcl_expr.specs.declared.parser.Parser.{Parser}
 use Rattle.tcl_expr.specs.Trees.{Tree}
 use Rattle.tcl_expr.specs.Steps.{steps_of}
 use Rattle.tcl_expr.specs.Substitution.{piece_tree, text_tree, Writes}
-use Rattle.tcl_expr.specs.Reading.{Opened, AtOperand, Move, room_in, with_operand, with_piece, with_pieces, with_substitution, at_bracket, at_dollar, at_quote, operand_move}
-use Rattle.tcl_expr.specs.Standing.{Stands, Follows, Takes, operand_at}
+use Rattle.tcl_expr.specs.Reading.{Opened, AtOperand, ReadingMove, room_in, with_operand, with_piece, with_pieces, with_substitution, at_bracket, at_dollar, at_quote, operand_move}
+use Rattle.tcl_expr.specs.Standing.{Stands, FollowsMove, Takes, operand_at}
 use Rattle.tcl_expr.specs.Tokens.{mark_of}
 use Rattle.tcl_expr.specs.declared.tokens.Mark.{Mark}
 use Rattle.tcl_expr.specs.declared.tokens.Mark.TheVariants as mark
@@ -25,10 +25,10 @@ pub record Took (old new : Parser) (expected : Result Tree ExprFault) : Type 0 w
   pub parens_are : new.parens ≡ old.parens
   pub due : new.is_due ≡ false
 
-written_stands : (old new : Parser) (before : List Opened) (taken : ℕ) (expected : Result Tree ExprFault) → Took old new expected → Stands old AtOperand before → Follows new taken (with_operand taken before expected)
+written_stands : (old new : Parser) (before : List Opened) (taken : ℕ) (expected : Result Tree ExprFault) → Took old new expected → Stands old AtOperand before → FollowsMove new taken (with_operand taken before expected)
 written_stands old new before taken expected t s =
     let w = t.steps in
-    subst (λ x. Follows new taken (with_operand taken before x)) (sym w.1) (refl, operand_stands old new (steps_of w.0) w.0 before refl w.2 t.opened t.parens_are t.due s)
+    subst (λ x. FollowsMove new taken (with_operand taken before x)) (sym w.1) (refl, operand_stands old new (steps_of w.0) w.0 before refl w.2 t.opened t.parens_are t.due s)
 
 -- as many as the code says may still be opened
 room_is : (old : Parser) (room : ℕ) (before : List Opened) → room ≡ 200 - old.parens → Stands old AtOperand before → room ≡ room_in before
@@ -38,20 +38,20 @@ module _ (old new : Parser) (room : ℕ) (behind : List ℕ) (most : room ≡ 20
   pub bracket_taken : (piece : Piece) (taken : ℕ) → bracket_of room behind ≡ Ok (piece, taken) → Took old new (piece_tree room piece) → Takes old (Ok taken) new (λ before. at_bracket before behind)
   bracket_taken piece taken e t = λ before s.
       let r : room ≡ room_in before = room_is old room before most s in
-      subst (λ n. Follows new taken (with_piece before (bracket_of n behind))) r
-      (subst (λ x. Follows new taken (with_piece before x)) (sym e) (subst (λ n. Follows new taken (with_operand taken before (piece_tree n piece))) r (written_stands old new before taken (piece_tree room piece) t s)))
+      subst (λ n. FollowsMove new taken (with_piece before (bracket_of n behind))) r
+      (subst (λ x. FollowsMove new taken (with_piece before x)) (sym e) (subst (λ n. FollowsMove new taken (with_operand taken before (piece_tree n piece))) r (written_stands old new before taken (piece_tree room piece) t s)))
 
   pub dollar_taken : (piece : Piece) (taken : ℕ) → substitution_of room behind ≡ Ok (Some (piece, taken)) → Took old new (piece_tree room piece) → Takes old (Ok taken) new (λ before. at_dollar before behind)
   dollar_taken piece taken e t = λ before s.
       let r : room ≡ room_in before = room_is old room before most s in
-      subst (λ n. Follows new taken (with_substitution before (substitution_of n behind))) r
-      (subst (λ x. Follows new taken (with_substitution before x)) (sym e) (subst (λ n. Follows new taken (with_operand taken before (piece_tree n piece))) r (written_stands old new before taken (piece_tree room piece) t s)))
+      subst (λ n. FollowsMove new taken (with_substitution before (substitution_of n behind))) r
+      (subst (λ x. FollowsMove new taken (with_substitution before x)) (sym e) (subst (λ n. FollowsMove new taken (with_operand taken before (piece_tree n piece))) r (written_stands old new before taken (piece_tree room piece) t s)))
 
   pub quotes_taken : (pieces : List Piece) (taken : ℕ) → quoted_of room behind ≡ Ok (pieces, taken) → Took old new (text_tree room pieces) → Takes old (Ok taken) new (λ before. at_quote before behind)
   quotes_taken pieces taken e t = λ before s.
       let r : room ≡ room_in before = room_is old room before most s in
-      subst (λ n. Follows new taken (with_pieces before (quoted_of n behind))) r
-      (subst (λ x. Follows new taken (with_pieces before x)) (sym e) (subst (λ n. Follows new taken (with_operand taken before (text_tree n pieces))) r (written_stands old new before taken (text_tree room pieces) t s)))
+      subst (λ n. FollowsMove new taken (with_pieces before (quoted_of n behind))) r
+      (subst (λ x. FollowsMove new taken (with_pieces before x)) (sym e) (subst (λ n. FollowsMove new taken (with_operand taken before (text_tree n pieces))) r (written_stands old new before taken (text_tree room pieces) t s)))
 
   pub bracket_refused : (fault : ParseFault) → IsReadAs (Err fault) (bracket_of room behind) → Takes old (Err (Script fault)) new (λ before. at_bracket before behind)
   bracket_refused fault (inl e) = inr (λ before s. ap (λ n. with_piece before (bracket_of n behind)) (sym (room_is old room before most s)) ∙ ap (with_piece before) e)
@@ -91,8 +91,8 @@ module _ (old new : Parser) (room : ℕ) (behind : List ℕ) (most : room ≡ 20
 
 -- ── where an operand is due ──
 
-pub takes_as : (old : Parser) (result : Result ℕ ExprFault) (new : Parser) (expected other : List Opened → Result Move ExprFault) → ((before : List Opened) → other before ≡ expected before) → Takes old result new expected → Takes old result new other
-takes_as old (Ok skip) new expected other e t = λ before s. subst (Follows new skip) (sym (e before)) (t before s)
+pub takes_as : (old : Parser) (result : Result ℕ ExprFault) (new : Parser) (expected other : List Opened → Result ReadingMove ExprFault) → ((before : List Opened) → other before ≡ expected before) → Takes old result new expected → Takes old result new other
+takes_as old (Ok skip) new expected other e t = λ before s. subst (FollowsMove new skip) (sym (e before)) (t before s)
 takes_as old (Err fault) new expected other e (inl refused) = inl refused
 takes_as old (Err fault) new expected other e (inr t) = inr (λ before s. e before ∙ t before s)
 

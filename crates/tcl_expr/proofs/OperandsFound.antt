@@ -4,7 +4,7 @@ use Rattle.std.proofs.lemmas.Bool.{ne_eqb, and_parts, leb-true, lt-ltb}
 use Rattle.std.proofs.lemmas.Str.{digit_value_digit}
 use Rattle.std.specs.Char.{digit_value}
 use Rattle.tcl_text.specs.Readings.{boolean_of, base_named}
-use Rattle.tcl_words.specs.Grammar.{IsBraced, IsUnclosed}
+use Rattle.tcl_words.specs.Grammar.{begins_name_byte, AreNameBytes, IsBraced, IsUnclosed}
 use Rattle.tcl_words.specs.OperandGrammar.{IsSubstitution, IsBehindBracket, IsBehindDollar, IsBehindQuote}
 use Rattle.tcl_words.specs.OperandGrammar.IsSubstitution.{variable as name_behind, braced_name, element as element_behind}
 use Rattle.tcl_words.specs.Operands.{bracket_of, substitution_of, quoted_of}
@@ -22,10 +22,12 @@ use Rattle.tcl_expr.specs.declared.tokens.Mark.{Mark}
 use Rattle.tcl_expr.specs.declared.tokens.Mark.TheVariants as mark
 use Rattle.tcl_expr.specs.Braces.{braced}
 use Rattle.tcl_expr.specs.Substitution.{piece_tree, text_tree}
-use Rattle.tcl_expr.specs.Tokens.{mark_of, is_digit, is_alphabetic, is_name_byte, begins_name_byte, ends_number}
-use Rattle.tcl_expr.specs.Counts.{name_bytes, digits, based_or, past_zero_by, past_zero, number_length}
+use Rattle.tcl_words.specs.Classes.{is_digit, is_alphabetic, is_name_byte}
+use Rattle.tcl_words.specs.Kinds.{name_bytes}
+use Rattle.tcl_expr.specs.Tokens.{mark_of, ends_number}
+use Rattle.tcl_expr.specs.Counts.{digits, based_or, past_zero_by, past_zero, number_length}
 use Rattle.tcl_expr.specs.Trees.{Tree, Integer, Plain, Command}
-use Rattle.tcl_expr.specs.Grammar.{ExprEnding, leaves, fails, AreDigits, begins_digit, begins_digit_of, begins_base, IsNumber, AreNameBytes, begins_operand, IsOperand}
+use Rattle.tcl_expr.specs.Grammar.{ExprEnding, leaves, fails, AreDigits, begins_digit, begins_digit_of, begins_base, IsNumber, begins_operand, IsOperand}
 use Rattle.tcl_expr.specs.Grammar.IsNumber.{based, octal, decimal}
 use Rattle.tcl_expr.specs.Grammar.IsOperand.{number, unended_number, word, other_word, braces, unclosed_braces, quotes, faulty_quotes, bracket, faulty_bracket, variable, faulty_variable, no_variable, none}
 use Rattle.tcl_expr.proofs.BracesOfScripts.{braces_read, unclosed_read}

@@ -13,7 +13,7 @@ use Rattle.tcl_words.proofs.IndicesAlone.{index_by_itself}
 use Rattle.tcl_words.proofs.Parses.{index_walked}
 use Rattle.tcl_expr.specs.declared.fault.ExprFault.{ExprFault}
 use Rattle.tcl_expr.specs.Faults.{too_long}
-use Rattle.tcl_expr.specs.Substitution.{with_tree as with_part, joined_trees, element_tree, index_tree_by, piece_tree, text_tree}
+use Rattle.tcl_expr.specs.Substitution.{on_tree as with_part, joined_trees, element_tree, index_tree_by, piece_tree, text_tree}
 use Rattle.tcl_expr.specs.Trees.{Tree, Plain, Variable, Element, Command, Joined}
 use Rattle.tcl_expr.specs.Grammar.{IsPieceTree, IsTextTree, IsJoinedTree}
 use Rattle.tcl_expr.specs.Grammar.IsPieceTree.{literal, variable, bracket, element}

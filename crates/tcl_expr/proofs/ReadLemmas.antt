@@ -10,7 +10,7 @@ use Rattle.tcl_expr.specs.Faults.{too_long}
 use Rattle.tcl_expr.specs.declared.step.Step.{Step}
 use Rattle.tcl_expr.specs.declared.parser.Parser.{Parser}
 use Rattle.tcl_expr.specs.Trees.{Tree}
-use Rattle.tcl_expr.specs.Reading.{Opened, OperandPlace, AtOperand, AtOperator, on_move, reading, at_end, tree_of, compiled_by, compiled}
+use Rattle.tcl_expr.specs.Reading.{Opened, OperandPlace, AtOperand, AtOperator, on_move, tree_reading, tree_at_end, tree_of, compiled_by, compiled}
 use Rattle.tcl_expr.specs.Standing.{Stands, move_at, TakesToken, IsWhole, Finishes, FailsAtEnd, IsFaultOrMemory}
 use Rattle.tcl_expr.proofs.StandLemmas.{follow_on}
 
@@ -31,17 +31,17 @@ pub tree_of-not_utf8 : (text : List ℕ) → length text ≤ 65536 → (IsUtf8 t
 unfolding tree_of
 tree_of-not_utf8 text h k = rw (short text h, not_utf8 text k) refl
 
-pub tree_of-read : (text : List ℕ) → length text ≤ 65536 → IsUtf8 text → tree_of text ≡ reading 0 AtOperand [] text
+pub tree_of-read : (text : List ℕ) → length text ≤ 65536 → IsUtf8 text → tree_of text ≡ tree_reading 0 AtOperand [] text
 unfolding tree_of
 tree_of-read text h k = rw (short text h, is_utf8-from_IsUtf8 text k) refl
 
 -- from where the code stands, what is left gives the whole
 abbrev pub StillReads : Parser → List ℕ → Result Tree ExprFault → Type 0
-StillReads parser rest whole = (place : OperandPlace) × (before : List Opened) × Stands parser place before × (reading 0 place before rest ≡ whole)
+StillReads parser rest whole = (place : OperandPlace) × (before : List Opened) × Stands parser place before × (tree_reading 0 place before rest ≡ whole)
 
 -- what the first bytes make of it
 token_move : (b : ℕ) (behind : List ℕ) (place : OperandPlace) (before : List Opened) →
-    reading 0 place before (b ∷ behind) ≡ on_move (move_at (b ∷ behind) place before) (λ further next left. reading further next left behind)
+    tree_reading 0 place before (b ∷ behind) ≡ on_move (move_at (b ∷ behind) place before) (λ further next left. tree_reading further next left behind)
 token_move b behind AtOperand before = refl
 token_move b behind (AtOperator tree) before = refl
 
@@ -55,7 +55,7 @@ pub token_fails : (old new : Parser) (b : ℕ) (behind : List ℕ) (fault : Expr
     TakesToken old (Err fault) new (b ∷ behind) → StillReads old (b ∷ behind) whole → IsFaultOrMemory whole fault
 token_fails old new b behind fault whole (inl refused) still = inr refused
 token_fails old new b behind fault whole (inr fails) (place, before, stands, reads) =
-    inl (sym reads ∙ token_move b behind place before ∙ ap (λ m. on_move m (λ further next left. reading further next left behind)) (fails place before stands))
+    inl (sym reads ∙ token_move b behind place before ∙ ap (λ m. on_move m (λ further next left. tree_reading further next left behind)) (fails place before stands))
 
 -- the same at a position of the text
 pub at_position : (text : List ℕ) (at : ℕ) → at < length text → drop at text ≡ slice_index text at ∷ drop (at + 1) text
@@ -88,24 +88,24 @@ whole_steps (Err fault) steps e = absurd e
 
 pub end_reads : (parser : Parser) (rest : List ℕ) (steps : List Step) (whole : Result Tree ExprFault) → rest ≡ [] → Finishes parser steps → StillReads parser rest whole → compiled_by whole ≡ Ok steps
 end_reads parser rest steps whole e finishes (place, before, stands, reads) =
-    ap compiled_by (sym reads ∙ ap (reading 0 place before) e) ∙ whole_steps (at_end place before) steps (finishes place before stands)
+    ap compiled_by (sym reads ∙ ap (tree_reading 0 place before) e) ∙ whole_steps (tree_at_end place before) steps (finishes place before stands)
 
 pub end_fails : (parser : Parser) (rest : List ℕ) (fault : ExprFault) (whole : Result Tree ExprFault) → rest ≡ [] → FailsAtEnd parser fault → StillReads parser rest whole → IsFaultOrMemory whole fault
 end_fails parser rest fault whole e (inl refused) still = inr refused
 end_fails parser rest fault whole e (inr fails) (place, before, stands, reads) =
-    inl (sym reads ∙ ap (reading 0 place before) e ∙ fails place before stands)
+    inl (sym reads ∙ ap (tree_reading 0 place before) e ∙ fails place before stands)
 
 -- ── a text that is an expression ──
 
-pub compiled_is : (text : List ℕ) (steps : List Step) → length text ≤ 65536 → IsUtf8 text → compiled_by (reading 0 AtOperand [] text) ≡ Ok steps → compiled text ≡ Ok steps
+pub compiled_is : (text : List ℕ) (steps : List Step) → length text ≤ 65536 → IsUtf8 text → compiled_by (tree_reading 0 AtOperand [] text) ≡ Ok steps → compiled text ≡ Ok steps
 compiled_is text steps h k e = ap compiled_by (tree_of-read text h k) ∙ e
 
 ok_by : (read : Result Tree ExprFault) (steps : List Step) → compiled_by read ≡ Ok steps → IsOk read
 ok_by (Ok tree) steps e = refl
 ok_by (Err fault) steps e = absurd (cc)
 
-pub tree_is : (text : List ℕ) (steps : List Step) → length text ≤ 65536 → IsUtf8 text → compiled_by (reading 0 AtOperand [] text) ≡ Ok steps → IsOk (tree_of text)
-tree_is text steps h k e = rw (tree_of-read text h k) (ok_by (reading 0 AtOperand [] text) steps e)
+pub tree_is : (text : List ℕ) (steps : List Step) → length text ≤ 65536 → IsUtf8 text → compiled_by (tree_reading 0 AtOperand [] text) ≡ Ok steps → IsOk (tree_of text)
+tree_is text steps h k e = rw (tree_of-read text h k) (ok_by (tree_reading 0 AtOperand [] text) steps e)
 
-pub fault_is : (text : List ℕ) (fault : ExprFault) → length text ≤ 65536 → IsUtf8 text → IsFaultOrMemory (reading 0 AtOperand [] text) fault → IsFaultOrMemory (tree_of text) fault
+pub fault_is : (text : List ℕ) (fault : ExprFault) → length text ≤ 65536 → IsUtf8 text → IsFaultOrMemory (tree_reading 0 AtOperand [] text) fault → IsFaultOrMemory (tree_of text) fault
 fault_is text fault h k f = rw (tree_of-read text h k) f

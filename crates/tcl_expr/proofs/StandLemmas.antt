@@ -10,10 +10,10 @@ use Rattle.tcl_expr.specs.declared.open.Open.TheVariants as open_form
 use Rattle.tcl_expr.specs.declared.parser.Parser.{Parser}
 use Rattle.tcl_expr.specs.Trees.{Tree}
 use Rattle.tcl_expr.specs.Steps.{steps_of}
-use Rattle.tcl_expr.specs.Reading.{Opened, Before, After, Paren, Question, Otherwise, ended, close, parens, OperandPlace, AtOperand, AtOperator, Move, at_colon, at_close, on_move, reading}
+use Rattle.tcl_expr.specs.Reading.{Opened, Before, After, Paren, Question, Otherwise, ended, close, parens, OperandPlace, AtOperand, AtOperator, ReadingMove, at_colon, at_close, on_move, tree_reading}
 use Rattle.tcl_expr.specs.Operators.{level_of}
-use Rattle.tcl_expr.specs.Parsing.{infix_hole, written, Closes}
-use Rattle.tcl_expr.specs.Standing.{Stands, StandsNext, Follows}
+use Rattle.tcl_expr.specs.Parsing.{infix_hole, opened_written, Closes}
+use Rattle.tcl_expr.specs.Standing.{Stands, StandsNext, FollowsMove}
 use Rattle.tcl_expr.proofs.CloseLemmas.{append_nil, infix_opens, question_opens, colon_opens, paren_ends}
 
 parens_by : (b : Bool) (level : ℕ) (own : Opened) (rest : List Opened) (tree : Tree) → parens (own ∷ rest) ≡ parens rest → parens (close level rest (ended own tree)).opened ≡ parens rest →
@@ -81,14 +81,14 @@ operand_stands old new own tree before one es eo ep due s =
     record {
       holds = record {
         marks = eo ∙ s.holds.marks;
-        steps_are = es ∙ ap (λ l. l ++ own) (s.holds.steps_are ∙ append_nil (written before)) ∙ ap (λ l. written before ++ l) (sym one);
+        steps_are = es ∙ ap (λ l. l ++ own) (s.holds.steps_are ∙ append_nil (opened_written before)) ∙ ap (λ l. opened_written before ++ l) (sym one);
       };
       counted = ep ∙ s.counted;
       due = due;
     }
 
 -- bytes that are skipped are as if they weren't there
-pub reading_skip : (n : ℕ) (place : OperandPlace) (opened : List Opened) (text : List ℕ) → reading n place opened text ≡ reading 0 place opened (drop n text)
+pub reading_skip : (n : ℕ) (place : OperandPlace) (opened : List Opened) (text : List ℕ) → tree_reading n place opened text ≡ tree_reading 0 place opened (drop n text)
 reading_skip zero place opened text = refl
 reading_skip (suc n) place opened [] = refl
 reading_skip (suc n) place opened (b ∷ text) = reading_skip n place opened text
@@ -107,16 +107,16 @@ drop_min : (n : ℕ) (xs : List ℕ) → drop n xs ≡ drop (min n (length xs)) 
 drop_min n xs = drop_min_by n xs (cases_lt n (length xs))
 
 -- where the code follows a move, reading goes on from there
-pub follow_on : (moved : Result Move ExprFault) (new : Parser) (skip count : ℕ) (behind : List ℕ) → count ≡ min skip (length behind) → Follows new skip moved →
+pub follow_on : (moved : Result ReadingMove ExprFault) (new : Parser) (skip count : ℕ) (behind : List ℕ) → count ≡ min skip (length behind) → FollowsMove new skip moved →
     (place : OperandPlace) × (opened : List Opened) × Stands new place opened
-    × (on_move moved (λ further next left. reading further next left behind) ≡ reading 0 place opened (drop count behind))
+    × (on_move moved (λ further next left. tree_reading further next left behind) ≡ tree_reading 0 place opened (drop count behind))
 follow_on (Ok m) new skip count behind e f = (
   m.place,
   m.opened,
   f.1,
   reading_skip m.skip m.place m.opened behind
-      ∙ ap (λ k. reading 0 m.place m.opened (drop k behind)) (sym f.0)
-      ∙ ap (reading 0 m.place m.opened) (drop_min skip behind)
-      ∙ ap (λ k. reading 0 m.place m.opened (drop k behind)) (sym e),
+      ∙ ap (λ k. tree_reading 0 m.place m.opened (drop k behind)) (sym f.0)
+      ∙ ap (tree_reading 0 m.place m.opened) (drop_min skip behind)
+      ∙ ap (λ k. tree_reading 0 m.place m.opened (drop k behind)) (sym e),
 )
 follow_on (Err fault) new skip count behind e f = absurd f

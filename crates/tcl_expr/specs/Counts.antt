@@ -1,13 +1,8 @@
--- Steps. How many bytes in front of a text are those of a word or of a number.
+-- Steps. How many bytes in front of a text are those of a number.
 use Rattle.std.specs.Prelude.{ℕ, zero, suc, ◌+◌, ◌==◌, nat_lt, if◌then◌else◌, List, [], ◌∷◌, Option, Some, None}
 use Rattle.std.specs.Char.{digit_value}
+use Rattle.tcl_text.specs.Bytes.{digit_zero}
 use Rattle.tcl_text.specs.Readings.{base_named}
-use Rattle.tcl_expr.specs.Tokens.{is_name_byte}
-
--- how many bytes of a name stand in front
-abbrev pub name_bytes : List ℕ → ℕ
-name_bytes [] = 0
-name_bytes (b ∷ text) = if is_name_byte b then suc (name_bytes text) else 0
 
 -- how many digits of a base stand in front
 abbrev pub digits : ℕ → List ℕ → ℕ
@@ -30,4 +25,4 @@ past_zero (b ∷ behind) = past_zero_by (base_named b) (b ∷ behind) behind
 -- how long the number in front of a text is that begins with a digit: as long as can be
 abbrev pub number_length : List ℕ → ℕ
 number_length [] = 0
-number_length (b ∷ text) = if b == 48 then past_zero text else digits 10 (b ∷ text)
+number_length (b ∷ text) = if b == digit_zero then past_zero text else digits 10 (b ∷ text)

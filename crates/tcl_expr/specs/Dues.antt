@@ -20,9 +20,9 @@ with_steps steps (Ok others) = Ok (steps ++ others)
 with_steps steps (Err fault) = Err fault
 
 -- the same, where the first may have a fault, which is the one that counts
-abbrev pub before : Result (List Step) ExprFault → Result (List Step) ExprFault → Result (List Step) ExprFault
-before (Ok steps) others = with_steps steps others
-before (Err fault) others = Err fault
+abbrev pub written_before : Result (List Step) ExprFault → Result (List Step) ExprFault → Result (List Step) ExprFault
+written_before (Ok steps) others = with_steps steps others
+written_before (Err fault) others = Err fault
 
 abbrev pub tree_steps : Result Tree ExprFault → Result (List Step) ExprFault
 tree_steps (Ok tree) = Ok (steps_of tree)
@@ -34,11 +34,11 @@ piece_steps room own = tree_steps (piece_tree room own)
 -- pieces, each of them joined to what stands before it
 abbrev pub others_steps : ℕ → List Piece → Result (List Step) ExprFault
 others_steps room [] = Ok []
-others_steps room (own ∷ pieces) = before (piece_steps room own) (with_steps (step.Join ∷ []) (others_steps room pieces))
+others_steps room (own ∷ pieces) = written_before (piece_steps room own) (with_steps (step.Join ∷ []) (others_steps room pieces))
 
 abbrev pub text_steps : ℕ → List Piece → Result (List Step) ExprFault
 text_steps room [] = Ok (step.Plain [] ∷ [])
-text_steps room (own ∷ pieces) = before (piece_steps room own) (others_steps room pieces)
+text_steps room (own ∷ pieces) = written_before (piece_steps room own) (others_steps room pieces)
 
 abbrev pub due_steps : Due → Result (List Step) ExprFault
 due_steps (due.Piece own room) = piece_steps room own.now
@@ -49,7 +49,7 @@ due_steps (due.Element array) = Ok (step.Element array.now ∷ [])
 -- all that is due, and what comes behind it
 abbrev pub steps_before : List Due → Result (List Step) ExprFault → Result (List Step) ExprFault
 steps_before [] others = others
-steps_before (own ∷ dues) others = steps_before dues (before (due_steps own) others)
+steps_before (own ∷ dues) others = steps_before dues (written_before (due_steps own) others)
 
 abbrev pub dues_steps : List Due → Result (List Step) ExprFault
 dues_steps dues = steps_before dues (Ok [])

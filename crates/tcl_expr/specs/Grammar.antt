@@ -2,9 +2,10 @@
 -- stands open while a text is read. What stands at the front of a text is read with how that goes on: with what is left, or with a fault.
 use Rattle.std.specs.Prelude.{ℕ, zero, suc, ◌-◌, ◌≡◌, ◌≢◌, ◌≤◌, nat_lt, Bool, true, false, not, if◌then◌else◌, List, [], ◌∷◌, ◌++◌, length, drop, Option, Some, None, Result, Ok, Err}
 use Rattle.std.specs.Char.{digit_value}
-use Rattle.tcl_text.specs.Bytes.{quote, dollar_sign, open_bracket, close_bracket, open_brace, close_brace}
+use Rattle.tcl_text.specs.Bytes.{quote, dollar_sign, digit_zero, open_bracket, close_bracket, open_brace, close_brace}
 use Rattle.tcl_text.specs.Readings.{boolean_of, base_named}
-use Rattle.tcl_words.specs.Grammar.{leaves as leaves_text, fails as text_fails, script, begins, begins_name, ArePieces, IsBraced, IsUnclosed, IsInnerOf, IsIndexOf, IsText}
+use Rattle.tcl_words.specs.Classes.{begins_newline}
+use Rattle.tcl_words.specs.Grammar.{leaves as leaves_text, fails as text_fails, script, begins, begins_name, begins_name_byte, AreNameBytes, ArePieces, IsBraced, IsUnclosed, IsInnerOf, IsIndexOf, IsText}
 use Rattle.tcl_words.specs.OperandGrammar.{IsSubstitution, IsFaultySubstitution}
 use Rattle.tcl_words.specs.declared.kind.Mode.TheVariants.{Quotes}
 use Rattle.tcl_words.specs.declared.script.Piece.{Piece}
@@ -21,7 +22,7 @@ use Rattle.tcl_expr.specs.declared.tokens.Mark.TheVariants as mark
 use Rattle.tcl_expr.specs.declared.tokens.Link.{Link}
 use Rattle.tcl_expr.specs.declared.tokens.Link.TheVariants as link
 use Rattle.tcl_expr.specs.Operators.{level_of, between}
-use Rattle.tcl_expr.specs.Tokens.{mark_of, begins_newline, link_at, is_name_byte, begins_name_byte, ends_number}
+use Rattle.tcl_expr.specs.Tokens.{mark_of, link_at, ends_number}
 use Rattle.tcl_expr.specs.Trees.{Tree, Integer, Plain, Variable, Element, Command, Joined, Unary, Choice}
 use Rattle.tcl_text.specs.Limits.{most_nested}
 
@@ -101,14 +102,9 @@ begins_base (letter ∷ behind) = begins_digit_of (base_named letter) behind
 -- The number in front of this text, as long as can be: `0` and the letter of a base with digits of it, octal digits behind a `0`, or decimal ones.
 pub data IsNumber (rest : List ℕ) : List ℕ → Type 0 where
   based : (letter base digit : ℕ) (digits : List ℕ) → base_named letter ≡ Some base → AreDigits base (digit ∷ digits) → begins_digit base rest ≡ false →
-      IsNumber rest (48 ∷ letter ∷ digit ∷ digits)
-  octal : (digits : List ℕ) → AreDigits 8 digits → begins_digit 8 rest ≡ false → begins_base (digits ++ rest) ≡ false → IsNumber rest (48 ∷ digits)
-  decimal : (digit : ℕ) (digits : List ℕ) → digit ≢ 48 → AreDigits 10 (digit ∷ digits) → begins_digit 10 rest ≡ false → IsNumber rest (digit ∷ digits)
-
--- letters, digits and `_`
-abbrev pub AreNameBytes : List ℕ → Type 0
-AreNameBytes [] = Unit {0}
-AreNameBytes (b ∷ word) = (is_name_byte b ≡ true) × AreNameBytes word
+      IsNumber rest (digit_zero ∷ letter ∷ digit ∷ digits)
+  octal : (digits : List ℕ) → AreDigits 8 digits → begins_digit 8 rest ≡ false → begins_base (digits ++ rest) ≡ false → IsNumber rest (digit_zero ∷ digits)
+  decimal : (digit : ℕ) (digits : List ℕ) → digit ≢ digit_zero → AreDigits 10 (digit ∷ digits) → begins_digit 10 rest ≡ false → IsNumber rest (digit ∷ digits)
 
 -- What pieces of a script are as trees: one of them, and several that are joined from the left.
 mutual
@@ -116,7 +112,8 @@ mutual
     literal : (text : List ℕ) → IsPieceTree (piece.Literal text) (Plain text)
     variable : (name : List ℕ) → IsPieceTree (piece.Variable name) (Variable name)
     bracket : (script : List ℕ) → IsPieceTree (piece.Bracket script) (Command script)
-    element : (name index : List ℕ) (pieces : List Piece) (tree : Tree) → IsIndexOf index pieces → IsTextTree pieces tree → IsPieceTree (piece.Element name index) (Element name tree)
+    element : (name index : List ℕ) (pieces : List Piece) (tree : Tree) → IsIndexOf index pieces → IsTextTree pieces tree →
+        IsPieceTree (piece.Element name index) (Element name tree)
 
   pub data IsTextTree : List Piece → Tree → Type 0 where
     none : IsTextTree [] (Plain [])
@@ -124,7 +121,8 @@ mutual
 
   pub data IsJoinedTree : Tree → List Piece → Tree → Type 0 where
     all : (tree : Tree) → IsJoinedTree tree [] tree
-    more : (own : Piece) (pieces : List Piece) (first next tree : Tree) → IsPieceTree own next → IsJoinedTree (Joined first next) pieces tree → IsJoinedTree first (own ∷ pieces) tree
+    more : (own : Piece) (pieces : List Piece) (first next tree : Tree) → IsPieceTree own next → IsJoinedTree (Joined first next) pieces tree →
+        IsJoinedTree first (own ∷ pieces) tree
 
 -- what can begin an operand that is no operator and no parenthesis
 abbrev pub begins_operand : Mark → Bool
@@ -139,22 +137,30 @@ begins_operand _ = false
 -- An operand at the front of a text, without an operator or a parenthesis before it, where so many brackets and indices may stand in one
 -- another. What a bracket, a `$`, a quote or a brace begins is as the grammar of scripts has it.
 pub data IsOperand (room : ℕ) : List ℕ → ExprEnding → Type 0 where
-  number : (b : ℕ) (own rest : List ℕ) → mark_of b ≡ mark.Digit → IsNumber rest (b ∷ own) → ends_number rest ≡ true → IsOperand room (b ∷ (own ++ rest)) (leaves (Integer (b ∷ own)) rest)
-  unended_number : (b : ℕ) (own rest : List ℕ) → mark_of b ≡ mark.Digit → IsNumber rest (b ∷ own) → ends_number rest ≡ false → IsOperand room (b ∷ (own ++ rest)) (fails Syntax)
+  number : (b : ℕ) (own rest : List ℕ) → mark_of b ≡ mark.Digit → IsNumber rest (b ∷ own) → ends_number rest ≡ true →
+      IsOperand room (b ∷ (own ++ rest)) (leaves (Integer (b ∷ own)) rest)
+  unended_number : (b : ℕ) (own rest : List ℕ) → mark_of b ≡ mark.Digit → IsNumber rest (b ∷ own) → ends_number rest ≡ false →
+      IsOperand room (b ∷ (own ++ rest)) (fails Syntax)
   -- a word that spells a boolean
-  word : (b : ℕ) (own rest : List ℕ) (truth : Bool) → mark_of b ≡ mark.Letter → AreNameBytes (b ∷ own) → begins_name_byte rest ≡ false → boolean_of (b ∷ own) ≡ Some truth →
+  word : (b : ℕ) (own rest : List ℕ) (truth : Bool) → mark_of b ≡ mark.Letter → AreNameBytes (b ∷ own) → begins_name_byte rest ≡ false →
+      boolean_of (b ∷ own) ≡ Some truth →
       IsOperand room (b ∷ (own ++ rest)) (leaves (Plain (b ∷ own)) rest)
   other_word : (b : ℕ) (own rest : List ℕ) → mark_of b ≡ mark.Letter → AreNameBytes (b ∷ own) → begins_name_byte rest ≡ false → boolean_of (b ∷ own) ≡ None →
       IsOperand room (b ∷ (own ++ rest)) (fails Syntax)
   braces : (own value rest : List ℕ) → IsBraced own value → IsOperand room (open_brace ∷ (own ++ close_brace ∷ rest)) (leaves (Plain value) rest)
   unclosed_braces : (text : List ℕ) → IsUnclosed text → IsOperand room (open_brace ∷ text) (fails missing_brace)
-  quotes : (own rest : List ℕ) (pieces : List Piece) (tree : Tree) → ArePieces (IsInnerOf room) true Quotes (own ++ quote ∷ rest) pieces (leaves_text (quote ∷ rest)) → IsTextTree pieces tree →
+  quotes : (own rest : List ℕ) (pieces : List Piece) (tree : Tree) →
+      ArePieces (IsInnerOf room) true Quotes (own ++ quote ∷ rest) pieces (leaves_text (quote ∷ rest)) → IsTextTree pieces tree →
       IsOperand room (quote ∷ (own ++ quote ∷ rest)) (leaves tree rest)
-  faulty_quotes : (text : List ℕ) (pieces : List Piece) (fault : ParseFault) → ArePieces (IsInnerOf room) true Quotes text pieces (text_fails fault) → IsOperand room (quote ∷ text) (fails (Script fault))
-  bracket : (own rest : List ℕ) → IsInnerOf room script (own ++ close_bracket ∷ rest) (leaves_text (close_bracket ∷ rest)) → IsOperand room (open_bracket ∷ (own ++ close_bracket ∷ rest)) (leaves (Command own) rest)
-  faulty_bracket : (text : List ℕ) (fault : ParseFault) → IsInnerOf room script text (text_fails fault) → IsOperand room (open_bracket ∷ text) (fails (Script fault))
+  faulty_quotes : (text : List ℕ) (pieces : List Piece) (fault : ParseFault) → ArePieces (IsInnerOf room) true Quotes text pieces (text_fails fault) →
+      IsOperand room (quote ∷ text) (fails (Script fault))
+  bracket : (own rest : List ℕ) → IsInnerOf room script (own ++ close_bracket ∷ rest) (leaves_text (close_bracket ∷ rest)) →
+      IsOperand room (open_bracket ∷ (own ++ close_bracket ∷ rest)) (leaves (Command own) rest)
+  faulty_bracket : (text : List ℕ) (fault : ParseFault) → IsInnerOf room script text (text_fails fault) →
+      IsOperand room (open_bracket ∷ text) (fails (Script fault))
   -- a variable or an element
-  variable : (text rest : List ℕ) (own : Piece) (tree : Tree) → IsSubstitution room text own rest → IsPieceTree own tree → IsOperand room (dollar_sign ∷ text) (leaves tree rest)
+  variable : (text rest : List ℕ) (own : Piece) (tree : Tree) → IsSubstitution room text own rest → IsPieceTree own tree →
+      IsOperand room (dollar_sign ∷ text) (leaves tree rest)
   faulty_variable : (text : List ℕ) (fault : ParseFault) → IsFaultySubstitution room text fault → IsOperand room (dollar_sign ∷ text) (fails (Script fault))
   -- a `$` with nothing that it could begin
   no_variable : (text : List ℕ) → begins_name text ≡ false → begins open_brace text ≡ false → IsOperand room (dollar_sign ∷ text) (fails Syntax)
@@ -203,7 +209,8 @@ pub data IsExpr : ℕ → ℕ → List ℕ → ExprEnding → Type 0 where
   operand_read : {room : ℕ} {text : List ℕ} {ending : ExprEnding} (b : ℕ) (behind : List ℕ) → past_blanks text ≡ b ∷ behind → first_of (mark_of b) ≡ operand →
       IsOperand room (b ∷ behind) ending → IsExpr room 11 text ending
   -- an operator before its operand
-  signed : {room : ℕ} {text : List ℕ} (b : ℕ) (behind : List ℕ) (operator : UnaryOperator) {ending : ExprEnding} → past_blanks text ≡ b ∷ behind → first_of (mark_of b) ≡ sign operator →
+  signed : {room : ℕ} {text : List ℕ} (b : ℕ) (behind : List ℕ) (operator : UnaryOperator) {ending : ExprEnding} → past_blanks text ≡ b ∷ behind →
+      first_of (mark_of b) ≡ sign operator →
       IsExpr room 11 behind ending → IsExpr room 11 text (with_tree (Unary operator) ending)
   -- parentheses
   deep : {text : List ℕ} (b : ℕ) (behind : List ℕ) → past_blanks text ≡ b ∷ behind → first_of (mark_of b) ≡ paren → IsExpr zero 11 text (fails too_long)
@@ -212,14 +219,18 @@ pub data IsExpr : ℕ → ℕ → List ℕ → ExprEnding → Type 0 where
   -- what binds tighter
   tighter : {room level : ℕ} {text : List ℕ} {ending : ExprEnding} → IsExpr room (suc level) text ending → IsExpr room level text ending
   -- an operator between operands: the left one may have operators of its level, the right one only tighter ones
-  operated : {room : ℕ} {text : List ℕ} (operator : Infix) (a : Tree) (left behind : List ℕ) {ending : ExprEnding} → IsExpr room (level_of operator) text (leaves a left) →
-      after left ≡ linked (link.Infix operator) behind → IsExpr room (suc (level_of operator)) behind ending → IsExpr room (level_of operator) text (with_tree (between operator a) ending)
+  operated : {room : ℕ} {text : List ℕ} (operator : Infix) (a : Tree) (left behind : List ℕ) {ending : ExprEnding} →
+      IsExpr room (level_of operator) text (leaves a left) →
+      after left ≡ linked (link.Infix operator) behind → IsExpr room (suc (level_of operator)) behind ending →
+      IsExpr room (level_of operator) text (with_tree (between operator a) ending)
   -- a choice: its condition is no choice, its last part may be one
   choice : {room : ℕ} {text : List ℕ} (a b : Tree) (left behind left' behind' : List ℕ) {ending : ExprEnding} → IsExpr room 1 text (leaves a left) →
-      after left ≡ linked link.Question behind → IsExpr room 0 behind (leaves b left') → after left' ≡ linked link.Colon behind' → IsExpr room 0 behind' ending →
+      after left ≡ linked link.Question behind → IsExpr room 0 behind (leaves b left') → after left' ≡ linked link.Colon behind' →
+      IsExpr room 0 behind' ending →
       IsExpr room 0 text (with_tree (Choice a b) ending)
   no_choice : {room : ℕ} {text : List ℕ} (a : Tree) (left behind : List ℕ) (fault : ExprFault) {ending : ExprEnding} → IsExpr room 1 text (leaves a left) →
-      after left ≡ linked link.Question behind → IsExpr room 0 behind ending → stops ending ≡ true → unchosen ending ≡ Some fault → IsExpr room 0 text (fails fault)
+      after left ≡ linked link.Question behind → IsExpr room 0 behind ending → stops ending ≡ true → unchosen ending ≡ Some fault →
+      IsExpr room 0 text (fails fault)
 
 -- ── whole texts ──
 

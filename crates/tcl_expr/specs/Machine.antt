@@ -34,12 +34,14 @@ weight weigh (own ∷ steps) = weigh own + weight weigh steps
 
 -- Whatever the steps weigh: what is asked and what is left weigh no more than the steps did.
 abbrev pub WeighsLess : Type 0
-WeighsLess = (weigh : Step → ℕ) (steps left : List Step) (ask : Ask) → AsksBy steps ask left → weight weigh (asking ask) + weight weigh left ≤ weight weigh steps
+WeighsLess =
+    (weigh : Step → ℕ) (steps left : List Step) (ask : Ask) → AsksBy steps ask left → weight weigh (asking ask) + weight weigh left ≤ weight weigh steps
 
 -- a step, from a stack to a stack, whatever comes behind it
 abbrev pub Performs : Step → List Value → Result Turn EvalFault → List Value → Type 0
 Performs step old (Ok (Skip count)) new = (go : ℕ → List Value → Run) → perform step old go ≡ go count new
-Performs step old (Ok (Stop ask)) new = ((go : ℕ → List Value → Run) → perform step old go ≡ asks ask (λ text. go 0 (Words text ∷ new))) × (asking ask ≡ step ∷ [])
+Performs step old (Ok (Stop ask)) new =
+    ((go : ℕ → List Value → Run) → perform step old go ≡ asks ask (λ text. go 0 (Words text ∷ new))) × (asking ask ≡ step ∷ [])
 Performs step old (Err fault) new = ((go : ℕ → List Value → Run) → perform step old go ≡ Ends (Err fault)) ⊎ (fault ≡ NoMemory)
 
 -- what is asked, and where it goes on then

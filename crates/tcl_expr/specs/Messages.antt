@@ -1,7 +1,6 @@
 -- Meaning. What an application is told of a fault.
 use Rattle.std.specs.Prelude.{ℕ, List, [], ◌++◌, codes}
-use Rattle.tcl_text.specs.Splitting.{fault_text as list_fault_text}
-use Rattle.tcl_text.specs.FaultTexts.{parse_text}
+use Rattle.tcl_text.specs.FaultTexts.{boolean_text, list_text, parse_text}
 use Rattle.tcl_expr.specs.declared.operators.UnaryOperator.{UnaryOperator}
 use Rattle.tcl_expr.specs.declared.operators.UnaryOperator.TheVariants.{Negate, Keep, Complement, Not}
 use Rattle.tcl_expr.specs.declared.operators.ArithmeticOperator.{ArithmeticOperator}
@@ -12,7 +11,7 @@ use Rattle.tcl_expr.specs.declared.fault.ExprFault.{ExprFault}
 use Rattle.tcl_expr.specs.declared.fault.ExprFault.TheVariants as parse
 use Rattle.tcl_expr.specs.declared.fault.EvalFault.{EvalFault}
 use Rattle.tcl_expr.specs.declared.fault.EvalFault.TheVariants as eval
-use Rattle.tcl_text.specs.Answers.{limit_text, message}
+use Rattle.tcl_text.specs.Messages.{limit_text, message, quoted, too_large_text}
 
 abbrev pub unary_name : UnaryOperator → List ℕ
 unary_name Negate = codes "-"
@@ -39,13 +38,13 @@ operator_name (Arithmetic operator) = arithmetic_name operator
 -- of an expression with this source; want of memory has no such text
 abbrev pub parse_message : List ℕ → ExprFault → List ℕ
 parse_message source (parse.Script fault) = message (parse_text fault)
-parse_message source parse.Syntax = message (codes "syntax error in expression \"" ++ source ++ codes "\"")
+parse_message source parse.Syntax = message (codes "syntax error in expression " ++ quoted source)
 
 abbrev pub eval_message : EvalFault → List ℕ
-eval_message (eval.NotBoolean text) = message (codes "expected boolean value but got \"" ++ text ++ codes "\"")
-eval_message (eval.BadList fault) = message (list_fault_text fault)
+eval_message (eval.NotBoolean text) = message (boolean_text text)
+eval_message (eval.BadList fault) = message (list_text fault)
 eval_message eval.TooLong = limit_text
 eval_message eval.DivideByZero = codes "divide by zero"
-eval_message eval.Overflow = codes "integer value too large to represent"
-eval_message (eval.NotNumber operator) = message (codes "can't use non-numeric string as operand of \"" ++ operator_name operator ++ codes "\"")
+eval_message eval.Overflow = too_large_text
+eval_message (eval.NotNumber operator) = message (codes "can't use non-numeric string as operand of " ++ quoted (operator_name operator))
 eval_message eval.NoMemory = []

@@ -14,12 +14,12 @@ use Rattle.tcl_expr.specs.Operators.{level_of}
 
 -- ── what the code does to the steps ──
 
-abbrev pub ends_open : ℕ → Open → Bool
-ends_open level (open_form.Before operator) = true
-ends_open level (open_form.After operator mark) = nat_le level (level_of operator)
-ends_open level open_form.Paren = false
-ends_open level (open_form.Question mark) = false
-ends_open level (open_form.Otherwise mark) = level == 0
+abbrev pub is_ended_at : ℕ → Open → Bool
+is_ended_at level (open_form.Before operator) = true
+is_ended_at level (open_form.After operator mark) = nat_le level (level_of operator)
+is_ended_at level open_form.Paren = false
+is_ended_at level (open_form.Question mark) = false
+is_ended_at level (open_form.Otherwise mark) = level == 0
 
 abbrev pub infix_ended : Infix → ℕ → List Step → List Step
 infix_ended infixed.And mark steps = set steps mark (step.And (length steps - mark)) ++ step.Truth ∷ []
@@ -36,9 +36,10 @@ open_ended (open_form.Otherwise mark) steps = set steps mark (step.Jump (length 
 -- the innermost that stands open ended, or it doesn't end, or none is there
 abbrev pub EndsLast : ℕ → List Open → List Step → Result Bool AllocError → List Open → List Step → Type 0
 EndsLast level opened steps (Ok true) opened' steps' =
-    (last : Open) × (opened ≡ opened' ++ last ∷ []) × (ends_open level last ≡ true) × (steps' ≡ open_ended last steps)
+    (last : Open) × (opened ≡ opened' ++ last ∷ []) × (is_ended_at level last ≡ true) × (steps' ≡ open_ended last steps)
 EndsLast level opened steps (Ok false) opened' steps' =
-    (opened' ≡ opened) × (steps' ≡ steps) × ((opened ≡ []) ⊎ ((below : List Open) × (last : Open) × (opened ≡ below ++ last ∷ []) × (ends_open level last ≡ false)))
+    (opened' ≡ opened) × (steps' ≡ steps)
+    × ((opened ≡ []) ⊎ ((below : List Open) × (last : Open) × (opened ≡ below ++ last ∷ []) × (is_ended_at level last ≡ false)))
 EndsLast level opened steps (Err refused) opened' steps' = Unit {0}
 
 -- ── what they stand for ──
@@ -66,9 +67,9 @@ own_written Paren = []
 own_written (Question a) = steps_of a ++ step.Branch 0 ∷ []
 own_written (Otherwise a b) = chosen_steps a b ++ step.Jump 0 ∷ []
 
-abbrev pub written : List Opened → List Step
-written [] = []
-written (own ∷ opened) = written opened ++ own_written own
+abbrev pub opened_written : List Opened → List Step
+opened_written [] = []
+opened_written (own ∷ opened) = opened_written opened ++ own_written own
 
 -- and what the code keeps of it, with so many steps before it
 abbrev pub kept : Opened → ℕ → Open
@@ -80,12 +81,12 @@ kept (Otherwise a b) n = open_form.Otherwise (n + length (chosen_steps a b))
 
 abbrev pub all_kept : List Opened → List Open
 all_kept [] = []
-all_kept (own ∷ opened) = all_kept opened ++ kept own (length (written opened)) ∷ []
+all_kept (own ∷ opened) = all_kept opened ++ kept own (length (opened_written opened)) ∷ []
 
 -- the code keeps this, with these steps behind it
 pub record Holds (kept_opened : List Open) (steps : List Step) (opened : List Opened) (own : List Step) : Type 0 where
   pub marks : kept_opened ≡ all_kept opened
-  pub steps_are : steps ≡ written opened ++ own
+  pub steps_are : steps ≡ opened_written opened ++ own
 
 -- the code closed what ends at a level
 abbrev pub Closes : ℕ → List Open → List Step → List Open → List Step → Type 0

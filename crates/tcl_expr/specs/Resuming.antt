@@ -43,12 +43,12 @@ to_come (Ended text) steps stack = Ends (Ok text)
 to_come (Failed fault) steps stack = Ends (Err fault)
 to_come _ steps stack = execute 0 steps stack
 
-abbrev pub told : Resumption → Option (List ℕ) → Run
-told evaluation given = to_come evaluation.state evaluation.steps (with_given given evaluation.stack)
+abbrev pub evaluation_told : Resumption → Option (List ℕ) → Run
+evaluation_told evaluation given = to_come evaluation.state evaluation.steps (with_given given evaluation.stack)
 
 -- what an answer to the question leads to
 abbrev pub answered : Resumption → List ℕ → Run
-answered evaluation text = told evaluation (Some text)
+answered evaluation text = evaluation_told evaluation (Some text)
 
 abbrev pub state_after : Ask → State
 state_after (ValueOf text) = Ended text

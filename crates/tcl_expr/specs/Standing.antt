@@ -10,7 +10,7 @@ use Rattle.tcl_expr.specs.declared.tokens.Link.{Link}
 use Rattle.tcl_expr.specs.declared.parser.Parser.{Parser}
 use Rattle.tcl_expr.specs.Trees.{Tree}
 use Rattle.tcl_expr.specs.Steps.{steps_of}
-use Rattle.tcl_expr.specs.Reading.{Opened, OperandPlace, AtOperand, AtOperator, parens, Next, Move, link_next, link_move, operand_move, operator_move, whole, at_end}
+use Rattle.tcl_expr.specs.Reading.{Opened, OperandPlace, AtOperand, AtOperator, parens, Next, ReadingMove, link_next, link_move, operand_move, operator_move, whole, tree_at_end}
 use Rattle.tcl_expr.specs.Tokens.{mark_of}
 use Rattle.tcl_expr.specs.Parsing.{Holds, all_kept}
 
@@ -47,13 +47,13 @@ Links link old (Err fault) new =
     (fault ≡ no_memory) ⊎ ((before : List Opened) (tree : Tree) → Stands old (AtOperator tree) before → link_next before tree link ≡ Err fault)
 
 -- the code goes where a move leads, and says how many further bytes it takes
-abbrev pub Follows : Parser → ℕ → Result Move ExprFault → Type 0
-Follows parser skip (Ok move) = (skip ≡ move.skip) × Stands parser move.place move.opened
-Follows parser skip (Err fault) = ⊥
+abbrev pub FollowsMove : Parser → ℕ → Result ReadingMove ExprFault → Type 0
+FollowsMove parser skip (Ok move) = (skip ≡ move.skip) × Stands parser move.place move.opened
+FollowsMove parser skip (Err fault) = ⊥
 
 -- from wherever the code stands at such a place
-abbrev pub Takes : Parser → Result ℕ ExprFault → Parser → (List Opened → Result Move ExprFault) → Type 0
-Takes old (Ok skip) new expected = (before : List Opened) → Stands old AtOperand before → Follows new skip (expected before)
+abbrev pub Takes : Parser → Result ℕ ExprFault → Parser → (List Opened → Result ReadingMove ExprFault) → Type 0
+Takes old (Ok skip) new expected = (before : List Opened) → Stands old AtOperand before → FollowsMove new skip (expected before)
 Takes old (Err fault) new expected = (fault ≡ no_memory) ⊎ ((before : List Opened) → Stands old AtOperand before → expected before ≡ Err fault)
 
 -- an operand of these steps
@@ -64,30 +64,32 @@ pub record HasOperand (old new : Parser) (own : List Step) : Type 0 where
   pub due : new.is_due ≡ false
 
 -- what the bytes in front are where an operand is due, and behind one
-abbrev pub operand_at : List ℕ → List Opened → Result Move ExprFault
+abbrev pub operand_at : List ℕ → List Opened → Result ReadingMove ExprFault
 operand_at [] before = Err Syntax
 operand_at (b ∷ behind) before = operand_move (mark_of b) before (b ∷ behind) behind
 
-abbrev pub operator_at : List ℕ → List Opened → Tree → Result Move ExprFault
+abbrev pub operator_at : List ℕ → List Opened → Tree → Result ReadingMove ExprFault
 operator_at [] before tree = Err Syntax
 operator_at (b ∷ behind) before tree = operator_move (mark_of b) before tree (b ∷ behind) behind
 
-abbrev pub move_at : List ℕ → OperandPlace → List Opened → Result Move ExprFault
+abbrev pub move_at : List ℕ → OperandPlace → List Opened → Result ReadingMove ExprFault
 move_at text AtOperand before = operand_at text before
 move_at text (AtOperator tree) before = operator_at text before tree
 
 abbrev pub TakesLink : Parser → Result ℕ ExprFault → Parser → List ℕ → Type 0
-TakesLink old (Ok skip) new text = (before : List Opened) (tree : Tree) → Stands old (AtOperator tree) before → Follows new skip (operator_at text before tree)
+TakesLink old (Ok skip) new text =
+    (before : List Opened) (tree : Tree) → Stands old (AtOperator tree) before → FollowsMove new skip (operator_at text before tree)
 TakesLink old (Err fault) new text =
     (fault ≡ no_memory) ⊎ ((before : List Opened) (tree : Tree) → Stands old (AtOperator tree) before → operator_at text before tree ≡ Err fault)
 
 abbrev pub TakesFound : Parser → Result ℕ ExprFault → Parser → Option (Link × ℕ) → Type 0
-TakesFound old (Ok skip) new found = (before : List Opened) (tree : Tree) → Stands old (AtOperator tree) before → Follows new skip (link_move before tree found)
+TakesFound old (Ok skip) new found =
+    (before : List Opened) (tree : Tree) → Stands old (AtOperator tree) before → FollowsMove new skip (link_move before tree found)
 TakesFound old (Err fault) new found =
     (fault ≡ no_memory) ⊎ ((before : List Opened) (tree : Tree) → Stands old (AtOperator tree) before → link_move before tree found ≡ Err fault)
 
 abbrev pub TakesToken : Parser → Result ℕ ExprFault → Parser → List ℕ → Type 0
-TakesToken old (Ok skip) new text = (place : OperandPlace) (before : List Opened) → Stands old place before → Follows new skip (move_at text place before)
+TakesToken old (Ok skip) new text = (place : OperandPlace) (before : List Opened) → Stands old place before → FollowsMove new skip (move_at text place before)
 TakesToken old (Err fault) new text =
     (fault ≡ no_memory) ⊎ ((place : OperandPlace) (before : List Opened) → Stands old place before → move_at text place before ≡ Err fault)
 
@@ -97,10 +99,11 @@ IsWhole (Ok tree) steps = steps ≡ steps_of tree
 IsWhole (Err fault) steps = ⊥
 
 abbrev pub Finishes : Parser → List Step → Type 0
-Finishes parser steps = (place : OperandPlace) (before : List Opened) → Stands parser place before → IsWhole (at_end place before) steps
+Finishes parser steps = (place : OperandPlace) (before : List Opened) → Stands parser place before → IsWhole (tree_at_end place before) steps
 
 abbrev pub FailsAtEnd : Parser → ExprFault → Type 0
-FailsAtEnd parser fault = (fault ≡ no_memory) ⊎ ((place : OperandPlace) (before : List Opened) → Stands parser place before → at_end place before ≡ Err fault)
+FailsAtEnd parser fault =
+    (fault ≡ no_memory) ⊎ ((place : OperandPlace) (before : List Opened) → Stands parser place before → tree_at_end place before ≡ Err fault)
 
 -- a fault, or else the tree
 abbrev pub end_answer : Option ExprFault → Tree → Result Tree ExprFault

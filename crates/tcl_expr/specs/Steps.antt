@@ -6,9 +6,9 @@ use Rattle.tcl_expr.specs.declared.value.Value.{Value}
 use Rattle.tcl_expr.specs.declared.value.Value.TheVariants.{Number, Words}
 use Rattle.tcl_expr.specs.declared.step.Step.{Step}
 use Rattle.tcl_expr.specs.declared.step.Step.TheVariants as step
-use Rattle.tcl_expr.specs.Values.{truth_value, text_of, unary_value, binary_value}
+use Rattle.tcl_expr.specs.Values.{truth_value, text_of_value, unary_value, binary_value}
 use Rattle.tcl_expr.specs.Run.{Run, AsksVariable, AsksElement, AsksCommand, Ends, on_result, on_truth}
-use Rattle.tcl_expr.specs.Trees.{Tree, Integer, Plain, Variable, Element, Command, Joined, Unary, Binary, And, Or, Choice, joined, final_text}
+use Rattle.tcl_expr.specs.Trees.{Tree, Integer, Plain, Variable, Element, Command, Joined, Unary, Binary, And, Or, Choice, joined_values, final_text}
 
 -- ── what steps come to ──
 
@@ -17,27 +17,27 @@ abbrev pub top_of : List Value → Value
 top_of [] = Number (pos 0)
 top_of (v ∷ stack) = v
 
-abbrev pub below : List Value → List Value
-below [] = []
-below (v ∷ stack) = stack
+abbrev pub without_top : List Value → List Value
+without_top [] = []
+without_top (v ∷ stack) = stack
 
 -- What a step makes of a stack, where `go` is what comes behind it with so many steps left out.
 abbrev pub perform : Step → List Value → (ℕ → List Value → Run) → Run
 perform step.TooLarge stack go = Ends (Err Overflow)
 perform (step.Plain text) stack go = go 0 (Words text ∷ stack)
 perform (step.Variable name) stack go = AsksVariable name (λ text. go 0 (Words text ∷ stack))
-perform (step.Element array) stack go = AsksElement array (text_of (top_of stack)) (λ text. go 0 (Words text ∷ below stack))
+perform (step.Element array) stack go = AsksElement array (text_of_value (top_of stack)) (λ text. go 0 (Words text ∷ without_top stack))
 perform (step.Command script) stack go = AsksCommand script (λ text. go 0 (Words text ∷ stack))
-perform step.Join stack go = on_result (joined (top_of (below stack)) (top_of stack)) (λ v. go 0 (v ∷ below (below stack)))
-perform (step.Unary operator) stack go = on_result (unary_value operator (top_of stack)) (λ v. go 0 (v ∷ below stack))
+perform step.Join stack go = on_result (joined_values (top_of (without_top stack)) (top_of stack)) (λ v. go 0 (v ∷ without_top (without_top stack)))
+perform (step.Unary operator) stack go = on_result (unary_value operator (top_of stack)) (λ v. go 0 (v ∷ without_top stack))
 perform (step.Binary operator) stack go =
-    on_result (binary_value operator (top_of (below stack)) (top_of stack)) (λ v. go 0 (v ∷ below (below stack)))
+    on_result (binary_value operator (top_of (without_top stack)) (top_of stack)) (λ v. go 0 (v ∷ without_top (without_top stack)))
 perform (step.And count) stack go =
-    on_truth (top_of stack) (λ truth. if truth then go 0 (below stack) else go count (truth_value false ∷ below stack))
+    on_truth (top_of stack) (λ truth. if truth then go 0 (without_top stack) else go count (truth_value false ∷ without_top stack))
 perform (step.Or count) stack go =
-    on_truth (top_of stack) (λ truth. if truth then go count (truth_value true ∷ below stack) else go 0 (below stack))
-perform step.Truth stack go = on_truth (top_of stack) (λ truth. go 0 (truth_value truth ∷ below stack))
-perform (step.Branch count) stack go = on_truth (top_of stack) (λ truth. if truth then go 0 (below stack) else go count (below stack))
+    on_truth (top_of stack) (λ truth. if truth then go count (truth_value true ∷ without_top stack) else go 0 (without_top stack))
+perform step.Truth stack go = on_truth (top_of stack) (λ truth. go 0 (truth_value truth ∷ without_top stack))
+perform (step.Branch count) stack go = on_truth (top_of stack) (λ truth. if truth then go 0 (without_top stack) else go count (without_top stack))
 perform (step.Jump count) stack go = go count stack
 
 -- what steps come to, of which so many are left out

@@ -11,21 +11,21 @@ use Rattle.tcl_expr.specs.declared.step.Step.{Step}
 use Rattle.tcl_expr.specs.Trees.{Tree, Plain, Variable, Element, Command, Joined}
 use Rattle.tcl_expr.specs.Steps.{steps_of}
 
-abbrev pub with_tree : Result Tree ExprFault → (Tree → Result Tree ExprFault) → Result Tree ExprFault
-with_tree (Ok tree) go = go tree
-with_tree (Err fault) go = Err fault
+abbrev pub on_tree : Result Tree ExprFault → (Tree → Result Tree ExprFault) → Result Tree ExprFault
+on_tree (Ok tree) go = go tree
+on_tree (Err fault) go = Err fault
 
 -- a tree, and behind it those of pieces, by what each of them is
 abbrev pub joined_trees : (Piece → Result Tree ExprFault) → Tree → List Piece → Result Tree ExprFault
 joined_trees of tree [] = Ok tree
-joined_trees of tree (own ∷ pieces) = with_tree (of own) (λ next. joined_trees of (Joined tree next) pieces)
+joined_trees of tree (own ∷ pieces) = on_tree (of own) (λ next. joined_trees of (Joined tree next) pieces)
 
 abbrev pub text_tree_by : (Piece → Result Tree ExprFault) → List Piece → Result Tree ExprFault
 text_tree_by of [] = Ok (Plain [])
-text_tree_by of (own ∷ pieces) = with_tree (of own) (λ tree. joined_trees of tree pieces)
+text_tree_by of (own ∷ pieces) = on_tree (of own) (λ tree. joined_trees of tree pieces)
 
 abbrev pub element_tree : List ℕ → Result Tree ExprFault → Result Tree ExprFault
-element_tree name index = with_tree index (λ tree. Ok (Element name tree))
+element_tree name index = on_tree index (λ tree. Ok (Element name tree))
 
 abbrev pub index_tree_by : (Piece → Result Tree ExprFault) → Result (List Piece) ParseFault → Result Tree ExprFault
 index_tree_by of (Ok pieces) = text_tree_by of pieces

@@ -1,7 +1,9 @@
 -- Meaning. What stands in front of a text where an operand or an operator is due.
 use Rattle.std.specs.Prelude.{ℕ, Bool, true, false, not, ◌==◌, nat_eq, nat_le, ◌&&◌, ◌||◌, if◌then◌else◌, List, [], ◌∷◌, drop, Option, Some, None, codes}
 use Rattle.std.specs.List.{starts_with}
-use Rattle.tcl_text.specs.Bytes.{line_feed, space, exclamation_mark, quote, dollar_sign, percent_sign, ampersand, open_paren, close_paren, star, plus_sign, minus_sign, slash, colon, less_sign, equals_sign, greater_sign, question_mark, open_bracket, backslash_sign, caret, underscore, open_brace, bar, tilde}
+use Rattle.tcl_text.specs.Bytes.{tab, carriage_return, space, exclamation_mark, quote, dollar_sign, percent_sign, ampersand, open_paren, close_paren, star, plus_sign, minus_sign, slash, colon, less_sign, equals_sign, greater_sign, question_mark, open_bracket, backslash_sign, caret, open_brace, bar, tilde}
+use Rattle.tcl_words.specs.Classes.{is_digit, is_alphabetic}
+use Rattle.tcl_words.specs.Grammar.{begins_name_byte}
 use Rattle.tcl_expr.specs.declared.operators.ArithmeticOperator.TheVariants.{Multiply, Divide, Remainder, Add, Subtract, ShiftLeft, ShiftRight, BitAnd, BitXor, BitOr}
 use Rattle.tcl_expr.specs.declared.operators.Comparison.{Comparison}
 use Rattle.tcl_expr.specs.declared.operators.Comparison.TheVariants as comparison
@@ -17,20 +19,10 @@ use Rattle.tcl_expr.specs.declared.tokens.Link.TheVariants as link
 
 -- ── bytes ──
 
-abbrev pub is_digit : ℕ → Bool
-is_digit b = nat_le 48 b && nat_le b 57
-
-abbrev pub is_alphabetic : ℕ → Bool
-is_alphabetic b = (nat_le 97 b && nat_le b 122) || (nat_le 65 b && nat_le b 90)
-
--- a letter, a digit or `_`
-abbrev pub is_name_byte : ℕ → Bool
-is_name_byte b = is_alphabetic b || is_digit b || b == underscore
-
 -- what a byte can begin
 unfoldable pub mark_of : ℕ → Mark
 mark_of b =
-    if b == space || (nat_le 9 b && nat_le b 13) then mark.White
+    if b == space || (nat_le tab b && nat_le b carriage_return) then mark.White
     else if b == plus_sign then mark.Plus
     else if b == minus_sign then mark.Minus
     else if b == star then mark.Star
@@ -61,17 +53,9 @@ abbrev pub first_mark : List ℕ → Mark
 first_mark [] = mark.Other
 first_mark (b ∷ text) = mark_of b
 
-abbrev pub begins_newline : List ℕ → Bool
-begins_newline [] = false
-begins_newline (b ∷ text) = b == line_feed
-
 abbrev pub begins_letter : List ℕ → Bool
 begins_letter [] = false
 begins_letter (b ∷ text) = is_alphabetic b
-
-abbrev pub begins_name_byte : List ℕ → Bool
-begins_name_byte [] = false
-begins_name_byte (b ∷ text) = is_name_byte b
 
 -- ── operators ──
 

@@ -8,7 +8,7 @@ use Rattle.tcl_expr.specs.declared.operators.UnaryOperator.{UnaryOperator}
 use Rattle.tcl_expr.specs.declared.operators.BinaryOperator.{BinaryOperator}
 use Rattle.tcl_expr.specs.declared.value.Value.{Value}
 use Rattle.tcl_expr.specs.declared.value.Value.TheVariants.{Number, Words}
-use Rattle.tcl_expr.specs.Values.{truth_value, text_of, unary_value, binary_value}
+use Rattle.tcl_expr.specs.Values.{truth_value, text_of_value, unary_value, binary_value}
 use Rattle.tcl_expr.specs.Run.{Run, AsksVariable, AsksElement, AsksCommand, Ends, on_result, on_truth}
 use Rattle.tcl_text.specs.Limits.{most_bytes}
 
@@ -37,17 +37,17 @@ literal spelling (Some n) = Ok (Words spelling)
 literal spelling None = Err Overflow
 
 -- two texts, one after the other
-abbrev pub joined : Value → Value → Result Value EvalFault
-joined x y = if nat_le (length (text_of x ++ text_of y)) most_bytes then Ok (Words (text_of x ++ text_of y)) else Err TooLong
+abbrev pub joined_values : Value → Value → Result Value EvalFault
+joined_values x y = if nat_le (length (text_of_value x ++ text_of_value y)) most_bytes then Ok (Words (text_of_value x ++ text_of_value y)) else Err TooLong
 
 -- The value of a tree, and what it leads to. Operands come from the left to the right; `&&`, `||` and a choice take only those that they need.
 abbrev pub value : Tree → (Value → Run) → Run
 value (Integer spelling) go = on_result (literal spelling (integer_of spelling)) go
 value (Plain text) go = go (Words text)
 value (Variable name) go = AsksVariable name (λ text. go (Words text))
-value (Element array index) go = value index (λ v. AsksElement array (text_of v) (λ text. go (Words text)))
+value (Element array index) go = value index (λ v. AsksElement array (text_of_value v) (λ text. go (Words text)))
 value (Command script) go = AsksCommand script (λ text. go (Words text))
-value (Joined a b) go = value a (λ x. value b (λ y. on_result (joined x y) go))
+value (Joined a b) go = value a (λ x. value b (λ y. on_result (joined_values x y) go))
 value (Unary operator a) go = value a (λ x. on_result (unary_value operator x) go)
 value (Binary operator a b) go = value a (λ x. value b (λ y. on_result (binary_value operator x y) go))
 value (And a b) go = value a (λ x. on_truth x (λ truth. if truth then value b (λ y. on_truth y (λ other. go (truth_value other))) else go (truth_value false)))
@@ -57,7 +57,7 @@ value (Choice a b c) go = value a (λ x. on_truth x (λ truth. if truth then val
 -- a value that is an integer is given in decimal
 abbrev pub final_by : Value → Option ℤ → List ℕ
 final_by v (Some n) = signed_decimal n
-final_by v None = text_of v
+final_by v None = text_of_value v
 
 abbrev pub final_text : Value → List ℕ
 final_text (Number n) = signed_decimal n

@@ -43,9 +43,9 @@ abbrev pub truth_of : Value → Option Bool
 truth_of (Number n) = Some (is_nonzero n)
 truth_of (Words text) = boolean_of text
 
-abbrev pub text_of : Value → List ℕ
-text_of (Number n) = signed_decimal n
-text_of (Words text) = text
+abbrev pub text_of_value : Value → List ℕ
+text_of_value (Number n) = signed_decimal n
+text_of_value (Words text) = text
 
 abbrev pub truth_value : Bool → Value
 truth_value true = Number (pos 1)
@@ -55,7 +55,7 @@ truth_value false = Number (pos 0)
 
 abbrev pub truth_or_fault : Value → Option Bool → Result Bool EvalFault
 truth_or_fault value (Some truth) = Ok truth
-truth_or_fault value None = Err (NotBoolean (text_of value))
+truth_or_fault value None = Err (NotBoolean (text_of_value value))
 
 abbrev pub needed_truth : Value → Result Bool EvalFault
 needed_truth value = truth_or_fault value (truth_of value)
@@ -102,7 +102,7 @@ arithmetic BitOr a b = Ok (on_bits bit_or a b)
 -- as integers where both are, else as texts by their bytes
 abbrev pub order_by : Option ℤ → Option ℤ → Value → Value → Ordering
 order_by (Some a) (Some b) x y = int_cmp a b
-order_by _ _ x y = slice_cmp nat_cmp (text_of x) (text_of y)
+order_by _ _ x y = slice_cmp nat_cmp (text_of_value x) (text_of_value y)
 
 abbrev pub order : Value → Value → Ordering
 order x y = order_by (number_of x) (number_of y) x y
@@ -155,4 +155,4 @@ arithmetic_value operator x y =
 abbrev pub binary_value : BinaryOperator → Value → Value → Result Value EvalFault
 binary_value (binary.Arithmetic operator) x y = arithmetic_value operator x y
 binary_value (binary.Comparison operator) x y = Ok (truth_value (holds operator (order x y)))
-binary_value (binary.Text operator) x y = test operator (text_of x) (text_of y) >>= λ truth. Ok (truth_value truth)
+binary_value (binary.Text operator) x y = test operator (text_of_value x) (text_of_value y) >>= λ truth. Ok (truth_value truth)

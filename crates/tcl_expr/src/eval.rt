@@ -79,7 +79,7 @@ impl Eval {
     ghost use Rattle.std.specs.Prelude.{◌≡◌, ◌⊎◌, [], Option, is_some, Ok, IfOk};
     ghost use Rattle.tcl_expr.specs.declared.state.State.TheVariants.{Failed, Ready};
     ghost use Rattle.tcl_expr.specs.declared.fault.EvalFault.TheVariants.{NoMemory};
-    ghost use Rattle.tcl_expr.specs.Resuming.{Tells, evaluation_at, told, is_waiting, to_come, with_given};
+    ghost use Rattle.tcl_expr.specs.Resuming.{Tells, evaluation_at, evaluation_told, is_waiting, to_come, with_given};
     ghost use Rattle.tcl_expr.specs.Machine.{AsksBy};
     ghost use Rattle.tcl_expr.specs.Grammar.{IsTreeOf};
     ghost use Rattle.tcl_expr.specs.Reading.{compiled};
@@ -87,8 +87,8 @@ impl Eval {
 
     /// The evaluation of an expression, from its beginning. It takes no memory.
     pub fn new(alloc: Global, expr: Expr) -> Eval
-        ensures tree { (tree : Tree) × IsTreeOf expr tree × (told result None ≡ evaluation tree) }
-        ensures value { (tree : Tree) → IsTreeOf expr tree → told result None ≡ evaluation tree }
+        ensures tree { (tree : Tree) × IsTreeOf expr tree × (evaluation_told result None ≡ evaluation tree) }
+        ensures value { (tree : Tree) → IsTreeOf expr tree → evaluation_told result None ≡ evaluation tree }
         ensures ready { result.state ≡ Ready }
         ensures walk { result ≡ evaluation_at 0 (compiled expr) [] Ready }
     {
@@ -123,7 +123,7 @@ impl Eval {
     /// after `NoMemory` that.
     pub fn resume(&mut self, given: Option<Text>) -> Result<Ask, EvalFault>
         requires { is_some given ≡ is_waiting self.old.state }
-        ensures tells { Tells (told self.old given) result self.new }
+        ensures tells { Tells (evaluation_told self.old given) result self.new }
         ensures asks { IfOk result (λ ask. AsksBy self.old.steps ask self.new.steps) }
     {
         if let Some(answer) = repeated(&self.state) {

@@ -1,5 +1,6 @@
 //! Laws of the definitions, as contracts of functions that do nothing.
 ghost use Rattle.std.specs.Prelude.{◌≡◌, ◌≢◌, ◌↔◌, ℕ, ℤ, pos, List, ◌∷◌, ◌++◌, length, Ok, Err};
+ghost use Rattle.tcl_text.specs.Bytes.{close_brace};
 ghost use Rattle.tcl_words.specs.Grammar.{IsBraced, IsUnclosed};
 ghost use Rattle.tcl_expr.specs.Arithmetic.{floor_quotient, floor_remainder, IsFloorDivision};
 ghost use Rattle.tcl_expr.specs.Braces.{braced};
@@ -44,10 +45,10 @@ pub fn one_tree_or_fault()
 
 /// Braces in an expression give what they give in a script, and are at fault exactly where those have no match.
 pub fn braces_are_those_of_scripts()
-    ensures braced { (own value rest : List ℕ) → IsBraced own value → braced Plain 0 (own ++ 125 ∷ rest) ≡ Ok (value, length own) }
+    ensures braced { (own value rest : List ℕ) → IsBraced own value → braced Plain 0 (own ++ close_brace ∷ rest) ≡ Ok (value, length own) }
     ensures unclosed { (text : List ℕ) → IsUnclosed text → braced Plain 0 text ≡ Err missing_brace }
-    ensures only_braced { (text value : List ℕ) (n : ℕ) → braced Plain 0 text ≡ Ok (value, n) → (own : List ℕ) × (rest : List ℕ) × (text ≡ own ++ 125 ∷ rest)
-        × IsBraced own value × (n ≡ length own) }
+    ensures only_braced { (text value : List ℕ) (n : ℕ) → braced Plain 0 text ≡ Ok (value, n) → (own : List ℕ) × (rest : List ℕ)
+        × (text ≡ own ++ close_brace ∷ rest) × IsBraced own value × (n ≡ length own) }
     ensures only_unclosed { (text : List ℕ) (fault : Fault) → braced Plain 0 text ≡ Err fault → IsUnclosed text × (fault ≡ missing_brace) }
 {
     braces_are_cut();

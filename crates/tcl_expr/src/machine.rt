@@ -42,7 +42,7 @@ pub enum Advance {
 
 /// Two texts, one after the other.
 fn joined(alloc: Global, left: Value, right: Value) -> Result<Value, EvalFault>
-    ensures { IsEvaluatedAs result (trees.joined left right) }
+    ensures { IsEvaluatedAs result (trees.joined_values left right) }
 {
     let left = into_text(alloc, left)?;
     let right = into_text(alloc, right)?;

@@ -1,24 +1,12 @@
 //! What an application is told of a fault.
-ghost use Rattle.std.specs.Prelude.{◌≡◌, ◌++◌, codes, IfOk};
+ghost use Rattle.std.specs.Prelude.{◌≡◌};
 ghost use Rattle.tcl_expr.specs.Messages.{operator_name};
-ghost use Rattle.tcl_text.specs.Answers.{message};
 
 use crate::fault::{EvalFault, ExprFault};
 use crate::operators::{ArithmeticOperator, NumberOperator, UnaryOperator};
 use std::alloc::{AllocError, Global};
-use tcl_text::Text;
-use tcl_text::message::limit;
-
-/// A message about a subject, between what stands before it and a quote.
-#[tactic(auto, unfolding(tcl_text::specs::Answers::bounded))]
-fn message_about(alloc: Global, before: &str, subject: &str) -> Result<Text, AllocError>
-    ensures { IfOk result (λ text. text ≡ message (before.now ++ subject.now ++ codes "\"")) }
-{
-    let mut characters = String::from_str(alloc, before)?;
-    characters.push_str(subject)?;
-    characters.push_str("\"")?;
-    Text::of_message(alloc, characters.as_str())
-}
+use tcl_text::message::{about, limit, too_large_text};
+use tcl_text::{NotBoolean, Text};
 
 /// An operator on integers as it is written.
 fn operator_name(operator: NumberOperator) -> &'static str
@@ -53,7 +41,7 @@ impl ExprFault {
     {
         match self {
             ExprFault::Script(fault) => fault.told(alloc),
-            ExprFault::Syntax => message_about(alloc, "syntax error in expression \"", source),
+            ExprFault::Syntax => about(alloc, "syntax error in expression ", source),
         }
     }
 }
@@ -64,21 +52,18 @@ impl EvalFault {
 
     /// The fault as an application is told of it. A message past 65,536 bytes is that of the limit (4). Refused memory has no such
     /// text: it is empty.
-    #[tactic(auto, unfolding(tcl_text::specs::Answers::bounded))]
     pub fn text(&self, alloc: Global) -> Result<Text, AllocError>
         ensures { IfOk result (λ text. text ≡ eval_message self.now) }
     {
         match self {
-            EvalFault::NotBoolean(text) => {
-                message_about(alloc, "expected boolean value but got \"", text.as_str())
-            }
-            EvalFault::BadList(fault) => Text::of_message(alloc, fault.text()),
+            EvalFault::NotBoolean(text) => NotBoolean.text(alloc, text.as_str()),
+            EvalFault::BadList(fault) => fault.told(alloc),
             EvalFault::TooLong => limit(alloc),
             EvalFault::DivideByZero => Text::of_short(alloc, "divide by zero"),
-            EvalFault::Overflow => Text::of_short(alloc, "integer value too large to represent"),
-            EvalFault::NotNumber(operator) => message_about(
+            EvalFault::Overflow => too_large_text(alloc),
+            EvalFault::NotNumber(operator) => about(
                 alloc,
-                "can't use non-numeric string as operand of \"",
+                "can't use non-numeric string as operand of ",
                 operator_name(*operator),
             ),
             EvalFault::NoMemory => Text::of_short(alloc, ""),

@@ -50,7 +50,7 @@ pub fn level_of(operator: Infix) -> usize
 
 /// Whether it ends where what comes binds no tighter than this level.
 fn ends_at(level: usize, own: Open) -> bool
-    ensures { result ≡ parsing.ends_open level own }
+    ensures { result ≡ parsing.is_ended_at level own }
 {
     match own {
         Open::Before(_) => true,

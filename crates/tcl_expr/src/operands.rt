@@ -19,7 +19,7 @@ impl Model for Operands {
 
 impl Operands {
     ghost use Rattle.std.specs.Prelude.{◌≡◌, [], ◌∷◌, OnOk};
-    ghost use Rattle.tcl_expr.specs.Steps.{top_of, below};
+    ghost use Rattle.tcl_expr.specs.Steps.{top_of, without_top};
 
     /// No values. It takes no memory.
     pub fn new(alloc: Global) -> Operands
@@ -41,7 +41,7 @@ impl Operands {
     /// Takes the topmost value, or gives 0 where there is none.
     pub fn pop(&mut self) -> Value
         ensures top { result ≡ top_of self.old }
-        ensures below { self.new ≡ below self.old }
+        ensures below { self.new ≡ without_top self.old }
     {
         self.values.pop().unwrap_or(Value::Number(0))
     }

@@ -9,11 +9,8 @@ use crate::expr::Expr;
 use crate::fault::ExprFault;
 use crate::reader::read_all;
 use std::alloc::Global;
-use tcl_text::Text;
+use tcl_text::{MAX_BYTES, Text};
 use tcl_words::ParseFault;
-
-/// How many bytes an expression has at most, as any text.
-const MAX_BYTES: usize = 65_536;
 
 /// Reads the steps of an expression.
 fn read_expr(alloc: Global, source: &[u8]) -> Result<Expr, ExprFault>

@@ -2,6 +2,7 @@
 ghost use Rattle.std.specs.Prelude.{◌≡◌, ◌≤◌, ◌+◌, ◌-◌, ◌^◌, ◌<◌, length, drop, slice_index, IfOk, IfErr, OnOk, [], ◌∷◌, Ok};
 ghost use Rattle.std.specs.Str.{IsUtf8};
 ghost use Rattle.tcl_text.specs.Readings.{integer_of};
+ghost use Rattle.tcl_words.specs.Kinds.{name_bytes};
 ghost use Rattle.tcl_expr.specs.Faults.{no_memory};
 ghost use Rattle.tcl_expr.specs.Reading as reading;
 ghost use Rattle.tcl_expr.specs.Steps.{literal_step};
@@ -24,10 +25,7 @@ use crate::tokens::{
 };
 use std::alloc::{AllocError, Global};
 use tcl_text::Text;
-use tcl_words::{ParseFault, bracket_behind, quotes_behind, substitution_behind};
-
-/// How many parentheses, brackets and indices may stand open in one another.
-const MAX_DEPTH: usize = 200;
+use tcl_words::{MAX_DEPTH, ParseFault, bracket_behind, quotes_behind, substitution_behind};
 
 /// The text of some bytes, which are characters.
 fn text_of(alloc: Global, bytes: &[u8]) -> Result<Text, AllocError>
@@ -95,7 +93,7 @@ fn take_number(alloc: Global, parser: &mut Parser, text: &[u8]) -> Result<usize,
 /// A boolean word.
 fn take_word(alloc: Global, parser: &mut Parser, text: &[u8]) -> Result<usize, ExprFault>
     requires { length text.now ≤ most_bytes }
-    ensures { standing.Takes parser.old result parser.new (λ before. reading.at_word (counts.name_bytes text.now) before text.now) }
+    ensures { standing.Takes parser.old result parser.new (λ before. reading.at_word (name_bytes text.now) before text.now) }
 {
     let count = name_bytes(text);
     let word = text_of(alloc, &text[..count])?;
@@ -311,8 +309,8 @@ fn finish(parser: Parser) -> Result<Vec<Step>, ExprFault>
 /// The steps of a text's tree, in one pass over its bytes.
 pub fn read_all(alloc: Global, source: &str) -> Result<Vec<Step>, ExprFault>
     requires { length source.now ≤ most_bytes }
-    ensures steps { IfOk result (λ steps. reading.compiled_by (reading.reading 0 reading.AtOperand [] source.now) ≡ Ok steps.items) }
-    ensures fault { IfErr result (λ fault. standing.IsFaultOrMemory (reading.reading 0 reading.AtOperand [] source.now) fault) }
+    ensures steps { IfOk result (λ steps. reading.compiled_by (reading.tree_reading 0 reading.AtOperand [] source.now) ≡ Ok steps.items) }
+    ensures fault { IfErr result (λ fault. standing.IsFaultOrMemory (reading.tree_reading 0 reading.AtOperand [] source.now) fault) }
 {
     let mut parser = Parser {
         steps: Vec::new(alloc),

@@ -2,7 +2,7 @@
 //! on a stack, so that indices in one another are no recursion.
 ghost use Rattle.std.specs.Prelude.{[], ◌+◌, ◌<◌, OnOk};
 ghost use Rattle.tcl_expr.specs.Substitution.{piece_tree, text_tree, Writes};
-ghost use Rattle.tcl_expr.specs.Dues.{before, due_steps, dues_steps, piece_steps, text_steps, due_weight, dues_weight, piece_weight, text_weight, GoesOn};
+ghost use Rattle.tcl_expr.specs.Dues.{written_before, due_steps, dues_steps, piece_steps, text_steps, due_weight, dues_weight, piece_weight, text_weight, GoesOn};
 
 use crate::fault::ExprFault;
 use crate::step::Step;
@@ -34,7 +34,8 @@ fn begin_text<'a>(
     pieces: &'a [Piece],
     room: usize,
 ) -> Written
-    ensures goes { GoesOn steps.old.items (before (text_steps room pieces.now) (dues_steps dues.old.items)) result steps.new.items (dues_steps dues.new.items) }
+    ensures goes { GoesOn steps.old.items (written_before (text_steps room pieces.now) (dues_steps dues.old.items)) result steps.new.items
+        (dues_steps dues.new.items) }
     ensures less { OnOk result (dues_weight dues.new.items < text_weight room pieces.now + dues_weight dues.old.items) }
 {
     match pieces.split_first() {
@@ -55,7 +56,8 @@ fn write_piece<'a>(
     piece: &'a Piece,
     room: usize,
 ) -> Written
-    ensures goes { GoesOn steps.old.items (before (piece_steps room piece.now) (dues_steps dues.old.items)) result steps.new.items (dues_steps dues.new.items) }
+    ensures goes { GoesOn steps.old.items (written_before (piece_steps room piece.now) (dues_steps dues.old.items)) result steps.new.items
+        (dues_steps dues.new.items) }
     ensures less { OnOk result (dues_weight dues.new.items < piece_weight room piece.now + dues_weight dues.old.items) }
 {
     match piece {
@@ -80,7 +82,8 @@ fn write_due<'a>(
     dues: &mut Vec<Due<'a>>,
     due: Due<'a>,
 ) -> Written
-    ensures goes { GoesOn steps.old.items (before (due_steps due.entry) (dues_steps dues.old.items)) result steps.new.items (dues_steps dues.new.items) }
+    ensures goes { GoesOn steps.old.items (written_before (due_steps due.entry) (dues_steps dues.old.items)) result steps.new.items
+        (dues_steps dues.new.items) }
     ensures less { OnOk result (dues_weight dues.new.items < due_weight due.entry + dues_weight dues.old.items) }
 {
     match due {

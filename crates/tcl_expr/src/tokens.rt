@@ -1,5 +1,8 @@
 //! What stands in front of a text where an operand or an operator is due.
 ghost use Rattle.std.specs.Prelude.{◌≡◌, ◌≢◌, ◌≤◌, ◌<◌, ◌+◌, ◌^◌, length, IfOk, IfSome};
+ghost use Rattle.tcl_words.specs.Classes.{is_alphabetic, is_name_byte, begins_newline};
+ghost use Rattle.tcl_words.specs.Grammar.{begins_name_byte};
+ghost use Rattle.tcl_words.specs.Kinds.{name_bytes};
 ghost use Rattle.tcl_expr.specs.Counts as counts;
 ghost use Rattle.tcl_expr.specs.Tokens as tokens;
 
@@ -49,14 +52,14 @@ pub enum Link {
 
 /// Whether the byte is an ASCII letter.
 fn is_alphabetic(byte: u8) -> bool
-    ensures { result ≡ tokens.is_alphabetic byte }
+    ensures { result ≡ is_alphabetic byte }
 {
     byte.is_ascii_lowercase() || byte.is_ascii_uppercase()
 }
 
 /// Whether the byte is one of a variable's name: a letter, a digit or `_`.
 fn is_name_byte(byte: u8) -> bool
-    ensures { result ≡ tokens.is_name_byte byte }
+    ensures { result ≡ is_name_byte byte }
 {
     is_alphabetic(byte) || byte.is_ascii_digit() || byte == b'_'
 }
@@ -108,12 +111,9 @@ fn first_mark(text: &[u8]) -> Mark
 
 /// Whether a newline is the first byte.
 pub fn begins_newline(text: &[u8]) -> bool
-    ensures { result ≡ tokens.begins_newline text.now }
+    ensures { result ≡ begins_newline text.now }
 {
-    match text {
-        [] => false,
-        [byte, ..] => *byte == b'\n',
-    }
+    text.starts_with(b"\n")
 }
 
 fn begins_letter(text: &[u8]) -> bool
@@ -126,7 +126,7 @@ fn begins_letter(text: &[u8]) -> bool
 }
 
 fn begins_name_byte(text: &[u8]) -> bool
-    ensures { result ≡ tokens.begins_name_byte text.now }
+    ensures { result ≡ begins_name_byte text.now }
 {
     match text {
         [] => false,
@@ -136,7 +136,7 @@ fn begins_name_byte(text: &[u8]) -> bool
 
 /// How many bytes of a name stand in front.
 pub fn name_bytes(text: &[u8]) -> usize
-    ensures count { result ≡ counts.name_bytes text.now }
+    ensures count { result ≡ name_bytes text.now }
     ensures within { result ≤ length text.now }
 {
     for (count, byte) in text.iter().enumerate() {

@@ -44,7 +44,7 @@ pub fn truth_in(value: &Value) -> Option<bool>
 
 /// The text of a value.
 pub fn into_text(alloc: Global, value: Value) -> Result<Text, AllocError>
-    ensures { IfOk result (λ text. text ≡ values.text_of value) }
+    ensures { IfOk result (λ text. text ≡ values.text_of_value value) }
 {
     match value {
         Value::Number(number) => Text::from_integer(alloc, number),

@@ -4,7 +4,7 @@ use Rattle.tcl_vars.specs.Store.{Store, variable_in, element_in}
 use Rattle.tcl_text.specs.declared.fault.ReadFault.{ReadFault}
 use Rattle.tcl_expr.specs.declared.ask.Ask.{Ask}
 use Rattle.tcl_expr.specs.declared.ask.Ask.TheVariants as ask
-use Rattle.tcl_expr.specs.Resuming.{Resumption, Tells, told, is_waiting, state_after}
+use Rattle.tcl_expr.specs.Resuming.{Resumption, Tells, evaluation_told, is_waiting, state_after}
 use Rattle.tcl_expr.specs.Machine.{AsksBy}
 use Rattle.tcl_control.specs.declared.code.Code.TheVariants.{Normal, Error}
 use Rattle.tcl_control.specs.declared.context.Context.{Context}
@@ -57,7 +57,7 @@ module _ {K : Type 0} where
       Moves (standing (moved (Evaluates room evaluation given) waits) store context) (standing (reply_move room next waits replied) store context) × (is_waiting next.state ≡ waits_for replied)
 
   pub replies_by : (store : Store) (context : Context) (room : ℕ) (waits : List (Waiting K)) (evaluation : Resumption) (given : Option (List ℕ)) (next : Resumption) (level : ℕ) (asked : Ask) (replied : Reply)
-      → level ≡ here context.levels store → Tells (told evaluation given) (Ok asked) next → AsksBy evaluation.steps asked next.steps → replied ≡ reply_to level store asked
+      → level ≡ here context.levels store → Tells (evaluation_told evaluation given) (Ok asked) next → AsksBy evaluation.steps asked next.steps → replied ≡ reply_to level store asked
       → RepliesBy store context room waits evaluation given next replied
   replies_by store context room waits evaluation given next level asked replied at_level tells asks is =
       let same : reply_move room next waits replied ≡ asked_move (here context.levels store) store room next waits asked = ap (reply_move room next waits) is ∙ asked_moves level store room next waits asked ∙ ap (λ n. asked_move n store room next waits asked) at_level in

@@ -20,7 +20,7 @@ use Rattle.tcl_shapes.specs.declared.groups.Group.{Group}
 use Rattle.tcl_expr.specs.declared.fault.EvalFault.{EvalFault}
 use Rattle.tcl_expr.specs.Run.{Run as Evaluating, AsksVariable, AsksElement, AsksCommand, Ends}
 use Rattle.tcl_expr.specs.Trees.{Tree, evaluation}
-use Rattle.tcl_control.specs.Expressions.{expression_of, truth_of}
+use Rattle.tcl_control.specs.Expressions.{expression_of, truth_of_text}
 use Rattle.tcl_control.specs.declared.turns.Turning.{Turning}
 use Rattle.tcl_control.specs.Control.{Called, call_of}
 use Rattle.tcl_control.specs.Source.{script_of}
@@ -29,9 +29,9 @@ use Rattle.tcl_control.specs.Turns.{Tested, More, NoMore, Fails, items_tested}
 use Rattle.tcl_interp.specs.declared.tasks.Act.{Act}
 use Rattle.tcl_interp.specs.declared.tasks.Act.TheVariants.{Done, Step, Run, Unknown}
 use Rattle.tcl_interp.specs.Outside.{Outside, Falls, RunsBelow}
-use Rattle.tcl_interp.specs.Evaluation.{State, Outcome, Ended, OutOfSteps, level_of, and_then, on_normal, stepped, on_read, words_of, on_words, index_pieces, element_read, on_index, piece_meaning, pieces_meaning, index_depth, element_meaning, words_meaning, called, commands_meaning}
+use Rattle.tcl_interp.specs.Evaluation.{State, Outcome, Ended, OutOfSteps, seen_level, and_then, on_normal, stepped, on_read, words_of, on_words, index_pieces, element_read, on_index, piece_meaning, pieces_meaning, index_depth, element_meaning, words_meaning, called, commands_meaning}
 use Rattle.tcl_interp.specs.Plans.{cut, others, levels_back, procedure_ended, caught, on_tested, loop_ended, after_body, after_next, run_at, next_turn, test_meaning, turn_meaning, turns_meaning, loop_meaning, plan_meaning}
-use Rattle.tcl_interp.specs.Expressions.{value_ended, on_truth, on_value, if_holds, run_meaning, tree_meaning, expression_meaning, condition_meaning, otherwise_meaning, choices_meaning}
+use Rattle.tcl_interp.specs.Expressions.{value_ended, with_truth, on_value, if_holds, run_meaning, tree_meaning, expression_meaning, condition_meaning, otherwise_meaning, choices_meaning}
 use Rattle.tcl_interp.specs.Scripts.{out_of_global, on_act, resumed, after_step, task_meaning, act_meaning, outside_meaning, by_call, called_meaning, call_meaning, on_parsed, script_meaning}
 
 -- where something ends, at most so many steps are left
@@ -81,7 +81,7 @@ BoundedElement {S} element = (n : ℕ) (name index : List ℕ) (state : State S)
 module _ {S : Type 0} (run : List ℕ → State S → Outcome S) (element : List ℕ → List ℕ → State S → Outcome S) (run_falls : Bounded run) (element_falls : BoundedElement element) where
   pub within_piece : (n : ℕ) (piece : Piece) (state : State S) (f : State S → List ℕ → Outcome S) → state.steps ≤ n → ((state' : State S) (text : List ℕ) → state'.steps ≤ n → Within n (f state' text)) → Within n (piece_meaning run element piece state f)
   within_piece n (Literal text) state f w h = h state text w
-  within_piece n (Variable name) state f w h = within_on_read n name state f (variable_in state.store (level_of state) name) w (λ text. h state text w)
+  within_piece n (Variable name) state f w h = within_on_read n name state f (variable_in state.store (seen_level state) name) w (λ text. h state text w)
   within_piece n (Element name index) state f w h = within_and_then n (element name index state) (on_normal f) (element_falls n name index state w) (within_on_normal n f h)
   within_piece n (Bracket script) state f w h = within_and_then n (run script state) (on_normal f) (run_falls n script state w) (within_on_normal n f h)
 
@@ -96,7 +96,7 @@ within_element run run_falls zero n name index state w = w
 within_element run run_falls (suc depth) n name index state w =
     within_on_index n state (λ ps. pieces_meaning run (element_meaning run depth) ps [] state (element_read name)) (index_pieces index) w (λ ps.
     within_pieces run (element_meaning run depth) run_falls (within_element run run_falls depth) n ps [] state (element_read name) w
-    (λ state' text w'. within_on_read n (element_name name text) state' (λ state'' value. Ended state'' Normal value) (element_in state'.store (level_of state') name text) w' (λ value. w')))
+    (λ state' text w'. within_on_read n (element_name name text) state' (λ state'' value. Ended state'' Normal value) (element_in state'.store (seen_level state') name text) w' (λ value. w')))
 
 module _ {S : Type 0} (run : List ℕ → State S → Outcome S) (call : List (List ℕ) → State S → Outcome S) (run_falls : Bounded run) where
   pub within_words : (n : ℕ) (words : List Word) (whole : List (List ℕ)) (state : State S) (f : State S → List (List ℕ) → Outcome S) → state.steps ≤ n → ((state' : State S) (all : List (List ℕ)) → state'.steps ≤ n → Within n (f state' all)) → Within n (words_meaning run call words whole state f)
@@ -134,12 +134,12 @@ within_after_next n again h state Break text w = w
 within_after_next n again h state Error text w = w
 within_after_next n again h state (Return code) text w = w
 
-within_on_truth : {S : Type 0} (n : ℕ) (state : State S) (f : Bool → State S → Outcome S) (truth : Result Bool (List ℕ)) → state.steps ≤ n → ((holds : Bool) (state' : State S) → state'.steps ≤ n → Within n (f holds state')) → Within n (on_truth state f truth)
+within_on_truth : {S : Type 0} (n : ℕ) (state : State S) (f : Bool → State S → Outcome S) (truth : Result Bool (List ℕ)) → state.steps ≤ n → ((holds : Bool) (state' : State S) → state'.steps ≤ n → Within n (f holds state')) → Within n (with_truth state f truth)
 within_on_truth n state f (Ok holds) w h = h holds state w
 within_on_truth n state f (Err text) w h = w
 
 pub within_on_value : {S : Type 0} (n : ℕ) (f : Bool → State S → Outcome S) → ((holds : Bool) (state' : State S) → state'.steps ≤ n → Within n (f holds state')) → (state : State S) (code : Code) (text : List ℕ) → state.steps ≤ n → Within n (on_value f state code text)
-within_on_value n f h = within_on_normal n _ (λ state value w. within_on_truth n state f (truth_of value) w h)
+within_on_value n f h = within_on_normal n _ (λ state value w. within_on_truth n state f (truth_of_text value) w h)
 
 pub within_if : {S : Type 0} (n : ℕ) (first second : State S → Outcome S) → ((state : State S) → state.steps ≤ n → Within n (first state)) → ((state : State S) → state.steps ≤ n → Within n (second state)) → (holds : Bool) (state : State S) → state.steps ≤ n → Within n (if_holds first second holds state)
 within_if n first second y z true state w = y state w
@@ -151,9 +151,9 @@ within_value_ended n state (Err fault) w = w
 
 module _ {S : Type 0} (run : List ℕ → State S → Outcome S) (run_falls : Bounded run) where
   pub within_run : (n : ℕ) (r : Evaluating) (state : State S) → state.steps ≤ n → Within n (run_meaning run r state)
-  within_run n (AsksVariable name go) state w = within_on_read n name state (λ state' value. run_meaning run (go value) state') (variable_in state.store (level_of state) name) w (λ value. within_run n (go value) state w)
+  within_run n (AsksVariable name go) state w = within_on_read n name state (λ state' value. run_meaning run (go value) state') (variable_in state.store (seen_level state) name) w (λ value. within_run n (go value) state w)
   within_run n (AsksElement array index go) state w =
-      within_on_read n (element_name array index) state (λ state' value. run_meaning run (go value) state') (element_in state.store (level_of state) array index) w (λ value. within_run n (go value) state w)
+      within_on_read n (element_name array index) state (λ state' value. run_meaning run (go value) state') (element_in state.store (seen_level state) array index) w (λ value. within_run n (go value) state w)
   within_run n (AsksCommand script go) state w =
       within_and_then n (run script state) (on_normal (λ state' value. run_meaning run (go value) state')) (run_falls n script state w)
       (within_on_normal n (λ state' value. run_meaning run (go value) state') (λ state' value w'. within_run n (go value) state' w'))
@@ -189,7 +189,7 @@ module _ {S : Type 0} (run : List ℕ → State S → Outcome S) (run_falls : Bo
 
   within_test : (n : ℕ) (test : Test) (body : Test → State S → Outcome S) (state : State S) → state.steps ≤ n → ((after : Test) (state' : State S) → state'.steps ≤ n → Within n (body after state')) → Within n (test_meaning run test body state)
   within_test n (Holds condition) body state w h = within_condition n condition _ state w (within_if n (body (Holds condition)) loop_ended (h (Holds condition)) (λ state' w'. w'))
-  within_test n (Items groups) body state w h = within_on_tested n state _ (items_tested (level_of state) groups state.store) w (λ left state' w'. h (Items left) state' w')
+  within_test n (Items groups) body state w h = within_on_tested n state _ (items_tested (seen_level state) groups state.store) w (λ left state' w'. h (Items left) state' w')
 
   pub within_turn : (n : ℕ) (turning : Turning) (again : State S → Outcome S) → ((state : State S) → state.steps ≤ n → Within n (again state)) → (state : State S) → state.steps ≤ n → Within n (turn_meaning run turning again state)
   within_turn n turning again h state w =
@@ -248,12 +248,12 @@ after_next_same f g state Break text e = refl
 after_next_same f g state Error text e = refl
 after_next_same f g state (Return code) text e = refl
 
-on_truth_same : {S : Type 0} (state : State S) (f g : Bool → State S → Outcome S) (truth : Result Bool (List ℕ)) → ((holds : Bool) → f holds state ≡ g holds state) → on_truth state f truth ≡ on_truth state g truth
+on_truth_same : {S : Type 0} (state : State S) (f g : Bool → State S → Outcome S) (truth : Result Bool (List ℕ)) → ((holds : Bool) → f holds state ≡ g holds state) → with_truth state f truth ≡ with_truth state g truth
 on_truth_same state f g (Ok holds) h = h holds
 on_truth_same state f g (Err text) h = refl
 
 pub on_value_same : {S : Type 0} (f g : Bool → State S → Outcome S) (state : State S) (code : Code) (text : List ℕ) → ((holds : Bool) → f holds state ≡ g holds state) → on_value f state code text ≡ on_value g state code text
-on_value_same f g state Normal text h = on_truth_same state f g (truth_of text) h
+on_value_same f g state Normal text h = on_truth_same state f g (truth_of_text text) h
 on_value_same f g state Error text h = refl
 on_value_same f g state (Return code) text h = refl
 on_value_same f g state Break text h = refl
@@ -269,7 +269,7 @@ module _ {S : Type 0} (run : List ℕ → State S → Outcome S) (run_falls : Bo
       and_then_same state.steps (expression_meaning run condition state) (on_value (if_holds (f (Holds condition)) loop_ended)) (on_value (if_holds (g (Holds condition)) loop_ended)) (within_expression run run_falls state.steps condition state (omega arith))
       (λ state' code text le. on_value_same (if_holds (f (Holds condition)) loop_ended) (if_holds (g (Holds condition)) loop_ended) state' code text
       (λ holds. if_same (f (Holds condition)) (g (Holds condition)) loop_ended state' holds (h (Holds condition) state' le)))
-  test_same (Items groups) f g state h = on_tested_same state _ _ (items_tested (level_of state) groups state.store) (λ left state' le. h (Items left) state' le)
+  test_same (Items groups) f g state h = on_tested_same state _ _ (items_tested (seen_level state) groups state.store) (λ left state' le. h (Items left) state' le)
 
   pub next_same : (next : Option (List ℕ)) (f g : State S → Outcome S) (state : State S) → ((state' : State S) → state'.steps ≤ state.steps → f state' ≡ g state') → next_turn run next f state ≡ next_turn run next g state
   next_same None f g state h = h state (omega arith)

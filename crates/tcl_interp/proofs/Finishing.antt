@@ -9,13 +9,13 @@ use Rattle.tcl_control.specs.declared.code.Code.TheVariants.{Normal, Error, Retu
 use Rattle.tcl_control.specs.declared.turns.Turning.{Turning}
 use Rattle.tcl_control.specs.Texts.{element_name, limit_text}
 use Rattle.tcl_shapes.specs.declared.branches.Branch.{Branch}
-use Rattle.tcl_expr.specs.Resuming.{told}
+use Rattle.tcl_expr.specs.Resuming.{evaluation_told}
 use Rattle.tcl_interp.specs.Outside.{Outside}
-use Rattle.tcl_interp.specs.Evaluation.{State, Outcome, Ended, OutOfSteps, level_of, words_of, on_words, element_read, index_depth, element_meaning, with_joined, word_meaning, words_meaning, called}
+use Rattle.tcl_interp.specs.Evaluation.{State, Outcome, Ended, OutOfSteps, seen_level, words_of, on_words, element_read, index_depth, element_meaning, with_joined, word_meaning, words_meaning, called}
 use Rattle.tcl_interp.specs.Expressions.{if_holds, choices_meaning}
 use Rattle.tcl_interp.specs.Plans.{loop_ended, next_turn, turn_meaning, loop_meaning, turns_meaning}
-use Rattle.tcl_interp.specs.Scripts.{out_of_global, script_meaning, call_meaning, after_step}
-use Rattle.tcl_interp.specs.Finish.{Wording, Indexing, Doing, Begins, GoesOn, Indexes, Evaluates, Calls, Tests, Steps, Resumes, Ends, Waiting, ForCommand, ForPart, ForIndex, ForValue, ForTest, ForChoice, ForBody, ForNext, ForStart, ForCatch, ForLevels, ForProcedure, ForScript, ForAll, Rest, Idle, Running, Spent, Broken, at_global, script_rest, words_rest, word_done, word_rest, index_rest, loop_rest, choice_rest, turn_rest, task_rest, doing_meaning, waiting_meaning, waits_meaning, finish}
+use Rattle.tcl_interp.specs.Scripts.{out_of_global, at_global, script_meaning, call_meaning, after_step}
+use Rattle.tcl_interp.specs.Finish.{Wording, Indexing, Doing, Begins, GoesOn, Indexes, Evaluates, Calls, Tests, Steps, Resumes, Ends, Waiting, ForCommand, ForPart, ForIndex, ForValue, ForTest, ForChoice, ForBody, ForNext, ForStart, ForCatch, ForLevels, ForProcedure, ForScript, ForAll, RestToDo, Idle, Running, Spent, Broken, script_rest, words_rest, word_done, word_rest, index_rest, loop_rest, choice_rest, turn_rest, task_rest, doing_meaning, waiting_meaning, waits_meaning, finish}
 use Rattle.tcl_interp.proofs.Bounds.{Bounded, Within, within_after_body, within_after_next, within_after_step, within_and_then, within_call, within_choices, within_commands, within_called, within_cond, within_element, within_if, within_next, within_on_normal, within_on_read, within_on_value, within_on_words, within_otherwise, within_pieces, within_run, within_script, within_stepped, within_task, within_turn, within_turns, within_words}
 
 pub within_at_global : {S : Type 0} (n : ℕ) (state : State S) (code : Code) (text : List ℕ) → state.steps ≤ n → Within n (at_global state code text)
@@ -53,7 +53,7 @@ module _ {S K : Type 0} (outside : Outside S K) where
   within_index_rest : (n : ℕ) (x : Indexing) (so_far : List ℕ) (state : State S) → state.steps ≤ n → Within n (index_rest outside x so_far state)
   within_index_rest n x so_far state w =
       within_pieces (run_in x.room) (element_meaning (run_in x.room) x.depth) (falls_in x.room) (within_element (run_in x.room) (falls_in x.room) x.depth) n x.pieces so_far state (element_read x.name) w
-      (λ state' text w'. within_on_read n (element_name x.name text) state' (λ state'' value. Ended state'' Normal value) (element_in state'.store (level_of state') x.name text) w' (λ value. w'))
+      (λ state' text w'. within_on_read n (element_name x.name text) state' (λ state'' value. Ended state'' Normal value) (element_in state'.store (seen_level state') x.name text) w' (λ value. w'))
 
   within_loop_rest : (n room : ℕ) (turning : Turning) (state : State S) → state.steps ≤ n → Within n (loop_rest outside room turning state)
   within_loop_rest n room turning state w = within_turns (run_in room) (falls_in room) n turning state.steps state w
@@ -71,7 +71,7 @@ module _ {S K : Type 0} (outside : Outside S K) where
   within_doing n (Begins room text) state w = falls_in room n text state w
   within_doing n (GoesOn room commands result) state w = within_script_rest n room commands result state w
   within_doing n (Indexes x) state w = within_index_rest n x x.so_far state w
-  within_doing n (Evaluates room evaluation given) state w = within_run (run_in room) (falls_in room) n (told evaluation given) state w
+  within_doing n (Evaluates room evaluation given) state w = within_run (run_in room) (falls_in room) n (evaluation_told evaluation given) state w
   within_doing n (Calls room words) state w = within_stepped n state.steps state (call_meaning outside (run_in room) words) w (λ state' w'. call_falls room n words state' w')
   within_doing n (Tests room turning) state w = within_loop_rest n room turning state w
   within_doing n (Steps room task) state w =
@@ -94,7 +94,7 @@ module _ {S K : Type 0} (outside : Outside S K) where
       (within_index_rest n x (x.so_far ++ piece) state' w') w')
       state code text w
   within_waiting n (ForValue room evaluation) state code text w =
-      within_on_normal n _ (λ state' value w'. within_run (run_in room) (falls_in room) n (told evaluation (Some value)) state' w') state code text w
+      within_on_normal n _ (λ state' value w'. within_run (run_in room) (falls_in room) n (evaluation_told evaluation (Some value)) state' w') state code text w
   within_waiting n (ForTest room turning) state code text w =
       within_on_value n (if_holds (turn_rest outside room turning) loop_ended) (within_if n (turn_rest outside room turning) loop_ended (within_turn_rest n room turning) (λ state' w'. w')) state code text w
   within_waiting n (ForChoice room branches otherwise) state code text w =
@@ -115,7 +115,7 @@ module _ {S K : Type 0} (outside : Outside S K) where
   within_waits n (waiting ∷ waits) state code text w =
       within_and_then n (waiting_meaning outside waiting state code text) (waits_meaning outside waits) (within_waiting n waiting state code text w) (within_waits n waits)
 
-  pub within_finish : (n : ℕ) (rest : Rest K) (state : State S) → state.steps ≤ n → Within n (finish outside rest state)
+  pub within_finish : (n : ℕ) (rest : RestToDo K) (state : State S) → state.steps ≤ n → Within n (finish outside rest state)
   within_finish n Idle state w = tt
   within_finish n (Running doing waits) state w = within_and_then n (doing_meaning outside doing state) (waits_meaning outside waits) (within_doing n doing state w) (within_waits n waits)
   within_finish n Spent state w = tt

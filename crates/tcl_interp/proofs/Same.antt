@@ -12,8 +12,8 @@ use Rattle.tcl_control.specs.declared.code.Code.{Code}
 use Rattle.tcl_control.specs.declared.code.Code.TheVariants.{Normal, Error, Return, Break, Continue}
 use Rattle.tcl_control.specs.declared.context.Context.{Context}
 use Rattle.tcl_control.specs.declared.turns.Turning.{Turning}
-use Rattle.tcl_control.specs.Expressions.{tree_or_text, truth_of}
-use Rattle.tcl_control.specs.ExpressionForms.{begun, evaluation_begins}
+use Rattle.tcl_control.specs.Expressions.{tree_or_text, truth_of_text}
+use Rattle.tcl_control.specs.ExpressionForms.{evaluation_begun, evaluation_begins}
 use Rattle.tcl_shapes.specs.declared.branches.Branch.{Branch}
 use Rattle.tcl_expr.specs.declared.ask.Ask.{Ask}
 use Rattle.tcl_expr.specs.declared.ask.Ask.TheVariants as ask
@@ -27,13 +27,13 @@ use Rattle.tcl_control.proofs.ExpressionLemmas.{expression_walk}
 use Rattle.tcl_control.specs.Texts.{limit_text, element_name}
 use Rattle.tcl_expr.proofs.CompileLemmas.{execute_whole}
 use Rattle.tcl_interp.specs.Outside.{Outside}
-use Rattle.tcl_interp.specs.Evaluation.{State, Outcome, Ended, OutOfSteps, level_of, and_then, on_normal, with_step, on_read, with_joined, words_of, on_words, index_pieces, element_read, on_index, pieces_meaning, index_depth, element_meaning}
-use Rattle.tcl_interp.specs.Expressions.{on_truth, on_value, if_holds, run_meaning, tree_meaning, expression_meaning, otherwise_meaning, choices_meaning}
+use Rattle.tcl_interp.specs.Evaluation.{State, Outcome, Ended, OutOfSteps, seen_level, and_then, on_normal, with_step, on_read, with_joined, words_of, on_words, index_pieces, element_read, on_index, pieces_meaning, index_depth, element_meaning}
+use Rattle.tcl_interp.specs.Expressions.{with_truth, on_value, if_holds, run_meaning, tree_meaning, expression_meaning, otherwise_meaning, choices_meaning}
 use Rattle.tcl_interp.specs.Plans.{loop_ended, after_body, after_next, next_turn}
-use Rattle.tcl_interp.specs.Scripts.{out_of_global, call_meaning, on_parsed, script_meaning}
-use Rattle.tcl_interp.specs.Finish.{Wording, Indexing, Doing, Begins, GoesOn, Indexes, Evaluates, Calls, Tests, Steps, Resumes, Ends, Waiting, ForCommand, ForPart, ForIndex, ForValue, ForTest, ForChoice, ForBody, ForNext, ForStart, ForCatch, ForLevels, ForProcedure, ForScript, ForAll, Running, at_global, script_rest, words_rest, word_done, index_rest, value_rest, choice_rest, turn_rest, loop_rest, waiting_meaning, waits_meaning, finish}
+use Rattle.tcl_interp.specs.Scripts.{out_of_global, at_global, call_meaning, on_parsed, script_meaning}
+use Rattle.tcl_interp.specs.Finish.{Wording, Indexing, Doing, Begins, GoesOn, Indexes, Evaluates, Calls, Tests, Steps, Resumes, Ends, Waiting, ForCommand, ForPart, ForIndex, ForValue, ForTest, ForChoice, ForBody, ForNext, ForStart, ForCatch, ForLevels, ForProcedure, ForScript, ForAll, Running, script_rest, words_rest, word_done, index_rest, value_rest, choice_rest, turn_rest, loop_rest, waiting_meaning, waits_meaning, finish}
 use Rattle.tcl_interp.specs.Quiet.{told_run, EvaluationMoves, MovesBy, LeadsBy, Leads}
-use Rattle.tcl_interp.specs.Moves.{Moved, Standing, Part, Script, ElementOf, value_text, WordEnd, Whole, Failed, AtPart, join_end, piece_end, word_end, with_more, moved, standing, more_move, index_begins, element_begins, part_begins, word_move, words_move, element_end, index_move, indexes_move, parsed_move, begin_move, go_on_move, after_command, after_part, longer_index, after_index, begun_as, expression_begins, value_given, asked_move, answer_move, otherwise_move, choice_move, after_value_move, turn_move, after_test_move, chosen_move, after_choice_move, next_move, after_body_move, after_next_move, after_start_move, global_end, end_move}
+use Rattle.tcl_interp.specs.Moves.{Moved, Standing, Part, Script, ElementOf, variable_value, WordEnd, Whole, Failed, AtPart, join_end, piece_end, word_end, with_more_words, moved, standing, more_move, index_begins, element_begins, part_begins, word_move, words_move, element_end, index_move, indexes_move, parsed_move, begin_move, go_on_move, after_command, after_part, longer_index, after_index, begun_as, expression_begins, value_given, asked_move, answer_move, otherwise_move, choice_move, after_value_move, turn_move, after_test_move, chosen_move, after_choice_move, next_move, after_body_move, after_next_move, after_start_move, global_end, end_move}
 
 pub and_then_assoc : {S : Type 0} (o : Outcome S) (f g : State S → Code → List ℕ → Outcome S) → and_then (and_then o f) g ≡ and_then o (λ state code text. and_then (f state code text) g)
 and_then_assoc (Ended state code text) f g = refl
@@ -61,20 +61,20 @@ module _ {S : Type 0} (run : List ℕ → State S → Outcome S) (element : List
   joined_cases true state o e h = h
   joined_cases false state o e h = refl
 
-  read_cases : (state : State S) (name : List ℕ) (value : Result (List ℕ) ReadFault) (pieces : List Piece) (so_far : List ℕ) (go : List ℕ → WordEnd) (after : State S → List ℕ → Outcome S) → ((text : List ℕ) → after state text ≡ end_meaning state (join_end so_far text go)) → on_read name state after value ≡ end_meaning state (piece_end (value_text name value) pieces so_far go)
+  read_cases : (state : State S) (name : List ℕ) (value : Result (List ℕ) ReadFault) (pieces : List Piece) (so_far : List ℕ) (go : List ℕ → WordEnd) (after : State S → List ℕ → Outcome S) → ((text : List ℕ) → after state text ≡ end_meaning state (join_end so_far text go)) → on_read name state after value ≡ end_meaning state (piece_end (variable_value name value) pieces so_far go)
   read_cases state name (Ok value) pieces so_far go after h = h value
   read_cases state name (Err fault) pieces so_far go after h = refl
 
   -- the pieces of a word mean what the word's end says
-  pub pieces_end : (pieces : List Piece) (so_far : List ℕ) (state : State S) → pieces_meaning run element pieces so_far state f ≡ end_meaning state (word_end (level_of state) state.store pieces so_far)
+  pub pieces_end : (pieces : List Piece) (so_far : List ℕ) (state : State S) → pieces_meaning run element pieces so_far state f ≡ end_meaning state (word_end (seen_level state) state.store pieces so_far)
   pieces_end [] so_far state = refl
   pieces_end (Literal text ∷ pieces) so_far state = joined_cases (nat_le (length (so_far ++ text)) 65536) state _ _ (pieces_end pieces (so_far ++ text) state)
   pieces_end (Variable name ∷ pieces) so_far state =
-      read_cases state name (variable_in state.store (level_of state) name) pieces so_far (word_end (level_of state) state.store pieces) (λ state' text. with_joined so_far text state' (λ state'' joined. pieces_meaning run element pieces joined state'' f)) (λ text. joined_cases (nat_le (length (so_far ++ text)) 65536) state _ _ (pieces_end pieces (so_far ++ text) state))
+      read_cases state name (variable_in state.store (seen_level state) name) pieces so_far (word_end (seen_level state) state.store pieces) (λ state' text. with_joined so_far text state' (λ state'' joined. pieces_meaning run element pieces joined state'' f)) (λ text. joined_cases (nat_le (length (so_far ++ text)) 65536) state _ _ (pieces_end pieces (so_far ++ text) state))
   pieces_end (Element name index ∷ pieces) so_far state = refl
   pieces_end (Bracket script ∷ pieces) so_far state = refl
 
-  pub joined_end : (pieces : List Piece) (so_far text : List ℕ) (state : State S) → with_joined so_far text state (λ state' joined. pieces_meaning run element pieces joined state' f) ≡ end_meaning state (join_end so_far text (word_end (level_of state) state.store pieces))
+  pub joined_end : (pieces : List Piece) (so_far text : List ℕ) (state : State S) → with_joined so_far text state (λ state' joined. pieces_meaning run element pieces joined state' f) ≡ end_meaning state (join_end so_far text (word_end (seen_level state) state.store pieces))
   joined_end pieces so_far text state = joined_cases (nat_le (length (so_far ++ text)) 65536) state _ _ (pieces_end pieces (so_far ++ text) state)
 
 pub begin_some : {K : Type 0} (room : ℕ) (text : List ℕ) (waits : List (Waiting K)) → begin_move (suc room) text waits ≡ parsed_move room waits (script_of text)
@@ -133,17 +133,17 @@ module _ {S K : Type 0} (outside : Outside S K) where
 
   index_same : (x : Indexing) (waits : List (Waiting K)) (state : State S) (end : WordEnd)
       → and_then (end_meaning (run_in x.room) (elements_in x.room x.depth) (element_read x.name) state end) (waits_meaning outside waits)
-      ≡ finish_moved (index_move (level_of state) state.store x waits end) state
-  index_same x waits state (Whole index) = element_same (element_name x.name index) waits state (element_in state.store (level_of state) x.name index)
+      ≡ finish_moved (index_move (seen_level state) state.store x waits end) state
+  index_same x waits state (Whole index) = element_same (element_name x.name index) waits state (element_in state.store (seen_level state) x.name index)
   index_same x waits state (Failed text) = refl
   index_same x waits state (AtPart part pieces so_far) =
       and_then_assoc (part_meaning (run_in x.room) (elements_in x.room x.depth) part state) (on_normal (λ state' text. with_joined so_far text state' (λ state'' joined. pieces_meaning (run_in x.room) (elements_in x.room x.depth) pieces joined state'' (element_read x.name)))) (waits_meaning outside waits)
       ∙ part_same x.room x.depth part (ForIndex (record x { so_far = so_far; pieces = pieces }) ∷ waits) state
 
-  indexes_same : (x : Indexing) (waits : List (Waiting K)) (state : State S) → and_then (index_rest outside x x.so_far state) (waits_meaning outside waits) ≡ finish_moved (indexes_move (level_of state) state.store x waits) state
+  indexes_same : (x : Indexing) (waits : List (Waiting K)) (state : State S) → and_then (index_rest outside x x.so_far state) (waits_meaning outside waits) ≡ finish_moved (indexes_move (seen_level state) state.store x waits) state
   indexes_same x waits state =
       ap (λ o. and_then o (waits_meaning outside waits)) (pieces_end (run_in x.room) (elements_in x.room x.depth) (element_read x.name) x.pieces x.so_far state)
-      ∙ index_same x waits state (word_end (level_of state) state.store x.pieces x.so_far)
+      ∙ index_same x waits state (word_end (seen_level state) state.store x.pieces x.so_far)
 
   longer_same : (x : Indexing) (so_far : List ℕ) (b : Bool) (waits : List (Waiting K)) (state : State S)
       → and_then (cond b (index_rest outside x so_far state) (Ended state Error limit_text)) (waits_meaning outside waits) ≡ finish_moved (moved (cond b (Indexes (record x { so_far = so_far })) (Ends Error limit_text)) waits) state
@@ -172,7 +172,7 @@ module _ {S K : Type 0} (outside : Outside S K) where
       → ((more : List (List ℕ)) → and_then (and_then (words_rest outside room words more state) (next_in room after)) (waits_meaning outside waits) ≡ finish_moved (go more) state)
       → (more : Result (List (List ℕ)) (List ℕ))
       → and_then (and_then (on_words state (λ state' more. words_rest outside room words (whole ++ more) state') more) (next_in room after)) (waits_meaning outside waits)
-      ≡ finish_moved (more_move waits go (with_more whole more)) state
+      ≡ finish_moved (more_move waits go (with_more_words whole more)) state
   more_same room after words whole waits state go h (Ok more) = h (whole ++ more)
   more_same room after words whole waits state go h (Err text) = refl
 
@@ -194,17 +194,17 @@ module _ {S K : Type 0} (outside : Outside S K) where
       ∙ part_same room index_depth part (ForPart (record { room = room; after = after; whole = whole; so_far = so_far; expand = expand; pieces = pieces; words = words }) ∷ waits) state
 
   pub words_same : (room : ℕ) (after : List Command) (words : List Word) (whole : List (List ℕ)) (waits : List (Waiting K)) (state : State S)
-      → and_then (and_then (words_rest outside room words whole state) (next_in room after)) (waits_meaning outside waits) ≡ finish_moved (words_move (level_of state) state.store room after words whole waits) state
+      → and_then (and_then (words_rest outside room words whole state) (next_in room after)) (waits_meaning outside waits) ≡ finish_moved (words_move (seen_level state) state.store room after words whole waits) state
   words_same room after [] [] waits state = refl
   words_same room after [] (name ∷ arguments) waits state = and_then_assoc (with_step state (call_in room (name ∷ arguments))) (next_in room after) (waits_meaning outside waits)
   words_same room after (word ∷ words) whole waits state =
       ap (λ o. and_then (and_then o (next_in room after)) (waits_meaning outside waits)) (pieces_end (run_in room) (elements_in room index_depth) (word_done outside room word.expand words whole) word.pieces [] state)
-      ∙ word_same room after word.expand words whole waits state (λ more. words_move (level_of state) state.store room after words more waits) (λ more. words_same room after words more waits state) (word_end (level_of state) state.store word.pieces [])
+      ∙ word_same room after word.expand words whole waits state (λ more. words_move (seen_level state) state.store room after words more waits) (λ more. words_same room after words more waits state) (word_end (seen_level state) state.store word.pieces [])
 
   -- ── expressions ──
 
   begun_same : (room : ℕ) (text : List ℕ) (waits : List (Waiting K)) (state : State S) (tree : Result Tree ExprFault)
-      → and_then (tree_meaning (run_in room) state (tree_or_text text tree)) (waits_meaning outside waits) ≡ finish_moved (moved (begun_as room (begun text (compiled_by tree))) waits) state
+      → and_then (tree_meaning (run_in room) state (tree_or_text text tree)) (waits_meaning outside waits) ≡ finish_moved (moved (begun_as room (evaluation_begun text (compiled_by tree))) waits) state
   begun_same room text waits state (Ok tree) = ap (λ r. and_then (run_meaning (run_in room) r state) (waits_meaning outside waits)) (sym (execute_whole tree))
   begun_same room text waits state (Err fault) = refl
 
@@ -219,14 +219,14 @@ module _ {S K : Type 0} (outside : Outside S K) where
   given_same room next name waits state (Err fault) = refl
 
   answer_same : (room : ℕ) (next : Resumption) (waits : List (Waiting K)) (state : State S) (answer : Result Ask EvalFault)
-      → and_then (run_meaning (run_in room) (told_run answer next) state) (waits_meaning outside waits) ≡ finish_moved (answer_move (level_of state) state.store room next waits answer) state
-  answer_same room next waits state (Ok (ask.Variable name)) = given_same room next name waits state (variable_in state.store (level_of state) name)
-  answer_same room next waits state (Ok (ask.Element array index)) = given_same room next (element_name array index) waits state (element_in state.store (level_of state) array index)
+      → and_then (run_meaning (run_in room) (told_run answer next) state) (waits_meaning outside waits) ≡ finish_moved (answer_move (seen_level state) state.store room next waits answer) state
+  answer_same room next waits state (Ok (ask.Variable name)) = given_same room next name waits state (variable_in state.store (seen_level state) name)
+  answer_same room next waits state (Ok (ask.Element array index)) = given_same room next (element_name array index) waits state (element_in state.store (seen_level state) array index)
   answer_same room next waits state (Ok (ask.Command script)) = and_then_assoc (run_in room script state) (on_normal (λ state' value. run_meaning (run_in room) (answered next value) state')) (waits_meaning outside waits)
   answer_same room next waits state (Ok (ask.Value text)) = refl
   answer_same room next waits state (Err fault) = refl
 
-  evaluation_same : (room : ℕ) (evaluation : Resumption) (given : Option (List ℕ)) (waits : List (Waiting K)) (state : State S) (after : Moved K) → EvaluationMoves (level_of state) state.store room evaluation given waits after
+  evaluation_same : (room : ℕ) (evaluation : Resumption) (given : Option (List ℕ)) (waits : List (Waiting K)) (state : State S) (after : Moved K) → EvaluationMoves (seen_level state) state.store room evaluation given waits after
       → and_then (value_rest outside room evaluation given state) (waits_meaning outside waits) ≡ finish_moved after state
   evaluation_same room evaluation given waits state after (answer, next, told_so, by, e) =
       ap (λ r. and_then (run_meaning (run_in room) r state) (waits_meaning outside waits)) told_so ∙ answer_same room next waits state answer ∙ ap (λ m. finish_moved m state) (sym e)
@@ -252,7 +252,7 @@ module _ {S K : Type 0} (outside : Outside S K) where
   begin_same zero text waits state = refl
   begin_same (suc room) text waits state = parsed_same room waits state (script_of text) ∙ ap (λ m. finish_moved m state) (sym (begin_some room text waits))
 
-  pub go_on_same : (room : ℕ) (commands : List Command) (result : List ℕ) (waits : List (Waiting K)) (state : State S) → and_then (script_rest outside room commands result state) (waits_meaning outside waits) ≡ finish_moved (go_on_move (level_of state) state.store room commands result waits) state
+  pub go_on_same : (room : ℕ) (commands : List Command) (result : List ℕ) (waits : List (Waiting K)) (state : State S) → and_then (script_rest outside room commands result state) (waits_meaning outside waits) ≡ finish_moved (go_on_move (seen_level state) state.store room commands result waits) state
   go_on_same room [] result waits state = refl
   go_on_same room (command ∷ after) result waits state = words_same room after command.words [] waits state
 
@@ -265,10 +265,10 @@ module _ {S K : Type 0} (outside : Outside S K) where
   command_end_same room after waits state Break text = refl
   command_end_same room after waits state Continue text = refl
 
-  part_end_same : (w : Wording) (waits : List (Waiting K)) (state : State S) (code : Code) (text : List ℕ) → and_then (waiting_meaning outside (ForPart w) state code text) (waits_meaning outside waits) ≡ finish_moved (after_part (level_of state) state.store w waits code text) state
+  part_end_same : (w : Wording) (waits : List (Waiting K)) (state : State S) (code : Code) (text : List ℕ) → and_then (waiting_meaning outside (ForPart w) state code text) (waits_meaning outside waits) ≡ finish_moved (after_part (seen_level state) state.store w waits code text) state
   part_end_same w waits state Normal text =
       ap (λ o. and_then (and_then o (next_in w.room w.after)) (waits_meaning outside waits)) (joined_end (run_in w.room) (elements_in w.room index_depth) (word_done outside w.room w.expand w.words w.whole) w.pieces w.so_far text state)
-      ∙ word_same w.room w.after w.expand w.words w.whole waits state (λ more. words_move (level_of state) state.store w.room w.after w.words more waits) (λ more. words_same w.room w.after w.words more waits state) (join_end w.so_far text (word_end (level_of state) state.store w.pieces))
+      ∙ word_same w.room w.after w.expand w.words w.whole waits state (λ more. words_move (seen_level state) state.store w.room w.after w.words more waits) (λ more. words_same w.room w.after w.words more waits state) (join_end w.so_far text (word_end (seen_level state) state.store w.pieces))
   part_end_same w waits state Error text = refl
   part_end_same w waits state (Return code) text = refl
   part_end_same w waits state Break text = refl
@@ -281,19 +281,19 @@ module _ {S K : Type 0} (outside : Outside S K) where
   value_end_same room evaluation waits state Break text = refl
   value_end_same room evaluation waits state Continue text = refl
 
-  turn_same_by : (room : ℕ) (turning : Turning) (waits : List (Waiting K)) (state : State S) (truth : Result Bool (List ℕ)) → and_then (on_truth state (if_holds (turn_rest outside room turning) loop_ended) truth) (waits_meaning outside waits) ≡ finish_moved (turn_move room turning waits truth) state
+  turn_same_by : (room : ℕ) (turning : Turning) (waits : List (Waiting K)) (state : State S) (truth : Result Bool (List ℕ)) → and_then (with_truth state (if_holds (turn_rest outside room turning) loop_ended) truth) (waits_meaning outside waits) ≡ finish_moved (turn_move room turning waits truth) state
   turn_same_by room turning waits state (Ok true) = and_then_assoc (run_in room turning.body state) (after_body (next_turn (run_in room) turning.next (loop_rest outside room turning))) (waits_meaning outside waits)
   turn_same_by room turning waits state (Ok false) = refl
   turn_same_by room turning waits state (Err text) = refl
 
   test_end_same : (room : ℕ) (turning : Turning) (waits : List (Waiting K)) (state : State S) (code : Code) (text : List ℕ) → and_then (waiting_meaning outside (ForTest room turning) state code text) (waits_meaning outside waits) ≡ finish_moved (after_test_move room turning waits code text) state
-  test_end_same room turning waits state Normal text = turn_same_by room turning waits state (truth_of text)
+  test_end_same room turning waits state Normal text = turn_same_by room turning waits state (truth_of_text text)
   test_end_same room turning waits state Error text = refl
   test_end_same room turning waits state (Return code) text = refl
   test_end_same room turning waits state Break text = refl
   test_end_same room turning waits state Continue text = refl
 
-  chosen_same : (room : ℕ) (branches : List Branch) (otherwise : Option (List ℕ)) (waits : List (Waiting K)) (state : State S) (truth : Result Bool (List ℕ)) → and_then (on_truth state (choice_rest outside room branches otherwise) truth) (waits_meaning outside waits) ≡ finish_moved (chosen_move room branches otherwise waits truth) state
+  chosen_same : (room : ℕ) (branches : List Branch) (otherwise : Option (List ℕ)) (waits : List (Waiting K)) (state : State S) (truth : Result Bool (List ℕ)) → and_then (with_truth state (choice_rest outside room branches otherwise) truth) (waits_meaning outside waits) ≡ finish_moved (chosen_move room branches otherwise waits truth) state
   chosen_same room [] otherwise waits state (Ok holds) = otherwise_same room otherwise waits state
   chosen_same room [] otherwise waits state (Err text) = refl
   chosen_same room (branch ∷ branches) otherwise waits state (Ok true) = refl
@@ -301,7 +301,7 @@ module _ {S K : Type 0} (outside : Outside S K) where
   chosen_same room (branch ∷ branches) otherwise waits state (Err text) = refl
 
   choice_end_same : (room : ℕ) (branches : List Branch) (otherwise : Option (List ℕ)) (waits : List (Waiting K)) (state : State S) (code : Code) (text : List ℕ) → and_then (waiting_meaning outside (ForChoice room branches otherwise) state code text) (waits_meaning outside waits) ≡ finish_moved (after_choice_move room branches otherwise waits code text) state
-  choice_end_same room branches otherwise waits state Normal text = chosen_same room branches otherwise waits state (truth_of text)
+  choice_end_same room branches otherwise waits state Normal text = chosen_same room branches otherwise waits state (truth_of_text text)
   choice_end_same room branches otherwise waits state Error text = refl
   choice_end_same room branches otherwise waits state (Return code) text = refl
   choice_end_same room branches otherwise waits state Break text = refl

@@ -11,7 +11,7 @@ use Rattle.tcl_control.specs.declared.code.Code.{Code}
 use Rattle.tcl_control.specs.declared.code.Code.TheVariants.{Normal, Error, Return, Break, Continue}
 use Rattle.tcl_control.specs.declared.context.Context.{Context}
 use Rattle.tcl_control.specs.declared.turns.Turning.{Turning}
-use Rattle.tcl_control.specs.Expressions.{truth_of}
+use Rattle.tcl_control.specs.Expressions.{truth_of_text}
 use Rattle.tcl_control.specs.ExpressionForms.{evaluation_begins}
 use Rattle.tcl_shapes.specs.declared.branches.Branch.{Branch}
 use Rattle.tcl_expr.specs.declared.ask.Ask.{Ask}
@@ -28,7 +28,7 @@ use Rattle.tcl_control.specs.Texts.{limit_text, element_name}
 use Rattle.tcl_interp.specs.Evaluation.{index_pieces, index_depth, words_of}
 use Rattle.tcl_interp.specs.Scripts.{out_of_global}
 use Rattle.tcl_interp.specs.Finish.{Wording, Indexing, Doing, Begins, GoesOn, Indexes, Evaluates, Calls, Tests, Steps, Resumes, Ends, Waiting, ForCommand, ForPart, ForIndex, ForValue, ForTest, ForChoice, ForBody, ForNext, ForStart, ForCatch, ForLevels, ForProcedure, ForScript, ForAll}
-use Rattle.tcl_interp.specs.Moves.{Moved, Standing, Part, Script, ElementOf, value_text, WordEnd, Whole, Failed, AtPart, join_end, piece_end, word_end, with_more, moved, standing, more_move, index_begins, element_begins, part_begins, word_move, words_move, element_end, index_move, indexes_move, parsed_move, begin_move, go_on_move, after_command, part_move, after_part, longer_index, after_index, begun_as, expression_begins, value_given, asked_move, answer_move, otherwise_move, choice_move, after_value_move, turn_move, after_test_move, chosen_move, after_choice_move, next_move, after_body_move, after_next_move, after_start_move, global_end, end_move}
+use Rattle.tcl_interp.specs.Moves.{Moved, Standing, Part, Script, ElementOf, variable_value, WordEnd, Whole, Failed, AtPart, join_end, piece_end, word_end, with_more_words, moved, standing, more_move, index_begins, element_begins, part_begins, word_move, words_move, element_end, index_move, indexes_move, parsed_move, begin_move, go_on_move, after_command, part_move, after_part, longer_index, after_index, begun_as, expression_begins, value_given, asked_move, answer_move, otherwise_move, choice_move, after_value_move, turn_move, after_test_move, chosen_move, after_choice_move, next_move, after_body_move, after_next_move, after_start_move, global_end, end_move}
 use Rattle.tcl_interp.specs.Quiet.{quiet_by, EvaluationMoves, MovesBy, Moves, LeadsBy, Leads, IsQuietBy, IsQuiet}
 use Rattle.tcl_interp.proofs.Same.{begin_some, element_begins_some}
 
@@ -65,7 +65,7 @@ module _ (script_weight : List ℕ → ℕ) (element_weight : List ℕ → ℕ) 
   join_weighs bound true end w = w
   join_weighs bound false end w = tt
 
-  read_weighs : (bound : ℕ) (name : List ℕ) (value : Result (List ℕ) ReadFault) (pieces : List Piece) (so_far : List ℕ) (go : List ℕ → WordEnd) → ((text : List ℕ) → EndWeighs bound (go text)) → EndWeighs bound (piece_end (value_text name value) pieces so_far go)
+  read_weighs : (bound : ℕ) (name : List ℕ) (value : Result (List ℕ) ReadFault) (pieces : List Piece) (so_far : List ℕ) (go : List ℕ → WordEnd) → ((text : List ℕ) → EndWeighs bound (go text)) → EndWeighs bound (piece_end (variable_value name value) pieces so_far go)
   read_weighs bound name (Ok value) pieces so_far go h = join_weighs bound (nat_le (length (so_far ++ value)) 65536) (go (so_far ++ value)) (h (so_far ++ value))
   read_weighs bound name (Err fault) pieces so_far go h = tt
 
@@ -181,7 +181,7 @@ module _ {K : Type 0} where
   weight m = doing_weight m.doing + waits_weight m.waits
 
   more_light : (waits : List (Waiting K)) (whole : List (List ℕ)) (go : List (List ℕ) → Moved K) (bound : ℕ) (more : Result (List (List ℕ)) (List ℕ))
-      → ((all : List (List ℕ)) → weight (go all) ≤ 2 + (bound + waits_weight waits)) → weight (more_move waits go (with_more whole more)) ≤ 2 + (bound + waits_weight waits)
+      → ((all : List (List ℕ)) → weight (go all) ≤ 2 + (bound + waits_weight waits)) → weight (more_move waits go (with_more_words whole more)) ≤ 2 + (bound + waits_weight waits)
   more_light waits whole go bound (Ok more) h = h (whole ++ more)
   more_light waits whole go bound (Err text) h = omega arith
 
@@ -200,7 +200,7 @@ module _ {K : Type 0} where
       → EndWeighs (script_weight room) (element_weight (script_weight room) index_depth) bound end
       → weight (word_move room after expand words whole waits go end) ≤ 2 + (bound + (words_weight (script_weight room) words + (commands_weight (script_weight room) after + waits_weight waits)))
   word_light room after expand words whole waits go bound (Whole text) h w =
-      let light : weight (more_move waits go (with_more whole (words_of expand text))) ≤ 2 + ((words_weight (script_weight room) words + commands_weight (script_weight room) after) + waits_weight waits) =
+      let light : weight (more_move waits go (with_more_words whole (words_of expand text))) ≤ 2 + ((words_weight (script_weight room) words + commands_weight (script_weight room) after) + waits_weight waits) =
       more_light waits whole go (words_weight (script_weight room) words + commands_weight (script_weight room) after) (words_of expand text) (λ all. omega (arith, h all)) in
       omega arith
   word_light room after expand words whole waits go bound (Failed text) h w = omega arith
@@ -355,12 +355,12 @@ module _ {K : Type 0} where
   end_lighter store context (Return code) text (ForValue room evaluation) waits = omega arith
   end_lighter store context Break text (ForValue room evaluation) waits = omega arith
   end_lighter store context Continue text (ForValue room evaluation) waits = omega arith
-  end_lighter store context Normal text (ForTest room turning) waits = turn_lighter room turning waits (truth_of text)
+  end_lighter store context Normal text (ForTest room turning) waits = turn_lighter room turning waits (truth_of_text text)
   end_lighter store context Error text (ForTest room turning) waits = omega arith
   end_lighter store context (Return code) text (ForTest room turning) waits = omega arith
   end_lighter store context Break text (ForTest room turning) waits = omega arith
   end_lighter store context Continue text (ForTest room turning) waits = omega arith
-  end_lighter store context Normal text (ForChoice room branches otherwise) waits = chosen_lighter room branches otherwise waits (truth_of text)
+  end_lighter store context Normal text (ForChoice room branches otherwise) waits = chosen_lighter room branches otherwise waits (truth_of_text text)
   end_lighter store context Error text (ForChoice room branches otherwise) waits = omega (arith, choice_positive room branches otherwise waits)
   end_lighter store context (Return code) text (ForChoice room branches otherwise) waits = omega (arith, choice_positive room branches otherwise waits)
   end_lighter store context Break text (ForChoice room branches otherwise) waits = omega (arith, choice_positive room branches otherwise waits)
@@ -432,7 +432,7 @@ module _ {K : Type 0} (size : K → ℕ) where
   tasks m = doing_tasks m.doing + waits_tasks m.waits
 
   more_tasks : (waits : List (Waiting K)) (whole : List (List ℕ)) (go : List (List ℕ) → Moved K) (more : Result (List (List ℕ)) (List ℕ))
-      → ((all : List (List ℕ)) → tasks (go all) ≡ waits_tasks waits) → tasks (more_move waits go (with_more whole more)) ≡ waits_tasks waits
+      → ((all : List (List ℕ)) → tasks (go all) ≡ waits_tasks waits) → tasks (more_move waits go (with_more_words whole more)) ≡ waits_tasks waits
   more_tasks waits whole go (Ok more) h = h (whole ++ more)
   more_tasks waits whole go (Err text) h = omega arith
 
@@ -540,7 +540,7 @@ module _ {K : Type 0} (size : K → ℕ) where
   turn_tasks room turning waits (Err text) = omega arith
 
   test_tasks : (room : ℕ) (turning : Turning) (waits : List (Waiting K)) (code : Code) (text : List ℕ) → tasks (after_test_move room turning waits code text) ≡ waits_tasks waits
-  test_tasks room turning waits Normal text = turn_tasks room turning waits (truth_of text)
+  test_tasks room turning waits Normal text = turn_tasks room turning waits (truth_of_text text)
   test_tasks room turning waits Error text = omega arith
   test_tasks room turning waits (Return code) text = omega arith
   test_tasks room turning waits Break text = omega arith
@@ -554,7 +554,7 @@ module _ {K : Type 0} (size : K → ℕ) where
   chosen_tasks room (branch ∷ branches) otherwise waits (Err text) = omega arith
 
   after_choice_tasks : (room : ℕ) (branches : List Branch) (otherwise : Option (List ℕ)) (waits : List (Waiting K)) (code : Code) (text : List ℕ) → tasks (after_choice_move room branches otherwise waits code text) ≡ waits_tasks waits
-  after_choice_tasks room branches otherwise waits Normal text = chosen_tasks room branches otherwise waits (truth_of text)
+  after_choice_tasks room branches otherwise waits Normal text = chosen_tasks room branches otherwise waits (truth_of_text text)
   after_choice_tasks room branches otherwise waits Error text = omega arith
   after_choice_tasks room branches otherwise waits (Return code) text = omega arith
   after_choice_tasks room branches otherwise waits Break text = omega arith

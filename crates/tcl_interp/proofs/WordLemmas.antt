@@ -7,7 +7,7 @@ use Rattle.tcl_vars.specs.Store.{Store}
 use Rattle.tcl_control.specs.declared.code.Code.TheVariants.{Error}
 use Rattle.tcl_interp.specs.Evaluation.{words_of}
 use Rattle.tcl_interp.specs.Finish.{Waiting, Ends}
-use Rattle.tcl_interp.specs.Moves.{Moved, moved, Part, WordEnd, Whole, AtPart, word_end, with_more, more_move, word_part, word_move, words_move, go_on_move}
+use Rattle.tcl_interp.specs.Moves.{Moved, moved, Part, WordEnd, Whole, AtPart, word_end, with_more_words, more_move, word_part, word_move, words_move, go_on_move}
 use Rattle.tcl_interp.specs.Rests.{IsSingle, words_in_front, pieces_in_front, expand_in_front}
 
 module _ {K : Type 0} (level : ℕ) (store : Store) (room : ℕ) (waits : List (Waiting K)) where
@@ -34,7 +34,7 @@ module _ {K : Type 0} (level : ℕ) (store : Store) (room : ℕ) (waits : List (
   -- a word that came to its end, with the words that are whole then
   pub word_whole : (after : List Command) (words : List Word) (i : ℕ) (whole all : List (List ℕ)) (text : List ℕ) (pieces : List Piece) → i < length words → pieces ≡ pieces_in_front (drop i words)
       → Whole text ≡ word_end level store (drop 0 pieces) []
-      → Ok all ≡ with_more whole (words_of (expand_in_front (drop i words)) text)
+      → Ok all ≡ with_more_words whole (words_of (expand_in_front (drop i words)) text)
       → words_move level store room after (drop (i + 1) words) all waits ≡ words_move level store room after (drop i words) whole waits
   word_whole after words i whole all text pieces less e end more =
       ap (more_move waits (λ m. words_move level store room after (drop (i + 1) words) m waits)) more
@@ -44,12 +44,12 @@ module _ {K : Type 0} (level : ℕ) (store : Store) (room : ℕ) (waits : List (
   pub word_single : (after : List Command) (words : List Word) (i : ℕ) (whole all : List (List ℕ)) (text : List ℕ) → i < length words → IsSingle level store (drop i words) text
       → all ≡ whole ++ text ∷ [] → words_move level store room after (drop (i + 1) words) all waits ≡ words_move level store room after (drop i words) whole waits
   word_single after words i whole all text less single made =
-      word_whole after words i whole all text (pieces_in_front (drop i words)) less refl single.1 (ap Ok made ∙ ap (λ expand. with_more whole (words_of expand text)) (sym single.0))
+      word_whole after words i whole all text (pieces_in_front (drop i words)) less refl single.1 (ap Ok made ∙ ap (λ expand. with_more_words whole (words_of expand text)) (sym single.0))
 
   -- a word that came to its end and is no list
   pub word_faulty : (after : List Command) (words : List Word) (i : ℕ) (whole : List (List ℕ)) (fault text : List ℕ) (pieces : List Piece) → i < length words → pieces ≡ pieces_in_front (drop i words)
       → Whole text ≡ word_end level store (drop 0 pieces) []
-      → Err fault ≡ with_more whole (words_of (expand_in_front (drop i words)) text)
+      → Err fault ≡ with_more_words whole (words_of (expand_in_front (drop i words)) text)
       → moved (Ends Error fault) waits ≡ words_move level store room after (drop i words) whole waits
   word_faulty after words i whole fault text pieces less e end more =
       ap (more_move waits (λ m. words_move level store room after (drop (i + 1) words) m waits)) more

@@ -1,7 +1,6 @@
 -- Meaning. The evaluation of words and of commands in order, where it is given how a script and how a command is run.
 use Rattle.std.specs.Prelude.{ℕ, zero, suc, Bool, List, [], ◌∷◌, ◌++◌, length, nat_le, if◌then◌else◌, Result, Ok, Err}
 use Rattle.tcl_text.specs.Readings.{list_of}
-use Rattle.tcl_text.specs.Splitting.{fault_text as list_text}
 use Rattle.tcl_text.specs.declared.fault.ListFault.{ListFault}
 use Rattle.tcl_words.specs.declared.script.Command.{Command}
 use Rattle.tcl_words.specs.declared.script.Word.{Word}
@@ -9,7 +8,7 @@ use Rattle.tcl_words.specs.declared.script.Piece.{Piece}
 use Rattle.tcl_words.specs.declared.script.Piece.TheVariants.{Literal, Variable, Element, Bracket}
 use Rattle.tcl_text.specs.declared.fault.ParseFault.{ParseFault}
 use Rattle.tcl_text.specs.declared.fault.ParseFault.TheVariants.{TooLong}
-use Rattle.tcl_text.specs.FaultTexts.{parse_text as text_of}
+use Rattle.tcl_text.specs.FaultTexts.{list_text, parse_text as text_of}
 use Rattle.tcl_words.proofs.Parses.{one_index_parse}
 use Rattle.tcl_vars.specs.Store.{Store, variable_in, element_in}
 use Rattle.tcl_text.specs.declared.fault.ReadFault.{ReadFault}
@@ -17,7 +16,7 @@ use Rattle.tcl_control.specs.declared.code.Code.{Code}
 use Rattle.tcl_control.specs.declared.code.Code.TheVariants.{Normal, Error}
 use Rattle.tcl_control.specs.declared.context.Context.{Context}
 use Rattle.tcl_control.specs.Levels.{here}
-use Rattle.tcl_control.specs.Texts.{limit_text, message, cannot_read, element_name}
+use Rattle.tcl_control.specs.Texts.{limit_text, message, cannot_read_text, element_name}
 use Rattle.tcl_text.specs.Limits.{most_bytes, most_nested}
 
 -- What the object of the outside commands shows, the variables, the levels and the commands, and how many steps are left.
@@ -33,8 +32,8 @@ pub data Outcome (S : Type 0) : Type 0 where
   OutOfSteps : State S → Outcome S
 
 -- the place of the frame whose variables are seen
-abbrev pub level_of : {S : Type 0} → State S → ℕ
-level_of state = here state.context.levels state.store
+abbrev pub seen_level : {S : Type 0} → State S → ℕ
+seen_level state = here state.context.levels state.store
 
 -- what comes behind something that ends
 abbrev pub and_then : {S : Type 0} → Outcome S → (State S → Code → List ℕ → Outcome S) → Outcome S
@@ -57,22 +56,22 @@ with_step state after = stepped state.steps state after
 -- with the value of a variable
 abbrev pub on_read : {S : Type 0} → List ℕ → State S → (State S → List ℕ → Outcome S) → Result (List ℕ) ReadFault → Outcome S
 on_read name state after (Ok value) = after state value
-on_read name state after (Err fault) = Ended state Error (cannot_read name fault)
+on_read name state after (Err fault) = Ended state Error (cannot_read_text name fault)
 
 abbrev pub with_value_of : {S : Type 0} → List ℕ → State S → (State S → List ℕ → Outcome S) → Outcome S
-with_value_of name state after = on_read name state after (variable_in state.store (level_of state) name)
+with_value_of name state after = on_read name state after (variable_in state.store (seen_level state) name)
 
 -- with the text so far of a word and one piece more, where that isn't too long for a value
 abbrev pub with_joined : {S : Type 0} → List ℕ → List ℕ → State S → (State S → List ℕ → Outcome S) → Outcome S
 with_joined so_far text state after = if nat_le (length (so_far ++ text)) most_bytes then after state (so_far ++ text) else Ended state Error limit_text
 
 -- The words that a word's text gives: itself, or the elements of the list that it is, where `{*}` stands before it.
-abbrev pub split_words : Result (List (List ℕ)) ListFault → Result (List (List ℕ)) (List ℕ)
-split_words (Ok items) = Ok items
-split_words (Err fault) = Err (message (list_text fault))
+abbrev pub items_or_text : Result (List (List ℕ)) ListFault → Result (List (List ℕ)) (List ℕ)
+items_or_text (Ok items) = Ok items
+items_or_text (Err fault) = Err (message (list_text fault))
 
 abbrev pub words_of : Bool → List ℕ → Result (List (List ℕ)) (List ℕ)
-words_of expand text = if expand then split_words (list_of text) else Ok (text ∷ [])
+words_of expand text = if expand then items_or_text (list_of text) else Ok (text ∷ [])
 
 abbrev pub on_words : {S : Type 0} → State S → (State S → List (List ℕ) → Outcome S) → Result (List (List ℕ)) (List ℕ) → Outcome S
 on_words state after (Ok words) = after state words
@@ -85,7 +84,8 @@ index_pieces text = (one_index_parse text).it
 
 -- an element is read, whose index is whole
 abbrev pub element_read : {S : Type 0} → List ℕ → State S → List ℕ → Outcome S
-element_read name state index = on_read (element_name name index) state (λ state' value. Ended state' Normal value) (element_in state.store (level_of state) name index)
+element_read name state index =
+    on_read (element_name name index) state (λ state' value. Ended state' Normal value) (element_in state.store (seen_level state) name index)
 
 abbrev pub on_index : {S : Type 0} → State S → (List Piece → Outcome S) → Result (List Piece) ParseFault → Outcome S
 on_index state after (Ok pieces) = after pieces
@@ -114,7 +114,8 @@ module _ {S : Type 0} (run : List ℕ → State S → Outcome S) where
   -- An element: its index is put together, and then it is read. No script is read where more than so many indices stand in one another.
   abbrev pub element_meaning : ℕ → List ℕ → List ℕ → State S → Outcome S
   element_meaning zero name index state = Ended state Error (message (text_of TooLong))
-  element_meaning (suc depth) name index state = on_index state (λ pieces. pieces_meaning run (element_meaning depth) pieces [] state (element_read name)) (index_pieces index)
+  element_meaning (suc depth) name index state =
+      on_index state (λ pieces. pieces_meaning run (element_meaning depth) pieces [] state (element_read name)) (index_pieces index)
 
   -- the pieces of a word
   abbrev pub word_meaning : List Piece → List ℕ → State S → (State S → List ℕ → Outcome S) → Outcome S
@@ -126,7 +127,8 @@ module _ {S : Type 0} (run : List ℕ → State S → Outcome S) (call : List (L
   abbrev pub words_meaning : List Word → List (List ℕ) → State S → (State S → List (List ℕ) → Outcome S) → Outcome S
   words_meaning [] words state after = after state words
   words_meaning (word ∷ rest) words state after =
-      word_meaning run word.pieces [] state (λ state' text. on_words state' (λ state'' more. words_meaning rest (words ++ more) state'' after) (words_of word.expand text))
+      word_meaning run word.pieces [] state
+      (λ state' text. on_words state' (λ state'' more. words_meaning rest (words ++ more) state'' after) (words_of word.expand text))
 
   -- A command is called once its words are put together, for one step. One without words does nothing, and takes no step.
   abbrev pub called : State S → List (List ℕ) → Outcome S

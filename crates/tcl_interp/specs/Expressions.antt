@@ -8,9 +8,9 @@ use Rattle.tcl_expr.specs.Run.{Run, AsksVariable, AsksElement, AsksCommand, Ends
 use Rattle.tcl_expr.specs.Trees.{Tree, evaluation}
 use Rattle.tcl_control.specs.declared.code.Code.{Code}
 use Rattle.tcl_control.specs.declared.code.Code.TheVariants.{Normal, Error}
-use Rattle.tcl_control.specs.Expressions.{expression_of, truth_of}
+use Rattle.tcl_control.specs.Expressions.{expression_of, truth_of_text}
 use Rattle.tcl_control.specs.Texts.{element_name}
-use Rattle.tcl_interp.specs.Evaluation.{State, Outcome, Ended, level_of, and_then, on_normal, on_read, with_value_of}
+use Rattle.tcl_interp.specs.Evaluation.{State, Outcome, Ended, seen_level, and_then, on_normal, on_read, with_value_of}
 
 -- the value of an expression, or its fault
 abbrev pub value_ended : {S : Type 0} → State S → Result (List ℕ) EvalFault → Outcome S
@@ -18,16 +18,16 @@ value_ended state (Ok value) = Ended state Normal value
 value_ended state (Err fault) = Ended state Error (eval_message fault)
 
 -- with the value of an element
-abbrev pub with_element : {S : Type 0} → List ℕ → List ℕ → State S → (State S → List ℕ → Outcome S) → Outcome S
-with_element array index state after = on_read (element_name array index) state after (element_in state.store (level_of state) array index)
+abbrev pub with_value_at : {S : Type 0} → List ℕ → List ℕ → State S → (State S → List ℕ → Outcome S) → Outcome S
+with_value_at array index state after = on_read (element_name array index) state after (element_in state.store (seen_level state) array index)
 
 -- what comes of the value of a condition as a boolean
-abbrev pub on_truth : {S : Type 0} → State S → (Bool → State S → Outcome S) → Result Bool (List ℕ) → Outcome S
-on_truth state after (Ok truth) = after truth state
-on_truth state after (Err text) = Ended state Error text
+abbrev pub with_truth : {S : Type 0} → State S → (Bool → State S → Outcome S) → Result Bool (List ℕ) → Outcome S
+with_truth state after (Ok truth) = after truth state
+with_truth state after (Err text) = Ended state Error text
 
 abbrev pub on_value : {S : Type 0} → (Bool → State S → Outcome S) → State S → Code → List ℕ → Outcome S
-on_value after = on_normal (λ state value. on_truth state after (truth_of value))
+on_value after = on_normal (λ state value. with_truth state after (truth_of_text value))
 
 -- one or the other
 abbrev pub if_holds : {S : Type 0} → (State S → Outcome S) → (State S → Outcome S) → Bool → State S → Outcome S
@@ -39,7 +39,7 @@ module _ {S : Type 0} (run : List ℕ → State S → Outcome S) where
   -- what is still to come of an evaluation
   abbrev pub run_meaning : Run → State S → Outcome S
   run_meaning (AsksVariable name go) state = with_value_of name state (λ state' value. run_meaning (go value) state')
-  run_meaning (AsksElement array index go) state = with_element array index state (λ state' value. run_meaning (go value) state')
+  run_meaning (AsksElement array index go) state = with_value_at array index state (λ state' value. run_meaning (go value) state')
   run_meaning (AsksCommand script go) state = and_then (run script state) (on_normal (λ state' value. run_meaning (go value) state'))
   run_meaning (Ends result) state = value_ended state result
 

@@ -1,18 +1,18 @@
 -- Steps. What an interpreter still has to do, and the outcome of doing it, innermost first.
-use Rattle.std.specs.Prelude.{ℕ, Bool, List, [], ◌∷◌, ◌++◌, Option, Some, codes}
+use Rattle.std.specs.Prelude.{ℕ, Bool, List, [], ◌∷◌, ◌++◌, Option, Some}
 use Rattle.tcl_words.specs.declared.script.Command.{Command}
 use Rattle.tcl_words.specs.declared.script.Word.{Word}
 use Rattle.tcl_words.specs.declared.script.Piece.{Piece}
 use Rattle.tcl_control.specs.declared.code.Code.{Code}
-use Rattle.tcl_control.specs.declared.code.Code.TheVariants.{Normal, Error, Break, Continue}
+use Rattle.tcl_control.specs.declared.code.Code.TheVariants.{Normal}
 use Rattle.tcl_control.specs.declared.turns.Turning.{Turning}
 use Rattle.tcl_shapes.specs.declared.branches.Branch.{Branch}
-use Rattle.tcl_expr.specs.Resuming.{Resumption, told}
+use Rattle.tcl_expr.specs.Resuming.{Resumption, evaluation_told}
 use Rattle.tcl_interp.specs.Outside.{Outside}
 use Rattle.tcl_interp.specs.Evaluation.{State, Outcome, Ended, OutOfSteps, and_then, on_normal, with_step, with_joined, words_of, on_words, pieces_meaning, element_read, element_meaning, word_meaning, words_meaning, called, commands_meaning}
 use Rattle.tcl_interp.specs.Expressions.{value_ended, on_value, if_holds, run_meaning, otherwise_meaning, choices_meaning}
 use Rattle.tcl_interp.specs.Plans.{levels_back, procedure_ended, caught, loop_ended, after_body, after_next, next_turn, turn_meaning, loop_meaning}
-use Rattle.tcl_interp.specs.Scripts.{script_meaning, call_meaning, task_meaning, after_step, out_of_global}
+use Rattle.tcl_interp.specs.Scripts.{script_meaning, call_meaning, task_meaning, after_step, out_of_global, at_global}
 use Rattle.tcl_text.specs.Limits.{most_running}
 
 -- a command whose words are being put together: the commands after it, the words that are whole, what there is of the next
@@ -80,25 +80,19 @@ pub data Waiting (K : Type 0) : Type 0 where
   ForAll : Waiting K
 
 -- all that is still to do, innermost first
-pub data Rest (K : Type 0) : Type 0 where
-  Idle : Rest K
-  Running : Doing K → List (Waiting K) → Rest K
-  Spent : Rest K
-  Broken : Rest K
+pub data RestToDo (K : Type 0) : Type 0 where
+  Idle : RestToDo K
+  Running : Doing K → List (Waiting K) → RestToDo K
+  Spent : RestToDo K
+  Broken : RestToDo K
 
 -- a script alone at global level, with room for 200 scripts one in another
-abbrev pub rest_of_script : {K : Type 0} → List ℕ → Rest K
+abbrev pub rest_of_script : {K : Type 0} → List ℕ → RestToDo K
 rest_of_script text = Running (Begins most_running text) (ForAll ∷ [])
 
 -- a task alone
-abbrev pub rest_of_task : {K : Type 0} → K → Rest K
+abbrev pub rest_of_task : {K : Type 0} → K → RestToDo K
 rest_of_task task = Running (Resumes most_running task Normal []) []
-
--- how a script at global level ends: there is no loop around it, and a return has become its -code
-abbrev pub at_global : {S : Type 0} → State S → Code → List ℕ → Outcome S
-at_global state Break text = Ended state Error (codes "invoked \"break\" outside of a loop")
-at_global state Continue text = Ended state Error (codes "invoked \"continue\" outside of a loop")
-at_global state code text = Ended state code text
 
 module _ {S K : Type 0} (outside : Outside S K) where
   -- the commands that are left of a script
@@ -131,7 +125,7 @@ module _ {S K : Type 0} (outside : Outside S K) where
 
   -- what is left of an evaluation
   abbrev pub value_rest : ℕ → Resumption → Option (List ℕ) → State S → Outcome S
-  value_rest room evaluation given state = run_meaning (script_meaning outside room) (told evaluation given) state
+  value_rest room evaluation given state = run_meaning (script_meaning outside room) (evaluation_told evaluation given) state
 
   -- the first branch of `if`, by whether its condition holds
   abbrev pub choice_rest : ℕ → List Branch → Option (List ℕ) → Bool → State S → Outcome S
@@ -164,11 +158,13 @@ module _ {S K : Type 0} (outside : Outside S K) where
       and_then (with_joined w.so_far piece state' (λ state'' joined. word_rest w.room w.pieces joined w.expand w.words w.whole state''))
       (on_normal (λ state'' result. script_rest w.room w.after result state'')))
       state code text
-  waiting_meaning (ForIndex x) state code text = on_normal (λ state' piece. with_joined x.so_far piece state' (λ state'' joined. index_rest x joined state'')) state code text
+  waiting_meaning (ForIndex x) state code text =
+      on_normal (λ state' piece. with_joined x.so_far piece state' (λ state'' joined. index_rest x joined state'')) state code text
   waiting_meaning (ForValue room evaluation) state code text = on_normal (λ state' value. value_rest room evaluation (Some value) state') state code text
   waiting_meaning (ForTest room turning) state code text = on_value (if_holds (turn_rest room turning) loop_ended) state code text
   waiting_meaning (ForChoice room branches otherwise) state code text = on_value (choice_rest room branches otherwise) state code text
-  waiting_meaning (ForBody room turning) state code text = after_body (next_turn (script_meaning outside room) turning.next (loop_rest room turning)) state code text
+  waiting_meaning (ForBody room turning) state code text =
+      after_body (next_turn (script_meaning outside room) turning.next (loop_rest room turning)) state code text
   waiting_meaning (ForNext room turning) state code text = after_next (loop_rest room turning) state code text
   waiting_meaning (ForStart room turning) state code text = on_normal (λ state' result. loop_rest room turning state') state code text
   waiting_meaning (ForCatch name) state code text = caught name state code text
@@ -182,7 +178,7 @@ module _ {S K : Type 0} (outside : Outside S K) where
   waits_meaning (waiting ∷ waits) state code text = and_then (waiting_meaning waiting state code text) (waits_meaning waits)
 
   -- the outcome of doing all that is still to do
-  abbrev pub finish : Rest K → State S → Outcome S
+  abbrev pub finish : RestToDo K → State S → Outcome S
   finish Idle state = OutOfSteps state
   finish (Running doing waits) state = and_then (doing_meaning doing state) (waits_meaning waits)
   finish Spent state = OutOfSteps state

@@ -7,7 +7,7 @@ use Rattle.tcl_interp.specs.declared.interp.Interp.{Interp}
 use Rattle.tcl_interp.specs.declared.interp.SliceEnd.{SliceEnd}
 use Rattle.tcl_interp.specs.declared.interp.SliceEnd.TheVariants.{Done, More, Exhausted}
 use Rattle.tcl_interp.specs.Evaluation.{State, Outcome, Ended, OutOfSteps}
-use Rattle.tcl_interp.specs.Finish.{Doing, Waiting, Rest, Idle, Running, Spent}
+use Rattle.tcl_interp.specs.Finish.{Doing, Waiting, RestToDo, Idle, Running, Spent}
 use Rattle.tcl_interp.specs.Rests.{rest_by, waits_of}
 
 -- the context at first: global level, and the commands, with these outside ones
@@ -20,7 +20,7 @@ at_top context = record context { levels = 0 ∷ [] }
 
 module _ {K : Type 0} where
   -- what it still has to do
-  abbrev pub rest_of : Interp K → Rest K
+  abbrev pub rest_of : Interp K → RestToDo K
   rest_of interp = rest_by interp.machine (waits_of interp.frames.items)
 
   -- how many steps are left
@@ -32,7 +32,7 @@ module _ {K : Type 0} where
   budget_of interp = interp.budget
 
   -- How many steps are left once so many more are granted: the budget at most, and none more where they are spent.
-  abbrev pub granted : Rest K → ℕ → ℕ → ℕ → ℕ
+  abbrev pub granted : RestToDo K → ℕ → ℕ → ℕ → ℕ
   granted Spent steps budget left = left
   granted rest steps budget left = min (left + steps) budget
 
@@ -44,11 +44,11 @@ module _ {K : Type 0} where
   abbrev pub state_of : {S : Type 0} → Interp K → S → Store → State S
   state_of interp shows store = record { shows = shows; store = store; context = interp.context; steps = interp.left }
 
-  abbrev pub IsRunning : Rest K → Type 0
+  abbrev pub IsRunning : RestToDo K → Type 0
   IsRunning rest = (doing : Doing K) × (waits : List (Waiting K)) × (rest ≡ Running doing waits)
 
   -- what is left to do after a slice
-  abbrev pub LeavesRest : SliceEnd → Rest K → Type 0
+  abbrev pub LeavesRest : SliceEnd → RestToDo K → Type 0
   LeavesRest (Done code text) rest = rest ≡ Idle
   LeavesRest More rest = IsRunning rest
   LeavesRest Exhausted rest = rest ≡ Spent

@@ -13,4 +13,3 @@ pub mod Rests
 pub mod Runs
 pub mod Scripts
 pub mod Steps
-pub mod Texts

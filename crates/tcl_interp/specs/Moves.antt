@@ -1,5 +1,5 @@
 -- Steps. The moves of the interpreter: what is done, what waits, the variables and the context after each.
-use Rattle.std.specs.Prelude.{ℕ, ◌-◌, ◌==◌, Bool, true, false, List, [], ◌∷◌, ◌++◌, length, nat_le, if◌then◌else◌, Option, Some, None, Result, Ok, Err, codes}
+use Rattle.std.specs.Prelude.{ℕ, ◌-◌, ◌==◌, Bool, true, false, List, [], ◌∷◌, ◌++◌, length, nat_le, if◌then◌else◌, Option, Some, None, Result, Ok, Err}
 use Rattle.tcl_words.specs.declared.script.Command.{Command}
 use Rattle.tcl_words.specs.declared.script.Word.{Word}
 use Rattle.tcl_words.specs.declared.script.Piece.{Piece}
@@ -23,17 +23,17 @@ use Rattle.tcl_control.specs.declared.plan.Plan.TheVariants as plan
 use Rattle.tcl_control.specs.declared.turns.Test.{Test}
 use Rattle.tcl_control.specs.declared.turns.Test.TheVariants.{Holds, Items}
 use Rattle.tcl_control.specs.declared.turns.Turning.{Turning}
-use Rattle.tcl_control.specs.Expressions.{truth_of}
+use Rattle.tcl_control.specs.Expressions.{truth_of_text}
 use Rattle.tcl_control.specs.ExpressionForms.{evaluation_begins}
 use Rattle.tcl_control.specs.Commands.{Ending, caught_ending}
 use Rattle.tcl_control.specs.Levels.{here, popped}
 use Rattle.tcl_control.specs.Source.{script_of}
-use Rattle.tcl_control.specs.Texts.{limit_text, message, nesting_text, cannot_read, element_name, unknown_command}
+use Rattle.tcl_control.specs.Texts.{limit_text, message, nesting_text, break_outside, continue_outside, cannot_read_text, element_name, unknown_command}
 use Rattle.tcl_control.specs.Turns.{Tested, More, NoMore, Fails as TestFails, items_tested}
 use Rattle.tcl_interp.specs.declared.tasks.Act.{Act}
 use Rattle.tcl_interp.specs.declared.tasks.Act.TheVariants.{Done, Step, Run, Unknown}
 use Rattle.tcl_interp.specs.Evaluation.{index_pieces, index_depth, words_of}
-use Rattle.tcl_interp.specs.Plans.{cut, others, joined, callers, procedure_code, procedure_text}
+use Rattle.tcl_interp.specs.Plans.{cut, others, with_levels_behind, callers, procedure_code, procedure_text}
 use Rattle.tcl_interp.specs.Scripts.{out_of_global}
 use Rattle.tcl_interp.specs.Finish.{Wording, Indexing, Doing, Begins, GoesOn, Indexes, Evaluates, Calls, Tests, Steps, Resumes, Ends, Waiting, ForCommand, ForPart, ForIndex, ForValue, ForTest, ForChoice, ForBody, ForNext, ForStart, ForCatch, ForLevels, ForProcedure, ForScript, ForAll}
 use Rattle.tcl_text.specs.Limits.{most_bytes}
@@ -62,14 +62,14 @@ pub data PieceText : Type 0 where
   Fails : List ℕ → PieceText
   Waits : Part → PieceText
 
-abbrev pub value_text : List ℕ → Result (List ℕ) ReadFault → PieceText
-value_text name (Ok value) = Plain value
-value_text name (Err fault) = Fails (cannot_read name fault)
+abbrev pub variable_value : List ℕ → Result (List ℕ) ReadFault → PieceText
+variable_value name (Ok value) = Plain value
+variable_value name (Err fault) = Fails (cannot_read_text name fault)
 
 -- where variables are those of a level
 abbrev pub piece_text : ℕ → Store → Piece → PieceText
 piece_text level store (Literal text) = Plain text
-piece_text level store (Variable name) = value_text name (variable_in store level name)
+piece_text level store (Variable name) = variable_value name (variable_in store level name)
 piece_text level store (Element name index) = Waits (ElementOf name index)
 piece_text level store (Bracket script) = Waits (Script script)
 
@@ -92,9 +92,9 @@ word_end level store [] so_far = Whole so_far
 word_end level store (piece ∷ pieces) so_far = piece_end (piece_text level store piece) pieces so_far (word_end level store pieces)
 
 -- the words so far, and those that one more gives
-abbrev pub with_more : List (List ℕ) → Result (List (List ℕ)) (List ℕ) → Result (List (List ℕ)) (List ℕ)
-with_more whole (Ok more) = Ok (whole ++ more)
-with_more whole (Err text) = Err text
+abbrev pub with_more_words : List (List ℕ) → Result (List (List ℕ)) (List ℕ) → Result (List (List ℕ)) (List ℕ)
+with_more_words whole (Ok more) = Ok (whole ++ more)
+with_more_words whole (Err text) = Err text
 
 module _ {K : Type 0} where
   abbrev pub moved : Doing K → List (Waiting K) → Moved K
@@ -122,7 +122,8 @@ module _ {K : Type 0} where
   -- a part of a word begins
   abbrev pub word_part : ℕ → List Command → Bool → List Word → List (List ℕ) → List Piece → List ℕ → Part → List (Waiting K) → Moved K
   word_part room after expand words whole pieces so_far part waits =
-      moved (part_begins room index_depth part) (ForPart (record { room = room; after = after; whole = whole; so_far = so_far; expand = expand; pieces = pieces; words = words }) ∷ waits)
+      moved (part_begins room index_depth part)
+      (ForPart (record { room = room; after = after; whole = whole; so_far = so_far; expand = expand; pieces = pieces; words = words }) ∷ waits)
 
   -- with the words that are whole then
   abbrev pub more_move : List (Waiting K) → (List (List ℕ) → Moved K) → Result (List (List ℕ)) (List ℕ) → Moved K
@@ -131,7 +132,7 @@ module _ {K : Type 0} where
 
   -- a word that comes so far, with the words behind it
   abbrev pub word_move : ℕ → List Command → Bool → List Word → List (List ℕ) → List (Waiting K) → (List (List ℕ) → Moved K) → WordEnd → Moved K
-  word_move room after expand words whole waits go (Whole text) = more_move waits go (with_more whole (words_of expand text))
+  word_move room after expand words whole waits go (Whole text) = more_move waits go (with_more_words whole (words_of expand text))
   word_move room after expand words whole waits go (Failed text) = moved (Ends Error text) waits
   word_move room after expand words whole waits go (AtPart part pieces so_far) = word_part room after expand words whole pieces so_far part waits
 
@@ -144,13 +145,14 @@ module _ {K : Type 0} where
 
   abbrev pub element_end : List ℕ → Result (List ℕ) ReadFault → Doing K
   element_end name (Ok value) = Ends Normal value
-  element_end name (Err fault) = Ends Error (cannot_read name fault)
+  element_end name (Err fault) = Ends Error (cannot_read_text name fault)
 
   -- an index that comes so far
   abbrev pub index_move : ℕ → Store → Indexing → List (Waiting K) → WordEnd → Moved K
   index_move level store x waits (Whole index) = moved (element_end (element_name x.name index) (element_in store level x.name index)) waits
   index_move level store x waits (Failed text) = moved (Ends Error text) waits
-  index_move level store x waits (AtPart part pieces so_far) = moved (part_begins x.room x.depth part) (ForIndex (record x { so_far = so_far; pieces = pieces }) ∷ waits)
+  index_move level store x waits (AtPart part pieces so_far) =
+      moved (part_begins x.room x.depth part) (ForIndex (record x { so_far = so_far; pieces = pieces }) ∷ waits)
 
   abbrev pub indexes_move : ℕ → Store → Indexing → List (Waiting K) → Moved K
   indexes_move level store x waits = index_move level store x waits (word_end level store x.pieces x.so_far)
@@ -168,12 +170,13 @@ module _ {K : Type 0} where
   -- it goes on with the value of a variable of this name
   abbrev pub value_given : ℕ → Resumption → List ℕ → Result (List ℕ) ReadFault → Doing K
   value_given room evaluation name (Ok value) = Evaluates room evaluation (Some value)
-  value_given room evaluation name (Err fault) = Ends Error (cannot_read name fault)
+  value_given room evaluation name (Err fault) = Ends Error (cannot_read_text name fault)
 
   -- it has asked for something, or has ended
   abbrev pub asked_move : ℕ → Store → ℕ → Resumption → List (Waiting K) → Ask → Moved K
   asked_move level store room evaluation waits (ask.Variable name) = moved (value_given room evaluation name (variable_in store level name)) waits
-  asked_move level store room evaluation waits (ask.Element array index) = moved (value_given room evaluation (element_name array index) (element_in store level array index)) waits
+  asked_move level store room evaluation waits (ask.Element array index) =
+      moved (value_given room evaluation (element_name array index) (element_in store level array index)) waits
   asked_move level store room evaluation waits (ask.Command script) = moved (Begins room script) (ForValue room evaluation ∷ waits)
   asked_move level store room evaluation waits (ask.Value text) = moved (Ends Normal text) waits
 
@@ -212,7 +215,8 @@ module _ {K : Type 0} where
 
   abbrev pub part_move : ℕ → Store → Wording → List (Waiting K) → List ℕ → Moved K
   part_move level store w waits text =
-      word_move w.room w.after w.expand w.words w.whole waits (λ more. words_move level store w.room w.after w.words more waits) (join_end w.so_far text (word_end level store w.pieces))
+      word_move w.room w.after w.expand w.words w.whole waits (λ more. words_move level store w.room w.after w.words more waits)
+      (join_end w.so_far text (word_end level store w.pieces))
 
   abbrev pub after_part : ℕ → Store → Wording → List (Waiting K) → Code → List ℕ → Moved K
   after_part level store w waits Normal text = part_move level store w waits text
@@ -237,7 +241,7 @@ module _ {K : Type 0} where
   turn_move room turning waits (Err text) = moved (Ends Error text) waits
 
   abbrev pub after_test_move : ℕ → Turning → List (Waiting K) → Code → List ℕ → Moved K
-  after_test_move room turning waits Normal text = turn_move room turning waits (truth_of text)
+  after_test_move room turning waits Normal text = turn_move room turning waits (truth_of_text text)
   after_test_move room turning waits code text = moved (Ends code text) waits
 
   -- whether the first condition of `if` holds
@@ -248,7 +252,7 @@ module _ {K : Type 0} where
   chosen_move room (branch ∷ branches) otherwise waits (Ok false) = choice_move room branches otherwise waits
 
   abbrev pub after_choice_move : ℕ → List Branch → Option (List ℕ) → List (Waiting K) → Code → List ℕ → Moved K
-  after_choice_move room branches otherwise waits Normal text = chosen_move room branches otherwise waits (truth_of text)
+  after_choice_move room branches otherwise waits Normal text = chosen_move room branches otherwise waits (truth_of_text text)
   after_choice_move room branches otherwise waits code text = moved (Ends code text) waits
 
   -- on to the next test of a loop
@@ -272,8 +276,8 @@ module _ {K : Type 0} where
   after_start_move room turning waits code text = moved (Ends code text) waits
 
   abbrev pub global_end : Code → List ℕ → Doing K
-  global_end Break text = Ends Error (codes "invoked \"break\" outside of a loop")
-  global_end Continue text = Ends Error (codes "invoked \"continue\" outside of a loop")
+  global_end Break text = Ends Error break_outside
+  global_end Continue text = Ends Error continue_outside
   global_end code text = Ends code text
 
   abbrev pub standing : Moved K → Store → Context → Standing K
@@ -289,13 +293,15 @@ module _ {K : Type 0} where
   end_move store context code text (ForIndex x) waits = standing (after_index x waits code text) store context
   end_move store context code text (ForValue room evaluation) waits = standing (after_value_move room evaluation waits code text) store context
   end_move store context code text (ForTest room turning) waits = standing (after_test_move room turning waits code text) store context
-  end_move store context code text (ForChoice room branches otherwise) waits = standing (after_choice_move room branches otherwise waits code text) store context
+  end_move store context code text (ForChoice room branches otherwise) waits =
+      standing (after_choice_move room branches otherwise waits code text) store context
   end_move store context code text (ForBody room turning) waits = standing (after_body_move room turning waits code text) store context
   end_move store context code text (ForNext room turning) waits = standing (after_next_move room turning waits code text) store context
   end_move store context code text (ForStart room turning) waits = standing (after_start_move room turning waits code text) store context
   end_move store context code text (ForCatch name) waits = ending_move (caught_ending (here context.levels store) name code text store) context waits
-  end_move store context code text (ForLevels levels) waits = standing (moved (Ends code text) waits) store (joined levels context)
-  end_move store context code text ForProcedure waits = standing (moved (Ends (procedure_code code) (procedure_text code text)) waits) (popped store) (callers context)
+  end_move store context code text (ForLevels levels) waits = standing (moved (Ends code text) waits) store (with_levels_behind levels context)
+  end_move store context code text ForProcedure waits =
+      standing (moved (Ends (procedure_code code) (procedure_text code text)) waits) (popped store) (callers context)
   end_move store context code text (ForScript room task) waits = standing (moved (Resumes room task (out_of_global code) text) waits) store context
   end_move store context code text ForAll waits = standing (moved (global_end (out_of_global code) text) waits) store context
 
@@ -306,7 +312,8 @@ module _ {K : Type 0} where
   plan_move room store context waits (plan.Ends code text) = standing (moved (Ends code text) waits) store context
   plan_move room store context waits (plan.Runs script) = standing (moved (Begins room script) waits) store context
   plan_move room store context waits (plan.Catches script name) = standing (moved (Begins room script) (ForCatch name ∷ waits)) store context
-  plan_move room store context waits (plan.RunsAt count script) = standing (moved (Begins room script) (ForLevels (others count context) ∷ waits)) store (cut count context)
+  plan_move room store context waits (plan.RunsAt count script) =
+      standing (moved (Begins room script) (ForLevels (others count context) ∷ waits)) store (cut count context)
   plan_move room store context waits (plan.Enters body) = standing (moved (Begins room body) (ForProcedure ∷ waits)) store context
   plan_move room store context waits (plan.Evaluates expression) = standing (moved (expression_begins room expression) waits) store context
   plan_move room store context waits (plan.Chooses choices) = standing (choice_move room choices.branches choices.otherwise waits) store context
@@ -314,18 +321,21 @@ module _ {K : Type 0} where
   plan_move room store context waits (plan.Starts script turning) = standing (moved (Begins room script) (ForStart room turning ∷ waits)) store context
 
   abbrev pub items_move : ℕ → Turning → Context → List (Waiting K) → Tested → Standing K
-  items_move room turning context waits (More store groups) = standing (moved (Begins room turning.body) (ForBody room (record turning { test = Items groups }) ∷ waits)) store context
+  items_move room turning context waits (More store groups) =
+      standing (moved (Begins room turning.body) (ForBody room (record turning { test = Items groups }) ∷ waits)) store context
   items_move room turning context waits (NoMore store) = standing (moved (Ends Normal []) waits) store context
   items_move room turning context waits (TestFails store text) = standing (moved (Ends Error text) waits) store context
 
   -- a loop tests whether it has another turn
   abbrev pub test_move : ℕ → Turning → Store → Context → List (Waiting K) → Test → Standing K
-  test_move room turning store context waits (Holds condition) = standing (moved (expression_begins room condition) (ForTest room turning ∷ waits)) store context
+  test_move room turning store context waits (Holds condition) =
+      standing (moved (expression_begins room condition) (ForTest room turning ∷ waits)) store context
   test_move room turning store context waits (Items groups) = items_move room turning context waits (items_tested (here context.levels store) groups store)
 
   -- what an act of a command of this name, or of a task, leads to
   abbrev pub act_move : ℕ → List ℕ → Store → Context → List (Waiting K) → Act K → Standing K
   act_move room name store context waits (Done code text) = standing (moved (Ends code text) waits) store context
   act_move room name store context waits (Step task) = standing (moved (Steps room task) waits) store context
-  act_move room name store context waits (Run script task) = standing (moved (Begins room script) (ForLevels (others 1 context) ∷ ForScript room task ∷ waits)) store (cut 1 context)
+  act_move room name store context waits (Run script task) =
+      standing (moved (Begins room script) (ForLevels (others 1 context) ∷ ForScript room task ∷ waits)) store (cut 1 context)
   act_move room name store context waits Unknown = standing (moved (Ends Error (unknown_command name)) waits) store context

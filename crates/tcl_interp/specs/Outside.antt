@@ -26,4 +26,6 @@ RunsBelow size bound Unknown = Unit {0}
 
 -- a task that is resumed and runs a script becomes smaller
 abbrev pub Falls : {S K : Type 0} → Outside S K → Type 0
-Falls {S} {K} outside = (shows : S) (store : Store) (task : K) (code : Code) (text : List ℕ) → RunsBelow outside.size (outside.size task) (outside.resumes shows store task code text).act
+Falls {S} {K} outside =
+    (shows : S) (store : Store) (task : K) (code : Code) (text : List ℕ)
+    → RunsBelow outside.size (outside.size task) (outside.resumes shows store task code text).act

@@ -1,5 +1,5 @@
 -- Meaning. What the commands do that run scripts: the meaning of a plan.
-use Rattle.std.specs.Prelude.{ℕ, zero, suc, List, [], ◌++◌, take, drop, Option, Some, None, codes}
+use Rattle.std.specs.Prelude.{ℕ, zero, suc, List, [], ◌++◌, take, drop, Option, Some, None}
 use Rattle.tcl_vars.specs.Store.{Store}
 use Rattle.tcl_control.specs.declared.code.Code.{Code}
 use Rattle.tcl_control.specs.declared.code.Code.TheVariants.{Normal, Error, Return, Break, Continue}
@@ -13,9 +13,10 @@ use Rattle.tcl_control.specs.declared.turns.Test.TheVariants.{Holds, Items}
 use Rattle.tcl_control.specs.declared.turns.Turning.{Turning}
 use Rattle.tcl_control.specs.Commands.{Ending, caught_ending}
 use Rattle.tcl_control.specs.Levels.{up, popped}
+use Rattle.tcl_control.specs.Texts.{break_outside, continue_outside}
 use Rattle.tcl_control.specs.Turns.{Tested, More, NoMore, Fails, items_tested}
 use Rattle.tcl_shapes.specs.declared.groups.Group.{Group}
-use Rattle.tcl_interp.specs.Evaluation.{State, Outcome, Ended, OutOfSteps, level_of, and_then, on_normal, with_step}
+use Rattle.tcl_interp.specs.Evaluation.{State, Outcome, Ended, OutOfSteps, seen_level, and_then, on_normal, with_step}
 use Rattle.tcl_interp.specs.Expressions.{if_holds, expression_meaning, condition_meaning, choices_meaning}
 
 -- ── levels ──
@@ -32,12 +33,12 @@ abbrev pub others : ℕ → Context → List ℕ
 others count context = drop count context.levels
 
 -- those levels again, behind these
-abbrev pub joined : List ℕ → Context → Context
-joined levels context = with_levels (context.levels ++ levels) context
+abbrev pub with_levels_behind : List ℕ → Context → Context
+with_levels_behind levels context = with_levels (context.levels ++ levels) context
 
 -- a script has ended that ran at fewer levels
 abbrev pub levels_back : {S : Type 0} → List ℕ → State S → Code → List ℕ → Outcome S
-levels_back levels state code text = Ended (record state { context = joined levels state.context }) code text
+levels_back levels state code text = Ended (record state { context = with_levels_behind levels state.context }) code text
 
 -- ── procedures ──
 
@@ -58,8 +59,8 @@ procedure_code Break = Error
 procedure_code Continue = Error
 
 abbrev pub procedure_text : Code → List ℕ → List ℕ
-procedure_text Break text = codes "invoked \"break\" outside of a loop"
-procedure_text Continue text = codes "invoked \"continue\" outside of a loop"
+procedure_text Break text = break_outside
+procedure_text Continue text = continue_outside
 procedure_text code text = text
 
 -- the context of the caller
@@ -78,7 +79,7 @@ ends_in state ending = Ended (record state { store = ending.store }) ending.code
 
 -- a script has ended whose code is answered
 abbrev pub caught : {S : Type 0} → Option (List ℕ) → State S → Code → List ℕ → Outcome S
-caught name state code text = ends_in state (caught_ending (level_of state) name code text state.store)
+caught name state code text = ends_in state (caught_ending (seen_level state) name code text state.store)
 
 -- ── loops ──
 
@@ -119,7 +120,7 @@ module _ {S : Type 0} (run : List ℕ → State S → Outcome S) where
   -- the test of a loop, given its body with what is tested after it
   abbrev pub test_meaning : Test → (Test → State S → Outcome S) → State S → Outcome S
   test_meaning (Holds condition) body state = condition_meaning run condition (if_holds (body (Holds condition)) loop_ended) state
-  test_meaning (Items groups) body state = on_tested state (λ left. body (Items left)) (items_tested (level_of state) groups state.store)
+  test_meaning (Items groups) body state = on_tested state (λ left. body (Items left)) (items_tested (seen_level state) groups state.store)
 
   -- the body of a loop, and what comes after it
   abbrev pub turn_meaning : Turning → (State S → Outcome S) → State S → Outcome S

@@ -3,7 +3,7 @@ use Rattle.std.specs.Prelude.{◌≡◌, ◌≢◌, ℕ, zero, suc, List, [], �
 use Rattle.tcl_vars.specs.Store.{Store}
 use Rattle.tcl_expr.specs.declared.ask.Ask.{Ask}
 use Rattle.tcl_expr.specs.declared.fault.EvalFault.{EvalFault}
-use Rattle.tcl_expr.specs.Resuming.{Resumption, told, answered}
+use Rattle.tcl_expr.specs.Resuming.{Resumption, evaluation_told, answered}
 use Rattle.tcl_expr.specs.Machine.{AsksBy}
 use Rattle.tcl_expr.specs.Run.{Run, Ends as RunEnds, asks}
 use Rattle.tcl_control.specs.declared.code.Code.{Code}
@@ -33,7 +33,8 @@ module _ {K : Type 0} where
   -- an evaluation goes on, up to where it asks for something or ends
   abbrev pub EvaluationMoves : ℕ → Store → ℕ → Resumption → Option (List ℕ) → List (Waiting K) → Moved K → Type 0
   EvaluationMoves level store room evaluation given waits after =
-      (answer : Result Ask EvalFault) × (next : Resumption) × (told evaluation given ≡ told_run answer next) × IfOk answer (λ asked. AsksBy evaluation.steps asked next.steps) × (after ≡ answer_move level store room next waits answer)
+      (answer : Result Ask EvalFault) × (next : Resumption) × (evaluation_told evaluation given ≡ told_run answer next)
+      × IfOk answer (λ asked. AsksBy evaluation.steps asked next.steps) × (after ≡ answer_move level store room next waits answer)
 
   abbrev pub MovesBy : Store → Context → Doing K → List (Waiting K) → Standing K → Type 0
   MovesBy store context (Evaluates room evaluation given) waits after =

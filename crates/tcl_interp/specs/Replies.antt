@@ -2,7 +2,7 @@
 use Rattle.std.specs.Prelude.{ℕ, List, Result, Ok, Err}
 use Rattle.tcl_vars.specs.Store.{Store, variable_in, element_in}
 use Rattle.tcl_text.specs.declared.fault.ReadFault.{ReadFault}
-use Rattle.tcl_control.specs.Texts.{cannot_read, element_name}
+use Rattle.tcl_control.specs.Texts.{cannot_read_text, element_name}
 use Rattle.tcl_expr.specs.declared.ask.Ask.{Ask}
 use Rattle.tcl_expr.specs.declared.ask.Ask.TheVariants as ask
 use Rattle.tcl_interp.specs.declared.expressions.Reply.{Reply}
@@ -11,7 +11,7 @@ use Rattle.tcl_interp.specs.declared.expressions.Reply.TheVariants as reply
 -- the value of what was asked for by this name, or the error's text
 abbrev pub found : List ℕ → Result (List ℕ) ReadFault → Reply
 found name (Ok value) = reply.Given value
-found name (Err fault) = reply.Missing (cannot_read name fault)
+found name (Err fault) = reply.Missing (cannot_read_text name fault)
 
 -- where variables are those of a level
 abbrev pub reply_to : ℕ → Store → Ask → Reply

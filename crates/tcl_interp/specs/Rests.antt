@@ -16,7 +16,7 @@ use Rattle.tcl_interp.specs.declared.machine.Frame.{Frame}
 use Rattle.tcl_interp.specs.declared.machine.Frame.TheVariants as frame
 use Rattle.tcl_interp.specs.declared.machine.Machine.{Machine}
 use Rattle.tcl_interp.specs.declared.machine.Machine.TheVariants as machine
-use Rattle.tcl_interp.specs.Finish.{Wording, Indexing, Doing, Begins, GoesOn, Indexes, Evaluates, Calls, Tests, Steps, Resumes, Ends, Waiting, ForCommand, ForPart, ForIndex, ForValue, ForTest, ForChoice, ForBody, ForNext, ForStart, ForCatch, ForLevels, ForProcedure, ForScript, ForAll, Rest, Idle, Running, Spent, Broken}
+use Rattle.tcl_interp.specs.Finish.{Wording, Indexing, Doing, Begins, GoesOn, Indexes, Evaluates, Calls, Tests, Steps, Resumes, Ends, Waiting, ForCommand, ForPart, ForIndex, ForValue, ForTest, ForChoice, ForBody, ForNext, ForStart, ForCatch, ForLevels, ForProcedure, ForScript, ForAll, RestToDo, Idle, Running, Spent, Broken}
 use Rattle.tcl_interp.specs.Moves.{Moved, Standing, Part, Script, ElementOf, PieceText, Plain, Fails, Waits, WordEnd, Whole, Failed, AtPart, word_end}
 use Rattle.tcl_interp.specs.Evaluation.{index_pieces}
 use Rattle.tcl_interp.specs.declared.words.Part.{Part as WordPart}
@@ -133,7 +133,7 @@ module _ {K : Type 0} where
   abbrev pub standing_of : Now K → List (Frame K) → Store → Context → Standing K
   standing_of now frames store context = record { moved = moved_of now frames; store = store; context = context }
 
-  abbrev pub rest_by : Machine K → List (Waiting K) → Rest K
+  abbrev pub rest_by : Machine K → List (Waiting K) → RestToDo K
   rest_by machine.Idle waits = Idle
   rest_by (machine.Running now) waits = Running (doing_of now) waits
   rest_by machine.Spent waits = Spent

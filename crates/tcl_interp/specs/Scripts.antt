@@ -14,7 +14,7 @@ use Rattle.tcl_control.specs.declared.control.Call.{Call}
 use Rattle.tcl_control.specs.declared.control.Call.TheVariants as call
 use Rattle.tcl_control.specs.Control.{Called, call_of}
 use Rattle.tcl_control.specs.Source.{script_of}
-use Rattle.tcl_control.specs.Texts.{message, nesting_text, unknown_command}
+use Rattle.tcl_control.specs.Texts.{break_outside, continue_outside, message, nesting_text, unknown_command}
 use Rattle.tcl_interp.specs.Evaluation.{State, Outcome, Ended, OutOfSteps, and_then, with_step, commands_meaning}
 use Rattle.tcl_interp.specs.Plans.{run_at, plan_meaning}
 
@@ -35,11 +35,19 @@ out_of_global (Return code) = onward code
 out_of_global Break = Break
 out_of_global Continue = Continue
 
+-- how a script at global level ends: there is no loop around it, and a return has become its -code
+abbrev pub at_global : {S : Type 0} → State S → Code → List ℕ → Outcome S
+at_global state Break text = Ended state Error break_outside
+at_global state Continue text = Ended state Error continue_outside
+at_global state code text = Ended state code text
+
 -- what an act comes to, where it is given how a script is run, and how a task goes on after a step and after a script
-abbrev pub on_act : {S K : Type 0} → (List ℕ → State S → Outcome S) → (K → State S → Outcome S) → (K → State S → Code → List ℕ → Outcome S) → List ℕ → State S → Act K → Outcome S
+abbrev pub on_act : {S K : Type 0} → (List ℕ → State S → Outcome S) → (K → State S → Outcome S) → (K → State S → Code → List ℕ → Outcome S) → List ℕ
+    → State S → Act K → Outcome S
 on_act run after_step after_script name state (Done code text) = Ended state code text
 on_act run after_step after_script name state (Step task) = with_step state (after_step task)
-on_act run after_step after_script name state (Run script task) = and_then (run_at run 1 script state) (λ state' code text. after_script task state' (out_of_global code) text)
+on_act run after_step after_script name state (Run script task) =
+    and_then (run_at run 1 script state) (λ state' code text. after_script task state' (out_of_global code) text)
 on_act run after_step after_script name state Unknown = Ended state Error (unknown_command name)
 
 abbrev pub told_state : {S K : Type 0} → Told S K → State S → State S

@@ -28,7 +28,8 @@ module _ {K : Type 0} where
 module _ {S K : Type 0} (outside : Outside S K) where
   -- the outcome from here on, with so many steps left
   abbrev pub finish_from : Standing K → S → ℕ → Outcome S
-  finish_from m shows steps = finish outside (Running m.moved.doing m.moved.waits) (record { shows = shows; store = m.store; context = m.context; steps = steps })
+  finish_from m shows steps =
+      finish outside (Running m.moved.doing m.moved.waits) (record { shows = shows; store = m.store; context = m.context; steps = steps })
 
   -- with a step taken, the outcome stays
   abbrev pub TakesStep : Standing K → S → Standing K → S → Type 0
@@ -41,4 +42,5 @@ module _ {S K : Type 0} (outside : Outside S K) where
 -- a task was resumed, and this is what its act leads to
 abbrev pub Resumed : {S K : Type 0} → Outside S K → ℕ → K → Code → List ℕ → List (Waiting K) → S → Store → Context → Standing K → S → Type 0
 Resumed {S} {K} outside room task code text waits shows store context after shows' =
-    (store' : Store) × (act : Act K) × (record { shows = shows'; store = store'; act = act } ≡ outside.resumes shows store task code text) × (after ≡ act_move room [] store' context waits act)
+    (store' : Store) × (act : Act K) × (record { shows = shows'; store = store'; act = act } ≡ outside.resumes shows store task code text)
+    × (after ≡ act_move room [] store' context waits act)

@@ -3,7 +3,7 @@ ghost use Rattle.std.specs.Prelude.{◌≡◌, ◌≢◌, ◌<◌, List, drop, l
 ghost use Rattle.tcl_expr.specs.declared.fault.EvalFault.TheVariants.{NoMemory};
 ghost use Rattle.tcl_expr.specs.Messages.{eval_message};
 ghost use Rattle.tcl_control.specs.declared.code.Code.TheVariants.{Error};
-ghost use Rattle.tcl_control.specs.Expressions.{truth_of};
+ghost use Rattle.tcl_control.specs.Expressions.{truth_of_text};
 ghost use Rattle.tcl_interp.specs.Moves.{moved, standing, expression_begins, otherwise_move, choice_move, turn_move, chosen_move};
 ghost use Rattle.tcl_interp.specs.Finish.{Waiting, Ends, Evaluates};
 ghost use Rattle.tcl_interp.specs.Quiet.{MovesOn};
@@ -138,7 +138,7 @@ pub fn turn<K: Drop>(
     turning: Looping,
     value: &Text,
 ) -> Next<K>
-    ensures { IfOk result (λ now. moved_of now frames.new.items ≡ turn_move room turning (waits_of frames.old.items) (truth_of value.now)) }
+    ensures { IfOk result (λ now. moved_of now frames.new.items ≡ turn_move room turning (waits_of frames.old.items) (truth_of_text value.now)) }
 {
     match truth(alloc, value)? {
         Ok(true) => {
@@ -192,8 +192,7 @@ pub fn choose<K: Drop>(
         wait(frames, Frame::ForChoice { room, choosing })?;
         return begins(alloc, &expression, room);
     }
-    let now = otherwise(alloc, room, &choices.otherwise)?;
-    Ok(now)
+    otherwise(alloc, room, &choices.otherwise)
 }
 
 /// The condition of `if` that was begun has this value.
@@ -208,7 +207,7 @@ pub fn chosen<K: Drop>(
     ensures table { table.new ≡ table.old }
     ensures now { IfOk result (λ now. moved_of now frames.new.items
         ≡ chosen_move room (drop choosing.value.place choosing.value.choices.branches) choosing.value.choices.otherwise (waits_of frames.old.items)
-        (truth_of value.now)) }
+        (truth_of_text value.now)) }
 {
     let Choosing { choices, place } = Box::into_inner(choosing);
     match truth(alloc, value)? {
@@ -216,10 +215,7 @@ pub fn chosen<K: Drop>(
             room,
             script: Source::of_text(choices.branches.as_slice()[place].body.copy()?),
         }),
-        Ok(false) => {
-            let now = choose(alloc, table, frames, room, choices, place + 1)?;
-            Ok(now)
-        }
+        Ok(false) => choose(alloc, table, frames, room, choices, place + 1),
         Err(text) => Ok(Now::Ends {
             code: Code::Error,
             text,

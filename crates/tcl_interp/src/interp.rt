@@ -11,12 +11,15 @@ use tcl_table::{Levels, Source, first_commands};
 use tcl_text::Text;
 use tcl_vars::Scopes;
 
+/// How many scripts run in one another at most.
+const MAX_RUNNING: u64 = 200;
+
 /// How a slice ended.
 #[derive(Drop)]
 pub enum SliceEnd {
     /// All is done, with a code and a result or an error's text.
     Done(Code, Text),
-    /// The slice's steps are taken, and there is more to do. No slice at all answers this too.
+    /// The slice's steps are taken, and there is more to do.
     More,
     /// A step is needed, and none of the budget is left.
     Exhausted,
@@ -80,7 +83,7 @@ impl<K: Drop> Interp<K> {
         self.frames = frames;
         self.context.levels = levels;
         self.machine = Machine::Running(Now::Begins {
-            room: 200,
+            room: MAX_RUNNING,
             script: Source::of_text(script),
         });
         Ok(())
@@ -104,7 +107,7 @@ impl<K: Drop> Interp<K> {
         self.frames.clear();
         self.context.levels = levels;
         self.machine = Machine::Running(Now::Resumes {
-            room: 200,
+            room: MAX_RUNNING,
             task,
             code: Code::Normal,
             text,

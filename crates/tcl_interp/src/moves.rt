@@ -2,7 +2,7 @@ ghost use Rattle.std.specs.Prelude.{◌≡◌, true, [], List, drop, IfOk, IsOk,
 ghost use Rattle.tcl_control.specs.Commands.{caught_ending};
 ghost use Rattle.tcl_control.specs.Levels.{here, popped};
 ghost use Rattle.tcl_control.specs.Source.{script_of};
-ghost use Rattle.tcl_interp.specs.Plans.{joined, callers, procedure_code, procedure_text};
+ghost use Rattle.tcl_interp.specs.Plans.{with_levels_behind, callers, procedure_code, procedure_text};
 ghost use Rattle.tcl_interp.specs.Scripts.{out_of_global};
 ghost use Rattle.tcl_interp.specs.Moves.{after_command, after_part, after_index, after_value_move, after_test_move, after_choice_move, begin_move, parsed_move, end_move, next_move, after_body_move, after_next_move, after_start_move, ending_move, moved, standing, global_end};
 ghost use Rattle.tcl_interp.specs.Finish.{Waiting, Begins, Ends, ForCommand};
@@ -16,7 +16,7 @@ use crate::machine::{
 };
 use crate::words::{begin_for, go_on, longer_index, longer_word, put_index};
 use std::alloc::{AllocError, Global};
-use tcl_control::{Code, Context, End, Looping, ReturnCode, caught};
+use tcl_control::{Code, Context, End, Looping, ReturnCode, STRAY_BREAK, STRAY_CONTINUE, caught};
 use tcl_table::{CommandTable, Source};
 use tcl_text::Text;
 use tcl_vars::Scopes;
@@ -186,8 +186,8 @@ fn procedure_text(alloc: Global, code: Code, text: Text) -> Result<Text, AllocEr
     ensures { IfOk result (λ told. told ≡ procedure_text code text) }
 {
     match code {
-        Code::Break => Text::of_short(alloc, "invoked \"break\" outside of a loop"),
-        Code::Continue => Text::of_short(alloc, "invoked \"continue\" outside of a loop"),
+        Code::Break => Text::of_short(alloc, STRAY_BREAK),
+        Code::Continue => Text::of_short(alloc, STRAY_CONTINUE),
         Code::Normal => Ok(text),
         Code::Error => Ok(text),
         Code::Return(_) => Ok(text),
@@ -222,11 +222,11 @@ fn global_end<K: Drop>(alloc: Global, code: Code, text: Text) -> Next<K>
     match out_of_global(code) {
         Code::Break => Ok(Now::Ends {
             code: Code::Error,
-            text: Text::of_short(alloc, "invoked \"break\" outside of a loop")?,
+            text: Text::of_short(alloc, STRAY_BREAK)?,
         }),
         Code::Continue => Ok(Now::Ends {
             code: Code::Error,
-            text: Text::of_short(alloc, "invoked \"continue\" outside of a loop")?,
+            text: Text::of_short(alloc, STRAY_CONTINUE)?,
         }),
         code => Ok(Now::Ends { code, text }),
     }
@@ -327,7 +327,8 @@ fn after_choice<K: Drop>(
 ) -> Next<K>
     ensures table { table.new ≡ table.old }
     ensures now { IfOk result (λ now. moved_of now frames.new.items
-        ≡ after_choice_move room (drop choosing.value.place choosing.value.choices.branches) choosing.value.choices.otherwise (waits_of frames.old.items) code text) }
+        ≡ after_choice_move room (drop choosing.value.place choosing.value.choices.branches) choosing.value.choices.otherwise (waits_of frames.old.items)
+        code text) }
 {
     match code {
         Code::Normal => chosen(alloc, table, frames, room, choosing, &text),
@@ -366,10 +367,7 @@ fn ended<K: Drop>(
             context.levels.join(levels)?;
             Ok(Now::Ends { code, text })
         }
-        Frame::ForProcedure => {
-            let now = after_procedure(alloc, scopes, context, code, text)?;
-            Ok(now)
-        }
+        Frame::ForProcedure => after_procedure(alloc, scopes, context, code, text),
         Frame::ForScript { room, task } => Ok(Now::Resumes {
             room,
             task,

@@ -135,10 +135,7 @@ fn take_step<T: Tasks>(
                 room,
             )
         }
-        Now::Tests { room, turning } => {
-            let next = test(alloc, scopes, context, frames, turning, room)?;
-            Ok(next)
-        }
+        Now::Tests { room, turning } => test(alloc, scopes, context, frames, turning, room),
         Now::Steps { room, task } => Ok(Now::Resumes {
             room,
             task,

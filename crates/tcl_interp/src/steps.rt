@@ -209,14 +209,10 @@ fn call_named<T: Tasks>(
     ensures left { T.left_alone tasks.new ≡ T.left_alone tasks.old }
 {
     match call_command(alloc, scopes, context, name, arguments)? {
-        Call::Plans(plan) => {
-            let now = follow(alloc, context, frames, plan, room)?;
-            Ok(now)
-        }
+        Call::Plans(plan) => follow(alloc, context, frames, plan, room),
         Call::Outside(first) => {
             let act = call_outside(alloc, tasks, scopes, first, arguments)?;
-            let now = act_on(alloc, context, frames, act, name.as_str(), room)?;
-            Ok(now)
+            act_on(alloc, context, frames, act, name.as_str(), room)
         }
         Call::Unknown => Ok(Now::Ends {
             code: Code::Error,
@@ -245,8 +241,7 @@ pub fn call<T: Tasks>(
             text: Text::of_short(alloc, "")?,
         }),
         [name, arguments @ ..] => {
-            let now = call_named(alloc, tasks, scopes, context, frames, name, arguments, room)?;
-            Ok(now)
+            call_named(alloc, tasks, scopes, context, frames, name, arguments, room)
         }
     }
 }

@@ -3,22 +3,21 @@ ghost use Rattle.tcl_vars.specs.Store.{variable_in, element_in};
 ghost use Rattle.tcl_text.specs.Readings.{list_of};
 ghost use Rattle.tcl_control.specs.Source.{script_of};
 ghost use Rattle.tcl_control.specs.Texts.{element_name};
-ghost use Rattle.tcl_interp.specs.Evaluation.{index_depth, split_words, words_of};
+ghost use Rattle.tcl_interp.specs.Evaluation.{index_depth, items_or_text, words_of};
 ghost use Rattle.tcl_interp.specs.Finish.{Begins};
-ghost use Rattle.tcl_interp.specs.Moves.{moved, with_more, piece_text, word_end, called_move, words_move, element_begins, element_end, indexes_move, longer_index, part_begins, part_move, word_part, go_on_move};
+ghost use Rattle.tcl_interp.specs.Moves.{moved, with_more_words, piece_text, word_end, called_move, words_move, element_begins, element_end, indexes_move, longer_index, part_begins, part_move, word_part, go_on_move};
 ghost use Rattle.tcl_interp.specs.Rests.{commands_in, doing_of, expand_in_front, indexing_of, IsSingle, left_in, moved_of, part_of, pieces_in, pieces_in_front, put_end, value_of, waiting_of, waits_of, wording_of, words_in_front};
 ghost use Rattle.tcl_text.specs.Limits.{most_bytes};
 
 use crate::machine::{Frame, Indexing, Next, Now, ScriptPlace, Wording};
 use std::alloc::{AllocError, Global};
 use tcl_control::Code;
-use tcl_shapes::list_fault;
 use tcl_table::Source;
 use tcl_table::texts::cannot_read_element;
 use tcl_text::message::limit;
 use tcl_text::{SplitFault, Text, TextFault, TextList};
 use tcl_vars::Scopes;
-use tcl_words::{Command, Index, Piece, Script, Word};
+use tcl_words::{Command, Index, MAX_DEPTH, Piece, Script, Word};
 
 /// A part of a word that is evaluated by itself: a script in brackets, or an element, by the array's name and the index.
 #[derive(Drop)]
@@ -48,7 +47,7 @@ pub enum Put {
 }
 
 /// How many indices stand in one another at most, in a script that can be read.
-const INDEX_DEPTH: u64 = 200;
+const INDEX_DEPTH: u64 = MAX_DEPTH as u64;
 
 /// A piece's value, where variables are those of a level.
 fn piece_value(
@@ -168,7 +167,7 @@ fn with_words(
     expand: bool,
     text: Text,
 ) -> Result<Result<TextList, Text>, AllocError>
-    ensures { IfOk result (λ all. all ≡ with_more whole (words_of expand text)) }
+    ensures { IfOk result (λ all. all ≡ with_more_words whole (words_of expand text)) }
 {
     if expand {
         with_elements(alloc, whole, &text)
@@ -187,7 +186,7 @@ fn with_word(
     index: usize,
     text: Text,
 ) -> Result<Result<TextList, Text>, AllocError>
-    ensures { IfOk result (λ all. all ≡ with_more whole (words_of (expand_in_front (drop index words.now)) text)) }
+    ensures { IfOk result (λ all. all ≡ with_more_words whole (words_of (expand_in_front (drop index words.now)) text)) }
 {
     with_words(alloc, whole, expand_at(words, index), text)
 }
@@ -198,7 +197,7 @@ fn with_elements(
     whole: TextList,
     list: &Text,
 ) -> Result<Result<TextList, Text>, AllocError>
-    ensures { IfOk result (λ all. all ≡ with_more whole (split_words (list_of list.now))) }
+    ensures { IfOk result (λ all. all ≡ with_more_words whole (items_or_text (list_of list.now))) }
 {
     match list.split_list(alloc) {
         Ok(elements) => {
@@ -209,7 +208,7 @@ fn with_elements(
             }
             Ok(Ok(all))
         }
-        Err(SplitFault::BadList(fault)) => Ok(Err(list_fault(alloc, fault)?)),
+        Err(SplitFault::BadList(fault)) => Ok(Err(fault.told(alloc)?)),
         Err(SplitFault::NoMemory) => Err(AllocError),
     }
 }

@@ -6,9 +6,8 @@ use Rattle.tcl_control.specs.declared.code.Code.TheVariants.{Normal, Error, Retu
 use Rattle.tcl_control.specs.declared.context.Context.{Context}
 use Rattle.tcl_interp.specs.Outside.{Outside, Falls}
 use Rattle.tcl_interp.specs.Evaluation.{State, Outcome, Ended, OutOfSteps, and_then}
-use Rattle.tcl_interp.specs.Finish.{at_global}
 use Rattle.tcl_interp.specs.Plans.{run_at}
-use Rattle.tcl_interp.specs.Scripts.{script_meaning, out_of_global, on_act, after_step, act_meaning, task_meaning}
+use Rattle.tcl_interp.specs.Scripts.{script_meaning, out_of_global, at_global, on_act, after_step, act_meaning, task_meaning}
 use Rattle.tcl_interp.proofs.Bounds.{Bounded, and_then_same, stepped_same, within_run_at, within_script, after_step_same}
 use Rattle.tcl_jobs.specs.declared.job.Looked.{Looked}
 use Rattle.tcl_jobs.specs.declared.job.Looked.TheVariants.{Wants, Ends}
@@ -19,7 +18,7 @@ use Rattle.tcl_jobs.specs.Course.{Course}
 use Rattle.tcl_jobs.specs.Tasks.{act_of, global_act, outside_of}
 use Rattle.tcl_jobs.specs.Falls.{jobs_fall}
 use Rattle.tcl_jobs.specs.Meaning.{job_meaning, next_meaning, looked, started, after_script}
-use Rattle.tcl_jobs.specs.Laws.{Calls, Unrolls, Determined, GoesOn, Invoking}
+use Rattle.tcl_jobs.specs.Laws.{Calls, Unrolls, Determined, TasksGoOn, Invoking}
 
 module _ {S J : Type 0} (course : Course S J) (calls : Calls S J) (room : ℕ) where
   abbrev outside : Outside S (Task J)
@@ -113,7 +112,7 @@ unrolls course calls room job state = unrolled course calls room job state
 pub determined : {S J : Type 0} → Determined S J
 determined course calls room done is job state = same_by course calls room done is (suc state.steps) job state (omega arith)
 
-pub goes_on : {S J : Type 0} → GoesOn S J
+pub goes_on : {S J : Type 0} → TasksGoOn S J
 goes_on course calls room job state code text script = (resumed_same course calls room job state code text, begun_same course calls room script job state code text)
 
 pub invoking : {S J : Type 0} → Invoking S J

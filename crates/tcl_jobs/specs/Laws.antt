@@ -4,9 +4,8 @@ use Rattle.tcl_vars.specs.Store.{Store}
 use Rattle.tcl_control.specs.declared.code.Code.{Code}
 use Rattle.tcl_interp.specs.Outside.{Told}
 use Rattle.tcl_interp.specs.Evaluation.{State, Outcome, Ended, OutOfSteps, and_then}
-use Rattle.tcl_interp.specs.Finish.{at_global}
 use Rattle.tcl_interp.specs.Plans.{run_at}
-use Rattle.tcl_interp.specs.Scripts.{script_meaning, task_meaning}
+use Rattle.tcl_interp.specs.Scripts.{script_meaning, task_meaning, at_global}
 use Rattle.tcl_jobs.specs.declared.job.Looked.{Looked}
 use Rattle.tcl_jobs.specs.declared.job.Looked.TheVariants.{Wants, Ends}
 use Rattle.tcl_jobs.specs.declared.job.Started.{Started}
@@ -36,8 +35,8 @@ Determined S J = (course : Course S J) (calls : Calls S J) (room : ℕ) (done : 
     → (job : J) (state : State S) → done job state ≡ job_meaning course calls room job state
 
 -- tasks of a job go on with it
-abbrev pub GoesOn : Type 0 → Type 0 → Type 0
-GoesOn S J = (course : Course S J) (calls : Calls S J) (room : ℕ) (job : J) (state : State S) (code : Code) (text script : List ℕ)
+abbrev pub TasksGoOn : Type 0 → Type 0 → Type 0
+TasksGoOn S J = (course : Course S J) (calls : Calls S J) (room : ℕ) (job : J) (state : State S) (code : Code) (text script : List ℕ)
     → (task_meaning (outside_of course calls) (runs course calls room) (Runs job) state code text
     ≡ (let there : S × J = course.ended code text state.shows job in job_meaning course calls room there.1 (record state { shows = there.0 })))
     × (task_meaning (outside_of course calls) (runs course calls room) (Begins script job) state code text

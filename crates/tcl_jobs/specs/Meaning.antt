@@ -24,7 +24,8 @@ module _ {S J : Type 0} (course : Course S J) where
   module _ (run : List ℕ → State S → Outcome S) (done : J → State S → Outcome S) where
     -- a script of a job has ended
     abbrev pub after_script : J → State S → Code → List ℕ → Outcome S
-    after_script job state code text = (let there : S × J = course.ended (out_of_global code) text state.shows job in done there.1 (record state { shows = there.0 }))
+    after_script job state code text =
+        (let there : S × J = course.ended (out_of_global code) text state.shows job in done there.1 (record state { shows = there.0 }))
 
     -- what is next starts, its step being taken, and its script runs at global level
     abbrev pub started : J → State S → Outcome S

@@ -1,8 +1,9 @@
 -- Meaning. The tasks of jobs, as outside commands of an interpreter.
-use Rattle.std.specs.Prelude.{ℕ, List, [], codes}
+use Rattle.std.specs.Prelude.{ℕ, List, []}
 use Rattle.tcl_vars.specs.Store.{Store}
 use Rattle.tcl_control.specs.declared.code.Code.{Code}
 use Rattle.tcl_control.specs.declared.code.Code.TheVariants.{Normal, Error, Return, Break, Continue}
+use Rattle.tcl_control.specs.Texts.{break_outside, continue_outside}
 use Rattle.tcl_interp.specs.declared.tasks.Act.{Act}
 use Rattle.tcl_interp.specs.declared.tasks.Act.TheVariants.{Done, Step, Run}
 use Rattle.tcl_interp.specs.Outside.{Outside, Told}
@@ -24,8 +25,8 @@ act_started started = Run started.script (Runs started.job)
 
 -- the answer of a script at global level, where there is no loop around it
 abbrev pub global_act : {J : Type 0} → Code → List ℕ → Act (Task J)
-global_act Break text = Done Error (codes "invoked \"break\" outside of a loop")
-global_act Continue text = Done Error (codes "invoked \"continue\" outside of a loop")
+global_act Break text = Done Error break_outside
+global_act Continue text = Done Error continue_outside
 global_act code text = Done code text
 
 -- an act, where no variable has changed

@@ -5,6 +5,7 @@ ghost use Rattle.tcl_jobs.specs.Tasks.{act_of, ended_told, global_act, looked_to
 
 use crate::job::{Looked, Started, Task};
 use std::alloc::{AllocError, Global};
+use tcl_control::{STRAY_BREAK, STRAY_CONTINUE};
 use tcl_interp::{Act, Code};
 use tcl_text::Text;
 use tcl_vars::Scopes;
@@ -108,11 +109,11 @@ fn end_at_global<J: Drop>(alloc: Global, code: Code, text: Text) -> Acted<J>
 {
     match code {
         Code::Break => {
-            let fault = Text::of_short(alloc, "invoked \"break\" outside of a loop")?;
+            let fault = Text::of_short(alloc, STRAY_BREAK)?;
             Ok(Act::Done(Code::Error, fault))
         }
         Code::Continue => {
-            let fault = Text::of_short(alloc, "invoked \"continue\" outside of a loop")?;
+            let fault = Text::of_short(alloc, STRAY_CONTINUE)?;
             Ok(Act::Done(Code::Error, fault))
         }
         other => Ok(Act::Done(other, text)),

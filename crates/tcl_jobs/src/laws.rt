@@ -1,6 +1,6 @@
 //! What holds of all jobs, whatever they do.
 
-ghost use Rattle.tcl_jobs.specs.Laws.{Determined, EndsLooked, GoesOn, Invoking, StepsFall, Unrolls};
+ghost use Rattle.tcl_jobs.specs.Laws.{Determined, EndsLooked, TasksGoOn, Invoking, StepsFall, Unrolls};
 
 /// A job is what its look says: either it ends so; or a step is taken, what is next starts, its script runs at global level, and then comes, in
 /// the state that the script leaves, the job that its end makes of it. Nothing else meets that equation: what a job comes to is given by it.
@@ -12,7 +12,7 @@ pub fn unrolls<S, J>()
 /// A task that is resumed behind a script goes on with the job; so does one that begins with a script. A script whose end is the answer ends as a
 /// script at global level does.
 pub fn goes_on<S, J>()
-    ensures job { GoesOn S J }
+    ensures job { TasksGoOn S J }
     ensures invoked { Invoking S J }
 {}
 

@@ -6,7 +6,7 @@ use Rattle.tcl_shapes.specs.declared.branches.Clause.{Clause}
 use Rattle.tcl_shapes.specs.declared.branches.Clause.TheVariants.{AtTest, AtThen, AtBody, Behind, AtLast, AtEnd}
 use Rattle.tcl_shapes.specs.declared.branches.Choices.{Choices}
 use Rattle.tcl_shapes.specs.Branches.{branch_of, with_branch, choices_from, choices_of}
-use Rattle.tcl_shapes.specs.Shapes.{IsBranch, IsOtherwise, AreFurther, AreChoices, IsIf}
+use Rattle.tcl_shapes.specs.Shapes.{IsBranch, IsOtherwise, AreFurtherBranches, AreChoices, IsIf}
 
 -- a text that isn't another
 apart : (a b : List ℕ) → a ≢ b → bytes_eq a b ≡ false
@@ -30,7 +30,7 @@ module _ (branch : Branch) where
       ap (λ o. choices_from AtTest (o ++ rest)) both.1
       ∙ ap (λ b. if b then choices_from (AtBody branch.test) rest else option_map (with_branch branch.test branch.body) (choices_from Behind rest)) (apart branch.body (codes "then") both.0)
 
-further_read : (words : List (List ℕ)) (branches : List Branch) (otherwise : Option (List ℕ)) → AreFurther words branches otherwise → choices_from Behind words ≡ Some (choices_with branches otherwise)
+further_read : (words : List (List ℕ)) (branches : List Branch) (otherwise : Option (List ℕ)) → AreFurtherBranches words branches otherwise → choices_from Behind words ≡ Some (choices_with branches otherwise)
 further_read words [] None same = ap (choices_from Behind) same
 further_read words [] (Some body) (inl same) = ap (choices_from Behind) same
 further_read words [] (Some body) (inr all) =
@@ -63,29 +63,29 @@ abbrev Cut : Clause → List (List ℕ) → Choices → Type 0
 Cut AtTest words choices = IsIf words choices
 Cut (AtThen test) words choices = IsIf (test ∷ words) choices
 Cut (AtBody test) words choices = IsIf (test ∷ codes "then" ∷ words) choices
-Cut Behind words choices = AreFurther words choices.branches choices.otherwise
-Cut AtLast words choices = AreFurther (codes "else" ∷ words) choices.branches choices.otherwise
+Cut Behind words choices = AreFurtherBranches words choices.branches choices.otherwise
+Cut AtLast words choices = AreFurtherBranches (codes "else" ∷ words) choices.branches choices.otherwise
 Cut (AtEnd body) words choices = (words ≡ []) × (choices ≡ choices_with [] (Some body))
 
 module _ (test body : List ℕ) (words : List (List ℕ)) (choices : Choices) where
   -- a branch in front of what is cut
-  branch_cut : (own : List (List ℕ)) → IsBranch own (branch_of test body) → ((c : Choices) → choices_from Behind words ≡ Some c → AreFurther words c.branches c.otherwise)
+  branch_cut : (own : List (List ℕ)) → IsBranch own (branch_of test body) → ((c : Choices) → choices_from Behind words ≡ Some c → AreFurtherBranches words c.branches c.otherwise)
       → option_map (with_branch test body) (choices_from Behind words) ≡ Some choices → IsIf (own ++ words) choices
   branch_cut own is more same =
       let inner = mapped (with_branch test body) (choices_from Behind words) choices same in
       subst (IsIf (own ++ words)) inner.2 (own, words, refl, is, more inner.0 inner.1)
 
 -- likewise behind another body
-further_cut : (words : List (List ℕ)) (choices : Choices) → IsIf words choices → AreFurther (codes "elseif" ∷ words) choices.branches choices.otherwise
+further_cut : (words : List (List ℕ)) (choices : Choices) → IsIf words choices → AreFurtherBranches (codes "elseif" ∷ words) choices.branches choices.otherwise
 further_cut words choices is = by choices.branches is
   where
-    by : (branches : List Branch) → AreChoices words branches choices.otherwise → AreFurther (codes "elseif" ∷ words) branches choices.otherwise
+    by : (branches : List Branch) → AreChoices words branches choices.otherwise → AreFurtherBranches (codes "elseif" ∷ words) branches choices.otherwise
     by [] none = absurd none
     by (branch ∷ branches) (own, rest, cut, is, more) = (own, rest, ap (λ w. codes "elseif" ∷ w) cut, is, more)
 
 -- nothing behind the last body
-last_cut : (own words : List (List ℕ)) (body : List ℕ) (choices : Choices) → (words ≡ [] → IsOtherwise own (Some body)) → Cut (AtEnd body) words choices → AreFurther own choices.branches choices.otherwise
-last_cut own words body choices is end = subst (λ (c : Choices). AreFurther own c.branches c.otherwise) (sym end.1) (is end.0)
+last_cut : (own words : List (List ℕ)) (body : List ℕ) (choices : Choices) → (words ≡ [] → IsOtherwise own (Some body)) → Cut (AtEnd body) words choices → AreFurtherBranches own choices.branches choices.otherwise
+last_cut own words body choices is end = subst (λ (c : Choices). AreFurtherBranches own c.branches c.otherwise) (sym end.1) (is end.0)
 
 differs : (a b : List ℕ) → bytes_eq a b ≡ false → a ≢ b
 differs a b told same = absurd (true≢false (sym ((bytes_decides a b).1 same) ∙ told))
@@ -98,25 +98,25 @@ cut_from (AtThen test) (word ∷ words) choices same = by (bytes_eq word (codes 
   where
     by : (b : Bool) → bytes_eq word (codes "then") ≡ b → (if b then choices_from (AtBody test) words else option_map (with_branch test word) (choices_from Behind words)) ≡ Some choices
         → (choices_from (AtBody test) words ≡ Some choices → IsIf (test ∷ codes "then" ∷ words) choices)
-        → ((c : Choices) → choices_from Behind words ≡ Some c → AreFurther words c.branches c.otherwise) → IsIf (test ∷ word ∷ words) choices
+        → ((c : Choices) → choices_from Behind words ≡ Some c → AreFurtherBranches words c.branches c.otherwise) → IsIf (test ∷ word ∷ words) choices
     by true here found at_body behind = subst (λ w. IsIf (test ∷ w ∷ words) choices) (sym ((bytes_decides word (codes "then")).0 here)) (at_body found)
     by false here found at_body behind = branch_cut test word words choices (test ∷ word ∷ []) (inr (differs word (codes "then") here, refl)) behind found
 cut_from (AtBody test) [] choices same = absurd (cc)
 cut_from (AtBody test) (word ∷ words) choices same = branch_cut test word words choices (test ∷ codes "then" ∷ word ∷ []) (inl refl) (cut_from Behind words) same
-cut_from Behind [] choices same = let is : choices_with [] None ≡ choices = cc in subst (λ (c : Choices). AreFurther [] c.branches c.otherwise) is refl
+cut_from Behind [] choices same = let is : choices_with [] None ≡ choices = cc in subst (λ (c : Choices). AreFurtherBranches [] c.branches c.otherwise) is refl
 cut_from Behind (word ∷ words) choices same =
     by (bytes_eq word (codes "elseif")) (bytes_eq word (codes "else")) refl refl same (cut_from AtTest words choices) (cut_from AtLast words choices) (cut_from (AtEnd word) words choices)
   where
     by : (elseif_here else_here : Bool) → bytes_eq word (codes "elseif") ≡ elseif_here → bytes_eq word (codes "else") ≡ else_here
         → (if elseif_here then choices_from AtTest words else (if else_here then choices_from AtLast words else choices_from (AtEnd word) words)) ≡ Some choices
         → (choices_from AtTest words ≡ Some choices → IsIf words choices)
-        → (choices_from AtLast words ≡ Some choices → AreFurther (codes "else" ∷ words) choices.branches choices.otherwise)
+        → (choices_from AtLast words ≡ Some choices → AreFurtherBranches (codes "else" ∷ words) choices.branches choices.otherwise)
         → (choices_from (AtEnd word) words ≡ Some choices → Cut (AtEnd word) words choices)
-        → AreFurther (word ∷ words) choices.branches choices.otherwise
+        → AreFurtherBranches (word ∷ words) choices.branches choices.otherwise
     by true other here there found at_test at_last at_end =
-        subst (λ w. AreFurther (w ∷ words) choices.branches choices.otherwise) (sym ((bytes_decides word (codes "elseif")).0 here)) (further_cut words choices (at_test found))
+        subst (λ w. AreFurtherBranches (w ∷ words) choices.branches choices.otherwise) (sym ((bytes_decides word (codes "elseif")).0 here)) (further_cut words choices (at_test found))
     by false true here there found at_test at_last at_end =
-        subst (λ w. AreFurther (w ∷ words) choices.branches choices.otherwise) (sym ((bytes_decides word (codes "else")).0 there)) (at_last found)
+        subst (λ w. AreFurtherBranches (w ∷ words) choices.branches choices.otherwise) (sym ((bytes_decides word (codes "else")).0 there)) (at_last found)
     by false false here there found at_test at_last at_end =
         last_cut (word ∷ words) words word choices (λ none. inr (differs word (codes "elseif") here, differs word (codes "else") there, ap (λ w. word ∷ w) none)) (at_end found)
 cut_from AtLast [] choices same = absurd (cc)

@@ -9,13 +9,13 @@ use Rattle.tcl_shapes.specs.declared.branches.Branch.{Branch}
 use Rattle.tcl_shapes.specs.declared.groups.Group.{Group}
 use Rattle.tcl_shapes.specs.Branches.{branch_of, arms_from, arms_of}
 use Rattle.tcl_shapes.specs.Groups.{group_named, group_of, groups_from, groups_of, behind_group, has_body, has_more, next_place}
-use Rattle.tcl_shapes.specs.Shapes.{pairs_of, IsGroup, IsNoGroup, AreGroups, AreBeforeFault, AreFaulty, after_turns}
+use Rattle.tcl_shapes.specs.Shapes.{arm_words, IsGroup, IsNoGroup, AreGroups, AreGroupsBeforeFault, AreFaulty, after_turns}
 
-pairs_read : (arms : List Branch) → arms_from None (pairs_of arms) ≡ Some arms
+pairs_read : (arms : List Branch) → arms_from None (arm_words arms) ≡ Some arms
 pairs_read [] = refl
 pairs_read (arm ∷ arms) = ap (option_map (λ more. arm ∷ more)) (pairs_read arms)
 
-pub arms_read : (items : List (List ℕ)) (arms : List Branch) → items ≡ pairs_of arms → arms_of items ≡ Some arms
+pub arms_read : (items : List (List ℕ)) (arms : List Branch) → items ≡ arm_words arms → arms_of items ≡ Some arms
 unfolding arms_of
 arms_read items arms same = ap (arms_from None) same ∙ pairs_read arms
 
@@ -24,18 +24,18 @@ abbrev held_pairs : Option (List ℕ) → List (List ℕ) → List (List ℕ)
 held_pairs None items = items
 held_pairs (Some pattern) items = pattern ∷ items
 
-arms_from_cut : (held : Option (List ℕ)) (items : List (List ℕ)) (arms : List Branch) → arms_from held items ≡ Some arms → held_pairs held items ≡ pairs_of arms
-arms_from_cut None [] arms same = let is : [] ≡ arms = cc in ap pairs_of is
+arms_from_cut : (held : Option (List ℕ)) (items : List (List ℕ)) (arms : List Branch) → arms_from held items ≡ Some arms → held_pairs held items ≡ arm_words arms
+arms_from_cut None [] arms same = let is : [] ≡ arms = cc in ap arm_words is
 arms_from_cut None (pattern ∷ items) arms same = arms_from_cut (Some pattern) items arms same
 arms_from_cut (Some pattern) [] arms same = absurd (cc)
 arms_from_cut (Some pattern) (body ∷ items) arms same = by (arms_from None items) refl same (arms_from_cut None items)
   where
     by : (more : Option (List Branch)) → arms_from None items ≡ more → option_map (λ more. branch_of pattern body ∷ more) more ≡ Some arms
-        → ((behind : List Branch) → arms_from None items ≡ Some behind → items ≡ pairs_of behind) → pattern ∷ body ∷ items ≡ pairs_of arms
+        → ((behind : List Branch) → arms_from None items ≡ Some behind → items ≡ arm_words behind) → pattern ∷ body ∷ items ≡ arm_words arms
     by None read found cut = absurd (cc)
-    by (Some behind) read found cut = let is : branch_of pattern body ∷ behind ≡ arms = cc in ap (λ i. pattern ∷ body ∷ i) (cut behind read) ∙ ap pairs_of is
+    by (Some behind) read found cut = let is : branch_of pattern body ∷ behind ≡ arms = cc in ap (λ i. pattern ∷ body ∷ i) (cut behind read) ∙ ap arm_words is
 
-pub arms_cut : (items : List (List ℕ)) (arms : List Branch) → arms_of items ≡ Some arms → items ≡ pairs_of arms
+pub arms_cut : (items : List (List ℕ)) (arms : List Branch) → arms_of items ≡ Some arms → items ≡ arm_words arms
 unfolding arms_of
 arms_cut items arms same = arms_from_cut None items arms same
 
@@ -79,7 +79,7 @@ module _ (lists : (text : List ℕ) (items : List (List ℕ)) → (list_of text 
       ∙ ap (λ g. behind_group g (groups_from None (rest ++ body ∷ []))) (group_read names items group is)
       ∙ ap (behind_group (Ok group)) (groups_from_read rest body groups more)
 
-  fault_from_read : (words : List (List ℕ)) (body text : List ℕ) (groups : List Group) → AreBeforeFault words groups text → groups_from None (words ++ body ∷ []) ≡ Err text
+  fault_from_read : (words : List (List ℕ)) (body text : List ℕ) (groups : List Group) → AreGroupsBeforeFault words groups text → groups_from None (words ++ body ∷ []) ≡ Err text
   fault_from_read words body text [] (names, items, rest, cut, is) =
       ap (λ w. groups_from None (w ++ body ∷ [])) cut ∙ ap (λ g. behind_group g (groups_from None (rest ++ body ∷ []))) (fault_read names items text is)
   fault_from_read words body text (group ∷ groups) (names, items, rest, cut, is, more) =

@@ -4,9 +4,9 @@ use Rattle.tcl_shapes.specs.declared.branches.Branch.{Branch}
 use Rattle.tcl_shapes.specs.declared.branches.Clause.{Clause}
 use Rattle.tcl_shapes.specs.declared.branches.Choices.{Choices}
 use Rattle.tcl_shapes.specs.declared.groups.Group.{Group}
-use Rattle.tcl_shapes.specs.Ahead.{ahead}
+use Rattle.tcl_shapes.specs.Ahead.{ahead, with_branches}
 use Rattle.tcl_shapes.specs.Groups.{groups_from}
-use Rattle.tcl_shapes.specs.Branches.{choices_from, front}
+use Rattle.tcl_shapes.specs.Branches.{choices_from}
 
 module _ {X : Type 0} where
   at_suc : (xs : List X) (i : ℕ) (d : X) → i < length xs → drop i xs ≡ get_or xs i d ∷ drop (suc i) xs
@@ -19,9 +19,9 @@ module _ {X : Type 0} where
 
 -- a word that doesn't fit
 pub none_from : (branches : List Branch) (clause : Clause) (words : List (List ℕ)) (i : ℕ) (word : List ℕ) (all : Option Choices) → i < length words → word ≡ get_or words i word
-    → ((rest : List (List ℕ)) → choices_from clause (word ∷ rest) ≡ None) → front branches (choices_from clause (drop i words)) ≡ all → None ≡ all
+    → ((rest : List (List ℕ)) → choices_from clause (word ∷ rest) ≡ None) → with_branches branches (choices_from clause (drop i words)) ≡ all → None ≡ all
 none_from branches clause words i word all less at fails same =
-    ap (front branches) (sym (fails (drop (i + 1) words)) ∙ ap (choices_from clause) (sym (drop_at words i word less at))) ∙ same
+    ap (with_branches branches) (sym (fails (drop (i + 1) words)) ∙ ap (choices_from clause) (sym (drop_at words i word less at))) ∙ same
 
 -- a word that is at fault
 pub fault_from : (groups : List Group) (open_names : Option (List ℕ)) (words : List (List ℕ)) (i : ℕ) (word text : List ℕ) (all : Result (List Group) (List ℕ)) → i < length words → word ≡ get_or words i word

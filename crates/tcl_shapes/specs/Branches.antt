@@ -1,5 +1,5 @@
 -- Meaning. The words of `if`, and the pairs of `switch`: bodies, each behind its condition or pattern.
-use Rattle.std.specs.Prelude.{◌≡◌, ℕ, List, [], ◌∷◌, ◌++◌, if◌then◌else◌, Option, Some, None, option_map, codes, bytes_eq}
+use Rattle.std.specs.Prelude.{ℕ, List, [], ◌∷◌, if◌then◌else◌, Option, Some, None, option_map, codes, bytes_eq}
 use Rattle.tcl_shapes.specs.declared.branches.Branch.{Branch}
 use Rattle.tcl_shapes.specs.declared.branches.Clause.{Clause}
 use Rattle.tcl_shapes.specs.declared.branches.Clause.TheVariants.{AtTest, AtThen, AtBody, Behind, AtLast, AtEnd}
@@ -45,18 +45,3 @@ arms_from (Some pattern) (body ∷ items) = option_map (λ arms. branch_of patte
 -- patterns and bodies in turn; none where the last pattern has no body
 unfoldable pub arms_of : List (List ℕ) → Option (List Branch)
 arms_of items = arms_from None items
-
--- choices with branches in front
-abbrev pub front : List Branch → Option Choices → Option Choices
-front branches choices = option_map (λ (c : Choices). record c { branches = branches ++ c.branches }) choices
-
--- One more word leads to this place, with these branches so far: for any words behind it, all that there is stays.
-abbrev pub Follows : Clause → List ℕ → List Branch → Option Clause → List Branch → Type 0
-Follows clause word branches (Some next) branches' =
-    (words : List (List ℕ)) → front branches' (choices_from next words) ≡ front branches (choices_from clause (word ∷ words))
-Follows clause word branches None branches' = (words : List (List ℕ)) → choices_from clause (word ∷ words) ≡ None
-
--- One more item leads to this, with these arms so far: for any items behind it, all that there is stays.
-abbrev pub FollowsArm : Option (List ℕ) → List ℕ → List Branch → Option (List ℕ) → List Branch → Type 0
-FollowsArm held item arms next arms' =
-    (items : List (List ℕ)) → option_map (λ more. arms' ++ more) (arms_from next items) ≡ option_map (λ more. arms ++ more) (arms_from held (item ∷ items))

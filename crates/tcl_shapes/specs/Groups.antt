@@ -1,19 +1,21 @@
 -- Meaning. The words of `foreach`: lists of names, each with a list of items.
-use Rattle.std.specs.Prelude.{◌≡◌, ℕ, ◌+◌, ◌-◌, ◌%◌, ◌==◌, nat_lt, Bool, List, [], ◌∷◌, length, if◌then◌else◌, Option, Some, None, Result, Ok, Err, codes}
+use Rattle.std.specs.Prelude.{ℕ, ◌+◌, ◌-◌, ◌%◌, ◌==◌, nat_lt, Bool, List, [], ◌∷◌, length, if◌then◌else◌, Option, Some, None, Result, Ok, Err, codes}
 use Rattle.tcl_text.specs.Readings.{list_of}
-use Rattle.tcl_text.specs.Splitting.{fault_text as list_text}
+use Rattle.tcl_text.specs.FaultTexts.{list_text}
 use Rattle.tcl_text.specs.declared.fault.ListFault.{ListFault}
 use Rattle.tcl_shapes.specs.declared.groups.Group.{Group}
-use Rattle.tcl_shapes.specs.Ahead.{ahead}
 use Rattle.tcl_text.specs.Answers.{message}
 
 abbrev pub group_named : List (List ℕ) → Result (List (List ℕ)) ListFault → Result Group (List ℕ)
 group_named names (Ok items) = Ok (record { names = names; items = items; next = 0 })
 group_named names (Err fault) = Err (message (list_text fault))
 
+abbrev pub no_names_text : List ℕ
+no_names_text = codes "foreach varlist is empty"
+
 -- a list of names, which isn't empty, and a list of items
 abbrev pub group_of : Result (List (List ℕ)) ListFault → Result (List (List ℕ)) ListFault → Result Group (List ℕ)
-group_of (Ok []) items = Err (codes "foreach varlist is empty")
+group_of (Ok []) items = Err no_names_text
 group_of (Ok (name ∷ names)) items = group_named (name ∷ names) items
 group_of (Err fault) items = Err (message (list_text fault))
 
@@ -48,9 +50,3 @@ advanced group = record group { next = next_place (length group.names) (length g
 -- there are items left
 abbrev pub has_more : Group → Bool
 has_more group = nat_lt group.next (length group.items)
-
--- One more word leads to this, with these groups so far: for any words behind it, all that there is stays.
-abbrev pub FollowsGroup : Option (List ℕ) → List ℕ → List Group → Result (Option (List ℕ)) (List ℕ) → List Group → Type 0
-FollowsGroup held word groups (Ok next) groups' =
-    (words : List (List ℕ)) → ahead groups' (groups_from next words) ≡ ahead groups (groups_from held (word ∷ words))
-FollowsGroup held word groups (Err text) groups' = (words : List (List ℕ)) → groups_from held (word ∷ words) ≡ Err text

@@ -2,7 +2,7 @@
 use Rattle.std.specs.Prelude.{ℕ, ◌==◌, nat_eq, Bool, false, ◌||◌, not, List, [], ◌∷◌, length, if◌then◌else◌, Option, Some, None, is_some, Result, Ok, Err, codes}
 use Rattle.std.specs.List.{starts_with}
 use Rattle.tcl_text.specs.Readings.{list_of}
-use Rattle.tcl_text.specs.Splitting.{fault_text as list_text}
+use Rattle.tcl_text.specs.FaultTexts.{list_text}
 use Rattle.tcl_text.specs.declared.fault.ListFault.{ListFault}
 use Rattle.tcl_vars.specs.Name.{element_of}
 use Rattle.tcl_shapes.specs.declared.parameters.Parameter.{Parameter}

@@ -1,5 +1,6 @@
 ghost use Rattle.std.specs.Prelude.{◌≡◌, ◌++◌, drop, IfOk};
-ghost use Rattle.tcl_shapes.specs.Branches.{choices_of, choices_from, arms_of, Follows, FollowsArm};
+ghost use Rattle.tcl_shapes.specs.Ahead.{Follows, FollowsArm};
+ghost use Rattle.tcl_shapes.specs.Branches.{choices_of, choices_from, arms_of};
 
 use crate::listing::Listing;
 use std::alloc::{AllocError, Global};

@@ -1,10 +1,10 @@
 ghost use Rattle.std.specs.Prelude.{◌≡◌, ◌++◌, map, length, IfOk};
 ghost use Rattle.std.specs.List.{list_any};
 ghost use Rattle.tcl_text.specs.Readings.{list_of};
-ghost use Rattle.tcl_shapes.specs.Groups.{group_named, group_of, groups_from, groups_of, has_body, next_place, advanced, has_more, FollowsGroup};
+ghost use Rattle.tcl_shapes.specs.Ahead.{FollowsGroup};
+ghost use Rattle.tcl_shapes.specs.Groups.{group_named, group_of, groups_from, groups_of, has_body, next_place, advanced, has_more};
 
 use crate::listing::Listing;
-use crate::texts::list_fault;
 use std::alloc::{AllocError, Global};
 use tcl_text::{ListItems, SplitFault, Text, TextList};
 
@@ -76,7 +76,7 @@ fn group_named(
             items,
             next: 0,
         })),
-        Err(SplitFault::BadList(fault)) => Ok(Err(list_fault(alloc, fault)?)),
+        Err(SplitFault::BadList(fault)) => Ok(Err(fault.told(alloc)?)),
         Err(SplitFault::NoMemory) => Err(AllocError),
     }
 }
@@ -92,7 +92,7 @@ fn group_of(alloc: Global, names: &Text, items: &Text) -> Result<Result<Group, T
             }
             group_named(alloc, names, items)
         }
-        Err(SplitFault::BadList(fault)) => Ok(Err(list_fault(alloc, fault)?)),
+        Err(SplitFault::BadList(fault)) => Ok(Err(fault.told(alloc)?)),
         Err(SplitFault::NoMemory) => Err(AllocError),
     }
 }

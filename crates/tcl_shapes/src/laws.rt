@@ -3,7 +3,7 @@
 ghost use Rattle.std.specs.Prelude.{◌≡◌, ℕ, ◌*◌, true, List, [], ◌∷◌, ◌++◌, length, drop, nat_lt, Some, Ok, Err};
 ghost use Rattle.tcl_shapes.specs.Branches.{choices_of, arms_of};
 ghost use Rattle.tcl_shapes.specs.Groups.{groups_of, has_body, has_more};
-ghost use Rattle.tcl_shapes.specs.Shapes.{IsIf, pairs_of, AreGroups, AreFaulty, after_turns};
+ghost use Rattle.tcl_shapes.specs.Shapes.{IsIf, arm_words, AreGroups, AreFaulty, after_turns};
 ghost use Rattle.tcl_shapes.specs.declared.branches.Branch.{Branch};
 ghost use Rattle.tcl_shapes.specs.declared.branches.Choices.{Choices};
 ghost use Rattle.tcl_shapes.specs.declared.groups.Group.{Group};
@@ -18,8 +18,8 @@ pub fn if_words_are_cut()
 
 /// `arms_of` gives arms exactly where the items are their pairs.
 pub fn switch_items_are_pairs()
-    ensures arms { (items : List (List ℕ)) (arms : List Branch) → items ≡ pairs_of arms → arms_of items ≡ Some arms }
-    ensures only { (items : List (List ℕ)) (arms : List Branch) → arms_of items ≡ Some arms → items ≡ pairs_of arms }
+    ensures arms { (items : List (List ℕ)) (arms : List Branch) → items ≡ arm_words arms → arms_of items ≡ Some arms }
+    ensures only { (items : List (List ℕ)) (arms : List Branch) → arms_of items ≡ Some arms → items ≡ arm_words arms }
 {}
 
 /// `groups_of` gives groups, or the text of an error, exactly where the words before the body of `foreach` are those groups, or are at fault with that text.

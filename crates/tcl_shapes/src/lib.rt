@@ -7,10 +7,8 @@ mod groups;
 pub mod laws;
 mod listing;
 mod parameters;
-mod texts;
 
 pub use branches::{Branch, Branches, Choices, if_choices, switch_arms};
 pub use groups::{Group, Groups, foreach_groups, has_body};
 pub use listing::Listing;
 pub use parameters::{Parameter, Parameters, parameters_in};
-pub use texts::list_fault;

@@ -3,10 +3,12 @@ ghost use Rattle.tcl_text.specs.Readings.{list_of};
 ghost use Rattle.tcl_shapes.specs.Parameters.{has_colons, is_element, is_parameter_name, parameter_named, parameter_parts, parameter_of, parameters_of, parameters_in};
 
 use crate::listing::Listing;
-use crate::texts::list_fault;
 use std::alloc::{AllocError, Global};
 use tcl_text::{SplitFault, Text};
 use tcl_vars::element_of;
+
+/// What is told of items that are no parameters.
+const BAD_LIST: &str = "bad parameter list";
 
 /// A parameter of a procedure, and its default (proc(n)). A call gives the last one the rest of its words where that is named `args`.
 #[derive(Drop)]
@@ -58,7 +60,7 @@ fn parameter_named(
             fallback,
         }))
     } else {
-        Ok(Err(Text::of_short(alloc, "bad parameter list")?))
+        Ok(Err(Text::of_short(alloc, BAD_LIST)?))
     }
 }
 
@@ -68,7 +70,7 @@ fn parameter_parts(alloc: Global, parts: &[Text]) -> Result<Result<Parameter, Te
     match parts {
         [name] => parameter_named(alloc, name, None),
         [name, fallback] => parameter_named(alloc, name, Some(fallback.copy()?)),
-        _ => Ok(Err(Text::of_short(alloc, "bad parameter list")?)),
+        _ => Ok(Err(Text::of_short(alloc, BAD_LIST)?)),
     }
 }
 
@@ -78,7 +80,7 @@ fn parameter_of(alloc: Global, item: &Text) -> Result<Result<Parameter, Text>, A
 {
     match item.split_list(alloc) {
         Ok(parts) => parameter_parts(alloc, parts.as_slice()),
-        Err(SplitFault::BadList(fault)) => Ok(Err(list_fault(alloc, fault)?)),
+        Err(SplitFault::BadList(fault)) => Ok(Err(fault.told(alloc)?)),
         Err(SplitFault::NoMemory) => Err(AllocError),
     }
 }
@@ -105,7 +107,7 @@ pub fn parameters_in(alloc: Global, list: &Text) -> Result<Result<Parameters, Te
 {
     match list.split_list(alloc) {
         Ok(items) => parameters_of(alloc, items.as_slice()),
-        Err(SplitFault::BadList(fault)) => Ok(Err(list_fault(alloc, fault)?)),
+        Err(SplitFault::BadList(fault)) => Ok(Err(fault.told(alloc)?)),
         Err(SplitFault::NoMemory) => Err(AllocError),
     }
 }

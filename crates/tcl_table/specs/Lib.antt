@@ -1,5 +1,6 @@
 -- What the contracts cite.
 pub mod Levels
+pub mod Limits
 pub mod Names
 pub mod Source
 pub mod SourceForms

@@ -12,8 +12,8 @@ use Rattle.tcl_text.specs.declared.commands.TextCommand.{TextCommand}
 use Rattle.tcl_text.specs.declared.commands.TextCommand.TheVariants as text
 
 -- names with commands, in the order in which they came
-abbrev pub Table : Type 0
-Table = Named Command
+abbrev pub NamedCommands : Type 0
+NamedCommands = Named Command
 
 abbrev pub is_procedure : Command → Bool
 is_procedure (Procedure procedure) = true
@@ -24,21 +24,21 @@ procedures_among [] = 0
 procedures_among (command ∷ commands) = if is_procedure command then procedures_among commands + 1 else procedures_among commands
 
 -- how many names call procedures
-abbrev pub procedure_count : Table → ℕ
+abbrev pub procedure_count : NamedCommands → ℕ
 procedure_count table = procedures_among (map (λ e. e.1) table)
 
 -- with the commands of the interpreter's own
-abbrev pub with_builtins : List (List ℕ × BuiltinName) → Table → Table
+abbrev pub with_builtins : List (List ℕ × BuiltinName) → NamedCommands → NamedCommands
 with_builtins [] table = table
 with_builtins (entry ∷ entries) table = with_builtins entries (with_value table entry.0 (Builtin entry.1))
 
 -- with commands on texts and lists
-abbrev pub with_texts : List (List ℕ × TextCommand) → Table → Table
+abbrev pub with_texts : List (List ℕ × TextCommand) → NamedCommands → NamedCommands
 with_texts [] table = table
 with_texts (entry ∷ entries) table = with_texts entries (with_value table entry.0 (Texts entry.1))
 
 -- with outside commands, which replace others of their names
-abbrev pub with_outside : List (List ℕ) → Table → Table
+abbrev pub with_outside : List (List ℕ) → NamedCommands → NamedCommands
 with_outside [] table = table
 with_outside (name ∷ names) table = with_outside names (with_value table name (Outside name))
 
@@ -93,9 +93,9 @@ texts =
     ∷ []
 
 -- The commands at first, with the names of the outside ones.
-unfoldable pub first_commands : List (List ℕ) → Table
+unfoldable pub first_commands : List (List ℕ) → NamedCommands
 first_commands names = with_outside names (with_texts texts (with_builtins variables (with_builtins builtins [])))
 
 -- The command that a name calls. One that begins with a dot is always an outside command's.
-abbrev pub command_of : Table → List ℕ → Option Command
+abbrev pub command_of : NamedCommands → List ℕ → Option Command
 command_of table name = if is_dotted name then Some (Outside name) else value_at table name

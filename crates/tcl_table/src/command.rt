@@ -58,11 +58,11 @@ pub struct CommandTable {
 impl Model for CommandTable {
     ghost use Rattle.std.specs.Prelude.{ℕ, List};
     ghost use Rattle.tcl_table.specs.declared.command.Command.{Command};
-    ghost use Rattle.tcl_vars.specs.Named.{named};
+    ghost use Rattle.tcl_vars.specs.Named.{named_entries};
 
     ghost Value = { List (List ℕ × Command) };
 
-    ghost view = { λ t. named t.entries.entries };
+    ghost view = { λ t. named_entries t.entries.entries };
 }
 
 impl CommandTable {

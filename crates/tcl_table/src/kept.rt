@@ -1,5 +1,6 @@
 //! What was read of scripts and of expressions, kept by their texts, so that what runs again isn't read again.
 ghost use Rattle.std.specs.Prelude.{◌≡◌, ◌+◌, ◌<◌, ◌≤◌, length, IfOk, IsOk, IfSome, OnOk};
+ghost use Rattle.tcl_table.specs.Limits.{most_kept};
 ghost use Rattle.tcl_table.specs.Source.{script_of};
 
 use std::alloc::{AllocError, Global};
@@ -66,7 +67,7 @@ fn bytes_mixed(bytes: &[u8]) -> u64 {
 
 /// The place of what was read of a text: by its length and the bytes at its ends, so that a long text costs no more than a short one.
 pub(crate) fn place_of(text: &Text) -> usize
-    ensures { result < 256 }
+    ensures { result < most_kept }
 {
     let bytes = text.as_str().as_bytes();
     let number = if bytes.len() < WORD {

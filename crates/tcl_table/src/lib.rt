@@ -1,4 +1,4 @@
-//! What the names of commands call, the levels that scripts see, scripts that are read once, and the texts of errors.
+//! What the names of commands call, the levels that scripts see, scripts that are read once, and two texts of errors.
 #![tactic(auto)]
 
 mod builtin;

@@ -5,7 +5,7 @@ use Rattle.std.proofs.lemmas.Bool.{cases_Bool, cases_lt, eqb-true, both_ways, fa
 use Rattle.std.proofs.lemmas.List.{drop_more, drop_all, length-drop}
 use Rattle.tcl_text.specs.Backslash.{is_white, kind_of, escape, byte_mark, escape_mark, marks_past, marks, Mark}
 use Rattle.tcl_text.specs.Readings.{ListPlace, between, in_braces, in_quotes, in_bare, closed, place_after, Reading, onto, begun, with_mark, reading, elements, skip_white, list_of}
-use Rattle.tcl_text.specs.Splitting.{GivesBehind, GivesItem, GivesElement, IsAtEnd, Unescapes, begins_bare, ends, ended, is_behind_element, items_before}
+use Rattle.tcl_text.specs.Splitting.{GivesBehind, GivesItem, GivesElement, IsAtEnd, Unescapes, begins_bare_element, ends, ended, is_behind_element, items_before}
 use Rattle.std.specs.Str.{IsCharBoundary}
 use Rattle.std.proofs.lemmas.Str.{IsCharBoundary-from_drop}
 use Rattle.tcl_text.proofs.IntegerReading.{white_low}
@@ -99,12 +99,12 @@ behind_place text at h = elim (cases_lt at (length text)) [
   | inr past ↦ ap is_behind_element (drop_all at text past)
 ]
 
-bare_begins : (c : ℕ) (cs : List ℕ) → begins_bare (kind_of c) ≡ true → reading between (marks (c ∷ cs)) ≡ begun (reading in_bare (marks (c ∷ cs)))
+bare_begins : (c : ℕ) (cs : List ℕ) → begins_bare_element (kind_of c) ≡ true → reading between (marks (c ∷ cs)) ≡ begun (reading in_bare (marks (c ∷ cs)))
 bare_begins c cs bare =
     let h = first_mark c cs in
-    ap (reading between) h.cut ∙ at h.mark.kind h.mark (λ place. reading place h.others) (ap begins_bare h.kind ∙ bare) ∙ ap (λ ms. begun (reading in_bare ms)) (sym h.cut)
+    ap (reading between) h.cut ∙ at h.mark.kind h.mark (λ place. reading place h.others) (ap begins_bare_element h.kind ∙ bare) ∙ ap (λ ms. begun (reading in_bare ms)) (sym h.cut)
   where
-    at : (k : ByteKind) (m : Mark) (r : ListPlace → Reading) → begins_bare k ≡ true → with_mark between k m (r (place_after between k)) ≡ begun (with_mark in_bare k m (r (place_after in_bare k)))
+    at : (k : ByteKind) (m : Mark) (r : ListPlace → Reading) → begins_bare_element k ≡ true → with_mark between k m (r (place_after between k)) ≡ begun (with_mark in_bare k m (r (place_after in_bare k)))
     at White m r bare = absurd cc
     at OpenBrace m r bare = absurd cc
     at CloseBrace m r bare = refl
@@ -112,10 +112,10 @@ bare_begins c cs bare =
     at Backslash m r bare = refl
     at Other m r bare = refl
 
-white_no_bare : (c : ℕ) → begins_bare (kind_of c) ≡ true → is_white c ≡ false
-white_no_bare c bare = false_from_ne_true (is_white c) (λ white. let e : false ≡ true = sym (ap begins_bare (white_kind c white)) ∙ bare in absurd cc)
+white_no_bare : (c : ℕ) → begins_bare_element (kind_of c) ≡ true → is_white c ≡ false
+white_no_bare c bare = false_from_ne_true (is_white c) (λ white. let e : false ≡ true = sym (ap begins_bare_element (white_kind c white)) ∙ bare in absurd cc)
 
-pub gives_bare : (text item : List ℕ) (at : ℕ) (rest : Bor (List ℕ)) → 0 < length text → begins_bare (kind_of (get_or text 0 0)) ≡ true → Unescapes false text item at → IsAtEnd false text at → rest.now ≡ drop at text → GivesElement text (Ok (item, rest))
+pub gives_bare : (text item : List ℕ) (at : ℕ) (rest : Bor (List ℕ)) → 0 < length text → begins_bare_element (kind_of (get_or text 0 0)) ≡ true → Unescapes false text item at → IsAtEnd false text at → rest.now ≡ drop at text → GivesElement text (Ok (item, rest))
 unfolding list_of
 gives_bare [] item at rest some bare h end is = absurd (omega arith)
 gives_bare (c ∷ cs) item zero rest some bare h end is = absurd (both_ways (is_white c) (white_no_bare c bare) (end some))
@@ -229,10 +229,10 @@ unescaped_utf8 quoted text bytes at h end utf8 = elim (cases_lt at (length text)
 ]
 
 -- a byte that is neither white nor opens an element begins a bare one
-pub begins_bare_from : (c : ℕ) → is_white c ≡ false → kind_of c ≢ OpenBrace → kind_of c ≢ Quote → begins_bare (kind_of c) ≡ true
+pub begins_bare_from : (c : ℕ) → is_white c ≡ false → kind_of c ≢ OpenBrace → kind_of c ≢ Quote → begins_bare_element (kind_of c) ≡ true
 begins_bare_from c black opening quote = at (kind_of c) (λ is. both_ways (is_white c) black (told c White is)) opening quote
   where
-    at : (k : ByteKind) → k ≢ White → k ≢ OpenBrace → k ≢ Quote → begins_bare k ≡ true
+    at : (k : ByteKind) → k ≢ White → k ≢ OpenBrace → k ≢ Quote → begins_bare_element k ≡ true
     at White w o q = absurd (w refl)
     at OpenBrace w o q = absurd (o refl)
     at CloseBrace w o q = refl

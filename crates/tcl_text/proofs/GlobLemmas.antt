@@ -10,7 +10,7 @@ use Rattle.std.specs.Bool.{then_some}
 use Rattle.std.proofs.lemmas.Str.Pattern.{IsSplitOnceResult, split_parts}
 use Rattle.tcl_text.specs.Glob.{in_class, Lacks, AllowsByClass, AllowsFirst, GlobMatches}
 use Rattle.tcl_text.specs.Glob.GlobMatches.{nothing_left, skips, allows}
-use Rattle.tcl_text.specs.GlobSteps.{HasPart, Stops, Runs}
+use Rattle.tcl_text.specs.GlobSteps.{HasPart, StopsAt, Runs}
 
 or_false : (b : Bool) → (b || false) ≡ b
 or_false true = refl
@@ -132,13 +132,13 @@ Runs-more pattern text rest left after c next r part is a = record {
   back = λ m. r.back (rw is (allows a m));
 }
 
-pub Stops-at_end : (rest left : List ℕ) → (HasPart rest → ⊥) → (rest ≡ [] → left ≡ []) → Stops rest left
+pub Stops-at_end : (rest left : List ℕ) → (HasPart rest → ⊥) → (rest ≡ [] → left ≡ []) → StopsAt rest left
 Stops-at_end [] left h k = k refl
 Stops-at_end (first ∷ after) left h k =
     elim (eqb_tells first 42) [ inl w ↦ w.1 | inr w ↦ absurd (h w.1) ]
 
 -- what matches after more characters matches here, at a stop
-left_matches : (rest left : List ℕ) → Stops rest left → (more : ℕ) → GlobMatches rest (drop more left) → GlobMatches rest left
+left_matches : (rest left : List ℕ) → StopsAt rest left → (more : ℕ) → GlobMatches rest (drop more left) → GlobMatches rest left
 left_matches [] left stops more m = rw stops nothing_left
 left_matches (first ∷ after) left stops more m =
     let later = GlobMatches-star m after (ap (λ (x : ℕ). x ∷ after) stops) in
@@ -150,7 +150,7 @@ drop_later text count skipped later h =
     drop-drop count later text ∙ ap (λ (n : ℕ). drop n text) e ∙ sym (ap (drop (later - skipped)) (drop-drop count skipped text) ∙ drop-drop (later - skipped) (skipped + count) text)
 
 -- a run that stops, at the first place where it matches, decides for `*` and the pattern
-pub star_found : (pattern text rest left : List ℕ) (skipped : ℕ) → Runs pattern (drop skipped text) rest left → Stops rest left → ((k : ℕ) → k < skipped → GlobMatches pattern (drop k text) → ⊥) → GlobMatches (42 ∷ pattern) text → GlobMatches rest left
+pub star_found : (pattern text rest left : List ℕ) (skipped : ℕ) → Runs pattern (drop skipped text) rest left → StopsAt rest left → ((k : ℕ) → k < skipped → GlobMatches pattern (drop k text) → ⊥) → GlobMatches (42 ∷ pattern) text → GlobMatches rest left
 star_found pattern text rest left skipped r stops none m =
     let later = GlobMatches-star m pattern refl in
     elim (cases_lt later.skipped skipped) [
@@ -246,7 +246,7 @@ GlobMatches-ended rest left utf8 no_rest some_left m =
     some_left (ap length (chars-empty left utf8 (GlobMatches-empty m (chars-no_bytes rest no_rest))))
 
 -- a pattern that has ended where it may stop has matched
-pub Stops-matched : (pattern text : List ℕ) → pattern ≡ [] → Stops pattern text → GlobMatches pattern text
+pub Stops-matched : (pattern text : List ℕ) → pattern ≡ [] → StopsAt pattern text → GlobMatches pattern text
 Stops-matched [] text e stops = rw stops nothing_left
 Stops-matched (first ∷ after) text e stops = absurd cc
 

@@ -5,7 +5,7 @@ use Rattle.std.specs.Option.{option_map_or}
 use Rattle.std.proofs.lemmas.Bool.{and_parts}
 use Rattle.tcl_text.specs.Backslash.{Mark, marks}
 use Rattle.tcl_text.specs.Readings.{ListPlace, Reading, are_balanced, between, closed, depth_after, elements, in_braces, in_quotes, is_quote_mark, is_white_mark, list_of, meant, onto, begun, place_after, reading, with_mark, written}
-use Rattle.tcl_text.specs.ListFaults.{IsFaultyElement, unclosed_brace, unclosed_quote, followed_brace, followed_quote, AreBeforeFault, IsListFault}
+use Rattle.tcl_text.specs.ListFaults.{IsFaultyElement, unclosed_brace, unclosed_quote, followed_brace, followed_quote, AreItemsBeforeFault, IsListFault}
 use Rattle.tcl_text.specs.declared.splitting.ByteKind.{ByteKind}
 use Rattle.tcl_text.specs.declared.splitting.ByteKind.TheVariants.{White, OpenBrace, CloseBrace, Quote, Backslash, Other}
 use Rattle.tcl_text.specs.declared.fault.ListFault.{ListFault}
@@ -83,7 +83,7 @@ reads_faulty ms fault (followed_quote first last next inside rest opens closes f
     ap (λ k. with_mark between k first (reading (place_after between k) (inside ++ last ∷ next ∷ rest))) opens
     ∙ ap begun (reads_quotes inside (next ∷ rest) last fits closes ∙ ap (onto (meant inside)) (reads_extra next rest black))
 
-reads_before_fault : (ms : List Mark) (items : List (List ℕ)) (fault : ListFault) → AreBeforeFault ms items fault → reading between ms ≡ Err fault
+reads_before_fault : (ms : List Mark) (items : List (List ℕ)) (fault : ListFault) → AreItemsBeforeFault ms items fault → reading between ms ≡ Err fault
 reads_before_fault ms [] fault (white, rest, cut, all, is) = ap (reading between) cut ∙ reads_white white rest all ∙ reads_faulty rest fault is
 reads_before_fault ms (item ∷ items) fault (white, element, rest, cut, all, is, end, more) =
     ap (reading between) cut ∙ reads_white white (element ++ rest) all ∙ reads_element element rest item is end ∙ ap (λ r. begun (onto item r)) (reads_before_fault rest items fault more)

@@ -5,7 +5,7 @@ use Rattle.std.specs.Option.{option_map_or}
 use Rattle.std.proofs.lemmas.Bool.{and_from, ne_eqb}
 use Rattle.tcl_text.specs.Backslash.{Mark, marks}
 use Rattle.tcl_text.specs.Readings.{IsElement, IsElementEnd, ListPlace, Reading, are_balanced, bare, between, braced, closed, depth_after, elements, in_bare, in_braces, in_quotes, is_quote_mark, is_white_mark, list_of, meant, onto, begun, place_after, quoted, reading, with_mark, written}
-use Rattle.tcl_text.specs.ListFaults.{IsFaultyElement, unclosed_brace, unclosed_quote, followed_brace, followed_quote, AreBeforeFault, IsListFault}
+use Rattle.tcl_text.specs.ListFaults.{IsFaultyElement, unclosed_brace, unclosed_quote, followed_brace, followed_quote, AreItemsBeforeFault, IsListFault}
 use Rattle.tcl_text.specs.declared.splitting.ByteKind.{ByteKind}
 use Rattle.tcl_text.specs.declared.splitting.ByteKind.TheVariants.{White, OpenBrace, CloseBrace, Quote, Backslash, Other}
 use Rattle.tcl_text.specs.declared.fault.ListFault.{ListFault}
@@ -17,7 +17,7 @@ abbrev no_quote : List Mark → Bool
 no_quote ms = list_all (λ m. not (is_quote_mark m)) ms
 
 abbrev IsBeforeFault : List Mark → ListFault → Type 0
-IsBeforeFault ms fault = (items : List (List ℕ)) × AreBeforeFault ms items fault
+IsBeforeFault ms fault = (items : List (List ℕ)) × AreItemsBeforeFault ms items fault
 
 -- behind a closing brace or quote something is too many, or the element ends and a later one is at fault
 abbrev IsFaultBehind : List Mark → ListFault → Type 0

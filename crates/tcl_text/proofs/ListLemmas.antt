@@ -14,22 +14,22 @@ use Rattle.std.proofs.lemmas.Bool.Decides.{eqb_tells, nat_tests}
 use Rattle.tcl_text.specs.ListCommands.{joined, cut_at, with_first, is_one_of, characters_of, pieces_of, parts_of}
 use Rattle.std.specs.Str.{chars, IsUtf8, encode_utf8_all}
 use Rattle.std.proofs.lemmas.Str.{encodes-chars}
-use Rattle.tcl_text.specs.ListSteps.{behind, onto_first}
+use Rattle.tcl_text.specs.ListSteps.{each_behind, onto_first}
 
 -- join
-pub joined-behind : (between x : List ℕ) (xs : List (List ℕ)) → joined between (x ∷ xs) ≡ x ++ behind between xs
+pub joined-behind : (between x : List ℕ) (xs : List (List ℕ)) → joined between (x ∷ xs) ≡ x ++ each_behind between xs
 joined-behind between x [] = sym (append-nil x)
 joined-behind between x (y ∷ ys) =
-    ap (λ (t : List ℕ). x ++ (between ++ t)) (joined-behind between y ys) ∙ ap (λ (t : List ℕ). x ++ t) (sym (append_assoc between y (behind between ys)))
+    ap (λ (t : List ℕ). x ++ (between ++ t)) (joined-behind between y ys) ∙ ap (λ (t : List ℕ). x ++ t) (sym (append_assoc between y (each_behind between ys)))
 
-pub behind-push : (between : List ℕ) (xs : List (List ℕ)) (x : List ℕ) → behind between (xs ++ x ∷ []) ≡ (behind between xs ++ between) ++ x
+pub behind-push : (between : List ℕ) (xs : List (List ℕ)) (x : List ℕ) → each_behind between (xs ++ x ∷ []) ≡ (each_behind between xs ++ between) ++ x
 behind-push between [] x = append-nil (between ++ x)
 behind-push between (y ∷ ys) x =
-    ap (λ (t : List ℕ). (between ++ y) ++ t) (behind-push between ys x) ∙ sym (append_assoc (between ++ y) _ x ∙ ap (λ (t : List ℕ). (between ++ y) ++ t) refl) ∙ ap (λ (t : List ℕ). t ++ x) (sym (append_assoc (between ++ y) (behind between ys) between))
+    ap (λ (t : List ℕ). (between ++ y) ++ t) (behind-push between ys x) ∙ sym (append_assoc (between ++ y) _ x ∙ ap (λ (t : List ℕ). (between ++ y) ++ t) refl) ∙ ap (λ (t : List ℕ). t ++ x) (sym (append_assoc (between ++ y) (each_behind between ys) between))
 
-pub behind_step : (between : List ℕ) (xs : List (List ℕ)) (i : ℕ) (x : List ℕ) → i < length xs → x ≡ get_or xs i x → behind between (take (i + 1) xs) ≡ (behind between (take i xs) ++ between) ++ x
+pub behind_step : (between : List ℕ) (xs : List (List ℕ)) (i : ℕ) (x : List ℕ) → i < length xs → x ≡ get_or xs i x → each_behind between (take (i + 1) xs) ≡ (each_behind between (take i xs) ++ between) ++ x
 behind_step between xs i x within is =
-    ap (behind between) (take_more xs i x within ∙ ap (λ (y : List ℕ). take i xs ++ y ∷ []) (sym is)) ∙ behind-push between (take i xs) x
+    ap (each_behind between) (take_more xs i x within ∙ ap (λ (y : List ℕ). take i xs ++ y ∷ []) (sym is)) ∙ behind-push between (take i xs) x
 
 -- a part of a row, cut from its start or from its end
 pub part_cut : {X : Type 0} (start end : ℕ) (xs : List X) → take (end - min start end) (drop (min start end) xs) ≡ drop start (take end xs)

@@ -1,12 +1,14 @@
--- Meaning. What a command answers: its result or the text of its error, and the texts of the errors.
-use Rattle.std.specs.Prelude.{◌≡◌, ℕ, ℤ, Bool, nat_le, if◌then◌else◌, List, ◌++◌, length, Option, Some, None, Result, Ok, Err, codes, ⊤}
+-- Meaning. What a command answers: its result or the text of its error.
+use Rattle.std.specs.Prelude.{◌≡◌, ℕ, ℤ, Bool, nat_le, if◌then◌else◌, List, length, Option, Some, None, Result, Ok, Err, codes, ⊤}
 use Rattle.std.specs.Fmt.{decimal}
 use Rattle.tcl_text.specs.Readings.{integer_of, list_of}
 use Rattle.tcl_text.specs.declared.fault.ListFault.{ListFault}
 use Rattle.tcl_text.specs.declared.commands.answers.Refusal.{Refusal}
 use Rattle.tcl_text.specs.declared.commands.answers.Refusal.TheVariants.{Error, NoMemory}
 use Rattle.tcl_text.specs.Limits.{most_bytes}
-use Rattle.tcl_text.specs.Splitting.{fault_text}
+use Rattle.tcl_text.specs.FaultTexts.{integer_text, list_text}
+pub use Rattle.tcl_text.specs.Messages.{limit_text, message, quoted, wrong_args_text, bad_option_text, bad_index_text, missing_value_text, too_large_text}
+unfoldable pub use Rattle.tcl_text.specs.Messages.{bounded}
 
 -- a command's result, or the text of its error
 abbrev pub Answer : Type 0
@@ -18,18 +20,6 @@ abbrev pub ◌>>=◌ : {T U : Type 0} → Result T (List ℕ) → (T → Result 
 Ok value >>= rest = rest value
 Err text >>= rest = Err text
 
--- the text that stands for one past 65,536 bytes
-abbrev pub limit_text : List ℕ
-limit_text = codes "limit reached: value"
-
--- the text of a message, or the limit's where it is past it
-abbrev pub message : List ℕ → List ℕ
-message text = if nat_le (length text) most_bytes then text else limit_text
-
--- the same, by its name alone
-unfoldable pub bounded : List ℕ → List ℕ
-bounded text = message text
-
 -- an error with this text
 abbrev pub fails : {T : Type 0} → List ℕ → Result T (List ℕ)
 fails text = Err (bounded text)
@@ -38,23 +28,7 @@ fails text = Err (bounded text)
 unfoldable pub answers : List ℕ → Answer
 answers text = if nat_le (length text) most_bytes then Ok text else Err limit_text
 
--- a text in quotation marks
-abbrev pub quoted : List ℕ → List ℕ
-quoted text = codes "\"" ++ (text ++ codes "\"")
-
 -- the errors of the commands on texts and lists
-abbrev pub wrong_args_text : List ℕ → List ℕ
-wrong_args_text usage = codes "wrong # args: should be " ++ quoted usage
-
-abbrev pub bad_option_text : List ℕ → List ℕ
-bad_option_text word = codes "bad option " ++ quoted word
-
-abbrev pub bad_index_text : List ℕ → List ℕ
-bad_index_text word = codes "bad index " ++ quoted word
-
-abbrev pub expected_integer_text : List ℕ → List ℕ
-expected_integer_text word = codes "expected integer but got " ++ quoted word
-
 abbrev pub wrong_args : {T : Type 0} → List ℕ → Result T (List ℕ)
 wrong_args usage = fails (wrong_args_text usage)
 
@@ -64,8 +38,14 @@ bad_option word = fails (bad_option_text word)
 abbrev pub bad_index : {T : Type 0} → List ℕ → Result T (List ℕ)
 bad_index word = fails (bad_index_text word)
 
+abbrev pub missing_value : {T : Type 0} → List ℕ → Result T (List ℕ)
+missing_value word = fails (missing_value_text word)
+
+abbrev pub too_large : {T : Type 0} → Result T (List ℕ)
+too_large = fails too_large_text
+
 abbrev pub expected_integer : {T : Type 0} → List ℕ → Result T (List ℕ)
-expected_integer word = fails (expected_integer_text word)
+expected_integer word = fails (integer_text word)
 
 -- the integer that a word is
 abbrev pub integer_or_error : List ℕ → Option ℤ → Result ℤ (List ℕ)
@@ -78,7 +58,7 @@ integer_in word = integer_or_error word (integer_of word)
 -- the items of the list that a word is
 abbrev pub items_or_error : Result (List (List ℕ)) ListFault → Result (List (List ℕ)) (List ℕ)
 items_or_error (Ok items) = Ok items
-items_or_error (Err fault) = fails (fault_text fault)
+items_or_error (Err fault) = fails (list_text fault)
 
 unfoldable pub items_in : List ℕ → Result (List (List ℕ)) (List ℕ)
 items_in word = items_or_error (list_of word)

@@ -117,6 +117,10 @@ greater_sign = 62
 abbrev pub question_mark : ℕ
 question_mark = 63
 
+-- b'A'
+abbrev pub capital_a : ℕ
+capital_a = 65
+
 -- b'B'
 abbrev pub capital_b : ℕ
 capital_b = 66
@@ -132,6 +136,10 @@ capital_u = 85
 -- b'X'
 abbrev pub capital_x : ℕ
 capital_x = 88
+
+-- b'Z'
+abbrev pub capital_z : ℕ
+capital_z = 90
 
 -- b'['
 abbrev pub open_bracket : ℕ
@@ -192,6 +200,10 @@ letter_v = 118
 -- b'x'
 abbrev pub letter_x : ℕ
 letter_x = 120
+
+-- b'z'
+abbrev pub letter_z : ℕ
+letter_z = 122
 
 -- b'{'
 abbrev pub open_brace : ℕ

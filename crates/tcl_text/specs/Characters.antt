@@ -18,5 +18,5 @@ abbrev pub with_inserted : ℕ → List ℕ → List ℕ → List ℕ
 with_inserted n new text = front n text ++ (new ++ behind n text)
 
 -- the text without the characters from the first place on and before the last
-abbrev pub without : ℕ → ℕ → List ℕ → List ℕ
-without first last text = front first text ++ behind (max first last) text
+abbrev pub without_characters : ℕ → ℕ → List ℕ → List ℕ
+without_characters first last text = front first text ++ behind (max first last) text

@@ -1,4 +1,4 @@
--- Meaning. The commands that work on texts and lists alone: from its words to its answer.
+-- Meaning. The commands that work on texts and lists alone: from their words to their answers.
 use Rattle.std.specs.Prelude.{ℕ, List, [], ◌∷◌, Option, Some, None, option_map, if◌then◌else◌, codes}
 use Rattle.std.specs.Str.{bytes_eq}
 use Rattle.tcl_text.specs.Answers.{Answer}
@@ -8,8 +8,8 @@ use Rattle.tcl_text.specs.declared.commands.TextCommand.{TextCommand}
 use Rattle.tcl_text.specs.declared.commands.TextCommand.TheVariants as command
 
 -- the command of this name
-unfoldable pub command_named : List ℕ → Option TextCommand
-command_named name =
+unfoldable pub text_command_named : List ℕ → Option TextCommand
+text_command_named name =
     if bytes_eq name (codes "list") then Some command.List
     else (if bytes_eq name (codes "llength") then Some command.Llength
     else (if bytes_eq name (codes "lindex") then Some command.Lindex
@@ -42,4 +42,4 @@ command_answer command.String words = string_words words
 -- the answer to a command's words, if its first names one of these commands
 abbrev pub text_command_of : List (List ℕ) → Option Answer
 text_command_of [] = None
-text_command_of (name ∷ words) = option_map (λ command. command_answer command words) (command_named name)
+text_command_of (name ∷ words) = option_map (λ command. command_answer command words) (text_command_named name)

@@ -1,4 +1,4 @@
--- Meaning. What the code says of backslashes, in the words of the definitions.
+-- Steps. What the code says of backslashes, in the words of the definitions.
 use Rattle.std.specs.Prelude.{List, ℕ, [], ◌∷◌, encode_utf8}
 use Rattle.tcl_text.specs.Backslash as backslash
 use Rattle.tcl_text.specs.declared.backslash.Meaning.{Meaning}

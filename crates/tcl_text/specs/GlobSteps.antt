@@ -9,9 +9,9 @@ HasPart [] = ⊥
 HasPart (first ∷ after) = first ≢ star
 
 -- where a run of such parts stops: at a `*`, or where pattern and text both end
-abbrev pub Stops : List ℕ → List ℕ → Type 0
-Stops [] text = text ≡ []
-Stops (first ∷ after) text = first ≡ star
+abbrev pub StopsAt : List ℕ → List ℕ → Type 0
+StopsAt [] text = text ≡ []
+StopsAt (first ∷ after) text = first ≡ star
 
 -- the parts that lead from the pattern to rest stand for the characters that lead from the text to left
 pub record Runs (pattern text rest left : List ℕ) : Type 0 where

@@ -11,6 +11,7 @@ pub mod ListFaults
 pub mod Faults
 pub mod FaultTexts
 pub mod Limits
+pub mod Messages
 pub mod Answers
 pub mod Indices
 pub mod Commands

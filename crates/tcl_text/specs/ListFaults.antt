@@ -28,13 +28,13 @@ pub data IsFaultyElement : List Mark → ListFault → Type 0 where
       → IsFaultyElement (first ∷ (inside ++ last ∷ next ∷ rest)) ExtraCharacters
 
 -- the marks are these elements, with white space between them, and then one that is at fault
-abbrev pub AreBeforeFault : List Mark → List (List ℕ) → ListFault → Type 0
-AreBeforeFault ms [] fault =
+abbrev pub AreItemsBeforeFault : List Mark → List (List ℕ) → ListFault → Type 0
+AreItemsBeforeFault ms [] fault =
     (white : List Mark) × (rest : List Mark) × (ms ≡ white ++ rest) × IsTrue (list_all is_white_mark white) × IsFaultyElement rest fault
-AreBeforeFault ms (item ∷ items) fault =
+AreItemsBeforeFault ms (item ∷ items) fault =
     (white : List Mark) × (element : List Mark) × (rest : List Mark) × (ms ≡ white ++ (element ++ rest))
-    × IsTrue (list_all is_white_mark white) × IsElement element item × IsElementEnd rest × AreBeforeFault rest items fault
+    × IsTrue (list_all is_white_mark white) × IsElement element item × IsElementEnd rest × AreItemsBeforeFault rest items fault
 
 -- the text is no list, and this is its first fault
 abbrev pub IsListFault : List ℕ → ListFault → Type 0
-IsListFault text fault = (items : List (List ℕ)) × AreBeforeFault (marks text) items fault
+IsListFault text fault = (items : List (List ℕ)) × AreItemsBeforeFault (marks text) items fault

@@ -4,9 +4,9 @@ use Rattle.std.specs.Str.{chars}
 use Rattle.tcl_text.specs.ListCommands.{cut_at}
 
 -- the texts, each behind another
-abbrev pub behind : List ℕ → List (List ℕ) → List ℕ
-behind between [] = []
-behind between (x ∷ xs) = (between ++ x) ++ behind between xs
+abbrev pub each_behind : List ℕ → List (List ℕ) → List ℕ
+each_behind between [] = []
+each_behind between (x ∷ xs) = (between ++ x) ++ each_behind between xs
 
 -- the characters in front of the first piece
 abbrev pub onto_first : List ℕ → List (List ℕ) → List (List ℕ)

@@ -1,5 +1,5 @@
 -- Steps. What the steps of splitting a list say, in the words of the readings.
-use Rattle.std.specs.Prelude.{◌≡◌, ℕ, ◌+◌, ◌<◌, ◌≤◌, ◌==◌, ◌⊎◌, IsUtf8, codes, Bool, true, false, List, [], ◌∷◌, ◌++◌, take, drop, length, slice_index, Option, Some, None, Result, Ok, Err, ⊤}
+use Rattle.std.specs.Prelude.{◌≡◌, ℕ, ◌+◌, ◌<◌, ◌≤◌, ◌==◌, ◌⊎◌, IsUtf8, Bool, true, false, List, [], ◌∷◌, ◌++◌, take, drop, length, slice_index, Option, Some, None, Result, Ok, Err, ⊤}
 use Rattle.std.specs.Borrow.{Bor}
 use Rattle.tcl_text.specs.Backslash.{is_white, marks}
 use Rattle.tcl_text.specs.Bytes.{quote, backslash_sign, close_brace}
@@ -7,15 +7,9 @@ use Rattle.tcl_text.specs.Readings.{ListPlace, in_braces, in_quotes, in_bare, cl
 use Rattle.tcl_text.specs.declared.splitting.ByteKind.{ByteKind}
 use Rattle.tcl_text.specs.declared.splitting.ByteKind.TheVariants.{White, OpenBrace, Quote}
 use Rattle.tcl_text.specs.declared.fault.ListFault.{ListFault}
-use Rattle.tcl_text.specs.declared.fault.ListFault.TheVariants.{OpenBrace as UnmatchedBrace, OpenQuote as UnmatchedQuote, ExtraCharacters}
+use Rattle.tcl_text.specs.declared.fault.ListFault.TheVariants.{OpenBrace as UnmatchedBrace, ExtraCharacters}
 use Rattle.tcl_text.specs.declared.fault.SplitFault.{SplitFault}
 use Rattle.tcl_text.specs.declared.fault.SplitFault.TheVariants.{BadList, NoMemory}
-
--- the message of a fault
-abbrev pub fault_text : ListFault → List ℕ
-fault_text UnmatchedBrace = codes "unmatched open brace in list"
-fault_text UnmatchedQuote = codes "unmatched open quote in list"
-fault_text ExtraCharacters = codes "extra characters after list element"
 
 -- the answer is what reading gives, unless memory was refused
 abbrev pub Splits : Result (List (List ℕ)) SplitFault → Result (List (List ℕ)) ListFault → Type 0
@@ -104,8 +98,8 @@ is_behind_element [] = true
 is_behind_element (c ∷ cs) = is_white c
 
 -- a byte of this kind begins a bare element
-abbrev pub begins_bare : ByteKind → Bool
-begins_bare White = false
-begins_bare OpenBrace = false
-begins_bare Quote = false
-begins_bare _ = true
+abbrev pub begins_bare_element : ByteKind → Bool
+begins_bare_element White = false
+begins_bare_element OpenBrace = false
+begins_bare_element Quote = false
+begins_bare_element _ = true

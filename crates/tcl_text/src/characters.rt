@@ -2,7 +2,7 @@
 ghost use Rattle.std.specs.Prelude.{◌≡◌, ◌≢◌, ◌<◌, ◌≤◌, [], ◌∷◌, ◌++◌, length, take, drop, MatchOption, IfSome, IfOk, IfErr, encode_utf8};
 ghost use Rattle.std.specs.Str.{chars};
 ghost use Rattle.tcl_text.specs.Backslash.{is_white};
-ghost use Rattle.tcl_text.specs.Characters.{behind as behind_of, front as front_of, size, with_inserted, without};
+ghost use Rattle.tcl_text.specs.Characters.{behind as behind_of, front as front_of, size, with_inserted, without_characters};
 ghost use Rattle.tcl_text.specs.Limits.{most_bytes};
 ghost use Rattle.tcl_text.specs.StringCommands.{drop_white_end, trimmed as trimmed_of};
 
@@ -103,7 +103,7 @@ fn joined(
 
 impl Text {
     ghost use Rattle.std.specs.Prelude.{◌≡◌, ◌≢◌, ◌<◌, ◌≤◌, length, IfOk, IfErr};
-    ghost use Rattle.tcl_text.specs.Characters.{with_inserted, without};
+    ghost use Rattle.tcl_text.specs.Characters.{with_inserted, without_characters};
     ghost use Rattle.tcl_text.specs.Limits.{most_bytes};
 
     /// The text with another behind its first `at` characters, or at its end where there are fewer. `TooLong` (4) where that passes 65,536 bytes.
@@ -115,12 +115,12 @@ impl Text {
         joined(alloc, self.as_str(), at, new, at)
     }
 
-    /// The text without the characters behind the first `first` and before the last `last`; the same text where `last` isn't above `first`.
+    /// The text without the characters from the place `first` on and before the place `last`; the same text where `last` isn't above `first`.
     /// It answers `NoMemory` alone.
     pub fn without(&self, alloc: Global, first: usize, last: usize) -> Result<Text, TextFault>
-        ensures ok { IfOk result (λ text. text ≡ without first last self.now) }
+        ensures ok { IfOk result (λ text. text ≡ without_characters first last self.now) }
         ensures short { IfOk result (λ text. length text ≤ most_bytes) }
-        ensures too_long { IfErr result (λ fault. fault ≢ TextFault.NoMemory → most_bytes < length (without first last self.now)) }
+        ensures too_long { IfErr result (λ fault. fault ≢ TextFault.NoMemory → most_bytes < length (without_characters first last self.now)) }
     {
         joined(alloc, self.as_str(), first, "", first.max(last))
     }

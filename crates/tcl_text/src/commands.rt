@@ -66,9 +66,9 @@ impl Text {
 
 impl TextCommand {
     /// The command of this name.
-    #[tactic(auto, unfolding(crate::specs::Commands::command_named))]
+    #[tactic(auto, unfolding(crate::specs::Commands::text_command_named))]
     pub fn named(name: &str) -> Option<TextCommand>
-        ensures { result ≡ spec.command_named name.now }
+        ensures { result ≡ spec.text_command_named name.now }
     {
         match name {
             "list" => Some(TextCommand::List),

@@ -78,8 +78,7 @@ fn written_anew(alloc: Global, text: &Text, items: &[Text]) -> Result<Text, Edit
     ensures refused { IfErr result (λ fault. fault ≢ EditFault.NoMemory → written_anew (with_more items.now (list_of text.now)) ≡ Err fault) }
 {
     let all = with_more(alloc, text, items)?;
-    let written = list_text(alloc, all.as_slice())?;
-    Ok(written)
+    list_text(alloc, all.as_slice())
 }
 
 // The items of the list that a text is, with more behind them.

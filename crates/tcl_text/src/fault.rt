@@ -1,10 +1,9 @@
 //! The faults of texts, scripts and variables: the number of each, and what a script is told of it. In place of a text past 65,536 bytes
 //! stands that of the limit (4). Refused memory has no number, and its text is empty.
 ghost use Rattle.std.specs.Prelude.{◌≡◌, IfOk};
-ghost use Rattle.tcl_text.specs.Answers.{message};
+ghost use Rattle.tcl_text.specs.Messages.{message};
 ghost use Rattle.tcl_text.specs.Faults as faults;
 ghost use Rattle.tcl_text.specs.FaultTexts as texts;
-ghost use Rattle.tcl_text.specs.Splitting.{fault_text};
 ghost use Rattle.tcl_text.specs.declared.fault.TextFault.TheVariants as text_fault;
 ghost use Rattle.tcl_text.specs.declared.fault.SplitFault.TheVariants as split_fault;
 ghost use Rattle.tcl_text.specs.declared.fault.EditFault.TheVariants as edit_fault;
@@ -14,10 +13,29 @@ ghost use Rattle.tcl_text.specs.declared.fault.ChangeFault.TheVariants as change
 ghost use Rattle.tcl_text.specs.declared.fault.UnsetFault.TheVariants as unset_fault;
 ghost use Rattle.tcl_text.specs.declared.fault.LinkFault.TheVariants as link_fault;
 
-use crate::message::{quoting, with_quoted};
+use crate::message::{TOO_LONG, about, about_between, bad_name_text, limit};
 use crate::text::Text;
 use std::alloc::{AllocError, AllocFailed, Global};
+use std::fmt::{self, Display, Formatter, Write};
 use thiserror::Error;
+
+/// There is no such variable (15).
+const NO_VARIABLE: &str = "no such variable";
+
+/// The array has no such element (16).
+const NO_ELEMENT: &str = "no such element in array";
+
+/// An array is meant without an index (17).
+const IS_ARRAY: &str = "variable is array";
+
+/// An element is meant of what is no array (18).
+const NOT_ARRAY: &str = "variable isn't array";
+
+/// What a script is told where there would be more than 4,096 variables (19).
+const NO_ROOM: &str = "limit reached: variables";
+
+/// How a fault shows that memory was refused; a script is told nothing of it.
+const NO_MEMORY: &str = "out of memory";
 
 /// The text is no integer of 64 bits (1).
 #[derive(Clone, Copy, Debug, PartialEq, Eq, Drop, Error)]
@@ -30,6 +48,13 @@ impl NotInteger {
         ensures { result ≡ faults.not_integer_number }
     {
         1
+    }
+
+    /// That the word is no integer, as its script is told of it; the text of the limit (4) stands in place of one past 65,536 bytes.
+    pub fn text(&self, alloc: Global, word: &str) -> Result<Text, AllocError>
+        ensures { IfOk result (λ text. text ≡ message (texts.integer_text word.now)) }
+    {
+        about(alloc, "expected integer but got ", word)
     }
 }
 
@@ -45,19 +70,23 @@ impl NotBoolean {
     {
         2
     }
+
+    /// That the word is no boolean, as its script is told of it; the text of the limit (4) stands in place of one past 65,536 bytes.
+    pub fn text(&self, alloc: Global, word: &str) -> Result<Text, AllocError>
+        ensures { IfOk result (λ text. text ≡ message (texts.boolean_text word.now)) }
+    {
+        about(alloc, "expected boolean value but got ", word)
+    }
 }
 
 /// How a text fails to be a list (3).
 #[derive(Clone, Copy, Debug, PartialEq, Eq, Drop, Error)]
 pub enum ListFault {
     /// A brace that opens an element isn't closed.
-    #[error("unmatched open brace in list")]
     OpenBrace,
     /// A quote that opens an element isn't closed.
-    #[error("unmatched open quote in list")]
     OpenQuote,
     /// Something other than white space follows a closing brace or quote.
-    #[error("extra characters after list element")]
     ExtraCharacters,
 }
 
@@ -71,7 +100,7 @@ impl ListFault {
 
     /// The fault as a script is told of it.
     pub fn text(&self) -> &'static str
-        ensures { result.now ≡ fault_text self.now }
+        ensures { result.now ≡ texts.list_text self.now }
     {
         match self {
             ListFault::OpenBrace => "unmatched open brace in list",
@@ -79,16 +108,29 @@ impl ListFault {
             ListFault::ExtraCharacters => "extra characters after list element",
         }
     }
+
+    /// The same as a text of its own.
+    #[tactic(auto, unfolding(crate::specs::Messages::bounded))]
+    pub fn told(&self, alloc: Global) -> Result<Text, AllocError>
+        ensures { IfOk result (λ text. text ≡ message (texts.list_text self.now)) }
+    {
+        let characters = self.text();
+        Text::of_message(alloc, characters)
+    }
+}
+
+impl Display for ListFault {
+    fn fmt<W: Write>(&self, formatter: &mut Formatter<W>) -> fmt::Result {
+        formatter.write_str(self.text())
+    }
 }
 
 /// Why a text was not made.
 #[derive(Clone, Copy, Debug, PartialEq, Eq, Drop, Error)]
 pub enum TextFault {
     /// The value would pass 65,536 bytes (4).
-    #[error("limit reached: value")]
     TooLong,
     /// Memory was refused.
-    #[error("out of memory")]
     NoMemory,
 }
 
@@ -101,6 +143,27 @@ impl TextFault {
             TextFault::TooLong => Some(4),
             TextFault::NoMemory => None,
         }
+    }
+
+    /// The fault as a script is told of it; the text of the limit (4) stands in place of a value past 65,536 bytes. Refused memory has no such
+    /// text: it is empty.
+    pub fn text(&self) -> &'static str
+        ensures { result.now ≡ texts.value_text self.now }
+    {
+        match self {
+            TextFault::TooLong => TOO_LONG,
+            TextFault::NoMemory => "",
+        }
+    }
+}
+
+impl Display for TextFault {
+    fn fmt<W: Write>(&self, formatter: &mut Formatter<W>) -> fmt::Result {
+        let told = match self {
+            TextFault::NoMemory => NO_MEMORY,
+            _ => self.text(),
+        };
+        formatter.write_str(told)
     }
 }
 
@@ -124,10 +187,8 @@ impl<T: Drop> From<AllocFailed<T>> for TextFault {
 #[derive(Clone, Copy, Debug, PartialEq, Eq, Drop, Error)]
 pub enum SplitFault {
     /// The text is no list (3).
-    #[error("{0}")]
     BadList(ListFault),
     /// Memory was refused.
-    #[error("out of memory")]
     NoMemory,
 }
 
@@ -140,6 +201,26 @@ impl SplitFault {
             SplitFault::BadList(fault) => Some(fault.number()),
             SplitFault::NoMemory => None,
         }
+    }
+
+    /// The fault as a script is told of it. Refused memory has no such text: it is empty.
+    pub fn text(&self) -> &'static str
+        ensures { result.now ≡ texts.split_fault_text self.now }
+    {
+        match self {
+            SplitFault::BadList(fault) => fault.text(),
+            SplitFault::NoMemory => "",
+        }
+    }
+}
+
+impl Display for SplitFault {
+    fn fmt<W: Write>(&self, formatter: &mut Formatter<W>) -> fmt::Result {
+        let told = match self {
+            SplitFault::NoMemory => NO_MEMORY,
+            _ => self.text(),
+        };
+        formatter.write_str(told)
     }
 }
 
@@ -155,13 +236,10 @@ impl From<AllocError> for SplitFault {
 #[derive(Clone, Copy, Debug, PartialEq, Eq, Drop, Error)]
 pub enum EditFault {
     /// The value would pass 65,536 bytes (4).
-    #[error("limit reached: value")]
     TooLong,
     /// It is no list (3).
-    #[error("{0}")]
     BadList(ListFault),
     /// Memory was refused.
-    #[error("out of memory")]
     NoMemory,
 }
 
@@ -175,6 +253,28 @@ impl EditFault {
             EditFault::BadList(fault) => Some(fault.number()),
             EditFault::NoMemory => None,
         }
+    }
+
+    /// The fault as a script is told of it; the text of the limit (4) stands in place of a value past 65,536 bytes. Refused memory has no such
+    /// text: it is empty.
+    pub fn text(&self) -> &'static str
+        ensures { result.now ≡ texts.edit_text self.now }
+    {
+        match self {
+            EditFault::TooLong => TOO_LONG,
+            EditFault::BadList(fault) => fault.text(),
+            EditFault::NoMemory => "",
+        }
+    }
+}
+
+impl Display for EditFault {
+    fn fmt<W: Write>(&self, formatter: &mut Formatter<W>) -> fmt::Result {
+        let told = match self {
+            EditFault::NoMemory => NO_MEMORY,
+            _ => self.text(),
+        };
+        formatter.write_str(told)
     }
 }
 
@@ -190,28 +290,20 @@ impl From<AllocError> for EditFault {
 #[derive(Clone, Copy, Debug, PartialEq, Eq, Drop, Error)]
 pub enum ParseFault {
     /// More than 65,536 bytes, bytes that are not UTF-8, or brackets and indices more than 200 deep (4).
-    #[error("limit reached: value")]
     TooLong,
     /// A word in braces never ends, or a variable's name in braces (5).
-    #[error("missing close-brace")]
     MissingBrace,
     /// A bracketed script never ends (6).
-    #[error("missing close-bracket")]
     MissingBracket,
     /// A word in quotes never ends (7).
-    #[error("missing quote")]
     MissingQuote,
     /// Something follows the brace that ends a word (8).
-    #[error("extra characters after close-brace")]
     ExtraAfterBrace,
     /// Something follows the quote that ends a word (9).
-    #[error("extra characters after close-quote")]
     ExtraAfterQuote,
     /// The index of an element never ends (10).
-    #[error("missing parenthesis")]
     MissingParen,
     /// Memory was refused.
-    #[error("out of memory")]
     NoMemory,
 }
 
@@ -232,12 +324,13 @@ impl ParseFault {
         }
     }
 
-    /// The fault as an application is told of it. Refused memory has no such text: it is empty.
+    /// The fault as an application is told of it; the text of the limit (4) stands in place of a script past 65,536 bytes, or nested too deep.
+    /// Refused memory has no such text: it is empty.
     pub fn text(&self) -> &'static str
         ensures { result.now ≡ texts.parse_text self.now }
     {
         match self {
-            ParseFault::TooLong => "limit reached: value",
+            ParseFault::TooLong => TOO_LONG,
             ParseFault::MissingBrace => "missing close-brace",
             ParseFault::MissingBracket => "missing close-bracket",
             ParseFault::MissingQuote => "missing \"",
@@ -249,11 +342,21 @@ impl ParseFault {
     }
 
     /// The same as a text of its own.
-    #[tactic(auto, unfolding(crate::specs::Answers::bounded))]
+    #[tactic(auto, unfolding(crate::specs::Messages::bounded))]
     pub fn told(&self, alloc: Global) -> Result<Text, AllocError>
         ensures { IfOk result (λ text. text ≡ message (texts.parse_text self.now)) }
     {
         Text::of_message(alloc, self.text())
+    }
+}
+
+impl Display for ParseFault {
+    fn fmt<W: Write>(&self, formatter: &mut Formatter<W>) -> fmt::Result {
+        let told = match self {
+            ParseFault::NoMemory => NO_MEMORY,
+            _ => self.text(),
+        };
+        formatter.write_str(told)
     }
 }
 
@@ -277,16 +380,12 @@ impl<T: Drop> From<AllocFailed<T>> for ParseFault {
 #[derive(Clone, Copy, Debug, PartialEq, Eq, Drop, Error)]
 pub enum ReadFault {
     /// There is no such variable (15).
-    #[error("no such variable")]
     NoVariable,
     /// The array has no such element (16).
-    #[error("no such element in array")]
     NoElement,
     /// An array is read without an index (17).
-    #[error("variable is array")]
     IsArray,
     /// An element is meant of what is no array (18).
-    #[error("variable isn't array")]
     NotArray,
 }
 
@@ -307,14 +406,15 @@ impl ReadFault {
         ensures { result.now ≡ texts.read_reason self.now }
     {
         match self {
-            ReadFault::NoVariable => "no such variable",
-            ReadFault::NoElement => "no such element in array",
-            ReadFault::IsArray => "variable is array",
-            ReadFault::NotArray => "variable isn't array",
+            ReadFault::NoVariable => NO_VARIABLE,
+            ReadFault::NoElement => NO_ELEMENT,
+            ReadFault::IsArray => IS_ARRAY,
+            ReadFault::NotArray => NOT_ARRAY,
         }
     }
 
-    /// Why the variable of this name can't be read, as its script is told of it.
+    /// Why the variable of this name can't be read, as its script is told of it; the text of the limit (4) stands in place of one past
+    /// 65,536 bytes.
     pub fn text(&self, alloc: Global, name: &str) -> Result<Text, AllocError>
         ensures { IfOk result (λ text. text ≡ message (texts.read_text name.now self.now)) }
     {
@@ -322,20 +422,22 @@ impl ReadFault {
     }
 }
 
+impl Display for ReadFault {
+    fn fmt<W: Write>(&self, formatter: &mut Formatter<W>) -> fmt::Result {
+        formatter.write_str(self.reason())
+    }
+}
+
 /// Why a variable can't be set.
 #[derive(Clone, Copy, Debug, PartialEq, Eq, Drop, Error)]
 pub enum SetFault {
     /// An array is set without an index (17).
-    #[error("variable is array")]
     IsArray,
     /// An element is meant of what is no array (18).
-    #[error("variable isn't array")]
     NotArray,
     /// There would be more than 4,096 variables: each name of a frame counts one, and each element of an array one more (19).
-    #[error("limit reached: variables")]
     Full,
     /// Memory was refused.
-    #[error("out of memory")]
     NoMemory,
 }
 
@@ -352,16 +454,34 @@ impl SetFault {
         }
     }
 
-    /// Why the variable of this name can't be set, as its script is told of it.
+    // What it shows.
+    fn reason(&self) -> &'static str
+        ensures { result.now ≡ texts.set_reason self.now }
+    {
+        match self {
+            SetFault::IsArray => IS_ARRAY,
+            SetFault::NotArray => NOT_ARRAY,
+            SetFault::Full => NO_ROOM,
+            SetFault::NoMemory => NO_MEMORY,
+        }
+    }
+
+    /// Why the variable of this name can't be set, as its script is told of it; the text of the limit (4) stands in place of one past
+    /// 65,536 bytes. Refused memory has no such text: it is empty.
     pub fn text(&self, alloc: Global, name: &str) -> Result<Text, AllocError>
         ensures { IfOk result (λ text. text ≡ message (texts.set_text name.now self.now)) }
     {
         match self {
-            SetFault::IsArray => cannot(alloc, "set", name, "variable is array"),
-            SetFault::NotArray => cannot(alloc, "set", name, "variable isn't array"),
-            SetFault::Full => Text::of_short(alloc, "limit reached: variables"),
+            SetFault::Full => Text::of_short(alloc, NO_ROOM),
             SetFault::NoMemory => Text::of_short(alloc, ""),
+            _ => cannot(alloc, "set", name, self.reason()),
         }
+    }
+}
+
+impl Display for SetFault {
+    fn fmt<W: Write>(&self, formatter: &mut Formatter<W>) -> fmt::Result {
+        formatter.write_str(self.reason())
     }
 }
 
@@ -377,16 +497,12 @@ impl From<AllocError> for SetFault {
 #[derive(Clone, Copy, Debug, PartialEq, Eq, Drop, Error)]
 pub enum ChangeFault {
     /// It can't be read (15 to 18).
-    #[error("{0}")]
     Unread(ReadFault),
     /// The value would pass 65,536 bytes (4).
-    #[error("limit reached: value")]
     TooLong,
     /// It is no list (3).
-    #[error("{0}")]
     BadList(ListFault),
     /// Memory was refused.
-    #[error("out of memory")]
     NoMemory,
 }
 
@@ -402,6 +518,37 @@ impl ChangeFault {
             ChangeFault::NoMemory => None,
         }
     }
+
+    // What it shows.
+    fn reason(&self) -> &'static str
+        ensures { result.now ≡ texts.change_reason self.now }
+    {
+        match self {
+            ChangeFault::Unread(fault) => fault.reason(),
+            ChangeFault::TooLong => TOO_LONG,
+            ChangeFault::BadList(fault) => fault.text(),
+            ChangeFault::NoMemory => NO_MEMORY,
+        }
+    }
+
+    /// Why the variable of this name can't be changed, as its script is told of it; the text of the limit (4) stands in place of one past
+    /// 65,536 bytes, and of a value past them. Refused memory has no such text: it is empty.
+    pub fn text(&self, alloc: Global, name: &str) -> Result<Text, AllocError>
+        ensures { IfOk result (λ text. text ≡ message (texts.change_text name.now self.now)) }
+    {
+        match self {
+            ChangeFault::Unread(fault) => fault.text(alloc, name),
+            ChangeFault::TooLong => limit(alloc),
+            ChangeFault::BadList(fault) => fault.told(alloc),
+            ChangeFault::NoMemory => Text::of_short(alloc, ""),
+        }
+    }
+}
+
+impl Display for ChangeFault {
+    fn fmt<W: Write>(&self, formatter: &mut Formatter<W>) -> fmt::Result {
+        formatter.write_str(self.reason())
+    }
 }
 
 impl From<AllocError> for ChangeFault {
@@ -416,16 +563,12 @@ impl From<AllocError> for ChangeFault {
 #[derive(Clone, Copy, Debug, PartialEq, Eq, Drop, Error)]
 pub enum UnsetFault {
     /// There is no such variable (15).
-    #[error("no such variable")]
     NoVariable,
     /// The array has no such element (16).
-    #[error("no such element in array")]
     NoElement,
     /// An element is meant of what is no array (18).
-    #[error("variable isn't array")]
     NotArray,
     /// Memory was refused.
-    #[error("out of memory")]
     NoMemory,
 }
 
@@ -442,16 +585,33 @@ impl UnsetFault {
         }
     }
 
-    /// Why the variable of this name can't be unset, as its script is told of it.
+    // What it shows.
+    fn reason(&self) -> &'static str
+        ensures { result.now ≡ texts.unset_reason self.now }
+    {
+        match self {
+            UnsetFault::NoVariable => NO_VARIABLE,
+            UnsetFault::NoElement => NO_ELEMENT,
+            UnsetFault::NotArray => NOT_ARRAY,
+            UnsetFault::NoMemory => NO_MEMORY,
+        }
+    }
+
+    /// Why the variable of this name can't be unset, as its script is told of it; the text of the limit (4) stands in place of one past
+    /// 65,536 bytes. Refused memory has no such text: it is empty.
     pub fn text(&self, alloc: Global, name: &str) -> Result<Text, AllocError>
         ensures { IfOk result (λ text. text ≡ message (texts.unset_text name.now self.now)) }
     {
         match self {
-            UnsetFault::NoVariable => cannot(alloc, "unset", name, "no such variable"),
-            UnsetFault::NoElement => cannot(alloc, "unset", name, "no such element in array"),
-            UnsetFault::NotArray => cannot(alloc, "unset", name, "variable isn't array"),
             UnsetFault::NoMemory => Text::of_short(alloc, ""),
+            _ => cannot(alloc, "unset", name, self.reason()),
         }
+    }
+}
+
+impl Display for UnsetFault {
+    fn fmt<W: Write>(&self, formatter: &mut Formatter<W>) -> fmt::Result {
+        formatter.write_str(self.reason())
     }
 }
 
@@ -467,16 +627,12 @@ impl From<AllocError> for UnsetFault {
 #[derive(Clone, Copy, Debug, PartialEq, Eq, Drop, Error)]
 pub enum LinkFault {
     /// The name means an element, or a variable of the global frame by a leading `::`.
-    #[error("can't use name")]
     BadName,
     /// There is a variable of this name that is no link.
-    #[error("already exists")]
     Exists,
     /// There would be more than 4,096 variables, as for `SetFault::Full` (19).
-    #[error("limit reached: variables")]
     Full,
     /// Memory was refused.
-    #[error("out of memory")]
     NoMemory,
 }
 
@@ -492,23 +648,35 @@ impl LinkFault {
         }
     }
 
-    /// Why a link of this name can't be made, as its script is told of it.
-    #[tactic(auto, unfolding(crate::specs::Answers::bounded))]
+    // What it shows.
+    fn reason(&self) -> &'static str
+        ensures { result.now ≡ texts.link_reason self.now }
+    {
+        match self {
+            LinkFault::BadName => "bad name",
+            LinkFault::Exists => "variable exists",
+            LinkFault::Full => NO_ROOM,
+            LinkFault::NoMemory => NO_MEMORY,
+        }
+    }
+
+    /// Why a link of this name can't be made, as its script is told of it; the text of the limit (4) stands in place of one past 65,536
+    /// bytes. Refused memory has no such text: it is empty.
     pub fn text(&self, alloc: Global, name: &str) -> Result<Text, AllocError>
         ensures { IfOk result (λ text. text ≡ message (texts.link_text name.now self.now)) }
     {
         match self {
-            LinkFault::BadName => {
-                let characters = with_quoted(alloc, "can't use name ", name)?;
-                Text::of_message(alloc, characters.as_str())
-            }
-            LinkFault::Exists => {
-                let characters = quoting(alloc, "variable ", name, " already exists")?;
-                Text::of_message(alloc, characters.as_str())
-            }
-            LinkFault::Full => Text::of_short(alloc, "limit reached: variables"),
+            LinkFault::BadName => bad_name_text(alloc, name),
+            LinkFault::Exists => about_between(alloc, "variable ", name, " already exists"),
+            LinkFault::Full => Text::of_short(alloc, NO_ROOM),
             LinkFault::NoMemory => Text::of_short(alloc, ""),
         }
+    }
+}
+
+impl Display for LinkFault {
+    fn fmt<W: Write>(&self, formatter: &mut Formatter<W>) -> fmt::Result {
+        formatter.write_str(self.reason())
     }
 }
 
@@ -521,7 +689,7 @@ impl From<AllocError> for LinkFault {
 }
 
 /// Why something can't be done with a variable.
-#[tactic(auto, unfolding(crate::specs::Answers::bounded))]
+#[tactic(auto, unfolding(crate::specs::Messages::bounded))]
 fn cannot(alloc: Global, verb: &str, name: &str, reason: &str) -> Result<Text, AllocError>
     ensures { IfOk result (λ text. text ≡ message (texts.cannot verb.now name.now reason.now)) }
 {

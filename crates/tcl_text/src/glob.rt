@@ -3,7 +3,7 @@ ghost use Rattle.std.specs.Prelude.{◌≡◌, ◌<◌, ◌↔◌, [], List, ℕ
 ghost use Rattle.std.specs.Str.{chars};
 ghost use Rattle.tcl_text.specs.Bytes.{minus_sign, star};
 ghost use Rattle.tcl_text.specs.Glob.{in_class, AllowsByClass, AllowsFirst, GlobMatches, glob_matches};
-ghost use Rattle.tcl_text.specs.GlobSteps.{HasPart, Stops, Runs};
+ghost use Rattle.tcl_text.specs.GlobSteps.{HasPart, StopsAt, Runs};
 
 use crate::characters::split_first_char;
 use crate::text::Text;
@@ -47,7 +47,7 @@ fn find_run<'p, 't>(pattern: &'p str, text: &'t str) -> Option<(&'p str, &'t str
     ensures found { IfSome result (λ rests.
         GlobMatches (chars rests.0.now) (chars rests.1.now)
         ↔ GlobMatches (star ∷ chars pattern.now) (chars text.now)) }
-    ensures stops { IfSome result (λ rests. Stops (chars rests.0.now) (chars rests.1.now)) }
+    ensures stops { IfSome result (λ rests. StopsAt (chars rests.0.now) (chars rests.1.now)) }
     ensures none { IfNone result (GlobMatches (star ∷ chars pattern.now) (chars text.now) → ⊥) }
     ensures shorter { IfSome result (λ rests. length rests.0.now < length pattern.now + 1) }
 {
@@ -66,7 +66,7 @@ fn find_run<'p, 't>(pattern: &'p str, text: &'t str) -> Option<(&'p str, &'t str
 fn match_run<'p, 't>(pattern: &'p str, text: &'t str) -> Option<(&'p str, &'t str)>
     ensures found { IfSome result (λ rests.
         Runs (chars pattern.now) (chars text.now) (chars rests.0.now) (chars rests.1.now)) }
-    ensures stops { IfSome result (λ rests. Stops (chars rests.0.now) (chars rests.1.now)) }
+    ensures stops { IfSome result (λ rests. StopsAt (chars rests.0.now) (chars rests.1.now)) }
     ensures none { IfNone result (GlobMatches (chars pattern.now) (chars text.now) → ⊥) }
     ensures shorter { IfSome result (λ rests. length rests.0.now < length pattern.now + 1) }
 {

@@ -33,4 +33,4 @@ pub use fault::{
 pub use integer::{base_named, digit_value};
 pub use list::TextList;
 pub use list_items::ListItems;
-pub use text::Text;
+pub use text::{MAX_BYTES, Text};

@@ -2,7 +2,7 @@ ghost use Rattle.std.specs.Prelude.{◌≡◌, ◌+◌, ◌<◌, ◌≤◌, ◌+
 ghost use Rattle.tcl_text.specs.Backslash as backslash;
 ghost use Rattle.tcl_text.specs.Escaped.{bytes_meant};
 ghost use Rattle.tcl_text.specs.Readings as readings;
-ghost use Rattle.tcl_text.specs.Splitting.{FindsBrace, GivesBehind, GivesElement, GivesItem, IsAtEnd, IsAtStop, KeepsBalance, ReadsTo, Splits, StepsInBraces, Unescapes, ends, is_behind_element, begins_bare, within};
+ghost use Rattle.tcl_text.specs.Splitting.{FindsBrace, GivesBehind, GivesElement, GivesItem, IsAtEnd, IsAtStop, KeepsBalance, ReadsTo, Splits, StepsInBraces, Unescapes, ends, is_behind_element, begins_bare_element, within};
 ghost use Rattle.tcl_text.specs.Limits.{most_bytes};
 
 use crate::backslash::{Meaning, escape_behind};
@@ -203,7 +203,7 @@ fn quoted(alloc: Global, text: &str) -> Result<(Text, &str), SplitFault>
 fn bare(alloc: Global, text: &str) -> Result<(Text, &str), SplitFault>
     requires some { 0 < length text.now }
     requires short { length text.now ≤ most_bytes }
-    requires begins { begins_bare (backslash.kind_of (slice_index text.now 0)) ≡ true }
+    requires begins { begins_bare_element (backslash.kind_of (slice_index text.now 0)) ≡ true }
     ensures { GivesElement text.now result }
 {
     let (item, length) = item_in(alloc, text, false)?;

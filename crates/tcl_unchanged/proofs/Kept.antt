@@ -20,7 +20,7 @@ use Rattle.tcl_shapes.specs.declared.groups.Group.{Group}
 use Rattle.tcl_expr.specs.declared.fault.EvalFault.{EvalFault}
 use Rattle.tcl_expr.specs.Run.{Run as Evaluating, AsksVariable, AsksElement, AsksCommand, Ends}
 use Rattle.tcl_expr.specs.Trees.{Tree, evaluation}
-use Rattle.tcl_control.specs.Expressions.{expression_of, truth_of}
+use Rattle.tcl_control.specs.Expressions.{expression_of, truth_of_text}
 use Rattle.tcl_control.specs.declared.turns.Turning.{Turning}
 use Rattle.tcl_control.specs.Control.{Called, call_of}
 use Rattle.tcl_control.specs.Source.{script_of}
@@ -29,9 +29,9 @@ use Rattle.tcl_control.specs.Turns.{Tested, More, NoMore, Fails, items_tested}
 use Rattle.tcl_interp.specs.declared.tasks.Act.{Act}
 use Rattle.tcl_interp.specs.declared.tasks.Act.TheVariants.{Done, Step, Run, Unknown}
 use Rattle.tcl_interp.specs.Outside.{Outside}
-use Rattle.tcl_interp.specs.Evaluation.{State, Outcome, Ended, OutOfSteps, level_of, and_then, on_normal, stepped, on_read, words_of, on_words, index_pieces, element_read, on_index, piece_meaning, pieces_meaning, index_depth, element_meaning, words_meaning, called, commands_meaning}
+use Rattle.tcl_interp.specs.Evaluation.{State, Outcome, Ended, OutOfSteps, seen_level, and_then, on_normal, stepped, on_read, words_of, on_words, index_pieces, element_read, on_index, piece_meaning, pieces_meaning, index_depth, element_meaning, words_meaning, called, commands_meaning}
 use Rattle.tcl_interp.specs.Plans.{cut, others, levels_back, procedure_ended, caught, on_tested, loop_ended, after_body, after_next, run_at, next_turn, test_meaning, turn_meaning, turns_meaning, loop_meaning, plan_meaning}
-use Rattle.tcl_interp.specs.Expressions.{value_ended, on_truth, on_value, if_holds, run_meaning, tree_meaning, expression_meaning, condition_meaning, otherwise_meaning, choices_meaning}
+use Rattle.tcl_interp.specs.Expressions.{value_ended, with_truth, on_value, if_holds, run_meaning, tree_meaning, expression_meaning, condition_meaning, otherwise_meaning, choices_meaning}
 use Rattle.tcl_interp.specs.Scripts.{out_of_global, on_act, resumed, after_step, task_meaning, act_meaning, by_call, call_meaning, on_parsed, script_meaning}
 
 module _ {S : Type 0} (P : S → Type 0) where
@@ -88,7 +88,7 @@ module _ {S : Type 0} (P : S → Type 0) where
   module _ (run : List ℕ → State S → Outcome S) (element : List ℕ → List ℕ → State S → Outcome S) (run_keeps : KeepsRun run) (element_keeps : KeepsElement element) where
     pub kept_piece : (piece : Piece) (state : State S) (f : State S → List ℕ → Outcome S) → P state.shows → ((state' : State S) (text : List ℕ) → P state'.shows → Kept (f state' text)) → Kept (piece_meaning run element piece state f)
     kept_piece (Literal text) state f w h = h state text w
-    kept_piece (Variable name) state f w h = kept_on_read name state f (variable_in state.store (level_of state) name) w (λ text. h state text w)
+    kept_piece (Variable name) state f w h = kept_on_read name state f (variable_in state.store (seen_level state) name) w (λ text. h state text w)
     kept_piece (Element name index) state f w h = kept_and_then (element name index state) (on_normal f) (element_keeps name index state w) (kept_on_normal f h)
     kept_piece (Bracket script) state f w h = kept_and_then (run script state) (on_normal f) (run_keeps script state w) (kept_on_normal f h)
 
@@ -103,7 +103,7 @@ module _ {S : Type 0} (P : S → Type 0) where
   kept_element run run_keeps (suc depth) name index state w =
       kept_on_index state (λ ps. pieces_meaning run (element_meaning run depth) ps [] state (element_read name)) (index_pieces index) w (λ ps.
       kept_pieces run (element_meaning run depth) run_keeps (kept_element run run_keeps depth) ps [] state (element_read name) w
-      (λ state' text w'. kept_on_read (element_name name text) state' (λ state'' value. Ended state'' Normal value) (element_in state'.store (level_of state') name text) w' (λ value. w')))
+      (λ state' text w'. kept_on_read (element_name name text) state' (λ state'' value. Ended state'' Normal value) (element_in state'.store (seen_level state') name text) w' (λ value. w')))
 
   module _ (run : List ℕ → State S → Outcome S) (call : List (List ℕ) → State S → Outcome S) (run_keeps : KeepsRun run) where
     pub kept_words : (words : List Word) (whole : List (List ℕ)) (state : State S) (f : State S → List (List ℕ) → Outcome S) → P state.shows → ((state' : State S) (all : List (List ℕ)) → P state'.shows → Kept (f state' all)) → Kept (words_meaning run call words whole state f)
@@ -141,12 +141,12 @@ module _ {S : Type 0} (P : S → Type 0) where
   kept_after_next again h state Error text w = w
   kept_after_next again h state (Return code) text w = w
 
-  kept_on_truth : (state : State S) (f : Bool → State S → Outcome S) (truth : Result Bool (List ℕ)) → P state.shows → ((holds : Bool) (state' : State S) → P state'.shows → Kept (f holds state')) → Kept (on_truth state f truth)
+  kept_on_truth : (state : State S) (f : Bool → State S → Outcome S) (truth : Result Bool (List ℕ)) → P state.shows → ((holds : Bool) (state' : State S) → P state'.shows → Kept (f holds state')) → Kept (with_truth state f truth)
   kept_on_truth state f (Ok holds) w h = h holds state w
   kept_on_truth state f (Err text) w h = w
 
   pub kept_on_value : (f : Bool → State S → Outcome S) → ((holds : Bool) (state' : State S) → P state'.shows → Kept (f holds state')) → (state : State S) (code : Code) (text : List ℕ) → P state.shows → Kept (on_value f state code text)
-  kept_on_value f h = kept_on_normal _ (λ state value w. kept_on_truth state f (truth_of value) w h)
+  kept_on_value f h = kept_on_normal _ (λ state value w. kept_on_truth state f (truth_of_text value) w h)
 
   pub kept_if : (first second : State S → Outcome S) → ((state : State S) → P state.shows → Kept (first state)) → ((state : State S) → P state.shows → Kept (second state)) → (holds : Bool) (state : State S) → P state.shows → Kept (if_holds first second holds state)
   kept_if first second y z true state w = y state w
@@ -158,9 +158,9 @@ module _ {S : Type 0} (P : S → Type 0) where
 
   module _ (run : List ℕ → State S → Outcome S) (run_keeps : KeepsRun run) where
     pub kept_run : (r : Evaluating) (state : State S) → P state.shows → Kept (run_meaning run r state)
-    kept_run (AsksVariable name go) state w = kept_on_read name state (λ state' value. run_meaning run (go value) state') (variable_in state.store (level_of state) name) w (λ value. kept_run (go value) state w)
+    kept_run (AsksVariable name go) state w = kept_on_read name state (λ state' value. run_meaning run (go value) state') (variable_in state.store (seen_level state) name) w (λ value. kept_run (go value) state w)
     kept_run (AsksElement array index go) state w =
-        kept_on_read (element_name array index) state (λ state' value. run_meaning run (go value) state') (element_in state.store (level_of state) array index) w (λ value. kept_run (go value) state w)
+        kept_on_read (element_name array index) state (λ state' value. run_meaning run (go value) state') (element_in state.store (seen_level state) array index) w (λ value. kept_run (go value) state w)
     kept_run (AsksCommand script go) state w =
         kept_and_then (run script state) (on_normal (λ state' value. run_meaning run (go value) state')) (run_keeps script state w)
         (kept_on_normal (λ state' value. run_meaning run (go value) state') (λ state' value w'. kept_run (go value) state' w'))
@@ -196,7 +196,7 @@ module _ {S : Type 0} (P : S → Type 0) where
 
     kept_test : (test : Test) (body : Test → State S → Outcome S) (state : State S) → P state.shows → ((after : Test) (state' : State S) → P state'.shows → Kept (body after state')) → Kept (test_meaning run test body state)
     kept_test (Holds condition) body state w h = kept_condition condition _ state w (kept_if (body (Holds condition)) loop_ended (h (Holds condition)) (λ state' w'. w'))
-    kept_test (Items groups) body state w h = kept_on_tested state _ (items_tested (level_of state) groups state.store) w (λ left state' w'. h (Items left) state' w')
+    kept_test (Items groups) body state w h = kept_on_tested state _ (items_tested (seen_level state) groups state.store) w (λ left state' w'. h (Items left) state' w')
 
     pub kept_turn : (turning : Turning) (again : State S → Outcome S) → ((state : State S) → P state.shows → Kept (again state)) → (state : State S) → P state.shows → Kept (turn_meaning run turning again state)
     kept_turn turning again h state w =

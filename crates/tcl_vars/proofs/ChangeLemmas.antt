@@ -8,16 +8,17 @@ use Rattle.tcl_vars.specs.declared.content.Content.TheVariants.{Scalar, Array}
 use Rattle.tcl_text.specs.declared.fault.ReadFault.TheVariants.{NoElement}
 use Rattle.tcl_vars.specs.declared.content.Outcome.TheVariants.{Added}
 use Rattle.tcl_text.specs.declared.fault.ChangeFault.{ChangeFault}
-use Rattle.tcl_vars.specs.Change.{change_fault, told_by, changed_by, ChangesContent, KeepsContent, ChangesText, KeepsText, ChangesHere, KeepsHere, ChangesAt}
+use Rattle.tcl_vars.specs.Change.{change_fault, told_by, edited_by}
+use Rattle.tcl_vars.specs.Changing.{ChangesContent, KeepsContent, ChangesText, KeepsText, ChangesHere, KeepsHere, ChangesAt}
 use Rattle.tcl_vars.specs.Name.{Place}
 use Rattle.tcl_vars.specs.Put.{PutsText, Sets}
 use Rattle.tcl_vars.specs.Sound.{IsSound}
-use Rattle.tcl_vars.specs.Store.{Store, Frame, content_at, end_of, frame_at, link_of, text_at, text_of, variable_count, with_new_content, within_limit}
+use Rattle.tcl_vars.specs.Store.{Store, Frame, content_at, end_of, frame_at, link_of, text_at, text_of, variable_count, with_new_content, within_variables}
 use Rattle.tcl_text.specs.declared.fault.SetFault.TheVariants.{Full}
 use Rattle.tcl_vars.specs.Table.{Table, value_at, with_value}
 use Rattle.tcl_vars.proofs.LinkLemmas.{led-here}
 use Rattle.tcl_vars.proofs.PutLemmas.{AfterPut-content}
-use Rattle.tcl_vars.proofs.StoreLemmas.{IsSound-set, counted-set, within_limit-ok}
+use Rattle.tcl_vars.proofs.StoreLemmas.{IsSound-set, counted-set, within_variables-ok}
 use Rattle.tcl_vars.proofs.TableLemmas.{with_value-same}
 
 pub told_ok : (read : Result (List ℕ) EditFault) (text : List ℕ) → read ≡ Ok text → told_by read ≡ Ok text
@@ -29,7 +30,7 @@ told_err read fault e = ap told_by e
 pub ruleset told = (told_ok, told_err)
 
 -- in a content
-pub ChangesContent-scalar : (old new : List ℕ) (edit : Edit) → changed_by edit (Ok old) ≡ Ok new → ChangesContent (Scalar old) None edit (Scalar new)
+pub ChangesContent-scalar : (old new : List ℕ) (edit : Edit) → edited_by edit (Ok old) ≡ Ok new → ChangesContent (Scalar old) None edit (Scalar new)
 ChangesContent-scalar old new edit e = record {
   value = new;
   changed = e;
@@ -37,7 +38,7 @@ ChangesContent-scalar old new edit e = record {
 }
 
 pub ChangesContent-element : (elements new : Table (List ℕ)) (index : List ℕ) (edit : Edit)
-    → ((value : List ℕ) × (changed_by edit (ok_or (value_at elements index) NoElement) ≡ Ok value) × (new ≡ with_value elements index value) × (length new ≡ length elements))
+    → ((value : List ℕ) × (edited_by edit (ok_or (value_at elements index) NoElement) ≡ Ok value) × (new ≡ with_value elements index value) × (length new ≡ length elements))
     → ChangesContent (Array elements) (Some index) edit (Array new)
 ChangesContent-element elements new index edit h = record {
   value = h.0;
@@ -57,14 +58,14 @@ module _ (frame : Frame) (place : Place) (edit : Edit) (held : Content) (known :
   pub ChangesText-content : (new : Content) → ChangesContent held place.element edit new → ChangesText frame place edit (with_value frame place.variable new)
   ChangesText-content new h = record {
     value = h.value;
-    changed = ap (λ o. changed_by edit (text_of o place.element)) known ∙ h.changed;
+    changed = ap (λ o. edited_by edit (text_of o place.element)) known ∙ h.changed;
     puts = λ room. AfterPut-content frame place h.value room held known (Added 0) new (h.puts room);
   }
 
   pub KeepsText-content : (fault : ChangeFault) → KeepsContent held place.element edit fault → KeepsText frame place edit fault
   KeepsText-content fault h = record {
     linkless = ap link_of known ∙ h.linkless;
-    why = ap (λ o. changed_by edit (text_of o place.element)) known ∙ h.why;
+    why = ap (λ o. edited_by edit (text_of o place.element)) known ∙ h.why;
   }
 
   pub AfterChange-content : (done : Bool) (new : Content)
@@ -86,8 +87,8 @@ module _ (store : Store) (place : Place) (edit : Edit) where
     set = h.sets.given;
   })
 
-  pub KeepsAt-direct : (fault : ChangeFault) → KeepsHere store place edit fault → changed_by edit (text_at store (end_of store place)) ≡ Err fault
-  KeepsAt-direct fault h = ap (λ p. changed_by edit (text_at store p)) (led-here store place h.linkless) ∙ h.why
+  pub KeepsAt-direct : (fault : ChangeFault) → KeepsHere store place edit fault → edited_by edit (text_at store (end_of store place)) ≡ Err fault
+  KeepsAt-direct fault h = ap (λ p. edited_by edit (text_at store p)) (led-here store place h.linkless) ∙ h.why
 
   pub ChangesAt-led : (end : Place) (new : Store) → end_of store place ≡ Some end → ChangesHere store end edit new → ChangesAt store (end_of store place) edit new
   ChangesAt-led end new leads h = subst (λ p. ChangesAt store p edit new) (sym leads) (record {
@@ -96,8 +97,8 @@ module _ (store : Store) (place : Place) (edit : Edit) where
     set = h.sets.given;
   })
 
-  pub KeepsAt-led : (end : Place) (fault : ChangeFault) → end_of store place ≡ Some end → KeepsHere store end edit fault → changed_by edit (text_at store (end_of store place)) ≡ Err fault
-  KeepsAt-led end fault leads h = ap (λ p. changed_by edit (text_at store p)) leads ∙ h.why
+  pub KeepsAt-led : (end : Place) (fault : ChangeFault) → end_of store place ≡ Some end → KeepsHere store end edit fault → edited_by edit (text_at store (end_of store place)) ≡ Err fault
+  KeepsAt-led end fault leads h = ap (λ p. edited_by edit (text_at store p)) leads ∙ h.why
 
 -- a frame that stays
 pub IsSound-same : (store : Store) (count : ℕ) → IsSound store count → (level : ℕ) (new : Frame) → new ≡ frame_at store level → IsSound (set store level new) count
@@ -114,8 +115,8 @@ module _ (store : Store) (count : ℕ) (sound : IsSound store count) (place : Pl
   sets : (value : List ℕ) → PutsText (frame_at store place.level) place value (4096 - count) 0 new → Sets store place value (Ok (set store place.level new))
   sets value puts = record {
     linkless = puts.linkless;
-    given = ap (with_new_content store place) puts.given ∙ ap (λ f. within_limit Full (set store place.level f)) (sym puts.frame)
-        ∙ within_limit-ok Full (set store place.level new)
+    given = ap (with_new_content store place) puts.given ∙ ap (λ f. within_variables Full (set store place.level f)) (sym puts.frame)
+        ∙ within_variables-ok Full (set store place.level new)
         (let same : count + 0 ≡ variable_count (set store place.level new) = counted-set store count sound place within value 0 new puts in omega (arith, sound.limited));
   }
 

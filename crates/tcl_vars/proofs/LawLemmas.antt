@@ -14,7 +14,7 @@ use Rattle.tcl_text.specs.declared.fault.UnsetFault.{UnsetFault}
 use Rattle.tcl_text.specs.declared.fault.LinkFault.TheVariants as links
 use Rattle.tcl_vars.specs.Name.{Place, place_of}
 use Rattle.tcl_vars.specs.Sound.{LinksDescend}
-use Rattle.tcl_vars.specs.Store.{Store, Frame, frame_with_rest, frame_at, content_at, with_content, variable_count, link_of, indexed, led_by, led, end_of, place_in, element_place_in, text_of, text_at, content_with, within_limit, with_new_content, with_text_at, with_variable, with_element, content_without, with_rest, without_text_at, without_variable, without_element, array_state, with_array_of, with_array_at, with_array, is_plain, holds_value, variable_place, with_link, is_there, is_there_at}
+use Rattle.tcl_vars.specs.Store.{Store, Frame, frame_with_rest, frame_at, content_at, with_content, variable_count, link_of, indexed, led_by, led, end_of, place_in, element_place_in, text_of, text_at, content_with, within_variables, with_new_content, with_text_at, with_variable, with_element, content_without, with_rest, without_text_at, without_variable, without_element, array_state, with_array_of, with_array_at, with_array, is_plain_name, holds_value, variable_place, with_link, is_there, is_there_at}
 use Rattle.tcl_vars.specs.Table.{value_at, with_value}
 use Rattle.tcl_vars.specs.Unset.{UnsetsText, Unsets, IsGone}
 use Rattle.tcl_vars.proofs.LinkLemmas.{led-end, next_below}
@@ -22,8 +22,8 @@ use Rattle.tcl_vars.proofs.TableLemmas.{value_at-with_value, value_at-without-ot
 
 -- the frames stay
 
-pub within_limit-is : {F : Type 0} (full : F) (store new : Store) → within_limit full store ≡ Ok new → new ≡ store
-within_limit-is full store new e = by (nat_le (variable_count store) 4096) e
+pub within_variables-is : {F : Type 0} (full : F) (store new : Store) → within_variables full store ≡ Ok new → new ≡ store
+within_variables-is full store new e = by (nat_le (variable_count store) 4096) e
   where
     by : (b : Bool) → (if b then Ok store else Err full) ≡ Ok new → new ≡ store
     by true h = cc
@@ -31,7 +31,7 @@ within_limit-is full store new e = by (nat_le (variable_count store) 4096) e
 
 new_content-is : (store : Store) (place : Place) (r : Result Content SetFault) (new : Store) → with_new_content store place r ≡ Ok new
     → (content : Content) × (r ≡ Ok content) × (new ≡ with_content store place content)
-new_content-is store place (Ok content) new e = (content, refl, within_limit-is sets.Full (with_content store place content) new e)
+new_content-is store place (Ok content) new e = (content, refl, within_variables-is sets.Full (with_content store place content) new e)
 new_content-is store place (Err fault) new e = absurd (cc)
 
 module _ (store new : Store) where
@@ -69,7 +69,7 @@ module _ (store new : Store) where
   length-with_array_of place None e = absurd (cc)
   length-with_array_of place (Some true) e = let is : new ≡ store = cc in ap length is
   length-with_array_of place (Some false) e =
-      ap length (within_limit-is sets.Full (with_content store place (Array [])) new e) ∙ length-set store place.level _
+      ap length (within_variables-is sets.Full (with_content store place (Array [])) new e) ∙ length-set store place.level _
 
   length-with_array_at : (end : Option Place) → with_array_at store end ≡ Ok new → length new ≡ length store
   length-with_array_at None e = absurd (cc)
@@ -81,17 +81,17 @@ module _ (store new : Store) where
 
   pub length-with_link : (level : ℕ) (name : List ℕ) (to_level : ℕ) (to_name : List ℕ) → with_link store level name to_level to_name ≡ Ok new → length new ≡ length store
   unfolding with_link
-  length-with_link level name to_level to_name e = by (is_plain name) (holds_value (content_at store (variable_place level name))) e
+  length-with_link level name to_level to_name e = by (is_plain_name name) (holds_value (content_at store (variable_place level name))) e
     where
       by : (plain holds : Bool)
           → (if not plain then Err links.BadName
           else if holds then Err links.Exists
-          else within_limit links.Full (with_content store (variable_place level name) (Link to_level to_name))) ≡ Ok new
+          else within_variables links.Full (with_content store (variable_place level name) (Link to_level to_name))) ≡ Ok new
           → length new ≡ length store
       by false holds h = absurd (cc)
       by true true h = absurd (cc)
       by true false h =
-          ap length (within_limit-is links.Full (with_content store (variable_place level name) (Link to_level to_name)) new h) ∙ length-set store level _
+          ap length (within_variables-is links.Full (with_content store (variable_place level name) (Link to_level to_name)) new h) ∙ length-set store level _
 
 -- what is set is read
 

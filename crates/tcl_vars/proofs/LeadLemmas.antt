@@ -6,13 +6,13 @@ use Rattle.tcl_vars.specs.declared.content.Content.TheVariants.{Link}
 use Rattle.tcl_text.specs.declared.fault.LinkFault.TheVariants as links
 use Rattle.tcl_vars.specs.Name.{Place, element_of, place_of_parts, place_in_frame, place_of}
 use Rattle.tcl_vars.specs.Sound.{LinksDescend}
-use Rattle.tcl_vars.specs.Store.{Store, frame_at, content_at, with_content, link_of, indexed, led_by, led, end_of, place_in, text_of, text_at, variable_in, is_plain, holds_value, variable_place, within_limit, with_link}
+use Rattle.tcl_vars.specs.Store.{Store, frame_at, content_at, with_content, link_of, indexed, led_by, led, end_of, place_in, text_of, text_at, variable_in, is_plain_name, holds_value, variable_place, within_variables, with_link}
 use Rattle.tcl_vars.specs.Table.{value_at, with_value}
 use Rattle.tcl_vars.proofs.LinkLemmas.{led_enough, next_below, place_of-level}
-use Rattle.tcl_vars.proofs.LawLemmas.{content_at-there, led-level, within_limit-is}
+use Rattle.tcl_vars.proofs.LawLemmas.{content_at-there, led-level, within_variables-is}
 
 -- a plain name points to its own variable
-place_of-plain : (level : ℕ) (name : List ℕ) → is_plain name ≡ true → place_of level name ≡ variable_place level name
+place_of-plain : (level : ℕ) (name : List ℕ) → is_plain_name name ≡ true → place_of level name ≡ variable_place level name
 place_of-plain level name plain = by (starts_with nat_eq name (codes "::")) (element_of name) plain
   where
     by : (b : Bool) (parts : Option (List ℕ × List ℕ)) → (not b && is_none parts) ≡ true
@@ -76,16 +76,16 @@ module _ (store : Store) (down : LinksDescend store) (level : ℕ) (within : lev
 
   pub variable_in-with_link : (new : Store) → with_link store level name to_level to_name ≡ Ok new → variable_in new level name ≡ variable_in store to_level to_name
   unfolding with_link variable_in linked
-  variable_in-with_link new e = by (is_plain name) refl (holds_value (content_at store (variable_place level name))) e
+  variable_in-with_link new e = by (is_plain_name name) refl (holds_value (content_at store (variable_place level name))) e
     where
-      by : (plain : Bool) → is_plain name ≡ plain → (holds : Bool)
+      by : (plain : Bool) → is_plain_name name ≡ plain → (holds : Bool)
           → (if not plain then Err links.BadName
           else if holds then Err links.Exists
-          else within_limit links.Full (with_content store (variable_place level name) (Link to_level to_name))) ≡ Ok new
+          else within_variables links.Full (with_content store (variable_place level name) (Link to_level to_name))) ≡ Ok new
           → text_at new (place_in new level name) ≡ text_at store (place_in store to_level to_name)
       by false plain holds h = absurd (cc)
       by true plain true h = absurd (cc)
       by true plain false h =
-          ap (λ s. text_at s (place_in s level name)) (within_limit-is links.Full linked new h)
+          ap (λ s. text_at s (place_in s level name)) (within_variables-is links.Full linked new h)
           ∙ ap (λ p. text_at linked (end_of linked p)) (place_of-plain level name plain)
           ∙ ap (text_at linked) end_of-linked ∙ text_at-linked

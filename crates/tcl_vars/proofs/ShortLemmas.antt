@@ -1,7 +1,7 @@
 -- Short names stay short.
 use Rattle.std.proofs.Common.{◌≡◌, ℕ, zero, suc, Bool, true, false, cond, List, [], ◌∷◌, String, bytes_eq, slice_get, Some, subst}
 use Rattle.indexmap.specs.IndexMap.{set_value_at}
-use Rattle.tcl_vars.specs.Named.{named}
+use Rattle.tcl_vars.specs.Named.{named_entries}
 use Rattle.tcl_vars.specs.Short.{IsShort, ShortNames}
 use Rattle.tcl_vars.specs.Table.{Table, with_value, without}
 
@@ -22,7 +22,7 @@ module _ {V : Type 0} where
       by true rest = h.1
       by false rest = (h.0, rest)
 
-  pub ShortNames-set_value_at : {Z : Type 0} (es : List (String Z × V)) (i : ℕ) (value : V) → ShortNames (named es) → ShortNames (named (set_value_at es i value))
+  pub ShortNames-set_value_at : {Z : Type 0} (es : List (String Z × V)) (i : ℕ) (value : V) → ShortNames (named_entries es) → ShortNames (named_entries (set_value_at es i value))
   ShortNames-set_value_at [] i value h = tt
   ShortNames-set_value_at (e ∷ es) zero value h = (h.0, h.1)
   ShortNames-set_value_at (e ∷ es) (suc i) value h = (h.0, ShortNames-set_value_at es i value h.1)

@@ -10,7 +10,7 @@ use Rattle.tcl_text.specs.declared.fault.SetFault.{SetFault}
 use Rattle.tcl_vars.specs.Name.{Place}
 use Rattle.tcl_vars.specs.Put.{PutsText, Sets}
 use Rattle.tcl_vars.specs.Sound.{AllBelow, FramesDescend, IsSound}
-use Rattle.tcl_vars.specs.Store.{Store, Frame, frame_at, content_at, link_of, frame_count, variable_count, within_limit, with_text_at, end_of}
+use Rattle.tcl_vars.specs.Store.{Store, Frame, frame_at, content_at, link_of, frame_count, variable_count, within_variables, with_text_at, end_of}
 use Rattle.tcl_vars.proofs.BelowLemmas.{AllBelow-with_value, content_with-below}
 use Rattle.tcl_vars.proofs.LinkLemmas.{led-here}
 
@@ -28,11 +28,11 @@ module _ (store : Store) (level : ℕ) (within : level < length store) (new : Fr
       by (inr there) = subst (AllBelow other) (sym (get_or-set_other store level other new [] there.1)) (down other)
 
 -- within the limit, or over it
-pub within_limit-ok : {F : Type 0} (full : F) (store : Store) → variable_count store ≤ 4096 → within_limit full store ≡ Ok store
-within_limit-ok full store low = ap (λ b. if b then Ok store else Err full) (true_from_ne_false (nat_le (variable_count store) 4096) (λ no. absurd (grind (arith, nat_tests))))
+pub within_variables-ok : {F : Type 0} (full : F) (store : Store) → variable_count store ≤ 4096 → within_variables full store ≡ Ok store
+within_variables-ok full store low = ap (λ b. if b then Ok store else Err full) (true_from_ne_false (nat_le (variable_count store) 4096) (λ no. absurd (grind (arith, nat_tests))))
 
-pub within_limit-full : {F : Type 0} (full : F) (store : Store) → 4096 < variable_count store → within_limit full store ≡ Err full
-within_limit-full full store high = ap (λ b. if b then Ok store else Err full) (false_from_ne_true (nat_le (variable_count store) 4096) (λ yes. absurd (grind (arith, nat_tests))))
+pub within_variables-full : {F : Type 0} (full : F) (store : Store) → 4096 < variable_count store → within_variables full store ≡ Err full
+within_variables-full full store high = ap (λ b. if b then Ok store else Err full) (false_from_ne_true (nat_le (variable_count store) 4096) (λ yes. absurd (grind (arith, nat_tests))))
 
 module _ (store : Store) (count : ℕ) (sound : IsSound store count) (place : Place) (within : place.level < length store) (value : List ℕ) where
   module _ (added : ℕ) (new : Frame) (puts : PutsText (frame_at store place.level) place value (4096 - count) added new) where

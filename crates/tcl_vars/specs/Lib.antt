@@ -1,4 +1,6 @@
+-- What the contracts cite.
 pub mod Change
+pub mod Changing
 pub mod Name
 pub mod Named
 pub mod Owned

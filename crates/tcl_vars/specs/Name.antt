@@ -1,6 +1,7 @@
 -- Meaning. How the name of a variable is read.
 use Rattle.std.specs.Prelude.{ℕ, ◌-◌, ◌==◌, nat_eq, nat_lt, List, Option, None, Some, length, take, drop, if◌then◌else◌, codes}
 use Rattle.std.specs.List.{starts_with, ends_with, position_or_len, before_first, after_first}
+use Rattle.tcl_text.specs.Bytes.{open_paren}
 
 -- what stands before and after the first byte c of a text, if it has one
 abbrev pub around_first : ℕ → List ℕ → Option (List ℕ × List ℕ)
@@ -11,7 +12,7 @@ around_first c text =
 
 -- a name `array(index)` means an element: it ends with `)`, and the array's name ends at the first `(` before that
 abbrev pub element_of : List ℕ → Option (List ℕ × List ℕ)
-element_of name = if ends_with nat_eq name (codes ")") then around_first 40 (take (length name - 1) name) else None
+element_of name = if ends_with nat_eq name (codes ")") then around_first open_paren (take (length name - 1) name) else None
 
 -- a variable of the frame at a level, or an element of it where an index is given
 pub record Place : Type 0 where

@@ -1,4 +1,4 @@
--- Meaning. What setting a text does in one content and in one frame, with room for so many more variables.
+-- Steps. What setting a text does in one content and in one frame, with room for so many more variables.
 use Rattle.std.specs.Prelude.{◌≡◌, ◌≢◌, ℕ, ◌+◌, ◌<◌, ◌≤◌, List, Option, None, Some, Ok, Err, Result, MatchResult, IfErr, OnOk, OnErr}
 use Rattle.tcl_vars.specs.declared.content.Content.{Content}
 use Rattle.tcl_text.specs.declared.fault.SetFault.{SetFault}

@@ -167,11 +167,11 @@ content_with (Some (Array elements)) (Some index) value = Ok (Array (with_value 
 content_with (Some (Link level name)) element value = Err sets.NotArray
 
 -- a store of at most 4,096 variables
-abbrev pub within_limit : {F : Type 0} → F → Store → Result Store F
-within_limit full store = if nat_le (variable_count store) most_variables then Ok store else Err full
+abbrev pub within_variables : {F : Type 0} → F → Store → Result Store F
+within_variables full store = if nat_le (variable_count store) most_variables then Ok store else Err full
 
 abbrev pub with_new_content : Store → Place → Result Content SetFault → Result Store SetFault
-with_new_content store place (Ok content) = within_limit sets.Full (with_content store place content)
+with_new_content store place (Ok content) = within_variables sets.Full (with_content store place content)
 with_new_content store place (Err fault) = Err fault
 
 abbrev pub with_text_at : Store → Option Place → List ℕ → Result Store SetFault
@@ -199,7 +199,7 @@ array_state (Some (Link level name)) element = None
 abbrev pub with_array_of : Store → Place → Option Bool → Result Store SetFault
 with_array_of store place None = Err sets.NotArray
 with_array_of store place (Some true) = Ok store
-with_array_of store place (Some false) = within_limit sets.Full (with_content store place (Array []))
+with_array_of store place (Some false) = within_variables sets.Full (with_content store place (Array []))
 
 abbrev pub with_array_at : Store → Option Place → Result Store SetFault
 with_array_at store None = Err sets.NotArray
@@ -212,8 +212,8 @@ with_array store level name = with_array_at store (place_in store level name)
 -- Linking
 
 -- a name is plain where it means a variable of the frame that it is used in
-abbrev pub is_plain : List ℕ → Bool
-is_plain name = not (starts_with nat_eq name (codes "::")) && is_none (element_of name)
+abbrev pub is_plain_name : List ℕ → Bool
+is_plain_name name = not (starts_with nat_eq name (codes "::")) && is_none (element_of name)
 
 -- a content that is no link
 abbrev pub holds_value : Option Content → Bool
@@ -228,9 +228,9 @@ variable_place level variable = record { level = level; variable = variable; ele
 -- the store in which a name of the frame at a level is a link to a name in an earlier frame
 unfoldable pub with_link : Store → ℕ → List ℕ → ℕ → List ℕ → Result Store LinkFault
 with_link store level name to_level to_name =
-    if not (is_plain name) then Err links.BadName
+    if not (is_plain_name name) then Err links.BadName
     else if holds_value (content_at store (variable_place level name)) then Err links.Exists
-    else within_limit links.Full (with_content store (variable_place level name) (Link to_level to_name))
+    else within_variables links.Full (with_content store (variable_place level name) (Link to_level to_name))
 
 -- Removing
 

@@ -1,4 +1,4 @@
--- Meaning. What unsetting does in one content, in one frame and in the store.
+-- Steps. What unsetting does in one content, in one frame and in the store.
 use Rattle.std.specs.Prelude.{false, ◌≡◌, ◌≢◌, ℕ, ◌+◌, List, Option, None, Some, Result, Ok, Err, IfErr, OnOk, OnErr}
 use Rattle.tcl_vars.specs.declared.content.Content.{Content}
 use Rattle.tcl_vars.specs.declared.content.Removal.{Removal}

@@ -1,6 +1,7 @@
 ghost use Rattle.std.specs.Prelude.{◌≡◌, ◌≢◌, ◌+◌, ◌<◌, ◌≤◌, length, List, ℕ, ok_or, option_map, MatchBool, ◌↔◌, MatchResult, Ok, Err, Some, None, false, IsOk, IsSome, IfOk, IfErr, IfSome, OnOk, OnErr};
 ghost use Rattle.std.specs.Option.{option_copied};
-ghost use Rattle.tcl_vars.specs.Change.{ChangesContent, KeepsContent, changed_by};
+ghost use Rattle.tcl_vars.specs.Change.{edited_by};
+ghost use Rattle.tcl_vars.specs.Changing.{ChangesContent, KeepsContent};
 ghost use Rattle.tcl_vars.specs.Put.{AfterContent, RefusesContent};
 ghost use Rattle.tcl_vars.specs.Short.{IsShort};
 ghost use Rattle.tcl_vars.specs.Store.{array_state, content_count, content_without, elements_of, holds_value, is_there, link_of, text_of};
@@ -252,8 +253,8 @@ fn put_element(
 // Changes a text.
 #[tactic(auto, using(crate::proofs::ChangeLemmas::told))]
 fn change_text(alloc: Global, text: &mut Text, edit: Edit<'_>) -> Result<(), ChangeFault>
-    ensures ok { OnOk result (changed_by edit.entry (Ok text.old) ≡ Ok text.new) }
-    ensures refused { IfErr result (λ fault. fault ≢ ChangeFault.NoMemory → changed_by edit.entry (Ok text.old) ≡ Err fault) }
+    ensures ok { OnOk result (edited_by edit.entry (Ok text.old) ≡ Ok text.new) }
+    ensures refused { IfErr result (λ fault. fault ≢ ChangeFault.NoMemory → edited_by edit.entry (Ok text.old) ≡ Err fault) }
     ensures err { OnErr result (text.new ≡ text.old) }
 {
     match text.edit(alloc, edit) {
@@ -272,10 +273,10 @@ fn change_element(
     edit: Edit<'_>,
 ) -> Result<(), ChangeFault>
     ensures ok { OnOk result ((value : List ℕ)
-        × (changed_by edit.entry (ok_or (value_at elements.old index.now) ReadFault.NoElement) ≡ Ok value)
+        × (edited_by edit.entry (ok_or (value_at elements.old index.now) ReadFault.NoElement) ≡ Ok value)
         × (elements.new ≡ with_value elements.old index.now value) × (length elements.new ≡ length elements.old)) }
     ensures refused { IfErr result (λ fault. fault ≢ ChangeFault.NoMemory →
-        changed_by edit.entry (ok_or (value_at elements.old index.now) ReadFault.NoElement) ≡ Err fault) }
+        edited_by edit.entry (ok_or (value_at elements.old index.now) ReadFault.NoElement) ≡ Err fault) }
     ensures err { OnErr result (elements.new ≡ elements.old) }
 {
     match elements.get_mut(index) {

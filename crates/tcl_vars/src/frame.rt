@@ -1,6 +1,6 @@
 ghost use Rattle.std.specs.Prelude.{◌≡◌, ◌≢◌, ◌+◌, ◌<◌, ◌≤◌, None, Ok, IfOk, IfErr, IfSome, MatchBool, MatchOption, OnErr};
 ghost use Rattle.std.specs.Option.{option_copied};
-ghost use Rattle.tcl_vars.specs.Change.{ChangesText, KeepsText};
+ghost use Rattle.tcl_vars.specs.Changing.{ChangesText, KeepsText};
 ghost use Rattle.tcl_vars.specs.Put.{RefusesText, AfterPut, new_count};
 ghost use Rattle.tcl_vars.specs.Short.{IsShort, IsShortPlace};
 ghost use Rattle.tcl_vars.specs.Shown.{shown};
@@ -54,10 +54,7 @@ pub(crate) fn put(
             frame.insert(place.variable, content)?;
             Ok(Outcome::Added(added))
         }
-        Some(content) => {
-            let outcome = content.put(place.element, value, room)?;
-            Ok(outcome)
-        }
+        Some(content) => content.put(place.element, value, room),
     }
 }
 
@@ -76,10 +73,7 @@ pub(crate) fn change(
 {
     match frame.get_mut(place.variable) {
         None => Err(ChangeFault::Unread(ReadFault::NoVariable)),
-        Some(content) => {
-            let done = content.change(alloc, place.element, edit)?;
-            Ok(done)
-        }
+        Some(content) => content.change(alloc, place.element, edit),
     }
 }
 

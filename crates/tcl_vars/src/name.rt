@@ -3,7 +3,7 @@ ghost use Rattle.std.specs.Option.{option_copied};
 ghost use Rattle.tcl_vars.specs.Name.{element_of, place_in_frame, place_of};
 ghost use Rattle.tcl_vars.specs.Short.{IsShort, IsShortPlace};
 ghost use Rattle.tcl_vars.specs.Shown.{shown};
-ghost use Rattle.tcl_vars.specs.Store.{indexed, is_plain, variable_place};
+ghost use Rattle.tcl_vars.specs.Store.{indexed, is_plain_name, variable_place};
 
 use std::alloc::{AllocError, Global};
 use tcl_text::Text;
@@ -98,7 +98,7 @@ pub(crate) fn is_given(element: Option<&str>) -> bool
 
 /// Whether a name means a variable of the frame that it is used in.
 pub(crate) fn is_plain(name: &str) -> bool
-    ensures { result ≡ is_plain name.now }
+    ensures { result ≡ is_plain_name name.now }
 {
     !name.starts_with("::") && element_of(name).is_none()
 }

@@ -1,7 +1,8 @@
 ghost use Rattle.std.specs.Prelude.{◌≡◌, ◌≢◌, ◌<◌, ◌≤◌, ◌-◌, [], ◌∷◌, ◌++◌, length, take, IfOk, IfErr, OnOk, OnErr, map, unwrap_or, is_some, false, MatchResult, MatchOption, MatchBool, Ok, Err, Some, None};
 ghost use Rattle.std.specs.Option.{option_copied};
 ghost use Rattle.std.specs.Bool.{OnTrue};
-ghost use Rattle.tcl_vars.specs.Change.{Changes, ChangesHere, ChangesThere, KeepsHere, changed_by};
+ghost use Rattle.tcl_vars.specs.Change.{Changes, edited_by};
+ghost use Rattle.tcl_vars.specs.Changing.{ChangesHere, ChangesThere, KeepsHere};
 ghost use Rattle.tcl_vars.specs.Put.{Sets, SetsThere};
 ghost use Rattle.tcl_vars.specs.Short.{IsShortPlace};
 ghost use Rattle.tcl_vars.specs.Shown.{shown};
@@ -165,7 +166,7 @@ impl Scopes {
     pub fn change(&mut self, level: usize, name: &Text, edit: Edit<'_>) -> Result<(), ChangeFault>
         requires { level < length self.old }
         ensures ok { OnOk result (Changes self.old level name.now edit.entry self.new) }
-        ensures refused { IfErr result (λ fault. fault ≢ ChangeFault.NoMemory → changed_by edit.entry (variable_in self.old level name.now) ≡ Err fault) }
+        ensures refused { IfErr result (λ fault. fault ≢ ChangeFault.NoMemory → edited_by edit.entry (variable_in self.old level name.now) ≡ Err fault) }
         ensures err { OnErr result (self.new ≡ self.old) }
         ensures levels { length self.new ≡ length self.old }
     {

@@ -19,15 +19,15 @@ pub struct Table<V> {
 
 impl<V> Model for Table<V> {
     ghost use Rattle.std.specs.Prelude.{ℕ, List};
-    ghost use Rattle.tcl_vars.specs.Named.{named};
+    ghost use Rattle.tcl_vars.specs.Named.{named_entries};
 
     ghost Value = { List (List ℕ × V) };
 
-    ghost view = { λ t. named t.entries.entries };
+    ghost view = { λ t. named_entries t.entries.entries };
 
     ghost use Rattle.tcl_vars.specs.Short.{ShortNames};
 
-    ghost invariant = { λ t. ShortNames (named t.entries.entries) };
+    ghost invariant = { λ t. ShortNames (named_entries t.entries.entries) };
 }
 
 impl<V> Table<V> {

@@ -4,9 +4,9 @@ use Rattle.std.specs.List.{slice_range}
 use Rattle.std.proofs.lemmas.List.{take-append-le, drop-append-le, length-drop}
 use Rattle.tcl_words.specs.Kinds.{class_means, kind_before}
 use Rattle.tcl_words.specs.Classes.{class_of}
-use Rattle.tcl_words.specs.Changes.{Rest, Read, put, piece_before, last_rest, Change, bytes, name, text_ends, word_ends, command_ends, word_begins, command_begins, changed}
-use Rattle.tcl_words.specs.Moves.{Move, move_of}
-use Rattle.tcl_words.specs.Reading.{Level, within, rest_of, at_end, past, past_opened, first_place, first_skip, opened_piece}
+use Rattle.tcl_words.specs.Changes.{TextRest, Read, put, piece_before, last_rest, Change, bytes, name, text_ends, word_ends, command_ends, word_begins, command_begins, changed}
+use Rattle.tcl_words.specs.Moves.{ByteMove, move_of}
+use Rattle.tcl_words.specs.Reading.{Level, within, rest_of, read_at_end, past, past_opened, opened_place, first_skip, opened_piece}
 use Rattle.tcl_words.specs.declared.kind.BytePlace.{BytePlace}
 use Rattle.tcl_words.specs.declared.kind.BytePlace.TheVariants.{Start, Comment, Between, Expanded, Text, PastQuotes, InBraces, PastBraces}
 use Rattle.tcl_words.specs.declared.kind.Mode.{Mode}
@@ -21,7 +21,7 @@ use Rattle.tcl_words.proofs.Cuts.{IsCloser, FitsStep, step_cut, step_same}
 use Rattle.tcl_words.proofs.Closers.{class_ends, class_closes}
 
 -- what was read of this text ends at a bracket or a parenthesis in it
-pub record Closed (text : List ℕ) (room skip : ℕ) (place : BytePlace) (at : ℕ) (rest : Rest) : Type 0 where
+pub record Closed (text : List ℕ) (room skip : ℕ) (place : BytePlace) (at : ℕ) (rest : TextRest) : Type 0 where
   pub inner : List ℕ
   pub closer : ℕ
   pub after : List ℕ
@@ -34,11 +34,11 @@ pub record Closed (text : List ℕ) (room skip : ℕ) (place : BytePlace) (at : 
   -- so it is where the text ends before the bracket or the parenthesis
   pub alone : (more : ℕ) → room ≤ more → rest_of inner (record { inside = false; room = more }) skip place at ≡ Ok rest
 
-pub put_ok : (f : Rest → Rest) (r : Read) (rest : Rest) → put f r ≡ Ok rest → (found : Rest) × ((r ≡ Ok found) × (f found ≡ rest))
+pub put_ok : (f : TextRest → TextRest) (r : Read) (rest : TextRest) → put f r ≡ Ok rest → (found : TextRest) × ((r ≡ Ok found) × (f found ≡ rest))
 put_ok f (Ok found) rest e = (found, (refl, (let h : Ok (f found) ≡ Ok rest = e in cc)))
 put_ok f (Err fault) rest e = absurd (let h : Err fault ≡ Ok rest = e in cc)
 
-changed_close : (cs : List Change) (rest : Rest) → (changed cs rest).close ≡ rest.close
+changed_close : (cs : List Change) (rest : TextRest) → (changed cs rest).close ≡ rest.close
 changed_close [] rest = refl
 changed_close (bytes own ∷ cs) rest = changed_close cs rest
 changed_close (name own ∷ cs) rest = changed_close cs rest
@@ -67,40 +67,40 @@ piece_cut (Index n) xs tail close h k =
     ∙ ap (λ t. Element (take n xs) t) (ap (take (close - suc n)) (drop-append-le (suc n) xs tail k) ∙ take-append-le (close - suc n) (drop (suc n) xs) tail room)
 
 -- an end before it should end is a fault
-no_end : (place : BytePlace) (at : ℕ) (rest : Rest) → at_end true place at ≡ Ok rest → ⊥
-no_end Start at rest e = let h : at_end true Start at ≡ Ok rest = e in cc
-no_end Comment at rest e = let h : at_end true Comment at ≡ Ok rest = e in cc
-no_end Between at rest e = let h : at_end true Between at ≡ Ok rest = e in cc
-no_end Expanded at rest e = let h : at_end true Expanded at ≡ Ok rest = e in cc
-no_end (Text Bare) at rest e = let h : at_end true (Text Bare) at ≡ Ok rest = e in cc
-no_end (Text Quotes) at rest e = let h : at_end true (Text Quotes) at ≡ Ok rest = e in cc
-no_end (Text Parens) at rest e = let h : at_end true (Text Parens) at ≡ Ok rest = e in cc
-no_end PastQuotes at rest e = let h : at_end true PastQuotes at ≡ Ok rest = e in cc
-no_end (InBraces depth) at rest e = let h : at_end true (InBraces depth) at ≡ Ok rest = e in cc
-no_end PastBraces at rest e = let h : at_end true PastBraces at ≡ Ok rest = e in cc
+no_end : (place : BytePlace) (at : ℕ) (rest : TextRest) → read_at_end true place at ≡ Ok rest → ⊥
+no_end Start at rest e = let h : read_at_end true Start at ≡ Ok rest = e in cc
+no_end Comment at rest e = let h : read_at_end true Comment at ≡ Ok rest = e in cc
+no_end Between at rest e = let h : read_at_end true Between at ≡ Ok rest = e in cc
+no_end Expanded at rest e = let h : read_at_end true Expanded at ≡ Ok rest = e in cc
+no_end (Text Bare) at rest e = let h : read_at_end true (Text Bare) at ≡ Ok rest = e in cc
+no_end (Text Quotes) at rest e = let h : read_at_end true (Text Quotes) at ≡ Ok rest = e in cc
+no_end (Text Parens) at rest e = let h : read_at_end true (Text Parens) at ≡ Ok rest = e in cc
+no_end PastQuotes at rest e = let h : read_at_end true PastQuotes at ≡ Ok rest = e in cc
+no_end (InBraces depth) at rest e = let h : read_at_end true (InBraces depth) at ≡ Ok rest = e in cc
+no_end PastBraces at rest e = let h : read_at_end true PastBraces at ≡ Ok rest = e in cc
 
-pub past_ok : (opener : Opener) (mode : Mode) (behind : List ℕ) (go : ℕ → BytePlace → Read) (x : Read) (rest : Rest) → past_opened opener mode behind go x ≡ Ok rest →
-    (found : Rest) × ((x ≡ Ok found) × (put (piece_before (opened_piece opener behind found.close)) (go (suc found.close) (Text mode)) ≡ Ok rest))
+pub past_ok : (opener : Opener) (mode : Mode) (behind : List ℕ) (go : ℕ → BytePlace → Read) (x : Read) (rest : TextRest) → past_opened opener mode behind go x ≡ Ok rest →
+    (found : TextRest) × ((x ≡ Ok found) × (put (piece_before (opened_piece opener behind found.close)) (go (suc found.close) (Text mode)) ≡ Ok rest))
 past_ok opener mode behind go (Ok found) rest e = (found, (refl, e))
 past_ok opener mode behind go (Err fault) rest e = absurd (let h : past_opened opener mode behind go (Err fault) ≡ Ok rest = e in cc)
 
-pub room_left : (room at : ℕ) (opener : Opener) (mode : Mode) (behind : List ℕ) (go : ℕ → BytePlace → Read) (inner : ℕ → ℕ → BytePlace → Read) (rest : Rest) → past (Ok (Within opener mode)) room at behind go inner ≡ Ok rest →
-    (0 < room) × (past_opened opener mode behind go (inner (room - 1) (first_skip opener) (first_place opener)) ≡ Ok rest)
+pub room_left : (room at : ℕ) (opener : Opener) (mode : Mode) (behind : List ℕ) (go : ℕ → BytePlace → Read) (inner : ℕ → ℕ → BytePlace → Read) (rest : TextRest) → past (Ok (Within opener mode)) room at behind go inner ≡ Ok rest →
+    (0 < room) × (past_opened opener mode behind go (inner (room - 1) (first_skip opener) (opened_place opener)) ≡ Ok rest)
 room_left zero at opener mode behind go inner rest e = absurd (let h : past (Ok (Within opener mode)) zero at behind go inner ≡ Ok rest = e in cc)
-room_left (suc room) at opener mode behind go inner rest e = let h : room ≡ suc room - 1 = omega arith in (omega arith, ap (λ n. past_opened opener mode behind go (inner n (first_skip opener) (first_place opener))) (sym h) ∙ e)
+room_left (suc room) at opener mode behind go inner rest e = let h : room ≡ suc room - 1 = omega arith in (omega arith, ap (λ n. past_opened opener mode behind go (inner n (first_skip opener) (opened_place opener))) (sym h) ∙ e)
 
 room_goes : (room at : ℕ) (opener : Opener) (mode : Mode) (behind : List ℕ) (go : ℕ → BytePlace → Read) (inner : ℕ → ℕ → BytePlace → Read) → 0 < room →
-    past (Ok (Within opener mode)) room at behind go inner ≡ past_opened opener mode behind go (inner (room - 1) (first_skip opener) (first_place opener))
+    past (Ok (Within opener mode)) room at behind go inner ≡ past_opened opener mode behind go (inner (room - 1) (first_skip opener) (opened_place opener))
 room_goes zero at opener mode behind go inner some = absurd (omega (arith, some))
-room_goes (suc room) at opener mode behind go inner some = let h : room ≡ suc room - 1 = omega arith in ap (λ n. past_opened opener mode behind go (inner n (first_skip opener) (first_place opener))) h
+room_goes (suc room) at opener mode behind go inner some = let h : room ≡ suc room - 1 = omega arith in ap (λ n. past_opened opener mode behind go (inner n (first_skip opener) (opened_place opener))) h
 
 -- the reading of a text past its first byte, by a move that is known
-moved : List ℕ → Level → Move → ℕ → Read
+moved : List ℕ → Level → ByteMove → ℕ → Read
 moved text level move at =
     put (changed move.changes) (past move.step level.room at text (λ skip next. rest_of text level skip next (at + 1)) (λ room skip next. rest_of text (within room) skip next 0))
 
 module _ (b : ℕ) (text : List ℕ) (place : BytePlace) (at : ℕ) where
-  abbrev move : Bool → List ℕ → Move
+  abbrev move : Bool → List ℕ → ByteMove
   move inside behind = move_of place (class_means inside (class_of b) behind) b at behind
 
   -- behind what was taken
@@ -116,7 +116,7 @@ module _ (b : ℕ) (text : List ℕ) (place : BytePlace) (at : ℕ) where
       move true text ≡ move true (inner ++ closer ∷ tail)
   to_same inner closer after tail step e closes h fits = ap (move true) e ∙ step_same (class_of b) place b at closer inner after tail closes (same_fits (length inner) inner closer after step e h fits)
 
-  goes_on : (other : List ℕ) (level : Level) (m : Move) (skip : ℕ) (next : BytePlace) (found rest : Rest) → move true text ≡ m → (move true text).step ≡ Ok (On skip next) →
+  goes_on : (other : List ℕ) (level : Level) (m : ByteMove) (skip : ℕ) (next : BytePlace) (found rest : TextRest) → move true text ≡ m → (move true text).step ≡ Ok (On skip next) →
       changed (move true text).changes found ≡ rest → rest_of other level skip next (at + 1) ≡ Ok found → moved other level m at ≡ Ok rest
   unfolding moved
   goes_on other level m skip next found rest same h e again =
@@ -125,9 +125,9 @@ module _ (b : ℕ) (text : List ℕ) (place : BytePlace) (at : ℕ) where
       ∙ ap (put (changed (move true text).changes)) again
       ∙ ap (λ r. Ok r) e
 
-  goes_past : (other : List ℕ) (level : Level) (m : Move) (opener : Opener) (mode : Mode) (first second third rest : Rest) → move true text ≡ m → (move true text).step ≡ Ok (Within opener mode) → 0 < level.room →
+  goes_past : (other : List ℕ) (level : Level) (m : ByteMove) (opener : Opener) (mode : Mode) (first second third rest : TextRest) → move true text ≡ m → (move true text).step ≡ Ok (Within opener mode) → 0 < level.room →
       changed (move true text).changes third ≡ rest → piece_before (opened_piece opener text first.close) second ≡ third → opened_piece opener other first.close ≡ opened_piece opener text first.close →
-      rest_of other (within (level.room - 1)) (first_skip opener) (first_place opener) 0 ≡ Ok first → rest_of other level (suc first.close) (Text mode) (at + 1) ≡ Ok second → moved other level m at ≡ Ok rest
+      rest_of other (within (level.room - 1)) (first_skip opener) (opened_place opener) 0 ≡ Ok first → rest_of other level (suc first.close) (Text mode) (at + 1) ≡ Ok second → moved other level m at ≡ Ok rest
   unfolding moved
   goes_past other level m opener mode first second third rest same h some e f piece inner outer =
       ap (λ x. moved other level x at) (sym same)
@@ -141,7 +141,7 @@ module _ (b : ℕ) (text : List ℕ) (place : BytePlace) (at : ℕ) where
       )
       ∙ ap (λ r. Ok r) e
 
-  stepped : (room : ℕ) (rest : Rest) → ((room skip : ℕ) (place : BytePlace) (at : ℕ) (rest : Rest) → rest_of text (within room) skip place at ≡ Ok rest → Closed text room skip place at rest) →
+  stepped : (room : ℕ) (rest : TextRest) → ((room skip : ℕ) (place : BytePlace) (at : ℕ) (rest : TextRest) → rest_of text (within room) skip place at ≡ Ok rest → Closed text room skip place at rest) →
       (step : Result Step ParseFault) → (move true text).step ≡ step →
       put (changed (move true text).changes) (past step room at text (λ skip next. rest_of text (within room) skip next (at + 1)) (λ room skip next. rest_of text (within room) skip next 0)) ≡ Ok rest →
       Closed (b ∷ text) room 0 place at rest
@@ -165,7 +165,7 @@ module _ (b : ℕ) (text : List ℕ) (place : BytePlace) (at : ℕ) where
         alone = λ more m. (class_ends (class_of b) place b at text text h).2 ∙ found;
       }
   stepped room rest known (Ok (On skip next)) h e =
-      let p : (found : Rest) × ((rest_of text (within room) skip next (at + 1) ≡ Ok found) × (changed (move true text).changes found ≡ rest)) = put_ok (changed (move true text).changes) (rest_of text (within room) skip next (at + 1)) rest e in
+      let p : (found : TextRest) × ((rest_of text (within room) skip next (at + 1) ≡ Ok found) × (changed (move true text).changes found ≡ rest)) = put_ok (changed (move true text).changes) (rest_of text (within room) skip next (at + 1)) rest e in
       let c : Closed text room skip next (at + 1) p.0 = known room skip next (at + 1) p.0 p.1.0 in
       record {
         inner = b ∷ c.inner;
@@ -182,15 +182,15 @@ module _ (b : ℕ) (text : List ℕ) (place : BytePlace) (at : ℕ) where
       }
   stepped room rest known (Ok (Within opener mode)) h e =
       let go : ℕ → BytePlace → Read = λ skip next. rest_of text (within room) skip next (at + 1) in
-      let p : (third : Rest) × ((past (Ok (Within opener mode)) room at text go (λ room skip next. rest_of text (within room) skip next 0) ≡ Ok third) × (changed (move true text).changes third ≡ rest)) =
+      let p : (third : TextRest) × ((past (Ok (Within opener mode)) room at text go (λ room skip next. rest_of text (within room) skip next 0) ≡ Ok third) × (changed (move true text).changes third ≡ rest)) =
       put_ok (changed (move true text).changes) (past (Ok (Within opener mode)) room at text go (λ room skip next. rest_of text (within room) skip next 0)) rest e in
-      let q : (0 < room) × (past_opened opener mode text go (rest_of text (within (room - 1)) (first_skip opener) (first_place opener) 0) ≡ Ok p.0) =
+      let q : (0 < room) × (past_opened opener mode text go (rest_of text (within (room - 1)) (first_skip opener) (opened_place opener) 0) ≡ Ok p.0) =
       room_left room at opener mode text go (λ room skip next. rest_of text (within room) skip next 0) p.0 p.1.0 in
-      let r : (first : Rest) × ((rest_of text (within (room - 1)) (first_skip opener) (first_place opener) 0 ≡ Ok first) × (put (piece_before (opened_piece opener text first.close)) (go (suc first.close) (Text mode)) ≡ Ok p.0)) =
-      past_ok opener mode text go (rest_of text (within (room - 1)) (first_skip opener) (first_place opener) 0) p.0 q.1 in
-      let s : (second : Rest) × ((go (suc r.0.close) (Text mode) ≡ Ok second) × (piece_before (opened_piece opener text r.0.close) second ≡ p.0)) =
+      let r : (first : TextRest) × ((rest_of text (within (room - 1)) (first_skip opener) (opened_place opener) 0 ≡ Ok first) × (put (piece_before (opened_piece opener text first.close)) (go (suc first.close) (Text mode)) ≡ Ok p.0)) =
+      past_ok opener mode text go (rest_of text (within (room - 1)) (first_skip opener) (opened_place opener) 0) p.0 q.1 in
+      let s : (second : TextRest) × ((go (suc r.0.close) (Text mode) ≡ Ok second) × (piece_before (opened_piece opener text r.0.close) second ≡ p.0)) =
       put_ok (piece_before (opened_piece opener text r.0.close)) (go (suc r.0.close) (Text mode)) p.0 r.1.1 in
-      let i : Closed text (room - 1) (first_skip opener) (first_place opener) 0 r.0 = known (room - 1) (first_skip opener) (first_place opener) 0 r.0 r.1.0 in
+      let i : Closed text (room - 1) (first_skip opener) (opened_place opener) 0 r.0 = known (room - 1) (first_skip opener) (opened_place opener) 0 r.0 r.1.0 in
       let c : Closed text room (suc r.0.close) (Text mode) (at + 1) s.0 = known room (suc r.0.close) (Text mode) (at + 1) s.0 s.1.0 in
       let near : r.0.close ≡ 0 + length i.inner = i.close_at in
       let far : suc r.0.close ≤ length c.inner = c.skipped in
@@ -214,16 +214,16 @@ module _ (b : ℕ) (text : List ℕ) (place : BytePlace) (at : ℕ) where
         again = λ tail more m.
             goes_past (c.inner ++ c.closer ∷ tail) (within more) (move true (c.inner ++ c.closer ∷ tail)) opener mode r.0 s.0 p.0 rest (to_same c.inner c.closer c.after tail (Ok (Within opener mode)) c.text_is c.closes h skips) h
             (omega (arith, m, q.0)) p.1.1 s.1.1 (piece_cut opener c.inner (c.closer ∷ tail) r.0.close closed skips ∙ piece)
-            (ap (λ t. rest_of t (within (more - 1)) (first_skip opener) (first_place opener) 0) (ap (λ t. t ++ c.closer ∷ tail) mid.1 ∙ append_assoc i.inner (i.closer ∷ mid.0) (c.closer ∷ tail)) ∙ i.again (mid.0 ++ c.closer ∷ tail) (more - 1) (omega (arith, m)))
+            (ap (λ t. rest_of t (within (more - 1)) (first_skip opener) (opened_place opener) 0) (ap (λ t. t ++ c.closer ∷ tail) mid.1 ∙ append_assoc i.inner (i.closer ∷ mid.0) (c.closer ∷ tail)) ∙ i.again (mid.0 ++ c.closer ∷ tail) (more - 1) (omega (arith, m)))
             (c.again tail more m);
         alone = λ more m.
             goes_past c.inner (record { inside = false; room = more }) (move false c.inner) opener mode r.0 s.0 p.0 rest (to_cut c.inner c.closer c.after (Ok (Within opener mode)) c.text_is c.closes h skips) h
             (omega (arith, m, q.0)) p.1.1 s.1.1 piece
-            (ap (λ t. rest_of t (within (more - 1)) (first_skip opener) (first_place opener) 0) mid.1 ∙ i.again mid.0 (more - 1) (omega (arith, m)))
+            (ap (λ t. rest_of t (within (more - 1)) (first_skip opener) (opened_place opener) 0) mid.1 ∙ i.again mid.0 (more - 1) (omega (arith, m)))
             (c.alone more m);
       }
 
-pub closed : (text : List ℕ) (room skip : ℕ) (place : BytePlace) (at : ℕ) (rest : Rest) → rest_of text (within room) skip place at ≡ Ok rest → Closed text room skip place at rest
+pub closed : (text : List ℕ) (room skip : ℕ) (place : BytePlace) (at : ℕ) (rest : TextRest) → rest_of text (within room) skip place at ≡ Ok rest → Closed text room skip place at rest
 closed [] room skip place at rest e = absurd (no_end place at rest e)
 closed (b ∷ text) room (suc skip) place at rest e =
     let c : Closed text room skip place (at + 1) rest = closed text room skip place (at + 1) rest e in

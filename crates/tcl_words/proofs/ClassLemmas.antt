@@ -9,7 +9,7 @@ use Rattle.tcl_words.specs.Grammar.{class_ends}
 use Rattle.tcl_words.specs.Changes.{bytes}
 use Rattle.tcl_words.specs.Moves.{on, in_bare, in_quotes, in_parens, move_of, at_dollar}
 use Rattle.tcl_words.specs.Kinds.{dollar_of}
-use Rattle.tcl_words.specs.Grammar.{stops, is_plain}
+use Rattle.tcl_words.specs.Grammar.{ends_body, is_plain}
 use Rattle.tcl_words.specs.declared.kind.Mode.{Mode}
 use Rattle.tcl_words.specs.declared.kind.Mode.TheVariants.{Bare, Quotes, Parens}
 use Rattle.tcl_words.specs.declared.kind.BytePlace.TheVariants.{Text}
@@ -173,7 +173,7 @@ plain_parensed inside Other b text h p = refl
 pub other_class : (b c : ℕ) (kind : Kind) → (b == c) ≡ false → (class_of b ≡ kind → b ≡ c) → class_of b ≢ kind
 other_class b c kind h is e = let same : b ≡ c = is e in absurd (grind (arith, nat_tests))
 
-pub plain_move : (inside : Bool) (mode : Mode) (b at : ℕ) (text : List ℕ) → stops inside mode (b ∷ text) ≡ false → is_plain (class_of b) ≡ true →
+pub plain_move : (inside : Bool) (mode : Mode) (b at : ℕ) (text : List ℕ) → ends_body inside mode (b ∷ text) ≡ false → is_plain (class_of b) ≡ true →
     move_of (Text mode) (kind_before inside b text) b at text ≡ on (bytes (b ∷ []) ∷ []) 0 (Text mode)
 plain_move inside Bare b at text h p = plain_bare inside (class_of b) b at text h p
 plain_move inside Quotes b at text h p = plain_quoted inside (class_of b) b text (other_class b 34 Quote h (byte_is b Quote)) p
@@ -184,7 +184,7 @@ pub continuation_or : (P : Kind → Type 0) (t : Bool) → P Continuation → P 
 continuation_or P true x y = x
 continuation_or P false x y = y
 
-pub backslash_move : (inside : Bool) (mode : Mode) (at : ℕ) (text : List ℕ) → stops inside mode (92 ∷ text) ≡ false →
+pub backslash_move : (inside : Bool) (mode : Mode) (at : ℕ) (text : List ℕ) → ends_body inside mode (92 ∷ text) ≡ false →
     move_of (Text mode) (kind_before inside 92 text) 92 at text ≡ on (bytes (escape text).meaning ∷ []) (escape text).length (Text mode)
 unfolding class_of
 backslash_move inside Bare at text h = rw h refl

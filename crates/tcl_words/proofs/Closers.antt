@@ -6,7 +6,7 @@ use Rattle.tcl_words.specs.Kinds.{class_means, dollar_of}
 use Rattle.tcl_words.specs.Classes.{class_of, begins_newline, begins_expansion, is_blank}
 use Rattle.tcl_words.specs.Changes.{put, last_rest, changed}
 use Rattle.tcl_words.specs.Moves.{at_dollar, at_brace, move_of}
-use Rattle.tcl_words.specs.Reading.{at_end}
+use Rattle.tcl_words.specs.Reading.{read_at_end}
 use Rattle.tcl_words.specs.declared.kind.Kind.{Kind}
 use Rattle.tcl_words.specs.declared.kind.Kind.TheVariants.{Blank, Newline, Semicolon, Hash, Dollar, Quote, OpenBracket, CloseBracket, OpenBrace, Expansion, CloseBrace, CloseParen, Backslash, Continuation, Other}
 use Rattle.tcl_words.specs.declared.kind.Dollar.{Dollar as DollarForm}
@@ -36,7 +36,7 @@ brace_goes (suc depth) b e = let f : (at_brace (suc depth) b).step ≡ Ok Ends =
 -- what ends a script or an index is no more than its byte, and the text may end before it
 abbrev EndsHere : Kind → BytePlace → ℕ → ℕ → List ℕ → List ℕ → Type 0
 EndsHere k place b at X Y =
-    ((k ≡ CloseBracket) ⊎ (k ≡ CloseParen)) × (move_of place k b at X ≡ move_of place k b at Y) × (at_end false place at ≡ put (changed (move_of place k b at X).changes) (Ok (last_rest at)))
+    ((k ≡ CloseBracket) ⊎ (k ≡ CloseParen)) × (move_of place k b at X ≡ move_of place k b at Y) × (read_at_end false place at ≡ put (changed (move_of place k b at X).changes) (Ok (last_rest at)))
 
 ends_blank : (place : BytePlace) (b at : ℕ) (X Y : List ℕ) → (move_of place Blank b at X).step ≡ Ok Ends → EndsHere Blank place b at X Y
 ends_blank Start b at X Y e = absurd (let f : (move_of Start Blank b at X).step ≡ Ok Ends = e in cc)
@@ -220,7 +220,7 @@ ends_other PastBraces b at X Y e = absurd (let f : (move_of PastBraces Other b a
 
 abbrev pub ClassEnds : Kind → BytePlace → ℕ → ℕ → List ℕ → List ℕ → Type 0
 ClassEnds k place b at X Y =
-    ((k ≡ CloseBracket) ⊎ (k ≡ CloseParen)) × (move_of place (class_means true k X) b at X ≡ move_of place (class_means true k Y) b at Y) × (at_end false place at ≡ put (changed (move_of place (class_means true k X) b at X).changes) (Ok (last_rest at)))
+    ((k ≡ CloseBracket) ⊎ (k ≡ CloseParen)) × (move_of place (class_means true k X) b at X ≡ move_of place (class_means true k Y) b at Y) × (read_at_end false place at ≡ put (changed (move_of place (class_means true k X) b at X).changes) (Ok (last_rest at)))
 
 class_openbrace : (place : BytePlace) (b at : ℕ) (X : List ℕ) → (move_of place (class_means true OpenBrace X) b at X).step ≡ Ok Ends → ⊥
 class_openbrace place b at X = elim (cases_Bool (begins_expansion X)) [

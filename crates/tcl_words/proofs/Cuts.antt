@@ -7,10 +7,10 @@ use Rattle.std.specs.List.{starts_with}
 use Rattle.std.proofs.lemmas.Bool.{le-ltb, and_right, cases_Bool}
 use Rattle.std.proofs.lemmas.List.{take-append-le, drop-append-le}
 use Rattle.tcl_text.specs.Backslash.{Digits, Escape, digits_from, numbered, blanks, escape}
-use Rattle.tcl_words.specs.Kinds.{class_means, letters, past_colons, name_length, to_brace, one_further, dollar_braced, dollar_named, dollar_of}
-use Rattle.tcl_words.specs.Classes.{begins_newline, begins_expansion, is_letter}
+use Rattle.tcl_words.specs.Kinds.{class_means, name_bytes, past_colons, name_length, to_brace, one_further, dollar_braced, dollar_named, dollar_of}
+use Rattle.tcl_words.specs.Classes.{begins_newline, begins_expansion, is_name_byte}
 use Rattle.tcl_words.specs.Changes.{name, word_begins, command_begins}
-use Rattle.tcl_words.specs.Moves.{Move, on, before, at_dollar, move_of}
+use Rattle.tcl_words.specs.Moves.{ByteMove, on, change_before, at_dollar, move_of}
 use Rattle.tcl_words.specs.Reading.{first_skip}
 use Rattle.tcl_words.specs.declared.kind.Kind.{Kind}
 use Rattle.tcl_words.specs.declared.kind.Kind.TheVariants.{Blank, Newline, Semicolon, Hash, Dollar, Quote, OpenBracket, CloseBracket, OpenBrace, Expansion, CloseBrace, CloseParen, Backslash, Continuation, Other}
@@ -59,14 +59,14 @@ blanks_cut c [] tail (inl e) = rw e refl
 blanks_cut c [] tail (inr e) = rw e refl
 blanks_cut c (x ∷ xs) tail closer = ap (λ n. cond (nat_eq x 32 || nat_eq x 9) (suc n) 0) (blanks_cut c xs tail closer)
 
-letters_cut : (c : ℕ) (xs tail : List ℕ) → IsCloser c → letters (xs ++ c ∷ tail) ≡ letters xs
+letters_cut : (c : ℕ) (xs tail : List ℕ) → IsCloser c → name_bytes (xs ++ c ∷ tail) ≡ name_bytes xs
 letters_cut c [] tail (inl e) = rw e refl
 letters_cut c [] tail (inr e) = rw e refl
-letters_cut c (x ∷ xs) tail closer = ap (λ n. cond (is_letter x) (suc n) 0) (letters_cut c xs tail closer)
+letters_cut c (x ∷ xs) tail closer = ap (λ n. cond (is_name_byte x) (suc n) 0) (letters_cut c xs tail closer)
 
-letters_within : (xs : List ℕ) → letters xs ≤ length xs
+letters_within : (xs : List ℕ) → name_bytes xs ≤ length xs
 letters_within [] = omega arith
-letters_within (x ∷ xs) = elim (cases_Bool (is_letter x)) [ inl e ↦ rw e (omega (arith, letters_within xs)) | inr e ↦ rw e (omega arith) ]
+letters_within (x ∷ xs) = elim (cases_Bool (is_name_byte x)) [ inl e ↦ rw e (omega (arith, letters_within xs)) | inr e ↦ rw e (omega arith) ]
 
 abbrev blank : ℕ → Escape
 blank n = record { meaning = 32 ∷ []; length = suc n }
@@ -105,10 +105,10 @@ name_cut : (c : ℕ) (xs tail : List ℕ) → IsCloser c → name_length (xs ++ 
 name_cut c [] tail (inl e) = rw e refl
 name_cut c [] tail (inr e) = rw e refl
 name_cut c (x ∷ []) tail closer =
-    ap (λ t. cond (nat_eq 58 x && (t && true)) (past_colons (letters tail)) (letters (x ∷ c ∷ tail))) (differs 58 c closer refl refl)
-    ∙ ap (λ t. cond t (past_colons (letters tail)) (letters (x ∷ c ∷ tail))) (colons_none x)
+    ap (λ t. cond (nat_eq 58 x && (t && true)) (past_colons (name_bytes tail)) (name_bytes (x ∷ c ∷ tail))) (differs 58 c closer refl refl)
+    ∙ ap (λ t. cond t (past_colons (name_bytes tail)) (name_bytes (x ∷ c ∷ tail))) (colons_none x)
     ∙ letters_cut c (x ∷ []) tail closer
-    ∙ ap (λ t. cond t (past_colons 0) (letters (x ∷ []))) (sym (colons_none x))
+    ∙ ap (λ t. cond t (past_colons 0) (name_bytes (x ∷ []))) (sym (colons_none x))
 name_cut c (x ∷ y ∷ xs) tail closer = cond_same (starts_with nat_eq (x ∷ y ∷ xs) (58 ∷ 58 ∷ [])) _ _ _ _ (ap past_colons (letters_cut c xs tail closer)) (letters_cut c (x ∷ y ∷ xs) tail closer)
 
 past_colons_within : (n m : ℕ) → n ≤ m → past_colons n ≤ m + 2
@@ -119,7 +119,7 @@ name_within : (xs : List ℕ) → name_length xs ≤ length xs
 name_within [] = omega arith
 name_within (x ∷ []) = rw (colons_none x) (letters_within (x ∷ []))
 name_within (x ∷ y ∷ xs) = elim (cases_Bool (starts_with nat_eq (x ∷ y ∷ xs) (58 ∷ 58 ∷ []))) [
-  | inl e ↦ rw e (omega (arith, past_colons_within (letters xs) (length xs) (letters_within xs)))
+  | inl e ↦ rw e (omega (arith, past_colons_within (name_bytes xs) (length xs) (letters_within xs)))
   | inr e ↦ rw e (letters_within (x ∷ y ∷ xs))
 ]
 
@@ -198,10 +198,10 @@ dollar_back mode b c (x ∷ ys) tail k closer = elim (cases_Bool (starts_with na
 
 move_dollar : (place : BytePlace) (b at k : ℕ) (X Y : List ℕ) → ((mode : Mode) → FitsStep (at_dollar mode (dollar_of X) b X).step k → at_dollar mode (dollar_of X) b X ≡ at_dollar mode (dollar_of Y) b Y) →
     FitsStep (move_of place Dollar b at X).step k → move_of place Dollar b at X ≡ move_of place Dollar b at Y
-move_dollar Start b at k X Y same fits = ap (λ m. before (command_begins at) (before (word_begins BareForm false at) m)) (same Bare fits)
+move_dollar Start b at k X Y same fits = ap (λ m. change_before (command_begins at) (change_before (word_begins BareForm false at) m)) (same Bare fits)
 move_dollar Comment b at k X Y same fits = refl
-move_dollar Between b at k X Y same fits = ap (before (word_begins BareForm false at)) (same Bare fits)
-move_dollar Expanded b at k X Y same fits = ap (before (word_begins BareForm true (at - 3))) (same Bare fits)
+move_dollar Between b at k X Y same fits = ap (change_before (word_begins BareForm false at)) (same Bare fits)
+move_dollar Expanded b at k X Y same fits = ap (change_before (word_begins BareForm true (at - 3))) (same Bare fits)
 move_dollar (Text Bare) b at k X Y same fits = same Bare fits
 move_dollar (Text Quotes) b at k X Y same fits = same Quotes fits
 move_dollar (Text Parens) b at k X Y same fits = same Parens fits
@@ -485,7 +485,7 @@ step_same Dollar place b at c xs tail other closer fits =
     move_dollar place b at (length xs) (xs ++ c ∷ tail) (xs ++ c ∷ other)
     (λ mode f. dollar_cut mode b c xs tail closer f ∙ dollar_back mode b c xs other (length xs) closer (fits_by (dollar_cut mode b c xs tail closer f) f)) fits
   where
-    fits_by : {m n : Move} → m ≡ n → FitsStep m.step (length xs) → FitsStep n.step (length xs)
+    fits_by : {m n : ByteMove} → m ≡ n → FitsStep m.step (length xs) → FitsStep n.step (length xs)
     fits_by e f = rw e at f
 step_same Quote place b at c xs tail other closer fits = move_quote place b at (xs ++ c ∷ tail) (xs ++ c ∷ other)
 step_same OpenBracket place b at c xs tail other closer fits = move_openbracket place b at (xs ++ c ∷ tail) (xs ++ c ∷ other)

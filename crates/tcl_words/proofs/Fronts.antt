@@ -2,17 +2,17 @@
 use Rattle.std.proofs.Common.{◌≡◌, ◌≢◌, ℕ, suc, ◌+◌, ◌<◌, List, ◌∷◌, length, drop, slice_index, refl, ap, ◌∙◌, arith, Option, Some, None, true, false, cond, nat_eq}
 use Rattle.std.proofs.Math.Seq.{drop-cons}
 use Rattle.std.proofs.lemmas.Bool.Decides.{nat_tests}
-use Rattle.tcl_words.specs.Kinds.{letters, to_brace, one_further}
-use Rattle.tcl_words.specs.Classes.{is_letter}
+use Rattle.tcl_words.specs.Kinds.{name_bytes, to_brace, one_further}
+use Rattle.tcl_words.specs.Classes.{is_name_byte}
 
 next : (text : List ℕ) (at : ℕ) → at < length text → drop at text ≡ slice_index text at ∷ drop (at + 1) text
 next text at within = let e : suc at ≡ at + 1 = omega arith in drop-cons text at 0 within ∙ ap (λ n. slice_index text at ∷ drop n text) e
 
-pub letter_next : (text : List ℕ) (at : ℕ) → at < length text → is_letter (slice_index text at) ≡ true → letters (drop at text) ≡ suc (letters (drop (at + 1) text))
-letter_next text at within e = ap letters (next text at within) ∙ ap (λ b. cond b (suc (letters (drop (at + 1) text))) 0) e
+pub letter_next : (text : List ℕ) (at : ℕ) → at < length text → is_name_byte (slice_index text at) ≡ true → name_bytes (drop at text) ≡ suc (name_bytes (drop (at + 1) text))
+letter_next text at within e = ap name_bytes (next text at within) ∙ ap (λ b. cond b (suc (name_bytes (drop (at + 1) text))) 0) e
 
-pub letter_last : (text : List ℕ) (at : ℕ) → at < length text → is_letter (slice_index text at) ≡ false → letters (drop at text) ≡ 0
-letter_last text at within e = ap letters (next text at within) ∙ ap (λ b. cond b (suc (letters (drop (at + 1) text))) 0) e
+pub letter_last : (text : List ℕ) (at : ℕ) → at < length text → is_name_byte (slice_index text at) ≡ false → name_bytes (drop at text) ≡ 0
+letter_last text at within e = ap name_bytes (next text at within) ∙ ap (λ b. cond b (suc (name_bytes (drop (at + 1) text))) 0) e
 
 -- what is found past so many bytes
 abbrev pub found_past : ℕ → Option ℕ → Option ℕ

@@ -6,8 +6,8 @@ use Rattle.tcl_words.specs.Classes.{class_of, begins_newline, begins_expansion}
 use Rattle.tcl_words.specs.Grammar.{class_ends, ends_word}
 use Rattle.tcl_words.specs.Changes.{put, changed, last_rest}
 use Rattle.tcl_words.specs.Changes.Change.{command_begins}
-use Rattle.tcl_words.specs.Moves.{Move, move_of, on, in_comment, before}
-use Rattle.tcl_words.specs.Reading.{Level, rest_of, past, within, end_of}
+use Rattle.tcl_words.specs.Moves.{ByteMove, move_of, on, in_comment, change_before}
+use Rattle.tcl_words.specs.Reading.{Level, rest_of, past, within, end_or_fault}
 use Rattle.tcl_words.specs.Grammar.{begins, IsSeparator, AreBlanks, IsNote, IsLastNote, IsGap}
 use Rattle.tcl_words.specs.Grammar.AreBlanks.{none as no_blanks, blank as one_blank, continuation as continued_blanks}
 use Rattle.tcl_words.specs.Grammar.IsNote.{none as no_note, byte as note_byte, pair as note_pair}
@@ -161,19 +161,19 @@ gap_read level (comment note text n h) follow at =
     ∙ read_at follow level Start (at + 1 + length note + 1 + length text) (at + suc (length (note ++ 10 ∷ text))) e
 
 -- a comment at the end of the text
-pub last_note_read : (level : Level) (note : List ℕ) (at : ℕ) → IsLastNote note → rest_of note level 0 Comment at ≡ end_of level.inside MissingBracket (at + length note)
+pub last_note_read : (level : Level) (note : List ℕ) (at : ℕ) → IsLastNote note → rest_of note level 0 Comment at ≡ end_or_fault level.inside MissingBracket (at + length note)
 last_note_read level note at (inl h) = ap (λ t. rest_of t level 0 Comment at) (sym (append-nil note)) ∙ note_read level h [] at
 last_note_read level note at (inr (front, e, h)) =
     let m : at + length front + 1 ≡ at + length (front ++ 92 ∷ []) = omega (arith, length-append front (92 ∷ [])) in
     ap (λ t. rest_of t level 0 Comment at) e
     ∙ note_read level h (92 ∷ []) at
     ∙ pair_step level [] (at + length front)
-    ∙ ap (end_of level.inside MissingBracket) m
-    ∙ ap (λ t. end_of level.inside MissingBracket (at + length t)) (sym e)
+    ∙ ap (end_or_fault level.inside MissingBracket) m
+    ∙ ap (λ t. end_or_fault level.inside MissingBracket (at + length t)) (sym e)
 
 -- a byte that ends no word begins a command, but `#`
 start_kinds : (inside : Bool) (kind : Kind) (b at : ℕ) (text : List ℕ) → class_ends inside kind text ≡ false → kind ≢ Hash → kind ≢ Continuation →
-    move_of Start (class_means inside kind text) b at text ≡ before (command_begins at) (move_of Between (class_means inside kind text) b at text)
+    move_of Start (class_means inside kind text) b at text ≡ change_before (command_begins at) (move_of Between (class_means inside kind text) b at text)
 start_kinds inside Blank b at text h k n = cc
 start_kinds inside Newline b at text h k n = cc
 start_kinds inside Semicolon b at text h k n = cc
@@ -184,7 +184,7 @@ start_kinds false CloseBracket b at text h k n = refl
 start_kinds true CloseParen b at text h k n = refl
 start_kinds false CloseParen b at text h k n = refl
 start_kinds inside Backslash b at text h k n = rw h refl
-start_kinds inside OpenBrace b at text h k n = expansion_or (λ c. move_of Start c b at text ≡ before (command_begins at) (move_of Between c b at text)) (begins_expansion text) refl refl
+start_kinds inside OpenBrace b at text h k n = expansion_or (λ c. move_of Start c b at text ≡ change_before (command_begins at) (move_of Between c b at text)) (begins_expansion text) refl refl
 start_kinds inside Dollar b at text h k n = refl
 start_kinds inside Quote b at text h k n = refl
 start_kinds inside OpenBracket b at text h k n = refl
@@ -195,8 +195,8 @@ start_kinds inside Other b at text h k n = refl
 pub start_read : (level : Level) (text : List ℕ) (at : ℕ) → ends_word level.inside text ≡ false → begins 35 text ≡ false → rest_of text level 0 Start at ≡ put (changed (command_begins at ∷ [])) (rest_of text level 0 Between at)
 start_read level [] at h k = cc
 start_read level (b ∷ text) at h k =
-    let move : Move = move_of Between (kind_before level.inside b text) b at text in
-    moved_by (before (command_begins at) move) Start b text level at (start_kinds level.inside (class_of b) b at text h (other_class b 35 Hash k (byte_is b Hash)) (λ e. byte_is b Continuation e))
+    let move : ByteMove = move_of Between (kind_before level.inside b text) b at text in
+    moved_by (change_before (command_begins at) move) Start b text level at (start_kinds level.inside (class_of b) b at text h (other_class b 35 Hash k (byte_is b Hash)) (λ e. byte_is b Continuation e))
     ∙ sym (put-put (changed (command_begins at ∷ [])) (changed move.changes)
     (past move.step level.room at text (λ skip next. rest_of text level skip next (at + 1)) (λ room skip next. rest_of text (within room) skip next 0)))
 

@@ -4,7 +4,7 @@ use Rattle.std.proofs.Common.{refl, ℕ, [], ◌∷◌, List, Some, Ok, Err, cod
 use Rattle.tcl_text.specs.Backslash.{escape}
 use Rattle.tcl_words.specs.Kinds.{dollar_of}
 use Rattle.tcl_words.specs.Classes.{class_of}
-use Rattle.tcl_words.specs.Spans.{word_of, command_of}
+use Rattle.tcl_words.specs.Spans.{word_of, command_from}
 use Rattle.tcl_words.specs.Grammar.{IsInnerOf, IsScript, leaves, fails}
 use Rattle.tcl_words.specs.OperandGrammar.{IsBehindBracket, IsBehindDollar, IsBehindQuote}
 use Rattle.tcl_words.specs.declared.script.WordForm.TheVariants.{Bare, Quoted, Braced}
@@ -27,7 +27,7 @@ pieces_text = codes "p \"a$::b(c[d e]).\\x41[f \"]\"]\" {*}$g"
 
 abbrev pieces_commands : List Command
 pieces_commands =
-    command_of 0 (
+    command_from 0 (
     word_of Bare false 0 (Literal (codes "p") ∷ []) 1
     ∷ word_of Quoted false 2 (Literal (codes "a") ∷ Element (codes "::b") (codes "c[d e]") ∷ Literal (codes ".A") ∷ Bracket (codes "f \"]\"") ∷ []) 29
     ∷ word_of Bare true 30 (Variable (codes "g") ∷ []) 35
@@ -44,7 +44,7 @@ braces_text = codes "{a\\}\\\n  b{}} {*} ${c d}"
 
 abbrev braces_commands : List Command
 braces_commands =
-    command_of 0 (
+    command_from 0 (
     word_of Braced false 0 (Literal (codes "a\\} b{}") ∷ []) 12
     ∷ word_of Braced false 13 (Literal (codes "*") ∷ []) 16
     ∷ word_of Bare false 17 (Variable (codes "c d") ∷ []) 23
@@ -62,12 +62,12 @@ lines_text = codes "a\\\n b[# ]\nc];d"
 
 abbrev lines_commands : List Command
 lines_commands =
-    command_of 0 (
+    command_from 0 (
     word_of Bare false 0 (Literal (codes "a") ∷ []) 1
     ∷ word_of Bare false 4 (Literal (codes "b") ∷ Bracket (codes "# ]\nc") ∷ []) 12
     ∷ []
     )
-    ∷ command_of 13 (word_of Bare false 13 (Literal (codes "d") ∷ []) 14 ∷ [])
+    ∷ command_from 13 (word_of Bare false 13 (Literal (codes "d") ∷ []) 14 ∷ [])
     ∷ []
 
 lines_cut : Cut lines_text lines_commands

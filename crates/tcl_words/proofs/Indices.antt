@@ -1,7 +1,7 @@
 -- The pieces that are read of an index are those of the grammar.
 use Rattle.std.proofs.Common.{◌⊎◌, inl, inr, true, ◌∷◌, ◌≡◌, ℕ, false, List, [], refl, sym, ap, subst, ◌∙◌, Ok, Err}
 use Rattle.tcl_words.specs.Reading.{pieces_in, index_pieces_of, outermost}
-use Rattle.tcl_words.specs.Grammar.{TextEnding, leaves, fails, stops, ArePieces, IsInnerOf, IsIndexOf, IsIndexFault}
+use Rattle.tcl_words.specs.Grammar.{TextEnding, leaves, fails, ends_body, ArePieces, IsInnerOf, IsIndexOf, IsIndexFault}
 use Rattle.tcl_words.specs.declared.kind.Mode.TheVariants.{Parens}
 use Rattle.tcl_words.specs.declared.script.Piece.{Piece}
 use Rattle.tcl_text.specs.declared.fault.ParseFault.{ParseFault}
@@ -24,7 +24,7 @@ index_pieces_of-fault text fault told =
     ap pieces_in g
 
 -- an index that is read by itself ends where its text does
-ends_there : (left : List ℕ) → stops false Parens left ≡ true → left ≡ []
+ends_there : (left : List ℕ) → ends_body false Parens left ≡ true → left ≡ []
 ends_there [] h = refl
 ends_there (b ∷ left) h = cc
 

@@ -1,9 +1,9 @@
 -- An index that was read within a text is read so by itself.
 use Rattle.std.proofs.Common.{◌≡◌, ℕ, ◌+◌, ◌≤◌, true, List, [], ◌∷◌, ◌++◌, length, sym, ap, ◌∙◌, length-append, arith, Ok}
 use Rattle.std.specs.List.{slice_range}
-use Rattle.tcl_words.specs.Changes.{Rest, put, last_rest, literal_before}
+use Rattle.tcl_words.specs.Changes.{TextRest, put, last_rest, literal_before}
 use Rattle.tcl_words.specs.Reading.{within, rest_of, index_pieces_of}
-use Rattle.tcl_words.specs.Parts.{Whole, joined, no_parts, with_rest}
+use Rattle.tcl_words.specs.Parts.{Whole, joined_parts, no_parts, parts_with_rest}
 use Rattle.tcl_words.specs.Grammar.{leaves, ArePieces, IsInnerOf, IsIndexOf}
 use Rattle.tcl_words.specs.declared.kind.Mode.TheVariants.{Parens}
 use Rattle.tcl_words.specs.declared.kind.BytePlace.TheVariants.{Text}
@@ -20,10 +20,10 @@ pub index_by_itself : (room : ℕ) (own text : List ℕ) (pieces : List Piece) �
 index_by_itself room own text pieces small are =
     let opened : List ℕ = 40 ∷ (own ++ 41 ∷ text) in
     let g : GivesText (within room) Parens 1 (own ++ 41 ∷ text) pieces (41 ∷ text) = pieces_read true room Parens (inner_reads room) are 1 in
-    let rest : Rest = with_text g.bytes g.after (last_rest g.end) in
+    let rest : TextRest = with_text g.bytes g.after (last_rest g.end) in
     let read : rest_of opened (within room) 1 (Text Parens) 0 ≡ Ok rest = g.is ∙ ap (put (with_text g.bytes g.after)) (paren_read room text g.end) in
-    let whole : Whole = with_rest (no_parts 1) opened (Text Parens) 1 rest in
-    let alone = index_alone opened 0 room whole small (ap (joined (no_parts 1) opened (Text Parens) 1) read) in
+    let whole : Whole = parts_with_rest (no_parts 1) opened (Text Parens) 1 rest in
+    let alone = index_alone opened 0 room whole small (ap (joined_parts (no_parts 1) opened (Text Parens) 1) read) in
     let end : g.end ≡ 1 + length own = omega (arith, g.at_end, length-append own (41 ∷ text)) in
     let source : slice_range opened 1 g.end ≡ own = ap (slice_range opened 1) end ∙ slice_index_text [] own text in
     let are_pieces : whole.pieces ≡ pieces = ap (λ t. literal_before (t ++ g.bytes) g.after) (slice_none opened 1) ∙ g.joined in

@@ -2,10 +2,10 @@
 use Rattle.std.proofs.Common.{◌≡◌, ℕ, zero, suc, ◌+◌, ◌-◌, ◌≤◌, Bool, true, false, List, [], ◌∷◌, ◌++◌, length, drop, take, refl, sym, ap, ◌∙◌, arith, Ok, Err, Result, length-append}
 use Rattle.std.specs.List.{slice_range}
 use Rattle.tcl_words.specs.Kinds.{kind_before, dollar_of}
-use Rattle.tcl_words.specs.Changes.{Rest, Read, put, piece_before, literal_before, Change, bytes, name, text_ends, word_ends, command_ends, word_begins, command_begins, changed, changed_by}
-use Rattle.tcl_words.specs.Moves.{Move, at_dollar, in_parens}
-use Rattle.tcl_words.specs.Reading.{Level, within, rest_of, at_end, past, past_opened, first_place, first_skip, opened_piece, commands_in, pieces_in, index_pieces_of, outermost}
-use Rattle.tcl_words.specs.Parts.{Whole, joined, no_parts, script_whole, index_whole}
+use Rattle.tcl_words.specs.Changes.{TextRest, Read, put, piece_before, literal_before, Change, bytes, name, text_ends, word_ends, command_ends, word_begins, command_begins, changed, changed_by}
+use Rattle.tcl_words.specs.Moves.{ByteMove, at_dollar, in_parens}
+use Rattle.tcl_words.specs.Reading.{Level, within, rest_of, read_at_end, past, past_opened, opened_place, first_skip, opened_piece, commands_in, pieces_in, index_pieces_of, outermost}
+use Rattle.tcl_words.specs.Parts.{Whole, joined_parts, no_parts, script_whole, index_whole}
 use Rattle.tcl_words.specs.declared.kind.Kind.{Kind}
 use Rattle.tcl_words.specs.declared.kind.Kind.TheVariants.{Blank, Newline, Semicolon, Hash, Dollar, Quote, OpenBracket, CloseBracket, OpenBrace, Expansion, CloseBrace, CloseParen, Backslash, Continuation, Other}
 use Rattle.tcl_words.specs.declared.kind.Dollar.{Dollar as DollarForm}
@@ -30,10 +30,10 @@ SameText (Ok one) (Err fault) = ⊥
 SameText (Err fault) (Ok other) = ⊥
 SameText (Err fault) (Err other) = fault ≡ other
 
-piece_same : (own : Piece) (one other : Rest) → SameText (Ok one) (Ok other) → SameText (Ok (piece_before own one)) (Ok (piece_before own other))
+piece_same : (own : Piece) (one other : TextRest) → SameText (Ok one) (Ok other) → SameText (Ok (piece_before own one)) (Ok (piece_before own other))
 piece_same own one other same = (refl, ap (λ t. own ∷ literal_before t one.pieces) same.0 ∙ ap (λ t. own ∷ literal_before other.bytes t) same.1)
 
-change_same : (c : Change) (one other : Rest) → SameText (Ok one) (Ok other) → SameText (Ok (changed_by c one)) (Ok (changed_by c other))
+change_same : (c : Change) (one other : TextRest) → SameText (Ok one) (Ok other) → SameText (Ok (changed_by c one)) (Ok (changed_by c other))
 change_same (bytes own) one other same = (ap (λ t. own ++ t) same.0, same.1)
 change_same (name own) one other same = piece_same (Variable own) one other same
 change_same text_ends one other same = (refl, refl)
@@ -42,7 +42,7 @@ change_same command_ends one other same = (refl, refl)
 change_same (word_begins form expand start) one other same = (refl, refl)
 change_same (command_begins start) one other same = (refl, refl)
 
-changed_same : (cs : List Change) (one other : Rest) → SameText (Ok one) (Ok other) → SameText (Ok (changed cs one)) (Ok (changed cs other))
+changed_same : (cs : List Change) (one other : TextRest) → SameText (Ok one) (Ok other) → SameText (Ok (changed cs one)) (Ok (changed cs other))
 changed_same [] one other same = same
 changed_same (c ∷ cs) one other same = change_same c (changed cs one) (changed cs other) (changed_same cs one other same)
 
@@ -98,11 +98,11 @@ past_same : (step : Result Step ParseFault) (room at at' : ℕ) (behind : List �
     SameText (past step room at behind go inner) (past step room at' behind go' inner)
 past_same (Ok (On skip next)) room at at' behind go go' inner stay same = rw stay (same skip)
 past_same (Ok (Within opener mode)) zero at at' behind go go' inner stay same = refl
-past_same (Ok (Within opener mode)) (suc room) at at' behind go go' inner stay same = rw stay (opened_same opener behind go go' (inner room (first_skip opener) (first_place opener)) same)
+past_same (Ok (Within opener mode)) (suc room) at at' behind go go' inner stay same = rw stay (opened_same opener behind go go' (inner room (first_skip opener) (opened_place opener)) same)
 past_same (Ok Ends) room at at' behind go go' inner stay same = (refl, refl)
 past_same (Err fault) room at at' behind go go' inner stay same = refl
 
-end_same : (inside : Bool) (at at' : ℕ) → SameText (at_end inside (Text Parens) at) (at_end inside (Text Parens) at')
+end_same : (inside : Bool) (at at' : ℕ) → SameText (read_at_end inside (Text Parens) at) (read_at_end inside (Text Parens) at')
 end_same true at at' = refl
 end_same false at at' = (refl, refl)
 
@@ -111,14 +111,14 @@ shift : (text : List ℕ) (level : Level) (skip at at' : ℕ) → SameText (rest
 shift [] level skip at at' = end_same level.inside at at'
 shift (b ∷ text) level (suc skip) at at' = shift text level skip (at + 1) (at' + 1)
 shift (b ∷ text) level zero at at' =
-    let move : Move = in_parens (kind_before level.inside b text) b text in
+    let move : ByteMove = in_parens (kind_before level.inside b text) b text in
     put_same move.changes
     (past move.step level.room at text (λ skip next. rest_of text level skip next (at + 1)) (λ room skip next. rest_of text (within room) skip next 0))
     (past move.step level.room at' text (λ skip next. rest_of text level skip next (at' + 1)) (λ room skip next. rest_of text (within room) skip next 0))
     (past_same move.step level.room at at' text (λ skip next. rest_of text level skip next (at + 1)) (λ skip next. rest_of text level skip next (at' + 1)) (λ room skip next. rest_of text (within room) skip next 0)
     (stays (kind_before level.inside b text) b text) (λ skip. shift text level skip (at + 1) (at' + 1)))
 
-same_pieces : (one other : Read) (rest : Rest) → SameText one other → one ≡ Ok rest → pieces_in other ≡ Ok (literal_before rest.bytes rest.pieces)
+same_pieces : (one other : Read) (rest : TextRest) → SameText one other → one ≡ Ok rest → pieces_in other ≡ Ok (literal_before rest.bytes rest.pieces)
 same_pieces (Ok one) (Ok other) rest same e =
     let is : one ≡ rest = (let h : Ok one ≡ Ok rest = e in cc) in
     ap (λ t. Ok (literal_before t other.pieces)) (sym same.0) ∙ ap (λ t. Ok (literal_before one.bytes t)) (sym same.1) ∙ ap (λ r. Ok (literal_before r.bytes r.pieces)) is
@@ -137,9 +137,9 @@ slice_all zero xs ys h = let e : length xs - 0 ≡ length xs = omega arith in ap
 slice_all (suc n) [] ys h = absurd (omega (arith, h))
 slice_all (suc n) (x ∷ xs) ys h = let e : suc (length xs) - suc n ≡ length xs - n = omega arith in ap (λ k. take k (drop n (xs ++ ys))) e ∙ slice_all n xs ys (omega (arith, h))
 
-script_read : (t : List ℕ) (room : ℕ) (whole : Whole) (r : Read) → room ≤ 200 → rest_of t (within room) 0 Start 0 ≡ r → joined (no_parts 0) t Start 0 r ≡ Ok whole →
+script_read : (t : List ℕ) (room : ℕ) (whole : Whole) (r : Read) → room ≤ 200 → rest_of t (within room) 0 Start 0 ≡ r → joined_parts (no_parts 0) t Start 0 r ≡ Ok whole →
     (commands_in (rest_of (take whole.close t) outermost 0 Start 0) ≡ Ok whole.commands) × (suc whole.close ≤ length t)
-script_read t room whole (Err fault) small e h = absurd (let g : joined (no_parts 0) t Start 0 (Err fault) ≡ Ok whole = h in cc)
+script_read t room whole (Err fault) small e h = absurd (let g : joined_parts (no_parts 0) t Start 0 (Err fault) ≡ Ok whole = h in cc)
 script_read t room whole (Ok rest) small e h =
     let is : script_whole ([] ++ rest.commands) rest.close ≡ whole = (let g : Ok (script_whole ([] ++ rest.commands) rest.close) ≡ Ok whole = h in cc) in
     let close : rest.close ≡ whole.close = ap (λ w. w.close) is in
@@ -153,13 +153,13 @@ script_read t room whole (Ok rest) small e h =
     )
 
 -- the text between brackets gives by itself the commands that it gave there
-pub script_alone : (t : List ℕ) (room : ℕ) (whole : Whole) → room ≤ 200 → joined (no_parts 0) t Start 0 (rest_of t (within room) 0 Start 0) ≡ Ok whole →
+pub script_alone : (t : List ℕ) (room : ℕ) (whole : Whole) → room ≤ 200 → joined_parts (no_parts 0) t Start 0 (rest_of t (within room) 0 Start 0) ≡ Ok whole →
     (commands_in (rest_of (take whole.close t) outermost 0 Start 0) ≡ Ok whole.commands) × (suc whole.close ≤ length t)
 script_alone t room whole small h = script_read t room whole (rest_of t (within room) 0 Start 0) small refl h
 
-index_read : (t : List ℕ) (n room : ℕ) (whole : Whole) (r : Read) → room ≤ 200 → rest_of t (within room) (suc n) (Text Parens) 0 ≡ r → joined (no_parts (suc n)) t (Text Parens) (suc n) r ≡ Ok whole →
+index_read : (t : List ℕ) (n room : ℕ) (whole : Whole) (r : Read) → room ≤ 200 → rest_of t (within room) (suc n) (Text Parens) 0 ≡ r → joined_parts (no_parts (suc n)) t (Text Parens) (suc n) r ≡ Ok whole →
     (index_pieces_of (slice_range t (suc n) whole.close) ≡ Ok whole.pieces) × (suc n ≤ whole.close) × (suc whole.close ≤ length t)
-index_read t n room whole (Err fault) small e h = absurd (let g : joined (no_parts (suc n)) t (Text Parens) (suc n) (Err fault) ≡ Ok whole = h in cc)
+index_read t n room whole (Err fault) small e h = absurd (let g : joined_parts (no_parts (suc n)) t (Text Parens) (suc n) (Err fault) ≡ Ok whole = h in cc)
 index_read t n room whole (Ok rest) small e h =
     let text : List ℕ = ([] ++ slice_range t (suc n) (suc n)) ++ rest.bytes in
     let is : index_whole ([] ++ literal_before text rest.pieces) rest.close ≡ whole = (let g : Ok (index_whole ([] ++ literal_before text rest.pieces) rest.close) ≡ Ok whole = h in cc) in
@@ -179,6 +179,6 @@ index_read t n room whole (Ok rest) small e h =
     )
 
 -- so does the text between parentheses
-pub index_alone : (t : List ℕ) (n room : ℕ) (whole : Whole) → room ≤ 200 → joined (no_parts (suc n)) t (Text Parens) (suc n) (rest_of t (within room) (suc n) (Text Parens) 0) ≡ Ok whole →
+pub index_alone : (t : List ℕ) (n room : ℕ) (whole : Whole) → room ≤ 200 → joined_parts (no_parts (suc n)) t (Text Parens) (suc n) (rest_of t (within room) (suc n) (Text Parens) 0) ≡ Ok whole →
     (index_pieces_of (slice_range t (suc n) whole.close) ≡ Ok whole.pieces) × (suc n ≤ whole.close) × (suc whole.close ≤ length t)
 index_alone t n room whole small h = index_read t n room whole (rest_of t (within room) (suc n) (Text Parens) 0) small refl h

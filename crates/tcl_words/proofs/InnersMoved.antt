@@ -1,6 +1,6 @@
 -- Scripts in brackets and indices are the same whatever follows them.
 use Rattle.std.proofs.Common.{◌≡◌, ℕ, suc, ◌+◌, true, List, [], ◌∷◌, ◌++◌, length, refl, sym, ap, subst, ◌∙◌, length-append, arith, Ok, Err}
-use Rattle.tcl_words.specs.Changes.{Rest, put, last_rest}
+use Rattle.tcl_words.specs.Changes.{TextRest, put, last_rest}
 use Rattle.tcl_words.specs.Reading.{rest_of, within}
 use Rattle.tcl_words.specs.Grammar.{TextEnding, leaves, fails, script, index, ArePieces, IsInnerOf, IsScript}
 use Rattle.tcl_words.specs.declared.kind.Mode.TheVariants.{Parens}
@@ -31,7 +31,7 @@ pub same_rest : (a b s t : List ℕ) → a ++ s ≡ b ++ t → length s ≡ leng
 same_rest a b s t e m = let k : length a ≡ length b = omega (arith, m, ap length e, length-append a s, length-append b t) in same_cut a b s t e k
 
 -- what was read up to a closer is read before any other text behind it
-read_again : (own text other : List ℕ) (c room : ℕ) (place : BytePlace) (at : ℕ) (rest : Rest) → rest_of (own ++ c ∷ text) (within room) 0 place at ≡ Ok rest → rest.close ≡ at + length own →
+read_again : (own text other : List ℕ) (c room : ℕ) (place : BytePlace) (at : ℕ) (rest : TextRest) → rest_of (own ++ c ∷ text) (within room) 0 place at ≡ Ok rest → rest.close ≡ at + length own →
     rest_of (own ++ c ∷ other) (within room) 0 place at ≡ Ok rest
 read_again own text other c room place at rest e m =
     let cut = closed (own ++ c ∷ text) room 0 place at rest e in
@@ -45,7 +45,7 @@ read_again own text other c room place at rest e m =
     closer_is : (s t : List ℕ) (x y : ℕ) → x ∷ s ≡ y ∷ t → x ≡ y
     closer_is s t x y f = cc
 
-script_again : (room : ℕ) (own other : List ℕ) (commands : List Command) (ending : TextEnding) (rest : Rest) → rest_of (own ++ 93 ∷ other) (within room) 0 Start 0 ≡ Ok rest → rest.close ≡ length own →
+script_again : (room : ℕ) (own other : List ℕ) (commands : List Command) (ending : TextEnding) (rest : TextRest) → rest_of (own ++ 93 ∷ other) (within room) 0 Start 0 ≡ Ok rest → rest.close ≡ length own →
     IsScript (IsInnerOf room) true 0 (own ++ 93 ∷ other) commands ending → IsScriptCut true (own ++ 93 ∷ other) ending → IsInnerOf (suc room) script (own ++ 93 ∷ other) (leaves (93 ∷ other))
 script_again room own other commands (fails fault) rest e m is cut =
     let g : rest_of (own ++ 93 ∷ other) (within room) 0 Start 0 ≡ Err fault = script_read true room (inner_reads room) commands (fails fault) 0 (own ++ 93 ∷ other) is in
@@ -66,7 +66,7 @@ script_moved room own text other (commands, h) =
     let found = script_found room true (inner_cuts room) 0 (own ++ 93 ∷ other) in
     script_again room own other found.commands found.ending g.rest (read_again own text other 93 room Start 0 g.rest g.is n) m found.is found.cut
 
-index_again : (room : ℕ) (own other : List ℕ) (pieces : List Piece) (ending : TextEnding) (rest : Rest) → rest_of (own ++ 41 ∷ other) (within room) 0 (Text Parens) 0 ≡ Ok rest → rest.close ≡ length own →
+index_again : (room : ℕ) (own other : List ℕ) (pieces : List Piece) (ending : TextEnding) (rest : TextRest) → rest_of (own ++ 41 ∷ other) (within room) 0 (Text Parens) 0 ≡ Ok rest → rest.close ≡ length own →
     ArePieces (IsInnerOf room) true Parens (own ++ 41 ∷ other) pieces ending → IsPiecesCut true Parens (own ++ 41 ∷ other) ending → IsInnerOf (suc room) index (own ++ 41 ∷ other) (leaves (41 ∷ other))
 index_again room own other pieces (fails fault) rest e m are cut =
     let g : rest_of (own ++ 41 ∷ other) (within room) 0 (Text Parens) 0 ≡ Err fault = pieces_read true room Parens (inner_reads room) are 0 in
@@ -84,7 +84,7 @@ index_again room own other pieces (leaves left) rest e m are (front, f, h) =
 pub index_moved : (room : ℕ) (own text other : List ℕ) → IsInnerOf (suc room) index (own ++ 41 ∷ text) (leaves (41 ∷ text)) → IsInnerOf (suc room) index (own ++ 41 ∷ other) (leaves (41 ∷ other))
 index_moved room own text other (pieces, h) =
     let g : GivesText (within room) Parens 0 (own ++ 41 ∷ text) pieces (41 ∷ text) = pieces_read true room Parens (inner_reads room) h 0 in
-    let rest : Rest = with_text g.bytes g.after (last_rest g.end) in
+    let rest : TextRest = with_text g.bytes g.after (last_rest g.end) in
     let e : rest_of (own ++ 41 ∷ text) (within room) 0 (Text Parens) 0 ≡ Ok rest = g.is ∙ ap (put (with_text g.bytes g.after)) (paren_read room text g.end) in
     let m : g.end ≡ length own = omega (arith, g.at_end, length-append own (41 ∷ text)) in
     let n : g.end ≡ 0 + length own = omega (arith, m) in

@@ -4,8 +4,8 @@ use Rattle.std.specs.List.{slice_range}
 use Rattle.std.proofs.lemmas.List.{drop-drop, length-append, length-drop, length-take-le}
 use Rattle.std.proofs.lemmas.List.Edits.{between_more, between_none}
 use Rattle.std.proofs.Math.Seq.{take-add}
-use Rattle.tcl_words.specs.Changes.{Rest, Read, put, piece_before, literal_before, bytes, text_ends, word_ends, command_ends, word_begins, command_begins, changed, changed_by}
-use Rattle.tcl_words.specs.Parts.{Parts, joined, with_word, with_command, with_piece, with_literal, with_braced, so_far}
+use Rattle.tcl_words.specs.Changes.{TextRest, Read, put, piece_before, literal_before, bytes, text_ends, word_ends, command_ends, word_begins, command_begins, changed, changed_by}
+use Rattle.tcl_words.specs.Parts.{Parts, joined_parts, with_word, with_command, with_piece, with_literal, with_braced, so_far}
 use Rattle.tcl_words.specs.declared.kind.BytePlace.TheVariants.{Start, Between, Text, PastQuotes, InBraces, PastBraces}
 use Rattle.tcl_words.specs.declared.kind.Mode.{Mode}
 use Rattle.tcl_words.specs.declared.kind.Mode.TheVariants.{Bare, Quotes, Parens}
@@ -57,14 +57,14 @@ over p s at end own rest h k e =
     ∙ sym (append_assoc p.literal (slice_range s p.mark end) rest)
 
 pub text_bytes : (p : Parts) (s : List ℕ) (mode : Mode) (at end : ℕ) (own : List ℕ) (r : Read) → p.mark ≤ at → at ≤ end → slice_range s at end ≡ own →
-    joined p s (Text mode) at (put (changed (bytes own ∷ [])) r) ≡ joined p s (Text mode) end r
+    joined_parts p s (Text mode) at (put (changed (bytes own ∷ [])) r) ≡ joined_parts p s (Text mode) end r
 text_bytes p s Bare at end own (Ok rest) h k e = rw (over p s at end own rest.bytes h k e) refl
 text_bytes p s Quotes at end own (Ok rest) h k e = rw (over p s at end own rest.bytes h k e) refl
 text_bytes p s Parens at end own (Ok rest) h k e = rw (over p s at end own rest.bytes h k e) refl
 text_bytes p s mode at end own (Err fault) h k e = refl
 
 pub brace_bytes : (p : Parts) (s : List ℕ) (depth next at end : ℕ) (own : List ℕ) (r : Read) → p.mark ≤ at → at ≤ end → slice_range s at end ≡ own →
-    joined p s (InBraces depth) at (put (changed (bytes own ∷ [])) r) ≡ joined p s (InBraces next) end r
+    joined_parts p s (InBraces depth) at (put (changed (bytes own ∷ [])) r) ≡ joined_parts p s (InBraces next) end r
 brace_bytes p s depth next at end own (Ok rest) h k e = rw (over p s at end own rest.bytes h k e) refl
 brace_bytes p s depth next at end own (Err fault) h k e = refl
 
@@ -73,19 +73,19 @@ pub otherwise : (p : Parts) (s : List ℕ) (at end : ℕ) (own rest : List ℕ) 
 otherwise p s at end own rest = simp (slice_none, append-nil, append_assoc)
 
 pub text_meant : (p : Parts) (s : List ℕ) (mode : Mode) (at end : ℕ) (own : List ℕ) (r : Read) →
-    joined p s (Text mode) at (put (changed (bytes own ∷ [])) r) ≡ joined (record p { literal = so_far p s at ++ own; mark = end }) s (Text mode) end r
+    joined_parts p s (Text mode) at (put (changed (bytes own ∷ [])) r) ≡ joined_parts (record p { literal = so_far p s at ++ own; mark = end }) s (Text mode) end r
 text_meant p s Bare at end own (Ok rest) = rw (otherwise p s at end own rest.bytes) refl
 text_meant p s Quotes at end own (Ok rest) = rw (otherwise p s at end own rest.bytes) refl
 text_meant p s Parens at end own (Ok rest) = rw (otherwise p s at end own rest.bytes) refl
 text_meant p s mode at end own (Err fault) = refl
 
 pub brace_meant : (p : Parts) (s : List ℕ) (depth at end : ℕ) (own : List ℕ) (r : Read) →
-    joined p s (InBraces depth) at (put (changed (bytes own ∷ [])) r) ≡ joined (record p { literal = so_far p s at ++ own; mark = end }) s (InBraces depth) end r
+    joined_parts p s (InBraces depth) at (put (changed (bytes own ∷ [])) r) ≡ joined_parts (record p { literal = so_far p s at ++ own; mark = end }) s (InBraces depth) end r
 brace_meant p s depth at end own (Ok rest) = rw (otherwise p s at end own rest.bytes) refl
 brace_meant p s depth at end own (Err fault) = refl
 
 -- a piece, and before it the literal that is open
-piece_over : (p : Parts) (s : List ℕ) (at end : ℕ) (own : Piece) (rest : Rest) →
+piece_over : (p : Parts) (s : List ℕ) (at end : ℕ) (own : Piece) (rest : TextRest) →
     p.pieces ++ literal_before (so_far p s at ++ []) (own ∷ literal_before rest.bytes rest.pieces)
     ≡ ((p.pieces ++ literal_before (so_far p s at) []) ++ own ∷ []) ++ literal_before (([] ++ slice_range s end end) ++ rest.bytes) rest.pieces
 piece_over p s at end own rest =
@@ -93,7 +93,7 @@ piece_over p s at end own rest =
     (ap (λ t. p.pieces ++ t) (literal_before-append (so_far p s at) (own ∷ literal_before rest.bytes rest.pieces)) ∙ simp append_assoc)
 
 pub text_piece : (p : Parts) (s : List ℕ) (mode : Mode) (at end : ℕ) (own : Piece) (r : Read) →
-    joined p s (Text mode) at (put (piece_before own) r) ≡ joined (with_piece (with_literal p s at) own end) s (Text mode) end r
+    joined_parts p s (Text mode) at (put (piece_before own) r) ≡ joined_parts (with_piece (with_literal p s at) own end) s (Text mode) end r
 text_piece p s Bare at end own (Ok rest) = rw (piece_over p s at end own rest) refl
 text_piece p s Quotes at end own (Ok rest) = rw (piece_over p s at end own rest) refl
 text_piece p s Parens at end own (Ok rest) = rw (piece_over p s at end own rest) refl
@@ -101,7 +101,7 @@ text_piece p s mode at end own (Err fault) = refl
 
 -- the same, where the piece is what a bracket or a parenthesis opened
 pub text_opened : (p : Parts) (s : List ℕ) (mode : Mode) (at end : ℕ) (own : Piece) (r : Read) →
-    joined p s (Text mode) at (put (changed []) (put (piece_before own) r)) ≡ joined (with_piece (with_literal p s at) own end) s (Text mode) end r
+    joined_parts p s (Text mode) at (put (changed []) (put (piece_before own) r)) ≡ joined_parts (with_piece (with_literal p s at) own end) s (Text mode) end r
 text_opened p s mode at end own (Ok rest) = text_piece p s mode at end own (Ok rest)
 text_opened p s mode at end own (Err fault) = refl
 
@@ -109,41 +109,41 @@ text_opened p s mode at end own (Err fault) = refl
 text_over : (p : Parts) (s : List ℕ) (at : ℕ) → p.pieces ++ literal_before (so_far p s at ++ []) [] ≡ (p.pieces ++ literal_before (so_far p s at) []) ++ []
 text_over p s at = simp append-nil
 
-pub bare_ended : (p : Parts) (s : List ℕ) (at next : ℕ) (r : Read) → joined p s (Text Bare) at (put (changed_by text_ends) r) ≡ joined (with_literal p s at) s PastBraces next r
+pub bare_ended : (p : Parts) (s : List ℕ) (at next : ℕ) (r : Read) → joined_parts p s (Text Bare) at (put (changed_by text_ends) r) ≡ joined_parts (with_literal p s at) s PastBraces next r
 bare_ended p s at next (Ok rest) = rw (text_over p s at) refl
 bare_ended p s at next (Err fault) = refl
 
-pub quotes_ended : (p : Parts) (s : List ℕ) (at next : ℕ) (r : Read) → joined p s (Text Quotes) at (put (changed (text_ends ∷ [])) r) ≡ joined (with_literal p s at) s PastQuotes next r
+pub quotes_ended : (p : Parts) (s : List ℕ) (at next : ℕ) (r : Read) → joined_parts p s (Text Quotes) at (put (changed (text_ends ∷ [])) r) ≡ joined_parts (with_literal p s at) s PastQuotes next r
 quotes_ended p s at next (Ok rest) = rw (text_over p s at) refl
 quotes_ended p s at next (Err fault) = refl
 
-pub braces_ended : (p : Parts) (s : List ℕ) (at next : ℕ) (r : Read) → joined p s (InBraces 0) at (put (changed (text_ends ∷ [])) r) ≡ joined (with_braced p s at) s PastBraces next r
+pub braces_ended : (p : Parts) (s : List ℕ) (at next : ℕ) (r : Read) → joined_parts p s (InBraces 0) at (put (changed (text_ends ∷ [])) r) ≡ joined_parts (with_braced p s at) s PastBraces next r
 braces_ended p s at next (Ok rest) = rw (append-nil (so_far p s at), append-nil (p.pieces ++ Literal (so_far p s at) ∷ [])) refl
 braces_ended p s at next (Err fault) = refl
 
-pub word_ended : (p : Parts) (s : List ℕ) (at here next : ℕ) (r : Read) → joined p s PastBraces here (put (changed_by (word_ends at)) r) ≡ joined (with_word p at) s Between next r
+pub word_ended : (p : Parts) (s : List ℕ) (at here next : ℕ) (r : Read) → joined_parts p s PastBraces here (put (changed_by (word_ends at)) r) ≡ joined_parts (with_word p at) s Between next r
 word_ended p s at here next (Ok rest) = simp (append-nil, append_assoc)
 word_ended p s at here next (Err fault) = refl
 
-pub command_ended : (p : Parts) (s : List ℕ) (here next : ℕ) (r : Read) → joined p s Between here (put (changed_by command_ends) r) ≡ joined (with_command p) s Start next r
+pub command_ended : (p : Parts) (s : List ℕ) (here next : ℕ) (r : Read) → joined_parts p s Between here (put (changed_by command_ends) r) ≡ joined_parts (with_command p) s Start next r
 command_ended p s here next (Ok rest) = simp (append-nil, append_assoc)
 command_ended p s here next (Err fault) = refl
 
 pub bare_begun : (p : Parts) (s : List ℕ) (expand : Bool) (start here at : ℕ) (r : Read) →
-    joined p s Between here (put (changed_by (word_begins BareForm expand start)) r) ≡ joined (record p { word_start = start; form = BareForm; expand = expand; pieces = []; literal = []; mark = at }) s (Text Bare) at r
+    joined_parts p s Between here (put (changed_by (word_begins BareForm expand start)) r) ≡ joined_parts (record p { word_start = start; form = BareForm; expand = expand; pieces = []; literal = []; mark = at }) s (Text Bare) at r
 bare_begun p s expand start here at (Ok rest) = rw (slice_none s at) refl
 bare_begun p s expand start here at (Err fault) = refl
 
 pub quotes_begun : (p : Parts) (s : List ℕ) (expand : Bool) (start here at : ℕ) (r : Read) →
-    joined p s Between here (put (changed (word_begins QuotedForm expand start ∷ [])) r) ≡ joined (record p { word_start = start; form = QuotedForm; expand = expand; pieces = []; literal = []; mark = at }) s (Text Quotes) at r
+    joined_parts p s Between here (put (changed (word_begins QuotedForm expand start ∷ [])) r) ≡ joined_parts (record p { word_start = start; form = QuotedForm; expand = expand; pieces = []; literal = []; mark = at }) s (Text Quotes) at r
 quotes_begun p s expand start here at (Ok rest) = rw (slice_none s at) refl
 quotes_begun p s expand start here at (Err fault) = refl
 
 pub braces_begun : (p : Parts) (s : List ℕ) (expand : Bool) (start here at : ℕ) (r : Read) →
-    joined p s Between here (put (changed (word_begins BracedForm expand start ∷ [])) r) ≡ joined (record p { word_start = start; form = BracedForm; expand = expand; pieces = []; literal = []; mark = at }) s (InBraces 0) at r
+    joined_parts p s Between here (put (changed (word_begins BracedForm expand start ∷ [])) r) ≡ joined_parts (record p { word_start = start; form = BracedForm; expand = expand; pieces = []; literal = []; mark = at }) s (InBraces 0) at r
 braces_begun p s expand start here at (Ok rest) = rw (slice_none s at) refl
 braces_begun p s expand start here at (Err fault) = refl
 
-pub command_begun : (p : Parts) (s : List ℕ) (start here at : ℕ) (r : Read) → joined p s Start here (put (changed_by (command_begins start)) r) ≡ joined (record p { command_start = start; words = [] }) s Between at r
+pub command_begun : (p : Parts) (s : List ℕ) (start here at : ℕ) (r : Read) → joined_parts p s Start here (put (changed_by (command_begins start)) r) ≡ joined_parts (record p { command_start = start; words = [] }) s Between at r
 command_begun p s start here at (Ok rest) = refl
 command_begun p s start here at (Err fault) = refl

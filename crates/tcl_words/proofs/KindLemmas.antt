@@ -1,7 +1,7 @@
 -- What a byte does that no arm of a definition names.
 use Rattle.std.proofs.Common.{◌≡◌, ◌≢◌, ℕ, ◌-◌, Bool, true, false, List, [], ◌∷◌, refl}
 use Rattle.tcl_words.specs.Changes.{bytes, word_begins, command_begins}
-use Rattle.tcl_words.specs.Moves.{Move, on, before, in_text, word_over, in_bare, in_quotes, in_parens, in_braces, at_word, in_expanded, in_between, in_start, in_comment}
+use Rattle.tcl_words.specs.Moves.{ByteMove, on, change_before, in_text, word_over, in_bare, in_quotes, in_parens, in_braces, at_word, in_expanded, in_between, in_start, in_comment}
 use Rattle.tcl_words.specs.declared.kind.Kind.{Kind}
 use Rattle.tcl_words.specs.declared.kind.Kind.TheVariants.{Blank, Newline, Semicolon, Hash, Dollar, Quote, OpenBracket, CloseBracket, OpenBrace, Expansion, CloseBrace, CloseParen, Backslash, Continuation, Other}
 use Rattle.tcl_words.specs.declared.kind.BytePlace.TheVariants.{Comment, Text, InBraces}
@@ -28,7 +28,7 @@ text_kinds Continuation h0 h1 h2 h3 mode b at behind = absurd (h3 refl)
 text_kinds Other h0 h1 h2 h3 mode b at behind = refl
 
 -- no word ends
-pub word_kinds : (kind : Kind) → kind ≢ Blank → kind ≢ Newline → kind ≢ Semicolon → kind ≢ Continuation → kind ≢ CloseBracket → (other : Move) (b at : ℕ) (behind : List ℕ) → word_over kind at behind other ≡ other
+pub word_kinds : (kind : Kind) → kind ≢ Blank → kind ≢ Newline → kind ≢ Semicolon → kind ≢ Continuation → kind ≢ CloseBracket → (other : ByteMove) (b at : ℕ) (behind : List ℕ) → word_over kind at behind other ≡ other
 word_kinds Blank h0 h1 h2 h3 h4 other b at behind = absurd (h0 refl)
 word_kinds Newline h0 h1 h2 h3 h4 other b at behind = absurd (h1 refl)
 word_kinds Semicolon h0 h1 h2 h3 h4 other b at behind = absurd (h2 refl)
@@ -100,7 +100,7 @@ braces_kinds Continuation h0 h1 h2 h3 h4 depth b at behind = absurd (h4 refl)
 braces_kinds Other h0 h1 h2 h3 h4 depth b at behind = refl
 
 -- a bare word begins
-pub begin_kinds : (kind : Kind) → kind ≢ OpenBrace → kind ≢ Expansion → kind ≢ Quote → (expand : Bool) (start : ℕ) (b at : ℕ) (behind : List ℕ) → at_word expand start kind b at behind ≡ before (word_begins BareForm expand start) (in_bare kind b at behind)
+pub begin_kinds : (kind : Kind) → kind ≢ OpenBrace → kind ≢ Expansion → kind ≢ Quote → (expand : Bool) (start : ℕ) (b at : ℕ) (behind : List ℕ) → at_word expand start kind b at behind ≡ change_before (word_begins BareForm expand start) (in_bare kind b at behind)
 begin_kinds Blank h0 h1 h2 expand start b at behind = refl
 begin_kinds Newline h0 h1 h2 expand start b at behind = refl
 begin_kinds Semicolon h0 h1 h2 expand start b at behind = refl
@@ -154,7 +154,7 @@ between_kinds Continuation h0 h1 h2 h3 h4 h5 b at behind = absurd (h3 refl)
 between_kinds Other h0 h1 h2 h3 h4 h5 b at behind = refl
 
 -- a command begins
-pub start_kinds : (kind : Kind) → kind ≢ Blank → kind ≢ Newline → kind ≢ Semicolon → kind ≢ Continuation → kind ≢ CloseBracket → kind ≢ Hash → (b at : ℕ) (behind : List ℕ) → in_start kind b at behind ≡ before (command_begins at) (in_between kind b at behind)
+pub start_kinds : (kind : Kind) → kind ≢ Blank → kind ≢ Newline → kind ≢ Semicolon → kind ≢ Continuation → kind ≢ CloseBracket → kind ≢ Hash → (b at : ℕ) (behind : List ℕ) → in_start kind b at behind ≡ change_before (command_begins at) (in_between kind b at behind)
 start_kinds Blank h0 h1 h2 h3 h4 h5 b at behind = absurd (h0 refl)
 start_kinds Newline h0 h1 h2 h3 h4 h5 b at behind = absurd (h1 refl)
 start_kinds Semicolon h0 h1 h2 h3 h4 h5 b at behind = absurd (h2 refl)

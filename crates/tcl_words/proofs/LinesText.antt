@@ -4,7 +4,7 @@ use Rattle.std.specs.Str.{IsUtf8, IsCharBoundary}
 use Rattle.std.proofs.lemmas.Str.{IsUtf8-append, IsUtf8-nil, IsUtf8-take, IsUtf8-drop, IsCharBoundary-before_ascii, IsCharBoundary-after_ascii}
 use Rattle.tcl_text.proofs.Utf8Lemmas.{ascii_before}
 use Rattle.tcl_words.specs.Classes.{class_of, is_blank}
-use Rattle.tcl_words.specs.Spans.{command_of}
+use Rattle.tcl_words.specs.Spans.{command_from}
 use Rattle.tcl_words.specs.Grammar.{leaves, class_ends, ends_word, IsInnerOf, IsWord, IsSeparator, IsGap, IsScript, IsScriptOf}
 use Rattle.tcl_words.specs.Grammar.IsGap.{none as no_gap, blank, continuation, separator, comment}
 use Rattle.tcl_words.specs.Joining.{source_of, lines_of, CommandsAlike}
@@ -94,7 +94,7 @@ pub record LinesFit (source : List ℕ) (commands : List Command) (text : List �
   pub utf8 : IsUtf8 (lines_of source commands)
 
 fit_found : (source : List ℕ) (at : ℕ) (own rest : List ℕ) (word : Word) (words : List Word) (command : Command) (commands : List Command) → Stands source at (own ++ rest) → IsWord (IsInnerOf 200) false rest at own word →
-    (f : Lined (at + length own) rest words commands) → command ≡ command_of at (word ∷ words) → IsUtf8 (own ++ rest) →
+    (f : Lined (at + length own) rest words commands) → command ≡ command_from at (word ∷ words) → IsUtf8 (own ++ rest) →
     ((first : ℕ) (text : List ℕ) → Stands source first text → IsScript (IsInnerOf 200) false first text commands (leaves []) → IsUtf8 text → LinesFit source commands text) → LinesFit source (command ∷ commands) (own ++ rest)
 fit_found source at own rest word words command commands stand is f same utf8 further = go commands f further
   where

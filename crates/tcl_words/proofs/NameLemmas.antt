@@ -2,17 +2,17 @@
 use Rattle.std.proofs.Common.{◌-◌, take, ◌⊎◌, eqb-true, ◌≡◌, ◌≢◌, ℕ, suc, ◌+◌, Bool, true, false, ◌==◌, ◌&&◌, ◌||◌, List, [], ◌∷◌, ◌++◌, length, drop, nat_eq, refl, sym, ap, ◌∙◌, inl, inr, arith, Some, None}
 use Rattle.std.specs.List.{starts_with, slice_range}
 use Rattle.std.proofs.lemmas.Bool.Decides.{nat_tests}
-use Rattle.tcl_words.specs.Kinds.{letters, past_colons, name_length, to_brace, dollar_braced, dollar_named, dollar_of}
-use Rattle.tcl_words.specs.Classes.{is_letter}
-use Rattle.tcl_words.specs.Grammar.{begins, begins_letter, begins_name, AreLetters, IsName, HasNoBrace}
+use Rattle.tcl_words.specs.Kinds.{name_bytes, past_colons, name_length, to_brace, dollar_braced, dollar_named, dollar_of}
+use Rattle.tcl_words.specs.Classes.{is_name_byte}
+use Rattle.tcl_words.specs.Grammar.{begins, begins_name_byte, begins_name, AreNameBytes, IsName, HasNoBrace}
 use Rattle.tcl_words.specs.declared.kind.Dollar.TheVariants.{Alone, Named, Indexed, Braced, Unclosed}
 
-pub letters_read : (own text : List ℕ) → AreLetters own → begins_letter text ≡ false → letters (own ++ text) ≡ length own
+pub letters_read : (own text : List ℕ) → AreNameBytes own → begins_name_byte text ≡ false → name_bytes (own ++ text) ≡ length own
 letters_read [] [] h stops = refl
 letters_read [] (b ∷ text) h stops = rw stops refl
 letters_read (b ∷ own) text (is, h) stops = rw is (ap (λ n. suc n) (letters_read own text h stops))
 
-no_letters : (text : List ℕ) → begins_letter text ≡ false → letters text ≡ 0
+no_letters : (text : List ℕ) → begins_name_byte text ≡ false → name_bytes text ≡ 0
 no_letters [] h = refl
 no_letters (b ∷ text) h = rw h refl
 
@@ -25,19 +25,19 @@ case_of true = inl refl
 case_of false = inr refl
 
 -- a letter is none of these bytes
-not_letter : (b c : ℕ) → is_letter b ≡ true → is_letter c ≡ false → nat_eq c b ≡ false
+not_letter : (b c : ℕ) → is_name_byte b ≡ true → is_name_byte c ≡ false → nat_eq c b ≡ false
 not_letter b c is other = elim (case_of (nat_eq c b)) [
-  | inl e ↦ (let same : c ≡ b = eqb-true c b e in let k : true ≡ false = sym is ∙ ap is_letter (sym same) ∙ other in cc)
+  | inl e ↦ (let same : c ≡ b = eqb-true c b e in let k : true ≡ false = sym is ∙ ap is_name_byte (sym same) ∙ other in cc)
   | inr e ↦ e
 ]
 
-name_plain : (b : ℕ) (own text : List ℕ) → is_letter b ≡ true → AreLetters own → begins_letter text ≡ false → name_length (b ∷ (own ++ text)) ≡ suc (length own)
+name_plain : (b : ℕ) (own text : List ℕ) → is_name_byte b ≡ true → AreNameBytes own → begins_name_byte text ≡ false → name_length (b ∷ (own ++ text)) ≡ suc (length own)
 name_plain b own text is are stops = rw (not_letter b 58 is refl, is) (ap (λ n. suc n) (letters_read own text are stops))
 
-name_colons : (b : ℕ) (own text : List ℕ) → is_letter b ≡ true → AreLetters own → begins_letter text ≡ false → name_length (58 ∷ 58 ∷ b ∷ (own ++ text)) ≡ suc (suc (suc (length own)))
-name_colons b own text is are stops = rw is (let e : letters (own ++ text) ≡ length own = letters_read own text are stops in omega arith)
+name_colons : (b : ℕ) (own text : List ℕ) → is_name_byte b ≡ true → AreNameBytes own → begins_name_byte text ≡ false → name_length (58 ∷ 58 ∷ b ∷ (own ++ text)) ≡ suc (suc (suc (length own)))
+name_colons b own text is are stops = rw is (let e : name_bytes (own ++ text) ≡ length own = letters_read own text are stops in omega arith)
 
-pub name_read : (name text : List ℕ) → IsName name → begins_letter text ≡ false → name_length (name ++ text) ≡ length name
+pub name_read : (name text : List ℕ) → IsName name → begins_name_byte text ≡ false → name_length (name ++ text) ≡ length name
 name_read name text (b, own, is, are, inl e) stops = ap (λ t. name_length (t ++ text)) e ∙ name_plain b own text is are stops ∙ ap length (sym e)
 name_read name text (b, own, is, are, inr e) stops = ap (λ t. name_length (t ++ text)) e ∙ name_colons b own text is are stops ∙ ap length (sym e)
 
@@ -61,7 +61,7 @@ named_alone (b ∷ text) h = elim (case_of (nat_eq 40 b)) [
   | inr e ↦ (rw e refl)
 ]
 
-pub dollar-named : (name text : List ℕ) → IsName name → begins_letter text ≡ false → begins 40 text ≡ false → dollar_of (name ++ text) ≡ Named (length name)
+pub dollar-named : (name text : List ℕ) → IsName name → begins_name_byte text ≡ false → begins 40 text ≡ false → dollar_of (name ++ text) ≡ Named (length name)
 dollar-named name text is stops none =
     let some = some_name name is in
     let e : starts_with nat_eq text (40 ∷ []) ≡ false = named_alone text none in
@@ -81,13 +81,13 @@ or_false : (a b : Bool) → (a || b) ≡ false → (a ≡ false) × (b ≡ false
 or_false true b h = cc
 or_false false b h = (refl, h)
 
-no_name_case : (t : Bool) (text : List ℕ) → starts_with nat_eq text (58 ∷ 58 ∷ []) ≡ t → begins_letter text ≡ false → (t && begins_letter (drop 2 text)) ≡ false → name_length text ≡ 0
+no_name_case : (t : Bool) (text : List ℕ) → starts_with nat_eq text (58 ∷ 58 ∷ []) ≡ t → begins_name_byte text ≡ false → (t && begins_name_byte (drop 2 text)) ≡ false → name_length text ≡ 0
 no_name_case true text e h k = rw e (ap past_colons (no_letters (drop 2 text) k))
 no_name_case false text e h k = rw e (no_letters text h)
 
 no_name : (text : List ℕ) → begins_name text ≡ false → name_length text ≡ 0
 no_name text h =
-    let two = or_false (begins_letter text) (starts_with nat_eq text (58 ∷ 58 ∷ []) && begins_letter (drop 2 text)) h in
+    let two = or_false (begins_name_byte text) (starts_with nat_eq text (58 ∷ 58 ∷ []) && begins_name_byte (drop 2 text)) h in
     no_name_case (starts_with nat_eq text (58 ∷ 58 ∷ [])) text refl two.0 two.1
 
 not_byte : (b c : ℕ) → b ≢ c → (b == c) ≡ false

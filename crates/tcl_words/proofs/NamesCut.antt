@@ -1,26 +1,26 @@
 -- The names of variables at the front of a text.
 use Rattle.std.proofs.Common.{◌≡◌, ℕ, ◌⊎◌, inl, inr, Bool, true, false, ◌&&◌, ◌||◌, List, [], ◌∷◌, ◌++◌, drop, nat_eq, refl, sym, ap, subst, ◌∙◌, eqb-true}
 use Rattle.std.specs.List.{starts_with}
-use Rattle.tcl_words.specs.Classes.{is_letter}
-use Rattle.tcl_words.specs.Grammar.{begins_letter, begins_name, AreLetters, IsName, HasNoBrace}
+use Rattle.tcl_words.specs.Classes.{is_name_byte}
+use Rattle.tcl_words.specs.Grammar.{begins_name_byte, begins_name, AreNameBytes, IsName, HasNoBrace}
 use Rattle.tcl_words.proofs.WordsRead.{both}
 use Rattle.tcl_words.proofs.BracesCut.{decided, same_or_other}
 
-letters_cut : (text : List ℕ) → (letters : List ℕ) × (rest : List ℕ) × (text ≡ letters ++ rest) × AreLetters letters × (begins_letter rest ≡ false)
+letters_cut : (text : List ℕ) → (letters : List ℕ) × (rest : List ℕ) × (text ≡ letters ++ rest) × AreNameBytes letters × (begins_name_byte rest ≡ false)
 letters_cut [] = ([], [], refl, tt, refl)
-letters_cut (b ∷ text) = elim (decided (is_letter b)) [
+letters_cut (b ∷ text) = elim (decided (is_name_byte b)) [
   | inl e ↦ (let more = letters_cut text in (b ∷ more.0, more.1, ap (λ t. b ∷ t) more.2, (e, more.3), more.4))
   | inr e ↦ ([], b ∷ text, refl, tt, e)
 ]
 
 abbrev pub NameCut : List ℕ → Type 0
-NameCut text = (name : List ℕ) × (rest : List ℕ) × (text ≡ name ++ rest) × IsName name × (begins_letter rest ≡ false)
+NameCut text = (name : List ℕ) × (rest : List ℕ) × (text ≡ name ++ rest) × IsName name × (begins_name_byte rest ≡ false)
 
-letter_cut : (text : List ℕ) → begins_letter text ≡ true → NameCut text
+letter_cut : (text : List ℕ) → begins_name_byte text ≡ true → NameCut text
 letter_cut [] h = cc
 letter_cut (b ∷ text) h = let more = letters_cut text in (b ∷ more.0, more.1, ap (λ t. b ∷ t) more.2, (b, more.0, h, more.3, inl refl), more.4)
 
-colons_cut : (text : List ℕ) → begins_letter text ≡ true → NameCut (58 ∷ 58 ∷ text)
+colons_cut : (text : List ℕ) → begins_name_byte text ≡ true → NameCut (58 ∷ 58 ∷ text)
 colons_cut [] h = cc
 colons_cut (b ∷ text) h = let more = letters_cut text in (58 ∷ 58 ∷ b ∷ more.0, more.1, ap (λ t. 58 ∷ 58 ∷ b ∷ t) more.2, (b, more.0, h, more.3, inr refl), more.4)
 
@@ -36,12 +36,12 @@ two_colons (b ∷ c ∷ text) h =
     ap (λ x. x ∷ c ∷ text) (sym e) ∙ ap (λ x. 58 ∷ x ∷ text) (sym f)
 
 pub name_cut : (text : List ℕ) → begins_name text ≡ true → NameCut text
-name_cut text h = go (begins_letter text) refl h
+name_cut text h = go (begins_name_byte text) refl h
   where
-    go : (t : Bool) → begins_letter text ≡ t → (t || (starts_with nat_eq text (58 ∷ 58 ∷ []) && begins_letter (drop 2 text))) ≡ true → NameCut text
+    go : (t : Bool) → begins_name_byte text ≡ t → (t || (starts_with nat_eq text (58 ∷ 58 ∷ []) && begins_name_byte (drop 2 text))) ≡ true → NameCut text
     go true e k = letter_cut text e
     go false e k =
-        let two = both (starts_with nat_eq text (58 ∷ 58 ∷ [])) (begins_letter (drop 2 text)) k in
+        let two = both (starts_with nat_eq text (58 ∷ 58 ∷ [])) (begins_name_byte (drop 2 text)) k in
         subst NameCut (sym (two_colons text two.0)) (colons_cut (drop 2 text) two.1)
 
 -- the first `}`

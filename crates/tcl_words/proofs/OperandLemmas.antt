@@ -6,11 +6,11 @@ use Rattle.std.specs.Str.{IsCharBoundary, IsUtf8}
 use Rattle.std.proofs.lemmas.List.{drop-drop, length-drop}
 use Rattle.tcl_words.specs.Kinds.{kind_before, dollar_of}
 use Rattle.tcl_words.specs.Changes.{Read, put, last_rest, changed, piece_before, literal_before}
-use Rattle.tcl_words.specs.Moves.{Move, in_text, at_dollar}
-use Rattle.tcl_words.specs.Reading.{Level, within, rest_of, past, past_opened, at_end, first_place, first_skip, opened_piece}
-use Rattle.tcl_words.specs.Parts.{Parts, Whole, joined, no_parts, with_piece, with_literal, index_whole, is_index, ended, Does, IsFine, IsOpenerCut}
-use Rattle.tcl_words.specs.Chain.{level_of, own, opened, IsChain, IsReading, IsEnding, IsParse, Goes}
-use Rattle.tcl_words.specs.Operands.{piece_found, opened_of, at_quote, quoted_rest, pieces_found, quoted_of, outer, EndsAt, quoted_whole, GoesOn}
+use Rattle.tcl_words.specs.Moves.{ByteMove, in_text, at_dollar}
+use Rattle.tcl_words.specs.Reading.{Level, within, rest_of, past, past_opened, read_at_end, opened_place, first_skip, opened_piece}
+use Rattle.tcl_words.specs.Parts.{Parts, Whole, joined_parts, no_parts, with_piece, with_literal, index_whole, is_index, ended, DoesMove, IsFine, IsOpenerCut}
+use Rattle.tcl_words.specs.Chain.{origin_level, own, opened, IsChain, IsReading, IsClosing, IsParse, Goes}
+use Rattle.tcl_words.specs.Operands.{piece_found, opened_of, at_quote, quoted_rest, pieces_found, quoted_of, outer, EndsAt, quoted_whole, ReadsOn}
 use Rattle.tcl_words.specs.declared.kind.Kind.{Kind}
 use Rattle.tcl_words.specs.declared.kind.Kind.TheVariants.{Blank, Newline, Semicolon, Hash, Dollar, Quote, OpenBracket, CloseBracket, OpenBrace, Expansion, CloseBrace, CloseParen, Backslash, Continuation, Other}
 use Rattle.tcl_words.specs.declared.kind.Dollar.{Dollar as DollarForm}
@@ -35,7 +35,7 @@ use Rattle.tcl_words.proofs.Readers.{moved_cut, to_base, parse_found, ended_clos
 -- ── what an opener opens ──
 
 pub opened_begins : (s : List ℕ) (at room : ℕ) (opener : Opener) → 0 < room → room ≤ 200 → IsOpenerCut s at opener →
-    IsReading (opened (outer room) at opener) s [] (opened (outer room) at opener) (no_parts (first_skip opener)) (first_place opener) (first_skip opener)
+    IsReading (opened (outer room) at opener) s [] (opened (outer room) at opener) (no_parts (first_skip opener)) (opened_place opener) (first_skip opener)
 opened_begins s at room opener some most cut =
     let o : Origin = outer room in
     let e : at + 1 ≡ 0 + (at + 1) = omega arith in
@@ -44,12 +44,12 @@ opened_begins s at room opener some most cut =
     let first : IsCharBoundary s (0 + (at + 1) + first_skip opener) = moved_cut s _ _ f cut.first in
     let here : IsCharBoundary (drop (0 + (at + 1)) s) (first_skip opener) = to_base s (0 + (at + 1)) (first_skip opener) base.0 first in
     let k : 0 + first_skip opener ≡ first_skip opener = omega arith in
-    let level : Level = level_of (opened o at opener) in
-    let rest : rest_of (drop (0 + (at + 1)) s) level (first_skip opener) (first_place opener) 0 ≡ rest_of (drop (first_skip opener) (drop (0 + (at + 1)) s)) level 0 (first_place opener) (first_skip opener) =
-    rest_skip (drop (0 + (at + 1)) s) level (first_skip opener) (first_place opener) 0 here.0 ∙ ap (rest_of (drop (first_skip opener) (drop (0 + (at + 1)) s)) level 0 (first_place opener)) k in
+    let level : Level = origin_level (opened o at opener) in
+    let rest : rest_of (drop (0 + (at + 1)) s) level (first_skip opener) (opened_place opener) 0 ≡ rest_of (drop (first_skip opener) (drop (0 + (at + 1)) s)) level 0 (opened_place opener) (first_skip opener) =
+    rest_skip (drop (0 + (at + 1)) s) level (first_skip opener) (opened_place opener) 0 here.0 ∙ ap (rest_of (drop (first_skip opener) (drop (0 + (at + 1)) s)) level 0 (opened_place opener)) k in
     record {
       chain = refl;
-      reads = ap (joined (no_parts (first_skip opener)) (drop (0 + (at + 1)) s) (first_place opener) (first_skip opener)) (sym rest);
+      reads = ap (joined_parts (no_parts (first_skip opener)) (drop (0 + (at + 1)) s) (opened_place opener) (first_skip opener)) (sym rest);
       fine = first_fine (drop (0 + (at + 1)) s) opener here;
       base = base;
       within = first.0;
@@ -60,8 +60,8 @@ opened_begins s at room opener some most cut =
 -- what began first ends where nothing waits
 pub ends_inside : (first : Origin) (s : List ℕ) (ws : List Waiting) (o : Origin) (p : Parts) (place : BytePlace) (n k : ℕ) → Goes true first s ws o p place n k → EndsAt first s p n
 ends_inside first s ws o p place n k (none, ending) =
-    let alone : IsEnding first s [] o p place n = subst (λ x. IsEnding first s x o p place n) none ending in
-    (place, subst (λ x. IsEnding first s [] x p place n) (sym alone.chain) alone)
+    let alone : IsClosing first s [] o p place n = subst (λ x. IsClosing first s x o p place n) none ending in
+    (place, subst (λ x. IsClosing first s [] x p place n) (sym alone.chain) alone)
 
 still_inside : (s : List ℕ) (first o : Origin) (ws : List Waiting) → IsChain s first ws o → first.inside ≡ true → o.inside ≡ true
 still_inside s first o [] chain e = ap (λ x. x.inside) (sym chain) ∙ e
@@ -69,15 +69,15 @@ still_inside s first o (w ∷ ws) chain e = chain_inside s first o w ws chain
 
 -- the text ends before it
 pub never_ends : (first : Origin) (s : List ℕ) (ws : List Waiting) (o : Origin) (p : Parts) (place : BytePlace) (n : ℕ) (fault : ParseFault) → IsReading first s ws o p place n → first.inside ≡ true → length s ≤ o.base + n →
-    ((at : ℕ) → at_end true place at ≡ Err fault) → own s first ≡ Err fault
+    ((at : ℕ) → read_at_end true place at ≡ Err fault) → own s first ≡ Err fault
 never_ends first s ws o p place n fault r inside end told =
     let in_it : o.inside ≡ true = still_inside s first o ws r.chain inside in
-    chain_fault s first o ws fault r.chain (sym (end_reads s ws o p place n r end) ∙ ap (λ b. joined p (drop o.base s) place n (at_end b place n)) in_it ∙ ap (joined p (drop o.base s) place n) (told n))
+    chain_fault s first o ws fault r.chain (sym (end_reads s ws o p place n r end) ∙ ap (λ b. joined_parts p (drop o.base s) place n (read_at_end b place n)) in_it ∙ ap (joined_parts p (drop o.base s) place n) (told n))
 
-found_by : (opener : Opener) (behind : List ℕ) (r : Read) (whole : Whole) → joined (no_parts (first_skip opener)) behind (first_place opener) (first_skip opener) r ≡ Ok whole →
+found_by : (opener : Opener) (behind : List ℕ) (r : Read) (whole : Whole) → joined_parts (no_parts (first_skip opener)) behind (opened_place opener) (first_skip opener) r ≡ Ok whole →
     piece_found opener behind r ≡ Ok (opened_piece opener behind whole.close, suc whole.close)
 found_by Bracket behind (Ok rest) whole e =
-    let is : joined (no_parts 0) behind Start 0 (Ok rest) ≡ Ok whole = e in
+    let is : joined_parts (no_parts 0) behind Start 0 (Ok rest) ≡ Ok whole = e in
     let close : rest.close ≡ whole.close = ap (λ (x : Result Whole ParseFault). close_in x) is in
     ap (λ k. Ok (opened_piece Bracket behind k, suc k)) close
   where
@@ -85,7 +85,7 @@ found_by Bracket behind (Ok rest) whole e =
     close_in (Ok w) = w.close
     close_in (Err fault) = 0
 found_by (Index n) behind (Ok rest) whole e =
-    let is : joined (no_parts (suc n)) behind (Text Parens) (suc n) (Ok rest) ≡ Ok whole = e in
+    let is : joined_parts (no_parts (suc n)) behind (Text Parens) (suc n) (Ok rest) ≡ Ok whole = e in
     let close : rest.close ≡ whole.close = ap (λ (x : Result Whole ParseFault). close_in x) is in
     ap (λ k. Ok (opened_piece (Index n) behind k, suc k)) close
   where
@@ -94,13 +94,13 @@ found_by (Index n) behind (Ok rest) whole e =
     close_in (Err fault) = 0
 found_by opener behind (Err fault) whole e = absurd (let h : Err fault ≡ Ok whole = e in cc)
 
-failed_by : (opener : Opener) (behind : List ℕ) (r : Read) (fault : ParseFault) → joined (no_parts (first_skip opener)) behind (first_place opener) (first_skip opener) r ≡ Err fault → piece_found opener behind r ≡ Err fault
-failed_by opener behind (Ok rest) fault e = absurd (let h : joined (no_parts (first_skip opener)) behind (first_place opener) (first_skip opener) (Ok rest) ≡ Err fault = e in cc)
+failed_by : (opener : Opener) (behind : List ℕ) (r : Read) (fault : ParseFault) → joined_parts (no_parts (first_skip opener)) behind (opened_place opener) (first_skip opener) r ≡ Err fault → piece_found opener behind r ≡ Err fault
+failed_by opener behind (Ok rest) fault e = absurd (let h : joined_parts (no_parts (first_skip opener)) behind (opened_place opener) (first_skip opener) (Ok rest) ≡ Err fault = e in cc)
 failed_by opener behind (Err other) fault e = let h : Err other ≡ Err fault = e in cc
 
-opened_some : (room : ℕ) (opener : Opener) (behind : List ℕ) → 0 < room → opened_of room opener behind ≡ piece_found opener behind (rest_of behind (within (room - 1)) (first_skip opener) (first_place opener) 0)
+opened_some : (room : ℕ) (opener : Opener) (behind : List ℕ) → 0 < room → opened_of room opener behind ≡ piece_found opener behind (rest_of behind (within (room - 1)) (first_skip opener) (opened_place opener) 0)
 opened_some zero opener behind some = absurd (omega (arith, some))
-opened_some (suc room) opener behind some = let e : room ≡ suc room - 1 = omega arith in ap (λ n. piece_found opener behind (rest_of behind (within n) (first_skip opener) (first_place opener) 0)) e
+opened_some (suc room) opener behind some = let e : room ≡ suc room - 1 = omega arith in ap (λ n. piece_found opener behind (rest_of behind (within n) (first_skip opener) (opened_place opener) 0)) e
 
 behind_is : (s : List ℕ) (at : ℕ) → drop (0 + (at + 1)) s ≡ drop (at + 1) s
 behind_is s at = let e : 0 + (at + 1) ≡ at + 1 = omega arith in ap (λ n. drop n s) e
@@ -120,14 +120,14 @@ found_there s at room opener p n utf8 short some most cut (place, r) =
     let is : own s (opened o at opener) ≡ Ok (ended place p n) = r.ends in
     let close : (ended place p n).close ≡ n = ended_close place p n in
     let parsed = parse_found opener s o at n place p utf8 short most is r.index base r.here in
-    let found : piece_found opener (drop (0 + (at + 1)) s) (rest_of (drop (0 + (at + 1)) s) (within (room - 1)) (first_skip opener) (first_place opener) 0) ≡ Ok (opened_piece opener (drop (0 + (at + 1)) s) (ended place p n).close, suc (ended place p n).close) =
-    found_by opener (drop (0 + (at + 1)) s) (rest_of (drop (0 + (at + 1)) s) (within (room - 1)) (first_skip opener) (first_place opener) 0) (ended place p n) is in
+    let found : piece_found opener (drop (0 + (at + 1)) s) (rest_of (drop (0 + (at + 1)) s) (within (room - 1)) (first_skip opener) (opened_place opener) 0) ≡ Ok (opened_piece opener (drop (0 + (at + 1)) s) (ended place p n).close, suc (ended place p n).close) =
+    found_by opener (drop (0 + (at + 1)) s) (rest_of (drop (0 + (at + 1)) s) (within (room - 1)) (first_skip opener) (opened_place opener) 0) (ended place p n) is in
     let g : suc n ≡ n + 1 = omega arith in
     let h : 0 + (at + 1) + n ≡ at + 1 + n = omega arith in
     record {
       found =
           opened_some room opener (drop (at + 1) s) some
-          ∙ ap (λ t. piece_found opener t (rest_of t (within (room - 1)) (first_skip opener) (first_place opener) 0)) (sym (behind_is s at))
+          ∙ ap (λ t. piece_found opener t (rest_of t (within (room - 1)) (first_skip opener) (opened_place opener) 0)) (sym (behind_is s at))
           ∙ found
           ∙ ap (λ t. Ok (opened_piece opener t (ended place p n).close, suc (ended place p n).close)) (behind_is s at)
           ∙ ap (λ k. Ok (opened_piece opener (drop (at + 1) s) k, suc k)) close
@@ -140,8 +140,8 @@ found_there s at room opener p n utf8 short some most cut (place, r) =
 pub failed_there : (s : List ℕ) (at room : ℕ) (opener : Opener) (fault : ParseFault) → 0 < room → own s (opened (outer room) at opener) ≡ Err fault → opened_of room opener (drop (at + 1) s) ≡ Err fault
 failed_there s at room opener fault some e =
     opened_some room opener (drop (at + 1) s) some
-    ∙ ap (λ t. piece_found opener t (rest_of t (within (room - 1)) (first_skip opener) (first_place opener) 0)) (sym (behind_is s at))
-    ∙ failed_by opener (drop (0 + (at + 1)) s) (rest_of (drop (0 + (at + 1)) s) (within (room - 1)) (first_skip opener) (first_place opener) 0) fault e
+    ∙ ap (λ t. piece_found opener t (rest_of t (within (room - 1)) (first_skip opener) (opened_place opener) 0)) (sym (behind_is s at))
+    ∙ failed_by opener (drop (0 + (at + 1)) s) (rest_of (drop (0 + (at + 1)) s) (within (room - 1)) (first_skip opener) (opened_place opener) 0) fault e
 
 -- the name in `${name}`
 pub braced_name : (s : List ℕ) (at n : ℕ) → slice_range (drop (at + 1) s) 1 (suc n) ≡ slice_range s (at + 1 + 1) (at + 1 + 1 + n)
@@ -250,18 +250,18 @@ from_here room s at skip h =
     quoted_skip room (drop (at + 1) s) skip (at + 1) (omega (arith, h, length-drop (at + 1) s)) ∙ ap (λ t. quoted_rest room t 0 (at + 1 + skip)) (drop-drop skip (at + 1) s)
 
 pub quoted_on : (room : ℕ) (s : List ℕ) (at b : ℕ) (kind : Kind) (skip : ℕ) (next : BytePlace) (old new : Parts) → Byte s at b kind → kind ≢ Quote →
-    Does old new s at (Text Parens) (in_text Parens kind b (drop (at + 1) s)) (Ok (On skip next)) → GoesOn room s old at new (at + 1 + skip)
+    DoesMove old new s at (Text Parens) (in_text Parens kind b (drop (at + 1) s)) (Ok (On skip next)) → ReadsOn room s old at new (at + 1 + skip)
 unfolding past_quoted
 quoted_on room s at b kind skip next old new byte other does =
     let place : next ≡ Text Parens = place_is next does.4 in
     let rest : Read = quoted_rest room (drop (at + 1) s) skip (at + 1) in
-    let move : Move = in_text Parens kind b (drop (at + 1) s) in
+    let move : ByteMove = in_text Parens kind b (drop (at + 1) s) in
     record {
       same =
-          ap (joined new s (Text Parens) (at + 1 + skip)) (sym (from_here room s at skip does.3))
-          ∙ ap (λ x. joined new s x (at + 1 + skip) rest) (sym place)
+          ap (joined_parts new s (Text Parens) (at + 1 + skip)) (sym (from_here room s at skip does.3))
+          ∙ ap (λ x. joined_parts new s x (at + 1 + skip) rest) (sym place)
           ∙ sym (does.1 rest)
-          ∙ ap (joined old s (Text Parens) at) (sym (quoted_by room s at b kind (Ok (On skip next)) byte other does.0));
+          ∙ ap (joined_parts old s (Text Parens) at) (sym (quoted_by room s at b kind (Ok (On skip next)) byte other does.0));
       fine = subst (λ x. IsFine new s x (at + 1 + skip)) place does.2;
       further = omega arith;
       within = does.3;
@@ -282,28 +282,28 @@ past_failed opener mode behind go (Err other) fault e = let h : piece_found open
 goes_past : (room at : ℕ) (opener : Opener) (mode : Mode) (behind : List ℕ) (go : ℕ → BytePlace → Read) (piece : Piece) (taken : ℕ) → opened_of room opener behind ≡ Ok (piece, taken) →
     past (Ok (Within opener mode)) room at behind go (λ room skip next. rest_of behind (within room) skip next 0) ≡ put (piece_before piece) (go taken (Text mode))
 goes_past zero at opener mode behind go piece taken e = absurd (let h : opened_of zero opener behind ≡ Ok (piece, taken) = e in cc)
-goes_past (suc room) at opener mode behind go piece taken e = past_found opener mode behind go (rest_of behind (within room) (first_skip opener) (first_place opener) 0) piece taken e
+goes_past (suc room) at opener mode behind go piece taken e = past_found opener mode behind go (rest_of behind (within room) (first_skip opener) (opened_place opener) 0) piece taken e
 
 fails_past : (room at : ℕ) (opener : Opener) (mode : Mode) (behind : List ℕ) (go : ℕ → BytePlace → Read) (fault : ParseFault) → opened_of room opener behind ≡ Err fault →
     past (Ok (Within opener mode)) room at behind go (λ room skip next. rest_of behind (within room) skip next 0) ≡ Err fault
 fails_past zero at opener mode behind go fault e = let h : opened_of zero opener behind ≡ Err fault = e in let k : TooLong ≡ fault = cc in ap (λ f. Err f) k
-fails_past (suc room) at opener mode behind go fault e = past_failed opener mode behind go (rest_of behind (within room) (first_skip opener) (first_place opener) 0) fault e
+fails_past (suc room) at opener mode behind go fault e = past_failed opener mode behind go (rest_of behind (within room) (first_skip opener) (opened_place opener) 0) fault e
 
 pub quoted_within : (room : ℕ) (s : List ℕ) (at b : ℕ) (kind : Kind) (opener : Opener) (mode : Mode) (old new : Parts) (piece : Piece) (taken : ℕ) → Byte s at b kind → kind ≢ Quote →
-    Does old new s at (Text Parens) (in_text Parens kind b (drop (at + 1) s)) (Ok (Within opener mode)) → opened_of room opener (drop (at + 1) s) ≡ Ok (piece, taken) → IsCharBoundary s (at + 1 + taken) →
-    GoesOn room s old at (with_piece new piece (at + 1 + taken)) (at + 1 + taken)
+    DoesMove old new s at (Text Parens) (in_text Parens kind b (drop (at + 1) s)) (Ok (Within opener mode)) → opened_of room opener (drop (at + 1) s) ≡ Ok (piece, taken) → IsCharBoundary s (at + 1 + taken) →
+    ReadsOn room s old at (with_piece new piece (at + 1 + taken)) (at + 1 + taken)
 unfolding past_quoted
 quoted_within room s at b kind opener mode old new piece taken byte other does found cut =
     let place : Text mode ≡ Text Parens = place_is (Text mode) does.4 in
     let rest : Read = quoted_rest room (drop (at + 1) s) taken (at + 1) in
-    let move : Move = in_text Parens kind b (drop (at + 1) s) in
+    let move : ByteMove = in_text Parens kind b (drop (at + 1) s) in
     record {
       same =
-          ap (joined (with_piece new piece (at + 1 + taken)) s (Text Parens) (at + 1 + taken)) (sym (from_here room s at taken cut.0))
-          ∙ ap (λ x. joined (with_piece new piece (at + 1 + taken)) s x (at + 1 + taken) rest) (sym place)
+          ap (joined_parts (with_piece new piece (at + 1 + taken)) s (Text Parens) (at + 1 + taken)) (sym (from_here room s at taken cut.0))
+          ∙ ap (λ x. joined_parts (with_piece new piece (at + 1 + taken)) s x (at + 1 + taken) rest) (sym place)
           ∙ sym (does.1 piece (at + 1 + taken) rest)
-          ∙ ap (λ r. joined old s (Text Parens) at (put (changed move.changes) r)) (sym (goes_past room at opener mode (drop (at + 1) s) (λ skip next. quoted_rest room (drop (at + 1) s) skip (at + 1)) piece taken found))
-          ∙ ap (joined old s (Text Parens) at) (sym (quoted_by room s at b kind (Ok (Within opener mode)) byte other does.0));
+          ∙ ap (λ r. joined_parts old s (Text Parens) at (put (changed move.changes) r)) (sym (goes_past room at opener mode (drop (at + 1) s) (λ skip next. quoted_rest room (drop (at + 1) s) skip (at + 1)) piece taken found))
+          ∙ ap (joined_parts old s (Text Parens) at) (sym (quoted_by room s at b kind (Ok (Within opener mode)) byte other does.0));
       fine = record { before = omega arith; boundary = cut; short = (let none : length new.literal ≡ 0 = ap length does.2 in omega (arith, none)) };
       further = omega arith;
       within = cut.0;
@@ -320,7 +320,7 @@ quoted_opens room s at b kind opener mode fault byte other e failed =
     quoted_by room s at b kind (Ok (Within opener mode)) byte other e
     ∙ ap (put (changed (in_text Parens kind b (drop (at + 1) s)).changes)) (fails_past room at opener mode (drop (at + 1) s) (λ skip next. quoted_rest room (drop (at + 1) s) skip (at + 1)) fault failed)
 
-closes_with : (p : Parts) (s : List ℕ) (at : ℕ) → joined p s (Text Parens) at (Ok (last_rest at)) ≡ Ok (index_whole (with_literal p s at).pieces at)
+closes_with : (p : Parts) (s : List ℕ) (at : ℕ) → joined_parts p s (Text Parens) at (Ok (last_rest at)) ≡ Ok (index_whole (with_literal p s at).pieces at)
 closes_with p s at = simp append-nil
 
 pub quoted_opening : (room : ℕ) (s : List ℕ) (at b : ℕ) (kind : Kind) (opener : Opener) (mode : Mode) (fault : ParseFault) → Byte s at b kind → kind ≢ Quote → (in_text Parens kind b (drop (at + 1) s)).step ≡ Ok (Within opener mode) →
@@ -331,21 +331,21 @@ quoted_opening room s at b kind opener mode fault byte other e (inr refused) = i
 -- the quote that ends the text
 quoted_closes : (room : ℕ) (s : List ℕ) (at b : ℕ) (kind : Kind) (p : Parts) → Byte s at b kind → kind ≡ Quote → quoted_whole room s p at ≡ Ok (index_whole (with_literal p s at).pieces at)
 quoted_closes room s at b kind p byte e =
-    ap (joined p s (Text Parens) at)
+    ap (joined_parts p s (Text Parens) at)
     (quoted_next room s at b kind byte ∙ quote_ends kind at (put (changed (in_text Parens kind b (drop (at + 1) s)).changes) (past_quoted room s at (in_text Parens kind b (drop (at + 1) s)).step)) e)
     ∙ closes_with p s at
 
-found_pieces : (s : List ℕ) (r : Read) (pieces : List Piece) (close : ℕ) → joined (no_parts 0) s (Text Parens) 0 r ≡ Ok (index_whole pieces close) → pieces_found r ≡ Ok (pieces, suc close)
+found_pieces : (s : List ℕ) (r : Read) (pieces : List Piece) (close : ℕ) → joined_parts (no_parts 0) s (Text Parens) 0 r ≡ Ok (index_whole pieces close) → pieces_found r ≡ Ok (pieces, suc close)
 found_pieces s (Ok rest) pieces close e =
     let text : List ℕ = ([] ++ slice_range s 0 0) ++ rest.bytes in
     let is : index_whole ([] ++ literal_before text rest.pieces) rest.close ≡ index_whole pieces close = (let h : Ok (index_whole ([] ++ literal_before text rest.pieces) rest.close) ≡ Ok (index_whole pieces close) = e in cc) in
     let own : literal_before rest.bytes rest.pieces ≡ pieces = ap (λ u. literal_before (u ++ rest.bytes) rest.pieces) (sym (slice_none s 0)) ∙ ap (λ w. w.pieces) is in
     ap (λ x. Ok (x, suc rest.close)) own ∙ ap (λ k. Ok (pieces, suc k)) (ap (λ w. w.close) is)
-found_pieces s (Err fault) pieces close e = absurd (let h : joined (no_parts 0) s (Text Parens) 0 (Err fault) ≡ Ok (index_whole pieces close) = e in cc)
+found_pieces s (Err fault) pieces close e = absurd (let h : joined_parts (no_parts 0) s (Text Parens) 0 (Err fault) ≡ Ok (index_whole pieces close) = e in cc)
 
-failed_pieces : (s : List ℕ) (r : Read) (fault : ParseFault) → joined (no_parts 0) s (Text Parens) 0 r ≡ Err fault → pieces_found r ≡ Err fault
-failed_pieces s (Ok rest) fault e = absurd (let h : joined (no_parts 0) s (Text Parens) 0 (Ok rest) ≡ Err fault = e in cc)
-failed_pieces s (Err other) fault e = let h : joined (no_parts 0) s (Text Parens) 0 (Err other) ≡ Err fault = e in let k : other ≡ fault = cc in ap (λ f. Err f) k
+failed_pieces : (s : List ℕ) (r : Read) (fault : ParseFault) → joined_parts (no_parts 0) s (Text Parens) 0 r ≡ Err fault → pieces_found r ≡ Err fault
+failed_pieces s (Ok rest) fault e = absurd (let h : joined_parts (no_parts 0) s (Text Parens) 0 (Ok rest) ≡ Err fault = e in cc)
+failed_pieces s (Err other) fault e = let h : joined_parts (no_parts 0) s (Text Parens) 0 (Err other) ≡ Err fault = e in let k : other ≡ fault = cc in ap (λ f. Err f) k
 
 pub quoted_found : (room : ℕ) (s : List ℕ) (at b : ℕ) (kind : Kind) (p : Parts) → Byte s at b kind → kind ≡ Quote → quoted_whole room s p at ≡ quoted_whole room s (no_parts 0) 0 →
     quoted_of room s ≡ Ok ((with_literal p s at).pieces, at + 1)
@@ -354,7 +354,7 @@ quoted_found room s at b kind p byte e same =
     found_pieces s (quoted_rest room s 0 0) (with_literal p s at).pieces at (sym same ∙ quoted_closes room s at b kind p byte e) ∙ ap (λ k. Ok ((with_literal p s at).pieces, k)) n
 
 pub quoted_failed : (room : ℕ) (s : List ℕ) (at : ℕ) (p : Parts) (fault : ParseFault) → quoted_rest room (drop at s) 0 at ≡ Err fault → quoted_whole room s p at ≡ quoted_whole room s (no_parts 0) 0 → quoted_of room s ≡ Err fault
-quoted_failed room s at p fault e same = failed_pieces s (quoted_rest room s 0 0) fault (sym same ∙ ap (joined p s (Text Parens) at) e)
+quoted_failed room s at p fault e same = failed_pieces s (quoted_rest room s 0 0) fault (sym same ∙ ap (joined_parts p s (Text Parens) at) e)
 
 drop_all : (xs : List ℕ) (n : ℕ) → length xs ≤ n → drop n xs ≡ []
 drop_all [] zero h = refl

@@ -4,7 +4,7 @@ use Rattle.std.specs.List.{slice_range}
 use Rattle.tcl_words.specs.Changes.{put}
 use Rattle.tcl_words.specs.Reading.{Level, rest_of, within}
 use Rattle.tcl_words.specs.Operands.{piece_found, opened_of, bracket_of, some_found, substitution, substitution_of}
-use Rattle.tcl_words.specs.Grammar.{TextEnding, leaves, fails, script, index, begins, begins_letter, begins_name, IsName, HasNoBrace, ArePieces, IsInnerOf}
+use Rattle.tcl_words.specs.Grammar.{TextEnding, leaves, fails, script, index, begins, begins_name_byte, begins_name, IsName, HasNoBrace, ArePieces, IsInnerOf}
 use Rattle.tcl_words.specs.Grammar.ArePieces.{variable as body_variable, braced_name as body_braced_name, element as body_element, unclosed_name as body_unclosed_name, faulty_index as body_faulty_index}
 use Rattle.tcl_words.specs.OperandGrammar.{IsBehindBracket, IsSubstitution, variable, braced_name, element, IsFaultySubstitution, unclosed_name, faulty_index, IsBehindDollar}
 use Rattle.tcl_words.specs.declared.kind.Mode.{Mode}
@@ -125,7 +125,7 @@ index_cut room name text is = let found = inner_cuts room index text in at found
         subst (λ t. Cut room (name ++ 40 ∷ t)) (sym e) (Ok (Some (Element name own, suc (suc (length name) + length own))), (rest, element name own is inner, count))
     at (fails fault) h cut = (Err fault, faulty_index name text is h)
 
-name_found : (room : ℕ) (name rest : List ℕ) → IsName name → begins_letter rest ≡ false → (t : Bool) → begins 40 rest ≡ t → Cut room (name ++ rest)
+name_found : (room : ℕ) (name rest : List ℕ) → IsName name → begins_name_byte rest ≡ false → (t : Bool) → begins 40 rest ≡ t → Cut room (name ++ rest)
 name_found room name [] is apart true here = cc
 name_found room name (b ∷ rest) is apart true here = subst (λ c. Cut room (name ++ c ∷ rest)) (sym (eqb-true b 40 here)) (index_cut room name rest is)
 name_found room name rest is apart false here = (Ok (Some (Variable name, length name)), (rest, variable name is apart here, sym (length-append name rest)))

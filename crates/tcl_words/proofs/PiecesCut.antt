@@ -2,7 +2,7 @@
 use Rattle.std.proofs.Common.{◌≡◌, ℕ, zero, suc, ◌≤◌, inl, inr, Bool, true, false, List, [], ◌∷◌, ◌++◌, length, take, drop, refl, sym, ap, subst, ◌∙◌, eqb-true, append_assoc, length-append, length-drop, take-append-drop, arith}
 use Rattle.tcl_text.specs.Backslash.{escape}
 use Rattle.tcl_words.specs.Classes.{class_of}
-use Rattle.tcl_words.specs.Grammar.{TextEnding, leaves, fails, Inner, script, index, stops, is_plain, unended_fault, with_bytes, begins, begins_letter, begins_name, IsName, ArePieces, IsInnerOf}
+use Rattle.tcl_words.specs.Grammar.{TextEnding, leaves, fails, Inner, script, index, ends_body, is_plain, unended_fault, with_bytes, begins, begins_name_byte, begins_name, IsName, ArePieces, IsInnerOf}
 use Rattle.tcl_words.specs.Grammar.ArePieces.{stop, unended, byte, backslash, dollar, variable, braced_name, unclosed_name, element, faulty_index, bracket, faulty_script}
 use Rattle.tcl_words.specs.declared.kind.Mode.{Mode}
 use Rattle.tcl_words.specs.declared.kind.Kind.{Kind}
@@ -29,7 +29,7 @@ abbrev pub InnerCuts : ℕ → Type 0
 InnerCuts room = (inner : Inner) (text : List ℕ) → (ending : TextEnding) × IsInnerOf room inner text ending × IsInnerCut inner text ending
 
 abbrev pub IsPiecesCut : Bool → Mode → List ℕ → TextEnding → Type 0
-IsPiecesCut inside mode text (leaves left) = (own : List ℕ) × (text ≡ own ++ left) × (stops inside mode left ≡ true)
+IsPiecesCut inside mode text (leaves left) = (own : List ℕ) × (text ≡ own ++ left) × (ends_body inside mode left ≡ true)
 IsPiecesCut inside mode text (fails fault) = Unit {0}
 
 pub record FoundPieces (room : ℕ) (inside : Bool) (mode : Mode) (text : List ℕ) : Type 0 where
@@ -77,7 +77,7 @@ index_found room inside mode n name text ih fits is (leaves left) h (own, rest, 
     (found_onto room inside mode (36 ∷ (name ++ 40 ∷ (own ++ 41 ∷ rest))) (36 ∷ (name ++ 40 ∷ (own ++ 41 ∷ []))) rest (ap (λ t. 36 ∷ t) cut)
     (λ pieces ending are. (Element name own ∷ pieces, element name own is inner are)) (ih rest short))
 
-paren_found : (room : ℕ) (inside : Bool) (mode : Mode) (n : ℕ) (name rest : List ℕ) → InnerCuts room → Finds room inside mode n → length rest ≤ n → IsName name → begins_letter rest ≡ false → FoundPieces room inside mode (36 ∷ (name ++ rest))
+paren_found : (room : ℕ) (inside : Bool) (mode : Mode) (n : ℕ) (name rest : List ℕ) → InnerCuts room → Finds room inside mode n → length rest ≤ n → IsName name → begins_name_byte rest ≡ false → FoundPieces room inside mode (36 ∷ (name ++ rest))
 paren_found room inside mode n name [] inner ih fits is h =
     found_onto room inside mode (36 ∷ (name ++ [])) (36 ∷ name) [] refl (λ pieces ending are. (Variable name ∷ pieces, variable name is h refl are)) (ih [] fits)
 paren_found room inside mode n name (b ∷ rest) inner ih fits is h = elim (decided (begins 40 (b ∷ rest))) [
@@ -114,18 +114,18 @@ dollar_found room inside mode n (b ∷ text) inner ih fits = elim (decided (begi
   | inr e ↦ name_found room inside mode n (b ∷ text) inner ih fits e
 ]
 
-backslash_found : (room : ℕ) (inside : Bool) (mode : Mode) (n : ℕ) (text : List ℕ) → Finds room inside mode n → length text ≤ n → stops inside mode (92 ∷ text) ≡ false → FoundPieces room inside mode (92 ∷ text)
+backslash_found : (room : ℕ) (inside : Bool) (mode : Mode) (n : ℕ) (text : List ℕ) → Finds room inside mode n → length text ≤ n → ends_body inside mode (92 ∷ text) ≡ false → FoundPieces room inside mode (92 ∷ text)
 backslash_found room inside mode n text ih fits h =
     let k : ℕ = (escape text).length in
     let short : length (drop k text) ≤ n = omega (arith, length-drop k text) in
     found_onto room inside mode (92 ∷ text) (92 ∷ take k text) (drop k text) (ap (λ t. 92 ∷ t) (sym (take-append-drop k text)))
     (λ pieces ending are. (with_bytes (escape text).meaning pieces, backslash h are)) (ih (drop k text) short)
 
-class_found : (room : ℕ) (inside : Bool) (mode : Mode) (n b : ℕ) (text : List ℕ) (kind : Kind) → class_of b ≡ kind → InnerCuts room → Finds room inside mode n → length text ≤ n → stops inside mode (b ∷ text) ≡ false →
+class_found : (room : ℕ) (inside : Bool) (mode : Mode) (n b : ℕ) (text : List ℕ) (kind : Kind) → class_of b ≡ kind → InnerCuts room → Finds room inside mode n → length text ≤ n → ends_body inside mode (b ∷ text) ≡ false →
     (is_plain kind ≡ true → FoundPieces room inside mode (b ∷ text)) → FoundPieces room inside mode (b ∷ text)
 class_found room inside mode n b text Backslash e inner ih fits h plain =
     let same : b ≡ 92 = byte_is b Backslash e in
-    subst (λ c. FoundPieces room inside mode (c ∷ text)) (sym same) (backslash_found room inside mode n text ih fits (ap (λ c. stops inside mode (c ∷ text)) (sym same) ∙ h))
+    subst (λ c. FoundPieces room inside mode (c ∷ text)) (sym same) (backslash_found room inside mode n text ih fits (ap (λ c. ends_body inside mode (c ∷ text)) (sym same) ∙ h))
 class_found room inside mode n b text Dollar e inner ih fits h plain =
     let same : b ≡ 36 = byte_is b Dollar e in
     subst (λ c. FoundPieces room inside mode (c ∷ text)) (sym same) (dollar_found room inside mode n text inner ih fits)
@@ -146,11 +146,11 @@ class_found room inside mode n b text CloseBrace e inner ih fits h plain = plain
 class_found room inside mode n b text CloseParen e inner ih fits h plain = plain refl
 class_found room inside mode n b text Other e inner ih fits h plain = plain refl
 
-stopped : (room : ℕ) (inside : Bool) (mode : Mode) (text : List ℕ) → stops inside mode text ≡ true → FoundPieces room inside mode text
+stopped : (room : ℕ) (inside : Bool) (mode : Mode) (text : List ℕ) → ends_body inside mode text ≡ true → FoundPieces room inside mode text
 stopped room inside mode text e = record { pieces = []; ending = leaves text; are = stop e; cut = ([], refl, e) }
 
 finds : (room : ℕ) (inside : Bool) (mode : Mode) → InnerCuts room → (n : ℕ) → Finds room inside mode n
-finds room inside mode inner n [] fits = elim (decided (stops inside mode [])) [
+finds room inside mode inner n [] fits = elim (decided (ends_body inside mode [])) [
   | inl e ↦ stopped room inside mode [] e
   | inr e ↦ faulty_found room inside mode [] (unended_fault mode) (unended e)
 ]
@@ -158,7 +158,7 @@ finds room inside mode inner zero (b ∷ text) fits = absurd (omega arith)
 finds room inside mode inner (suc n) (b ∷ text) fits =
     let short : length text ≤ n = omega arith in
     let ih : Finds room inside mode n = finds room inside mode inner n in
-    elim (decided (stops inside mode (b ∷ text))) [
+    elim (decided (ends_body inside mode (b ∷ text))) [
       | inl e ↦ stopped room inside mode (b ∷ text) e
       | inr e ↦ class_found room inside mode n b text (class_of b) refl inner ih short e
           (λ p. found_onto room inside mode (b ∷ text) (b ∷ []) text refl (λ pieces ending are. (with_bytes (b ∷ []) pieces, byte e p are)) (ih text short))

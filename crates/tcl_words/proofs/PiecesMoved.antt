@@ -3,7 +3,7 @@ use Rattle.std.proofs.Common.{◌≡◌, ℕ, zero, suc, ◌<◌, ◌≤◌, tru
 use Rattle.tcl_text.specs.Backslash.{escape}
 use Rattle.tcl_text.proofs.BackslashLemmas.{escape_within}
 use Rattle.tcl_words.specs.Classes.{class_of, begins_newline}
-use Rattle.tcl_words.specs.Grammar.{TextEnding, leaves, fails, stops, is_plain, with_bytes, begins, begins_letter, begins_name, begins_space, class_ends, ArePieces, IsInnerOf}
+use Rattle.tcl_words.specs.Grammar.{TextEnding, leaves, fails, ends_body, is_plain, with_bytes, begins, begins_name_byte, begins_name, begins_space, class_ends, ArePieces, IsInnerOf}
 use Rattle.tcl_words.specs.Grammar.ArePieces.{stop, unended, byte, backslash, dollar, variable, braced_name, unclosed_name, element, faulty_index, bracket, faulty_script}
 use Rattle.tcl_words.specs.declared.kind.Mode.{Mode}
 use Rattle.tcl_words.specs.declared.kind.Mode.TheVariants.{Bare, Quotes, Parens}
@@ -23,7 +23,7 @@ KeepsBlanks Parens left = ⊥
 
 -- this text ends a body as that one does
 pub record Tail (mode : Mode) (left other : List ℕ) : Type 0 where
-  pub stops_too : stops false mode other ≡ true
+  pub stops_too : ends_body false mode other ≡ true
   pub none : left ≡ [] → other ≡ []
   pub inert : Inert other
   pub blanks : KeepsBlanks mode other
@@ -54,7 +54,7 @@ plain_open CloseParen s t h = refl
 plain_open Continuation s t h = refl
 plain_open Other s t h = refl
 
-plain_stops : (mode : Mode) (b : ℕ) (s t : List ℕ) → is_plain (class_of b) ≡ true → stops false mode (b ∷ s) ≡ false → stops false mode (b ∷ t) ≡ false
+plain_stops : (mode : Mode) (b : ℕ) (s t : List ℕ) → is_plain (class_of b) ≡ true → ends_body false mode (b ∷ s) ≡ false → ends_body false mode (b ∷ t) ≡ false
 plain_stops Bare b s t h k = plain_open (class_of b) t s h ∙ k
 plain_stops Quotes b s t h k = k
 plain_stops Parens b s t h k = k
@@ -74,13 +74,13 @@ moved_on mode front text whole pieces more (fails fault) e make moved = tt
 
 -- The text behind a backslash.
 
-newline_tail : (mode : Mode) (x : ℕ) (xs left : List ℕ) → stops false mode (92 ∷ x ∷ xs) ≡ false → KeepsBlanks mode left → x ≡ 10 → begins_space left ≡ false
+newline_tail : (mode : Mode) (x : ℕ) (xs left : List ℕ) → ends_body false mode (92 ∷ x ∷ xs) ≡ false → KeepsBlanks mode left → x ≡ 10 → begins_space left ≡ false
 unfolding class_of
 newline_tail Bare x xs left h k e = let f : true ≡ false = ap (λ c. begins_newline (c ∷ xs)) (sym e) ∙ h in cc
 newline_tail Quotes x xs left h k e = k
 newline_tail Parens x xs left h k e = absurd k
 
-same_stops : (mode : Mode) (x : ℕ) (xs ys : List ℕ) → stops false mode (92 ∷ x ∷ xs) ≡ false → stops false mode (92 ∷ x ∷ ys) ≡ false
+same_stops : (mode : Mode) (x : ℕ) (xs ys : List ℕ) → ends_body false mode (92 ∷ x ∷ xs) ≡ false → ends_body false mode (92 ∷ x ∷ ys) ≡ false
 unfolding class_of
 same_stops Bare x xs ys h = h
 same_stops Quotes x xs ys h = h
@@ -92,7 +92,7 @@ record SameEscape (mode : Mode) (text own left other : List ℕ) : Type 0 where
   is : whole ≡ (take (escape text).length text ++ own) ++ other
   same : escape whole ≡ escape text
   rest : drop (escape text).length whole ≡ own ++ other
-  open_too : stops false mode (92 ∷ whole) ≡ false
+  open_too : ends_body false mode (92 ∷ whole) ≡ false
 
 taken_none : (n : ℕ) (x : ℕ) (xs : List ℕ) → take n (x ∷ xs) ≡ [] → 0 < n → ⊥
 taken_none zero x xs e h = omega arith
@@ -116,7 +116,7 @@ empty_escape mode (x ∷ xs) own left other e f tail = absurd (taken_none (escap
     front_none [] b h = refl
     front_none (y ∷ a) b h = cc
 
-escape_moved : (mode : Mode) (text own left other front : List ℕ) → front ≡ take (escape text).length text ++ own → drop (escape text).length text ≡ own ++ left → stops false mode (92 ∷ text) ≡ false →
+escape_moved : (mode : Mode) (text own left other front : List ℕ) → front ≡ take (escape text).length text ++ own → drop (escape text).length text ≡ own ++ left → ends_body false mode (92 ∷ text) ≡ false →
     Tail mode left left → Tail mode left other → SameEscape mode text own left other
 escape_moved mode text own left other [] e f h self tail =
     let none = empty_escape mode text own left other (sym e) f tail in
@@ -126,12 +126,12 @@ escape_moved mode text own left other [] e f h self tail =
       is = sym (ap (λ t. t ++ other) (sym e) ∙ end);
       same = ap escape (sym none.0);
       rest = drop_none (escape text).length [] refl ∙ sym (ap (λ t. t ++ other) none.1 ∙ end);
-      open_too = ap (λ t. stops false mode (92 ∷ t)) (sym none.0) ∙ h;
+      open_too = ap (λ t. ends_body false mode (92 ∷ t)) (sym none.0) ∙ h;
     }
 escape_moved mode text own left other (x ∷ xs) e f h self tail =
     let n : ℕ = (escape text).length in
     let split : text ≡ x ∷ (xs ++ left) = sym (take-append-drop n text) ∙ ap (λ t. take n text ++ t) f ∙ sym (append_assoc (take n text) own left) ∙ ap (λ t. t ++ left) (sym e) in
-    let open_word : stops false mode (92 ∷ x ∷ (xs ++ left)) ≡ false = ap (λ t. stops false mode (92 ∷ t)) (sym split) ∙ h in
+    let open_word : ends_body false mode (92 ∷ x ∷ (xs ++ left)) ≡ false = ap (λ t. ends_body false mode (92 ∷ t)) (sym split) ∙ h in
     let here : escape text ≡ escape (x ∷ xs) = ap escape split ∙ escape_inert x xs left self.inert.digit (newline_tail mode x (xs ++ left) left open_word self.blanks) in
     let there : escape (x ∷ (xs ++ other)) ≡ escape (x ∷ xs) = escape_inert x xs other tail.inert.digit (newline_tail mode x (xs ++ left) other open_word tail.blanks) in
     let fits : n ≤ length text = escape_within text in
@@ -144,7 +144,7 @@ escape_moved mode text own left other (x ∷ xs) e f h self tail =
       open_too = same_stops mode x (xs ++ left) (xs ++ other) open_word;
     }
 
-backslash_again : (mode : Mode) (text own left other : List ℕ) (pieces : List Piece) → drop (escape text).length text ≡ own ++ left → stops false mode (92 ∷ text) ≡ false → Tail mode left left → Tail mode left other →
+backslash_again : (mode : Mode) (text own left other : List ℕ) (pieces : List Piece) → drop (escape text).length text ≡ own ++ left → ends_body false mode (92 ∷ text) ≡ false → Tail mode left left → Tail mode left other →
     ArePieces (IsInnerOf 200) false mode (own ++ other) pieces (leaves other) →
     ArePieces (IsInnerOf 200) false mode (((92 ∷ take (escape text).length text) ++ own) ++ other) (with_bytes (escape text).meaning pieces) (leaves other)
 backslash_again mode text own left other pieces f h self tail are =
@@ -176,7 +176,7 @@ pieces_moved mode (dollar {text} {pieces} {ending} h k more) =
 pieces_moved mode (variable name {text} {pieces} {ending} is h k more) =
     moved_on mode (36 ∷ name) text (36 ∷ (name ++ text)) pieces (Variable name ∷ pieces) ending refl
     (λ left own e self other tail are. regrouped mode 36 name own other (Variable name ∷ pieces)
-    (variable name is (letter_inert own left other (ap begins_letter (sym e) ∙ h) tail.inert) (byte_inert 40 own left other (ap (begins 40) (sym e) ∙ k) tail.inert.paren) are)) (pieces_moved mode more)
+    (variable name is (letter_inert own left other (ap begins_name_byte (sym e) ∙ h) tail.inert) (byte_inert 40 own left other (ap (begins 40) (sym e) ∙ k) tail.inert.paren) are)) (pieces_moved mode more)
 pieces_moved mode (braced_name name {text} {pieces} {ending} h more) =
     moved_on mode (36 ∷ 123 ∷ (name ++ 125 ∷ [])) text (36 ∷ 123 ∷ (name ++ 125 ∷ text)) pieces (Variable name ∷ pieces) ending (ap (λ t. 36 ∷ 123 ∷ t) (sym (append_assoc name (125 ∷ []) text)))
     (λ left own e self other tail are. regrouped mode 36 (123 ∷ (name ++ 125 ∷ [])) own other (Variable name ∷ pieces)

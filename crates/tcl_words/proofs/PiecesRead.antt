@@ -4,7 +4,7 @@ use Rattle.std.proofs.Common.{length-drop, take, ◌≡◌, ℕ, suc, ◌+◌, �
 use Rattle.tcl_text.specs.Backslash.{escape}
 use Rattle.tcl_text.proofs.BackslashLemmas.{escape_within}
 use Rattle.tcl_words.specs.Kinds.{dollar_of}
-use Rattle.tcl_words.specs.Changes.{Rest, Read, put, literal_before, piece_before, changed}
+use Rattle.tcl_words.specs.Changes.{TextRest, Read, put, literal_before, piece_before, changed}
 use Rattle.tcl_words.specs.Changes.Change.{bytes as put_bytes}
 use Rattle.tcl_words.specs.Moves.{on, at_dollar}
 use Rattle.tcl_words.specs.Reading.{Level, rest_of, past, within}
@@ -33,7 +33,7 @@ NoLiteral (Variable name ∷ pieces) = Unit {0}
 NoLiteral (Element name key ∷ pieces) = Unit {0}
 NoLiteral (Bracket own ∷ pieces) = Unit {0}
 
-abbrev pub with_text : List ℕ → List Piece → Rest → Rest
+abbrev pub with_text : List ℕ → List Piece → TextRest → TextRest
 with_text bytes after rest = record rest { bytes = bytes; pieces = after }
 
 -- these pieces are read before what the text that is left gives, where `go` reads that from its position

@@ -7,10 +7,10 @@ use Rattle.tcl_words.specs.Kinds.{class_means, dollar_of}
 use Rattle.tcl_words.specs.Classes.{class_of, begins_newline, begins_expansion}
 use Rattle.tcl_words.specs.Changes.{Read, put, last_rest, literal_before, piece_before, changed}
 use Rattle.tcl_words.specs.Changes.Change.{bytes as put_bytes}
-use Rattle.tcl_words.specs.Moves.{Move, in_text, at_dollar}
+use Rattle.tcl_words.specs.Moves.{ByteMove, in_text, at_dollar}
 use Rattle.tcl_words.specs.Reading.{rest_of, past, within}
 use Rattle.tcl_words.specs.Operands.{at_quote, quoted_rest, pieces_found, quoted_of}
-use Rattle.tcl_words.specs.Grammar.{TextEnding, leaves, fails, with_bytes, stops, is_plain, begins, ArePieces, IsInnerOf}
+use Rattle.tcl_words.specs.Grammar.{TextEnding, leaves, fails, with_bytes, ends_body, is_plain, begins, ArePieces, IsInnerOf}
 use Rattle.tcl_words.specs.Grammar.ArePieces.{stop, unended, byte, backslash, dollar, variable, braced_name, unclosed_name, element, faulty_index, bracket, faulty_script}
 use Rattle.tcl_words.specs.OperandGrammar.{IsBehindQuote}
 use Rattle.tcl_words.specs.declared.kind.Mode.TheVariants.{Quotes, Parens}
@@ -34,7 +34,7 @@ abbrev quotes_read : ℕ → List ℕ → ℕ → Read
 quotes_read room text at = quoted_rest room text 0 at
 
 -- what the text behind a byte gives with this move
-abbrev after_byte : Move → ℕ → ℕ → List ℕ → Read
+abbrev after_byte : ByteMove → ℕ → ℕ → List ℕ → Read
 after_byte move room at text =
     put (changed move.changes)
     (past move.step room at text (λ skip next. quoted_rest room text skip (at + 1)) (λ room skip next. rest_of text (within room) skip next 0))
@@ -87,11 +87,11 @@ unfolding class_of
 end_step room text at = refl
 
 -- where a quote stops the pieces
-quote_left : (left : List ℕ) → stops true Quotes left ≡ true → (rest : List ℕ) × (left ≡ 34 ∷ rest)
+quote_left : (left : List ℕ) → ends_body true Quotes left ≡ true → (rest : List ℕ) × (left ≡ 34 ∷ rest)
 quote_left [] h = cc
 quote_left (b ∷ rest) h = (rest, ap (λ c. c ∷ rest) (eqb-true b 34 h))
 
-stop_step : (room : ℕ) (text : List ℕ) (at : ℕ) → stops true Quotes text ≡ true → quotes_read room text at ≡ put (with_text [] []) (quotes_read room text at)
+stop_step : (room : ℕ) (text : List ℕ) (at : ℕ) → ends_body true Quotes text ≡ true → quotes_read room text at ≡ put (with_text [] []) (quotes_read room text at)
 stop_step room text at h =
     let left = quote_left text h in
     let read : quotes_read room text at ≡ Ok (last_rest at) = ap (λ t. quotes_read room t at) left.1 ∙ end_step room left.0 at in

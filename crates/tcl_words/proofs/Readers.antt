@@ -8,9 +8,9 @@ use Rattle.tcl_words.specs.Classes.{class_of}
 use Rattle.tcl_words.specs.Changes.{Read}
 use Rattle.tcl_words.specs.declared.script.Command.{Command}
 use Rattle.tcl_words.specs.Moves.{move_at}
-use Rattle.tcl_words.specs.Reading.{Level, rest_of, at_end, within, first_place, first_skip, opened_piece, commands_in, index_pieces_of, outermost}
-use Rattle.tcl_words.specs.Parts.{Parts, joined, no_parts, with_piece, script_whole, is_index, ended, Does, IsFine, IsOpenerCut, name_before}
-use Rattle.tcl_words.specs.Chain.{outset, level_of, own, opened, waits_for, IsWaiting, IsChain, IsReading, IsOpening, IsEnding, IsParse}
+use Rattle.tcl_words.specs.Reading.{Level, rest_of, read_at_end, within, opened_place, first_skip, opened_piece, commands_in, index_pieces_of, outermost}
+use Rattle.tcl_words.specs.Parts.{Parts, joined_parts, no_parts, with_piece, script_whole, is_index, ended, DoesMove, IsFine, IsOpenerCut, name_before}
+use Rattle.tcl_words.specs.Chain.{outset, origin_level, own, opened, waits_for, IsWaiting, IsChain, IsReading, IsOpening, IsClosing, IsParse}
 use Rattle.tcl_words.specs.declared.kind.BytePlace.{BytePlace}
 use Rattle.tcl_words.specs.declared.kind.BytePlace.TheVariants.{Start, Comment, Between, Expanded, Text, PastQuotes, InBraces, PastBraces}
 use Rattle.tcl_words.specs.declared.kind.Mode.{Mode}
@@ -45,11 +45,11 @@ moved_cut s i j e cut = subst (IsCharBoundary s) e cut
 -- ── a byte further ──
 
 pub read_on : {first : Origin} (s : List ℕ) (ws : List Waiting) (o : Origin) (p new : Parts) (place next : BytePlace) (n skip : ℕ) → IsReading first s ws o p place n → n < length (drop o.base s) →
-    Does p new (drop o.base s) n place (move_at (drop o.base s) n o.inside place) (Ok (On skip next)) → IsReading first s ws o new next (n + 1 + skip) × (o.base + n < o.base + (n + 1 + skip))
+    DoesMove p new (drop o.base s) n place (move_at (drop o.base s) n o.inside place) (Ok (On skip next)) → IsReading first s ws o new next (n + 1 + skip) × (o.base + n < o.base + (n + 1 + skip))
 read_on s ws o p new place next n skip r here does = (
   record {
     chain = r.chain;
-    reads = on_read p new (drop o.base s) (level_of o) place next n skip (own s o) here r.reads does;
+    reads = on_read p new (drop o.base s) (origin_level o) place next n skip (own s o) here r.reads does;
     fine = does.2;
     base = r.base;
     within = (let k : n + 1 + skip ≤ length (drop o.base s) = does.3 in let b : o.base ≤ length s = r.base.0 in omega (arith, k, b, length-drop o.base s));
@@ -60,8 +60,8 @@ read_on s ws o p new place next n skip r here does = (
 )
 
 pub read_fault : {first : Origin} (s : List ℕ) (ws : List Waiting) (o : Origin) (p new : Parts) (place : BytePlace) (n : ℕ) (fault : ParseFault) → IsReading first s ws o p place n → n < length (drop o.base s) →
-    Does p new (drop o.base s) n place (move_at (drop o.base s) n o.inside place) (Err fault) → (own s first ≡ Err fault) ⊎ (fault ≡ NoMemory)
-read_fault {first} s ws o p new place n fault r here (inl e) = inl (chain_fault s first o ws fault r.chain (fault_read p (drop o.base s) (level_of o) place n (own s o) fault here r.reads e))
+    DoesMove p new (drop o.base s) n place (move_at (drop o.base s) n o.inside place) (Err fault) → (own s first ≡ Err fault) ⊎ (fault ≡ NoMemory)
+read_fault {first} s ws o p new place n fault r here (inl e) = inl (chain_fault s first o ws fault r.chain (fault_read p (drop o.base s) (origin_level o) place n (own s o) fault here r.reads e))
 read_fault {first} s ws o p new place n fault r here (inr e) = inr e
 
 opener_cut : (s : List ℕ) (base at : ℕ) (opener : Opener) → base ≤ length s → IsOpenerCut (drop base s) at opener → IsOpenerCut s (base + at) opener
@@ -76,7 +76,7 @@ opener_cut s base at opener within cut =
     }
 
 pub read_opening : {first : Origin} (s : List ℕ) (ws : List Waiting) (o : Origin) (p new : Parts) (place : BytePlace) (n : ℕ) (opener : Opener) (mode : Mode) → IsReading first s ws o p place n → n < length (drop o.base s) →
-    Does p new (drop o.base s) n place (move_at (drop o.base s) n o.inside place) (Ok (Within opener mode)) → IsOpening first s ws o new n opener mode
+    DoesMove p new (drop o.base s) n place (move_at (drop o.base s) n o.inside place) (Ok (Within opener mode)) → IsOpening first s ws o new n opener mode
 read_opening s ws o p new place n opener mode r here does = record {
   chain = r.chain;
   waits = λ some. record {
@@ -87,7 +87,7 @@ read_opening s ws o p new place n opener mode r here does = record {
     cut = opener_cut s o.base n opener r.base.0 does.3;
     room = r.room;
   };
-  full = λ none. full_read p (drop o.base s) (level_of o) place n opener mode (own s o) here r.reads does.0 none;
+  full = λ none. full_read p (drop o.base s) (origin_level o) place n opener mode (own s o) here r.reads does.0 none;
   room = r.room;
   cut = opener_cut s o.base n opener r.base.0 does.3;
 }
@@ -97,13 +97,13 @@ inside_ends true s place n e = refl
 inside_ends false s place n e = absurd (none_outside (class_of (slice_index s n)) place (slice_index s n) n (drop (n + 1) s) e)
 
 pub read_ending : {first : Origin} (s : List ℕ) (ws : List Waiting) (o : Origin) (p new : Parts) (place : BytePlace) (n : ℕ) → IsReading first s ws o p place n → n < length (drop o.base s) →
-    Does p new (drop o.base s) n place (move_at (drop o.base s) n o.inside place) (Ok Ends) → IsEnding first s ws o new place n
+    DoesMove p new (drop o.base s) n place (move_at (drop o.base s) n o.inside place) (Ok Ends) → IsClosing first s ws o new place n
 read_ending s ws o p new place n r here does =
     let e : o.base + (n + 1) ≡ o.base + n + 1 = omega arith in
     record {
       chain = r.chain;
       inside = inside_ends o.inside (drop o.base s) place n does.0;
-      ends = end_read p new (drop o.base s) (level_of o) place n (own s o) here r.reads does;
+      ends = end_read p new (drop o.base s) (origin_level o) place n (own s o) here r.reads does;
       index = r.index;
       here = from_base s o.base n r.base.0 does.2;
       past = moved_cut s _ _ e (from_base s o.base (n + 1) r.base.0 does.3);
@@ -111,12 +111,12 @@ read_ending s ws o p new place n r here does =
 
 -- ── into what opens ──
 
-pub first_fine : (s : List ℕ) (opener : Opener) → IsCharBoundary s (first_skip opener) → IsFine (no_parts (first_skip opener)) s (first_place opener) (first_skip opener)
+pub first_fine : (s : List ℕ) (opener : Opener) → IsCharBoundary s (first_skip opener) → IsFine (no_parts (first_skip opener)) s (opened_place opener) (first_skip opener)
 first_fine s Bracket cut = cut
 first_fine s (Index n) cut = record { before = omega arith; boundary = cut; short = omega arith }
 
 pub opening_reads : {first : Origin} (s : List ℕ) (ws : List Waiting) (o : Origin) (p : Parts) (n : ℕ) (opener : Opener) (mode : Mode) → IsOpening first s ws o p n opener mode → 0 < o.room →
-    IsReading first s (ws ++ waits_for o p n opener mode ∷ []) (opened o n opener) (no_parts (first_skip opener)) (first_place opener) (first_skip opener) × (o.base + n < o.base + (n + 1) + first_skip opener)
+    IsReading first s (ws ++ waits_for o p n opener mode ∷ []) (opened o n opener) (no_parts (first_skip opener)) (opened_place opener) (first_skip opener) × (o.base + n < o.base + (n + 1) + first_skip opener)
 opening_reads {first} s ws o p n opener mode r some =
     let e : o.base + n + 1 ≡ o.base + (n + 1) = omega arith in
     let f : o.base + n + 1 + first_skip opener ≡ o.base + (n + 1) + first_skip opener = omega arith in
@@ -124,12 +124,12 @@ opening_reads {first} s ws o p n opener mode r some =
     let begins : IsCharBoundary s (o.base + (n + 1) + first_skip opener) = moved_cut s _ _ f r.cut.first in
     let cut : IsCharBoundary (drop (o.base + (n + 1)) s) (first_skip opener) = to_base s (o.base + (n + 1)) (first_skip opener) base.0 begins in
     let k : 0 + first_skip opener ≡ first_skip opener = omega arith in
-    let level : Level = level_of (opened o n opener) in
-    let rest : rest_of (drop (o.base + (n + 1)) s) level (first_skip opener) (first_place opener) 0 ≡ rest_of (drop (first_skip opener) (drop (o.base + (n + 1)) s)) level 0 (first_place opener) (first_skip opener) =
-    rest_skip (drop (o.base + (n + 1)) s) level (first_skip opener) (first_place opener) 0 cut.0 ∙ ap (rest_of (drop (first_skip opener) (drop (o.base + (n + 1)) s)) level 0 (first_place opener)) k in (
+    let level : Level = origin_level (opened o n opener) in
+    let rest : rest_of (drop (o.base + (n + 1)) s) level (first_skip opener) (opened_place opener) 0 ≡ rest_of (drop (first_skip opener) (drop (o.base + (n + 1)) s)) level 0 (opened_place opener) (first_skip opener) =
+    rest_skip (drop (o.base + (n + 1)) s) level (first_skip opener) (opened_place opener) 0 cut.0 ∙ ap (rest_of (drop (first_skip opener) (drop (o.base + (n + 1)) s)) level 0 (opened_place opener)) k in (
       record {
         chain = chain_push s first o ws (waits_for o p n opener mode) r.chain refl (r.waits some);
-        reads = ap (joined (no_parts (first_skip opener)) (drop (o.base + (n + 1)) s) (first_place opener) (first_skip opener)) (sym rest);
+        reads = ap (joined_parts (no_parts (first_skip opener)) (drop (o.base + (n + 1)) s) (opened_place opener) (first_skip opener)) (sym rest);
         fine = first_fine (drop (o.base + (n + 1)) s) opener cut;
         base = base;
         within = begins.0;
@@ -177,7 +177,7 @@ ended_index PastQuotes p n e = absurd (let h : false ≡ true = e in cc)
 ended_index (InBraces depth) p n e = absurd (let h : false ≡ true = e in cc)
 ended_index PastBraces p n e = absurd (let h : false ≡ true = e in cc)
 
-pub parse_found : (opener : Opener) (s : List ℕ) (o : Origin) (at n : ℕ) (place : BytePlace) (p : Parts) → IsUtf8 s → length s ≤ 65536 → o.room ≤ 200 → own s (opened o at opener) ≡ Ok (ended place p n) → is_index place ≡ is_index (first_place opener) →
+pub parse_found : (opener : Opener) (s : List ℕ) (o : Origin) (at n : ℕ) (place : BytePlace) (p : Parts) → IsUtf8 s → length s ≤ 65536 → o.room ≤ 200 → own s (opened o at opener) ≡ Ok (ended place p n) → is_index place ≡ is_index (opened_place opener) →
     IsCharBoundary s (o.base + (at + 1)) → IsCharBoundary s (o.base + (at + 1) + n) → IsParse opener (drop (o.base + (at + 1)) s) n p × (suc n ≤ length (drop (o.base + (at + 1)) s))
 parse_found Bracket s o at n place p utf8 short room e index base here =
     let text : List ℕ = drop (o.base + (at + 1)) s in
@@ -207,12 +207,12 @@ pub record Popped (first : Origin) (s : List ℕ) (ws : List Waiting) (w : Waiti
   pub ends : IsCharBoundary s (w.origin.base + w.at + 1 + n)
   pub past : IsCharBoundary s (w.origin.base + w.at + 1 + n + 1)
 
-pub popped : {first : Origin} (s : List ℕ) (ws : List Waiting) (w : Waiting) (o : Origin) (p : Parts) (place : BytePlace) (n : ℕ) → IsUtf8 s → length s ≤ 65536 → IsEnding first s (ws ++ w ∷ []) o p place n → Popped first s ws w p n
+pub popped : {first : Origin} (s : List ℕ) (ws : List Waiting) (w : Waiting) (o : Origin) (p : Parts) (place : BytePlace) (n : ℕ) → IsUtf8 s → length s ≤ 65536 → IsClosing first s (ws ++ w ∷ []) o p place n → Popped first s ws w p n
 popped {first} s ws w o p place n utf8 short r =
     let q : IsChain s first ws w.origin × IsWaiting s w × (opened w.origin w.at w.opener ≡ o) = chain_pop s first o ws w r.chain in
     let waiting : IsWaiting s w = q.1 in
     let ends : own s (opened w.origin w.at w.opener) ≡ Ok (ended place p n) = ap (own s) q.2 ∙ r.ends in
-    let index : is_index place ≡ is_index (first_place w.opener) = r.index ∙ ap (λ x. is_index x.place) (sym q.2) in
+    let index : is_index place ≡ is_index (opened_place w.opener) = r.index ∙ ap (λ x. is_index x.place) (sym q.2) in
     let base : w.origin.base + (w.at + 1) ≡ o.base = ap (λ x. x.base) q.2 in
     let e : w.origin.base + w.at + 1 ≡ w.origin.base + (w.at + 1) = omega arith in
     let behind : IsCharBoundary s (w.origin.base + (w.at + 1)) = moved_cut s _ _ e waiting.cut.behind in
@@ -229,7 +229,7 @@ popped {first} s ws w o p place n utf8 short r =
       past = moved_cut s _ _ k r.past;
     }
 
-pub ending_reads : {first : Origin} (s : List ℕ) (ws : List Waiting) (w : Waiting) (o : Origin) (p : Parts) (place : BytePlace) (n : ℕ) → IsUtf8 s → length s ≤ 65536 → IsEnding first s (ws ++ w ∷ []) o p place n →
+pub ending_reads : {first : Origin} (s : List ℕ) (ws : List Waiting) (w : Waiting) (o : Origin) (p : Parts) (place : BytePlace) (n : ℕ) → IsUtf8 s → length s ≤ 65536 → IsClosing first s (ws ++ w ∷ []) o p place n →
     IsReading first s ws w.origin (with_piece w.parts (opened_piece w.opener (drop (w.origin.base + w.at + 1) s) n) (w.at + 1 + n + 1)) (Text w.mode) (w.at + 1 + n + 1) × (o.base + n < w.origin.base + (w.at + 1 + n + 1))
 ending_reads {first} s ws w o p place n utf8 short r =
     let q : IsChain s first ws w.origin × IsWaiting s w × (opened w.origin w.at w.opener ≡ o) = chain_pop s first o ws w r.chain in
@@ -248,8 +248,8 @@ ending_reads {first} s ws w o p place n utf8 short r =
       record {
         chain = q.0;
         reads =
-            ap (λ x. joined (with_piece w.parts x (w.at + 1 + n + 1)) (drop w.origin.base s) (Text w.mode) (w.at + 1 + n + 1) (rest_of (drop (w.at + 1 + n + 1) (drop w.origin.base s)) (level_of w.origin) 0 (Text w.mode) (w.at + 1 + n + 1))) (sym piece)
-            ∙ ap (λ x. joined (with_piece w.parts (opened_piece w.opener (drop (w.at + 1) (drop w.origin.base s)) (ended place p n).close) x) (drop w.origin.base s) (Text w.mode) x (rest_of (drop x (drop w.origin.base s)) (level_of w.origin) 0 (Text w.mode) x)) (sym end)
+            ap (λ x. joined_parts (with_piece w.parts x (w.at + 1 + n + 1)) (drop w.origin.base s) (Text w.mode) (w.at + 1 + n + 1) (rest_of (drop (w.at + 1 + n + 1) (drop w.origin.base s)) (origin_level w.origin) 0 (Text w.mode) (w.at + 1 + n + 1))) (sym piece)
+            ∙ ap (λ x. joined_parts (with_piece w.parts (opened_piece w.opener (drop (w.at + 1) (drop w.origin.base s)) (ended place p n).close) x) (drop w.origin.base s) (Text w.mode) x (rest_of (drop x (drop w.origin.base s)) (origin_level w.origin) 0 (Text w.mode) x)) (sym end)
             ∙ resume_read s w (ended place p n) waiting ends room;
         fine = record { before = omega arith; boundary = to_base s w.origin.base (w.at + 1 + n + 1) waiting.base.0 cut; short = (let none : length w.parts.literal ≡ 0 = ap length waiting.literal in omega (arith, none)) };
         base = waiting.base;
@@ -266,17 +266,17 @@ pub opening_as : {first : Origin} (s : List ℕ) (ws : List Waiting) (o : Origin
     ws' ≡ ws ++ waits_for o q n opener mode ∷ [] → q ≡ p → o' ≡ opened o n opener → p' ≡ no_parts o'.skip → IsReading first s ws' o' p' o'.place o'.skip × (o.base + n < o'.base + o'.skip)
 opening_as s ws o p n opener mode ws' o' p' q r some ew eq eo ep = rw (ep, eo, ew, eq) (opening_reads s ws o p n opener mode r some)
 
-pub popped_as : {first : Origin} (s : List ℕ) (ws ws' : List Waiting) (w : Waiting) (o : Origin) (p : Parts) (place : BytePlace) (n : ℕ) → ws ≡ ws' ++ w ∷ [] → IsUtf8 s → length s ≤ 65536 → IsEnding first s ws o p place n → Popped first s ws' w p n
-popped_as {first} s ws ws' w o p place n e utf8 short r = popped s ws' w o p place n utf8 short (subst (λ x. IsEnding first s x o p place n) e r)
+pub popped_as : {first : Origin} (s : List ℕ) (ws ws' : List Waiting) (w : Waiting) (o : Origin) (p : Parts) (place : BytePlace) (n : ℕ) → ws ≡ ws' ++ w ∷ [] → IsUtf8 s → length s ≤ 65536 → IsClosing first s ws o p place n → Popped first s ws' w p n
+popped_as {first} s ws ws' w o p place n e utf8 short r = popped s ws' w o p place n utf8 short (subst (λ x. IsClosing first s x o p place n) e r)
 
-pub ending_as : {first : Origin} (s : List ℕ) (ws ws' : List Waiting) (w : Waiting) (o : Origin) (p : Parts) (place : BytePlace) (n : ℕ) (p' dest : Parts) (x : Piece) → ws ≡ ws' ++ w ∷ [] → IsUtf8 s → length s ≤ 65536 → IsEnding first s ws o p place n →
+pub ending_as : {first : Origin} (s : List ℕ) (ws ws' : List Waiting) (w : Waiting) (o : Origin) (p : Parts) (place : BytePlace) (n : ℕ) (p' dest : Parts) (x : Piece) → ws ≡ ws' ++ w ∷ [] → IsUtf8 s → length s ≤ 65536 → IsClosing first s ws o p place n →
     p' ≡ with_piece dest x (w.at + 1 + n + 1) → dest ≡ w.parts → x ≡ opened_piece w.opener (drop (w.origin.base + w.at + 1) s) n →
     IsReading first s ws' w.origin p' (Text w.mode) (w.at + 1 + n + 1) × (o.base + n < w.origin.base + (w.at + 1 + n + 1))
-ending_as {first} s ws ws' w o p place n p' dest x e utf8 short r ep ed ex = rw (ep, ed, ex) (ending_reads s ws' w o p place n utf8 short (subst (λ y. IsEnding first s y o p place n) e r))
+ending_as {first} s ws ws' w o p place n p' dest x e utf8 short r ep ed ex = rw (ep, ed, ex) (ending_reads s ws' w o p place n utf8 short (subst (λ y. IsClosing first s y o p place n) e r))
 
-pub step_as : (p new : Parts) (t t' : List ℕ) (n : ℕ) (inside : Bool) (place : BytePlace) (step step' : Step) → t ≡ t' → step ≡ step' → Does p new t n place (move_at t n inside place) (Ok step) → Does p new t' n place (move_at t' n inside place) (Ok step')
+pub step_as : (p new : Parts) (t t' : List ℕ) (n : ℕ) (inside : Bool) (place : BytePlace) (step step' : Step) → t ≡ t' → step ≡ step' → DoesMove p new t n place (move_at t n inside place) (Ok step) → DoesMove p new t' n place (move_at t' n inside place) (Ok step')
 step_as p new t t' n inside place step step' e f does =
-    subst (λ x. Does p new t' n place (move_at t' n inside place) (Ok x)) f (subst (λ x. Does p new x n place (move_at x n inside place) (Ok step)) e does)
+    subst (λ x. DoesMove p new t' n place (move_at t' n inside place) (Ok x)) f (subst (λ x. DoesMove p new x n place (move_at x n inside place) (Ok step)) e does)
 
 -- ── the start and the end of the source ──
 
@@ -291,9 +291,9 @@ first_reading s utf8 = record {
   room = omega arith;
 }
 
-found_fault : (s : List ℕ) (fault : ParseFault) (r : Read) → joined (no_parts 0) s Start 0 r ≡ Err fault → commands_in r ≡ Err fault
-found_fault s fault (Ok rest) e = absurd (let h : joined (no_parts 0) s Start 0 (Ok rest) ≡ Err fault = e in cc)
-found_fault s fault (Err other) e = let h : joined (no_parts 0) s Start 0 (Err other) ≡ Err fault = e in cc
+found_fault : (s : List ℕ) (fault : ParseFault) (r : Read) → joined_parts (no_parts 0) s Start 0 r ≡ Err fault → commands_in r ≡ Err fault
+found_fault s fault (Ok rest) e = absurd (let h : joined_parts (no_parts 0) s Start 0 (Ok rest) ≡ Err fault = e in cc)
+found_fault s fault (Err other) e = let h : joined_parts (no_parts 0) s Start 0 (Err other) ≡ Err fault = e in cc
 
 pub outset_fault : (s : List ℕ) (fault : ParseFault) → own s outset ≡ Err fault → commands_in (rest_of s outermost 0 Start 0) ≡ Err fault
 outset_fault s fault e = found_fault s fault (rest_of s outermost 0 Start 0) e
@@ -302,11 +302,11 @@ pub outset_faults : (s : List ℕ) (fault : ParseFault) → (own s outset ≡ Er
 outset_faults s fault (inl e) = inl (outset_fault s fault e)
 outset_faults s fault (inr e) = inr e
 
-found_commands : (s : List ℕ) (commands : List Command) (close : ℕ) (r : Read) → joined (no_parts 0) s Start 0 r ≡ Ok (script_whole commands close) → commands_in r ≡ Ok commands
+found_commands : (s : List ℕ) (commands : List Command) (close : ℕ) (r : Read) → joined_parts (no_parts 0) s Start 0 r ≡ Ok (script_whole commands close) → commands_in r ≡ Ok commands
 found_commands s commands close (Ok rest) e =
     let is : script_whole ([] ++ rest.commands) rest.close ≡ script_whole commands close = (let h : Ok (script_whole ([] ++ rest.commands) rest.close) ≡ Ok (script_whole commands close) = e in cc) in
     ap (λ w. Ok w.commands) is
-found_commands s commands close (Err fault) e = absurd (let h : joined (no_parts 0) s Start 0 (Err fault) ≡ Ok (script_whole commands close) = e in cc)
+found_commands s commands close (Err fault) e = absurd (let h : joined_parts (no_parts 0) s Start 0 (Err fault) ≡ Ok (script_whole commands close) = e in cc)
 
 drop_all : (xs : List ℕ) (n : ℕ) → length xs ≤ n → drop n xs ≡ []
 drop_all [] zero h = refl
@@ -315,15 +315,15 @@ drop_all (x ∷ xs) zero h = absurd (omega (arith, h))
 drop_all (x ∷ xs) (suc n) h = drop_all xs n (omega (arith, h))
 
 -- where nothing is left to read
-pub end_reads : {first : Origin} (s : List ℕ) (ws : List Waiting) (o : Origin) (p : Parts) (place : BytePlace) (n : ℕ) → IsReading first s ws o p place n → length s ≤ o.base + n → joined p (drop o.base s) place n (at_end o.inside place n) ≡ own s o
+pub end_reads : {first : Origin} (s : List ℕ) (ws : List Waiting) (o : Origin) (p : Parts) (place : BytePlace) (n : ℕ) → IsReading first s ws o p place n → length s ≤ o.base + n → joined_parts p (drop o.base s) place n (read_at_end o.inside place n) ≡ own s o
 end_reads s ws o p place n r end =
     let none : drop n (drop o.base s) ≡ [] = drop_all (drop o.base s) n (omega (arith, end, length-drop o.base s)) in
-    ap (λ t. joined p (drop o.base s) place n (rest_of t (level_of o) 0 place n)) (sym none) ∙ r.reads
+    ap (λ t. joined_parts p (drop o.base s) place n (rest_of t (origin_level o) 0 place n)) (sym none) ∙ r.reads
 
-pub unfinished_fault : (s : List ℕ) (ws : List Waiting) (o : Origin) (p : Parts) (place : BytePlace) (n : ℕ) (fault : ParseFault) → IsReading outset s ws o p place n → length s ≤ o.base + n → o.inside ≡ true → ((at : ℕ) → at_end true place at ≡ Err fault) →
+pub unfinished_fault : (s : List ℕ) (ws : List Waiting) (o : Origin) (p : Parts) (place : BytePlace) (n : ℕ) (fault : ParseFault) → IsReading outset s ws o p place n → length s ≤ o.base + n → o.inside ≡ true → ((at : ℕ) → read_at_end true place at ≡ Err fault) →
     commands_in (rest_of s outermost 0 Start 0) ≡ Err fault
 unfinished_fault s ws o p place n fault r end inside told =
-    let here : own s o ≡ Err fault = sym (end_reads s ws o p place n r end) ∙ ap (λ b. joined p (drop o.base s) place n (at_end b place n)) inside ∙ ap (joined p (drop o.base s) place n) (told n) in
+    let here : own s o ≡ Err fault = sym (end_reads s ws o p place n r end) ∙ ap (λ b. joined_parts p (drop o.base s) place n (read_at_end b place n)) inside ∙ ap (joined_parts p (drop o.base s) place n) (told n) in
     outset_fault s fault (chain_fault s outset o ws fault r.chain here)
 
 pub chain_inside : (s : List ℕ) (first o : Origin) (w : Waiting) (ws : List Waiting) → IsChain s first (w ∷ ws) o → o.inside ≡ true
@@ -338,7 +338,7 @@ outside_first s (w ∷ ws) o chain e = absurd (let h : o.inside ≡ true = chain
 pub record Finishing (s : List ℕ) (p : Parts) (place : BytePlace) : Type 0 where
   pub fine : IsFine p s place (length s)
   pub script : is_index place ≡ false
-  pub reads : joined p s place (length s) (at_end false place (length s)) ≡ own s outset
+  pub reads : joined_parts p s place (length s) (read_at_end false place (length s)) ≡ own s outset
 
 pub finishing : (s : List ℕ) (ws : List Waiting) (o : Origin) (p : Parts) (place : BytePlace) (n : ℕ) → IsReading outset s ws o p place n → length s ≤ o.base + n → o.inside ≡ false → Finishing s p place
 finishing s ws o p place n r end outside =
@@ -349,16 +349,16 @@ finishing s ws o p place n r end outside =
       fine = subst (λ k. IsFine p s place k) all (subst (λ k. IsFine p (drop k s) place n) base r.fine);
       script = r.index ∙ ap (λ x. is_index x.place) first;
       reads =
-          ap (λ k. joined p s place k (at_end false place k)) (sym all)
-          ∙ ap (λ k. joined p (drop k s) place n (at_end false place n)) (sym base)
-          ∙ ap (λ b. joined p (drop o.base s) place n (at_end b place n)) (sym outside)
+          ap (λ k. joined_parts p s place k (read_at_end false place k)) (sym all)
+          ∙ ap (λ k. joined_parts p (drop k s) place n (read_at_end false place n)) (sym base)
+          ∙ ap (λ b. joined_parts p (drop o.base s) place n (read_at_end b place n)) (sym outside)
           ∙ end_reads s ws o p place n r end
           ∙ ap (own s) first;
     }
 
-pub finished : (s : List ℕ) (p new : Parts) (place : BytePlace) → Finishing s p place → joined p s place (length s) (at_end false place (length s)) ≡ Ok (script_whole new.commands (length s)) → commands_in (rest_of s outermost 0 Start 0) ≡ Ok new.commands
+pub finished : (s : List ℕ) (p new : Parts) (place : BytePlace) → Finishing s p place → joined_parts p s place (length s) (read_at_end false place (length s)) ≡ Ok (script_whole new.commands (length s)) → commands_in (rest_of s outermost 0 Start 0) ≡ Ok new.commands
 finished s p new place f e = found_commands s new.commands (length s) (rest_of s outermost 0 Start 0) (sym f.reads ∙ e)
 
-pub finish_fault : (s : List ℕ) (p : Parts) (place : BytePlace) (fault : ParseFault) → Finishing s p place → (at_end false place (length s) ≡ Err fault) ⊎ (fault ≡ NoMemory) → (commands_in (rest_of s outermost 0 Start 0) ≡ Err fault) ⊎ (fault ≡ NoMemory)
-finish_fault s p place fault f (inl e) = inl (outset_fault s fault (sym f.reads ∙ ap (joined p s place (length s)) e))
+pub finish_fault : (s : List ℕ) (p : Parts) (place : BytePlace) (fault : ParseFault) → Finishing s p place → (read_at_end false place (length s) ≡ Err fault) ⊎ (fault ≡ NoMemory) → (commands_in (rest_of s outermost 0 Start 0) ≡ Err fault) ⊎ (fault ≡ NoMemory)
+finish_fault s p place fault f (inl e) = inl (outset_fault s fault (sym f.reads ∙ ap (joined_parts p s place (length s)) e))
 finish_fault s p place fault f (inr e) = inr e

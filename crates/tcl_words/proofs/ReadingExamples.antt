@@ -4,7 +4,7 @@ use Rattle.std.proofs.Common.{◌≡◌, refl, ℕ, [], ◌∷◌, List, Ok, Err
 use Rattle.tcl_text.specs.Backslash.{escape}
 use Rattle.tcl_words.specs.Kinds.{dollar_of}
 use Rattle.tcl_words.specs.Classes.{class_of}
-use Rattle.tcl_words.specs.Spans.{word_of, command_of}
+use Rattle.tcl_words.specs.Spans.{word_of, command_from}
 use Rattle.tcl_words.specs.Reading.{rest_of, commands_in, index_pieces_of, outermost}
 use Rattle.tcl_words.specs.declared.kind.BytePlace.TheVariants.{Start}
 use Rattle.tcl_words.specs.declared.script.WordForm.TheVariants.{Bare, Quoted, Braced}
@@ -18,7 +18,7 @@ abbrev read : List ℕ → Result (List Command) ParseFault
 read text = commands_in (rest_of text outermost 0 Start 0)
 
 three_words : read (codes "set a 1; # c") ≡ Ok (
-    command_of 0 (
+    command_from 0 (
     word_of Bare false 0 (Literal (codes "set") ∷ []) 3
     ∷ word_of Bare false 4 (Literal (codes "a") ∷ []) 5
     ∷ word_of Bare false 6 (Literal (codes "1") ∷ []) 7
@@ -59,7 +59,7 @@ unfolding class_of
 inner_first = refl
 
 pieces : read (codes "p \"a$::b(c[d e]).\\x41[f \"]\"]\" {*}$g") ≡ Ok (
-    command_of 0 (
+    command_from 0 (
     word_of Bare false 0 (Literal (codes "p") ∷ []) 1
     ∷ word_of Quoted false 2 (Literal (codes "a") ∷ Element (codes "::b") (codes "c[d e]") ∷ Literal (codes ".A") ∷ Bracket (codes "f \"]\"") ∷ []) 29
     ∷ word_of Bare true 30 (Variable (codes "g") ∷ []) 35
@@ -71,7 +71,7 @@ unfolding class_of dollar_of escape encode
 pieces = refl
 
 braces : read (codes "{a\\}\\\n  b{}} {*} ${c d}") ≡ Ok (
-    command_of 0 (
+    command_from 0 (
     word_of Braced false 0 (Literal (codes "a\\} b{}") ∷ []) 12
     ∷ word_of Braced false 13 (Literal (codes "*") ∷ []) 16
     ∷ word_of Bare false 17 (Variable (codes "c d") ∷ []) 23
@@ -84,12 +84,12 @@ braces = refl
 
 -- a backslash before a newline separates words, and a comment swallows a bracket
 lines : read (codes "a\\\n b[# ]\nc];d") ≡ Ok (
-    command_of 0 (
+    command_from 0 (
     word_of Bare false 0 (Literal (codes "a") ∷ []) 1
     ∷ word_of Bare false 4 (Literal (codes "b") ∷ Bracket (codes "# ]\nc") ∷ []) 12
     ∷ []
     )
-    ∷ command_of 13 (word_of Bare false 13 (Literal (codes "d") ∷ []) 14 ∷ [])
+    ∷ command_from 13 (word_of Bare false 13 (Literal (codes "d") ∷ []) 14 ∷ [])
     ∷ []
     )
 unfolding class_of escape

@@ -2,8 +2,8 @@
 use Rattle.std.proofs.Common.{◌≡◌, ℕ, zero, suc, ◌+◌, ◌≤◌, ◌⊎◌, inl, inr, Bool, true, false, List, [], ◌∷◌, ◌++◌, length, refl, sym, ap, subst, ◌∙◌, eqb-true, append_assoc, append-nil, length-append, arith}
 use Rattle.tcl_words.specs.Classes.{class_of}
 use Rattle.tcl_words.specs.Grammar.{class_ends, ends_word}
-use Rattle.tcl_words.specs.Spans.{command_of}
-use Rattle.tcl_words.specs.Grammar.{TextEnding, leaves, fails, script, index, stops, begins, ArePieces, IsInnerOf, IsWord, IsSeparator, AreBlanks, IsNote, IsLastNote, IsGap, IsEnding, IsLast, AreFurther, IsRest, IsScript, end_of_text}
+use Rattle.tcl_words.specs.Spans.{command_from}
+use Rattle.tcl_words.specs.Grammar.{TextEnding, leaves, fails, script, index, ends_body, begins, ArePieces, IsInnerOf, IsWord, IsSeparator, AreBlanks, IsNote, IsLastNote, IsGap, IsEnding, IsLast, AreFurtherWords, IsRest, IsScript, end_of_text}
 use Rattle.tcl_words.specs.Grammar.AreBlanks.{none as no_blanks, blank as one_blank, continuation as continued_blanks}
 use Rattle.tcl_words.specs.Grammar.IsNote.{none as no_note, byte as note_byte, pair as note_pair}
 use Rattle.tcl_words.specs.Grammar.IsGap.{none as no_gap, blank, continuation, separator, comment as gap_comment}
@@ -52,7 +52,7 @@ pub record FoundFurther (room : ℕ) (inside : Bool) (at : ℕ) (text : List ℕ
   pub commands : List Command
   pub ending : TextEnding
   pub words : List Word
-  pub are : AreFurther (IsInnerOf room) inside (AfterCommand room inside commands ending) at text words
+  pub are : AreFurtherWords (IsInnerOf room) inside (AfterCommand room inside commands ending) at text words
   pub cut : IsScriptCut inside text ending
 
 -- The rest of a command.
@@ -80,7 +80,7 @@ further_separated room inside at b text s found =
 
 blanks_front : (room : ℕ) (inside : Bool) (at next : ℕ) (front text : List ℕ) (words : List Word) (commands : List Command) (ending : TextEnding) →
     ((blanks : List ℕ) → AreBlanks blanks → AreBlanks (front ++ blanks)) → next ≡ at + length front →
-    AreFurther (IsInnerOf room) inside (AfterCommand room inside commands ending) next text words → AreFurther (IsInnerOf room) inside (AfterCommand room inside commands ending) at (front ++ text) words
+    AreFurtherWords (IsInnerOf room) inside (AfterCommand room inside commands ending) next text words → AreFurtherWords (IsInnerOf room) inside (AfterCommand room inside commands ending) at (front ++ text) words
 blanks_front room inside at next front text [] commands ending make m (blanks, rest, e, b, inl (c, after, f, s, h)) =
     let k : next + length blanks + 1 ≡ at + length (front ++ blanks) + 1 = omega (arith, m, length-append front blanks) in (
       front ++ blanks,
@@ -99,7 +99,7 @@ blanks_front room inside at next front text (word ∷ words) commands ending mak
       ap (λ t. front ++ t) e ∙ sym (append_assoc front blanks (own ++ rest)),
       make blanks b,
       subst (λ n. IsWord (IsInnerOf room) inside rest n own word) k is,
-      subst (λ n. AreFurther (IsInnerOf room) inside (AfterCommand room inside commands ending) (n + length own) rest words) k h,
+      subst (λ n. AreFurtherWords (IsInnerOf room) inside (AfterCommand room inside commands ending) (n + length own) rest words) k h,
     )
 
 further_blanked : (room : ℕ) (inside : Bool) (at next : ℕ) (front text : List ℕ) → ((blanks : List ℕ) → AreBlanks blanks → AreBlanks (front ++ blanks)) → next ≡ at + length front →
@@ -126,7 +126,7 @@ further_word room inside at text found more =
         found.cut,
         no_blanks,
         subst (λ n. IsWord (IsInnerOf room) inside found.rest n found.own found.word) m found.is,
-        subst (λ n. AreFurther (IsInnerOf room) inside (AfterCommand room inside more.commands more.ending) (n + length found.own) found.rest more.words) m more.are,
+        subst (λ n. AreFurtherWords (IsInnerOf room) inside (AfterCommand room inside more.commands more.ending) (n + length found.own) found.rest more.words) m more.are,
       );
       cut = cut_onto inside text found.own found.rest more.ending found.cut more.cut;
     }
@@ -190,8 +190,8 @@ gap_front room inside at next front text (command ∷ commands) ending make m (g
       make gap g,
       hash,
       subst (λ n. IsWord (IsInnerOf room) inside rest n own word) k is,
-      subst (λ n. AreFurther (IsInnerOf room) inside (AfterCommand room inside commands ending) (n + length own) rest words) k h,
-      same ∙ ap (λ n. command_of n (word ∷ words)) k,
+      subst (λ n. AreFurtherWords (IsInnerOf room) inside (AfterCommand room inside commands ending) (n + length own) rest words) k h,
+      same ∙ ap (λ n. command_from n (word ∷ words)) k,
     )
 
 script_gapped : (room : ℕ) (inside : Bool) (at next : ℕ) (front text : List ℕ) → ((gap : List ℕ) → IsGap gap → IsGap (front ++ gap)) → next ≡ at + length front →
@@ -269,7 +269,7 @@ script_word : (room : ℕ) (inside : Bool) (at : ℕ) (text : List ℕ) → begi
 script_word room inside at text hash found more =
     let m : at ≡ at + 0 = omega arith in
     record {
-      commands = command_of (at + 0) (found.word ∷ more.words) ∷ more.commands;
+      commands = command_from (at + 0) (found.word ∷ more.words) ∷ more.commands;
       ending = more.ending;
       is = (
         [],
@@ -281,7 +281,7 @@ script_word room inside at text hash found more =
         no_gap,
         ap (begins 35) (sym found.cut) ∙ hash,
         subst (λ n. IsWord (IsInnerOf room) inside found.rest n found.own found.word) m found.is,
-        subst (λ n. AreFurther (IsInnerOf room) inside (AfterCommand room inside more.commands more.ending) (n + length found.own) found.rest more.words) m more.are,
+        subst (λ n. AreFurtherWords (IsInnerOf room) inside (AfterCommand room inside more.commands more.ending) (n + length found.own) found.rest more.words) m more.are,
         refl,
       );
       cut = cut_onto inside text found.own found.rest more.ending found.cut more.cut;
@@ -333,7 +333,7 @@ script_found room inside inner at text = let all = known room inside inner (leng
 
 -- Brackets and indices.
 
-pub index_left : (left : List ℕ) → stops true Parens left ≡ true → (rest : List ℕ) × (left ≡ 41 ∷ rest)
+pub index_left : (left : List ℕ) → ends_body true Parens left ≡ true → (rest : List ℕ) × (left ≡ 41 ∷ rest)
 index_left [] h = cc
 index_left (b ∷ rest) h = (rest, ap (λ c. c ∷ rest) (eqb-true b 41 h))
 

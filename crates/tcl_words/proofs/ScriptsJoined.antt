@@ -2,8 +2,8 @@
 use Rattle.std.proofs.Common.{◌≡◌, ℕ, ◌+◌, ◌-◌, inl, inr, true, false, List, [], ◌∷◌, ◌++◌, length, take, drop, refl, sym, ap, subst, ◌∙◌, append_assoc, append-nil, length-append, arith}
 use Rattle.std.specs.List.{slice_range}
 use Rattle.tcl_words.specs.Classes.{class_of}
-use Rattle.tcl_words.specs.Spans.{command_of, words_end}
-use Rattle.tcl_words.specs.Grammar.{leaves, begins, class_ends, ends_word, IsInnerOf, IsWord, AreBlanks, IsEnding, AreFurther, IsRest, IsScript}
+use Rattle.tcl_words.specs.Spans.{command_from, words_end}
+use Rattle.tcl_words.specs.Grammar.{leaves, begins, class_ends, ends_word, IsInnerOf, IsWord, AreBlanks, IsEnding, AreFurtherWords, IsRest, IsScript}
 use Rattle.tcl_words.specs.Grammar.AreBlanks.{none as no_blanks, blank as one_blank, continuation as continued_blanks}
 use Rattle.tcl_words.specs.Grammar.IsGap.{none as no_gap}
 use Rattle.tcl_words.specs.Grammar.IsEnd.{stands}
@@ -37,12 +37,12 @@ pub record Lined (at : ℕ) (text : List ℕ) (words : List Word) (commands : Li
   pub stops : ends_word false rest ≡ true
   pub tail : (other : List ℕ) → EndsToo rest other → EndsToo text (taken ++ other)
   pub again : (other : List ℕ) → EndsToo rest other → (next : ℕ) (more : List Command) → After more (next + length taken) other →
-      (others : List Word) × AreFurther (IsInnerOf 200) false (After more) next (taken ++ other) others × WordsAlike words others
+      (others : List Word) × AreFurtherWords (IsInnerOf 200) false (After more) next (taken ++ other) others × WordsAlike words others
 
 word_alike : (rest : List ℕ) (at : ℕ) (own : List ℕ) (word : Word) → IsWord (IsInnerOf 200) false rest at own word → word.span ≡ record { start = at; end = at + length own }
 word_alike rest at own word is = ap (λ w. w.span) is.same
 
-pub lined : (at : ℕ) (text : List ℕ) (words : List Word) (commands : List Command) → ends_word false text ≡ true → AreFurther (IsInnerOf 200) false (After commands) at text words → Lined at text words commands
+pub lined : (at : ℕ) (text : List ℕ) (words : List Word) (commands : List Command) → ends_word false text ≡ true → AreFurtherWords (IsInnerOf 200) false (After commands) at text words → Lined at text words commands
 lined at text [] commands here h =
     let m : at ≡ at + 0 = omega arith in
     record {
@@ -103,7 +103,7 @@ command_lined at next own rest word words commands is hash f other k more a =
     let new : Word = placed next own word in
     let is_word : IsWord (IsInnerOf 200) false (f.taken ++ other) next own new = word_moved rest at own word is (f.taken ++ other) (f.tail other k) next in
     let still : begins 35 (own ++ (f.taken ++ other)) ≡ false = first_hash own rest (f.taken ++ other) (word_open (IsInnerOf 200) false rest at own word is) is.ends hash in (
-      command_of (next + 0) (new ∷ found.0),
+      command_from (next + 0) (new ∷ found.0),
       (
         [],
         own,
@@ -114,7 +114,7 @@ command_lined at next own rest word words commands is hash f other k more a =
         no_gap,
         still,
         subst (λ n. IsWord (IsInnerOf 200) false (f.taken ++ other) n own new) m is_word,
-        subst (λ n. AreFurther (IsInnerOf 200) false (After more) (n + length own) (f.taken ++ other) found.0) m found.1,
+        subst (λ n. AreFurtherWords (IsInnerOf 200) false (After more) (n + length own) (f.taken ++ other) found.0) m found.1,
         refl,
       ),
       (refl, refl, refl, found.2),
@@ -143,7 +143,7 @@ pub record FirstSource (source : List ℕ) (own taken : List ℕ) (command : Com
   pub is : source_of source command ≡ own ++ taken
 
 pub source_is : (source : List ℕ) (at : ℕ) (own rest : List ℕ) (word : Word) (words : List Word) (commands : List Command) (command : Command) → Stands source at (own ++ rest) → IsWord (IsInnerOf 200) false rest at own word →
-    (f : Lined (at + length own) rest words commands) → command ≡ command_of at (word ∷ words) → FirstSource source own f.taken command
+    (f : Lined (at + length own) rest words commands) → command ≡ command_from at (word ∷ words) → FirstSource source own f.taken command
 source_is source at own rest word words commands command (before, e, m) is f same =
     let ends : words_end at (word ∷ words) ≡ at + length own + length f.taken = ap (λ s. words_end s.end words) (word_alike rest at own word is) ∙ f.ends in
     let n : at + length own + length f.taken ≡ at + length (own ++ f.taken) = omega (arith, length-append own f.taken) in
@@ -154,7 +154,7 @@ source_is source at own rest word words commands command (before, e, m) is f sam
     }
 
 lines_found : (source : List ℕ) (at next : ℕ) (own rest : List ℕ) (word : Word) (words : List Word) (command : Command) (commands : List Command) → Stands source at (own ++ rest) → IsWord (IsInnerOf 200) false rest at own word → begins 35 (own ++ rest) ≡ false →
-    (f : Lined (at + length own) rest words commands) → command ≡ command_of at (word ∷ words) →
+    (f : Lined (at + length own) rest words commands) → command ≡ command_from at (word ∷ words) →
     ((first : ℕ) (text : List ℕ) → Stands source first text → IsScript (IsInnerOf 200) false first text commands (leaves []) → (then : ℕ) → LinesAre source commands then) → LinesAre source (command ∷ commands) next
 lines_found source at next own rest word words command [] stand is hash f same further =
     let from = source_is source at own rest word words [] command stand is f same in

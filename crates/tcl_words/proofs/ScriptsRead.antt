@@ -2,11 +2,11 @@
 use Rattle.std.proofs.Common.{◌≡◌, ℕ, zero, suc, ◌+◌, inl, inr, Bool, true, false, List, [], ◌∷◌, ◌++◌, length, take, refl, sym, ap, subst, ◌∙◌, length-append, arith, Ok, Err}
 use Rattle.std.specs.List.{slice_range}
 use Rattle.tcl_words.specs.Classes.{class_of}
-use Rattle.tcl_words.specs.Changes.{Rest, Read, put, piece_before, changed, last_rest}
-use Rattle.tcl_words.specs.Spans.{command_of}
+use Rattle.tcl_words.specs.Changes.{TextRest, Read, put, piece_before, changed, last_rest}
+use Rattle.tcl_words.specs.Spans.{command_from}
 use Rattle.tcl_words.specs.Changes.Change.{command_begins, command_ends}
-use Rattle.tcl_words.specs.Reading.{Level, rest_of, past_opened, within, end_of}
-use Rattle.tcl_words.specs.Grammar.{TextEnding, leaves, fails, script, index, IsInnerOf, IsSeparator, IsEnd, IsEnding, IsLast, AreFurther, IsRest, IsScript, end_of_text}
+use Rattle.tcl_words.specs.Reading.{Level, rest_of, past_opened, within, end_or_fault}
+use Rattle.tcl_words.specs.Grammar.{TextEnding, leaves, fails, script, index, IsInnerOf, IsSeparator, IsEnd, IsEnding, IsLast, AreFurtherWords, IsRest, IsScript, end_of_text}
 use Rattle.tcl_words.specs.Grammar.IsEnd.{closes, stands}
 use Rattle.tcl_words.specs.Grammar.IsEnding.{ends as ends_command, faulty as faulty_word}
 use Rattle.tcl_words.specs.Grammar.IsLast.{ends, comment, faulty}
@@ -29,7 +29,7 @@ use Rattle.tcl_words.proofs.GapsRead.{IsOpen, at_start, at_between, blanks_read,
 
 -- these words and commands are read, up to this position less what is left
 pub record GivesLeft (r : Read) (stop : ℕ) (words : List Word) (commands : List Command) (left : List ℕ) : Type 0 where
-  pub rest : Rest
+  pub rest : TextRest
   pub is : r ≡ Ok rest
   pub words_are : rest.words ≡ words
   pub commands_are : rest.commands ≡ commands
@@ -43,7 +43,7 @@ given_as : (r s : Read) (m n : ℕ) (words : List Word) (commands : List Command
 given_as r s m n words commands (leaves left) e k g = record { rest = g.rest; is = e ∙ g.is; words_are = g.words_are; commands_are = g.commands_are; at_close = g.at_close ∙ k }
 given_as r s m n words commands (fails fault) e k g = e ∙ g
 
-end_given : (inside : Bool) (at : ℕ) → GivesCommands (end_of inside MissingBracket at) at [] [] (end_of_text inside)
+end_given : (inside : Bool) (at : ℕ) → GivesCommands (end_or_fault inside MissingBracket at) at [] [] (end_of_text inside)
 end_given true at = refl
 end_given false at = record { rest = last_rest at; is = refl; words_are = refl; commands_are = refl; at_close = omega arith }
 
@@ -57,8 +57,8 @@ end_read inside room text ending at place here (closes {text = after} e) =
       commands_are = refl;
       at_close = refl;
     }
-end_read inside room text ending at place at_start stands = given_as (end_of inside MissingBracket at) (end_of inside MissingBracket at) at (at + 0) [] [] (end_of_text inside) refl (omega arith) (end_given inside at)
-end_read inside room text ending at place at_between stands = given_as (end_of inside MissingBracket at) (end_of inside MissingBracket at) at (at + 0) [] [] (end_of_text inside) refl (omega arith) (end_given inside at)
+end_read inside room text ending at place at_start stands = given_as (end_or_fault inside MissingBracket at) (end_or_fault inside MissingBracket at) at (at + 0) [] [] (end_of_text inside) refl (omega arith) (end_given inside at)
+end_read inside room text ending at place at_between stands = given_as (end_or_fault inside MissingBracket at) (end_or_fault inside MissingBracket at) at (at + 0) [] [] (end_of_text inside) refl (omega arith) (end_given inside at)
 
 -- a word was read, and then its command, and the one that began before
 with_word : (r s : Read) (stop : ℕ) (word : Word) (words : List Word) (commands : List Command) (ending : TextEnding) → r ≡ put (word_front word) s → GivesCommands s stop words commands ending → GivesCommands r stop (word ∷ words) commands ending
@@ -82,12 +82,12 @@ command_ended r s stop words commands (leaves left) e g = record {
 command_ended r s stop words commands (fails fault) e g = e ∙ ap (put (changed (command_ends ∷ []))) g
 
 command_begun : (r s : Read) (stop start : ℕ) (command : Command) (words : List Word) (commands : List Command) (ending : TextEnding) → r ≡ put (changed (command_begins start ∷ [])) s →
-    command ≡ command_of start words → GivesCommands s stop words commands ending → GivesCommands r stop [] (command ∷ commands) ending
+    command ≡ command_from start words → GivesCommands s stop words commands ending → GivesCommands r stop [] (command ∷ commands) ending
 command_begun r s stop start command words commands (leaves left) e same g = record {
   rest = changed (command_begins start ∷ []) g.rest;
   is = e ∙ ap (put (changed (command_begins start ∷ []))) g.is;
   words_are = refl;
-  commands_are = ap (λ t. command_of start t ∷ g.rest.commands) g.words_are ∙ ap (λ c. c ∷ g.rest.commands) (sym same) ∙ ap (λ t. command ∷ t) g.commands_are;
+  commands_are = ap (λ t. command_from start t ∷ g.rest.commands) g.words_are ∙ ap (λ c. c ∷ g.rest.commands) (sym same) ∙ ap (λ t. command ∷ t) g.commands_are;
   at_close = g.at_close;
 }
 command_begun r s stop start command words commands (fails fault) e same g = e ∙ ap (put (changed (command_begins start ∷ []))) g
@@ -114,7 +114,7 @@ last_read : (inside : Bool) (room : ℕ) → InnerReads room → (text : List �
 last_read inside room inner text ending at (ends h) = end_read inside room text ending at Start at_start h
 last_read inside room inner text ending at (comment {note} h) =
     let level : Level = record { inside = inside; room = room } in
-    given_as (rest_of (35 ∷ note) level 0 Start at) (end_of inside MissingBracket (at + 1 + length note)) (at + 1 + length note) (at + length (35 ∷ note)) [] [] (end_of_text inside)
+    given_as (rest_of (35 ∷ note) level 0 Start at) (end_or_fault inside MissingBracket (at + 1 + length note)) (at + 1 + length note) (at + length (35 ∷ note)) [] [] (end_of_text inside)
     (hash_read level note at ∙ last_note_read level note (at + 1) h) (omega arith) (end_given inside (at + 1 + length note))
 last_read inside room inner text ending at (faulty {text = same} {fault} hash h) =
     let level : Level = record { inside = inside; room = room } in
@@ -122,7 +122,7 @@ last_read inside room inner text ending at (faulty {text = same} {fault} hash h)
 
 further_read : (inside : Bool) (room : ℕ) → InnerReads room → (IsAfter : ℕ → List ℕ → Type 0) (commands : List Command) (ending : TextEnding) →
     ((at : ℕ) (text : List ℕ) → IsAfter at text → GivesCommands (rest_of text (record { inside = inside; room = room }) 0 Between at) (at + length text) [] commands ending) →
-    (at : ℕ) (text : List ℕ) (words : List Word) → AreFurther (IsInnerOf room) inside IsAfter at text words →
+    (at : ℕ) (text : List ℕ) (words : List Word) → AreFurtherWords (IsInnerOf room) inside IsAfter at text words →
     GivesCommands (rest_of text (record { inside = inside; room = room }) 0 Between at) (at + length text) words commands ending
 further_read inside room inner IsAfter commands ending given at text [] h = given at text h
 further_read inside room inner IsAfter commands ending given at text (word ∷ words) (blanks, own, rest, e, b, is, h) =

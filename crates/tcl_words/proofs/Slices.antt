@@ -1,7 +1,7 @@
 -- The spans of words and commands are where their texts stand.
 use Rattle.std.proofs.Common.{false, ◌≡◌, ℕ, ◌+◌, inl, inr, List, [], ◌∷◌, ◌++◌, length, refl, sym, ap, subst, ◌∙◌, append_assoc, length-append, arith}
-use Rattle.tcl_words.specs.Spans.{command_of, words_end}
-use Rattle.tcl_words.specs.Grammar.{TextEnding, IsInnerOf, IsWord, AreFurther, IsRest, IsEnding, IsScript, IsSlice, WordsAreSlices, CommandsAreSlices}
+use Rattle.tcl_words.specs.Spans.{command_from, words_end}
+use Rattle.tcl_words.specs.Grammar.{TextEnding, IsInnerOf, IsWord, AreFurtherWords, IsRest, IsEnding, IsScript, IsSlice, WordsAreSlices, CommandsAreSlices}
 use Rattle.tcl_words.specs.declared.script.Word.{Word}
 use Rattle.tcl_words.specs.declared.script.Command.{Command}
 
@@ -36,7 +36,7 @@ record Further (source : List ℕ) (IsAfter : ℕ → List ℕ → Type 0) (at :
   ends : words_end at words ≡ at + length taken
   after : IsAfter (at + length taken) rest
 
-further_slices : (source : List ℕ) (IsAfter : ℕ → List ℕ → Type 0) (at : ℕ) (text : List ℕ) (words : List Word) → Stands source at text → AreFurther (IsInnerOf 200) false IsAfter at text words → Further source IsAfter at text words
+further_slices : (source : List ℕ) (IsAfter : ℕ → List ℕ → Type 0) (at : ℕ) (text : List ℕ) (words : List Word) → Stands source at text → AreFurtherWords (IsInnerOf 200) false IsAfter at text words → Further source IsAfter at text words
 further_slices source IsAfter at text [] stands h = let m : at ≡ at + 0 = omega arith in record {
   slices = tt;
   taken = [];
@@ -83,7 +83,7 @@ script_slices source (command ∷ commands) ending at text stands (gap, own, res
     let words_are : command.words ≡ word ∷ words = ap (λ c. c.words) same in
     let span_is : command.span ≡ record { start = start; end = start + length (own ++ more.taken) } = ap (λ c. c.span) same ∙ ap (λ n. record { start = start; end = n }) ends in (
       subst (WordsAreSlices source) (sym words_are) (word_slice source own rest start word here is, more.slices),
-      same ∙ ap (λ n. command_of n (word ∷ words)) (sym (ap (λ s. s.start) span_is)) ∙ ap (λ t. command_of command.span.start t) (sym words_are),
+      same ∙ ap (λ n. command_from n (word ∷ words)) (sym (ap (λ s. s.start) span_is)) ∙ ap (λ t. command_from command.span.start t) (sym words_are),
       (
         own ++ more.taken,
         (

@@ -1,18 +1,18 @@
 -- What is read past a byte, and past bytes that were taken before.
 use Rattle.std.proofs.Common.{length-append, append_assoc, ◌≡◌, ℕ, zero, suc, ◌+◌, ◌≤◌, List, [], ◌∷◌, ◌++◌, length, drop, refl, sym, ap, ◌∙◌, arith, Ok, Err}
 use Rattle.tcl_words.specs.Kinds.{kind_before}
-use Rattle.tcl_words.specs.Changes.{Rest, Read, put, changed}
-use Rattle.tcl_words.specs.Moves.{Move, move_of}
+use Rattle.tcl_words.specs.Changes.{TextRest, Read, put, changed}
+use Rattle.tcl_words.specs.Moves.{ByteMove, move_of}
 use Rattle.tcl_words.specs.Reading.{Level, rest_of, past, within}
 use Rattle.tcl_words.specs.declared.kind.BytePlace.{BytePlace}
 
 -- what a text gives past a byte with this move
-abbrev pub after_move : Move → Level → ℕ → List ℕ → Read
+abbrev pub after_move : ByteMove → Level → ℕ → List ℕ → Read
 after_move move level at text =
     put (changed move.changes)
     (past move.step level.room at text (λ skip next. rest_of text level skip next (at + 1)) (λ room skip next. rest_of text (within room) skip next 0))
 
-pub moved_by : (move : Move) (place : BytePlace) (b : ℕ) (text : List ℕ) (level : Level) (at : ℕ) → move_of place (kind_before level.inside b text) b at text ≡ move →
+pub moved_by : (move : ByteMove) (place : BytePlace) (b : ℕ) (text : List ℕ) (level : Level) (at : ℕ) → move_of place (kind_before level.inside b text) b at text ≡ move →
     rest_of (b ∷ text) level 0 place at ≡ after_move move level at text
 moved_by move place b text level at e = ap (λ m. after_move m level at text) e
 
@@ -21,7 +21,7 @@ pub read_at : (text : List ℕ) (level : Level) (place : BytePlace) (m n : ℕ) 
 read_at text level place m n e = ap (rest_of text level 0 place) e
 
 -- what changes twice
-pub put-put : (f g : Rest → Rest) (r : Read) → put f (put g r) ≡ put (λ x. f (g x)) r
+pub put-put : (f g : TextRest → TextRest) (r : Read) → put f (put g r) ≡ put (λ x. f (g x)) r
 put-put f g (Ok rest) = refl
 put-put f g (Err fault) = refl
 

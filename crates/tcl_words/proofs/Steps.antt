@@ -8,10 +8,10 @@ use Rattle.std.proofs.lemmas.Bool.Decides.{nat_tests}
 use Rattle.std.specs.Prelude.{nat_eq, nat_lt, ◌&&◌, ◌≢◌, IsTrue}
 use Rattle.std.proofs.lemmas.Str.{IsCharBoundary-before_ascii, IsCharBoundary-after_ascii}
 use Rattle.tcl_text.specs.Backslash.{escape}
-use Rattle.tcl_words.specs.Changes.{Rest, Read, put, piece_before, last_rest, Change, bytes, name, text_ends, word_ends, command_ends, changed, changed_by}
-use Rattle.tcl_words.specs.Moves.{Move, on, ends, before, word_over, at_brace, at_dollar, in_braces, in_expanded, in_text, lone}
-use Rattle.tcl_words.specs.Reading.{at_end}
-use Rattle.tcl_words.specs.Parts.{Parts, joined, with_word, with_command, with_piece, with_literal, with_braced, so_far, ended, script_whole, IsCut, StandsAt, Escaped, EndsWord, DollarFits, Does, is_index, IsExpansion, IsOpenerCut}
+use Rattle.tcl_words.specs.Changes.{TextRest, Read, put, piece_before, last_rest, Change, bytes, name, text_ends, word_ends, command_ends, changed, changed_by}
+use Rattle.tcl_words.specs.Moves.{ByteMove, on, ends, change_before, word_over, at_brace, at_dollar, in_braces, in_expanded, in_text, lone}
+use Rattle.tcl_words.specs.Reading.{read_at_end}
+use Rattle.tcl_words.specs.Parts.{Parts, joined_parts, with_word, with_command, with_piece, with_literal, with_braced, so_far, ended, script_whole, IsCut, StandsAt, Escaped, EndsWord, DollarFits, DoesMove, is_index, IsExpansion, IsOpenerCut}
 use Rattle.tcl_words.specs.declared.kind.Kind.{Kind}
 use Rattle.tcl_words.specs.declared.kind.Kind.TheVariants.{Dollar, OpenBracket, Backslash, Continuation, OpenBrace, Expansion, Other}
 use Rattle.tcl_words.specs.declared.kind.Dollar.{Dollar as DollarForm}
@@ -35,8 +35,8 @@ use Rattle.tcl_text.proofs.BackslashLemmas.{escape_short, escape_within}
 use Rattle.tcl_words.proofs.Joins.{slice_none, slice_one, slice_split, slice_behind, text_bytes, brace_bytes, text_piece, text_opened, bare_ended, word_ended, command_ended}
 
 -- the move is given otherwise
-pub same_move : (old new : Parts) (s : List ℕ) (at : ℕ) (place : BytePlace) (m m' : Move) (result : Result Step ParseFault) → m ≡ m' → Does old new s at place m' result → Does old new s at place m result
-same_move old new s at place m m' result e does = let P : Move → Type 0 = λ x. Does old new s at place x result in subst P (sym e) does
+pub same_move : (old new : Parts) (s : List ℕ) (at : ℕ) (place : BytePlace) (m m' : ByteMove) (result : Result Step ParseFault) → m ≡ m' → DoesMove old new s at place m' result → DoesMove old new s at place m result
+same_move old new s at place m m' result e does = let P : ByteMove → Type 0 = λ x. DoesMove old new s at place x result in subst P (sym e) does
 
 put_first : (c : Change) (cs : List Change) (r : Read) → put (changed (c ∷ cs)) r ≡ put (changed_by c) (put (changed cs) r)
 put_first c cs (Ok rest) = refl
@@ -47,41 +47,41 @@ put_none (Ok rest) = refl
 put_none (Err fault) = refl
 
 -- a first change of the parts, and then what the byte does
-pub first : (old mid new : Parts) (s : List ℕ) (at : ℕ) (place place' : BytePlace) (c : Change) (m : Move) (result : Result Step ParseFault) →
-    ((r : Read) → joined old s place at (put (changed_by c) r) ≡ joined mid s place' at r) → ended place' new at ≡ ended place new at → is_index place' ≡ is_index place →
-    Does mid new s at place' m result → Does old new s at place (before c m) result
+pub first : (old mid new : Parts) (s : List ℕ) (at : ℕ) (place place' : BytePlace) (c : Change) (m : ByteMove) (result : Result Step ParseFault) →
+    ((r : Read) → joined_parts old s place at (put (changed_by c) r) ≡ joined_parts mid s place' at r) → ended place' new at ≡ ended place new at → is_index place' ≡ is_index place →
+    DoesMove mid new s at place' m result → DoesMove old new s at place (change_before c m) result
 first old mid new s at place place' c m (Ok (On skip next)) over same index does =
-    (does.0, λ r. ap (joined old s place at) (put_first c m.changes r) ∙ over (put (changed m.changes) r) ∙ does.1 r, does.2, does.3, does.4 ∙ index)
+    (does.0, λ r. ap (joined_parts old s place at) (put_first c m.changes r) ∙ over (put (changed m.changes) r) ∙ does.1 r, does.2, does.3, does.4 ∙ index)
 first old mid new s at place place' c m (Ok (Within opener mode)) over same index does =
-    (does.0, λ own mark r. ap (joined old s place at) (put_first c m.changes (put (piece_before own) r)) ∙ over (put (changed m.changes) (put (piece_before own) r)) ∙ does.1 own mark r, does.2, does.3, does.4 ∙ index)
+    (does.0, λ own mark r. ap (joined_parts old s place at) (put_first c m.changes (put (piece_before own) r)) ∙ over (put (changed m.changes) (put (piece_before own) r)) ∙ does.1 own mark r, does.2, does.3, does.4 ∙ index)
 first old mid new s at place place' c m (Ok Ends) over same index does =
     (does.0, over (put (changed m.changes) (Ok (last_rest at))) ∙ does.1 ∙ ap (λ w. Ok w) same, does.2, does.3)
 first old mid new s at place place' c m (Err fault) over same index does = does
 
 -- past quotes all is as past braces, and past `{*}` as between words
-pub past_quotes : (old new : Parts) (s : List ℕ) (at : ℕ) (m : Move) (result : Result Step ParseFault) → Does old new s at PastBraces m result → Does old new s at PastQuotes m result
+pub past_quotes : (old new : Parts) (s : List ℕ) (at : ℕ) (m : ByteMove) (result : Result Step ParseFault) → DoesMove old new s at PastBraces m result → DoesMove old new s at PastQuotes m result
 past_quotes old new s at m (Ok (On skip next)) does = (does.0, λ r. same r (changed m.changes) ∙ does.1 r, does.2, does.3, does.4)
   where
-    same : (r : Read) (change : Rest → Rest) → joined old s PastQuotes at (put change r) ≡ joined old s PastBraces at (put change r)
+    same : (r : Read) (change : TextRest → TextRest) → joined_parts old s PastQuotes at (put change r) ≡ joined_parts old s PastBraces at (put change r)
     same (Ok rest) change = refl
     same (Err fault) change = refl
 past_quotes old new s at m (Ok (Within opener mode)) does = (does.0, λ own mark r. same r (changed m.changes) own ∙ does.1 own mark r, does.2, does.3, does.4)
   where
-    same : (r : Read) (change : Rest → Rest) (own : Piece) → joined old s PastQuotes at (put change (put (piece_before own) r)) ≡ joined old s PastBraces at (put change (put (piece_before own) r))
+    same : (r : Read) (change : TextRest → TextRest) (own : Piece) → joined_parts old s PastQuotes at (put change (put (piece_before own) r)) ≡ joined_parts old s PastBraces at (put change (put (piece_before own) r))
     same (Ok rest) change own = refl
     same (Err fault) change own = refl
 past_quotes old new s at m (Ok Ends) does = does
 past_quotes old new s at m (Err fault) does = does
 
-pub past_expansion : (old new : Parts) (s : List ℕ) (at : ℕ) (m : Move) (result : Result Step ParseFault) → Does old new s at Between m result → Does old new s at Expanded m result
+pub past_expansion : (old new : Parts) (s : List ℕ) (at : ℕ) (m : ByteMove) (result : Result Step ParseFault) → DoesMove old new s at Between m result → DoesMove old new s at Expanded m result
 past_expansion old new s at m (Ok (On skip next)) does = (does.0, λ r. same r (changed m.changes) ∙ does.1 r, does.2, does.3, does.4)
   where
-    same : (r : Read) (change : Rest → Rest) → joined old s Expanded at (put change r) ≡ joined old s Between at (put change r)
+    same : (r : Read) (change : TextRest → TextRest) → joined_parts old s Expanded at (put change r) ≡ joined_parts old s Between at (put change r)
     same (Ok rest) change = refl
     same (Err fault) change = refl
 past_expansion old new s at m (Ok (Within opener mode)) does = (does.0, λ own mark r. same r (changed m.changes) own ∙ does.1 own mark r, does.2, does.3, does.4)
   where
-    same : (r : Read) (change : Rest → Rest) (own : Piece) → joined old s Expanded at (put change (put (piece_before own) r)) ≡ joined old s Between at (put change (put (piece_before own) r))
+    same : (r : Read) (change : TextRest → TextRest) (own : Piece) → joined_parts old s Expanded at (put change (put (piece_before own) r)) ≡ joined_parts old s Between at (put change (put (piece_before own) r))
     same (Ok rest) change own = refl
     same (Err fault) change own = refl
 past_expansion old new s at m (Ok Ends) does = does
@@ -92,8 +92,8 @@ further p s at end cut h = record { before = (let k : p.mark ≤ at = cut.before
 
 -- ── texts with substitution ──
 
-pub text_goes_on : (p : Parts) (s : List ℕ) (mode : Mode) (at b : ℕ) (kind : Kind) (m : Move) → StandsAt s at b kind → IsCut p s at → m ≡ on (bytes (b ∷ []) ∷ []) 0 (Text mode) →
-    Does p p s at (Text mode) m (Ok (On 0 (Text mode)))
+pub text_goes_on : (p : Parts) (s : List ℕ) (mode : Mode) (at b : ℕ) (kind : Kind) (m : ByteMove) → StandsAt s at b kind → IsCut p s at → m ≡ on (bytes (b ∷ []) ∷ []) 0 (Text mode) →
+    DoesMove p p s at (Text mode) m (Ok (On 0 (Text mode)))
 text_goes_on p s mode at b kind m stands cut e =
     let end : at + 1 + 0 ≡ at + 1 = omega arith in
     let within : at < length s = stands.within in
@@ -105,13 +105,13 @@ text_goes_on p s mode at b kind m stands cut e =
       refl,
     )
 
-name_over : (p : Parts) (s : List ℕ) (mode : Mode) (at end : ℕ) (own : List ℕ) (r : Read) → joined p s (Text mode) at (put (changed (name own ∷ [])) r) ≡ joined (with_piece (with_literal p s at) (Variable own) end) s (Text mode) end r
+name_over : (p : Parts) (s : List ℕ) (mode : Mode) (at end : ℕ) (own : List ℕ) (r : Read) → joined_parts p s (Text mode) at (put (changed (name own ∷ [])) r) ≡ joined_parts (with_piece (with_literal p s at) (Variable own) end) s (Text mode) end r
 name_over p s mode at end own (Ok rest) = text_piece p s mode at end (Variable own) (Ok rest)
 name_over p s mode at end own (Err fault) = refl
 
 -- a name ends here, and the literal before it
-pub piece_goes_on : (p : Parts) (s : List ℕ) (mode : Mode) (at skip end : ℕ) (own : List ℕ) (m : Move) → m ≡ on (name own ∷ []) skip (Text mode) → end ≡ at + 1 + skip → IsCharBoundary s end →
-    Does p (with_piece (with_literal p s at) (Variable own) end) s at (Text mode) m (Ok (On skip (Text mode)))
+pub piece_goes_on : (p : Parts) (s : List ℕ) (mode : Mode) (at skip end : ℕ) (own : List ℕ) (m : ByteMove) → m ≡ on (name own ∷ []) skip (Text mode) → end ≡ at + 1 + skip → IsCharBoundary s end →
+    DoesMove p (with_piece (with_literal p s at) (Variable own) end) s at (Text mode) m (Ok (On skip (Text mode)))
 piece_goes_on p s mode at skip end own m e here cut =
     rw (e, ← here) (
       refl,
@@ -121,27 +121,27 @@ piece_goes_on p s mode at skip end own m e here cut =
       refl,
     )
 
-pub text_opens : (p : Parts) (s : List ℕ) (mode : Mode) (at : ℕ) (opener : Opener) (m : Move) → m ≡ record { changes = []; step = Ok (Within opener mode) } → IsOpenerCut s at opener →
-    Does p (with_literal p s at) s at (Text mode) m (Ok (Within opener mode))
+pub text_opens : (p : Parts) (s : List ℕ) (mode : Mode) (at : ℕ) (opener : Opener) (m : ByteMove) → m ≡ record { changes = []; step = Ok (Within opener mode) } → IsOpenerCut s at opener →
+    DoesMove p (with_literal p s at) s at (Text mode) m (Ok (Within opener mode))
 text_opens p s mode at opener m e within = rw e (refl, λ own mark r. text_opened p s mode at mark own r, refl, within, refl)
 
 meant_over : (p : Parts) (s : List ℕ) (at end mark : ℕ) (literal own rest : List ℕ) → literal ++ slice_range s mark end ≡ so_far p s at ++ own → so_far p s at ++ (own ++ rest) ≡ (literal ++ slice_range s mark end) ++ rest
 meant_over p s at end mark literal own rest e = sym (append_assoc (so_far p s at) own rest) ∙ ap (λ t. t ++ rest) (sym e)
 
 text_escaped : (p new : Parts) (s : List ℕ) (mode : Mode) (at end : ℕ) (own : List ℕ) (r : Read) → new ≡ record p { literal = new.literal; mark = new.mark } → so_far new s end ≡ so_far p s at ++ own →
-    joined p s (Text mode) at (put (changed (bytes own ∷ [])) r) ≡ joined new s (Text mode) end r
+    joined_parts p s (Text mode) at (put (changed (bytes own ∷ [])) r) ≡ joined_parts new s (Text mode) end r
 text_escaped p new s mode at end own (Err fault) same meant = refl
 text_escaped p new s Bare at end own (Ok rest) same meant = rw same (rw (meant_over p s at end new.mark new.literal own rest.bytes meant) refl)
 text_escaped p new s Quotes at end own (Ok rest) same meant = rw same (rw (meant_over p s at end new.mark new.literal own rest.bytes meant) refl)
 text_escaped p new s Parens at end own (Ok rest) same meant = rw same (rw (meant_over p s at end new.mark new.literal own rest.bytes meant) refl)
 
 brace_escaped : (p new : Parts) (s : List ℕ) (depth at end : ℕ) (own : List ℕ) (r : Read) → new ≡ record p { literal = new.literal; mark = new.mark } → so_far new s end ≡ so_far p s at ++ own →
-    joined p s (InBraces depth) at (put (changed (bytes own ∷ [])) r) ≡ joined new s (InBraces depth) end r
+    joined_parts p s (InBraces depth) at (put (changed (bytes own ∷ [])) r) ≡ joined_parts new s (InBraces depth) end r
 brace_escaped p new s depth at end own (Err fault) same meant = refl
 brace_escaped p new s depth at end own (Ok rest) same meant = rw same (rw (meant_over p s at end new.mark new.literal own rest.bytes meant) refl)
 
-pub escape_goes_on : (p new : Parts) (s : List ℕ) (mode : Mode) (at n : ℕ) (m : Move) → Escaped p new s at n →
-    m ≡ on (bytes (escape (drop (at + 1) s)).meaning ∷ []) (escape (drop (at + 1) s)).length (Text mode) → Does p new s at (Text mode) m (Ok (On n (Text mode)))
+pub escape_goes_on : (p new : Parts) (s : List ℕ) (mode : Mode) (at n : ℕ) (m : ByteMove) → Escaped p new s at n →
+    m ≡ on (bytes (escape (drop (at + 1) s)).meaning ∷ []) (escape (drop (at + 1) s)).length (Text mode) → DoesMove p new s at (Text mode) m (Ok (On n (Text mode)))
 escape_goes_on p new s mode at n m done e =
     rw e (
       ap (λ k. Ok (On k (Text mode))) (sym done.takes),
@@ -151,8 +151,8 @@ escape_goes_on p new s mode at n m done e =
       refl,
     )
 
-pub brace_escape_goes_on : (p new : Parts) (s : List ℕ) (depth at n : ℕ) (m : Move) → Escaped p new s at n → depth ≤ at →
-    m ≡ on (bytes (escape (drop (at + 1) s)).meaning ∷ []) (escape (drop (at + 1) s)).length (InBraces depth) → Does p new s at (InBraces depth) m (Ok (On n (InBraces depth)))
+pub brace_escape_goes_on : (p new : Parts) (s : List ℕ) (depth at n : ℕ) (m : ByteMove) → Escaped p new s at n → depth ≤ at →
+    m ≡ on (bytes (escape (drop (at + 1) s)).meaning ∷ []) (escape (drop (at + 1) s)).length (InBraces depth) → DoesMove p new s at (InBraces depth) m (Ok (On n (InBraces depth)))
 brace_escape_goes_on p new s depth at n m done small e =
     rw e (
       ap (λ k. Ok (On k (InBraces depth))) (sym done.takes),
@@ -164,8 +164,8 @@ brace_escape_goes_on p new s depth at n m done small e =
 
 -- ── words in braces ──
 
-pub braces_go_on : (p : Parts) (s : List ℕ) (depth next at b : ℕ) (kind : Kind) (m : Move) → StandsAt s at b kind → IsCut p s at → next ≤ at + 1 → m ≡ on (bytes (b ∷ []) ∷ []) 0 (InBraces next) →
-    Does p p s at (InBraces depth) m (Ok (On 0 (InBraces next)))
+pub braces_go_on : (p : Parts) (s : List ℕ) (depth next at b : ℕ) (kind : Kind) (m : ByteMove) → StandsAt s at b kind → IsCut p s at → next ≤ at + 1 → m ≡ on (bytes (b ∷ []) ∷ []) 0 (InBraces next) →
+    DoesMove p p s at (InBraces depth) m (Ok (On 0 (InBraces next)))
 braces_go_on p s depth next at b kind m stands cut small e =
     let end : at + 1 + 0 ≡ at + 1 = omega arith in
     let within : at < length s = stands.within in
@@ -178,10 +178,10 @@ braces_go_on p s depth next at b kind m stands cut small e =
     )
 
 -- a backslash and the byte behind it
-pub braces_skip : (p : Parts) (s : List ℕ) (depth at b n : ℕ) (kind : Kind) (m : Move) → StandsAt s at b kind → IsCut p s at → depth ≤ at → n ≡ length (take 1 (drop (at + 1) s)) → at + 1 + n ≤ length s →
+pub braces_skip : (p : Parts) (s : List ℕ) (depth at b n : ℕ) (kind : Kind) (m : ByteMove) → StandsAt s at b kind → IsCut p s at → depth ≤ at → n ≡ length (take 1 (drop (at + 1) s)) → at + 1 + n ≤ length s →
     slice_range s at (at + 1 + n) ≡ b ∷ take 1 (drop (at + 1) s) →
     m ≡ on (bytes (b ∷ take 1 (drop (at + 1) s)) ∷ []) (length (take 1 (drop (at + 1) s))) (InBraces depth) →
-    Does p p s at (InBraces depth) m (Ok (On n (InBraces depth)))
+    DoesMove p p s at (InBraces depth) m (Ok (On n (InBraces depth)))
 braces_skip p s depth at b n kind m stands cut small count within own e =
     rw e (
       ap (λ k. Ok (On k (InBraces depth))) (sym count),
@@ -193,24 +193,24 @@ braces_skip p s depth at b n kind m stands cut small count within own e =
 
 -- ── where words end ──
 
-pub blank_ends : (p : Parts) (s : List ℕ) (at skip : ℕ) (m : Move) → m ≡ on (word_ends at ∷ []) skip Between → IsCharBoundary s (at + 1 + skip) → Does p (with_word p at) s at PastBraces m (Ok (On skip Between))
+pub blank_ends : (p : Parts) (s : List ℕ) (at skip : ℕ) (m : ByteMove) → m ≡ on (word_ends at ∷ []) skip Between → IsCharBoundary s (at + 1 + skip) → DoesMove p (with_word p at) s at PastBraces m (Ok (On skip Between))
 blank_ends p s at skip m e cut = rw e (refl, λ r. word_ended p s at at (at + 1 + skip) r, cut, cut.0, refl)
 
-pub line_ends : (p : Parts) (s : List ℕ) (at : ℕ) (m : Move) → m ≡ on (word_ends at ∷ command_ends ∷ []) 0 Start → IsCharBoundary s (at + 1 + 0) → Does p (with_command (with_word p at)) s at PastBraces m (Ok (On 0 Start))
+pub line_ends : (p : Parts) (s : List ℕ) (at : ℕ) (m : ByteMove) → m ≡ on (word_ends at ∷ command_ends ∷ []) 0 Start → IsCharBoundary s (at + 1 + 0) → DoesMove p (with_command (with_word p at)) s at PastBraces m (Ok (On 0 Start))
 line_ends p s at m e cut =
     rw e (
       refl,
-      λ r. ap (joined p s PastBraces at) (put_first (word_ends at) (command_ends ∷ []) r) ∙ word_ended p s at at at (put (changed (command_ends ∷ [])) r) ∙ command_ended (with_word p at) s at (at + 1 + 0) r,
+      λ r. ap (joined_parts p s PastBraces at) (put_first (word_ends at) (command_ends ∷ []) r) ∙ word_ended p s at at at (put (changed (command_ends ∷ [])) r) ∙ command_ended (with_word p at) s at (at + 1 + 0) r,
       cut,
       cut.0,
       refl,
     )
 
-pub script_ends : (p : Parts) (s : List ℕ) (at : ℕ) (m : Move) → m ≡ ends → IsCharBoundary s at → IsCharBoundary s (at + 1) → Does p (with_command (with_word p at)) s at PastBraces m (Ok Ends)
+pub script_ends : (p : Parts) (s : List ℕ) (at : ℕ) (m : ByteMove) → m ≡ ends → IsCharBoundary s at → IsCharBoundary s (at + 1) → DoesMove p (with_command (with_word p at)) s at PastBraces m (Ok Ends)
 script_ends p s at m e cut cut_after = rw e (refl, simp append-nil, cut, cut_after)
 
 -- The move of a byte that ends words begins with the end of the word; `lead` is what the move puts before that.
-changed_after : (lead cs : List Change) (rest : Rest) → changed (lead ++ cs) rest ≡ changed lead (changed cs rest)
+changed_after : (lead cs : List Change) (rest : TextRest) → changed (lead ++ cs) rest ≡ changed lead (changed cs rest)
 changed_after [] cs rest = refl
 changed_after (c ∷ lead) cs rest = ap (changed_by c) (changed_after lead cs rest)
 
@@ -219,40 +219,40 @@ put_after lead cs (Ok rest) = ap (λ t. Ok t) (changed_after lead cs rest)
 put_after lead cs (Err fault) = refl
 
 module _ (p mid new : Parts) (s : List ℕ) (at : ℕ) (place : BytePlace) (lead : List Change)
-    (over : (r : Read) → joined p s place at (put (changed lead) (put (changed_by text_ends) r)) ≡ joined mid s PastBraces at r)
+    (over : (r : Read) → joined_parts p s place at (put (changed lead) (put (changed_by text_ends) r)) ≡ joined_parts mid s PastBraces at r)
     (whole : ended PastBraces new at ≡ ended place new at) (index : is_index PastBraces ≡ is_index place)
   where
-    absorbs : (ch : List Change) (r : Read) → joined p s place at (put (changed (lead ++ word_ends at ∷ ch)) r) ≡ joined mid s PastBraces at (put (changed (word_ends at ∷ ch)) r)
-    absorbs ch (Ok rest) = ap (joined p s place at) (put_after lead (word_ends at ∷ ch) (Ok rest)) ∙ over (Ok (changed (word_ends at ∷ ch) rest))
+    absorbs : (ch : List Change) (r : Read) → joined_parts p s place at (put (changed (lead ++ word_ends at ∷ ch)) r) ≡ joined_parts mid s PastBraces at (put (changed (word_ends at ∷ ch)) r)
+    absorbs ch (Ok rest) = ap (joined_parts p s place at) (put_after lead (word_ends at ∷ ch) (Ok rest)) ∙ over (Ok (changed (word_ends at ∷ ch) rest))
     absorbs ch (Err fault) = refl
 
     absorbed : (ch : List Change) (step : Result Step ParseFault) (result : Result Step ParseFault) →
-        Does mid new s at PastBraces (record { changes = word_ends at ∷ ch; step = step }) result → Does p new s at place (record { changes = lead ++ word_ends at ∷ ch; step = step }) result
+        DoesMove mid new s at PastBraces (record { changes = word_ends at ∷ ch; step = step }) result → DoesMove p new s at place (record { changes = lead ++ word_ends at ∷ ch; step = step }) result
     absorbed ch step (Ok (On skip next)) d = (d.0, λ r. absorbs ch r ∙ d.1 r, d.2, d.3, d.4 ∙ index)
     absorbed ch step (Ok (Within opener mode)) d = (d.0, λ own mark r. absorbs ch (put (piece_before own) r) ∙ d.1 own mark r, d.2, d.3, d.4 ∙ index)
     absorbed ch step (Ok Ends) d = (d.0, absorbs ch (Ok (last_rest at)) ∙ d.1 ∙ ap (λ w. Ok w) whole, d.2, d.3)
     absorbed ch step (Err fault) d = d
 
-    closed : (result : Result Step ParseFault) → Does mid new s at PastBraces ends result → Does p new s at place (record { changes = lead ++ []; step = Ok Ends }) result
+    closed : (result : Result Step ParseFault) → DoesMove mid new s at PastBraces ends result → DoesMove p new s at place (record { changes = lead ++ []; step = Ok Ends }) result
     closed (Ok (On skip next)) d = absurd (let e : ends.step ≡ Ok (On skip next) = d.0 in cc)
     closed (Ok (Within opener mode)) d = absurd (let e : ends.step ≡ Ok (Within opener mode) = d.0 in cc)
-    closed (Ok Ends) d = (d.0, ap (joined p s place at) (put_after lead [] (Ok (last_rest at))) ∙ over (Ok (last_rest at)) ∙ d.1 ∙ ap (λ w. Ok w) whole, d.2, d.3)
+    closed (Ok Ends) d = (d.0, ap (joined_parts p s place at) (put_after lead [] (Ok (last_rest at))) ∙ over (Ok (last_rest at)) ∙ d.1 ∙ ap (λ w. Ok w) whole, d.2, d.3)
     closed (Err fault) d = d
 
-    pub word_before : (kind : Kind) (behind : List ℕ) (other : Move) (result : Result Step ParseFault) → EndsWord kind →
-        Does mid new s at PastBraces (word_over kind at behind other) result → Does p new s at place (record { changes = lead ++ (word_over kind at behind other).changes; step = (word_over kind at behind other).step }) result
+    pub word_before : (kind : Kind) (behind : List ℕ) (other : ByteMove) (result : Result Step ParseFault) → EndsWord kind →
+        DoesMove mid new s at PastBraces (word_over kind at behind other) result → DoesMove p new s at place (record { changes = lead ++ (word_over kind at behind other).changes; step = (word_over kind at behind other).step }) result
     word_before kind behind other result (inl e) = rw e (absorbed [] (Ok (On 0 Between)) result)
     word_before kind behind other result (inr (inl e)) = rw e (absorbed (command_ends ∷ []) (Ok (On 0 Start)) result)
     word_before kind behind other result (inr (inr (inl e))) = rw e (absorbed (command_ends ∷ []) (Ok (On 0 Start)) result)
     word_before kind behind other result (inr (inr (inr (inl e)))) = rw e (absorbed [] (Ok (On (escape behind).length Between)) result)
     word_before kind behind other result (inr (inr (inr (inr e)))) = rw e (closed result)
 
-pub bare_ends : (p new : Parts) (s : List ℕ) (at : ℕ) (kind : Kind) (behind : List ℕ) (other : Move) (result : Result Step ParseFault) → EndsWord kind →
-    Does (with_literal p s at) new s at PastBraces (word_over kind at behind other) result → Does p new s at (Text Bare) (word_over kind at behind other) result
+pub bare_ends : (p new : Parts) (s : List ℕ) (at : ℕ) (kind : Kind) (behind : List ℕ) (other : ByteMove) (result : Result Step ParseFault) → EndsWord kind →
+    DoesMove (with_literal p s at) new s at PastBraces (word_over kind at behind other) result → DoesMove p new s at (Text Bare) (word_over kind at behind other) result
 bare_ends p new s at kind behind other result ends does =
     word_before p (with_literal p s at) new s at (Text Bare) [] over refl refl kind behind other result ends does
   where
-    over : (r : Read) → joined p s (Text Bare) at (put (changed []) (put (changed_by text_ends) r)) ≡ joined (with_literal p s at) s PastBraces at r
+    over : (r : Read) → joined_parts p s (Text Bare) at (put (changed []) (put (changed_by text_ends) r)) ≡ joined_parts (with_literal p s at) s PastBraces at r
     over (Ok rest) = bare_ended p s at at (Ok rest)
     over (Err fault) = refl
 
@@ -265,14 +265,14 @@ expanded_ends kind b at behind (inr (inr (inr (inl e)))) = rw e refl
 expanded_ends kind b at behind (inr (inr (inr (inr e)))) = rw e refl
 
 pub lone_ends : (p new : Parts) (s : List ℕ) (at b : ℕ) (kind : Kind) (behind : List ℕ) (result : Result Step ParseFault) → IsExpansion s at → EndsWord kind →
-    Does (with_braced (record p { word_start = at - 3; form = BracedForm; expand = false; pieces = []; literal = []; mark = at - 2 }) s (at - 1)) new s at PastBraces (word_over kind at behind ends) result →
-    Does p new s at Expanded (in_expanded kind b at behind) result
+    DoesMove (with_braced (record p { word_start = at - 3; form = BracedForm; expand = false; pieces = []; literal = []; mark = at - 2 }) s (at - 1)) new s at PastBraces (word_over kind at behind ends) result →
+    DoesMove p new s at Expanded (in_expanded kind b at behind) result
 lone_ends p new s at b kind behind result expansion ends_word does =
     same_move p new s at Expanded (in_expanded kind b at behind) (record { changes = lone at ++ (word_over kind at behind ends).changes; step = (word_over kind at behind ends).step }) result
     (expanded_ends kind b at behind ends_word)
     (word_before p (with_braced (record p { word_start = at - 3; form = BracedForm; expand = false; pieces = []; literal = []; mark = at - 2 }) s (at - 1)) new s at Expanded (lone at) over refl refl kind behind ends result ends_word does)
   where
-    over : (r : Read) → joined p s Expanded at (put (changed (lone at)) (put (changed_by text_ends) r)) ≡ joined (with_braced (record p { word_start = at - 3; form = BracedForm; expand = false; pieces = []; literal = []; mark = at - 2 }) s (at - 1)) s PastBraces at r
+    over : (r : Read) → joined_parts p s Expanded at (put (changed (lone at)) (put (changed_by text_ends) r)) ≡ joined_parts (with_braced (record p { word_start = at - 3; form = BracedForm; expand = false; pieces = []; literal = []; mark = at - 2 }) s (at - 1)) s PastBraces at r
     over (Ok rest) = rw expansion.star refl
     over (Err fault) = refl
 
@@ -311,7 +311,7 @@ pub dollar_is : (mode : Mode) (b : ℕ) (behind : List ℕ) (form : DollarForm) 
 dollar_is mode b behind form e = ap (λ f. at_dollar mode f b behind) (sym e)
 
 pub named_goes_on : (p : Parts) (s : List ℕ) (mode : Mode) (at n b : ℕ) → Named n ≡ dollar_of (drop (at + 1) s) → IsCharBoundary s (at + 1 + n) →
-    Does p (with_piece (with_literal p s at) (Variable (slice_range s (at + 1) (at + 1 + n))) (at + 1 + n)) s at (Text mode) (in_text mode Dollar b (drop (at + 1) s)) (Ok (On n (Text mode)))
+    DoesMove p (with_piece (with_literal p s at) (Variable (slice_range s (at + 1) (at + 1 + n))) (at + 1 + n)) s at (Text mode) (in_text mode Dollar b (drop (at + 1) s)) (Ok (On n (Text mode)))
 named_goes_on p s mode at n b form cut =
     piece_goes_on p s mode at n (at + 1 + n) (slice_range s (at + 1) (at + 1 + n)) (in_text mode Dollar b (drop (at + 1) s))
     (dollar_is mode b (drop (at + 1) s) (Named n) form ∙ ap (λ t. on (name t ∷ []) n (Text mode)) (sym (slice_behind s (at + 1) n))) refl cut
@@ -324,13 +324,13 @@ slice_named s at n =
     ap (λ k. take k (drop 1 (drop (at + 1) s))) e ∙ ap (take n) (drop-drop 1 (at + 1) s ∙ ap (λ k. drop k s) f) ∙ sym (slice_behind s (at + 2) n)
 
 pub braced_goes_on : (p : Parts) (s : List ℕ) (mode : Mode) (at n b : ℕ) → Braced n ≡ dollar_of (drop (at + 1) s) → IsCharBoundary s (at + 2 + n + 1) →
-    Does p (with_piece (with_literal p s at) (Variable (slice_range s (at + 2) (at + 2 + n))) (at + 2 + n + 1)) s at (Text mode) (in_text mode Dollar b (drop (at + 1) s)) (Ok (On (n + 2) (Text mode)))
+    DoesMove p (with_piece (with_literal p s at) (Variable (slice_range s (at + 2) (at + 2 + n))) (at + 2 + n + 1)) s at (Text mode) (in_text mode Dollar b (drop (at + 1) s)) (Ok (On (n + 2) (Text mode)))
 braced_goes_on p s mode at n b form cut =
     piece_goes_on p s mode at (n + 2) (at + 2 + n + 1) (slice_range s (at + 2) (at + 2 + n)) (in_text mode Dollar b (drop (at + 1) s))
     (dollar_is mode b (drop (at + 1) s) (Braced n) form ∙ ap (λ t. on (name t ∷ []) (n + 2) (Text mode)) (slice_named s at n)) (omega arith) cut
 
 pub indexed_opens : (p : Parts) (s : List ℕ) (mode : Mode) (at n b : ℕ) → Indexed n ≡ dollar_of (drop (at + 1) s) → IsOpenerCut s at (Index n) →
-    Does p (with_literal p s at) s at (Text mode) (in_text mode Dollar b (drop (at + 1) s)) (Ok (Within (Index n) mode))
+    DoesMove p (with_literal p s at) s at (Text mode) (in_text mode Dollar b (drop (at + 1) s)) (Ok (Within (Index n) mode))
 indexed_opens p s mode at n b form within = text_opens p s mode at (Index n) (in_text mode Dollar b (drop (at + 1) s)) (dollar_is mode b (drop (at + 1) s) (Indexed n) form) within
 
 -- where the source can be cut behind a `$`
@@ -474,30 +474,30 @@ cut_bracket s at cut = let e : at + 1 + 0 ≡ at + 1 = omega arith in record { b
 
 -- ── the end of the text ──
 
-pub start_finish : (p : Parts) (s : List ℕ) (at : ℕ) → joined p s Start at (Ok (last_rest at)) ≡ Ok (script_whole p.commands at)
+pub start_finish : (p : Parts) (s : List ℕ) (at : ℕ) → joined_parts p s Start at (Ok (last_rest at)) ≡ Ok (script_whole p.commands at)
 start_finish p s at = simp append-nil
 
-pub command_finish : (p : Parts) (s : List ℕ) (at : ℕ) → joined p s Between at (Ok (last_rest at)) ≡ Ok (script_whole (with_command p).commands at)
+pub command_finish : (p : Parts) (s : List ℕ) (at : ℕ) → joined_parts p s Between at (Ok (last_rest at)) ≡ Ok (script_whole (with_command p).commands at)
 command_finish p s at = simp append-nil
 
-pub word_finish : (p : Parts) (s : List ℕ) (at : ℕ) → joined p s PastBraces at (Ok (last_rest at)) ≡ Ok (script_whole (with_command (with_word p at)).commands at)
+pub word_finish : (p : Parts) (s : List ℕ) (at : ℕ) → joined_parts p s PastBraces at (Ok (last_rest at)) ≡ Ok (script_whole (with_command (with_word p at)).commands at)
 word_finish p s at = simp append-nil
 
-pub bare_finish : (p : Parts) (s : List ℕ) (at : ℕ) → joined p s (Text Bare) at (Ok (last_rest at)) ≡ Ok (script_whole (with_command (with_word (with_literal p s at) at)).commands at)
+pub bare_finish : (p : Parts) (s : List ℕ) (at : ℕ) → joined_parts p s (Text Bare) at (Ok (last_rest at)) ≡ Ok (script_whole (with_command (with_word (with_literal p s at) at)).commands at)
 bare_finish p s at = bare_ended p s at at (Ok (last_rest at)) ∙ word_finish (with_literal p s at) s at
 
 pub lone_finish : (p : Parts) (s : List ℕ) (at : ℕ) → IsExpansion s at →
-    joined p s Expanded at (put (changed (lone at)) (Ok (last_rest at)))
+    joined_parts p s Expanded at (put (changed (lone at)) (Ok (last_rest at)))
     ≡ Ok (script_whole (with_command (with_word (with_braced (record p { word_start = at - 3; form = BracedForm; expand = false; pieces = []; literal = []; mark = at - 2 }) s (at - 1)) at)).commands at)
 lone_finish p s at expansion = over ∙ word_finish (with_braced (record p { word_start = at - 3; form = BracedForm; expand = false; pieces = []; literal = []; mark = at - 2 }) s (at - 1)) s at
   where
-    over : joined p s Expanded at (put (changed (lone at)) (Ok (last_rest at))) ≡ joined (with_braced (record p { word_start = at - 3; form = BracedForm; expand = false; pieces = []; literal = []; mark = at - 2 }) s (at - 1)) s PastBraces at (Ok (last_rest at))
+    over : joined_parts p s Expanded at (put (changed (lone at)) (Ok (last_rest at))) ≡ joined_parts (with_braced (record p { word_start = at - 3; form = BracedForm; expand = false; pieces = []; literal = []; mark = at - 2 }) s (at - 1)) s PastBraces at (Ok (last_rest at))
     over = rw expansion.star refl
 
-pub start_any : (p : Parts) (s : List ℕ) (place : BytePlace) (at : ℕ) → (place ≡ Start) ⊎ (place ≡ Comment) → joined p s place at (at_end false place at) ≡ Ok (script_whole p.commands at)
+pub start_any : (p : Parts) (s : List ℕ) (place : BytePlace) (at : ℕ) → (place ≡ Start) ⊎ (place ≡ Comment) → joined_parts p s place at (read_at_end false place at) ≡ Ok (script_whole p.commands at)
 start_any p s place at (inl e) = rw e (start_finish p s at)
 start_any p s place at (inr e) = rw e (start_finish p s at)
 
-pub past_any : (p : Parts) (s : List ℕ) (place : BytePlace) (at : ℕ) → (place ≡ PastQuotes) ⊎ (place ≡ PastBraces) → joined p s place at (at_end false place at) ≡ Ok (script_whole (with_command (with_word p at)).commands at)
+pub past_any : (p : Parts) (s : List ℕ) (place : BytePlace) (at : ℕ) → (place ≡ PastQuotes) ⊎ (place ≡ PastBraces) → joined_parts p s place at (read_at_end false place at) ≡ Ok (script_whole (with_command (with_word p at)).commands at)
 past_any p s place at (inl e) = rw e (word_finish p s at)
 past_any p s place at (inr e) = rw e (word_finish p s at)

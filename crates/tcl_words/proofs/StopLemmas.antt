@@ -3,16 +3,16 @@ use Rattle.std.proofs.Common.{◌≡◌, ℕ, Bool, true, false, List, [], ◌�
 use Rattle.tcl_words.specs.Kinds.{kind_before, class_means}
 use Rattle.tcl_words.specs.Classes.{class_of}
 use Rattle.tcl_words.specs.Grammar.{class_ends, ends_word}
-use Rattle.tcl_words.specs.Changes.{Rest, Read, put, changed, last_rest}
+use Rattle.tcl_words.specs.Changes.{TextRest, Read, put, changed, last_rest}
 use Rattle.tcl_text.specs.Backslash.{escape}
 use Rattle.tcl_words.specs.Changes.Change.{word_ends, text_ends, command_ends}
-use Rattle.tcl_words.specs.Moves.{Move, fails, word_over, in_between, in_text}
+use Rattle.tcl_words.specs.Moves.{ByteMove, at_fault, word_over, in_between, in_text}
 use Rattle.tcl_words.specs.declared.kind.Mode.{Mode}
 use Rattle.tcl_words.specs.declared.kind.Mode.TheVariants.{Bare, Quotes, Parens}
 use Rattle.tcl_text.specs.declared.fault.ParseFault.{ParseFault}
 use Rattle.tcl_text.specs.declared.fault.ParseFault.TheVariants.{MissingBracket, ExtraAfterBrace, ExtraAfterQuote}
-use Rattle.tcl_words.specs.Reading.{Level, rest_of, end_of}
-use Rattle.tcl_words.specs.Grammar.{stops, unended_fault}
+use Rattle.tcl_words.specs.Reading.{Level, rest_of, end_or_fault}
+use Rattle.tcl_words.specs.Grammar.{ends_body, unended_fault}
 use Rattle.tcl_words.specs.declared.kind.Kind.{Kind}
 use Rattle.tcl_words.specs.declared.kind.Kind.TheVariants.{Blank, Newline, Semicolon, Hash, Dollar, Quote, OpenBracket, CloseBracket, OpenBrace, Expansion, CloseBrace, CloseParen, Backslash, Continuation, Other}
 use Rattle.tcl_words.specs.declared.kind.BytePlace.{BytePlace}
@@ -26,7 +26,7 @@ pub data EndsWords : BytePlace → Type 0 where
   quotes : EndsWords PastQuotes
   braces : EndsWords PastBraces
 
-over_kind : (other : Move) (inside : Bool) (kind : Kind) (b at : ℕ) (text : List ℕ) (level : Level) → class_ends inside kind text ≡ true →
+over_kind : (other : ByteMove) (inside : Bool) (kind : Kind) (b at : ℕ) (text : List ℕ) (level : Level) → class_ends inside kind text ≡ true →
     after_move (word_over (class_means inside kind text) at text other) level at text ≡ put (changed (word_ends at ∷ [])) (after_move (in_between (class_means inside kind text) b at text) level at text)
 over_kind other inside Blank b at text level e = ap (put (changed (word_ends at ∷ []))) (sym (put-none (rest_of text level 0 Between (at + 1))))
 over_kind other inside Newline b at text level e = sym (put-put (changed (word_ends at ∷ [])) (changed (command_ends ∷ [])) (rest_of text level 0 Start (at + 1)))
@@ -45,7 +45,7 @@ over_kind other inside CloseParen b at text level e = cc
 over_kind other inside Continuation b at text level e = cc
 over_kind other inside Other b at text level e = cc
 
-end_over : (t : Bool) (fault : ParseFault) (at : ℕ) → end_of t fault at ≡ put (changed (word_ends at ∷ [])) (end_of t fault at)
+end_over : (t : Bool) (fault : ParseFault) (at : ℕ) → end_or_fault t fault at ≡ put (changed (word_ends at ∷ [])) (end_or_fault t fault at)
 end_over true fault at = refl
 end_over false fault at = refl
 
@@ -55,8 +55,8 @@ word_stops level place [] at bare_word e = end_over level.inside MissingBracket 
 word_stops level place [] at quotes e = end_over level.inside MissingBracket at
 word_stops level place [] at braces e = end_over level.inside MissingBracket at
 word_stops level place (b ∷ text) at bare_word e = over_kind (in_text Bare (kind_before level.inside b text) b text) level.inside (class_of b) b at text level e
-word_stops level place (b ∷ text) at quotes e = over_kind (fails ExtraAfterQuote) level.inside (class_of b) b at text level e
-word_stops level place (b ∷ text) at braces e = over_kind (fails ExtraAfterBrace) level.inside (class_of b) b at text level e
+word_stops level place (b ∷ text) at quotes e = over_kind (at_fault ExtraAfterQuote) level.inside (class_of b) b at text level e
+word_stops level place (b ∷ text) at braces e = over_kind (at_fault ExtraAfterBrace) level.inside (class_of b) b at text level e
 
 -- the quote that ends a word
 pub quote_read : (level : Level) (text : List ℕ) (at : ℕ) → rest_of (34 ∷ text) level 0 (Text Quotes) at ≡ put (changed (text_ends ∷ [])) (rest_of text level 0 PastQuotes (at + 1))
@@ -67,17 +67,17 @@ pub paren_read : (room : ℕ) (text : List ℕ) (at : ℕ) → rest_of (41 ∷ t
 unfolding class_of
 paren_read room text at = refl
 
-abbrev cleared : Rest → Rest
+abbrev cleared : TextRest → TextRest
 cleared rest = record rest { bytes = []; pieces = [] }
 
-clear_from : (f : Rest → Rest) (r s : Read) → ((x : Rest) → cleared (f x) ≡ f x) → r ≡ put f s → r ≡ put cleared r
+clear_from : (f : TextRest → TextRest) (r s : Read) → ((x : TextRest) → cleared (f x) ≡ f x) → r ≡ put f s → r ≡ put cleared r
 clear_from f r s h e = e ∙ again s ∙ ap (put cleared) (sym e)
   where
     again : (q : Read) → put f q ≡ put cleared (put f q)
     again (Ok rest) = ap (λ x. Ok x) (sym (h rest))
     again (Err fault) = refl
 
-pub stop_clear : (inside : Bool) (room : ℕ) (mode : Mode) (text : List ℕ) (at : ℕ) → stops inside mode text ≡ true →
+pub stop_clear : (inside : Bool) (room : ℕ) (mode : Mode) (text : List ℕ) (at : ℕ) → ends_body inside mode text ≡ true →
     rest_of text (record { inside = inside; room = room }) 0 (Text mode) at ≡ put (λ rest. record rest { bytes = []; pieces = [] }) (rest_of text (record { inside = inside; room = room }) 0 (Text mode) at)
 stop_clear inside room Bare text at h =
     let level : Level = record { inside = inside; room = room } in
@@ -96,7 +96,7 @@ stop_clear true room Parens (b ∷ text) at h =
     e ∙ ap (put (λ rest. record rest { bytes = []; pieces = [] })) (sym e)
 stop_clear false room Parens (b ∷ text) at h = cc
 
-pub unended_read : (inside : Bool) (room : ℕ) (mode : Mode) (at : ℕ) → stops inside mode [] ≡ false → rest_of [] (record { inside = inside; room = room }) 0 (Text mode) at ≡ Err (unended_fault mode)
+pub unended_read : (inside : Bool) (room : ℕ) (mode : Mode) (at : ℕ) → ends_body inside mode [] ≡ false → rest_of [] (record { inside = inside; room = room }) 0 (Text mode) at ≡ Err (unended_fault mode)
 unended_read inside room Bare at h = cc
 unended_read inside room Quotes at h = refl
 unended_read true room Parens at h = refl

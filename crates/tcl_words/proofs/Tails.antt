@@ -6,8 +6,8 @@ use Rattle.std.specs.List.{starts_with}
 use Rattle.std.proofs.lemmas.Bool.{cond_both}
 use Rattle.std.proofs.lemmas.Bool.Decides.{nat_tests}
 use Rattle.tcl_text.specs.Backslash.{Digits, Escape, digits_from, numbered, blanks, escape}
-use Rattle.tcl_words.specs.Classes.{class_of, is_blank, is_letter}
-use Rattle.tcl_words.specs.Grammar.{begins, begins_letter, begins_name, begins_space, class_ends, ends_word}
+use Rattle.tcl_words.specs.Classes.{class_of, is_blank, is_name_byte}
+use Rattle.tcl_words.specs.Grammar.{begins, begins_name_byte, begins_name, begins_space, class_ends, ends_word}
 use Rattle.tcl_words.specs.declared.kind.Kind.{Kind}
 use Rattle.tcl_words.specs.declared.kind.Kind.TheVariants.{Blank, Newline, Semicolon, Hash, Dollar, Quote, OpenBracket, CloseBracket, OpenBrace, Expansion, CloseBrace, CloseParen, Backslash, Continuation, Other}
 use Rattle.tcl_words.proofs.ClassLemmas.{byte_is}
@@ -19,7 +19,7 @@ begins_digit (b ∷ text) = nat_lt (digit_value b) 16
 
 -- nothing in front of this goes on into it
 pub record Inert (left : List ℕ) : Type 0 where
-  pub letter : begins_letter left ≡ false
+  pub letter : begins_name_byte left ≡ false
   pub paren : begins 40 left ≡ false
   pub brace : begins 123 left ≡ false
   pub colon : starts_with nat_eq left (58 ∷ []) ≡ false
@@ -29,7 +29,7 @@ pub inert_none : Inert []
 inert_none = record { letter = refl; paren = refl; brace = refl; colon = refl; digit = refl }
 
 abbrev InertByte : ℕ → Type 0
-InertByte b = (is_letter b ≡ false) × ((b == 40) ≡ false) × ((b == 123) ≡ false) × ((nat_eq 58 b && true) ≡ false) × (nat_lt (digit_value b) 16 ≡ false)
+InertByte b = (is_name_byte b ≡ false) × ((b == 40) ≡ false) × ((b == 123) ≡ false) × ((nat_eq 58 b && true) ≡ false) × (nat_lt (digit_value b) 16 ≡ false)
 
 inert_byte : (b : ℕ) (text : List ℕ) → InertByte b → Inert (b ∷ text)
 inert_byte b text h = record { letter = h.0; paren = h.1; brace = h.2; colon = h.3; digit = h.4 }
@@ -147,7 +147,7 @@ escape_some c cs =
 
 -- Names.
 
-pub letter_inert : (own left other : List ℕ) → begins_letter (own ++ left) ≡ false → Inert other → begins_letter (own ++ other) ≡ false
+pub letter_inert : (own left other : List ℕ) → begins_name_byte (own ++ left) ≡ false → Inert other → begins_name_byte (own ++ other) ≡ false
 letter_inert [] left other h inert = inert.letter
 letter_inert (b ∷ own) left other h inert = h
 
@@ -183,13 +183,13 @@ one_colon b (c ∷ left) h = ap (λ t. nat_eq 58 b && t) h.colon ∙ and_none (n
 pub name_inert : (own left other : List ℕ) → begins_name (own ++ left) ≡ false → Inert other → begins_name (own ++ other) ≡ false
 name_inert [] left other h inert = rw (inert.letter, colons_none other inert) refl
 name_inert (b ∷ []) left other h inert =
-    let two = or_false (is_letter b) (starts_with nat_eq (b ∷ left) (58 ∷ 58 ∷ []) && begins_letter (drop 2 (b ∷ left))) h in
+    let two = or_false (is_name_byte b) (starts_with nat_eq (b ∷ left) (58 ∷ 58 ∷ []) && begins_name_byte (drop 2 (b ∷ left))) h in
     rw (two.0, one_colon b other inert) refl
 name_inert (b ∷ c ∷ own) left other h inert =
     let s : Bool = nat_eq 58 b && (nat_eq 58 c && true) in
-    let two = or_false (is_letter b) (s && begins_letter (own ++ left)) h in
-    rw (two.0) (go s (begins_letter (own ++ left)) two.1 (λ e. letter_inert own left other e inert))
+    let two = or_false (is_name_byte b) (s && begins_name_byte (own ++ left)) h in
+    rw (two.0) (go s (begins_name_byte (own ++ left)) two.1 (λ e. letter_inert own left other e inert))
   where
-    go : (s t : Bool) → (s && t) ≡ false → (t ≡ false → begins_letter (own ++ other) ≡ false) → (s && begins_letter (own ++ other)) ≡ false
+    go : (s t : Bool) → (s && t) ≡ false → (t ≡ false → begins_name_byte (own ++ other) ≡ false) → (s && begins_name_byte (own ++ other)) ≡ false
     go true t h k = k h
     go false t h k = refl

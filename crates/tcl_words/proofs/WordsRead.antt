@@ -5,12 +5,12 @@ use Rattle.tcl_words.specs.Kinds.{kind_before, class_means}
 use Rattle.tcl_words.specs.Classes.{class_of, begins_expansion}
 use Rattle.tcl_words.specs.Grammar.{class_ends, ends_word}
 use Rattle.tcl_text.specs.Backslash.{escape}
-use Rattle.tcl_words.specs.Changes.{Rest, Read, put, changed, pieces_of}
+use Rattle.tcl_words.specs.Changes.{TextRest, Read, put, changed, word_pieces}
 use Rattle.tcl_words.specs.Spans.{word_of}
 use Rattle.tcl_words.specs.Changes.Change.{bytes as put_bytes, text_ends, word_ends, word_begins, command_ends}
-use Rattle.tcl_words.specs.Moves.{Move, move_of, on, lone, in_expanded, in_between, before, word_over}
-use Rattle.tcl_words.specs.Moves.{fails as fails_with}
-use Rattle.tcl_words.specs.Reading.{Level, rest_of, past, within, end_of}
+use Rattle.tcl_words.specs.Moves.{ByteMove, move_of, on, lone, in_expanded, in_between, change_before, word_over}
+use Rattle.tcl_words.specs.Moves.{at_fault as fails_with}
+use Rattle.tcl_words.specs.Reading.{Level, rest_of, past, within, end_or_fault}
 use Rattle.tcl_words.specs.Grammar.{TextEnding, fails, Inner, IsInnerOf, begins_bare, begins_mark, IsBraced, IsUnclosed, IsOwnWord, IsFaultyOwn, IsMark, IsWord, IsFaultyWord}
 use Rattle.tcl_words.specs.Grammar.IsOwnWord.{bare_word, quoted_word, braced_word}
 use Rattle.tcl_words.specs.Grammar.IsFaultyOwn.{faulty_bare, faulty_quoted, followed_quoted, unclosed_braced, followed_braced}
@@ -59,7 +59,7 @@ other_byte b c h e = absurd (grind (arith, nat_tests))
 -- The first byte of a word.
 
 bare_kinds : (expand inside : Bool) (kind : Kind) (b at : ℕ) (text : List ℕ) → class_ends inside kind text ≡ false → kind ≢ OpenBrace → kind ≢ Expansion → kind ≢ Quote → kind ≢ Continuation →
-    move_of (word_place expand) (class_means inside kind text) b at text ≡ before (word_begins BareForm expand (word_start expand at)) (move_of (Text Bare) (class_means inside kind text) b at text)
+    move_of (word_place expand) (class_means inside kind text) b at text ≡ change_before (word_begins BareForm expand (word_start expand at)) (move_of (Text Bare) (class_means inside kind text) b at text)
 bare_kinds expand inside OpenBrace b at text h h1 h2 h3 h4 = absurd (h1 refl)
 bare_kinds expand inside Expansion b at text h h1 h2 h3 h4 = absurd (h2 refl)
 bare_kinds expand inside Quote b at text h h1 h2 h3 h4 = absurd (h3 refl)
@@ -88,8 +88,8 @@ bare_kinds false inside CloseBrace b at text h h1 h2 h3 h4 = refl
 bare_kinds true inside Other b at text h h1 h2 h3 h4 = refl
 bare_kinds false inside Other b at text h h1 h2 h3 h4 = refl
 
-begun : (level : Level) (form : WordForm) (expand : Bool) (start : ℕ) (move : Move) (at : ℕ) (text : List ℕ) →
-    after_move (before (word_begins form expand start) move) level at text ≡ put (changed (word_begins form expand start ∷ [])) (after_move move level at text)
+begun : (level : Level) (form : WordForm) (expand : Bool) (start : ℕ) (move : ByteMove) (at : ℕ) (text : List ℕ) →
+    after_move (change_before (word_begins form expand start) move) level at text ≡ put (changed (word_begins form expand start ∷ [])) (after_move move level at text)
 begun level form expand start move at text =
     sym (put-put (changed (word_begins form expand start ∷ [])) (changed move.changes)
     (past move.step level.room at text (λ skip next. rest_of text level skip next (at + 1)) (λ room skip next. rest_of text (within room) skip next 0)))
@@ -100,8 +100,8 @@ bare_begins level expand [] at h = cc
 bare_begins level expand (b ∷ text) at h =
     let two = both (not (class_ends level.inside (class_of b) text)) (not (b == 123) && not (b == 34)) h in
     let more = both (not (b == 123)) (not (b == 34)) two.1 in
-    let move : Move = move_of (Text Bare) (kind_before level.inside b text) b at text in
-    moved_by (before (word_begins BareForm expand (word_start expand at)) move) (word_place expand) b text level at
+    let move : ByteMove = move_of (Text Bare) (kind_before level.inside b text) b at text in
+    moved_by (change_before (word_begins BareForm expand (word_start expand at)) move) (word_place expand) b text level at
     (bare_kinds expand level.inside (class_of b) b at text (not_true (class_ends level.inside (class_of b) text) two.0)
     (other_class b 123 OpenBrace (not_true (b == 123) more.0) (byte_is b OpenBrace)) (λ e. byte_is b Expansion e)
     (other_class b 34 Quote (not_true (b == 34) more.1) (byte_is b Quote)) (λ e. byte_is b Continuation e))
@@ -134,17 +134,17 @@ brace_begins level false text at h =
     (ap (λ t. move_of Between (if t then Expansion else OpenBrace) 123 at text) h)
 
 -- a word that was read, with its start and its end
-abbrev pub word_front : Word → Rest → Rest
+abbrev pub word_front : Word → TextRest → TextRest
 word_front word rest = record rest { bytes = []; pieces = []; end = 0; words = word ∷ rest.words }
 
 bare_front : (expand : Bool) (start end : ℕ) (bytes : List ℕ) (after : List Piece) (r : Read) →
-    put (changed (word_begins BareForm expand start ∷ [])) (put (with_text bytes after) (put (changed (word_ends end ∷ [])) r)) ≡ put (word_front (word_of BareForm expand start (pieces_of BareForm bytes after) end)) r
+    put (changed (word_begins BareForm expand start ∷ [])) (put (with_text bytes after) (put (changed (word_ends end ∷ [])) r)) ≡ put (word_front (word_of BareForm expand start (word_pieces BareForm bytes after) end)) r
 bare_front expand start end bytes after (Ok rest) = refl
 bare_front expand start end bytes after (Err fault) = refl
 
 quoted_front : (expand : Bool) (start end : ℕ) (bytes : List ℕ) (after : List Piece) (r : Read) →
     put (changed (word_begins QuotedForm expand start ∷ [])) (put (with_text bytes after) (put (changed (text_ends ∷ [])) (put (changed (word_ends end ∷ [])) r)))
-    ≡ put (word_front (word_of QuotedForm expand start (pieces_of QuotedForm bytes after) end)) r
+    ≡ put (word_front (word_of QuotedForm expand start (word_pieces QuotedForm bytes after) end)) r
 quoted_front expand start end bytes after (Ok rest) = refl
 quoted_front expand start end bytes after (Err fault) = refl
 
@@ -194,7 +194,7 @@ lone_kind inside CloseParen b at text level e = cc
 lone_kind inside Continuation b at text level e = cc
 lone_kind inside Other b at text level e = cc
 
-lone_end : (t : Bool) (at : ℕ) → put (changed (lone at)) (end_of t MissingBracket at) ≡ put (word_front (star_word at)) (end_of t MissingBracket at)
+lone_end : (t : Bool) (at : ℕ) → put (changed (lone at)) (end_or_fault t MissingBracket at) ≡ put (word_front (star_word at)) (end_or_fault t MissingBracket at)
 lone_end true at = refl
 lone_end false at = refl
 
@@ -286,7 +286,7 @@ own_read inside room inner {rest} (braced_word own {value} are) expand at ends =
 
 -- What follows the quote or the brace that ends a word.
 
-over_other : (inside : Bool) (kind : Kind) (at : ℕ) (text : List ℕ) (other : Move) → class_ends inside kind text ≡ false → kind ≢ Continuation → word_over (class_means inside kind text) at text other ≡ other
+over_other : (inside : Bool) (kind : Kind) (at : ℕ) (text : List ℕ) (other : ByteMove) → class_ends inside kind text ≡ false → kind ≢ Continuation → word_over (class_means inside kind text) at text other ≡ other
 over_other inside Blank at text other h n = cc
 over_other inside Newline at text other h n = cc
 over_other inside Semicolon at text other h n = cc

@@ -2,8 +2,8 @@
 use Rattle.std.specs.Prelude.{ℕ, suc, ◌+◌, ◌-◌, ◌≡◌, ◌<◌, ◌≤◌, Bool, true, false, List, [], ◌∷◌, length, drop, take, Result, Ok, Err}
 use Rattle.std.specs.List.{slice_range}
 use Rattle.std.specs.Str.{IsCharBoundary}
-use Rattle.tcl_words.specs.Reading.{Level, rest_of, first_place, first_skip, opened_piece, commands_of, index_pieces_of}
-use Rattle.tcl_words.specs.Parts.{Parts, Whole, joined, no_parts, with_piece, is_index, ended, IsFine, IsOpenerCut}
+use Rattle.tcl_words.specs.Reading.{Level, rest_of, opened_place, first_skip, opened_piece, commands_of, index_pieces_of}
+use Rattle.tcl_words.specs.Parts.{Parts, Whole, joined_parts, no_parts, with_piece, is_index, ended, IsFine, IsOpenerCut}
 use Rattle.tcl_words.specs.declared.kind.BytePlace.{BytePlace}
 use Rattle.tcl_words.specs.declared.kind.BytePlace.TheVariants.{Start, Text}
 use Rattle.tcl_words.specs.declared.kind.Opener.{Opener}
@@ -19,29 +19,30 @@ use Rattle.tcl_text.specs.Limits.{most_nested}
 abbrev pub outset : Origin
 outset = record { base = 0; inside = false; room = most_nested; skip = 0; place = Start }
 
-abbrev pub level_of : Origin → Level
-level_of origin = record { inside = origin.inside; room = origin.room }
+abbrev pub origin_level : Origin → Level
+origin_level origin = record { inside = origin.inside; room = origin.room }
 
 -- what a script or an index gives by itself
 abbrev pub own : List ℕ → Origin → Result Whole ParseFault
 own source origin =
-    joined (no_parts origin.skip) (drop origin.base source) origin.place origin.skip (rest_of (drop origin.base source) (level_of origin) origin.skip origin.place 0)
+    joined_parts (no_parts origin.skip) (drop origin.base source) origin.place origin.skip
+    (rest_of (drop origin.base source) (origin_level origin) origin.skip origin.place 0)
 
 -- how that begins which is opened at this position
 abbrev pub opened : Origin → ℕ → Opener → Origin
-opened origin at opener = record { base = origin.base + (at + 1); inside = true; room = origin.room - 1; skip = first_skip opener; place = first_place opener }
+opened origin at opener = record { base = origin.base + (at + 1); inside = true; room = origin.room - 1; skip = first_skip opener; place = opened_place opener }
 
 -- what waits, once it has what it waited for
-abbrev pub resumed : List ℕ → Waiting → Result Whole ParseFault → Result Whole ParseFault
-resumed source waiting (Ok whole) =
+abbrev pub waiting_resumed : List ℕ → Waiting → Result Whole ParseFault → Result Whole ParseFault
+waiting_resumed source waiting (Ok whole) =
     let behind : List ℕ = drop (waiting.at + 1) (drop waiting.origin.base source) in
     let end : ℕ = waiting.at + 1 + suc whole.close in
-    joined (with_piece waiting.parts (opened_piece waiting.opener behind whole.close) end) (drop waiting.origin.base source) (Text waiting.mode) end
-    (rest_of behind (level_of waiting.origin) (suc whole.close) (Text waiting.mode) (waiting.at + 1))
-resumed source waiting (Err fault) = Err fault
+    joined_parts (with_piece waiting.parts (opened_piece waiting.opener behind whole.close) end) (drop waiting.origin.base source) (Text waiting.mode) end
+    (rest_of behind (origin_level waiting.origin) (suc whole.close) (Text waiting.mode) (waiting.at + 1))
+waiting_resumed source waiting (Err fault) = Err fault
 
 pub record IsWaiting (source : List ℕ) (waiting : Waiting) : Type 0 where
-  pub resumes : resumed source waiting (own source (opened waiting.origin waiting.at waiting.opener)) ≡ own source waiting.origin
+  pub resumes : waiting_resumed source waiting (own source (opened waiting.origin waiting.at waiting.opener)) ≡ own source waiting.origin
   pub literal : waiting.parts.literal ≡ []
   pub index : is_index (Text waiting.mode) ≡ is_index waiting.origin.place
   pub base : IsCharBoundary source waiting.origin.base
@@ -51,13 +52,15 @@ pub record IsWaiting (source : List ℕ) (waiting : Waiting) : Type 0 where
 -- each waits for the next, the last for what begins so
 abbrev pub IsChain : List ℕ → Origin → List Waiting → Origin → Type 0
 IsChain source first [] origin = first ≡ origin
-IsChain source first (waiting ∷ others) origin = (waiting.origin ≡ first) × IsWaiting source waiting × IsChain source (opened waiting.origin waiting.at waiting.opener) others origin
+IsChain source first (waiting ∷ others) origin =
+    (waiting.origin ≡ first) × IsWaiting source waiting × IsChain source (opened waiting.origin waiting.at waiting.opener) others origin
 
 -- What is open gives, with the rest of the text, what it gives by itself. It began so, and reading goes on at this place of
 -- it, at this position from its base; these wait for it, the outermost of which began first.
 pub record IsReading (first : Origin) (source : List ℕ) (others : List Waiting) (origin : Origin) (parts : Parts) (place : BytePlace) (next : ℕ) : Type 0 where
   pub chain : IsChain source first others origin
-  pub reads : joined parts (drop origin.base source) place next (rest_of (drop next (drop origin.base source)) (level_of origin) 0 place next) ≡ own source origin
+  pub reads : joined_parts parts (drop origin.base source) place next (rest_of (drop next (drop origin.base source)) (origin_level origin) 0 place next)
+      ≡ own source origin
   pub fine : IsFine parts (drop origin.base source) place next
   pub base : IsCharBoundary source origin.base
   pub within : origin.base + next ≤ length source
@@ -69,7 +72,8 @@ abbrev pub waits_for : Origin → Parts → ℕ → Opener → Mode → Waiting
 waits_for origin parts at opener mode = record { origin = origin; parts = parts; at = at; opener = opener; mode = mode }
 
 -- a bracket or a parenthesis opens at this position
-pub record IsOpening (first : Origin) (source : List ℕ) (others : List Waiting) (origin : Origin) (parts : Parts) (at : ℕ) (opener : Opener) (mode : Mode) : Type 0 where
+pub record IsOpening (first : Origin) (source : List ℕ) (others : List Waiting) (origin : Origin) (parts : Parts)
+    (at : ℕ) (opener : Opener) (mode : Mode) : Type 0 where
   pub chain : IsChain source first others origin
   pub waits : 0 < origin.room → IsWaiting source (waits_for origin parts at opener mode)
   pub full : origin.room ≡ 0 → own source origin ≡ Err TooLong
@@ -77,7 +81,7 @@ pub record IsOpening (first : Origin) (source : List ℕ) (others : List Waiting
   pub cut : IsOpenerCut source (origin.base + at) opener
 
 -- what is open ends at this position
-pub record IsEnding (first : Origin) (source : List ℕ) (others : List Waiting) (origin : Origin) (parts : Parts) (place : BytePlace) (at : ℕ) : Type 0 where
+pub record IsClosing (first : Origin) (source : List ℕ) (others : List Waiting) (origin : Origin) (parts : Parts) (place : BytePlace) (at : ℕ) : Type 0 where
   pub chain : IsChain source first others origin
   pub inside : origin.inside ≡ true
   pub ends : own source origin ≡ Ok (ended place parts at)
@@ -88,7 +92,7 @@ pub record IsEnding (first : Origin) (source : List ℕ) (others : List Waiting)
 -- Past a byte: reading goes on, further than before, or what began first has ended there.
 abbrev pub Goes : Bool → Origin → List ℕ → List Waiting → Origin → Parts → BytePlace → ℕ → ℕ → Type 0
 Goes false first source others origin parts place next before = IsReading first source others origin parts place next × (before < origin.base + next)
-Goes true first source others origin parts place next before = (others ≡ []) × IsEnding first source others origin parts place next
+Goes true first source others origin parts place next before = (others ≡ []) × IsClosing first source others origin parts place next
 
 -- the parts of what was opened are those of its text, which ends so many bytes behind its base
 abbrev pub IsParse : Opener → List ℕ → ℕ → Parts → Type 0

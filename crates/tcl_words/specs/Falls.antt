@@ -40,5 +40,6 @@ words_fall a = omega (arith, words_most a.words.items)
 pub index_falls : (a : IndexInside) → pieces_room a.parsed.value.pieces < text_room a.parsed.value.text → deep-Index a ≤ text_room a.parsed.value.text
 index_falls a h = omega arith
 
-pub script_falls : (a : ScriptInside) → commands_room a.parsed.value.commands.items ≤ text_room a.parsed.value.text → deep-Script a ≤ text_room a.parsed.value.text
+pub script_falls : (a : ScriptInside) → commands_room a.parsed.value.commands.items ≤ text_room a.parsed.value.text →
+    deep-Script a ≤ text_room a.parsed.value.text
 script_falls a h = omega (arith, commands_most a.parsed.value.commands.items)

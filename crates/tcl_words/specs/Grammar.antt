@@ -6,8 +6,8 @@ use Rattle.std.specs.List.{starts_with}
 use Rattle.std.specs.Str.{IsUtf8}
 use Rattle.tcl_text.specs.Bytes.{tab, line_feed, space, quote, hash, dollar_sign, open_paren, close_paren, star, colon, semicolon, open_bracket, backslash_sign, close_bracket, open_brace, close_brace}
 use Rattle.tcl_text.specs.Backslash.{escape}
-use Rattle.tcl_words.specs.Classes.{class_of, is_letter, begins_newline, begins_expansion}
-use Rattle.tcl_words.specs.Spans.{command_of, word_of}
+use Rattle.tcl_words.specs.Classes.{class_of, is_name_byte, begins_newline, begins_expansion}
+use Rattle.tcl_words.specs.Spans.{command_from, word_of}
 use Rattle.tcl_words.specs.declared.kind.Mode.{Mode}
 use Rattle.tcl_words.specs.declared.kind.Mode.TheVariants.{Bare, Quotes, Parens}
 use Rattle.tcl_words.specs.declared.kind.Kind.{Kind}
@@ -40,13 +40,13 @@ abbrev pub begins : ℕ → List ℕ → Bool
 begins b [] = false
 begins b (c ∷ text) = c == b
 
-abbrev pub begins_letter : List ℕ → Bool
-begins_letter [] = false
-begins_letter (b ∷ text) = is_letter b
+abbrev pub begins_name_byte : List ℕ → Bool
+begins_name_byte [] = false
+begins_name_byte (b ∷ text) = is_name_byte b
 
 -- a name stands at the front: `::` or nothing, and then a letter, a digit or `_`
 abbrev pub begins_name : List ℕ → Bool
-begins_name text = begins_letter text || (starts_with nat_eq text (colon ∷ colon ∷ []) && begins_letter (drop 2 text))
+begins_name text = begins_name_byte text || (starts_with nat_eq text (colon ∷ colon ∷ []) && begins_name_byte (drop 2 text))
 
 -- A byte of this class, and then this text, end the word before them. `inside` says that the script or the index ends at a
 -- closing bracket or parenthesis.
@@ -69,13 +69,13 @@ begins_mark inside [] = false
 begins_mark inside (b ∷ text) = b == open_brace && (begins_expansion text && not (ends_word inside (drop 2 text)))
 
 -- letters, digits and `_`
-abbrev pub AreLetters : List ℕ → Type 0
-AreLetters [] = Unit {0}
-AreLetters (b ∷ text) = (is_letter b ≡ true) × AreLetters text
+abbrev pub AreNameBytes : List ℕ → Type 0
+AreNameBytes [] = Unit {0}
+AreNameBytes (b ∷ text) = (is_name_byte b ≡ true) × AreNameBytes text
 
 -- a variable's name: at least one of these, and before that `::` or nothing
 abbrev pub IsName : List ℕ → Type 0
-IsName name = (b : ℕ) × (letters : List ℕ) × (is_letter b ≡ true) × AreLetters letters × ((name ≡ b ∷ letters) ⊎ (name ≡ colon ∷ colon ∷ b ∷ letters))
+IsName name = (b : ℕ) × (letters : List ℕ) × (is_name_byte b ≡ true) × AreNameBytes letters × ((name ≡ b ∷ letters) ⊎ (name ≡ colon ∷ colon ∷ b ∷ letters))
 
 -- no `}`
 abbrev pub HasNoBrace : List ℕ → Type 0
@@ -88,10 +88,10 @@ index_stops inside [] = not inside
 index_stops inside (b ∷ text) = inside && b == close_paren
 
 -- the body ends before this text
-abbrev pub stops : Bool → Mode → List ℕ → Bool
-stops inside Bare text = ends_word inside text
-stops inside Quotes text = begins quote text
-stops inside Parens text = index_stops inside text
+abbrev pub ends_body : Bool → Mode → List ℕ → Bool
+ends_body inside Bare text = ends_word inside text
+ends_body inside Quotes text = begins quote text
+ends_body inside Parens text = index_stops inside text
 
 -- the fault of a body that never ends
 abbrev pub unended_fault : Mode → ParseFault
@@ -120,34 +120,42 @@ with_bytes (b ∷ bytes) (Bracket own ∷ pieces) = Literal (b ∷ bytes) ∷ Br
 -- fault the pieces are those before it.
 pub data ArePieces (IsInner : Inner → List ℕ → TextEnding → Type 0) (inside : Bool) (mode : Mode) : List ℕ → List Piece → TextEnding → Type 0 where
   -- it ends before this text
-  stop : {text : List ℕ} → stops inside mode text ≡ true → ArePieces IsInner inside mode text [] (leaves text)
+  stop : {text : List ℕ} → ends_body inside mode text ≡ true → ArePieces IsInner inside mode text [] (leaves text)
   -- it should have ended
-  unended : stops inside mode [] ≡ false → ArePieces IsInner inside mode [] [] (fails (unended_fault mode))
+  unended : ends_body inside mode [] ≡ false → ArePieces IsInner inside mode [] [] (fails (unended_fault mode))
   -- a byte that stands for itself
-  byte : {b : ℕ} {text : List ℕ} {pieces : List Piece} {ending : TextEnding} → stops inside mode (b ∷ text) ≡ false → is_plain (class_of b) ≡ true →
+  byte : {b : ℕ} {text : List ℕ} {pieces : List Piece} {ending : TextEnding} → ends_body inside mode (b ∷ text) ≡ false → is_plain (class_of b) ≡ true →
       ArePieces IsInner inside mode text pieces ending → ArePieces IsInner inside mode (b ∷ text) (with_bytes (b ∷ []) pieces) ending
   -- a backslash, with as much of the text behind it as it takes
-  backslash : {text : List ℕ} {pieces : List Piece} {ending : TextEnding} → stops inside mode (backslash_sign ∷ text) ≡ false →
-      ArePieces IsInner inside mode (drop (escape text).length text) pieces ending → ArePieces IsInner inside mode (backslash_sign ∷ text) (with_bytes (escape text).meaning pieces) ending
+  backslash : {text : List ℕ} {pieces : List Piece} {ending : TextEnding} → ends_body inside mode (backslash_sign ∷ text) ≡ false →
+      ArePieces IsInner inside mode (drop (escape text).length text) pieces ending →
+      ArePieces IsInner inside mode (backslash_sign ∷ text) (with_bytes (escape text).meaning pieces) ending
   -- a `$` that stands for itself
   dollar : {text : List ℕ} {pieces : List Piece} {ending : TextEnding} → begins_name text ≡ false → begins open_brace text ≡ false →
       ArePieces IsInner inside mode text pieces ending → ArePieces IsInner inside mode (dollar_sign ∷ text) (with_bytes (dollar_sign ∷ []) pieces) ending
   -- `$name`: the name goes as far as it can
-  variable : (name : List ℕ) {text : List ℕ} {pieces : List Piece} {ending : TextEnding} → IsName name → begins_letter text ≡ false → begins open_paren text ≡ false →
+  variable : (name : List ℕ) {text : List ℕ} {pieces : List Piece} {ending : TextEnding} → IsName name → begins_name_byte text ≡ false →
+      begins open_paren text ≡ false →
       ArePieces IsInner inside mode text pieces ending → ArePieces IsInner inside mode (dollar_sign ∷ (name ++ text)) (Variable name ∷ pieces) ending
   -- `${name}`: any text up to the first brace
   braced_name : (name : List ℕ) {text : List ℕ} {pieces : List Piece} {ending : TextEnding} → HasNoBrace name →
-      ArePieces IsInner inside mode text pieces ending → ArePieces IsInner inside mode (dollar_sign ∷ open_brace ∷ (name ++ close_brace ∷ text)) (Variable name ∷ pieces) ending
+      ArePieces IsInner inside mode text pieces ending →
+      ArePieces IsInner inside mode (dollar_sign ∷ open_brace ∷ (name ++ close_brace ∷ text)) (Variable name ∷ pieces) ending
   unclosed_name : {text : List ℕ} → HasNoBrace text → ArePieces IsInner inside mode (dollar_sign ∷ open_brace ∷ text) [] (fails MissingBrace)
   -- `$name(index)`
-  element : (name own : List ℕ) {text : List ℕ} {pieces : List Piece} {ending : TextEnding} → IsName name → IsInner index (own ++ close_paren ∷ text) (leaves (close_paren ∷ text)) →
-      ArePieces IsInner inside mode text pieces ending → ArePieces IsInner inside mode (dollar_sign ∷ (name ++ open_paren ∷ (own ++ close_paren ∷ text))) (Element name own ∷ pieces) ending
+  element : (name own : List ℕ) {text : List ℕ} {pieces : List Piece} {ending : TextEnding} → IsName name →
+      IsInner index (own ++ close_paren ∷ text) (leaves (close_paren ∷ text)) →
+      ArePieces IsInner inside mode text pieces ending →
+      ArePieces IsInner inside mode (dollar_sign ∷ (name ++ open_paren ∷ (own ++ close_paren ∷ text))) (Element name own ∷ pieces) ending
   faulty_index : (name : List ℕ) {text : List ℕ} {fault : ParseFault} → IsName name → IsInner index text (fails fault) →
       ArePieces IsInner inside mode (dollar_sign ∷ (name ++ open_paren ∷ text)) [] (fails fault)
   -- a script in brackets
-  bracket : (own : List ℕ) {text : List ℕ} {pieces : List Piece} {ending : TextEnding} → IsInner script (own ++ close_bracket ∷ text) (leaves (close_bracket ∷ text)) →
-      ArePieces IsInner inside mode text pieces ending → ArePieces IsInner inside mode (open_bracket ∷ (own ++ close_bracket ∷ text)) (Bracket own ∷ pieces) ending
-  faulty_script : {text : List ℕ} {fault : ParseFault} → IsInner script text (fails fault) → ArePieces IsInner inside mode (open_bracket ∷ text) [] (fails fault)
+  bracket : (own : List ℕ) {text : List ℕ} {pieces : List Piece} {ending : TextEnding} →
+      IsInner script (own ++ close_bracket ∷ text) (leaves (close_bracket ∷ text)) →
+      ArePieces IsInner inside mode text pieces ending →
+      ArePieces IsInner inside mode (open_bracket ∷ (own ++ close_bracket ∷ text)) (Bracket own ∷ pieces) ending
+  faulty_script : {text : List ℕ} {fault : ParseFault} → IsInner script text (fails fault) →
+      ArePieces IsInner inside mode (open_bracket ∷ text) [] (fails fault)
 
 -- a blank or a tab
 abbrev pub begins_space : List ℕ → Bool
@@ -164,8 +172,10 @@ pub data IsBraced : List ℕ → List ℕ → Type 0 where
   none : IsBraced [] []
   byte : {b : ℕ} {text value : List ℕ} → b ≢ open_brace → b ≢ close_brace → b ≢ backslash_sign → IsBraced text value → IsBraced (b ∷ text) (b ∷ value)
   pair : {b : ℕ} {text value : List ℕ} → b ≢ line_feed → IsBraced text value → IsBraced (backslash_sign ∷ b ∷ text) (backslash_sign ∷ b ∷ value)
-  continuation : (spaces : List ℕ) {text value : List ℕ} → AreSpaces spaces → begins_space text ≡ false → IsBraced text value → IsBraced (backslash_sign ∷ line_feed ∷ (spaces ++ text)) (space ∷ value)
-  braces : (own text : List ℕ) {inner value : List ℕ} → IsBraced own inner → IsBraced text value → IsBraced (open_brace ∷ (own ++ close_brace ∷ text)) (open_brace ∷ (inner ++ close_brace ∷ value))
+  continuation : (spaces : List ℕ) {text value : List ℕ} → AreSpaces spaces → begins_space text ≡ false → IsBraced text value →
+      IsBraced (backslash_sign ∷ line_feed ∷ (spaces ++ text)) (space ∷ value)
+  braces : (own text : List ℕ) {inner value : List ℕ} → IsBraced own inner → IsBraced text value →
+      IsBraced (open_brace ∷ (own ++ close_brace ∷ text)) (open_brace ∷ (inner ++ close_brace ∷ value))
 
 -- The text past an opening brace that has no match in it.
 pub data IsUnclosed : List ℕ → Type 0 where
@@ -179,23 +189,28 @@ begins_bare inside text = not (ends_word inside text) && (not (begins open_brace
 
 -- A word's own text, without a `{*}`, where `rest` follows it.
 pub data IsOwnWord (IsInner : Inner → List ℕ → TextEnding → Type 0) (inside : Bool) (rest : List ℕ) : List ℕ → WordForm → List Piece → Type 0 where
-  bare_word : {own : List ℕ} {pieces : List Piece} → begins_bare inside (own ++ rest) ≡ true → ArePieces IsInner inside Bare (own ++ rest) pieces (leaves rest) →
+  bare_word : {own : List ℕ} {pieces : List Piece} → begins_bare inside (own ++ rest) ≡ true →
+      ArePieces IsInner inside Bare (own ++ rest) pieces (leaves rest) →
       IsOwnWord IsInner inside rest own BareForm pieces
   quoted_word : (own : List ℕ) {pieces : List Piece} → ArePieces IsInner inside Quotes (own ++ quote ∷ rest) pieces (leaves (quote ∷ rest)) →
       IsOwnWord IsInner inside rest (quote ∷ (own ++ quote ∷ [])) QuotedForm pieces
-  braced_word : (own : List ℕ) {value : List ℕ} → IsBraced own value → IsOwnWord IsInner inside rest (open_brace ∷ (own ++ close_brace ∷ [])) BracedForm (Literal value ∷ [])
+  braced_word : (own : List ℕ) {value : List ℕ} → IsBraced own value →
+      IsOwnWord IsInner inside rest (open_brace ∷ (own ++ close_brace ∷ [])) BracedForm (Literal value ∷ [])
 
 -- The fault of a text at whose front a word's own text would stand: the word never ends, something in it is at fault, or
 -- something follows the quote or the brace that ends it.
 pub data IsFaultyOwn (IsInner : Inner → List ℕ → TextEnding → Type 0) (inside : Bool) : List ℕ → ParseFault → Type 0 where
-  faulty_bare : {text : List ℕ} {pieces : List Piece} {fault : ParseFault} → begins_bare inside text ≡ true → ArePieces IsInner inside Bare text pieces (fails fault) →
+  faulty_bare : {text : List ℕ} {pieces : List Piece} {fault : ParseFault} → begins_bare inside text ≡ true →
+      ArePieces IsInner inside Bare text pieces (fails fault) →
       IsFaultyOwn IsInner inside text fault
   faulty_quoted : {text : List ℕ} {pieces : List Piece} {fault : ParseFault} → ArePieces IsInner inside Quotes text pieces (fails fault) →
       IsFaultyOwn IsInner inside (quote ∷ text) fault
-  followed_quoted : (own rest : List ℕ) {pieces : List Piece} → ArePieces IsInner inside Quotes (own ++ quote ∷ rest) pieces (leaves (quote ∷ rest)) → ends_word inside rest ≡ false →
+  followed_quoted : (own rest : List ℕ) {pieces : List Piece} → ArePieces IsInner inside Quotes (own ++ quote ∷ rest) pieces (leaves (quote ∷ rest)) →
+      ends_word inside rest ≡ false →
       IsFaultyOwn IsInner inside (quote ∷ (own ++ quote ∷ rest)) ExtraAfterQuote
   unclosed_braced : {text : List ℕ} → IsUnclosed text → IsFaultyOwn IsInner inside (open_brace ∷ text) MissingBrace
-  followed_braced : (own rest : List ℕ) {value : List ℕ} → IsBraced own value → ends_word inside rest ≡ false → IsFaultyOwn IsInner inside (open_brace ∷ (own ++ close_brace ∷ rest)) ExtraAfterBrace
+  followed_braced : (own rest : List ℕ) {value : List ℕ} → IsBraced own value → ends_word inside rest ≡ false →
+      IsFaultyOwn IsInner inside (open_brace ∷ (own ++ close_brace ∷ rest)) ExtraAfterBrace
 
 -- what stands before a word's own text: `{*}`, or nothing
 abbrev pub IsMark : Bool → Bool → List ℕ → List ℕ → Type 0
@@ -275,11 +290,11 @@ pub data IsLast (IsInner : Inner → List ℕ → TextEnding → Type 0) (inside
   faulty : {text : List ℕ} {fault : ParseFault} → begins hash text ≡ false → IsFaultyWord IsInner inside text fault → IsLast IsInner inside text (fails fault)
 
 -- The further words of a command, and then what comes after it.
-abbrev pub AreFurther : (Inner → List ℕ → TextEnding → Type 0) → Bool → (ℕ → List ℕ → Type 0) → ℕ → List ℕ → List Word → Type 0
-AreFurther IsInner inside IsAfter at text [] = IsAfter at text
-AreFurther IsInner inside IsAfter at text (word ∷ words) =
+abbrev pub AreFurtherWords : (Inner → List ℕ → TextEnding → Type 0) → Bool → (ℕ → List ℕ → Type 0) → ℕ → List ℕ → List Word → Type 0
+AreFurtherWords IsInner inside IsAfter at text [] = IsAfter at text
+AreFurtherWords IsInner inside IsAfter at text (word ∷ words) =
     (blanks : List ℕ) × (own : List ℕ) × (rest : List ℕ) × (text ≡ blanks ++ (own ++ rest)) × AreBlanks blanks
-    × IsWord IsInner inside rest (at + length blanks) own word × AreFurther IsInner inside IsAfter (at + length blanks + length own) rest words
+    × IsWord IsInner inside rest (at + length blanks) own word × AreFurtherWords IsInner inside IsAfter (at + length blanks + length own) rest words
 
 -- Blanks, and then a separator before the rest of the script, or the end.
 abbrev pub IsRest : (ℕ → List ℕ → Type 0) → (List ℕ → Type 0) → ℕ → List ℕ → Type 0
@@ -295,8 +310,10 @@ IsScript IsInner inside at text (command ∷ commands) ending =
     (gap : List ℕ) × (own : List ℕ) × (rest : List ℕ) × (word : Word) × (words : List Word)
     × (text ≡ gap ++ (own ++ rest)) × IsGap gap × (begins hash (own ++ rest) ≡ false)
     × IsWord IsInner inside rest (at + length gap) own word
-    × AreFurther IsInner inside (IsRest (λ next after. IsScript IsInner inside next after commands ending) (λ last. (commands ≡ []) × IsEnding IsInner inside last ending)) (at + length gap + length own) rest words
-    × (command ≡ command_of (at + length gap) (word ∷ words))
+    × AreFurtherWords IsInner inside
+    (IsRest (λ next after. IsScript IsInner inside next after commands ending) (λ last. (commands ≡ []) × IsEnding IsInner inside last ending))
+    (at + length gap + length own) rest words
+    × (command ≡ command_from (at + length gap) (word ∷ words))
 
 -- What brackets and indices hold where so many may still be opened in one another: a script, or the pieces of an index,
 -- with positions counted from its own first byte. Where none may be opened, that is a fault at the opener.
@@ -318,7 +335,8 @@ pub record IsScriptOf (text : List ℕ) (commands : List Command) : Type 0 where
 pub data IsScriptFault (text : List ℕ) : ParseFault → Type 0 where
   -- that it is no text of a script counts before all else
   no_text : ¬ IsText text → IsScriptFault text TooLong
-  faulty_text : {fault : ParseFault} (commands : List Command) → IsText text → IsScript (IsInnerOf most_nested) false 0 text commands (fails fault) → IsScriptFault text fault
+  faulty_text : {fault : ParseFault} (commands : List Command) → IsText text → IsScript (IsInnerOf most_nested) false 0 text commands (fails fault) →
+      IsScriptFault text fault
 
 -- What the text is: a script of these commands, or none, with this fault. Each text is one of both, and in one way alone.
 abbrev pub IsScriptParse : List ℕ → Result (List Command) ParseFault → Type 0
@@ -341,16 +359,19 @@ IsIndexParse text (Err fault) = IsIndexFault text fault
 
 -- the span is where this part stands in the text
 abbrev pub IsSlice : List ℕ → Span → List ℕ → Type 0
-IsSlice text span own = (before : List ℕ) × (after : List ℕ) × (text ≡ before ++ (own ++ after)) × (span ≡ record { start = length before; end = length before + length own })
+IsSlice text span own =
+    (before : List ℕ) × (after : List ℕ) × (text ≡ before ++ (own ++ after)) × (span ≡ record { start = length before; end = length before + length own })
 
 -- each word's span is where a text of that word stands
 abbrev pub WordsAreSlices : List ℕ → List Word → Type 0
 WordsAreSlices text [] = Unit {0}
 WordsAreSlices text (word ∷ words) =
-    ((own : List ℕ) × (rest : List ℕ) × IsSlice text word.span own × IsWord (IsInnerOf most_nested) false rest word.span.start own word) × WordsAreSlices text words
+    ((own : List ℕ) × (rest : List ℕ) × IsSlice text word.span own × IsWord (IsInnerOf most_nested) false rest word.span.start own word)
+    × WordsAreSlices text words
 
 -- likewise in each command, whose span goes from its first word to the end of its last
 abbrev pub CommandsAreSlices : List ℕ → List Command → Type 0
 CommandsAreSlices text [] = Unit {0}
 CommandsAreSlices text (command ∷ commands) =
-    WordsAreSlices text command.words × (command ≡ command_of command.span.start command.words) × ((own : List ℕ) × IsSlice text command.span own) × CommandsAreSlices text commands
+    WordsAreSlices text command.words × (command ≡ command_from command.span.start command.words) × ((own : List ℕ) × IsSlice text command.span own)
+    × CommandsAreSlices text commands

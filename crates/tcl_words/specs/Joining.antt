@@ -1,6 +1,7 @@
 -- Meaning. A script's commands as lines of their own.
 use Rattle.std.specs.Prelude.{ℕ, ◌≡◌, List, [], ◌∷◌, ◌++◌}
 use Rattle.std.specs.List.{slice_range}
+use Rattle.tcl_text.specs.Bytes.{line_feed}
 use Rattle.tcl_words.specs.declared.script.Word.{Word}
 use Rattle.tcl_words.specs.declared.script.Command.{Command}
 
@@ -12,7 +13,7 @@ source_of text command = slice_range text command.span.start command.span.end
 abbrev pub lines_of : List ℕ → List Command → List ℕ
 lines_of text [] = []
 lines_of text (command ∷ []) = source_of text command
-lines_of text (command ∷ next ∷ commands) = source_of text command ++ 10 ∷ lines_of text (next ∷ commands)
+lines_of text (command ∷ next ∷ commands) = source_of text command ++ line_feed ∷ lines_of text (next ∷ commands)
 
 -- the same words, wherever they stand
 abbrev pub WordsAlike : List Word → List Word → Type 0

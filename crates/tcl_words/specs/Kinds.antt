@@ -2,7 +2,7 @@
 use Rattle.std.specs.Prelude.{ℕ, zero, suc, ◌+◌, Bool, ◌==◌, nat_eq, if◌then◌else◌, List, [], ◌∷◌, drop, Option, Some, None}
 use Rattle.std.specs.List.{starts_with}
 use Rattle.tcl_text.specs.Bytes.{open_paren, colon, open_brace, close_brace}
-use Rattle.tcl_words.specs.Classes.{is_letter, class_of, begins_newline, begins_expansion}
+use Rattle.tcl_words.specs.Classes.{is_name_byte, class_of, begins_newline, begins_expansion}
 use Rattle.tcl_words.specs.declared.kind.Kind.{Kind}
 use Rattle.tcl_words.specs.declared.kind.Kind.TheVariants.{CloseBracket, OpenBrace, Expansion, CloseParen, Backslash, Continuation, Other}
 use Rattle.tcl_words.specs.declared.kind.Dollar.{Dollar as DollarForm}
@@ -20,9 +20,9 @@ abbrev pub kind_before : Bool → ℕ → List ℕ → Kind
 kind_before inside b behind = class_means inside (class_of b) behind
 
 -- how many bytes of a name stand in front
-abbrev pub letters : List ℕ → ℕ
-letters [] = 0
-letters (b ∷ text) = if is_letter b then suc (letters text) else 0
+abbrev pub name_bytes : List ℕ → ℕ
+name_bytes [] = 0
+name_bytes (b ∷ text) = if is_name_byte b then suc (name_bytes text) else 0
 
 -- so many, with the `::` before them, where there are some
 abbrev pub past_colons : ℕ → ℕ
@@ -31,7 +31,7 @@ past_colons (suc n) = suc n + 2
 
 -- how long the variable's name in front is: `::` or nothing, and at least one letter, digit or `_`
 abbrev pub name_length : List ℕ → ℕ
-name_length text = if starts_with nat_eq text (colon ∷ colon ∷ []) then past_colons (letters (drop 2 text)) else letters text
+name_length text = if starts_with nat_eq text (colon ∷ colon ∷ []) then past_colons (name_bytes (drop 2 text)) else name_bytes text
 
 -- one byte further
 abbrev pub one_further : Option ℕ → Option ℕ

@@ -5,10 +5,10 @@ use Rattle.std.specs.List.{slice_range}
 use Rattle.tcl_text.specs.Limits.{most_bytes, most_nested}
 use Rattle.tcl_words.specs.Kinds.{kind_before, dollar_of}
 use Rattle.tcl_words.specs.Changes.{Read, put, last_rest, literal_before, changed}
-use Rattle.tcl_words.specs.Moves.{Move, in_text}
-use Rattle.tcl_words.specs.Parts.{Parts, Whole, joined, IsCut}
-use Rattle.tcl_words.specs.Reading.{within, rest_of, past, first_place, first_skip, opened_piece}
-use Rattle.tcl_words.specs.Chain.{IsEnding}
+use Rattle.tcl_words.specs.Moves.{ByteMove, in_text}
+use Rattle.tcl_words.specs.Parts.{Parts, Whole, joined_parts, IsCut}
+use Rattle.tcl_words.specs.Reading.{within, rest_of, past, opened_place, first_skip, opened_piece}
+use Rattle.tcl_words.specs.Chain.{IsClosing}
 use Rattle.tcl_words.specs.declared.kind.Kind.{Kind}
 use Rattle.tcl_words.specs.declared.kind.Kind.TheVariants.{Quote}
 use Rattle.tcl_words.specs.declared.kind.BytePlace.{BytePlace}
@@ -40,7 +40,7 @@ piece_found opener behind (Err fault) = Err fault
 -- what a bracket opens, or the parenthesis of `$name(index)`
 abbrev pub opened_of : ℕ → Opener → List ℕ → Result (Piece × ℕ) ParseFault
 opened_of zero opener behind = Err TooLong
-opened_of (suc room) opener behind = piece_found opener behind (rest_of behind (within room) (first_skip opener) (first_place opener) 0)
+opened_of (suc room) opener behind = piece_found opener behind (rest_of behind (within room) (first_skip opener) (opened_place opener) 0)
 
 -- what a bracket before this text opens
 abbrev pub bracket_of : ℕ → List ℕ → Result (Piece × ℕ) ParseFault
@@ -72,9 +72,10 @@ abbrev pub quoted_rest : ℕ → List ℕ → ℕ → ℕ → Read
 quoted_rest room [] skip at = Err MissingQuote
 quoted_rest room (b ∷ text) (suc skip) at = quoted_rest room text skip (at + 1)
 quoted_rest room (b ∷ text) zero at =
-    let move : Move = in_text Parens (kind_before false b text) b text in
+    let move : ByteMove = in_text Parens (kind_before false b text) b text in
     at_quote (kind_before false b text) at
-    (put (changed move.changes) (past move.step room at text (λ skip next. quoted_rest room text skip (at + 1)) (λ room skip next. rest_of text (within room) skip next 0)))
+    (put (changed move.changes)
+    (past move.step room at text (λ skip next. quoted_rest room text skip (at + 1)) (λ room skip next. rest_of text (within room) skip next 0)))
 
 abbrev pub pieces_found : Read → Result (List Piece × ℕ) ParseFault
 pieces_found (Ok rest) = Ok (literal_before rest.bytes rest.pieces, suc rest.close)
@@ -97,14 +98,14 @@ outer room = record { base = 0; inside = true; room = room; skip = 0; place = St
 
 -- what began so ends here, with these parts
 abbrev pub EndsAt : Origin → List ℕ → Parts → ℕ → Type 0
-EndsAt first source parts close = (place : BytePlace) × IsEnding first source [] first parts place close
+EndsAt first source parts close = (place : BytePlace) × IsClosing first source [] first parts place close
 
 -- what was read of a text in quotes, with the rest of it
 abbrev pub quoted_whole : ℕ → List ℕ → Parts → ℕ → Result Whole ParseFault
-quoted_whole room source parts next = joined parts source (Text Parens) next (quoted_rest room (drop next source) 0 next)
+quoted_whole room source parts next = joined_parts parts source (Text Parens) next (quoted_rest room (drop next source) 0 next)
 
 -- reading goes on at a position past this one, and gives the same in all
-pub record GoesOn (room : ℕ) (source : List ℕ) (old : Parts) (at : ℕ) (new : Parts) (next : ℕ) : Type 0 where
+pub record ReadsOn (room : ℕ) (source : List ℕ) (old : Parts) (at : ℕ) (new : Parts) (next : ℕ) : Type 0 where
   pub same : quoted_whole room source new next ≡ quoted_whole room source old at
   pub fine : IsCut new source next
   pub further : at < next

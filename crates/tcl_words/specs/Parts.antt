@@ -3,10 +3,11 @@ use Rattle.std.specs.Prelude.{ℕ, ◌+◌, ◌-◌, ◌≡◌, ◌≢◌, ◌<�
 use Rattle.std.specs.List.{slice_range}
 use Rattle.std.specs.Str.{IsCharBoundary}
 use Rattle.tcl_text.specs.Backslash.{escape}
-use Rattle.tcl_words.specs.Changes.{Rest, Read, put, last_rest, literal_before, changed, piece_before}
-use Rattle.tcl_words.specs.Spans.{command_of, word_of}
-use Rattle.tcl_words.specs.Moves.{Move}
-use Rattle.tcl_words.specs.Reading.{first_skip, at_end}
+use Rattle.tcl_text.specs.Bytes.{star as star_byte}
+use Rattle.tcl_words.specs.Changes.{TextRest, Read, put, last_rest, literal_before, changed, piece_before}
+use Rattle.tcl_words.specs.Spans.{command_from, word_of}
+use Rattle.tcl_words.specs.Moves.{ByteMove}
+use Rattle.tcl_words.specs.Reading.{first_skip, read_at_end}
 use Rattle.tcl_words.specs.declared.kind.Kind.{Kind}
 use Rattle.tcl_words.specs.declared.kind.Kind.TheVariants.{Blank, Newline, Semicolon, Continuation, CloseBracket, Expansion, Other}
 use Rattle.tcl_words.specs.declared.kind.Dollar.{Dollar}
@@ -67,7 +68,7 @@ with_word parts end = record parts { words = parts.words ++ word_of parts.form p
 
 -- the parts once the open command has ended
 abbrev pub with_command : Parts → Parts
-with_command parts = record parts { commands = parts.commands ++ command_of parts.command_start parts.words ∷ []; words = [] }
+with_command parts = record parts { commands = parts.commands ++ command_from parts.command_start parts.words ∷ []; words = [] }
 
 -- the parts with one more piece, past which the mark is
 abbrev pub with_piece : Parts → Piece → ℕ → Parts
@@ -86,33 +87,33 @@ abbrev pub with_braced : Parts → List ℕ → ℕ → Parts
 with_braced parts source at = record parts { pieces = parts.pieces ++ Literal (so_far parts source at) ∷ []; literal = []; mark = at }
 
 -- the script, where the open command has these further words
-abbrev pub with_words : Parts → List Word → Rest → Whole
-with_words parts words rest = script_whole (parts.commands ++ command_of parts.command_start (parts.words ++ words) ∷ rest.commands) rest.close
+abbrev pub with_words : Parts → List Word → TextRest → Whole
+with_words parts words rest = script_whole (parts.commands ++ command_from parts.command_start (parts.words ++ words) ∷ rest.commands) rest.close
 
 -- the script, where the open word has these further pieces
-abbrev pub with_pieces : Parts → List Piece → Rest → Whole
+abbrev pub with_pieces : Parts → List Piece → TextRest → Whole
 with_pieces parts pieces rest = with_words parts (word_of parts.form parts.expand parts.word_start (parts.pieces ++ pieces) rest.end ∷ rest.words) rest
 
 -- what is read, where the text that is open has these further pieces
-abbrev pub with_text : Mode → Parts → List Piece → Rest → Whole
+abbrev pub with_text : Mode → Parts → List Piece → TextRest → Whole
 with_text Bare parts pieces rest = with_pieces parts pieces rest
 with_text Quotes parts pieces rest = with_pieces parts pieces rest
 with_text Parens parts pieces rest = index_whole (parts.pieces ++ pieces) rest.close
 
 -- the whole, with what the rest of the text gives to a place at this position
-abbrev pub with_rest : Parts → List ℕ → BytePlace → ℕ → Rest → Whole
-with_rest parts source Start at rest = script_whole (parts.commands ++ rest.commands) rest.close
-with_rest parts source Comment at rest = script_whole (parts.commands ++ rest.commands) rest.close
-with_rest parts source Between at rest = with_words parts rest.words rest
-with_rest parts source Expanded at rest = with_words parts rest.words rest
-with_rest parts source (Text mode) at rest = with_text mode parts (literal_before (so_far parts source at ++ rest.bytes) rest.pieces) rest
-with_rest parts source (InBraces depth) at rest = with_pieces parts (Literal (so_far parts source at ++ rest.bytes) ∷ []) rest
-with_rest parts source PastQuotes at rest = with_pieces parts [] rest
-with_rest parts source PastBraces at rest = with_pieces parts [] rest
+abbrev pub parts_with_rest : Parts → List ℕ → BytePlace → ℕ → TextRest → Whole
+parts_with_rest parts source Start at rest = script_whole (parts.commands ++ rest.commands) rest.close
+parts_with_rest parts source Comment at rest = script_whole (parts.commands ++ rest.commands) rest.close
+parts_with_rest parts source Between at rest = with_words parts rest.words rest
+parts_with_rest parts source Expanded at rest = with_words parts rest.words rest
+parts_with_rest parts source (Text mode) at rest = with_text mode parts (literal_before (so_far parts source at ++ rest.bytes) rest.pieces) rest
+parts_with_rest parts source (InBraces depth) at rest = with_pieces parts (Literal (so_far parts source at ++ rest.bytes) ∷ []) rest
+parts_with_rest parts source PastQuotes at rest = with_pieces parts [] rest
+parts_with_rest parts source PastBraces at rest = with_pieces parts [] rest
 
-abbrev pub joined : Parts → List ℕ → BytePlace → ℕ → Read → Result Whole ParseFault
-joined parts source place at (Ok rest) = Ok (with_rest parts source place at rest)
-joined parts source place at (Err fault) = Err fault
+abbrev pub joined_parts : Parts → List ℕ → BytePlace → ℕ → Read → Result Whole ParseFault
+joined_parts parts source place at (Ok rest) = Ok (parts_with_rest parts source place at rest)
+joined_parts parts source place at (Err fault) = Err fault
 
 -- the literal that is open can be cut at its mark, and isn't longer than the source that it was read from
 pub record IsCut (parts : Parts) (source : List ℕ) (at : ℕ) : Type 0 where
@@ -132,7 +133,7 @@ pub record MayEnd (parts : Parts) (source : List ℕ) (at : ℕ) : Type 0 where
 -- `{*}` stands before this position
 pub record IsExpansion (source : List ℕ) (at : ℕ) : Type 0 where
   pub three : 3 ≤ at
-  pub star : slice_range source (at - 2) (at - 1) ≡ 42 ∷ []
+  pub star : slice_range source (at - 2) (at - 1) ≡ star_byte ∷ []
   pub cut_before : IsCharBoundary source (at - 2)
   pub cut_between : IsCharBoundary source (at - 1)
   pub cut_after : IsCharBoundary source at
@@ -202,27 +203,28 @@ ended (Text Parens) parts at = index_whole parts.pieces at
 ended place parts at = script_whole parts.commands at
 
 -- The code has done a move: what is open, joined with any rest, is what it was before the byte.
-abbrev pub Does : Parts → Parts → List ℕ → ℕ → BytePlace → Move → Result Step ParseFault → Type 0
-Does old new source at place move (Ok (On skip next)) =
+abbrev pub DoesMove : Parts → Parts → List ℕ → ℕ → BytePlace → ByteMove → Result Step ParseFault → Type 0
+DoesMove old new source at place move (Ok (On skip next)) =
     (move.step ≡ Ok (On skip next))
-    × ((rest : Read) → joined old source place at (put (changed move.changes) rest) ≡ joined new source next (at + 1 + skip) rest)
+    × ((rest : Read) → joined_parts old source place at (put (changed move.changes) rest) ≡ joined_parts new source next (at + 1 + skip) rest)
     × IsFine new source next (at + 1 + skip)
     × (at + 1 + skip ≤ length source)
     × (is_index next ≡ is_index place)
-Does old new source at place move (Ok (Within opener mode)) =
+DoesMove old new source at place move (Ok (Within opener mode)) =
     (move.step ≡ Ok (Within opener mode))
-    × ((own : Piece) (mark : ℕ) (rest : Read) → joined old source place at (put (changed move.changes) (put (piece_before own) rest)) ≡ joined (with_piece new own mark) source (Text mode) mark rest)
+    × ((own : Piece) (mark : ℕ) (rest : Read) → joined_parts old source place at (put (changed move.changes) (put (piece_before own) rest))
+    ≡ joined_parts (with_piece new own mark) source (Text mode) mark rest)
     × (new.literal ≡ [])
     × IsOpenerCut source at opener
     × (is_index (Text mode) ≡ is_index place)
-Does old new source at place move (Ok Ends) =
+DoesMove old new source at place move (Ok Ends) =
     (move.step ≡ Ok Ends)
-    × (joined old source place at (put (changed move.changes) (Ok (last_rest at))) ≡ Ok (ended place new at))
+    × (joined_parts old source place at (put (changed move.changes) (Ok (last_rest at))) ≡ Ok (ended place new at))
     × IsCharBoundary source at
     × IsCharBoundary source (at + 1)
-Does old new source at place move (Err fault) = (move.step ≡ Err fault) ⊎ (fault ≡ NoMemory)
+DoesMove old new source at place move (Err fault) = (move.step ≡ Err fault) ⊎ (fault ≡ NoMemory)
 
 -- the text ends, and these are the commands of its script
-abbrev pub Finishes : Parts → Parts → List ℕ → BytePlace → ℕ → Result (Unit {0}) ParseFault → Type 0
-Finishes old new source place at (Ok done) = joined old source place at (at_end false place at) ≡ Ok (script_whole new.commands at)
-Finishes old new source place at (Err fault) = (at_end false place at ≡ Err fault) ⊎ (fault ≡ NoMemory)
+abbrev pub FinishesScript : Parts → Parts → List ℕ → BytePlace → ℕ → Result (Unit {0}) ParseFault → Type 0
+FinishesScript old new source place at (Ok done) = joined_parts old source place at (read_at_end false place at) ≡ Ok (script_whole new.commands at)
+FinishesScript old new source place at (Err fault) = (read_at_end false place at ≡ Err fault) ⊎ (fault ≡ NoMemory)

@@ -5,7 +5,7 @@ use Rattle.std.specs.List.{slice_range}
 use Rattle.std.specs.Str.{is_utf8}
 use Rattle.tcl_words.specs.Kinds.{kind_before}
 use Rattle.tcl_words.specs.Changes.{Read, put, last_rest, literal_before, piece_before, changed}
-use Rattle.tcl_words.specs.Moves.{Move, lone, move_of}
+use Rattle.tcl_words.specs.Moves.{ByteMove, lone, move_of}
 use Rattle.tcl_words.specs.declared.kind.BytePlace.{BytePlace}
 use Rattle.tcl_words.specs.declared.kind.BytePlace.TheVariants.{Start, Expanded, Text, InBraces}
 use Rattle.tcl_words.specs.declared.kind.Mode.{Mode}
@@ -36,9 +36,9 @@ abbrev pub within : ℕ → Level
 within room = record { inside = true; room = room }
 
 -- what a bracket opens is a script; an index begins past the name before it
-abbrev pub first_place : Opener → BytePlace
-first_place BracketOpener = Start
-first_place (IndexOpener n) = Text Parens
+abbrev pub opened_place : Opener → BytePlace
+opened_place BracketOpener = Start
+opened_place (IndexOpener n) = Text Parens
 
 abbrev pub first_skip : Opener → ℕ
 first_skip BracketOpener = 0
@@ -58,28 +58,28 @@ past_opened opener mode behind go (Err fault) = Err fault
 abbrev pub past : Result Step ParseFault → ℕ → ℕ → List ℕ → (ℕ → BytePlace → Read) → (ℕ → ℕ → BytePlace → Read) → Read
 past (Ok (On skip place)) room at behind go inner = go skip place
 past (Ok (Within opener mode)) zero at behind go inner = Err TooLong
-past (Ok (Within opener mode)) (suc room) at behind go inner = past_opened opener mode behind go (inner room (first_skip opener) (first_place opener))
+past (Ok (Within opener mode)) (suc room) at behind go inner = past_opened opener mode behind go (inner room (first_skip opener) (opened_place opener))
 past (Ok Ends) room at behind go inner = Ok (last_rest at)
 past (Err fault) room at behind go inner = Err fault
 
 -- the end of the text, where what was read should have ended before it or not
-abbrev pub end_of : Bool → ParseFault → ℕ → Read
-end_of true fault at = Err fault
-end_of false fault at = Ok (last_rest at)
+abbrev pub end_or_fault : Bool → ParseFault → ℕ → Read
+end_or_fault true fault at = Err fault
+end_or_fault false fault at = Ok (last_rest at)
 
-abbrev pub at_end : Bool → BytePlace → ℕ → Read
-at_end inside (Text Quotes) at = Err MissingQuote
-at_end inside (InBraces depth) at = Err MissingBrace
-at_end inside (Text Parens) at = end_of inside MissingParen at
-at_end inside Expanded at = put (changed (lone at)) (end_of inside MissingBracket at)
-at_end inside place at = end_of inside MissingBracket at
+abbrev pub read_at_end : Bool → BytePlace → ℕ → Read
+read_at_end inside (Text Quotes) at = Err MissingQuote
+read_at_end inside (InBraces depth) at = Err MissingBrace
+read_at_end inside (Text Parens) at = end_or_fault inside MissingParen at
+read_at_end inside Expanded at = put (changed (lone at)) (end_or_fault inside MissingBracket at)
+read_at_end inside place at = end_or_fault inside MissingBracket at
 
 -- what a text gives past so many bytes of it to a place, where it begins at this position
 abbrev pub rest_of : List ℕ → Level → ℕ → BytePlace → ℕ → Read
-rest_of [] level skip place at = at_end level.inside place at
+rest_of [] level skip place at = read_at_end level.inside place at
 rest_of (b ∷ text) level (suc skip) place at = rest_of text level skip place (at + 1)
 rest_of (b ∷ text) level zero place at =
-    let move : Move = move_of place (kind_before level.inside b text) b at text in
+    let move : ByteMove = move_of place (kind_before level.inside b text) b at text in
     put (changed move.changes)
     (past move.step level.room at text (λ skip next. rest_of text level skip next (at + 1)) (λ room skip next. rest_of text (within room) skip next 0))
 

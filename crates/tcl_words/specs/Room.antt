@@ -1,6 +1,6 @@
 -- Steps. How deep the parts of a script go into one another, for the scripts in brackets and the indices that
 -- they hold: each is read from a shorter text than the script that holds it.
-use Rattle.std.specs.Prelude.{ℕ, ◌+◌, ◌*◌, ◌≡◌, ◌≤◌, max, List, [], ◌∷◌, length}
+use Rattle.std.specs.Prelude.{ℕ, ◌+◌, ◌*◌, max, List, [], ◌∷◌, length}
 use Rattle.tcl_words.specs.declared.script.Piece.{Piece}
 use Rattle.tcl_words.specs.declared.script.Piece.TheVariants.{Literal, Variable, Element, Bracket}
 use Rattle.tcl_words.specs.declared.script.Word.{Word}
@@ -27,7 +27,3 @@ words_room (word ∷ words) = max (pieces_room word.pieces + 1) (words_room word
 abbrev pub commands_room : List Command → ℕ
 commands_room [] = 0
 commands_room (command ∷ commands) = max (words_room command.words + 1) (commands_room commands)
-
--- no bracket and no index is in any of these
-abbrev pub IsFlat : List Piece → List Word → List Command → Type 0
-IsFlat pieces words commands = (pieces_room pieces ≡ 0) × (words_room words ≤ 1) × (commands_room commands ≤ 2)

@@ -15,5 +15,5 @@ words_end end [] = end
 words_end end (word ∷ words) = words_end word.span.end words
 
 -- a command of these words
-abbrev pub command_of : ℕ → List Word → Command
-command_of start words = record { words = words; span = record { start = start; end = words_end start words } }
+abbrev pub command_from : ℕ → List Word → Command
+command_from start words = record { words = words; span = record { start = start; end = words_end start words } }

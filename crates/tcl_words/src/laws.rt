@@ -1,6 +1,7 @@
 //! Laws of the grammar, as contracts of functions that do nothing.
 
 ghost use Rattle.std.specs.Prelude.{◌≡◌, ◌↔◌, ◌⊎◌, ℕ, Bool, List, [], ◌∷◌, ◌++◌, Option, Result, Ok, Err};
+ghost use Rattle.tcl_text.specs.Bytes.{close_brace, dollar_sign};
 ghost use Rattle.tcl_words.specs.Reading.{commands_of, index_pieces_of};
 ghost use Rattle.tcl_words.specs.Grammar.{IsScriptOf, IsScriptFault, IsIndexOf, IsIndexFault, CommandsAreSlices, IsBraced, IsUnclosed, TextEnding, fails, ArePieces, IsInnerOf};
 ghost use Rattle.tcl_words.specs.Operands.{bracket_of, substitution_of, quoted_of};
@@ -51,7 +52,8 @@ pub fn lines_are_a_script()
 
 /// The text behind an opening brace is cut at the brace that closes it, or has none.
 pub fn braces_are_cut()
-    ensures { (text : List ℕ) → ((own : List ℕ) × (value : List ℕ) × (rest : List ℕ) × (text ≡ own ++ 125 ∷ rest) × IsBraced own value) ⊎ IsUnclosed text }
+    ensures { (text : List ℕ) → ((own : List ℕ) × (value : List ℕ) × (rest : List ℕ) × (text ≡ own ++ close_brace ∷ rest) × IsBraced own value)
+        ⊎ IsUnclosed text }
 {}
 
 /// What is read behind a bracket, a `$` or a quote in an expression is exactly what the grammar of scripts relates, and what a `$` begins there
@@ -64,7 +66,7 @@ pub fn operands_are_read()
         ↔ (quoted_of room text ≡ result) }
     ensures begun { (room : ℕ) (inside : Bool) (mode : Mode) (text rest : List ℕ) (piece : Piece) (pieces : List Piece) (ending : TextEnding) →
         IsSubstitution room text piece rest
-        → ArePieces (IsInnerOf room) inside mode rest pieces ending → ArePieces (IsInnerOf room) inside mode (36 ∷ text) (piece ∷ pieces) ending }
+        → ArePieces (IsInnerOf room) inside mode rest pieces ending → ArePieces (IsInnerOf room) inside mode (dollar_sign ∷ text) (piece ∷ pieces) ending }
     ensures faulty { (room : ℕ) (inside : Bool) (mode : Mode) (text : List ℕ) (fault : ParseFault) → IsFaultySubstitution room text fault →
-        ArePieces (IsInnerOf room) inside mode (36 ∷ text) [] (fails fault) }
+        ArePieces (IsInnerOf room) inside mode (dollar_sign ∷ text) [] (fails fault) }
 {}

@@ -18,5 +18,6 @@ pub use laws::{
 };
 pub use operands::{Found, bracket_behind, quotes_behind, substitution_behind};
 pub use parser::parse;
+pub use reader::MAX_DEPTH;
 pub use script::{Command, Index, Piece, Pieces, Script, Span, Word, WordForm, Words};
 pub use tcl_text::ParseFault;

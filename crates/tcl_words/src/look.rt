@@ -1,8 +1,9 @@
 //! What stands in front of a text, of which only as much is looked at as a script then takes.
 
 ghost use Rattle.std.specs.Prelude.{◌≡◌, ◌≢◌, ◌<◌, ◌≤◌, ◌+◌, ◌-◌, ℕ, length, slice_index, MatchOption, IsTrue, true};
-ghost use Rattle.tcl_words.specs.Kinds.{kind_before, letters, name_length, to_brace, dollar_of};
-ghost use Rattle.tcl_words.specs.Classes.{class_of, begins_newline, begins_expansion, is_letter};
+ghost use Rattle.tcl_text.specs.Bytes.{close_brace};
+ghost use Rattle.tcl_words.specs.Kinds.{kind_before, name_bytes, name_length, to_brace, dollar_of};
+ghost use Rattle.tcl_words.specs.Classes.{class_of, begins_newline, begins_expansion, is_name_byte};
 ghost use Rattle.tcl_words.specs.Parts.{DollarFits};
 
 use crate::kind::{Dollar, Kind};
@@ -86,8 +87,8 @@ pub fn kind_before(inside: bool, byte: u8, behind: &[u8]) -> Kind
 }
 
 /// Whether the byte is one of a variable's name.
-fn is_letter(byte: u8) -> bool
-    ensures letter { result ≡ is_letter byte }
+fn is_name_byte(byte: u8) -> bool
+    ensures name_byte { result ≡ is_name_byte byte }
     ensures ascii { IsTrue result → byte < 128 }
 {
     byte.is_ascii_lowercase() || byte.is_ascii_uppercase() || byte.is_ascii_digit() || byte == b'_'
@@ -95,13 +96,13 @@ fn is_letter(byte: u8) -> bool
 
 /// How many bytes of a name stand in front.
 #[tactic(auto, using(crate::proofs::Fronts::letter_next, crate::proofs::Fronts::letter_last))]
-fn letters(text: &[u8]) -> usize
-    ensures count { result ≡ letters text.now }
+fn name_bytes(text: &[u8]) -> usize
+    ensures count { result ≡ name_bytes text.now }
     ensures within { result ≤ length text.now }
     ensures last { 0 < result → slice_index text.now (result - 1) < 128 }
 {
     for (count, &byte) in text.iter().enumerate() {
-        if !is_letter(byte) {
+        if !is_name_byte(byte) {
             return count;
         }
     }
@@ -115,12 +116,12 @@ fn name_length(text: &[u8]) -> usize
     ensures last { 0 < result → slice_index text.now (result - 1) < 128 }
 {
     if text.starts_with(b"::") {
-        match letters(&text[2..]) {
+        match name_bytes(&text[2..]) {
             0 => 0,
             count => count + 2,
         }
     } else {
-        letters(text)
+        name_bytes(text)
     }
 }
 
@@ -129,7 +130,7 @@ fn name_length(text: &[u8]) -> usize
 fn to_brace(text: &[u8]) -> Option<usize>
     ensures count { result ≡ to_brace text.now }
     ensures within { MatchOption result (Unit {0}) (λ count. count < length text.now) }
-    ensures found { MatchOption result (Unit {0}) (λ count. slice_index text.now count ≡ 125) }
+    ensures found { MatchOption result (Unit {0}) (λ count. slice_index text.now count ≡ close_brace) }
 {
     for (count, &byte) in text.iter().enumerate() {
         if byte == b'}' {

@@ -6,7 +6,7 @@ ghost use Rattle.tcl_words.specs.Kinds.{kind_before as kind_meant};
 ghost use Rattle.tcl_words.specs.Parts.{IsCut, IsOpenerCut, StandsAt, no_parts};
 ghost use Rattle.tcl_words.specs.Reading.{first_skip};
 ghost use Rattle.tcl_words.specs.Chain.{own, opened as opened_origin, IsReading};
-ghost use Rattle.tcl_words.specs.Operands.{opened_of, bracket_of, substitution_of, quoted_of, quoted_rest, outer, IsReadAs, EndsAt, GoesOn, MayOpen};
+ghost use Rattle.tcl_words.specs.Operands.{opened_of, bracket_of, substitution_of, quoted_of, quoted_rest, outer, IsReadAs, EndsAt, ReadsOn, MayOpen};
 ghost use Rattle.tcl_text.specs.Limits.{most_bytes, most_nested};
 
 use crate::kind::{BytePlace, Dollar, Kind, Mode, Opener, Step};
@@ -75,6 +75,7 @@ fn read_opened(alloc: Global, source: &str, at: usize, opener: Opener, room: usi
 /// The script that a bracket at a place opens, where so many brackets and indices may be opened in one another, and how many bytes
 /// behind the place are read with the bracket that closes it (Tcl(n), "Command substitution"). A place counts the bytes before it.
 /// `TooLong` (4) where there is no room; else the first fault of the script (4 to 10), or `MissingBracket` (6) where it never ends.
+/// The source has at most 65,536 bytes, an ASCII byte stands at the place, and the room is at most 200.
 pub fn bracket_behind(alloc: Global, source: &str, at: usize, room: usize) -> Found<Piece>
     requires { MayOpen room source.now at }
     ensures { IsReadAs result (bracket_of room (drop (at + 1) source.now)) }
@@ -85,6 +86,7 @@ pub fn bracket_behind(alloc: Global, source: &str, at: usize, room: usize) -> Fo
 /// What a `$` at a place begins, and how many bytes behind the place are read; nothing where it stands for itself (Tcl(n), "Variable
 /// substitution"). `room` is how many brackets and indices may be opened in one another. `MissingBrace` (5) where a name in braces never
 /// ends; of an index `TooLong` (4) where there is no room, else the first fault of what stands in it (4 to 10), or `MissingParen` (10).
+/// The source has at most 65,536 bytes, an ASCII byte stands at the place, and the room is at most 200.
 pub fn substitution_behind(
     alloc: Global,
     source: &str,
@@ -128,7 +130,7 @@ fn read_quoted(
     requires text { kind ≢ Kind.Quote }
     requires fine { IsCut parts.old source.now at }
     requires room { room ≤ most_nested }
-    ensures ok { IfOk result (λ next. GoesOn room source.now parts.old at parts.new next) }
+    ensures ok { IfOk result (λ next. ReadsOn room source.now parts.old at parts.new next) }
     ensures fault { IfErr result (λ fault. (quoted_rest room (drop at source.now) 0 at ≡ Err fault) ⊎ (fault ≡ ParseFault.NoMemory)) }
 {
     match read_text(parts, alloc, source, at, byte, kind, Mode::Parens)? {
@@ -146,6 +148,7 @@ fn read_quoted(
 /// The pieces between a quote at a place and the next one, where so many brackets and indices may be opened in one another,
 /// and how many bytes behind the place are read with the quote that ends them (Tcl(n), "Double quotes"). The first fault of what
 /// stands in them is told (4 to 10), as `TooLong` (4) where there is no room; else `MissingQuote` (7) where no quote ends them.
+/// The source has at most 65,536 bytes, an ASCII byte stands at the place, and the room is at most 200.
 pub fn quotes_behind(alloc: Global, source: &str, at: usize, room: usize) -> Found<Pieces>
     requires { MayOpen room source.now at }
     ensures { IsReadAs result (quoted_of room (drop (at + 1) source.now)) }

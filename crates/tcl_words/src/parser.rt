@@ -6,10 +6,7 @@ ghost use Rattle.tcl_words.specs.declared.script.Command.{Command};
 use crate::reader::read_all;
 use crate::script::Script;
 use std::alloc::Global;
-use tcl_text::{ParseFault, Text};
-
-/// How many bytes a script has at most, as any text.
-const MAX_BYTES: usize = 65_536;
+use tcl_text::{MAX_BYTES, ParseFault, Text};
 
 /// The script that the bytes spell, by the function that reads its commands.
 fn read_script(alloc: Global, source: &[u8]) -> Result<Script, ParseFault>

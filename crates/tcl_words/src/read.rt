@@ -7,9 +7,9 @@ ghost use Rattle.tcl_text.specs.Backslash.{escape};
 ghost use Rattle.tcl_text.specs.Escaped.{bytes_meant};
 ghost use Rattle.tcl_words.specs.Kinds.{kind_before as kind_meant, dollar_of as dollar_meant};
 ghost use Rattle.tcl_words.specs.Classes.{begins_expansion, begins_newline};
-ghost use Rattle.tcl_words.specs.Moves.{Move, word_over, in_text, at_dollar, in_bare, in_quotes, in_parens, in_braces, at_word, in_expanded, in_between, in_start, in_comment, move_of, move_at, fails};
-ghost use Rattle.tcl_words.specs.Parts.{Does, DollarFits, IsFine, IsCut, IsExpansion, StandsAt, EndsWord, Escaped, Finishes, is_index, with_piece, with_literal};
-ghost use Rattle.tcl_words.specs.Reading.{at_end};
+ghost use Rattle.tcl_words.specs.Moves.{ByteMove, word_over, in_text, at_dollar, in_bare, in_quotes, in_parens, in_braces, at_word, in_expanded, in_between, in_start, in_comment, move_of, move_at, at_fault};
+ghost use Rattle.tcl_words.specs.Parts.{DoesMove, DollarFits, IsFine, IsCut, IsExpansion, StandsAt, EndsWord, Escaped, FinishesScript, is_index, with_piece, with_literal};
+ghost use Rattle.tcl_words.specs.Reading.{read_at_end};
 ghost use Rattle.tcl_words.specs.declared.script.Piece.TheVariants.{Variable};
 ghost use Rattle.tcl_text.specs.Limits.{most_bytes};
 
@@ -140,7 +140,7 @@ fn read_dollar(
 ) -> Result<Step, ParseFault>
     requires stands { StandsAt source.now at byte Kind.Dollar }
     requires fine { IsCut parts.old source.now at }
-    ensures { Does parts.old parts.new source.now at (BytePlace.Text mode) (in_text mode Kind.Dollar byte (drop (at + 1) source.now)) result }
+    ensures { DoesMove parts.old parts.new source.now at (BytePlace.Text mode) (in_text mode Kind.Dollar byte (drop (at + 1) source.now)) result }
 {
     match dollar_at(source, at) {
         Dollar::Alone => Ok(Step::On(0, BytePlace::Text(mode))),
@@ -190,7 +190,7 @@ pub fn read_text(
 ) -> Result<Step, ParseFault>
     requires stands { StandsAt source.now at byte kind }
     requires fine { IsCut parts.old source.now at }
-    ensures { Does parts.old parts.new source.now at (BytePlace.Text mode) (in_text mode kind byte (drop (at + 1) source.now)) result }
+    ensures { DoesMove parts.old parts.new source.now at (BytePlace.Text mode) (in_text mode kind byte (drop (at + 1) source.now)) result }
 {
     match kind {
         Kind::Dollar => read_dollar(parts, alloc, source, at, byte, mode),
@@ -217,7 +217,7 @@ fn end_word(
 ) -> Result<Step, ParseFault>
     requires stands { StandsAt source.now at byte kind }
     requires ends { EndsWord kind }
-    ensures { (other : Move) → Does parts.old parts.new source.now at BytePlace.PastBraces (word_over kind at (drop (at + 1) source.now) other) result }
+    ensures { (other : ByteMove) → DoesMove parts.old parts.new source.now at BytePlace.PastBraces (word_over kind at (drop (at + 1) source.now) other) result }
 {
     parts.end_word(alloc, at)?;
     match kind {
@@ -245,7 +245,7 @@ fn read_past(
     fault: ParseFault,
 ) -> Result<Step, ParseFault>
     requires stands { StandsAt source.now at byte kind }
-    ensures { Does parts.old parts.new source.now at BytePlace.PastBraces (word_over kind at (drop (at + 1) source.now) (fails fault)) result }
+    ensures { DoesMove parts.old parts.new source.now at BytePlace.PastBraces (word_over kind at (drop (at + 1) source.now) (at_fault fault)) result }
 {
     match kind {
         Kind::Blank | Kind::Newline | Kind::Semicolon | Kind::Continuation | Kind::CloseBracket =>
@@ -265,7 +265,7 @@ fn read_bare(
 ) -> Result<Step, ParseFault>
     requires stands { StandsAt source.now at byte kind }
     requires fine { IsCut parts.old source.now at }
-    ensures { Does parts.old parts.new source.now at (BytePlace.Text Mode.Bare) (in_bare kind byte at (drop (at + 1) source.now)) result }
+    ensures { DoesMove parts.old parts.new source.now at (BytePlace.Text Mode.Bare) (in_bare kind byte at (drop (at + 1) source.now)) result }
 {
     match kind {
         Kind::Blank | Kind::Newline | Kind::Semicolon | Kind::Continuation | Kind::CloseBracket => {
@@ -287,7 +287,7 @@ fn read_quotes(
 ) -> Result<Step, ParseFault>
     requires stands { StandsAt source.now at byte kind }
     requires fine { IsCut parts.old source.now at }
-    ensures { Does parts.old parts.new source.now at (BytePlace.Text Mode.Quotes) (in_quotes kind byte (drop (at + 1) source.now)) result }
+    ensures { DoesMove parts.old parts.new source.now at (BytePlace.Text Mode.Quotes) (in_quotes kind byte (drop (at + 1) source.now)) result }
 {
     match kind {
         Kind::Quote => {
@@ -309,7 +309,7 @@ fn read_parens(
 ) -> Result<Step, ParseFault>
     requires stands { StandsAt source.now at byte kind }
     requires fine { IsCut parts.old source.now at }
-    ensures { Does parts.old parts.new source.now at (BytePlace.Text Mode.Parens) (in_parens kind byte (drop (at + 1) source.now)) result }
+    ensures { DoesMove parts.old parts.new source.now at (BytePlace.Text Mode.Parens) (in_parens kind byte (drop (at + 1) source.now)) result }
 {
     match kind {
         Kind::CloseParen => {
@@ -332,7 +332,7 @@ fn read_braces(
 ) -> Result<Step, ParseFault>
     requires stands { StandsAt source.now at byte kind }
     requires fine { IsFine parts.old source.now (BytePlace.InBraces depth) at }
-    ensures { Does parts.old parts.new source.now at (BytePlace.InBraces depth) (in_braces depth kind byte (drop (at + 1) source.now)) result }
+    ensures { DoesMove parts.old parts.new source.now at (BytePlace.InBraces depth) (in_braces depth kind byte (drop (at + 1) source.now)) result }
 {
     match kind {
         Kind::CloseBrace => {
@@ -365,7 +365,7 @@ fn read_word(
 ) -> Result<Step, ParseFault>
     requires stands { StandsAt source.now at byte kind }
     requires begins { IsCharBoundary source.now at }
-    ensures { Does parts.old parts.new source.now at BytePlace.Between (at_word expand start kind byte at (drop (at + 1) source.now)) result }
+    ensures { DoesMove parts.old parts.new source.now at BytePlace.Between (at_word expand start kind byte at (drop (at + 1) source.now)) result }
 {
     match kind {
         Kind::OpenBrace | Kind::Expansion => {
@@ -394,7 +394,7 @@ fn read_expanded(
 ) -> Result<Step, ParseFault>
     requires stands { StandsAt source.now at byte kind }
     requires expansion { IsExpansion source.now at }
-    ensures { Does parts.old parts.new source.now at BytePlace.Expanded (in_expanded kind byte at (drop (at + 1) source.now)) result }
+    ensures { DoesMove parts.old parts.new source.now at BytePlace.Expanded (in_expanded kind byte at (drop (at + 1) source.now)) result }
 {
     match kind {
         Kind::Blank | Kind::Newline | Kind::Semicolon | Kind::Continuation | Kind::CloseBracket => {
@@ -417,7 +417,7 @@ fn read_between(
 ) -> Result<Step, ParseFault>
     requires stands { StandsAt source.now at byte kind }
     requires begins { IsCharBoundary source.now at }
-    ensures { Does parts.old parts.new source.now at BytePlace.Between (in_between kind byte at (drop (at + 1) source.now)) result }
+    ensures { DoesMove parts.old parts.new source.now at BytePlace.Between (in_between kind byte at (drop (at + 1) source.now)) result }
 {
     match kind {
         Kind::Blank => Ok(Step::On(0, BytePlace::Between)),
@@ -446,7 +446,7 @@ fn read_start(
 ) -> Result<Step, ParseFault>
     requires stands { StandsAt source.now at byte kind }
     requires begins { IsCharBoundary source.now at }
-    ensures { Does parts.old parts.new source.now at BytePlace.Start (in_start kind byte at (drop (at + 1) source.now)) result }
+    ensures { DoesMove parts.old parts.new source.now at BytePlace.Start (in_start kind byte at (drop (at + 1) source.now)) result }
 {
     match kind {
         Kind::Blank | Kind::Newline | Kind::Semicolon => Ok(Step::On(0, BytePlace::Start)),
@@ -469,7 +469,7 @@ fn read_comment(
     kind: Kind,
 ) -> Result<Step, ParseFault>
     requires stands { StandsAt source.now at byte kind }
-    ensures { Does parts.now parts.now source.now at BytePlace.Comment (in_comment kind (drop (at + 1) source.now)) result }
+    ensures { DoesMove parts.now parts.now source.now at BytePlace.Comment (in_comment kind (drop (at + 1) source.now)) result }
 {
     match kind {
         Kind::Newline => Ok(Step::On(0, BytePlace::Start)),
@@ -516,7 +516,7 @@ pub fn read_byte(
     requires within { at < length source.now }
     requires short { length source.now ≤ most_bytes }
     requires fine { IsFine parts.old source.now place at }
-    ensures { Does parts.old parts.new source.now at place (move_at source.now at inside place) result }
+    ensures { DoesMove parts.old parts.new source.now at place (move_at source.now at inside place) result }
 {
     let (byte, kind) = look(source, at, inside);
     match place {
@@ -559,7 +559,7 @@ pub fn finish(
     requires short { length source.now ≤ most_bytes }
     requires fine { IsFine parts.old source.now place (length source.now) }
     requires script { is_index place ≡ false }
-    ensures { Finishes parts.old parts.new source.now place (length source.now) result }
+    ensures { FinishesScript parts.old parts.new source.now place (length source.now) result }
 {
     let at = source.len();
     match place {
@@ -594,7 +594,7 @@ pub fn finish(
 
 /// The fault of a text that ends where a bracket or a parenthesis is to come.
 pub fn unfinished(place: BytePlace) -> ParseFault
-    ensures { (at : ℕ) → at_end true place at ≡ Err result }
+    ensures { (at : ℕ) → read_at_end true place at ≡ Err result }
 {
     match place {
         BytePlace::Text(Mode::Quotes) => ParseFault::MissingQuote,

@@ -4,7 +4,7 @@ ghost use Rattle.std.specs.Prelude.{◌≡◌, ◌<◌, ◌≤◌, ◌+◌, ◌-
 ghost use Rattle.std.specs.Str.{IsCharBoundary};
 ghost use Rattle.tcl_words.specs.Reading.{commands_in, rest_of, outermost as outermost_level, opened_piece, first_skip};
 ghost use Rattle.tcl_words.specs.Parts.{IsOpenerCut, no_parts};
-ghost use Rattle.tcl_words.specs.Chain.{outset, own, opened as opened_origin, IsReading, IsOpening, IsEnding, IsParse, Goes};
+ghost use Rattle.tcl_words.specs.Chain.{outset, own, opened as opened_origin, IsReading, IsOpening, IsClosing, IsParse, Goes};
 ghost use Rattle.tcl_text.specs.Limits.{most_bytes};
 
 use crate::kind::{BytePlace, Mode, Opener, Step};
@@ -16,8 +16,8 @@ use std::alloc::Global;
 use std::mem;
 use tcl_text::ParseFault;
 
-/// How many brackets and indices may stand within one another.
-const MAX_DEPTH: usize = 200;
+/// How many brackets and indices, and parentheses of an expression, stand in one another at most.
+pub const MAX_DEPTH: usize = 200;
 
 /// How a whole script begins.
 fn outermost() -> Origin
@@ -141,7 +141,7 @@ impl Reader {
     fn end_within(&mut self, alloc: Global, source: &str) -> Result<(), ParseFault>
         requires short { length source.now ≤ most_bytes }
         requires waits { 0 < length self.old.waiting.items }
-        requires ending { IsEnding self.old.first source.now self.old.waiting.items self.old.origin self.old.parts self.old.place self.old.next }
+        requires ending { IsClosing self.old.first source.now self.old.waiting.items self.old.origin self.old.parts self.old.place self.old.next }
         ensures ok { OnOk result (IsReading self.old.first source.now self.new.waiting.items self.new.origin self.new.parts self.new.place self.new.next
             × (self.old.origin.base + self.old.next < self.new.origin.base + self.new.next)) }
         ensures fault { IfErr result (λ fault. fault ≡ ParseFault.NoMemory) }

@@ -43,7 +43,8 @@ is_full own = nat_le most_waiting (length own.entries) || nat_le (2 ^ 64 - 1) ow
 
 -- one more at the end, with the next number; an idle script has no due moment
 abbrev pub with_entry : Option ℕ → List ℕ → Own → Own
-with_entry due script own = record own { next_number = own.next_number + 1; entries = own.entries ++ record { id = own.next_number; due = due; script = script } ∷ [] }
+with_entry due script own =
+    record own { next_number = own.next_number + 1; entries = own.entries ++ record { id = own.next_number; due = due; script = script } ∷ [] }
 
 -- the one with this number, if it is listed
 abbrev pub entry_with : ℕ → List Entry → Option Entry

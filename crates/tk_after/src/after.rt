@@ -13,9 +13,7 @@ use crate::timers::Timers;
 use std::alloc::{AllocError, Global};
 use tcl_text::message::{Answer, bad_option, limit, short_text, wrong_args};
 use tcl_text::{Text, TextCommand, TextFault};
-
-/// The most milliseconds that a timer waits, and the latest moment of a session.
-const LATEST: u64 = 1_000_000_000_000;
+use tk_base::MAX_MOMENT;
 
 const DELAY_USAGE: &str = "after ms script ?script ..?";
 
@@ -82,12 +80,12 @@ fn add_delayed(
     }
 }
 
-/// How long to wait: not less than no time, and not more than `LATEST`.
+/// How long to wait: not less than no time, and not more than `MAX_MOMENT`.
 fn delay_of(ms: i64) -> u64
     ensures value { result ≡ delay_of ms }
     ensures bound { result ≤ last_moment }
 {
-    u64::try_from(ms).map_or(0, |ms| ms.min(LATEST))
+    u64::try_from(ms).map_or(0, |ms| ms.min(MAX_MOMENT))
 }
 
 /// Lists the scripts joined, as a timer or, where no moment is given, as an idle script.

@@ -3,7 +3,7 @@ use Rattle.std.proofs.Common.{◌≡◌, ℕ, List, [], ◌∷◌, ◌++◌, ap,
 use Rattle.tcl_control.specs.declared.context.Context.{Context}
 use Rattle.tcl_vars.specs.Store.{Store}
 use Rattle.tcl_interp.specs.declared.interp.Interp.{Interp}
-use Rattle.tcl_interp.specs.Finish.{Rest, rest_of_task}
+use Rattle.tcl_interp.specs.Finish.{RestToDo, rest_of_task}
 use Rattle.tcl_interp.specs.Interp.{at_top, context_of, first_context, left_of, rest_of}
 use Rattle.tcl_jobs.specs.declared.job.Task.{Task}
 use Rattle.tcl_jobs.specs.declared.job.Task.TheVariants as task
@@ -17,7 +17,7 @@ use Rattle.tk_app.specs.Settle.{settling}
 use Rattle.tk_app.specs.Turns.{Program, beginning, work_by}
 
 module _ {M : Type 0} (budget : Budget) where
-  abbrev made : List ℕ → List (List ℕ × M) → Store → Context → Rest (Task Job) → ℕ → Program M
+  abbrev made : List ℕ → List (List ℕ × M) → Store → Context → RestToDo (Task Job) → ℕ → Program M
   made name aliases store context rest left = record {
     name = name;
     aliases = aliases;

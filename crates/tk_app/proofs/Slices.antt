@@ -4,7 +4,7 @@ use Rattle.std.proofs.Common.{◌≡◌, ◌≢◌, inl, inr, ℕ, ◌+◌, ◌�
 use Rattle.tcl_control.specs.declared.code.Code.{Code}
 use Rattle.tcl_vars.specs.Store.{Store}
 use Rattle.tcl_interp.specs.Evaluation.{State, Outcome, Ended, OutOfSteps}
-use Rattle.tcl_interp.specs.Finish.{Rest, Running as RestRunning, Idle, Spent, Broken, finish}
+use Rattle.tcl_interp.specs.Finish.{RestToDo, Running as RestRunning, Idle, Spent, Broken, finish}
 use Rattle.tcl_interp.specs.declared.interp.Interp.{Interp}
 use Rattle.tcl_interp.specs.declared.interp.SliceEnd.{SliceEnd}
 use Rattle.tcl_interp.specs.declared.interp.SliceEnd.TheVariants as slice
@@ -27,20 +27,20 @@ use Rattle.tk_app.specs.Seen.{Meaning, Seen, meanings}
 use Rattle.tk_app.specs.Turns.{EndsAs, IsAsFar, Program, TakesTurn, end_as, end_of, part_of, work_by}
 
 -- what goes on doesn't rest
-goes_work : (rest : Rest (Task Job)) (levels : List ℕ) → IsRunning rest → work_of rest levels ≢ Rests
+goes_work : (rest : RestToDo (Task Job)) (levels : List ℕ) → IsRunning rest → work_of rest levels ≢ Rests
 goes_work rest levels (doing, waits, is) rests =
-    let P : Rest (Task Job) → Type 0 = λ r. work_of r levels ≡ Rests in
+    let P : RestToDo (Task Job) → Type 0 = λ r. work_of r levels ≡ Rests in
     let gone : Goes levels doing waits ≡ Rests = subst P is rests in
     cc
 
 -- and what doesn't rest goes on
-pub rest_goes : (rest : Rest (Task Job)) (levels : List ℕ) → work_of rest levels ≢ Rests → IsRunning rest
+pub rest_goes : (rest : RestToDo (Task Job)) (levels : List ℕ) → work_of rest levels ≢ Rests → IsRunning rest
 rest_goes Idle levels goes = absurd (goes refl)
 rest_goes (RestRunning doing waits) levels goes = (doing, waits, refl)
 rest_goes Spent levels goes = absurd (goes refl)
 rest_goes Broken levels goes = absurd (goes refl)
 
-pub not_idle : (rest : Rest (Task Job)) → IsRunning rest → rest ≢ Idle
+pub not_idle : (rest : RestToDo (Task Job)) → IsRunning rest → rest ≢ Idle
 not_idle rest (doing, waits, is) idle = let gone : RestRunning doing waits ≡ Idle = sym is ∙ idle in cc
 
 -- settling that has begun doesn't rest
@@ -96,13 +96,13 @@ settling_stops Exhausted work stopped = refl
 settling_stops Closed work stopped = refl
 
 -- what runs and doesn't rest has an interpreter that goes on
-pub going_rest : {M : Type 0} (program : Program M) (state : AppState) (rest : Rest (Task Job)) (levels : List ℕ) → state ≡ program.state → work_by state (work_of rest levels) ≡ program.work
+pub going_rest : {M : Type 0} (program : Program M) (state : AppState) (rest : RestToDo (Task Job)) (levels : List ℕ) → state ≡ program.state → work_by state (work_of rest levels) ≡ program.work
     → program.state ≡ Running → program.work ≢ Rests → IsRunning rest
 going_rest program state rest levels same work runs goes =
     rest_goes rest levels (λ rests. goes (sym work ∙ ap (λ s. work_by s (work_of rest levels)) (same ∙ runs) ∙ rests))
 
 -- where something is under way, an event comes before the first step
-pub full_granted : {M : Type 0} (program : Program M) (progress : Progress) (state : AppState) (rest : Rest (Task Job)) (levels : List ℕ) → progress ≡ Going → IsAsFar progress state rest → state ≡ program.state
+pub full_granted : {M : Type 0} (program : Program M) (progress : Progress) (state : AppState) (rest : RestToDo (Task Job)) (levels : List ℕ) → progress ≡ Going → IsAsFar progress state rest → state ≡ program.state
     → work_by state (work_of rest levels) ≡ program.work → program.state ≡ Running → (program.work ≡ Rests) ⊎ (program.steps ≡ program.budget.total)
     → program ≡ record program { steps = granted program.budget program.steps }
 full_granted program progress state rest levels goes far same work runs may =
@@ -183,10 +183,10 @@ module _ {M : Type 0} (answer : M → Meaning) where
   -- ── slices ──
 
   -- what an interpreter has under way is done as it finishes
-  done_of_rest : (moment : ℕ) (rest : Rest (Task Job)) (levels : List ℕ) (application : Application M) → IsRunning rest
+  done_of_rest : (moment : ℕ) (rest : RestToDo (Task Job)) (levels : List ℕ) (application : Application M) → IsRunning rest
       → done_as answer moment (work_of rest levels) application ≡ record { application = after_outcome (finish outside rest (state_in answer levels moment application)) application; work = Rests }
   done_of_rest moment rest levels application (doing, waits, is) =
-      let P : Rest (Task Job) → Type 0 = λ r.
+      let P : RestToDo (Task Job) → Type 0 = λ r.
       done_as answer moment (work_of r levels) application ≡ record { application = after_outcome (finish outside r (state_in answer levels moment application)) application; work = Rests } in
       subst P (sym is) refl
 
@@ -196,26 +196,26 @@ module _ {M : Type 0} (answer : M → Meaning) where
   after_again (OutOfSteps state) left application = refl
 
   -- an application that runs, and what its interpreter has under way
-  abbrev pub going : Application M → Rest (Task Job) → List ℕ → Part M
+  abbrev pub going : Application M → RestToDo (Task Job) → List ℕ → Part M
   going application rest levels = record { application = application; work = work_by application.state (work_of rest levels) }
 
-  going_runs : (application : Application M) (rest : Rest (Task Job)) (levels : List ℕ) → application.state ≡ Running
+  going_runs : (application : Application M) (rest : RestToDo (Task Job)) (levels : List ℕ) → application.state ≡ Running
       → going application rest levels ≡ record { application = application; work = work_of rest levels }
   going_runs application rest levels runs = ap (λ s. record { application = application; work = work_by s (work_of rest levels) }) runs
 
-  pub done_going : (moment : ℕ) (application : Application M) (rest : Rest (Task Job)) (levels : List ℕ) → application.state ≡ Running → IsRunning rest
+  pub done_going : (moment : ℕ) (application : Application M) (rest : RestToDo (Task Job)) (levels : List ℕ) → application.state ≡ Running → IsRunning rest
       → stage_done answer moment (going application rest levels)
       ≡ record { application = after_outcome (finish outside rest (state_in answer levels moment application)) application; work = Rests }
   unfolding stage_done
   done_going moment application rest levels runs running =
       ap (λ (p : Part M). done_as answer moment p.work p.application) (going_runs application rest levels runs) ∙ done_of_rest moment rest levels application running
 
-  module _ (moment : ℕ) (application : Application M) (rest : Rest (Task Job)) (levels : List ℕ) (runs : application.state ≡ Running) (running : IsRunning rest) where
+  module _ (moment : ℕ) (application : Application M) (rest : RestToDo (Task Job)) (levels : List ℕ) (runs : application.state ≡ Running) (running : IsRunning rest) where
     abbrev outcome : Outcome Seen
     outcome = finish outside rest (state_in answer levels moment application)
 
     -- it ended
-    pub all_done : (left : State Seen) (code : Code) (text : List ℕ) (rest' : Rest (Task Job)) (levels' : List ℕ) → outcome ≡ Ended left code text → rest' ≡ Idle
+    pub all_done : (left : State Seen) (code : Code) (text : List ℕ) (rest' : RestToDo (Task Job)) (levels' : List ℕ) → outcome ≡ Ended left code text → rest' ≡ Idle
         → going (record (with_left left application) { state = state_after left.shows.panel }) rest' levels' ≡ stage_done answer moment (going application rest levels)
     all_done left code text rest' levels' ended idle =
         let over : Application M = record (with_left left application) { state = state_after left.shows.panel } in
@@ -224,14 +224,14 @@ module _ {M : Type 0} (answer : M → Meaning) where
         ∙ sym (done_going moment application rest levels runs running ∙ ap (λ o. record { application = after_outcome o application; work = Rests }) ended)
 
     -- a step was needed, and none was left
-    pub all_spent : (left : State Seen) (rest' : Rest (Task Job)) (levels' : List ℕ) → outcome ≡ OutOfSteps left → left.steps ≡ 0
+    pub all_spent : (left : State Seen) (rest' : RestToDo (Task Job)) (levels' : List ℕ) → outcome ≡ OutOfSteps left → left.steps ≡ 0
         → going (record (with_left left application) { state = Exhausted }) rest' levels' ≡ stage_done answer moment (going application rest levels)
     all_spent left rest' levels' out none =
         ap (λ n. record { application = record (with_left left application) { steps = n; state = Exhausted }; work = Rests }) none
         ∙ sym (done_going moment application rest levels runs running ∙ ap (λ o. record { application = after_outcome o application; work = Rests }) out)
 
     -- it goes on: the same is to be done
-    pub goes_on : (left : State Seen) (rest' : Rest (Task Job)) → outcome ≡ finish outside rest' left → IsRunning rest' → left ≡ state_in answer left.context.levels moment (with_left left application)
+    pub goes_on : (left : State Seen) (rest' : RestToDo (Task Job)) → outcome ≡ finish outside rest' left → IsRunning rest' → left ≡ state_in answer left.context.levels moment (with_left left application)
         → stage_done answer moment (going (with_left left application) rest' left.context.levels) ≡ stage_done answer moment (going application rest levels)
     goes_on left rest' same running' stands =
         done_going moment (with_left left application) rest' left.context.levels runs running'

@@ -1,6 +1,6 @@
 -- An application as lists and values.
 use Rattle.std.specs.Prelude.{ℕ, List, [], ◌∷◌, ◌++◌, Option, None}
-use Rattle.tcl_control.specs.Table.{Table, first_commands}
+use Rattle.tcl_control.specs.Table.{NamedCommands, first_commands}
 use Rattle.tcl_vars.specs.Store.{Store}
 use Rattle.tk_after.specs.Timers.{Own as Timers, due_moments, least}
 use Rattle.tk_events.specs.declared.event.Event.{Event}
@@ -22,7 +22,7 @@ pub record Application (M : Type 0) : Type 0 where
   pub name : List ℕ
   pub aliases : List (List ℕ × M)
   pub store : Store
-  pub commands : Table
+  pub commands : NamedCommands
   -- what it has in the tables: its windows, their widgets, what is packed, its rectangle and its title
   pub screen : Screen
   -- its bindings and virtual events, in the order of registration

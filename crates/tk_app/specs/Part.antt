@@ -2,7 +2,7 @@
 use Rattle.std.specs.Prelude.{◌≡◌, ℕ, ◌+◌, ◌-◌, min, Bool, true, false, List, [], ◌∷◌, if◌then◌else◌}
 use Rattle.tcl_control.specs.declared.code.Code.TheVariants.{Normal}
 use Rattle.tcl_interp.specs.Evaluation.{State, Outcome, Ended, OutOfSteps}
-use Rattle.tcl_interp.specs.Finish.{Doing, Resumes, Waiting, Rest, Running as RestRunning, Idle, Spent, Broken, finish}
+use Rattle.tcl_interp.specs.Finish.{Doing, Resumes, Waiting, RestToDo, Running as RestRunning, Idle, Spent, Broken, finish}
 use Rattle.tcl_jobs.specs.declared.job.Task.{Task}
 use Rattle.tcl_jobs.specs.declared.job.Task.TheVariants as task
 use Rattle.tk_input.specs.declared.event.LocalEvent.{LocalEvent}
@@ -46,7 +46,7 @@ is_under_way Rests = false
 is_under_way (Goes levels doing waits) = true
 
 -- what is under way in an interpreter, at these levels
-abbrev pub work_of : Rest (Task Job) → List ℕ → Work
+abbrev pub work_of : RestToDo (Task Job) → List ℕ → Work
 work_of Idle levels = Rests
 work_of (RestRunning doing waits) levels = Goes levels doing waits
 work_of Spent levels = Rests

@@ -3,9 +3,9 @@ use Rattle.std.specs.Prelude.{◌≡◌, ◌≢◌, ◌⊎◌, ℕ, ◌+◌, ◌
 use Rattle.tcl_vars.specs.Store.{Store}
 use Rattle.tcl_interp.specs.declared.interp.SliceEnd.{SliceEnd}
 use Rattle.tcl_interp.specs.declared.interp.SliceEnd.TheVariants as slice
-use Rattle.tcl_interp.specs.Finish.{Rest, Idle, Spent, Broken}
+use Rattle.tcl_interp.specs.Finish.{RestToDo, Idle, Spent, Broken}
 use Rattle.tcl_interp.specs.Interp.{IsRunning}
-use Rattle.tcl_control.specs.Table.{Table, first_commands}
+use Rattle.tcl_control.specs.Table.{NamedCommands, first_commands}
 use Rattle.tcl_jobs.specs.declared.job.Task.{Task}
 use Rattle.tcl_jobs.specs.declared.job.Task.TheVariants as task
 use Rattle.tk_input.specs.declared.event.LocalEvent.{LocalEvent}
@@ -43,7 +43,7 @@ pub record Program (M : Type 0) : Type 0 where
   pub aliases : List (List ℕ × M)
   pub budget : Budget
   pub store : Store
-  pub commands : Table
+  pub commands : NamedCommands
   pub steps : ℕ
   pub state : AppState
   pub work : Work
@@ -183,7 +183,7 @@ end_as Closed = Stopped
 -- ── how far a runner has come ──
 
 -- While it runs and rests, its steps aren't spent.
-abbrev pub IsAsFar : Progress → AppState → Rest (Task Job) → Type 0
+abbrev pub IsAsFar : Progress → AppState → RestToDo (Task Job) → Type 0
 IsAsFar Resting Running rest = rest ≡ Idle
 IsAsFar Resting Exhausted rest = (rest ≡ Idle) ⊎ (rest ≡ Spent)
 IsAsFar Resting Closed rest = (rest ≡ Idle) ⊎ (rest ≡ Spent)

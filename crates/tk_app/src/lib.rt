@@ -25,6 +25,6 @@ pub use size::Size;
 pub use state::{AppEnd, AppState};
 pub use tk_alias::{Alias, AliasMeaning, AliasReply, Aliases};
 pub use tk_input::{LocalEvent, LocalKind};
-pub use tk_panel::{Line, MAX_MOMENT, Stream};
+pub use tk_panel::{Line, Stream};
 pub use tk_turns::Turn;
 pub use view::AppView;

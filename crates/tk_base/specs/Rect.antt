@@ -2,6 +2,14 @@
 use Rattle.std.specs.Prelude.{ℕ, ◌+◌, ◌<◌, ◌≤◌}
 use Rattle.tk_base.specs.declared.rect.Rect.{Rect}
 
+-- the last pixel, across and down, that a rectangle begins at, and the most of a side
+abbrev pub most_pixels : ℕ
+most_pixels = 32767
+
+-- the last pixel, across and down, that the pointer is at
+abbrev pub last_place : ℕ
+last_place = 65535
+
 -- a place in a span, which holds where it starts and not where it ends
 abbrev pub IsWithin : ℕ → ℕ → ℕ → Type 0
 IsWithin start length place = (start ≤ place) × (place < start + length)

@@ -1,7 +1,7 @@
 -- An entry of entry(n): its text, its cursor, and what edits make of them. Places count characters.
 use Rattle.std.specs.Prelude.{ℕ, ◌+◌, ◌-◌, min, Bool, false, not, ◌&&◌, ◌==◌, nat_le, nat_lt, if◌then◌else◌, List, [], ◌∷◌, Option, Some, None, option_map, codes}
 use Rattle.std.specs.Str.{chars, bytes_eq}
-use Rattle.tcl_text.specs.Characters.{size, with_inserted, without}
+use Rattle.tcl_text.specs.Characters.{size, with_inserted, without_characters}
 use Rattle.tcl_text.specs.Indices.{from_zero}
 use Rattle.tcl_text.specs.Readings.{integer_of}
 use Rattle.tk_entry.specs.declared.entry.Entry.{Entry}
@@ -44,7 +44,7 @@ inserted at new text cursor = record {
 -- `delete first last`: the characters from the first place on and before the last are gone, and the cursor moves back by those before it
 abbrev pub deleted : ℕ → ℕ → List ℕ → ℕ → Entry
 deleted first last text cursor = record {
-  text = without first last text;
+  text = without_characters first last text;
   cursor = cursor - (min cursor last - first);
 }
 

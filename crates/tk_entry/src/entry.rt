@@ -79,8 +79,8 @@ impl Entry {
         with_inserted(alloc, self.shown(variable), self.cursor, at, new)
     }
 
-    /// The entry without the characters behind the first so many and before the last so many (`delete` of entry(n)); none are taken where the
-    /// last stands before the first. It answers `NoMemory` alone.
+    /// The entry without the characters from the place `first` on and before the place `last` (`delete` of entry(n)); none are taken where
+    /// `last` isn't above `first`. It answers `NoMemory` alone.
     pub fn without(
         &self,
         alloc: Global,

@@ -78,9 +78,13 @@ is_to_wait Now = false
 is_to_wait Tail = true
 is_to_wait Head = true
 
--- not where it is to wait and 1,024 events wait
+-- how many events of an application wait at most
+abbrev pub most_queued : ℕ
+most_queued = 1024
+
+-- not where it is to wait and as many wait as can
 abbrev pub in_room : ℕ → When → Result When (List ℕ)
-in_room waiting when = if is_to_wait when && nat_le 1024 waiting then fails (codes "limit reached: events") else Ok when
+in_room waiting when = if is_to_wait when && nat_le most_queued waiting then fails (codes "limit reached: events") else Ok when
 
 -- ---- the command
 

@@ -3,6 +3,7 @@ use Rattle.std.specs.Prelude.{◌≡◌, ℕ, ◌<◌, ◌≤◌, ◌⊎◌, Boo
 use Rattle.std.specs.Char.{IsAsciiAlphabetic, IsAsciiAlphanumeric}
 use Rattle.std.specs.List.{list_all}
 use Rattle.std.specs.Str.{bytes_eq}
+use Rattle.tk_base.specs.Rect.{most_pixels}
 use Rattle.tk_base.specs.declared.rect.Rect.{Rect}
 use Rattle.tk_app.specs.declared.budget.Budget.{Budget}
 use Rattle.tk_app.specs.Spec.{Spec}
@@ -16,7 +17,7 @@ IsName [] = ⊥
 IsName (first ∷ rest) = (length rest < 32) × IsAsciiAlphabetic first × All IsNameByte rest
 
 abbrev pub IsLength : ℕ → Type 0
-IsLength pixels = (1 ≤ pixels) × (pixels ≤ 32767)
+IsLength pixels = (1 ≤ pixels) × (pixels ≤ most_pixels)
 
 -- an application as a host is given it: what it is begun with, and where its upper left corner is on the screen
 pub record Given (M : Type 0) : Type 0 where
@@ -64,8 +65,8 @@ are_aliases aliases = nat_le (length aliases) 64 && list_all (λ alias. is_comma
 -- the ranges of a session
 pub record IsInRange (name : List ℕ) (rect : Rect) (budget : Budget) : Type 0 where
   pub named : IsName name
-  pub x_fits : rect.x ≤ 32767
-  pub y_fits : rect.y ≤ 32767
+  pub x_fits : rect.x ≤ most_pixels
+  pub y_fits : rect.y ≤ most_pixels
   pub width_fits : IsLength rect.width
   pub height_fits : IsLength rect.height
   pub total_fits : budget.total ≤ 10000000

@@ -16,12 +16,9 @@ use std::alloc::{AllocError, Global};
 use std::marker::Model;
 use tcl_text::Text;
 use tk_app::{Alias, AliasMeaning, Aliases, Budget, MAX_APPLICATIONS, Shared, Size};
-use tk_base::Rect;
+use tk_base::{MAX_MOMENT, Rect};
 use tk_route::{HostLine, LineFault, Routed, Router};
 use tk_turns::Turn;
-
-/// The last moment of a host, in milliseconds.
-pub const MAX_MOMENT: u64 = 1_000_000_000_000;
 
 /// Applications side by side with one clock, in milliseconds from 0. What becomes of each rests on itself alone; those that have something to
 /// do at a moment take turns, in the order of their slots, each at most a slice of steps.

@@ -4,10 +4,7 @@ ghost use Rattle.tk_host.specs.Spec.{IsName, IsNameByte, IsLength, IsInRange, ar
 
 use tcl_text::Text;
 use tk_app::{Alias, AliasMeaning, Aliases, Budget};
-use tk_base::Rect;
-
-/// The last pixel column or row at which an application may begin, and its greatest width and height.
-pub const MAX_PIXELS: u32 = 32_767;
+use tk_base::{MAX_PIXELS, Rect};
 
 /// How many steps an application is given at most, be it at first or with an event.
 pub const MAX_BUDGET: u64 = 10_000_000;

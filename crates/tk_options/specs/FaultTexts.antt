@@ -1,6 +1,6 @@
 -- The texts of refusals.
 use Rattle.std.specs.Prelude.{ℕ, List, ◌++◌, codes}
-use Rattle.tcl_text.specs.Answers.{quoted}
+use Rattle.tcl_text.specs.Answers.{missing_value_text, quoted}
 use Rattle.tk_options.specs.declared.fault.OptionFault.{OptionFault}
 use Rattle.tk_options.specs.declared.fault.OptionFault.TheVariants.{UnknownOption, AmbiguousOption, BadValue, NoValue, NoMemory}
 
@@ -11,5 +11,5 @@ unfoldable pub fault_text : OptionFault → List ℕ
 fault_text (UnknownOption word) = codes "unknown option " ++ quoted word
 fault_text (AmbiguousOption word) = codes "ambiguous option " ++ quoted word
 fault_text (BadValue value word) = bad_value_text value word
-fault_text (NoValue word) = codes "value for " ++ (quoted word ++ codes " missing")
+fault_text (NoValue word) = missing_value_text word
 fault_text NoMemory = codes "out of memory"

@@ -7,9 +7,13 @@ use Rattle.tcl_text.specs.Readings.{integer_of}
 use Rattle.tk_options.specs.declared.form.Form.{Form}
 use Rattle.tk_options.specs.declared.form.Form.TheVariants.{Amount, Relief, Anchor, ButtonState, EntryState, SelectMode, AnyText}
 
+-- the most pixels, columns or lines that an option takes
+abbrev pub most_amount : ℕ
+most_amount = 32767
+
 -- a number of pixels, columns or lines
 abbrev pub amount : Option ℤ → Option ℕ
-amount (Some (pos n)) = if nat_le n 32767 then Some n else None
+amount (Some (pos n)) = if nat_le n most_amount then Some n else None
 amount (Some (negsuc n)) = None
 amount None = None
 

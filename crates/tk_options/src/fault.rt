@@ -6,7 +6,7 @@ ghost use Rattle.tk_options.specs.FaultTexts.{bad_value_text, fault_text};
 use std::alloc::{AllocError, AllocFailed, Global};
 use std::fmt::{self, Debug, Formatter, Write};
 use tcl_text::Text;
-use tcl_text::message::{push_quoted, quoting, with_quoted};
+use tcl_text::message::{MISSING, VALUE_FOR, push_quoted, quoting, with_quoted};
 use thiserror::Error;
 
 /// Why options are not set or told, with the words at fault as they were given.
@@ -55,7 +55,7 @@ impl OptionFault {
                 word.as_str(),
             ),
             OptionFault::BadValue { value, option } => bad_value(alloc, value, option),
-            OptionFault::NoValue(word) => quoting(alloc, "value for ", word.as_str(), " missing"),
+            OptionFault::NoValue(word) => quoting(alloc, VALUE_FOR, word.as_str(), MISSING),
             OptionFault::NoMemory => String::from_str(alloc, "out of memory"),
         }
     }

@@ -1,6 +1,6 @@
 //! What values options take.
 ghost use Rattle.std.specs.Prelude.{◌≡◌, ◌≤◌, IfOk, IfSome, Some};
-ghost use Rattle.tk_options.specs.Forms.{amount, amount_in, is_word_of, word_in, value_in};
+ghost use Rattle.tk_options.specs.Forms.{amount, amount_in, is_word_of, most_amount, word_in, value_in};
 
 use std::alloc::{AllocError, Global};
 use tcl_text::Text;
@@ -31,7 +31,7 @@ pub enum Form {
 #[tactic(auto, unfolding(crate::specs::Forms::amount_in))]
 pub fn amount_in(text: &Text) -> Option<u32>
     ensures value { result ≡ amount_in text.now }
-    ensures bound { IfSome result (λ amount. amount ≤ 32767) }
+    ensures bound { IfSome result (λ amount. amount ≤ most_amount) }
 {
     match text.integer() {
         Ok(number) => amount(number),
@@ -42,7 +42,7 @@ pub fn amount_in(text: &Text) -> Option<u32>
 /// The number, where it is from 0 to 32767.
 fn amount(number: i64) -> Option<u32>
     ensures value { result ≡ amount (Some number) }
-    ensures bound { IfSome result (λ amount. amount ≤ 32767) }
+    ensures bound { IfSome result (λ amount. amount ≤ most_amount) }
 {
     match u64::try_from(number) {
         Ok(amount) if amount <= MOST => Some(amount as u32),

@@ -4,6 +4,7 @@ ghost use Rattle.tk_options.specs.Rows.{options_of, row as row_of};
 ghost use Rattle.tk_options.specs.Names.{long_name};
 ghost use Rattle.tk_options.specs.Options.{is_named, is_begun, only, meant, tested, settings, with_value, with_settings, configured, value_meant, value_of, amount_of, description, IsTooLong};
 ghost use Rattle.tk_options.specs.Entries.{with_option};
+ghost use Rattle.tk_options.specs.Forms.{most_amount};
 
 use crate::fault::OptionFault;
 use crate::form::amount_in;
@@ -151,7 +152,7 @@ impl OptionTable {
     #[tactic(auto, unfolding(crate::specs::Options::amount_of))]
     pub fn amount(&self, option: OptionName) -> u32
         ensures value { result ≡ amount_of option self.now }
-        ensures bound { result ≤ 32767 }
+        ensures bound { result ≤ most_amount }
     {
         match self.value(option) {
             Some(value) => amount_in(value).unwrap_or(0),

@@ -1,6 +1,7 @@
 -- The errors of `pack`.
 use Rattle.std.specs.Prelude.{ℕ, List, ◌++◌, Result, codes}
-use Rattle.tcl_text.specs.Answers.{fails, quoted}
+use Rattle.tcl_text.specs.Answers.{fails, missing_value, quoted}
+use Rattle.tcl_text.specs.FaultTexts.{boolean_text}
 
 -- no window has the path (24)
 abbrev pub bad_path : {T : Type 0} → List ℕ → Result T (List ℕ)
@@ -24,8 +25,8 @@ abbrev pub bad_value : {T : Type 0} → List ℕ → List ℕ → Result T (List
 bad_value value name = fails ((codes "bad value " ++ quoted value ++ codes " for option ") ++ quoted name)
 
 abbrev pub no_value : {T : Type 0} → List ℕ → Result T (List ℕ)
-no_value name = fails (codes "value for " ++ quoted name ++ codes " missing")
+no_value name = missing_value name
 
 -- 2
 abbrev pub not_boolean : {T : Type 0} → List ℕ → Result T (List ℕ)
-not_boolean word = fails (codes "expected boolean value but got " ++ quoted word)
+not_boolean word = fails (boolean_text word)

@@ -4,9 +4,9 @@ ghost use Rattle.tcl_text.specs.Answers.{Gives, quoted};
 ghost use Rattle.tk_pack_commands.specs.Faults as spec;
 
 use std::alloc::{AllocError, Global};
-use tcl_text::Text;
-use tcl_text::answers::{Refusal, error, error_about, quoting_error};
+use tcl_text::answers::{Refusal, error, error_about, missing_value, quoting_error};
 use tcl_text::message::quoting;
+use tcl_text::{NotBoolean, Text};
 
 /// The error for a path that names no window (24).
 pub fn bad_path<T>(alloc: Global, path: &Text) -> Result<T, Refusal>
@@ -57,14 +57,15 @@ pub fn bad_value<T>(alloc: Global, value: &Text, name: &Text) -> Result<T, Refus
 pub fn no_value<T>(alloc: Global, name: &Text) -> Result<T, Refusal>
     ensures { Gives result (spec.no_value name.now) }
 {
-    Err(error_about(alloc, "value for ", name.as_str(), " missing"))
+    missing_value(alloc, name.as_str())
 }
 
 /// The error for a word that is no boolean (2).
+#[tactic(auto, unfolding(tcl_text::specs::Messages::bounded))]
 pub fn not_boolean<T>(alloc: Global, word: &Text) -> Result<T, Refusal>
     ensures { Gives result (spec.not_boolean word.now) }
 {
-    Err(quoting_error(alloc, "expected boolean value but got ", word.as_str()))
+    Err(Refusal::Error(NotBoolean.text(alloc, word.as_str())?))
 }
 
 /// A word in quotation marks with what stands before and behind it.

@@ -3,9 +3,6 @@ ghost use Rattle.tcl_text.specs.Limits.{last_moment};
 
 use std::marker::Model;
 
-/// The last moment, in milliseconds.
-pub const MAX_MOMENT: u64 = 1_000_000_000_000;
-
 /// The moment that all applications are at, in milliseconds.
 #[derive(Drop)]
 pub struct Clock {

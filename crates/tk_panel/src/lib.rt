@@ -20,7 +20,7 @@ mod transcript;
 pub use adding::add;
 pub use changes::lay_out;
 pub use choice::choose;
-pub use clock::{Clock, MAX_MOMENT};
+pub use clock::Clock;
 pub use commands::{after_command, clock_command, puts_command};
 pub use delivery::deliver;
 pub use job::{Home, Job, Rest};

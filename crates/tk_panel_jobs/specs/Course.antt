@@ -1,8 +1,9 @@
 -- The course of an application's jobs: what comes next of each, what that starts, and what the end of a script makes of it.
-use Rattle.std.specs.Prelude.{ℕ, List, [], Option, Some, None, codes}
+use Rattle.std.specs.Prelude.{ℕ, List, [], Option, Some, None}
 use Rattle.tcl_vars.specs.Store.{Store}
 use Rattle.tcl_control.specs.declared.code.Code.{Code}
 use Rattle.tcl_control.specs.declared.code.Code.TheVariants.{Normal, Error, Return, Break, Continue}
+use Rattle.tcl_control.specs.Texts.{break_outside, continue_outside}
 use Rattle.tcl_jobs.specs.declared.job.Looked.{Looked}
 use Rattle.tcl_jobs.specs.declared.job.Looked.TheVariants.{Wants, Ends}
 use Rattle.tcl_jobs.specs.declared.job.Started.{Started}
@@ -48,8 +49,8 @@ abbrev pub with_end : Code → List ℕ → Panel → Panel
 with_end Normal text panel = panel
 with_end Error text panel = with_line Errors text panel
 with_end (Return code) text panel = panel
-with_end Break text panel = with_line Errors (codes "invoked \"break\" outside of a loop") panel
-with_end Continue text panel = with_line Errors (codes "invoked \"continue\" outside of a loop") panel
+with_end Break text panel = with_line Errors break_outside panel
+with_end Continue text panel = with_line Errors continue_outside panel
 
 abbrev pub ended_by : Option (List (List ℕ)) → Rest → Code → List ℕ → Panel → Panel × Job
 ended_by (Some scripts) rest code text panel = bound_ended code text scripts rest panel

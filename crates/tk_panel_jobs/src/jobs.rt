@@ -8,6 +8,7 @@ ghost use Rattle.tk_panel_jobs.specs.Calls.{begun, settling};
 ghost use Rattle.tk_panel_jobs.specs.Course.{bound_ended, ended, event_job, look, looked_of, started, with_end};
 
 use std::alloc::{AllocError, Global};
+use tcl_control::{STRAY_BREAK, STRAY_CONTINUE};
 use tcl_interp::{Act, Code};
 use tcl_jobs::{Looked, Started, Task};
 use tcl_text::Text;
@@ -98,8 +99,8 @@ fn tell_end(tables: &mut Tables, slot: usize, code: Code, text: Text) -> Result<
     match code {
         Code::Normal | Code::Return(_) => Ok(()),
         Code::Error => write(tables, slot, Stream::Err, text),
-        Code::Break => tell_fault(tables, slot, "invoked \"break\" outside of a loop"),
-        Code::Continue => tell_fault(tables, slot, "invoked \"continue\" outside of a loop"),
+        Code::Break => tell_fault(tables, slot, STRAY_BREAK),
+        Code::Continue => tell_fault(tables, slot, STRAY_CONTINUE),
     }
 }
 

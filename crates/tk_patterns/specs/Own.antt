@@ -40,9 +40,13 @@ script_of tag sequence own = option_map (λ binding. binding.script) (binding_of
 abbrev pub sequences_of : List ℕ → List Binding → List Sequence
 sequences_of tag own = map (λ binding. binding.sequence) (filter (has_tag tag) own)
 
--- no binding more, for a sequence that the tag has none for: 4,096 are there
+-- how many bindings an application has at most
+abbrev pub most_bindings : ℕ
+most_bindings = 4096
+
+-- no binding more, for a sequence that the tag has none for: as many as there can be are there
 abbrev pub refuses : List ℕ → Sequence → List Binding → Bool
-refuses tag sequence own = is_none (binding_of tag sequence own) && nat_le 4096 (length own)
+refuses tag sequence own = is_none (binding_of tag sequence own) && nat_le most_bindings (length own)
 
 -- the binding keeps its place, with another script
 abbrev pub bound_again : List ℕ → Sequence → List ℕ → List Binding → List Binding

@@ -2,6 +2,7 @@ ghost use Rattle.std.specs.Prelude.{◌≡◌, IfOk};
 ghost use Rattle.tk_patterns.specs.FaultTexts.{fault_number, fault_text};
 
 use std::alloc::{AllocError, Global};
+use std::fmt::{self, Display, Formatter, Write};
 use tcl_text::Text;
 use thiserror::Error;
 
@@ -9,10 +10,8 @@ use thiserror::Error;
 #[derive(Clone, Copy, Debug, PartialEq, Eq, Drop, Error)]
 pub enum BindFault {
     /// The application has 4,096 bindings (31).
-    #[error("limit reached: bindings")]
     Full,
     /// Memory was refused.
-    #[error("out of memory")]
     NoMemory,
 }
 
@@ -44,6 +43,12 @@ impl BindFault {
             BindFault::Full => "limit reached: bindings",
             BindFault::NoMemory => "out of memory",
         }
+    }
+}
+
+impl Display for BindFault {
+    fn fmt<W: Write>(&self, formatter: &mut Formatter<W>) -> fmt::Result {
+        formatter.write_str(self.text())
     }
 }
 

@@ -1,7 +1,7 @@
 ghost use Rattle.std.specs.Prelude.{◌≡◌, [], ◌∷◌, ◌++◌, ◌<◌, nat_le, Err, IfOk, OnOk, OnErr, IsOkUnless, MatchBool, length, map, position};
 ghost use Rattle.std.specs.List.{remove};
 ghost use Rattle.std.specs.Option.{option_copied};
-ghost use Rattle.tk_patterns.specs.Own.{has_tag, is_of, binding_of, script_of, sequences_of, refuses, with_script_at, with_binding, without_binding, without_tag};
+ghost use Rattle.tk_patterns.specs.Own.{has_tag, is_of, binding_of, most_bindings, script_of, sequences_of, refuses, with_script_at, with_binding, without_binding, without_tag};
 ghost use Rattle.tk_buckets.specs.Filed.{numbers_of};
 ghost use Rattle.tk_patterns.specs.Filing.{number_of};
 ghost use Rattle.tk_patterns.specs.Winner.{winner};
@@ -108,7 +108,7 @@ impl OwnBindings {
 
     /// Adds a binding, the last.
     fn add(&mut self, binding: Binding) -> Result<(), BindFault>
-        ensures answer { MatchBool (nat_le 4096 (length self.old)) (result ≡ Err BindFault.Full)
+        ensures answer { MatchBool (nat_le most_bindings (length self.old)) (result ≡ Err BindFault.Full)
             (IsOkUnless result BindFault.NoMemory) }
         ensures ok { OnOk result (self.new ≡ self.old ++ binding ∷ []) }
         ensures err { OnErr result (self.new ≡ self.old) }
@@ -245,7 +245,7 @@ fn take_out(bindings: &mut Vec<Binding>, filed: &mut Buckets, place: usize)
 
 /// Adds a binding, the last.
 fn add(bindings: &mut Vec<Binding>, binding: Binding) -> Result<(), BindFault>
-    ensures answer { MatchBool (nat_le 4096 (length bindings.old.items)) (result ≡ Err BindFault.Full)
+    ensures answer { MatchBool (nat_le most_bindings (length bindings.old.items)) (result ≡ Err BindFault.Full)
         (IsOkUnless result BindFault.NoMemory) }
     ensures ok { OnOk result (bindings.new.items ≡ bindings.old.items ++ binding ∷ []) }
     ensures err { OnErr result (bindings.new.items ≡ bindings.old.items) }

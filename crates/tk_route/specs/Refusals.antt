@@ -1,5 +1,7 @@
 -- Which lines are refused, and with which fault.
 use Rattle.std.specs.Prelude.{◌≡◌, ℕ, ◌<◌, ◌≤◌, ◌⊎◌, true, false, IsTrue, List, [], ◌∷◌, length, Some}
+use Rattle.tcl_text.specs.Limits.{last_moment}
+use Rattle.tk_base.specs.Rect.{last_place}
 use Rattle.tk_base.specs.declared.rect.Rect.{Rect}
 use Rattle.tk_route.specs.Screen.{IsOnScreen, are_apart, shares_with_another}
 use Rattle.tk_route.specs.Values.{Values}
@@ -21,7 +23,7 @@ RefusesRects rects TooManyApps = (are_apart rects ≡ true) × (16 < length rect
 
 -- the line's numbers lie in the ranges of a session
 abbrev pub IsInRange : HostLine → Type 0
-IsInRange (Move x y) = (x ≤ 65535) × (y ≤ 65535)
+IsInRange (Move x y) = (x ≤ last_place) × (y ≤ last_place)
 IsInRange (Press button) = (1 ≤ button) × (button ≤ 5)
 IsInRange (Release button) = (1 ≤ button) × (button ≤ 5)
 IsInRange (Placed slot rect) = IsOnScreen rect
@@ -40,7 +42,7 @@ Covers rects line = ⊥
 
 -- what applies to a line at a moment, by what is known before it
 abbrev pub Refuses : Values → ℕ → HostLine → LineFault → Type 0
-Refuses known moment line BadLine = ¬ ((moment ≤ 1000000000000) × IsInRange line)
+Refuses known moment line BadLine = ¬ ((moment ≤ last_moment) × IsInRange line)
 Refuses known moment line TimeBack = moment < known.moment
 Refuses known moment line NoApp = NamesNobody known.rects line
 Refuses known moment line RectOverlap = Covers known.rects line

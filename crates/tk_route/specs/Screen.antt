@@ -1,12 +1,14 @@
 -- Rectangles on the screen, and points in them.
 use Rattle.std.specs.Prelude.{◌≡◌, ℕ, ◌+◌, ◌≤◌, max, min, Bool, true, not, ◌&&◌, ◌==◌, nat_le, nat_lt, List, [], ◌∷◌, Option, Some, position, slice_get}
 use Rattle.std.specs.List.{enumerate_from, list_any}
+use Rattle.tk_base.specs.Rect.{last_place, most_pixels}
 use Rattle.tk_base.specs.declared.rect.Rect.{Rect}
 use Rattle.tk_route.specs.declared.place.Point.{Point}
 
 -- the rectangle's numbers lie in the ranges of a session
 abbrev pub IsOnScreen : Rect → Type 0
-IsOnScreen rect = (rect.x ≤ 32767) × (rect.y ≤ 32767) × (1 ≤ rect.width) × (rect.width ≤ 32767) × (1 ≤ rect.height) × (rect.height ≤ 32767)
+IsOnScreen rect =
+    (rect.x ≤ most_pixels) × (rect.y ≤ most_pixels) × (1 ≤ rect.width) × (rect.width ≤ most_pixels) × (1 ≤ rect.height) × (rect.height ≤ most_pixels)
 
 -- a span holds where it starts, and not where it ends
 abbrev pub is_within : ℕ → ℕ → ℕ → Bool
@@ -40,4 +42,4 @@ shares_with_another rects slot rect =
 
 -- the rectangle of this slot, if it is one, begins where the pointer can be
 abbrev pub BeginsOnScreen : List Rect → Option ℕ → Type 0
-BeginsOnScreen rects slot = (at : ℕ) → slot ≡ Some at → (rect : Rect) → slice_get rects at ≡ Some rect → (rect.x ≤ 65535) × (rect.y ≤ 65535)
+BeginsOnScreen rects slot = (at : ℕ) → slot ≡ Some at → (rect : Rect) → slice_get rects at ≡ Some rect → (rect.x ≤ last_place) × (rect.y ≤ last_place)

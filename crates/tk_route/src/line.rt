@@ -1,7 +1,7 @@
 ghost use Rattle.std.specs.Prelude.{◌↔◌, IsTrue};
 ghost use Rattle.tk_route.specs.Screen.{IsOnScreen};
 
-use tk_base::Rect;
+use tk_base::{MAX_PIXELS, MAX_PLACE, Rect};
 use tk_keys::Keysym;
 
 /// A line of a session: what happens at the screen and the keyboard. Places and sizes are in pixels, places from the screen's upper left
@@ -30,7 +30,7 @@ impl HostLine {
         ensures { IsTrue result ↔ IsInRange self.now }
     {
         match *self {
-            HostLine::Move { x, y } => x <= 65_535 && y <= 65_535,
+            HostLine::Move { x, y } => x <= MAX_PLACE && y <= MAX_PLACE,
             HostLine::Press(button) | HostLine::Release(button) => 1 <= button && button <= 5,
             HostLine::Keydown(_) | HostLine::Keyup(_) | HostLine::Focus(_) => true,
             HostLine::Rect { slot: _, rect } => is_on_screen(rect),
@@ -42,10 +42,10 @@ impl HostLine {
 fn is_on_screen(rect: Rect) -> bool
     ensures { IsTrue result ↔ IsOnScreen rect }
 {
-    rect.x <= 32_767
-        && rect.y <= 32_767
+    rect.x <= MAX_PIXELS
+        && rect.y <= MAX_PIXELS
         && 1 <= rect.width
-        && rect.width <= 32_767
+        && rect.width <= MAX_PIXELS
         && 1 <= rect.height
-        && rect.height <= 32_767
+        && rect.height <= MAX_PIXELS
 }

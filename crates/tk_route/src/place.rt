@@ -1,5 +1,6 @@
 //! Places of the pointer, and the rectangles that they lie in.
 ghost use Rattle.std.specs.Prelude.{◌≡◌, ◌≤◌, ◌-ℤ◌, pos};
+ghost use Rattle.tk_base.specs.Rect.{last_place};
 ghost use Rattle.tk_route.specs.Screen.{BeginsOnScreen, holds, is_within, slot_at};
 ghost use Rattle.tk_route.specs.Values.{local, under};
 
@@ -56,7 +57,7 @@ pub(crate) fn under(rects: &[Rect], pointer: Option<Point>) -> Option<usize>
 
 /// How far a place is from where a rectangle begins, in one axis.
 fn along(place: u16, start: u32) -> i32
-    requires { start ≤ 65535 }
+    requires { start ≤ last_place }
     ensures { result ≡ pos place -ℤ pos start }
 {
     i32::from(place) - start as i32

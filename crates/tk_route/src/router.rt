@@ -11,12 +11,9 @@ use crate::line::HostLine;
 use crate::place::{Point, local, under};
 use crate::rects::{MAX_APPLICATIONS, Rects, are_apart, shares_with_another};
 use std::marker::Model;
-use tk_base::Rect;
+use tk_base::{MAX_MOMENT, Rect};
 use tk_input::LocalKind;
 use tk_keys::Keysym;
-
-/// The last moment of a session, in milliseconds.
-pub const MAX_MOMENT: u64 = 1_000_000_000_000;
 
 const NO_BUTTONS: Buttons = Buttons {
     first: false,

@@ -4,7 +4,7 @@ use Rattle.std.specs.Prelude.{◌≡◌, ◌≢◌, ◌⊎◌, ℕ, ◌<◌, ◌
 use Rattle.tcl_text.specs.Backslash.{is_white}
 use Rattle.tk_keys.specs.Names.{key_named, key_of_character}
 use Rattle.tk_sequences.specs.Modifiers.{modifier_named, modifier_bit}
-use Rattle.tk_sequences.specs.Patterns.{repetition_named, count_of}
+use Rattle.tk_sequences.specs.Patterns.{count_of, most_events, repetition_named}
 use Rattle.tk_sequences.specs.Reading.{is_separator, button_named}
 use Rattle.tk_sequences.specs.Types.{type_named, is_key_type, is_button_type}
 use Rattle.tk_sequences.specs.declared.detail.Detail.{Detail}
@@ -129,7 +129,7 @@ IsVirtual text name = (name ≢ []) × HasNoClosing name × (text ≡ codes "<<"
 -- The text is this sequence: a virtual event, or one or more patterns for at most 32 events. How long a text may be is no matter of its grammar.
 pub data IsSequence (text : List ℕ) : Sequence → Type 0 where
   virtual : (name : List ℕ) → IsVirtual text name → IsSequence text (Virtual name)
-  physical : (patterns : List Pattern) (gap : List ℕ) → patterns ≢ [] → count_of patterns ≤ 32 → BeginsWith text patterns gap → IsGap gap → IsSequence text (Physical patterns)
+  physical : (patterns : List Pattern) (gap : List ℕ) → patterns ≢ [] → count_of patterns ≤ most_events → BeginsWith text patterns gap → IsGap gap → IsSequence text (Physical patterns)
 
 -- ---- faults, where `whole` is the text that is told as the sequence
 
@@ -189,6 +189,6 @@ HasOpening text = (before : List ℕ) × (after : List ℕ) × (text ≡ before 
 pub data HasFault (text : List ℕ) : SequenceFault → Type 0 where
   opening : HasOpening text → ((name : List ℕ) → ¬ IsVirtual text name) → HasFault text (BadSequence text)
   empty : IsGap text → HasFault text (BadSequence text)
-  faulty : (patterns : List Pattern) (gap rest : List ℕ) {fault : SequenceFault} → ¬ HasOpening text → count_of patterns ≤ 32 → BeginsWith text patterns (gap ++ rest) → IsGap gap →
+  faulty : (patterns : List Pattern) (gap rest : List ℕ) {fault : SequenceFault} → ¬ HasOpening text → count_of patterns ≤ most_events → BeginsWith text patterns (gap ++ rest) → IsGap gap →
       IsFaulty text rest fault → HasFault text fault
-  many : (patterns : List Pattern) (rest : List ℕ) → ¬ HasOpening text → 32 < count_of patterns → BeginsWith text patterns rest → HasFault text (BadSequence text)
+  many : (patterns : List Pattern) (rest : List ℕ) → ¬ HasOpening text → most_events < count_of patterns → BeginsWith text patterns rest → HasFault text (BadSequence text)

@@ -29,7 +29,11 @@ repetition_named word = looked_up word repetition_words
 abbrev pub count_of : List Pattern → ℕ
 count_of patterns = sum_by (λ pattern. times_of pattern.times) patterns
 
--- one or more, that stand for at most 32 events
+-- how many events a sequence stands for at most
+abbrev pub most_events : ℕ
+most_events = 32
+
+-- one or more, that stand for few enough events
 pub record ArePatterns (patterns : List Pattern) : Type 0 where
   pub some : 0 < length patterns
-  pub few : count_of patterns ≤ 32
+  pub few : count_of patterns ≤ most_events

@@ -7,7 +7,7 @@ use Rattle.tcl_text.specs.Backslash.{is_white}
 use Rattle.tk_keys.specs.Names.{key_named, key_of_character}
 use Rattle.tk_sequences.specs.Lookup.{looked_up}
 use Rattle.tk_sequences.specs.Modifiers.{modifier_named, modifier_bit}
-use Rattle.tk_sequences.specs.Patterns.{repetition_named, times_of}
+use Rattle.tk_sequences.specs.Patterns.{most_events, repetition_named, times_of}
 use Rattle.tk_sequences.specs.Types.{type_named, is_key_type, is_button_type}
 use Rattle.tk_sequences.specs.declared.detail.Detail.{Detail}
 use Rattle.tk_sequences.specs.declared.detail.Detail.TheVariants as details
@@ -210,10 +210,10 @@ abbrev pub some_patterns : List ℕ → List Pattern → Outcome Sequence
 some_patterns whole [] = Err (BadSequence whole)
 some_patterns whole (pattern ∷ patterns) = Ok (Physical (pattern ∷ patterns))
 
--- one or more patterns for at most 32 events
+-- one or more patterns for few enough events
 unfoldable pub physical : List ℕ → Outcome Sequence
 physical whole = do
-  patterns ← patterns_from whole Between 32 whole
+  patterns ← patterns_from whole Between most_events whole
   some_patterns whole patterns
 
 -- ---- the whole

@@ -3,7 +3,7 @@ ghost use Rattle.std.specs.Prelude.{◌≡◌, ◌≢◌, ◌<◌, ◌≤◌, le
 ghost use Rattle.std.specs.Str.{IsCharBoundary};
 ghost use Rattle.tcl_text.specs.Backslash.{is_white};
 ghost use Rattle.tk_sequences.specs.Reading.{prefix_named, button_named, key_of_one, key_meant, detail_of, key_or_fault, detail_behind, typed, button_or_key, type_of_detail, untyped, headed, pattern_of, plain_pattern, patterns_from, Between, CutsOff, IsRefused, fields, is_single};
-ghost use Rattle.tk_sequences.specs.Patterns.{count_of};
+ghost use Rattle.tk_sequences.specs.Patterns.{count_of, most_events};
 
 use crate::detail::Detail;
 use crate::event_type::EventType;
@@ -292,9 +292,9 @@ const MOST_EVENTS: usize = 32;
 
 /// The patterns that a text is.
 pub fn patterns_of(alloc: Global, whole: &Text) -> Result<Vec<Pattern>, SequenceFault>
-    ensures ok { IfOk result (λ patterns. patterns_from whole.now Between 32 whole.now ≡ Ok patterns.items) }
-    ensures few { IfOk result (λ patterns. count_of patterns.items ≤ 32) }
-    ensures refused { IfErr result (λ fault. fault ≢ SequenceFault.NoMemory → patterns_from whole.now Between 32 whole.now ≡ Err fault) }
+    ensures ok { IfOk result (λ patterns. patterns_from whole.now Between most_events whole.now ≡ Ok patterns.items) }
+    ensures few { IfOk result (λ patterns. count_of patterns.items ≤ most_events) }
+    ensures refused { IfErr result (λ fault. fault ≢ SequenceFault.NoMemory → patterns_from whole.now Between most_events whole.now ≡ Err fault) }
 {
     let mut patterns = Vec::new(alloc);
     let mut room = MOST_EVENTS;

@@ -1,5 +1,5 @@
 ghost use Rattle.std.specs.Prelude.{◌≡◌, ◌≢◌, ◌≤◌, IfOk, IfErr, Ok, Err, None};
-ghost use Rattle.tk_sequences.specs.Patterns.{count_of};
+ghost use Rattle.tk_sequences.specs.Patterns.{count_of, most_events};
 ghost use Rattle.tk_sequences.specs.Reading.{begins_with_bracket, has_brackets, named_or_physical, parsed, some_patterns};
 ghost use Rattle.tk_sequences.specs.Writing.{canonical};
 
@@ -98,7 +98,7 @@ fn unbracketed(alloc: Global, text: &Text) -> Result<Sequence, SequenceFault>
 
 /// The sequence of these patterns, unless they are none.
 fn some_patterns(text: &Text, patterns: Vec<Pattern>) -> Result<Sequence, SequenceFault>
-    requires { count_of patterns.items ≤ 32 }
+    requires { count_of patterns.items ≤ most_events }
     ensures ok { IfOk result (λ sequence. some_patterns text.now patterns.items ≡ Ok sequence) }
     ensures refused { IfErr result (λ fault. fault ≢ SequenceFault.NoMemory → some_patterns text.now patterns.items ≡ Err fault) }
 {

@@ -1,4 +1,4 @@
-ghost use Rattle.std.specs.Prelude.{◌≡◌, ◌≤◌, ◌↔◌, length, IfOk, IfSome, IsTrue};
+ghost use Rattle.std.specs.Prelude.{◌≡◌, ◌≤◌, length, IfOk, IfSome};
 ghost use Rattle.std.specs.Option.{option_copied};
 ghost use Rattle.tk_sequences.specs.Names.{IsName};
 ghost use Rattle.tk_sequences.specs.Reading.{has_no_closing, is_name, name_in};
@@ -72,13 +72,6 @@ impl VirtualName {
         Ok(VirtualName {
             name: self.name.copy()?,
         })
-    }
-
-    /// Whether it is the same name.
-    pub fn equals(&self, other: &VirtualName) -> bool
-        ensures { IsTrue result ↔ self.now ≡ other.now }
-    {
-        self.name.as_str() == other.name.as_str()
     }
 }
 

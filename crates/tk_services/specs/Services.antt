@@ -3,7 +3,7 @@ use Rattle.std.specs.Prelude.{ℕ, ◌%◌, ◌^◌, ℤ, pos, negsuc, ◌+ℤ�
 use Rattle.std.specs.Fmt.{signed_decimal}
 use Rattle.std.specs.List.{join_with_byte}
 use Rattle.std.specs.Str.{bytes_eq, str_to_ascii_uppercase}
-use Rattle.tcl_text.specs.Answers.{◌>>=◌, Answer, answers, fails, integer_in, quoted}
+use Rattle.tcl_text.specs.Answers.{◌>>=◌, Answer, answers, fails, integer_in, quoted, too_large}
 use Rattle.tcl_text.specs.Readings.{list_of}
 use Rattle.tcl_text.specs.declared.fault.ListFault.{ListFault}
 use Rattle.tk_services.specs.declared.service.Service.{Service}
@@ -63,7 +63,7 @@ fits_64_bits (pos n) = nat_lt n (2 ^ 63)
 fits_64_bits (negsuc n) = nat_lt n (2 ^ 63)
 
 abbrev pub whole : ℤ → Answer
-whole n = if fits_64_bits n then Ok (signed_decimal n) else fails (codes "integer value too large to represent")
+whole n = if fits_64_bits n then Ok (signed_decimal n) else too_large
 
 -- the sum of the list; each item is an integer, and the sum alone has to be one of 64 bits
 abbrev pub sum : List ℕ → List (List ℕ) → Answer

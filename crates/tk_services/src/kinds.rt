@@ -9,10 +9,7 @@ use std::alloc::Global;
 use tcl_text::answers::{
     Refusal, copy_answer, error, limit_reached, quoting_error, string_answer, text_answer,
 };
-use tcl_text::{SplitFault, Text, TextList};
-
-/// How many bytes a value has at most.
-const MAX_BYTES: usize = 65_536;
+use tcl_text::{MAX_BYTES, SplitFault, Text, TextList};
 
 /// The error of a configuration that is no list, or of a table with a key without a value. It has no number.
 fn bad_configuration(alloc: Global) -> Refusal
@@ -47,8 +44,7 @@ pub(crate) fn listed(alloc: Global, config: &Text, args: &[Text]) -> Result<Text
     ensures { Gives result (spec.listed config.now args.now) }
 {
     let items = items_of(alloc, config)?;
-    let words = followed_by(items, args)?;
-    Ok(words)
+    followed_by(items, args)
 }
 
 /// The error with this text.
@@ -66,8 +62,7 @@ pub(crate) fn upper(alloc: Global, config: &Text, args: &[Text]) -> Result<Text,
     let text = joined(alloc, words.as_slice())?;
     let mut capitals = String::from_str(alloc, text.as_str())?;
     capitals.make_ascii_uppercase();
-    let capitals = string_answer(alloc, capitals)?;
-    Ok(capitals)
+    string_answer(alloc, capitals)
 }
 
 /// The words with blanks between. It stops soon after the limit of a value.
@@ -115,8 +110,7 @@ pub(crate) fn table(alloc: Global, config: &Text, args: &[Text]) -> Result<Text,
     ensures { Gives result (spec.table config.now args.now) }
 {
     let pairs = pairs_of(alloc, config)?;
-    let value = looked_up(alloc, pairs.as_slice(), args)?;
-    Ok(value)
+    looked_up(alloc, pairs.as_slice(), args)
 }
 
 /// The value of the key among keys and values in turn, or the error that it has none.

@@ -6,7 +6,7 @@ ghost use Rattle.tk_services.specs.Services as spec;
 use crate::kinds::listed;
 use std::alloc::Global;
 use tcl_text::Text;
-use tcl_text::answers::{Refusal, error};
+use tcl_text::answers::{Refusal, too_large};
 use tcl_text::integers::integer_of;
 
 /// The sum of the configuration and the arguments.
@@ -15,8 +15,7 @@ pub(crate) fn sum(alloc: Global, config: &Text, args: &[Text]) -> Result<Text, R
 {
     let words = listed(alloc, config, args)?;
     let total = total(alloc, words.as_slice())?;
-    let answer = whole(alloc, total)?;
-    Ok(answer)
+    whole(alloc, total)
 }
 
 /// The sum of integers, however large.
@@ -36,6 +35,6 @@ fn whole(alloc: Global, total: i128) -> Result<Text, Refusal>
 {
     match i64::try_from(total) {
         Ok(number) => Ok(Text::from_integer(alloc, number)?),
-        Err(_) => Err(error(alloc, "integer value too large to represent")),
+        Err(_) => too_large(alloc),
     }
 }

@@ -4,6 +4,7 @@ use Rattle.std.specs.List.{list_any, list_all}
 use Rattle.std.specs.Str.{is_utf8, bytes_eq}
 use Rattle.std.specs.Char.{is_ascii_digit, is_ascii_alphabetic, is_ascii_alphanumeric}
 use Rattle.std.specs.Str.Parse.{digits_value}
+use Rattle.tk_base.specs.Rect.{last_place, most_pixels}
 use Rattle.tk_base.specs.declared.rect.Rect.{Rect}
 use Rattle.tk_keys.specs.Names.{key_named}
 use Rattle.tk_route.specs.Lines.{rects_by}
@@ -30,7 +31,7 @@ use Rattle.tk_session.specs.declared.stage.Format.TheVariants.{First, Second}
 use Rattle.tk_session.specs.declared.stage.Stage.{Stage}
 use Rattle.tk_session.specs.declared.stage.Stage.TheVariants as stages
 use Rattle.tk_session.specs.Names.{is_command_name, slot_of}
-use Rattle.tk_session.specs.Session.{heading, events, Plan, rects_of}
+use Rattle.tk_session.specs.Session.{heading, events, most_lines, Plan, rects_of}
 use Rattle.tcl_text.specs.Limits.{most_bytes, last_moment}
 
 infixl 10 ◌>>=◌
@@ -68,19 +69,19 @@ number_field least most text = do
 
 unfoldable pub rect_field : List ℕ → Option (Rect × List ℕ)
 rect_field text = do
-  x ← number_field 0 32767 text
-  y ← number_field 0 32767 x.1
-  width ← number_field 1 32767 y.1
-  height ← number_field 1 32767 width.1
+  x ← number_field 0 most_pixels text
+  y ← number_field 0 most_pixels x.1
+  width ← number_field 1 most_pixels y.1
+  height ← number_field 1 most_pixels width.1
   Some (record { x = x.0; y = y.0; width = width.0; height = height.0 }, height.1)
 
 -- a rectangle that ends the text
 unfoldable pub rect_of : List ℕ → Option Rect
 rect_of text = do
-  x ← number_field 0 32767 text
-  y ← number_field 0 32767 x.1
-  width ← number_field 1 32767 y.1
-  height ← number_of 1 32767 width.1
+  x ← number_field 0 most_pixels text
+  y ← number_field 0 most_pixels x.1
+  width ← number_field 1 most_pixels y.1
+  height ← number_of 1 most_pixels width.1
   Some (record { x = x.0; y = y.0; width = width.0; height = height })
 
 abbrev pub is_name_part : ℕ → Bool
@@ -182,8 +183,8 @@ alias_of found = record { name = found.0; service = record { kind = found.1; con
 
 unfoldable pub move_of : List ℕ → Option HostLine
 move_of fields = do
-  x ← number_field 0 65535 fields
-  y ← number_of 0 65535 x.1
+  x ← number_field 0 last_place fields
+  y ← number_of 0 last_place x.1
   Some (Move x.0 y)
 
 abbrev pub button_of : List ℕ → Option ℕ
@@ -228,7 +229,7 @@ event_line_of format apps line = do
 unfoldable pub script_line_of : List ℕ → Option ℕ
 script_line_of line = do
   count ← behind (codes "script") line
-  number_of 0 65537 count
+  number_of 0 most_lines count
 
 unfoldable pub end_line_of : List ℕ → Option ℕ
 end_line_of line = do

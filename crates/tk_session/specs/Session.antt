@@ -84,10 +84,14 @@ pub record IsAliasLine (line : List ℕ) (alias : AliasLine) : Type 0 where
   pub spelling : SpellsAlias line alias
   pub values : IsAliasInRange alias
 
+-- how many lines a script has at most
+abbrev pub most_lines : ℕ
+most_lines = most_bytes + 1
+
 -- `script COUNT`
 pub record IsScriptLine (line : List ℕ) (count : ℕ) : Type 0 where
   pub spelling : line ≡ spelled (codes "script" ∷ decimal count ∷ [])
-  pub count_range : count ≤ 65537
+  pub count_range : count ≤ most_lines
 
 -- the lines are those of the script, with an LF between neighbours
 pub record IsScript (lines : List (List ℕ)) (script : List ℕ) : Type 0 where

@@ -6,13 +6,14 @@ ghost use Rattle.tk_session.specs.Reading.{alias_line_of, command_name_of, confi
 ghost use Rattle.tcl_text.specs.Limits.{most_bytes};
 
 use crate::line::{as_text, cut, fields_behind, utf8};
+use tcl_text::MAX_BYTES;
 use tk_services::ServiceKind;
 
 /// How many bytes the name of a command has at most.
 const MAX_NAME: usize = 64;
 
 /// How many bytes a configuration has at most, as any text.
-const MAX_CONFIG: usize = 65_536;
+const MAX_CONFIG: usize = MAX_BYTES;
 
 /// The values of the line of an alias.
 #[derive(Drop)]

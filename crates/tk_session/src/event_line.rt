@@ -3,9 +3,10 @@ ghost use Rattle.std.specs.Prelude.{◌≡◌, position};
 ghost use Rattle.tk_session.specs.Names.{is_named, slot_of};
 ghost use Rattle.tk_session.specs.Reading.{app_of, button_of, event_line_of, event_of, focus_of, key_of, move_of, placed_of};
 
-use crate::line::{MAX_MOMENT, cut, last_rect, leading_number, name, number, utf8};
+use crate::line::{cut, last_rect, leading_number, name, number, utf8};
 use crate::session::{AppBlock, EventLine};
 use crate::stage::Format;
+use tk_base::MAX_MOMENT;
 use tk_keys::Keysym;
 use tk_route::HostLine;
 

@@ -9,7 +9,7 @@ ghost use Rattle.tk_session.specs.Reading.{cut_at, behind, has_plain_front, is_n
 use crate::session::Budget;
 use crate::stage::Format;
 use memchr::memchr;
-use tk_base::Rect;
+use tk_base::{MAX_MOMENT, Rect};
 
 /// The largest coordinate, width and height of a rectangle.
 const MAX_PIXELS: u64 = 32_767;
@@ -20,9 +20,6 @@ const MAX_SCRIPT_LINES: u64 = 65_537;
 
 /// How many bytes a name has at most.
 const MAX_NAME: usize = 32;
-
-/// The last moment of a session, in milliseconds.
-pub(crate) const MAX_MOMENT: u64 = 1_000_000_000_000;
 
 /// The values of an `app` line.
 #[derive(Drop)]

@@ -4,9 +4,7 @@ ghost use Rattle.tcl_text.specs.Limits.{most_bytes};
 
 use std::alloc::{AllocError, Global};
 use std::marker::Model;
-
-/// How many bytes a script has at most, as any text.
-const MAX_BYTES: usize = 65_536;
+use tcl_text::MAX_BYTES;
 
 /// The lines of a script that have come so far, with an LF between neighbours; none before the first.
 #[derive(Drop)]

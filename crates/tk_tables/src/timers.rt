@@ -9,6 +9,7 @@ use std::alloc::Global;
 use tables::{error_of, first_word, number, result_of, words_of};
 use tcl_text::Text;
 use tk_after::{Timers, after_command};
+use tk_base::MAX_MOMENT;
 
 /// The timers of all applications.
 pub struct Kept {
@@ -23,7 +24,7 @@ fn after(
     moment: u64,
     words: &[&str],
 ) -> Result<String> {
-    if moment > 1_000_000_000_000 {
+    if moment > MAX_MOMENT {
         bail!("a moment past the last");
     }
     let words = texts_of(alloc, words)?;

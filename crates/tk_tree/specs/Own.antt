@@ -43,9 +43,13 @@ window_at number own = numbered number_of number own.windows
 abbrev pub at_path : List ℕ → Own → Option Window
 at_path path own = find (λ window. bytes_eq path window.path) own.windows
 
--- no more windows: 512 are there, or the last number, 2^64 - 2, was given
+-- how many windows an application has at most
+abbrev pub most_windows : ℕ
+most_windows = 512
+
+-- no more windows: as many as there can be are there, or the last number, 2^64 - 2, was given
 abbrev pub is_full : Own → Bool
-is_full own = nat_le 512 (length own.windows) || (own.next_number == 18446744073709551615)
+is_full own = nat_le most_windows (length own.windows) || (own.next_number == 18446744073709551615)
 
 -- the parent was made before the window
 abbrev pub HasOlderParent : Window → Type 0
@@ -55,12 +59,12 @@ abbrev pub HaveOlderParents : List Window → Type 0
 HaveOlderParents [] = Unit {0}
 HaveOlderParents (window ∷ windows) = HasOlderParent window × HaveOlderParents windows
 
--- what holds of each application's part: numbers rise, each was given, parents are older than their children, and there are at most 512 windows
+-- what holds of each application's part: numbers rise, each was given, parents are older than their children, and there are not too many windows
 pub record IsSound (own : Own) : Type 0 where
   pub rising : IsRising number_of own.windows
   pub below : AllBelow number_of own.next_number own.windows
   pub parents : HaveOlderParents own.windows
-  pub few : length own.windows ≤ 512
+  pub few : length own.windows ≤ most_windows
 
 -- an application's counter is this one, and the others' are as before
 pub record Counts (owner : ℕ) (counter : Counter) (old new : List (ℕ × Counter)) : Type 0 where

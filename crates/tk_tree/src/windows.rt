@@ -176,22 +176,6 @@ impl Windows {
         (window.place, window.mapped)
     }
 
-    /// Whether a window is mapped. It takes no memory.
-    pub fn is_mapped(&self, win: Win) -> bool
-        requires { IsSome (window_at win.number (own_of win.owner self.now)) }
-        ensures { IfSome (window_at win.number (own_of win.owner self.now)) (λ window. result ≡ window.mapped) }
-    {
-        self.there(win).mapped
-    }
-
-    /// Whether a window is being destroyed. It takes no memory.
-    pub fn is_dying(&self, win: Win) -> bool
-        requires { IsSome (window_at win.number (own_of win.owner self.now)) }
-        ensures { IfSome (window_at win.number (own_of win.owner self.now)) (λ window. result ≡ window.dying) }
-    {
-        self.there(win).dying
-    }
-
     /// The binding tags of a window, in the order in which they are tried (bindtags(n)). It takes no memory.
     pub fn tags(&self, win: Win) -> &[Text]
         requires { IsSome (window_at win.number (own_of win.owner self.now)) }

@@ -66,11 +66,15 @@ has_name name pair = bytes_eq pair.name name
 abbrev pub is_same : Pair → Pair → Bool
 is_same wanted pair = bytes_eq pair.name wanted.name && bytes_eq pair.written wanted.written
 
--- one more at the end, unless it is there; 4,096 are the most
+-- how many pairs an application has at most
+abbrev pub most_pairs : ℕ
+most_pairs = 4096
+
+-- one more at the end, unless it is there or as many as there can be are
 abbrev pub with_pair : Pair → List Pair → Outcome (List Pair)
 with_pair pair pairs =
     if list_any (is_same pair) pairs then Ok pairs
-    else (if nat_le 4096 (length pairs) then Err Full
+    else (if nat_le most_pairs (length pairs) then Err Full
     else Ok (pairs ++ pair ∷ []))
 
 abbrev pub with_meant : Outcome Pair → List Pair → Outcome (List Pair)

@@ -1,11 +1,15 @@
 //! What the steps of a command answer, and the texts of their errors.
 ghost use Rattle.std.specs.Prelude.{◌≡◌, ◌++◌, string_bytes};
 ghost use Rattle.std.specs.Fmt.{decimal};
-ghost use Rattle.tcl_text.specs.Answers.{Gives, Refuses, answers, bounded, truth as truth_of, place as place_of, limit_text, quoted, wrong_args as wrong_args_of, bad_option as bad_option_of, bad_index as bad_index_of, expected_integer};
+ghost use Rattle.tcl_text.specs.Answers.{Gives, Refuses, answers, truth as truth_of, place as place_of, wrong_args as wrong_args_of, bad_option as bad_option_of, bad_index as bad_index_of, missing_value as missing_value_of, too_large as too_large_of, expected_integer};
+ghost use Rattle.tcl_text.specs.Messages.{bounded, limit_text, quoted};
 ghost use Rattle.tcl_text.specs.declared.commands.answers.Refusal.TheVariants as refusal;
 
-use crate::fault::TextFault;
-use crate::message::{limit, quoting, with_quoted};
+use crate::fault::{NotInteger, TextFault};
+use crate::message::{
+    MISSING, VALUE_FOR, about, about_between, bad_option_text, limit, too_large_text,
+    wrong_args_text,
+};
 use crate::text::Text;
 use itoa::Buffer;
 use std::alloc::{AllocError, AllocFailed, Global};
@@ -126,17 +130,19 @@ pub fn error(alloc: Global, message: &str) -> Refusal
 }
 
 /// The error for a wrong number of words: `wrong # args: should be` and the usage. It has no number.
+#[tactic(auto, unfolding(crate::specs::Messages::bounded))]
 pub fn wrong_args<T>(alloc: Global, usage: &str) -> Result<T, Refusal>
     ensures { Gives result (wrong_args_of usage.now) }
 {
-    Err(quoting_error(alloc, "wrong # args: should be ", usage))
+    Err(Refusal::Error(wrong_args_text(alloc, usage)?))
 }
 
 /// The error for a word in the place of a sub-command or switch that is none. It has no number.
+#[tactic(auto, unfolding(crate::specs::Messages::bounded))]
 pub fn bad_option<T>(alloc: Global, word: &Text) -> Result<T, Refusal>
     ensures { Gives result (bad_option_of word.now) }
 {
-    Err(quoting_error(alloc, "bad option ", word.as_str()))
+    Err(Refusal::Error(bad_option_text(alloc, word.as_str())?))
 }
 
 /// The error for a word that is no index: no integer, `end` or `end-N` (string(n)). It has no number.
@@ -146,29 +152,47 @@ pub fn bad_index<T>(alloc: Global, word: &Text) -> Result<T, Refusal>
     Err(quoting_error(alloc, "bad index ", word.as_str()))
 }
 
+/// The error for a word that has no value behind it. It has a number only where the word is an option (23).
+pub fn missing_value<T>(alloc: Global, word: &str) -> Result<T, Refusal>
+    ensures { Gives result (missing_value_of word.now) }
+{
+    Err(error_about(alloc, VALUE_FOR, word, MISSING))
+}
+
+/// The error for an integer past 64 bits (13).
+#[tactic(auto, unfolding(crate::specs::Messages::bounded))]
+pub fn too_large<T>(alloc: Global) -> Result<T, Refusal>
+    ensures { Gives result too_large_of }
+{
+    Err(Refusal::Error(too_large_text(alloc)?))
+}
+
 /// The error for a word that is no integer (1).
+#[tactic(auto, unfolding(crate::specs::Messages::bounded))]
 pub fn not_integer<T>(alloc: Global, word: &Text) -> Result<T, Refusal>
     ensures { Gives result (expected_integer word.now) }
 {
-    Err(quoting_error(alloc, "expected integer but got ", word.as_str()))
+    Err(Refusal::Error(NotInteger.text(alloc, word.as_str())?))
 }
 
 /// An error that ends with a word in quotation marks, or the limit's (4) where its text is past 65,536 bytes.
+#[tactic(auto, unfolding(crate::specs::Messages::bounded))]
 pub fn quoting_error(alloc: Global, message: &str, word: &str) -> Refusal
     ensures { Refuses result (bounded (message.now ++ quoted word.now)) }
 {
-    match with_quoted(alloc, message, word) {
-        Ok(text) => error(alloc, text.as_str()),
+    match about(alloc, message, word) {
+        Ok(text) => Refusal::Error(text),
         Err(AllocError) => Refusal::NoMemory,
     }
 }
 
 /// An error with a word in quotation marks between what stands before and behind it, or the limit's (4) where its text is past 65,536 bytes.
+#[tactic(auto, unfolding(crate::specs::Messages::bounded))]
 pub fn error_about(alloc: Global, before: &str, word: &str, behind: &str) -> Refusal
     ensures { Refuses result (bounded (before.now ++ (quoted word.now ++ behind.now))) }
 {
-    match quoting(alloc, before, word, behind) {
-        Ok(text) => error(alloc, text.as_str()),
+    match about_between(alloc, before, word, behind) {
+        Ok(text) => Refusal::Error(text),
         Err(AllocError) => Refusal::NoMemory,
     }
 }

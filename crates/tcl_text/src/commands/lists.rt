@@ -5,7 +5,7 @@ ghost use Rattle.tcl_text.specs.Answers.{Gives, answers};
 ghost use Rattle.tcl_text.specs.Indices.{part};
 ghost use Rattle.tcl_text.specs.Readings.{list_form};
 ghost use Rattle.tcl_text.specs.ListCommands as spec;
-ghost use Rattle.tcl_text.specs.ListSteps.{behind};
+ghost use Rattle.tcl_text.specs.ListSteps.{each_behind};
 
 use crate::commands::answers::{
     Refusal, Step, bad_option, copy_answer, decimal_answer, limit_reached, own_answer,
@@ -376,7 +376,7 @@ fn joined(alloc: Global, between: &str, items: &[Text]) -> Result<String, AllocE
 /// Adds the items, each behind another text.
 fn push_behind(string: &mut String, between: &str, items: &[Text]) -> Result<(), AllocError>
     ensures { OnOk result
-        (string_bytes string.new ≡ string_bytes string.old ++ behind between.now items.now) }
+        (string_bytes string.new ≡ string_bytes string.old ++ each_behind between.now items.now) }
 {
     for item in items {
         string.push_str(between)?;

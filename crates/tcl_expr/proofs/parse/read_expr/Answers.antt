@@ -1,6 +1,6 @@
 use Rattle.std.proofs.Common.{◌≡◌, [], Ok, ap, subst, ◌∙◌, inl}
 use Rattle.std.proofs.lemmas.Result.{err_from_is_err_and}
-use Rattle.tcl_expr.specs.Reading.{AtOperand, reading, compiled_by, compiled}
+use Rattle.tcl_expr.specs.Reading.{AtOperand, tree_reading, compiled_by, compiled}
 use Rattle.tcl_expr.specs.Standing.{IsFaultOrMemory}
 use Rattle.tcl_expr.proofs.ReadLemmas.{tree_of-long, tree_of-not_utf8, compiled_is, fault_is}
 use Rattle.tcl_expr.proofs.parse.read_expr.Goals as goal
@@ -15,10 +15,10 @@ pub returns-in_err-steps-clause-fault : goal.returns-in_err-steps-clause-fault
 returns-in_err-steps-clause-fault c =
     let p = err_from_is_err_and c.from_residual.result c.from_residual.ensures.1 in
     rw (p.1, p.2) (fault_is c.args.source.now c.in_err-steps.field-0.0 c.if-source-gt-MAX_BYTES.false c.in-Ok.ensures.cases.1
-    (subst (λ text. IsFaultOrMemory (reading 0 AtOperand [] text) c.in_err-steps.field-0.0) c.in-Ok.ensures.cases.0 c.in_err-steps.ensures.fault))
+    (subst (λ text. IsFaultOrMemory (tree_reading 0 AtOperand [] text) c.in_err-steps.field-0.0) c.in-Ok.ensures.cases.0 c.in_err-steps.ensures.fault))
 
 pub new-requires : goal.new-requires
 new-requires c =
     ap compiled (c.in_ok-text.ensures ∙ c.in-Ok.ensures.cases.0)
     ∙ compiled_is c.args.source.now c.in_ok-steps.steps.items c.if-source-gt-MAX_BYTES.false c.in-Ok.ensures.cases.1
-    (subst (λ text. compiled_by (reading 0 AtOperand [] text) ≡ Ok c.in_ok-steps.steps.items) c.in-Ok.ensures.cases.0 c.in_ok-steps.ensures.steps)
+    (subst (λ text. compiled_by (tree_reading 0 AtOperand [] text) ≡ Ok c.in_ok-steps.steps.items) c.in-Ok.ensures.cases.0 c.in_ok-steps.ensures.steps)

@@ -1,7 +1,7 @@
 use Rattle.std.proofs.Common.{◌∙◌, ◌≡◌, ◌∷◌, ◌++◌, [], ap, refl, arith}
 use Rattle.tcl_expr.specs.declared.substitution.Due.{Due}
 use Rattle.tcl_expr.specs.declared.substitution.Due.TheVariants as due
-use Rattle.tcl_expr.specs.Dues.{before, others_steps, due_steps, dues_steps, with_steps, text_weight, due_weight}
+use Rattle.tcl_expr.specs.Dues.{written_before, others_steps, due_steps, dues_steps, with_steps, text_weight, due_weight}
 use Rattle.tcl_expr.proofs.DueLemmas.{other_goes, three_weigh}
 use Rattle.tcl_expr.proofs.substitution.write_due.Goals as goal
 
@@ -12,8 +12,8 @@ returns-in_ok-push-in-Others-3-clause-goes c =
     let third : Due = due.Others c.in-Some.others c.in-Others.room in
     let e : c.push-in-Some-2.new.self.items ≡ ((c.args.dues.now.items ++ third ∷ []) ++ due.Join ∷ []) ++ first ∷ [] =
     c.in_ok-push-in-Others-3.ensures.items ∙ ap (λ l. l ++ first ∷ []) (c.in_ok-push-in-Others-2.ensures.items ∙ ap (λ l. l ++ due.Join ∷ []) c.in_ok-push-in-Others.ensures.items) in
-    ap (λ d. with_steps c.args.steps.now.items (before (due_steps d) (dues_steps c.args.dues.now.items))) c.in-Others.is
-    ∙ ap (λ l. with_steps c.args.steps.now.items (before (others_steps c.in-Others.room l) (dues_steps c.args.dues.now.items))) cut
+    ap (λ d. with_steps c.args.steps.now.items (written_before (due_steps d) (dues_steps c.args.dues.now.items))) c.in-Others.is
+    ∙ ap (λ l. with_steps c.args.steps.now.items (written_before (others_steps c.in-Others.room l) (dues_steps c.args.dues.now.items))) cut
     ∙ other_goes c.args.steps.now.items c.in-Others.room c.in-Some.own.now c.in-Some.others.now c.args.dues.now.items c.push-in-Some-2.new.self.items first due.Join third e refl refl refl
 
 pub returns-in_ok-push-in-Others-3-clause-less : goal.returns-in_ok-push-in-Others-3-clause-less

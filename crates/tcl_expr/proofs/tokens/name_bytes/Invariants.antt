@@ -1,5 +1,5 @@
 use Rattle.std.proofs.Common.{◌≡◌, ◌+◌, drop}
-use Rattle.tcl_expr.specs.Counts.{name_bytes}
+use Rattle.tcl_words.specs.Kinds.{name_bytes}
 use Rattle.tcl_expr.proofs.tokens.name_bytes.Given as goal
 
 abbrev pub invariant-loop-count : goal.invariant-loop-count

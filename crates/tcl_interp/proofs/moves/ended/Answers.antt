@@ -1,5 +1,7 @@
+use Rattle.std.proofs.lemmas.Result.{IfOk-weaker}
 use Rattle.tcl_interp.specs.Rests.{waits_of}
 use Rattle.tcl_interp.proofs.moves.ended.Goals as goal
 
-pub returns-in_ok-now-in-ForProcedure : goal.returns-in_ok-now-in-ForProcedure
-returns-in_ok-now-in-ForProcedure g c = rw c.in-ForProcedure.is (c.in_ok-now-in-ForProcedure.ensures.now (waits_of c.args.frames.now.items))
+pub returns-in-ForProcedure : goal.returns-in-ForProcedure
+returns-in-ForProcedure g c =
+    rw c.in-ForProcedure.is (IfOk-weaker c.after_procedure.result _ _ (λ _ ends. ends (waits_of c.args.frames.now.items)) c.after_procedure.ensures.now)

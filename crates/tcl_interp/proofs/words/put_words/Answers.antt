@@ -1,6 +1,6 @@
 use Rattle.std.proofs.Common.{◌≡◌, ◌<◌, ◌+◌, [], length, drop, Ok, Err, ap, sym, ◌∙◌}
 use Rattle.tcl_interp.specs.Evaluation.{words_of}
-use Rattle.tcl_interp.specs.Moves.{Whole, AtPart, word_end, with_more}
+use Rattle.tcl_interp.specs.Moves.{Whole, AtPart, word_end, with_more_words}
 use Rattle.tcl_interp.specs.Rests.{IsSingle, commands_in, left_in, words_in_front, expand_in_front, moved_of, waits_of, part_of}
 use Rattle.tcl_interp.proofs.WordLemmas.{word_single, word_whole, word_faulty, word_waits, ok_along}
 use Rattle.tcl_interp.proofs.words.put_words.Goals as goal
@@ -28,8 +28,8 @@ loop-word-preserved g c =
     let i = c.loop-word.word in
     let less : i < length words = rw c.next_words.ensures at c.loop-word-test.true in
     let end : Whole c.in-Whole.text ≡ word_end c.args.level c.args.scopes.now (drop 0 pieces) [] = rw (c.in-Whole.is, c.in_ok-of_short.ensures) at c.in_ok-text-2.ensures in
-    let more : Ok c.in-Ok.all ≡ with_more c.loop-word.whole (words_of (expand_in_front (drop i words)) c.in-Whole.text) =
-    sym c.in-Ok.is ∙ c.in_ok-more-in-Whole.ensures ∙ ap (λ ws. with_more c.loop-word.whole (words_of (expand_in_front (drop i ws)) c.in-Whole.text)) c.next_words-words.ensures in
+    let more : Ok c.in-Ok.all ≡ with_more_words c.loop-word.whole (words_of (expand_in_front (drop i words)) c.in-Whole.text) =
+    sym c.in-Ok.is ∙ c.in_ok-more-in-Whole.ensures ∙ ap (λ ws. with_more_words c.loop-word.whole (words_of (expand_in_front (drop i ws)) c.in-Whole.text)) c.next_words-words.ensures in
     word_whole c.args.level c.args.scopes.now place.room waits after words i c.loop-word.whole c.in-Ok.all c.in-Whole.text pieces less (rw c.next_words-words.ensures at c.pieces_at-pieces.ensures) end more
     ∙ c.loop-word.invariant
 
@@ -43,8 +43,8 @@ returns-in-Err g c =
     let i = c.loop-word.word in
     let less : i < length words = rw c.next_words.ensures at c.loop-word-test.true in
     let end : Whole c.in-Whole.text ≡ word_end c.args.level c.args.scopes.now (drop 0 pieces) [] = rw (c.in-Whole.is, c.in_ok-of_short.ensures) at c.in_ok-text-2.ensures in
-    let more : Err c.in-Err.text ≡ with_more c.loop-word.whole (words_of (expand_in_front (drop i words)) c.in-Whole.text) =
-    sym c.in-Err.is ∙ c.in_ok-more-in-Whole.ensures ∙ ap (λ ws. with_more c.loop-word.whole (words_of (expand_in_front (drop i ws)) c.in-Whole.text)) c.next_words-words.ensures in
+    let more : Err c.in-Err.text ≡ with_more_words c.loop-word.whole (words_of (expand_in_front (drop i words)) c.in-Whole.text) =
+    sym c.in-Err.is ∙ c.in_ok-more-in-Whole.ensures ∙ ap (λ ws. with_more_words c.loop-word.whole (words_of (expand_in_front (drop i ws)) c.in-Whole.text)) c.next_words-words.ensures in
     word_faulty c.args.level c.args.scopes.now place.room waits after words i c.loop-word.whole c.in-Err.text c.in-Whole.text pieces less (rw c.next_words-words.ensures at c.pieces_at-pieces.ensures) end more
     ∙ c.loop-word.invariant
 

@@ -2,7 +2,7 @@
 use Rattle.std.proofs.Common.{◌≡◌, Some, refl, sym, ap, ◌∙◌, arith, ok_or}
 use Rattle.tcl_text.specs.declared.fault.ReadFault.TheVariants.{NoElement}
 use Rattle.std.proofs.lemmas.Result.{err_from_is_err_and}
-use Rattle.tcl_vars.specs.Change.{changed_by}
+use Rattle.tcl_vars.specs.Change.{edited_by}
 use Rattle.tcl_vars.specs.Table.{value_at, with_value}
 use Rattle.tcl_vars.proofs.TableLemmas.{with_value-same, length-with_value-known}
 use Rattle.tcl_vars.proofs.content.change_element.Goals as goal
@@ -17,7 +17,7 @@ pub returns-in_ok-change_text-in-Some-clause-ok : goal.returns-in_ok-change_text
 returns-in_ok-change_text-in-Some-clause-ok c =
     let known : value_at c.args.elements.now c.args.index.now ≡ Some c.in-Some.held.now = sym c.in-Some.ensures.value in (
       c.change_text.new.text,
-      ap (λ o. changed_by c.args.edit (ok_or o NoElement)) known ∙ c.in_ok-change_text-in-Some.ensures.ok,
+      ap (λ o. edited_by c.args.edit (ok_or o NoElement)) known ∙ c.in_ok-change_text-in-Some.ensures.ok,
       refl,
       omega (arith, length-with_value-known c.args.index.now c.change_text.new.text c.args.elements.now c.in-Some.held.now known),
     )

@@ -1,26 +1,23 @@
 -- The frame takes what its content takes, and a new variable where there is room for it.
 use Rattle.std.proofs.Common.{sym, arith}
-use Rattle.std.proofs.lemmas.Result.{err_from_is_err_and}
+use Rattle.std.proofs.lemmas.Result.{IfOk-weaker, IfErr-weaker, on_err_weaker}
 use Rattle.tcl_vars.specs.Shown.{shown}
 use Rattle.tcl_vars.proofs.PutLemmas.{AfterPut-content, RefusesText-content, with_value-held, PutsText-new, RefusesText-new}
 use Rattle.tcl_vars.proofs.frame.put.Goals as goal
 
-pub returns-in_err-outcome-in-Some : goal.returns-in_err-outcome-in-Some
-returns-in_err-outcome-in-Some c =
-    let p = err_from_is_err_and c.from_residual-in_err-outcome-in-Some.result c.from_residual-in_err-outcome-in-Some.ensures.1 in
-    rw (p.1, p.2) record {
-      ok = tt;
-      refused = λ other. RefusesText-content c.args.frame.now (shown c.args.place) c.args.value c.args.room c.in-Some.content.now (sym c.in-Some.ensures.value) _ (c.in_err-outcome-in-Some.ensures.refused other);
-      err = with_value-held c.args.frame.now (shown c.args.place) c.args.value c.args.room c.in-Some.content.now (sym c.in-Some.ensures.value) c.put.new.self c.in_err-outcome-in-Some.ensures.err;
-    }
+pub returns-in-Some-clause-ok : goal.returns-in-Some-clause-ok
+returns-in-Some-clause-ok c =
+    IfOk-weaker c.put.result _ _ (λ done put. AfterPut-content c.args.frame.now (shown c.args.place) c.args.value c.args.room c.in-Some.content.now (sym c.in-Some.ensures.value)
+    done c.put.new.self put) c.put.ensures.ok
 
-pub returns-in_ok-outcome-in-Some : goal.returns-in_ok-outcome-in-Some
-returns-in_ok-outcome-in-Some c = record {
-  ok = AfterPut-content c.args.frame.now (shown c.args.place) c.args.value c.args.room c.in-Some.content.now (sym c.in-Some.ensures.value)
-      c.in_ok-outcome-in-Some.outcome c.put.new.self c.in_ok-outcome-in-Some.ensures.ok;
-  refused = tt;
-  err = tt;
-}
+pub returns-in-Some-clause-refused : goal.returns-in-Some-clause-refused
+returns-in-Some-clause-refused c =
+    IfErr-weaker c.put.result _ _ (λ fault refused other. RefusesText-content c.args.frame.now (shown c.args.place) c.args.value c.args.room c.in-Some.content.now (sym c.in-Some.ensures.value)
+    fault (refused other)) c.put.ensures.refused
+
+pub returns-in-Some-clause-err : goal.returns-in-Some-clause-err
+returns-in-Some-clause-err c =
+    on_err_weaker c.put.result (with_value-held c.args.frame.now (shown c.args.place) c.args.value c.args.room c.in-Some.content.now (sym c.in-Some.ensures.value) c.put.new.self) c.put.ensures.err
 
 pub returns-then-room-added-clause-refused : goal.returns-then-room-added-clause-refused
 returns-then-room-added-clause-refused c = λ _.

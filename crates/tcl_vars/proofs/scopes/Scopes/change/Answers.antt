@@ -1,7 +1,7 @@
 -- The text is changed where the name leads.
 use Rattle.std.proofs.Common.{◌∙◌, sym, ap, subst, arith}
 use Rattle.std.proofs.lemmas.Result.{err_from_is_err_and}
-use Rattle.tcl_vars.specs.Change.{changed_by}
+use Rattle.tcl_vars.specs.Change.{edited_by}
 use Rattle.tcl_vars.specs.Store.{end_of, text_at, variable_in, with_text_at, with_variable}
 use Rattle.tcl_vars.specs.Shown.{shown}
 use Rattle.tcl_vars.specs.Sound.{FramesDescend}
@@ -14,14 +14,14 @@ unfolding variable_in
 returns-in_err-change_at-clause-refused c =
     let p = err_from_is_err_and c.from_residual.result c.from_residual.ensures.1 in
     rw (p.1, p.2) (λ other.
-    ap (λ p. changed_by c.args.edit (text_at c.args.self.now (end_of c.args.self.now p))) (sym c.place_of_text.ensures.place) ∙ c.in_err-change_at.ensures.refused other)
+    ap (λ p. edited_by c.args.edit (text_at c.args.self.now (end_of c.args.self.now p))) (sym c.place_of_text.ensures.place) ∙ c.in_err-change_at.ensures.refused other)
 
 pub returns-clause-ok : goal.returns-clause-ok
 unfolding variable_in with_variable
 returns-clause-ok c =
     let h = c.in_ok-change_at.ensures.ok in record {
       value = h.value;
-      changed = ap (λ p. changed_by c.args.edit (text_at c.args.self.now (end_of c.args.self.now p))) (sym c.place_of_text.ensures.place) ∙ h.changed;
+      changed = ap (λ p. edited_by c.args.edit (text_at c.args.self.now (end_of c.args.self.now p))) (sym c.place_of_text.ensures.place) ∙ h.changed;
       set = ap (λ p. with_text_at c.args.self.now (end_of c.args.self.now p) h.value) (sym c.place_of_text.ensures.place) ∙ h.set;
       read = ap (λ p. text_at c.change_at.new.self (end_of c.change_at.new.self p)) (sym c.place_of_text.ensures.place)
           ∙ text_at-with_text_at c.args.self.now (LinksDescend-frames c.args.self.now (subst FramesDescend c.self.view_is c.self.invariant.descending)) (shown c.place_of_text.result)

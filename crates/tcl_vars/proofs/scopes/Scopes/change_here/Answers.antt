@@ -1,7 +1,7 @@
 -- The store changes as its frame does.
 use Rattle.std.proofs.Common.{◌≡◌, ◌≢◌, ◌<◌, length, [], None, MatchBool, set, ap, ◌∙◌, subst, arith}
 use Rattle.std.proofs.lemmas.List.{get_or_default}
-use Rattle.tcl_vars.specs.Change.{ChangesHere, ChangesText}
+use Rattle.tcl_vars.specs.Changing.{ChangesHere, ChangesText}
 use Rattle.tcl_vars.specs.Shown.{shown}
 use Rattle.tcl_vars.specs.Store.{content_at, frame_at, link_of}
 use Rattle.tcl_vars.specs.Table.{value_at}

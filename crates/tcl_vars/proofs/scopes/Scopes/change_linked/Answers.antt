@@ -1,6 +1,6 @@
 -- The text is changed where the links end, which is no link.
 use Rattle.std.proofs.Common.{◌≡◌, None, ap, ◌∙◌, subst, le_refl}
-use Rattle.tcl_vars.specs.Change.{ChangesHere}
+use Rattle.tcl_vars.specs.Changing.{ChangesHere}
 use Rattle.tcl_vars.specs.Shown.{shown}
 use Rattle.tcl_vars.specs.Sound.{FramesDescend}
 use Rattle.tcl_vars.specs.Store.{content_at, link_of}

@@ -2,7 +2,7 @@
 use Rattle.std.proofs.Common.{◌∙◌, sym, ap}
 use Rattle.tcl_vars.specs.declared.content.Content.TheVariants.{Link}
 use Rattle.tcl_vars.specs.Shown.{shown}
-use Rattle.tcl_vars.specs.Store.{is_plain, holds_value, variable_place, with_content}
+use Rattle.tcl_vars.specs.Store.{is_plain_name, holds_value, variable_place, with_content}
 use Rattle.tcl_vars.proofs.MadeLemmas.{with_link-bad, with_link-exists, with_link-ok, with_link-full}
 use Rattle.tcl_vars.proofs.LawLemmas.{length-with_link}
 use Rattle.std.proofs.Common.{subst}
@@ -13,13 +13,13 @@ use Rattle.tcl_vars.proofs.scopes.Scopes.link.Goals as goal
 
 pub returns-then-not-is_plain-clause-refused : goal.returns-then-not-is_plain-clause-refused
 returns-then-not-is_plain-clause-refused c = λ _.
-    with_link-bad c.args.self.now c.args.level c.args.name.now c.args.to_level c.args.to_name.now (sym (c.if-not-is_plain.ensures ∙ ap is_plain c.as_str.ensures.bytes))
+    with_link-bad c.args.self.now c.args.level c.args.name.now c.args.to_level c.args.to_name.now (sym (c.if-not-is_plain.ensures ∙ ap is_plain_name c.as_str.ensures.bytes))
 
 pub returns-then-holds_value-clause-refused : goal.returns-then-holds_value-clause-refused
 returns-then-holds_value-clause-refused c = λ _.
     with_link-exists c.args.self.now c.args.level c.args.name.now c.args.to_level c.args.to_name.now (shown c.variable_place-place.result)
     (c.variable_place-place.ensures ∙ ap (variable_place c.args.level) c.as_str-2.ensures.bytes)
-    (sym (c.if-not-is_plain.ensures ∙ ap is_plain c.as_str.ensures.bytes))
+    (sym (c.if-not-is_plain.ensures ∙ ap is_plain_name c.as_str.ensures.bytes))
     (sym (c.if-holds_value.ensures ∙ ap holds_value c.content.ensures))
 
 pub returns-then-branch-clause-ok : goal.returns-then-branch-clause-ok
@@ -27,7 +27,7 @@ returns-then-branch-clause-ok c =
     let given = rw c.if-branch.true at c.in_ok-give.ensures.ok in
     with_link-ok c.args.self.now c.args.level c.args.name.now c.args.to_level c.args.to_name.now (shown c.variable_place-place.result)
     (c.variable_place-place.ensures ∙ ap (variable_place c.args.level) c.as_str-2.ensures.bytes)
-    (sym (c.if-not-is_plain.ensures ∙ ap is_plain c.as_str.ensures.bytes))
+    (sym (c.if-not-is_plain.ensures ∙ ap is_plain_name c.as_str.ensures.bytes))
     (sym (c.if-holds_value.ensures ∙ ap holds_value c.content.ensures))
     c.give.new.self (given.0 ∙ ap (λ t. with_content c.args.self.now (shown c.variable_place-place.result) (Link c.args.to_level t)) c.in_ok-copy.ensures.ok) given.1
 
@@ -36,7 +36,7 @@ returns-else-branch-clause-refused c = λ _.
     let given = rw c.if-branch.false at c.in_ok-give.ensures.ok in
     with_link-full c.args.self.now c.args.level c.args.name.now c.args.to_level c.args.to_name.now (shown c.variable_place-place.result)
     (c.variable_place-place.ensures ∙ ap (variable_place c.args.level) c.as_str-2.ensures.bytes)
-    (sym (c.if-not-is_plain.ensures ∙ ap is_plain c.as_str.ensures.bytes))
+    (sym (c.if-not-is_plain.ensures ∙ ap is_plain_name c.as_str.ensures.bytes))
     (sym (c.if-holds_value.ensures ∙ ap holds_value c.content.ensures))
     (rw c.in_ok-copy.ensures.ok at given.1)
 

@@ -2,7 +2,7 @@ use Rattle.std.proofs.Common.{arith, subst, drop, Err}
 use Rattle.std.proofs.lemmas.List.{length-drop}
 use Rattle.std.proofs.lemmas.Grind.{common_steps}
 use Rattle.std.proofs.lemmas.Result.{err_from_is_err_and}
-use Rattle.tcl_words.specs.Parts.{Does}
+use Rattle.tcl_words.specs.Parts.{DoesMove}
 use Rattle.tcl_words.specs.Moves.{move_at}
 use Rattle.tcl_words.specs.declared.kind.Step.TheVariants.{On, Within, Ends}
 use Rattle.tcl_words.proofs.Readers.{read_on, read_fault, read_opening, read_ending, step_as}
@@ -13,7 +13,7 @@ returns-in_err-step-clause-fault c =
     let p = err_from_is_err_and c.from_residual.result c.from_residual.ensures.1 in
     rw (p.1, p.2)
     (read_fault c.args.source.now c.args.self.now.waiting.items c.args.self.now.origin c.args.self.now.parts c.read_byte.new.parts c.args.self.now.place c.args.self.now.next c.in_err-step.field-0.0 c.requires.reading (omega (arith, c.requires.within, length-drop c.args.self.now.origin.base c.args.source.now))
-    (subst (λ t. Does c.args.self.now.parts c.read_byte.new.parts t c.args.self.now.next c.args.self.now.place (move_at t c.args.self.now.next c.args.self.now.origin.inside c.args.self.now.place) (Err c.in_err-step.field-0.0)) c.range_from-text.ensures.value c.in_err-step.ensures))
+    (subst (λ t. DoesMove c.args.self.now.parts c.read_byte.new.parts t c.args.self.now.next c.args.self.now.place (move_at t c.args.self.now.next c.args.self.now.origin.inside c.args.self.now.place) (Err c.in_err-step.field-0.0)) c.range_from-text.ensures.value c.in_err-step.ensures))
 
 pub returns-in-On-clause-ok : goal.returns-in-On-clause-ok
 returns-in-On-clause-ok c = read_on c.args.source.now c.args.self.now.waiting.items c.args.self.now.origin c.args.self.now.parts c.read_byte.new.parts c.args.self.now.place c.in-On.place c.args.self.now.next c.in-On.skip c.requires.reading (omega (arith, c.requires.within, length-drop c.args.self.now.origin.base c.args.source.now)) (step_as c.args.self.now.parts c.read_byte.new.parts c.range_from-text.result.now (drop c.args.self.now.origin.base c.args.source.now) c.args.self.now.next c.args.self.now.origin.inside c.args.self.now.place c.in_ok-step.step (On c.in-On.skip c.in-On.place) c.range_from-text.ensures.value c.in-On.is c.in_ok-step.ensures)

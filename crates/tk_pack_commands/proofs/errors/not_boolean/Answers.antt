@@ -1,5 +1,0 @@
-use Rattle.tcl_text.proofs.AnswerLemmas.{given_error}
-use Rattle.tk_pack_commands.proofs.errors.not_boolean.Goals as goal
-
-pub returns : goal.returns
-returns g c = given_error _ _ _ (rw c.as_str.ensures.bytes at c.quoting_error.ensures)

@@ -139,8 +139,10 @@ module _ {M : Type 0} (answer : M → Meaning) where
   -- what settles from rest is settled
   abbrev pub SettlesFromRest : Type 0
   SettlesFromRest = (moment : ℕ) (application : Application M)
-      → stage_done moment (settling_begun (record { application = application; work = Rests })) ≡ record { application = settled moment application; work = Rests }
+      → stage_done moment (settling_begun (record { application = application; work = Rests }))
+      ≡ record { application = settled moment application; work = Rests }
 
   -- an application begins with its script, and then settles
   abbrev pub BeginsWithScript : Type 0
-  BeginsWithScript = (moment : ℕ) (spec : Spec M) → stage_done moment (added spec) ≡ record { application = started moment spec.script (fresh spec); work = Rests }
+  BeginsWithScript = (moment : ℕ) (spec : Spec M)
+      → stage_done moment (added spec) ≡ record { application = started moment spec.script (fresh spec); work = Rests }

@@ -145,7 +145,9 @@ pub record BeginsIn {M : Type 0} (slot : ℕ) (old new : Applications M) : Type 
 
 -- Nothing is under way in a part, or it is still to begin its script, with all of its steps.
 abbrev pub MayGet : {M : Type 0} → Part M → Type 0
-MayGet part = (part.work ≡ Rests) ⊎ ((script : List ℕ) × (part.work ≡ task_begins (task.Begins script settling)) × (part.application.steps ≡ part.application.budget.total))
+MayGet part =
+    (part.work ≡ Rests)
+    ⊎ ((script : List ℕ) × (part.work ≡ task_begins (task.Begins script settling)) × (part.application.steps ≡ part.application.budget.total))
 
 -- the part in a slot may get an event
 abbrev pub MayGetIn : {M : Type 0} → ℕ → List (Part M) → Type 0

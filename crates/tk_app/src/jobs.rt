@@ -48,7 +48,8 @@ fn call<M: AliasMeaning>(
     scopes: &mut Scopes,
     words: &[Text],
 ) -> Result<Act<Task<Job>>, AllocError>
-    ensures own { IfOk result (λ act. record { shows = record { serves = meanings M.answer aliases.now; panel = panel_of slot tables.new }; store = scopes.new; act = act }
+    ensures own { IfOk result (λ act.
+        record { shows = record { serves = meanings M.answer aliases.now; panel = panel_of slot tables.new }; store = scopes.new; act = act }
         ≡ calls (record { serves = meanings M.answer aliases.now; panel = panel_of slot tables.old }) scopes.old words.now) }
     ensures others { LeavesOthers slot tables.old tables.new }
 {

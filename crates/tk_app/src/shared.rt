@@ -78,7 +78,8 @@ impl<M: AliasMeaning> Shared<M> {
         requires { length self.old.parts < 16 }
         ensures slot { IfOk result (λ slot. slot ≡ length self.old.parts) }
         ensures added { OnOk result (self.new ≡ record self.old {
-          parts = self.old.parts ++ added (record { name = name; width = size.width; height = size.height; script = script; budget = budget; aliases = aliases }) ∷ [];
+          parts = self.old.parts
+              ++ added (record { name = name; width = size.width; height = size.height; script = script; budget = budget; aliases = aliases }) ∷ [];
         }) }
         ensures unchanged { OnErr result (self.new ≡ self.old) }
     {

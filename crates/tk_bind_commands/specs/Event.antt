@@ -20,7 +20,8 @@ become own (Err text) = (own, Err text)
 
 -- what is told where a change gave this fault, unless memory was refused
 abbrev pub IsRefusal : VirtualFault → Answer → Type 0
-IsRefusal fault answer = (own : List Pair) (outcome : Outcome (List Pair)) → (fault ≢ NoMemory → outcome ≡ Err fault) → (own, answer) ≡ become own (or_virtual_fault outcome)
+IsRefusal fault answer = (own : List Pair) (outcome : Outcome (List Pair))
+    → (fault ≢ NoMemory → outcome ≡ Err fault) → (own, answer) ≡ become own (or_virtual_fault outcome)
 
 -- the pairs of a name and sequences are added
 unfoldable pub added_told : List ℕ → List (List ℕ) → List Pair → Told

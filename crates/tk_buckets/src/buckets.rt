@@ -24,7 +24,8 @@ impl Model for Buckets {
 
     ghost view = { λ b. b.list.items };
 
-    ghost invariant = { λ b. IsRising b.list.items × AllBelow b.next b.list.items × ((number : ℕ) → bucket_in b.stamps number ≡ stamps_under number b.list.items) };
+    ghost invariant = { λ b.
+        IsRising b.list.items × AllBelow b.next b.list.items × ((number : ℕ) → bucket_in b.stamps number ≡ stamps_under number b.list.items) };
 }
 
 impl Buckets {

@@ -32,7 +32,8 @@ module _ {M : Type 0} (answer : M → Meaning) where
   -- is due, and in each stage of what a line gives.
   pub record BoundedStages : Type 0 where
     pub start : (slice : ℕ) (parts : List (Part M)) → 1 ≤ slice → steps_in (turns_at_start answer slice parts) ≤ sum_by (λ part. part.application.steps) parts
-    pub due : (slice moment : ℕ) (apps : List (Application M)) → 1 ≤ slice → steps_in (turns_at next_due (settled answer) steps_left slice moment apps) ≤ sum_by steps_left apps
+    pub due : (slice moment : ℕ) (apps : List (Application M)) → 1 ≤ slice
+        → steps_in (turns_at next_due (settled answer) steps_left slice moment apps) ≤ sum_by steps_left apps
     pub events : (slice : ℕ) (stage : List Delivery) (apps : List (Application M)) → 1 ≤ slice → IsOneEach stage
         → steps_in (turns_of slice (steps_given answer 0 stage apps)) ≤ sum_by steps_left apps + granted_in 0 stage apps
     pub stages : (given : List Delivery) → AllByRecursion IsOneEach (stages_of given)

@@ -34,7 +34,8 @@ put_away number (Some other) = if other == number then None else Some other
 abbrev pub left_by : ℕ → Input → Input
 left_by number input = record input { over = put_away number input.over }
 
--- A window is gone. The main window takes its place as the one that has the keys. The pointer keeps its number: no window has that, so that it counts as outside.
+-- A window is gone. The main window takes its place as the one that has the keys. The pointer keeps its number: no window has that, so that it
+-- counts as outside.
 unfoldable pub without_window : ℕ → Input → Input
 without_window number input = record input {
   focus = if input.focus == number then 0 else input.focus;

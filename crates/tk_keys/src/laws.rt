@@ -15,5 +15,6 @@ pub fn names_are_kept()
 /// The keys that modify others have these names.
 #[tactic(auto, unfolding(crate::specs::Names::key_names))]
 pub fn modifiers_have_their_names()
-    ensures { map name_of (shift_left ∷ shift_right ∷ control_left ∷ control_right ∷ alt_left ∷ alt_right ∷ caps_lock ∷ []) ≡ codes "Shift_L" ∷ codes "Shift_R" ∷ codes "Control_L" ∷ codes "Control_R" ∷ codes "Alt_L" ∷ codes "Alt_R" ∷ codes "Caps_Lock" ∷ [] }
+    ensures { map name_of (shift_left ∷ shift_right ∷ control_left ∷ control_right ∷ alt_left ∷ alt_right ∷ caps_lock ∷ [])
+        ≡ codes "Shift_L" ∷ codes "Shift_R" ∷ codes "Control_L" ∷ codes "Control_R" ∷ codes "Alt_L" ∷ codes "Alt_R" ∷ codes "Caps_Lock" ∷ [] }
 {}

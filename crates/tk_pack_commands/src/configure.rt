@@ -48,7 +48,8 @@ fn plan_in(scene: Scene, words: &[Text]) -> Result<Plan, Refusal>
 
 /// What is to be packed, or the text of the error.
 fn planned(scene: Scene, words: &[Text]) -> Result<Result<Plan, Text>, AllocError>
-    ensures { IfOk result (λ plan. plan ≡ spec.plan_in words.now (own_of scene.entry.owner scene.entry.windows.now) (packs_of scene.entry.owner scene.entry.packs.now)) }
+    ensures { IfOk result (λ plan. plan ≡ spec.plan_in words.now
+        (own_of scene.entry.owner scene.entry.windows.now) (packs_of scene.entry.owner scene.entry.packs.now)) }
 {
     match plan_in(scene, words) {
         Ok(plan) => Ok(Ok(plan)),

@@ -200,7 +200,8 @@ fn with_named(
     name: &Text,
     value: &Text,
 ) -> Result<Asked, Refusal>
-    ensures { Gives result (spec.with_named name.now value.now targets.now (own_of scene.entry.owner scene.entry.windows.now) (packs_of scene.entry.owner scene.entry.packs.now) asked) }
+    ensures { Gives result (spec.with_named name.now value.now targets.now
+        (own_of scene.entry.owner scene.entry.windows.now) (packs_of scene.entry.owner scene.entry.packs.now) asked) }
 {
     let option = known(scene.alloc, name)?;
     with_option(scene, targets, asked, option, name, value)
@@ -214,7 +215,8 @@ fn with_option(
     name: &Text,
     value: &Text,
 ) -> Result<Asked, Refusal>
-    ensures { Gives result (spec.with_option option name.now value.now targets.now (own_of scene.entry.owner scene.entry.windows.now) (packs_of scene.entry.owner scene.entry.packs.now) asked) }
+    ensures { Gives result (spec.with_option option name.now value.now targets.now
+        (own_of scene.entry.owner scene.entry.windows.now) (packs_of scene.entry.owner scene.entry.packs.now) asked) }
 {
     match option {
         PackOption::After => with_beside(scene, targets, asked, value, true),
@@ -233,7 +235,8 @@ fn with_beside(
     path: &Text,
     after: bool,
 ) -> Result<Asked, Refusal>
-    ensures { Gives result (spec.with_beside after path.now targets.now (own_of scene.entry.owner scene.entry.windows.now) (packs_of scene.entry.owner scene.entry.packs.now) asked) }
+    ensures { Gives result (spec.with_beside after path.now targets.now
+        (own_of scene.entry.owner scene.entry.windows.now) (packs_of scene.entry.owner scene.entry.packs.now) asked) }
 {
     let number = sibling_in(scene, targets, path)?;
     Ok(Asked {
@@ -245,7 +248,8 @@ fn with_beside(
 /// The window beside which others are to be packed: there (24), packed, and with their parent.
 #[tactic(auto, unfolding(crate::specs::Options::sibling_in))]
 fn sibling_in(scene: Scene, targets: &[Target], path: &Text) -> Result<u64, Refusal>
-    ensures { Gives result (spec.sibling_in path.now targets.now (own_of scene.entry.owner scene.entry.windows.now) (packs_of scene.entry.owner scene.entry.packs.now)) }
+    ensures { Gives result (spec.sibling_in path.now targets.now
+        (own_of scene.entry.owner scene.entry.windows.now) (packs_of scene.entry.owner scene.entry.packs.now)) }
 {
     let found = window_in(scene.alloc, scene.windows, scene.owner, path)?;
     let win = Win {
@@ -288,7 +292,8 @@ fn without_value(alloc: Global, name: &Text) -> Result<Asked, Refusal>
 
 /// What options and their values ask for, tested from the left.
 pub fn options_in(scene: Scene, targets: &[Target], words: &[Text]) -> Result<Asked, Refusal>
-    ensures { Gives result (spec.options_in words.now targets.now (own_of scene.entry.owner scene.entry.windows.now) (packs_of scene.entry.owner scene.entry.packs.now) spec.nothing_asked) }
+    ensures { Gives result (spec.options_in words.now targets.now
+        (own_of scene.entry.owner scene.entry.windows.now) (packs_of scene.entry.owner scene.entry.packs.now) spec.nothing_asked) }
 {
     let mut asked = Asked::nothing();
     let mut rest = words;

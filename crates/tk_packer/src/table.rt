@@ -50,7 +50,8 @@ impl PackTable {
 
         // It stands at its place among the slaves of its master, and among those of no other.
         ensures slaves { OnOk result (slaves_of master (own_of win.owner self.new).packs
-            ≡ insert (slaves_of master (without win.number (own_of win.owner self.old).packs)) place (record { master = master; number = win.number; request = request })) }
+            ≡ insert (slaves_of master (without win.number (own_of win.owner self.old).packs)) place
+            (record { master = master; number = win.number; request = request })) }
         ensures masters { OnOk result ((other : ℕ) → other ≢ master → slaves_of other (own_of win.owner self.new).packs
             ≡ without win.number (slaves_of other (own_of win.owner self.old).packs)) }
         ensures others { LeavesOthers win.owner self.old self.new }

@@ -62,7 +62,8 @@ after_bound room scripts rest state code text =
 abbrev pub Dispatches : Type 0
 Dispatches = (room : ℕ) (script : List ℕ) (scripts : List (List ℕ)) (rest : Rest) (state : State Panel)
     → (meaning room (event_job [] rest) state ≡ meaning room (alone rest) state)
-    × (meaning room (event_job (script ∷ scripts) rest) state ≡ with_step state (λ state. and_then (at_global room script state) (after_bound room scripts rest)))
+    × (meaning room (event_job (script ∷ scripts) rest) state
+    ≡ with_step state (λ state. and_then (at_global room script state) (after_bound room scripts rest)))
 
 -- ── moments and windows ──
 

@@ -45,4 +45,5 @@ Rests = (room : ℕ) (job : Job) (state after : State Panel) (code : Code) (text
 
 -- While a timer is due and there is a main window, something comes next.
 abbrev pub DueComes : Type 0
-DueComes = (store : Store) (panel : Panel) → is_closed panel ≡ false → is_due panel.moment panel.timers.entries ≡ true → is_some (next (settling Settle) store panel).1 ≡ true
+DueComes = (store : Store) (panel : Panel) → is_closed panel ≡ false → is_due panel.moment panel.timers.entries ≡ true
+    → is_some (next (settling Settle) store panel).1 ≡ true

@@ -90,7 +90,8 @@ unfoldable pub packed : Span → Span → List Request → List (Option Rect)
 packed columns rows [] = []
 packed columns rows (request ∷ later) =
     rect_of (placed columns (ask_of Horizontal request) (asks_of Horizontal later)) (placed rows (ask_of Vertical request) (asks_of Vertical later))
-    ∷ packed (remaining columns (ask_of Horizontal request) (asks_of Horizontal later)) (remaining rows (ask_of Vertical request) (asks_of Vertical later)) later
+    ∷ packed (remaining columns (ask_of Horizontal request) (asks_of Horizontal later))
+    (remaining rows (ask_of Vertical request) (asks_of Vertical later)) later
 
 -- a cavity of a width and a height, all of it free
 abbrev pub arrangement : ℕ × ℕ → List Request → List (Option Rect)

@@ -55,4 +55,5 @@ is_number_of_virtuals tag number = number == filing_number tag 0
 
 abbrev pub is_sought : List ℕ → EventType → Event → ℕ → Bool
 is_sought tag type event number =
-    (is_number_of_key tag type event.key number || is_number_of_button tag type event.button number) || (is_number tag type None number || is_number_of_virtuals tag number)
+    (is_number_of_key tag type event.key number || is_number_of_button tag type event.button number)
+    || (is_number tag type None number || is_number_of_virtuals tag number)

@@ -21,7 +21,8 @@ same_detail (Some detail) None = false
 -- no two repetitions are of one count, and no two types have one number
 abbrev pub same_pattern : Pattern → Pattern → Bool
 same_pattern pattern other =
-    (pattern.modifiers == other.modifiers) && (times_of pattern.times == times_of other.times) && (type_number pattern.kind == type_number other.kind) && same_detail pattern.detail other.detail
+    (pattern.modifiers == other.modifiers) && (times_of pattern.times == times_of other.times)
+    && (type_number pattern.kind == type_number other.kind) && same_detail pattern.detail other.detail
 
 abbrev pub same_patterns : List Pattern → List Pattern → Bool
 same_patterns [] [] = true

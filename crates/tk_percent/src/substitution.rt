@@ -19,7 +19,8 @@ fn push_behind_percent(
     event: &Event,
     behind: &str,
 ) -> Result<usize, TextFault>
-    ensures ok { IfOk result (λ taken. text.new ++ substituted_from event.now false (drop taken behind.now) ≡ text.old ++ substituted_from event.now true behind.now) }
+    ensures ok { IfOk result (λ taken. text.new ++ substituted_from event.now false (drop taken behind.now)
+        ≡ text.old ++ substituted_from event.now true behind.now) }
     ensures cut { IfOk result (λ taken. IsCharBoundary behind.now taken) }
     ensures shorter { IfOk result (λ taken. taken ≤ length behind.now) }
     ensures too_long { IfErr result (λ fault. fault ≢ TextFault.NoMemory → most_bytes < length (text.old ++ substituted_from event.now true behind.now)) }

@@ -19,7 +19,9 @@ crossing kind detail window = record { window = window; kind = Crossing kind det
 
 -- The windows of a way, the outermost first: the last is the window that the pointer comes to or comes from, the others lie between.
 abbrev pub crossed : CrossingKind → CrossingDetail → CrossingDetail → List ℕ → List PointerEvent
-crossed kind between at windows = let others = length windows - 1 in map (crossing kind between) (take others windows) ++ map (crossing kind at) (drop others windows)
+crossed kind between at windows =
+    let others = length windows - 1 in
+    map (crossing kind between) (take others windows) ++ map (crossing kind at) (drop others windows)
 
 -- going down, the outermost window is told first
 abbrev pub entered : CrossingDetail → CrossingDetail → List ℕ → List PointerEvent

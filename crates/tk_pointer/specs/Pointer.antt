@@ -64,7 +64,9 @@ left_after is_left None under = is_left
 left_after is_left (Some window) under = not (is_same (Some window) under)
 
 abbrev pub moved : List ℕ → List ℕ → Pointer → Pointer
-moved way under pointer = if is_any_held pointer.buttons then record pointer { is_left = left_after pointer.is_left (end_of way) (end_of under) } else put_into under pointer
+moved way under pointer =
+    if is_any_held pointer.buttons then record pointer { is_left = left_after pointer.is_left (end_of way) (end_of under) }
+    else put_into under pointer
 
 -- ---- presses and releases
 
@@ -86,11 +88,13 @@ is_leave window left kind = false
 abbrev pub is_leave_of : Option ℕ → PointerEvent → Bool
 is_leave_of window event = is_leave window event.window event.kind
 
--- After the last release the pointer goes to the window under the point. A Leave that was told already isn't told again, and a window that the point came back into is entered.
+-- After the last release the pointer goes to the window under the point. A Leave that was told already isn't told again, and a window that the
+-- point came back into is entered.
 abbrev pub freed_told : Bool → List ℕ → List ℕ → List PointerEvent
 freed_told false way under = crossings_of way under
 freed_told true way under =
-    if is_same (end_of way) (end_of under) then to (Crossing Enter Ancestor) (end_of under) else filter (λ event. not (is_leave_of (end_of way) event)) (crossings_of way under)
+    if is_same (end_of way) (end_of under) then to (Crossing Enter Ancestor) (end_of under)
+    else filter (λ event. not (is_leave_of (end_of way) event)) (crossings_of way under)
 
 abbrev pub released_told : ℕ → List ℕ → List ℕ → Pointer → List PointerEvent
 released_told button way under pointer =

@@ -51,7 +51,8 @@ impl Model for Router {
 
     ghost Value = { Values };
 
-    ghost view = { λ r. record { rects = r.rects; moment = r.moment; pointer = r.pointer; buttons = r.buttons; holder = r.holder; focus = r.focus; keys = r.keys } };
+    ghost view = { λ r.
+        record { rects = r.rects; moment = r.moment; pointer = r.pointer; buttons = r.buttons; holder = r.holder; focus = r.focus; keys = r.keys } };
 
     ghost invariant = { λ r. BeginsOnScreen r.rects r.holder };
 }

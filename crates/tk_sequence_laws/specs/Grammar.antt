@@ -61,7 +61,8 @@ AreFields text (field ∷ fields) =
 -- Modifiers, and at most one of Double, Triple and Quadruple, in any order; with what is held, and how often the event comes.
 pub data ArePrefixes : List (List ℕ) → ℕ → Repetition → Type 0 where
   none : ArePrefixes [] 0 Single
-  modifier : {front : List (List ℕ)} (word : List ℕ) {held : ℕ} {times : Repetition} (modifier : Modifier) → ArePrefixes front held times → modifier_named word ≡ Some modifier →
+  modifier : {front : List (List ℕ)} (word : List ℕ) {held : ℕ} {times : Repetition} (modifier : Modifier) →
+      ArePrefixes front held times → modifier_named word ≡ Some modifier →
       ArePrefixes (front ++ word ∷ []) (bit_or held (modifier_bit modifier)) times
   repetition : {front : List (List ℕ)} (word : List ℕ) {held : ℕ} {times : Repetition} → ArePrefixes front held Single → repetition_named word ≡ Some times →
       ArePrefixes (front ++ word ∷ []) held times
@@ -74,7 +75,8 @@ pub data IsKey : List ℕ → ℕ → Type 0 where
 -- The detail of a type: a key, or a button from 1 to 5.
 pub data IsDetail : EventType → List ℕ → Detail → Type 0 where
   a_key : {kind : EventType} {word : List ℕ} {key : ℕ} → is_key_type kind ≡ true → IsKey word key → IsDetail kind word (details.Key key)
-  a_button : {kind : EventType} {word : List ℕ} {button : ℕ} → is_button_type kind ≡ true → button_named word ≡ Some button → IsDetail kind word (details.Button button)
+  a_button : {kind : EventType} {word : List ℕ} {button : ℕ} → is_button_type kind ≡ true → button_named word ≡ Some button →
+      IsDetail kind word (details.Button button)
 
 -- A detail without a type: a button where it is 1 to 5, and else a key.
 pub data IsAlone : List ℕ → EventType → Detail → Type 0 where
@@ -112,7 +114,8 @@ pub data IsPattern : List ℕ → Pattern → Type 0 where
   -- a printing ASCII character other than blank and `<`, for its key
   character : (byte key : ℕ) → byte ≢ 32 → byte ≢ 60 → key_of_character byte ≡ Some key → IsPattern (byte ∷ []) (key_pattern key)
   -- fields in `<` and `>`, neither of which is in a word of the tables: so the first `>` closes them
-  brackets : (inner : List ℕ) {fields : List (List ℕ)} {pattern : Pattern} → AreFields inner fields → AreOf fields pattern → IsPattern (60 ∷ (inner ++ 62 ∷ [])) pattern
+  brackets : (inner : List ℕ) {fields : List (List ℕ)} {pattern : Pattern} → AreFields inner fields → AreOf fields pattern →
+      IsPattern (60 ∷ (inner ++ 62 ∷ [])) pattern
 
 -- The text begins with these patterns, with white space in front of each, and goes on with the rest.
 abbrev pub BeginsWith : List ℕ → List Pattern → List ℕ → Type 0
@@ -129,7 +132,8 @@ IsVirtual text name = (name ≢ []) × HasNoClosing name × (text ≡ codes "<<"
 -- The text is this sequence: a virtual event, or one or more patterns for at most 32 events. How long a text may be is no matter of its grammar.
 pub data IsSequence (text : List ℕ) : Sequence → Type 0 where
   virtual : (name : List ℕ) → IsVirtual text name → IsSequence text (Virtual name)
-  physical : (patterns : List Pattern) (gap : List ℕ) → patterns ≢ [] → count_of patterns ≤ most_events → BeginsWith text patterns gap → IsGap gap → IsSequence text (Physical patterns)
+  physical : (patterns : List Pattern) (gap : List ℕ) → patterns ≢ [] → count_of patterns ≤ most_events → BeginsWith text patterns gap → IsGap gap →
+      IsSequence text (Physical patterns)
 
 -- ---- faults, where `whole` is the text that is told as the sequence
 
@@ -138,12 +142,15 @@ pub data IsFaultyEvent (whole : List ℕ) (times : Repetition) : List (List ℕ)
   -- nothing stands there
   missing : IsFaultyEvent whole times [] (BadSequence whole)
   -- a second repetition
-  repeated : {word : List ℕ} {again : Repetition} {words : List (List ℕ)} → times ≢ Single → repetition_named word ≡ Some again → IsFaultyEvent whole times (word ∷ words) (BadSequence whole)
+  repeated : {word : List ℕ} {again : Repetition} {words : List (List ℕ)} → times ≢ Single → repetition_named word ≡ Some again →
+      IsFaultyEvent whole times (word ∷ words) (BadSequence whole)
   -- a word of no kind
-  unknown : {word : List ℕ} {words : List (List ℕ)} → modifier_named word ≡ None → repetition_named word ≡ None → type_named word ≡ None → button_named word ≡ None → ((key : ℕ) → ¬ IsKey word key) →
+  unknown : {word : List ℕ} {words : List (List ℕ)} → modifier_named word ≡ None → repetition_named word ≡ None → type_named word ≡ None →
+      button_named word ≡ None → ((key : ℕ) → ¬ IsKey word key) →
       IsFaultyEvent whole times (word ∷ words) (BadKeysym word)
   -- something behind a detail without a type
-  behind_alone : {word other : List ℕ} {kind : EventType} {detail : Detail} {words : List (List ℕ)} → IsAlone word kind detail → IsFaultyEvent whole times (word ∷ other ∷ words) (BadSequence whole)
+  behind_alone : {word other : List ℕ} {kind : EventType} {detail : Detail} {words : List (List ℕ)} → IsAlone word kind detail →
+      IsFaultyEvent whole times (word ∷ other ∷ words) (BadSequence whole)
   -- events that aren't counted
   uncounted : {word : List ℕ} {kind : EventType} {words : List (List ℕ)} → type_named word ≡ Some kind → times ≢ Single → ¬ IsCounted kind →
       IsFaultyEvent whole times (word ∷ words) (BadSequence whole)
@@ -151,13 +158,16 @@ pub data IsFaultyEvent (whole : List ℕ) (times : Repetition) : List (List ℕ)
   no_detail : {word other : List ℕ} {kind : EventType} {words : List (List ℕ)} → type_named word ≡ Some kind → ¬ IsCounted kind →
       IsFaultyEvent whole times (word ∷ other ∷ words) (BadSequence whole)
   -- no key where one is wanted
-  no_key : {word other : List ℕ} {kind : EventType} {words : List (List ℕ)} → type_named word ≡ Some kind → is_key_type kind ≡ true → ((key : ℕ) → ¬ IsKey other key) →
+  no_key : {word other : List ℕ} {kind : EventType} {words : List (List ℕ)} → type_named word ≡ Some kind → is_key_type kind ≡ true →
+      ((key : ℕ) → ¬ IsKey other key) →
       IsFaultyEvent whole times (word ∷ other ∷ words) (BadKeysym other)
   -- no button where one is wanted
-  no_button : {word other : List ℕ} {kind : EventType} {words : List (List ℕ)} → type_named word ≡ Some kind → is_button_type kind ≡ true → button_named other ≡ None →
+  no_button : {word other : List ℕ} {kind : EventType} {words : List (List ℕ)} → type_named word ≡ Some kind → is_button_type kind ≡ true →
+      button_named other ≡ None →
       IsFaultyEvent whole times (word ∷ other ∷ words) (BadSequence whole)
   -- something behind a type and its detail
-  behind_both : {word detail_word other : List ℕ} {kind : EventType} {detail : Detail} {words : List (List ℕ)} → type_named word ≡ Some kind → IsDetail kind detail_word detail →
+  behind_both : {word detail_word other : List ℕ} {kind : EventType} {detail : Detail} {words : List (List ℕ)} → type_named word ≡ Some kind →
+      IsDetail kind detail_word detail →
       IsFaultyEvent whole times (word ∷ detail_word ∷ other ∷ words) (BadSequence whole)
 
 -- The fault of the fields of a pattern.
@@ -177,18 +187,21 @@ pub data IsFaulty (whole : List ℕ) : List ℕ → SequenceFault → Type 0 whe
   -- a bracket that never closes
   unclosed : {rest : List ℕ} → HasNoClosing rest → IsFaulty whole (60 ∷ rest) (BadSequence whole)
   -- fields at fault, up to the first bracket that closes
-  brackets : (inner rest : List ℕ) {fields : List (List ℕ)} {fault : SequenceFault} → HasNoClosing inner → AreFields inner fields → AreFaulty whole fields fault →
+  brackets : (inner rest : List ℕ) {fields : List (List ℕ)} {fault : SequenceFault} → HasNoClosing inner → AreFields inner fields →
+      AreFaulty whole fields fault →
       IsFaulty whole (60 ∷ (inner ++ 62 ∷ rest)) fault
 
 -- `<<` stands somewhere in the text
 abbrev pub HasOpening : List ℕ → Type 0
 HasOpening text = (before : List ℕ) × (after : List ℕ) × (text ≡ before ++ (codes "<<" ++ after))
 
--- The text is no sequence, and this is its fault: `<<` in a text that is no virtual event, which counts before all else; no pattern at all; or from the left the
--- first of a pattern at fault and a pattern for too many events.
+-- The text is no sequence, and this is its fault: `<<` in a text that is no virtual event, which counts before all else; no pattern at all; or
+-- from the left the first of a pattern at fault and a pattern for too many events.
 pub data HasFault (text : List ℕ) : SequenceFault → Type 0 where
   opening : HasOpening text → ((name : List ℕ) → ¬ IsVirtual text name) → HasFault text (BadSequence text)
   empty : IsGap text → HasFault text (BadSequence text)
-  faulty : (patterns : List Pattern) (gap rest : List ℕ) {fault : SequenceFault} → ¬ HasOpening text → count_of patterns ≤ most_events → BeginsWith text patterns (gap ++ rest) → IsGap gap →
+  faulty : (patterns : List Pattern) (gap rest : List ℕ) {fault : SequenceFault} → ¬ HasOpening text → count_of patterns ≤ most_events →
+      BeginsWith text patterns (gap ++ rest) → IsGap gap →
       IsFaulty text rest fault → HasFault text fault
-  many : (patterns : List Pattern) (rest : List ℕ) → ¬ HasOpening text → most_events < count_of patterns → BeginsWith text patterns rest → HasFault text (BadSequence text)
+  many : (patterns : List Pattern) (rest : List ℕ) → ¬ HasOpening text → most_events < count_of patterns → BeginsWith text patterns rest →
+      HasFault text (BadSequence text)

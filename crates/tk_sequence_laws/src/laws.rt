@@ -12,7 +12,8 @@ pub fn canonical_form_is_read_back()
 
 /// Sequences that were read differ in their canonical forms too.
 pub fn canonical_forms_differ()
-    ensures { (text other : List ℕ) (sequence another : Sequence) → parsed text ≡ Ok sequence → parsed other ≡ Ok another → canonical sequence ≡ canonical another → sequence ≡ another }
+    ensures { (text other : List ℕ) (sequence another : Sequence) → parsed text ≡ Ok sequence → parsed other ≡ Ok another
+        → canonical sequence ≡ canonical another → sequence ≡ another }
 {}
 
 /// A text is read as a sequence exactly where the grammar makes it that sequence (bind(n), EVENT PATTERNS).

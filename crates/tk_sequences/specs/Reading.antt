@@ -201,7 +201,8 @@ behind_white text = drop (prefix_len is_white text) text
 
 -- the patterns of a text are one with those of what stands behind it
 abbrev pub CutsOff : List ℕ → Pattern → List ℕ → List ℕ → Type 0
-CutsOff whole pattern text behind = (room : ℕ) → patterns_from whole Between room text ≡ counted whole room (Ok pattern) (λ left. patterns_from whole Between left behind)
+CutsOff whole pattern text behind = (room : ℕ)
+    → patterns_from whole Between room text ≡ counted whole room (Ok pattern) (λ left. patterns_from whole Between left behind)
 
 abbrev pub IsRefused : List ℕ → List ℕ → SequenceFault → Type 0
 IsRefused whole text fault = (room : ℕ) → patterns_from whole Between room text ≡ Err fault

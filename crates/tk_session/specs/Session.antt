@@ -223,7 +223,8 @@ rects_at apps told = rects_after (rects_of apps) (newest_first told)
 abbrev pub HindersEvent : LineFault → List AppBlock → List EventLine → EventLine → Type 0
 HindersEvent TimeBack apps told event = event.moment < moment_at told
 HindersEvent NoApp apps told event = (moment_at told ≤ event.moment) × NamesNobody (rects_at apps told) event.line
-HindersEvent RectOverlap apps told event = (moment_at told ≤ event.moment) × ¬ NamesNobody (rects_at apps told) event.line × Covers (rects_at apps told) event.line
+HindersEvent RectOverlap apps told event =
+    (moment_at told ≤ event.moment) × ¬ NamesNobody (rects_at apps told) event.line × Covers (rects_at apps told) event.line
 HindersEvent fault apps told event = ⊥
 
 -- an event may come after those told

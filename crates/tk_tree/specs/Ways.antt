@@ -18,7 +18,8 @@ way_to number own = reverse (way_up (Some number) (reverse own.windows))
 -- whether a mapped window has the point, which is told from its parent's corner: a window has its left and top edges, and not its right and bottom
 abbrev pub has_point : ℕ → ℕ → Window → Bool
 has_point x y window =
-    window.mapped && (nat_le window.place.x x && (nat_lt x (window.place.x + window.place.width) && (nat_le window.place.y y && nat_lt y (window.place.y + window.place.height))))
+    window.mapped && (nat_le window.place.x x && (nat_lt x (window.place.x + window.place.width)
+    && (nat_le window.place.y y && nat_lt y (window.place.y + window.place.height))))
 
 -- the first way, unless it is empty
 abbrev pub or_other : List ℕ → List ℕ → List ℕ
@@ -29,7 +30,8 @@ or_other (number ∷ numbers) other = number ∷ numbers
 unfoldable pub at_point : ℕ → ℕ → ℕ → List Window → List ℕ
 at_point number x y [] = []
 at_point number x y (window ∷ newer) =
-    if is_child_of number window && has_point x y window then or_other (at_point number x y newer) (window.number ∷ at_point window.number (x - window.place.x) (y - window.place.y) newer)
+    if is_child_of number window && has_point x y window
+    then or_other (at_point number x y newer) (window.number ∷ at_point window.number (x - window.place.x) (y - window.place.y) newer)
     else at_point number x y newer
 
 -- from the main window, where it has the point

@@ -330,7 +330,8 @@ impl Windows {
     /// The child of a window that has a point, told from the window's corner: of several the newest.
     fn child_at(&self, owner: usize, number: u64, x: u32, y: u32) -> Option<&Window>
         ensures on { at_point number x y (own_of owner self.now).windows
-            ≡ option_map_or (λ child. child.number ∷ at_point child.number (x - child.place.x) (y - child.place.y) (own_of owner self.now).windows) (option_copied result) [] }
+            ≡ option_map_or (λ child. child.number ∷ at_point child.number (x - child.place.x) (y - child.place.y) (own_of owner self.now).windows)
+            (option_copied result) [] }
         ensures inside { IfSome result (λ child. (child.now.place.x ≤ x) × (child.now.place.y ≤ y)) }
     {
         let _ = &self.slab;

@@ -54,10 +54,12 @@ pub fn turns_in_two_calls<P>()
 /// The turns up to a moment are those of its stages, one after another: a stage for each moment that is due of some part by itself, in
 /// rising order, in which each part needs the steps that it takes at that moment by itself.
 pub fn stages_by_each_alone<P>()
-    ensures turns { (next_due : P → Option ℕ) (settled : ℕ → P → P) (weight steps_left : P → ℕ) → Lightens next_due settled weight → Quiets next_due settled weight
+    ensures turns { (next_due : P → Option ℕ) (settled : ℕ → P → P) (weight steps_left : P → ℕ)
+        → Lightens next_due settled weight → Quiets next_due settled weight
         → (slice last : ℕ) (parts : List P)
         → turns_to next_due settled weight steps_left slice last parts
-        ≡ flat_map (λ moment. turns_of slice (map (taken_at next_due settled weight steps_left moment) parts)) (stage_moments next_due settled weight last parts) }
+        ≡ flat_map (λ moment. turns_of slice (map (taken_at next_due settled weight steps_left moment) parts))
+        (stage_moments next_due settled weight last parts) }
     ensures moments { (next_due : P → Option ℕ) (settled : ℕ → P → P) (weight : P → ℕ) → Lightens next_due settled weight
         → (last moment : ℕ) (parts : List P)
         → IsAmong moment (stage_moments next_due settled weight last parts) ↔ IsOwnOfOne next_due settled weight last moment parts }

@@ -81,8 +81,8 @@ module _ {M : Type 0} (answer : M → Meaning) where
   abbrev pub sections_of : Plan → List (List (List ℕ × M)) → List ℕ
   sections_of plan lists = flat_map (λ bytes. bytes) (sections_in plan lists)
 
-  -- Two sessions that end at the same moment, and have an application each with the same spec, be it in two places, to which the same events are routed, give it
-  -- the same bytes, whatever else they say.
+  -- Two sessions that end at the same moment, and have an application each with the same spec, be it in two places, to which the same events are
+  -- routed, give it the same bytes, whatever else they say.
   abbrev pub SameBytes : Type 0
   SameBytes =
       (plan other : Plan) (lists others : List (List (List ℕ × M))) (slot other_slot : ℕ) (spec : Spec M)

@@ -70,7 +70,8 @@ fn add<M: AliasMeaning>(
     aliases: Aliases<M>,
 ) -> Result<(), PlayFault>
     requires { NoneApplies (RefusesApp host.old.held (given_of app.now aliases)) add_faults }
-    ensures history { (calls : List (Call M)) → host.old.held ≡ held_after M.answer calls → OnOk result (host.new.held ≡ held_after M.answer (calls ++ AddApp (given_of app.now aliases) ∷ [])) }
+    ensures history { (calls : List (Call M)) → host.old.held ≡ held_after M.answer calls
+        → OnOk result (host.new.held ≡ held_after M.answer (calls ++ AddApp (given_of app.now aliases) ∷ [])) }
     ensures memory { IfErr result (λ fault. fault ≡ PlayFault.NoMemory) }
 {
     let name = app.name.copy()?;
@@ -108,7 +109,8 @@ fn add_all<M: AliasMeaning>(
 fn line_all<M: AliasMeaning>(host: &mut Host<M>, session: &Session) -> Result<(), PlayFault>
     requires phase { host.old.held.phase ≡ reached_at 0 }
     requires known { host.old.held.known ≡ values (rects_of session.now.apps) [] }
-    ensures history { (calls : List (Call M)) → host.old.held ≡ held_after M.answer calls → OnOk result (host.new.held ≡ held_after M.answer (calls ++ lining session.now.events)) }
+    ensures history { (calls : List (Call M)) → host.old.held ≡ held_after M.answer calls
+        → OnOk result (host.new.held ≡ held_after M.answer (calls ++ lining session.now.events)) }
     ensures memory { IfErr result (λ fault. fault ≡ PlayFault.NoMemory) }
 {
     for event in session.events() {
@@ -197,7 +199,8 @@ pub fn play<M: AliasMeaning, W: Write>(
     requires slice { 1 ≤ slice }
     requires serve { Serve session.now.apps aliases.items }
     ensures sections { OnOk result (Appends (W.contents writer.old) (W.contents writer.new) (sections_of M.answer session.now aliases.items)) }
-    ensures write { result ≡ Err PlayFault.Write → AppendsFront (W.contents writer.old) (W.contents writer.new) (sections_of M.answer session.now aliases.items) }
+    ensures write { result ≡ Err PlayFault.Write
+        → AppendsFront (W.contents writer.old) (W.contents writer.new) (sections_of M.answer session.now aliases.items) }
     ensures no_memory { result ≡ Err PlayFault.NoMemory → writer.new ≡ writer.old }
 {
     let text = text_of(alloc, session, aliases, slice)?;

@@ -4,10 +4,9 @@ use Rattle.std.specs.Str.{chars, IsUtf8, IsAscii}
 use Rattle.std.proofs.lemmas.Bool.{cases_lt}
 use Rattle.std.proofs.lemmas.List.{length-take, take-append-drop, take_all, take_min, drop_all}
 use Rattle.std.proofs.lemmas.Str.{chars-append, chars-IsAscii}
-use Rattle.tcl_text.specs.Indices.{before, from_zero, part}
-use Rattle.tcl_text.specs.StringSteps.{reach}
+use Rattle.tcl_text.specs.Indices.{before, from_zero, part, through}
 use Rattle.tcl_text.specs.declared.commands.indices.Index.{Index}
-use Rattle.tcl_text.specs.declared.commands.indices.Index.TheVariants.{FromStart, FromEnd}
+use Rattle.tcl_text.specs.declared.commands.indices.Index.TheVariants.{FromStart}
 
 -- no more is left out than is there
 drop_short : (q n : ℕ) (xs : List ℕ) → length xs ≤ n → drop (min q n) xs ≡ drop q xs
@@ -40,12 +39,9 @@ same_front p text front utf8 ascii is = elim (cases_lt (length text) (p + 1)) [
       sym (ap (λ (t : List ℕ). take (p + 1) (chars t)) cut ∙ ap (take (p + 1)) (chars-append front (drop (p + 1) text) utf8) ∙ take_front (p + 1) (chars front) (chars (drop (p + 1) text)) (omega arith))
 ]
 
-pub part_of_front : (first last : Index) (text front : List ℕ) → IsUtf8 front → IsAscii front → front ≡ take (reach first last (length text)) text → part first last (chars front) ≡ part first last (chars text)
-part_of_front (FromStart q) (FromStart (pos p)) text front utf8 ascii is =
+pub part_of_front : (q last : ℤ) (text front : List ℕ) → IsUtf8 front → IsAscii front → front ≡ take (through (FromStart last) (length text)) text
+    → part (FromStart q) (FromStart last) (chars front) ≡ part (FromStart q) (FromStart last) (chars text)
+part_of_front q (pos p) text front utf8 ascii is =
     part_from_start q p (chars front) ∙ ap (drop (from_zero q)) (same_front p text front utf8 ascii is) ∙ sym (part_from_start q p (chars text))
-part_of_front (FromStart q) (FromStart (negsuc p)) text front utf8 ascii is =
+part_of_front q (negsuc p) text front utf8 ascii is =
     drop_all (before (FromStart q) (length (chars front))) [] (omega arith) ∙ sym (drop_all (before (FromStart q) (length (chars text))) [] (omega arith))
-part_of_front (FromStart q) (FromEnd p) text front utf8 ascii is =
-    ap (λ (t : List ℕ). part (FromStart q) (FromEnd p) (chars t)) (is ∙ take_all (length text) text (omega arith))
-part_of_front (FromEnd q) last text front utf8 ascii is =
-    ap (λ (t : List ℕ). part (FromEnd q) last (chars t)) (is ∙ take_all (length text) text (omega arith))

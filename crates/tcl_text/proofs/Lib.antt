@@ -23,6 +23,7 @@ pub mod ListFormLemmas
 pub mod FaultLemmas
 pub mod PartLemmas
 pub mod KeptLists
+pub mod AsciiMarks
 pub mod KeptViews
 pub mod KeptSteps
 mod ItemLemmas

@@ -1,6 +1,6 @@
 -- Meaning. What a script is told of faults of texts, scripts and variables. Want of memory has no such text: it is empty. A reason is what a
 -- fault shows by itself.
-use Rattle.std.specs.Prelude.{ℕ, List, [], ◌++◌, codes}
+use Rattle.std.specs.Prelude.{ℕ, List, [], ◌∷◌, ◌++◌, codes}
 use Rattle.tcl_text.specs.Messages.{bad_name_text, limit_text, quoted}
 use Rattle.tcl_text.specs.declared.fault.ListFault.{ListFault}
 use Rattle.tcl_text.specs.declared.fault.ListFault.TheVariants as lists
@@ -83,6 +83,11 @@ no_room = codes "limit reached: variables"
 -- of which no script is told
 abbrev pub no_memory_text : List ℕ
 no_memory_text = codes "out of memory"
+
+-- what a fault of this text shows by itself: one without a text is want of memory
+abbrev pub fault_shown : List ℕ → List ℕ
+fault_shown [] = no_memory_text
+fault_shown (byte ∷ bytes) = byte ∷ bytes
 
 abbrev pub read_reason : ReadFault → List ℕ
 read_reason reads.NoVariable = no_variable

@@ -21,6 +21,7 @@ pub mod StringSteps
 pub mod ListSteps
 pub mod Splitting
 pub mod Edit
+pub mod AsciiMarks
 pub mod TextForm
 pub mod ListString
 pub mod ItemsForm

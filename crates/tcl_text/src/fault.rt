@@ -37,6 +37,13 @@ const NO_ROOM: &str = "limit reached: variables";
 /// How a fault shows that memory was refused; a script is told nothing of it.
 const NO_MEMORY: &str = "out of memory";
 
+// What a fault of this text shows: where it has none, that memory was refused.
+fn fault_shown(text: &'static str) -> &'static str
+    ensures { result.now ≡ texts.fault_shown text.now }
+{
+    if text.is_empty() { NO_MEMORY } else { text }
+}
+
 /// The text is no integer of 64 bits (1).
 #[derive(Clone, Copy, Debug, PartialEq, Eq, Drop, Error)]
 #[error("expected integer")]
@@ -159,11 +166,7 @@ impl TextFault {
 
 impl Display for TextFault {
     fn fmt<W: Write>(&self, formatter: &mut Formatter<W>) -> fmt::Result {
-        let told = match self {
-            TextFault::NoMemory => NO_MEMORY,
-            _ => self.text(),
-        };
-        formatter.write_str(told)
+        formatter.write_str(fault_shown(self.text()))
     }
 }
 
@@ -216,11 +219,7 @@ impl SplitFault {
 
 impl Display for SplitFault {
     fn fmt<W: Write>(&self, formatter: &mut Formatter<W>) -> fmt::Result {
-        let told = match self {
-            SplitFault::NoMemory => NO_MEMORY,
-            _ => self.text(),
-        };
-        formatter.write_str(told)
+        formatter.write_str(fault_shown(self.text()))
     }
 }
 
@@ -270,11 +269,7 @@ impl EditFault {
 
 impl Display for EditFault {
     fn fmt<W: Write>(&self, formatter: &mut Formatter<W>) -> fmt::Result {
-        let told = match self {
-            EditFault::NoMemory => NO_MEMORY,
-            _ => self.text(),
-        };
-        formatter.write_str(told)
+        formatter.write_str(fault_shown(self.text()))
     }
 }
 
@@ -352,11 +347,7 @@ impl ParseFault {
 
 impl Display for ParseFault {
     fn fmt<W: Write>(&self, formatter: &mut Formatter<W>) -> fmt::Result {
-        let told = match self {
-            ParseFault::NoMemory => NO_MEMORY,
-            _ => self.text(),
-        };
-        formatter.write_str(told)
+        formatter.write_str(fault_shown(self.text()))
     }
 }
 

@@ -1,7 +1,8 @@
 ghost use Rattle.std.specs.Prelude.{◌≡◌, ◌≢◌, ◌+◌, ◌<◌, ◌≤◌, ◌++◌, ◌∷◌, [], ℕ, List, take, drop, length, slice_index_or, string_bytes, IfOk, IfErr, OnOk, OnErr, MatchBool};
 ghost use Rattle.tcl_text.specs.ListCommands.{spliced};
 ghost use Rattle.tcl_text.specs.ListForm.{others_form};
-ghost use Rattle.tcl_text.specs.ListString.{AreEnds, ends_behind};
+ghost use Rattle.tcl_text.specs.AsciiMarks.{MarksAscii};
+ghost use Rattle.tcl_text.specs.ListString.{AreEnds, KeepsList, ends_behind, items_kept};
 ghost use Rattle.tcl_text.specs.Readings.{element_form, list_form};
 ghost use Rattle.tcl_text.specs.Bytes.{space};
 ghost use Rattle.tcl_text.specs.Limits.{most_bytes, most_string};
@@ -17,23 +18,26 @@ use std::rc::Rc;
 /// How many bytes the string of a kept list may have.
 const MAX_STRING: usize = MAX_BYTES + 1;
 
-/// A list. Its form is kept, with a blank before each item's, and where each item's ends: so an item is found by its number, and a part
-/// of what is kept is what is kept of that part of the list.
+/// A list. Its form is kept, with a blank before each item's, where each item's ends, and whether it is all ASCII: so an item is found by its
+/// number, and a part of what is kept is what is kept of that part of the list.
 #[derive(Drop)]
 pub struct ListString {
     string: String,
     ends: Vec<u32>,
+    ascii: bool,
 }
 
 impl Model for ListString {
     ghost use Rattle.std.specs.Prelude.{ℕ, List, string_bytes};
+    ghost use Rattle.tcl_text.specs.AsciiMarks.{MarksAscii};
     ghost use Rattle.tcl_text.specs.ListString.{KeepsList, items_kept};
 
     ghost Value = { List (List ℕ) };
 
     ghost view = { λ l. items_kept (string_bytes l.string) };
 
-    ghost invariant = { λ l. KeepsList (string_bytes l.string) l.ends.items (items_kept (string_bytes l.string)) };
+    ghost invariant = { λ l. KeepsList (string_bytes l.string) l.ends.items (items_kept (string_bytes l.string))
+        × MarksAscii l.ascii (string_bytes l.string) };
 }
 
 /// Adds the form of an item, behind a blank.
@@ -93,6 +97,19 @@ fn push_kept(string: &mut String, ends: &mut Vec<u32>, more: &ListString) -> Res
 }
 
 impl ListString {
+    /// The list of which this is the string, with a blank before each item's form, and these the ends.
+    fn of_string(string: String, ends: Vec<u32>) -> ListString
+        requires { KeepsList (string_bytes string) ends.items (items_kept (string_bytes string)) }
+        ensures { result ≡ items_kept (string_bytes string) }
+    {
+        let ascii = string.as_str().is_ascii();
+        ListString {
+            string,
+            ends,
+            ascii,
+        }
+    }
+
     /// The list of these items. `TooLong` where its form passes 65,536 bytes; it stops soon after that.
     pub fn new(alloc: Global, items: &[Text]) -> Result<ListString, TextFault>
         ensures ok { IfOk result (λ list. list ≡ items.now) }
@@ -101,8 +118,7 @@ impl ListString {
         let mut string = String::new(alloc);
         let mut ends = Vec::with_capacity(alloc, items.len())?;
         push_forms(&mut string, &mut ends, items)?;
-        let list = ListString { string, ends };
-        Ok(list)
+        Ok(ListString::of_string(string, ends))
     }
 
     /// The form of the list.
@@ -116,6 +132,13 @@ impl ListString {
         } else {
             &string[1..]
         }
+    }
+
+    /// Whether the form is all ASCII, as was seen when it was written.
+    pub fn is_ascii(&self) -> bool
+        ensures { MarksAscii result (list_form self.now) }
+    {
+        self.ascii
     }
 
     /// How many items there are.
@@ -184,8 +207,7 @@ impl ListString {
         let cut = &self.ends.as_slice()[from..to];
         let mut ends = Vec::new(alloc);
         push_ends(&mut ends, cut, start as u32, 0)?;
-        let list = ListString { string, ends };
-        Ok(list)
+        Ok(ListString::of_string(string, ends))
     }
 
     /// The list with values in place of the items from one number up to another. `TooLong` where its form passes 65,536 bytes.
@@ -221,7 +243,10 @@ impl ListString {
     {
         let count = self.ends.len();
         match push_kept(&mut self.string, &mut self.ends, more) {
-            Ok(()) => Ok(()),
+            Ok(()) => {
+                self.ascii &= more.ascii;
+                Ok(())
+            }
             Err(refused) => {
                 self.ends.truncate(count);
                 Err(refused)

@@ -1,5 +1,6 @@
 ghost use Rattle.std.specs.Prelude.{◌≡◌, ◌++◌, Ok, IfOk, IfSome, OnOk, OnErr, MatchBool, string_bytes};
 ghost use Rattle.tcl_text.specs.Readings.{list_of};
+ghost use Rattle.tcl_text.specs.AsciiMarks.{MarksAscii};
 
 use crate::list_string::ListString;
 use crate::splitting::items_of;
@@ -17,20 +18,24 @@ struct ReadList {
     ghost read: { list_of (string_bytes text) ≡ Ok list.value },
 }
 
-/// A text that copies share, and the list that it is, once it was read as one a second time.
+/// A text that copies share, whether it is all ASCII, and the list that it is, once it was read as one a second time.
 #[derive(Drop)]
 pub struct SharedText {
     string: String,
+    ascii: bool,
     was_read: Cell<bool>,
     read: OnceCell<Box<ReadList>>,
 }
 
 impl Model for SharedText {
     ghost use Rattle.std.specs.Prelude.{ℕ, List, string_bytes};
+    ghost use Rattle.tcl_text.specs.AsciiMarks.{MarksAscii};
 
     ghost Value = { List ℕ };
 
     ghost view = { λ s. string_bytes s.string };
+
+    ghost invariant = { λ s. MarksAscii s.ascii (string_bytes s.string) };
 }
 
 impl ReadList {
@@ -56,8 +61,10 @@ impl SharedText {
     pub fn new(string: String) -> SharedText
         ensures { result ≡ string_bytes string }
     {
+        let ascii = string.as_str().is_ascii();
         SharedText {
             string,
+            ascii,
             was_read: Cell::new(false),
             read: OnceCell::new(),
         }
@@ -68,6 +75,13 @@ impl SharedText {
         ensures { result.now ≡ self.now }
     {
         self.string.as_str()
+    }
+
+    /// Whether the characters are all ASCII, as was seen when they were written.
+    pub fn is_ascii(&self) -> bool
+        ensures { MarksAscii result self.now }
+    {
+        self.ascii
     }
 
     /// The list that the text is, where it is kept. What a cell has is known by its text alone, which is compared.
@@ -95,6 +109,7 @@ impl SharedText {
         ensures err { OnErr result (self.new ≡ self.old) }
     {
         self.string.push_str(characters)?;
+        self.ascii &= characters.is_ascii();
         self.was_read.set(false);
         let _list = self.read.take();
         Ok(())

@@ -1,6 +1,7 @@
 ghost use Rattle.std.specs.Prelude.{◌≡◌, ◌≢◌, ◌<◌, ◌≤◌, ◌↔◌, ◌++◌, length, Ok, Err, IfOk, IfErr, IfSome, OnOk, OnErr, IsErrOf, IsUtf8, MatchBool, string_bytes, string_len};
 ghost use Rattle.std.specs.Fmt.{signed_decimal};
 ghost use Rattle.tcl_text.specs.Answers.{bounded};
+ghost use Rattle.tcl_text.specs.AsciiMarks.{MarksAscii};
 ghost use Rattle.tcl_text.specs.Edit.{with_more, written_anew};
 ghost use Rattle.tcl_text.specs.Readings.{list_form, list_of};
 ghost use Rattle.tcl_text.specs.Limits.{most_bytes};
@@ -50,6 +51,7 @@ impl Model for Text {
 }
 
 impl TextForm {
+    ghost use Rattle.tcl_text.specs.AsciiMarks.{MarksAscii};
     ghost use Rattle.tcl_text.specs.Edit.{with_more, written_anew};
     ghost use Rattle.tcl_text.specs.Readings.{list_form, list_of};
     ghost use Rattle.tcl_text.specs.TextForm.{form_bytes};
@@ -86,6 +88,18 @@ impl TextForm {
             TextForm::Number(number) => number.as_str(),
             TextForm::Shared(text) => text.as_ref().as_str(),
             TextForm::Listed(list) => list.as_ref().as_str(),
+        }
+    }
+
+    /// Whether the characters are all ASCII.
+    fn is_ascii(&self) -> bool
+        ensures { MarksAscii result (form_bytes self.now) }
+    {
+        match self {
+            TextForm::Short(short) => short.as_str().is_ascii(),
+            TextForm::Number(number) => number.as_str().is_ascii(),
+            TextForm::Shared(text) => text.as_ref().is_ascii(),
+            TextForm::Listed(list) => list.as_ref().is_ascii(),
         }
     }
 
@@ -249,6 +263,13 @@ impl Text {
             TextForm::Number(number) => Some(number.number()),
             _ => None,
         }
+    }
+
+    /// Whether the characters are all ASCII, so that each is one byte. It looks at none of a text past 22 bytes.
+    pub(crate) fn is_ascii(&self) -> bool
+        ensures { MarksAscii result self.now }
+    {
+        self.form.is_ascii()
     }
 
     /// The list that the text is, where it is kept: of a text past 22 bytes that was made as a list, or is read as one a second time. So

@@ -100,7 +100,12 @@ module _ {M : Type 0} (answer : M → Meaning) where
   -- the state that its scripts act on, at some levels
   abbrev pub state_in : List ℕ → ℕ → Application M → State Seen
   state_in levels moment application =
-      record { shows = seen_at moment application; store = application.store; context = record { levels = levels; commands = application.commands }; steps = application.steps }
+      record {
+        shows = seen_at moment application;
+        store = application.store;
+        context = record { levels = levels; commands = application.commands };
+        steps = application.steps;
+      }
 
   -- and at the global level alone
   abbrev pub state_at : ℕ → Application M → State Seen

@@ -178,7 +178,11 @@ module _ {M : Type 0} (answer : M → Meaning) where
   -- what is held in a phase, of these applications and after these lines
   abbrev pub held_in : Phase → List (Given M) → List Line → Held M
   held_in phase apps lines =
-      record { phase = phase; known = known_by phase (map rect_of apps) (values (map rect_of apps) lines); parts = parts_in phase (map rect_of apps) lines 0 apps }
+      record {
+        phase = phase;
+        known = known_by phase (map rect_of apps) (values (map rect_of apps) lines);
+        parts = parts_in phase (map rect_of apps) lines 0 apps;
+      }
 
   -- What a host holds after these calls: each application as it is by itself.
   abbrev pub held_after : List (Call M) → Held M

@@ -27,7 +27,11 @@ pub record Given (M : Type 0) : Type 0 where
 
 abbrev pub given : {M : Type 0} → List ℕ → Rect → List ℕ → Budget → List (List ℕ × M) → Given M
 given name rect script budget aliases =
-    record { x = rect.x; y = rect.y; spec = record { name = name; width = rect.width; height = rect.height; script = script; budget = budget; aliases = aliases } }
+    record {
+      x = rect.x;
+      y = rect.y;
+      spec = record { name = name; width = rect.width; height = rect.height; script = script; budget = budget; aliases = aliases };
+    }
 
 abbrev pub rect_of : {M : Type 0} → Given M → Rect
 rect_of app = record { x = app.x; y = app.y; width = app.spec.width; height = app.spec.height }

@@ -6,7 +6,7 @@ ghost use Rattle.memchr.specs.Find.{FindsNeedle};
 ghost use Rattle.tcl_text.specs.Answers.{Gives, answers};
 ghost use Rattle.tcl_text.specs.Indices.{part};
 ghost use Rattle.tcl_text.specs.StringCommands as spec;
-ghost use Rattle.tcl_text.specs.StringSteps.{reach, with_word};
+ghost use Rattle.tcl_text.specs.StringSteps.{with_word};
 
 use crate::characters::{self, split_characters, trimmed};
 use crate::commands::answers::{
@@ -35,7 +35,7 @@ fn string_index(alloc: Global, words: &[Text]) -> Step
     match words {
         [text, index] => {
             let index = index_in(alloc, index)?;
-            text_answer(alloc, characters_in(text.as_str(), index, index))
+            text_answer(alloc, characters_in(text, index, index))
         }
         _ => wrong_args(alloc, "string index s i"),
     }
@@ -48,15 +48,28 @@ fn string_range(alloc: Global, words: &[Text]) -> Step
         [text, first, last] => {
             let first = index_in(alloc, first)?;
             let last = index_in(alloc, last)?;
-            text_answer(alloc, characters_in(text.as_str(), first, last))
+            text_answer(alloc, characters_in(text, first, last))
         }
         _ => wrong_args(alloc, "string range s first last"),
     }
 }
 
-/// The characters from the first index to the last, as far as they are there. It walks over them
-/// unless all that have to be looked at are ASCII.
-fn characters_in(text: &str, first: Index, last: Index) -> &str
+/// The characters from the first index to the last, as far as they are there. They are found by
+/// bytes in a text that is known to be ASCII.
+fn characters_in(text: &Text, first: Index, last: Index) -> &str
+    ensures { result.now ≡ encode_utf8_all (part first last (chars text.now)) }
+{
+    let characters = text.as_str();
+    if text.is_ascii() {
+        bytes_in(characters, first, last)
+    } else {
+        walked_characters(characters, first, last)
+    }
+}
+
+/// The same of a text whose characters may be of several bytes. It walks over them unless all that
+/// have to be looked at are ASCII.
+fn walked_characters(text: &str, first: Index, last: Index) -> &str
     ensures { result.now ≡ encode_utf8_all (part first last (chars text.now)) }
 {
     if let Some(front) = ascii_front(text, first, last) {
@@ -68,24 +81,16 @@ fn characters_in(text: &str, first: Index, last: Index) -> &str
     part
 }
 
-/// The front of a text that has the characters from the first index to the last, if it is ASCII: up
-/// to the last, where both count from the start, and else the whole.
+/// The front of a text up to the last index, if both indices count from the start and it is ASCII.
 fn ascii_front(text: &str, first: Index, last: Index) -> Option<&str>
     ensures ascii { IfSome result (λ front. IsAscii front.now) }
     ensures part { IfSome result (λ front. part first last (chars front.now) ≡ part first last (chars text.now)) }
 {
-    let (front, _behind) = text.split_at_checked(reach(first, last, text.len()))?;
+    let (Index::FromStart(_), Index::FromStart(_)) = (first, last) else {
+        return None;
+    };
+    let (front, _behind) = text.split_at_checked(last.through(text.len()))?;
     if front.is_ascii() { Some(front) } else { None }
-}
-
-/// How many of so many bytes are looked at.
-fn reach(first: Index, last: Index, count: usize) -> usize
-    ensures { result ≡ reach first last count }
-{
-    match (first, last) {
-        (Index::FromStart(_), Index::FromStart(_)) => last.through(count),
-        _ => count,
-    }
 }
 
 /// The same of a text whose characters are bytes.

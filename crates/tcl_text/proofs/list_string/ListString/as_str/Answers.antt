@@ -7,7 +7,7 @@ use Rattle.tcl_text.proofs.list_string.ListString.as_str.Goals.{After-is_empty}
 
 -- what is known of the string, as it is read
 keeps : (c : After-is_empty) → KeepsList c.as_str-string.result.now c.self.inside.ends.items c.args.self.now
-keeps c = subst (λ (s : List ℕ). KeepsList s c.self.inside.ends.items c.args.self.now) (sym c.as_str-string.ensures.value) (kept _ _ _ _ c.self.invariant c.self.view_is)
+keeps c = subst (λ (s : List ℕ). KeepsList s c.self.inside.ends.items c.args.self.now) (sym c.as_str-string.ensures.value) (kept _ _ _ _ c.self.invariant.0 c.self.view_is)
 
 pub range_from-requires : goal.range_from-requires
 range_from-requires c = λ _.

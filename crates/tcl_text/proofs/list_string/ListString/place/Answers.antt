@@ -6,15 +6,15 @@ use Rattle.tcl_text.proofs.list_string.ListString.place.Goals as goal
 
 pub index-requires : goal.index-requires
 index-requires c =
-    let n : length c.self.inside.ends.items ≡ length c.args.self.now = seen_count _ _ _ (kept _ _ _ _ c.self.invariant c.self.view_is) in
+    let n : length c.self.inside.ends.items ≡ length c.args.self.now = seen_count _ _ _ (kept _ _ _ _ c.self.invariant.0 c.self.view_is) in
     grind (arith, common_steps, n)
 
 pub returns-else-number-eq0-clause-value : goal.returns-else-number-eq0-clause-value
 returns-else-number-eq0-clause-value c =
-    let keeps : KeepsList (string_bytes c.self.inside.string) c.self.inside.ends.items c.args.self.now = kept _ _ _ _ c.self.invariant c.self.view_is in
+    let keeps : KeepsList (string_bytes c.self.inside.string) c.self.inside.ends.items c.args.self.now = kept _ _ _ _ c.self.invariant.0 c.self.view_is in
     c.index.ensures ∙ place_behind _ _ _ c.args.number c.index.result.now keeps (omega arith) c.requires
 
 pub returns-else-number-eq0-clause-within : goal.returns-else-number-eq0-clause-within
 returns-else-number-eq0-clause-within c =
-    let keeps : KeepsList (string_bytes c.self.inside.string) c.self.inside.ends.items c.args.self.now = kept _ _ _ _ c.self.invariant c.self.view_is in
+    let keeps : KeepsList (string_bytes c.self.inside.string) c.self.inside.ends.items c.args.self.now = kept _ _ _ _ c.self.invariant.0 c.self.view_is in
     place_short _ _ _ c.args.number c.index.result.now keeps (c.index.ensures ∙ place_behind _ _ _ c.args.number c.index.result.now keeps (omega arith) c.requires)

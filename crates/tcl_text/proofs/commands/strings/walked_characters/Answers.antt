@@ -2,7 +2,7 @@ use Rattle.std.proofs.Common.{ℕ, ◌≡◌, ◌∙◌, sym, ap, take, drop, ru
 use Rattle.std.specs.Str.{chars, encode_utf8_all}
 use Rattle.std.proofs.lemmas.Str.{encodes-chars}
 use Rattle.tcl_text.specs.Indices.{before, through, part}
-use Rattle.tcl_text.proofs.commands.strings.characters_in.Goals as goal
+use Rattle.tcl_text.proofs.commands.strings.walked_characters.Goals as goal
 
 pub returns : goal.returns
 returns c =

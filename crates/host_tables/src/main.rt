@@ -5,6 +5,7 @@
 #![tactic(auto)]
 
 mod calls;
+mod example;
 mod fakes;
 mod lines;
 mod plays;
@@ -22,6 +23,7 @@ use tables::{Fixture, arguments, ask_tables};
 #[derive(Drop)]
 enum Part {
     Calls,
+    Embedding,
     Routes(Routes),
     Streams(Streams),
 }
@@ -30,6 +32,7 @@ impl Fixture for Part {
     fn new(alloc: Global, table: &str) -> Result<Part> {
         match table {
             "calls" => Ok(Part::Calls),
+            "embedding" => Ok(Part::Embedding),
             "routes" => Ok(Part::Routes(Routes::new())),
             "streams" => Ok(Part::Streams(Streams::new(alloc))),
             _ => bail!("no such table"),
@@ -39,6 +42,7 @@ impl Fixture for Part {
     fn answer(&mut self, alloc: Global, question: &str) -> Result<String> {
         match self {
             Part::Calls => calls::answer(alloc, question),
+            Part::Embedding => example::answer(alloc, question),
             Part::Routes(routes) => routes.answer(alloc, question),
             Part::Streams(streams) => streams.answer(alloc, question),
         }

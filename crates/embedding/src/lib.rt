@@ -2,7 +2,7 @@
 #![tactic(auto)]
 
 use anyhow::Result;
-use std::str;
+use std::alloc::Global;
 use tcl_text::Text;
 use tk_host::{Aliases, Budget, Host, Rect};
 use tk_services::Service;
@@ -22,8 +22,8 @@ const BUDGET: Budget = Budget {
     refill: 0,
 };
 
-fn main(rt: HostRuntime) -> Result<()> {
-    let alloc = rt.alloc();
+/// What the application beside the one that never ends has shown after ten milliseconds.
+pub fn section_beside_a_runaway(alloc: Global) -> Result<Vec<u8>> {
     let mut host: Host<Service> = Host::new(alloc, 64)?;
     for (name, rect, script) in [
         ("runaway", LEFT, "while 1 {}"),
@@ -34,7 +34,5 @@ fn main(rt: HostRuntime) -> Result<()> {
     }
     host.start()?;
     host.advance_to(10)?;
-    let section = host.section(1)?;
-    print!(rt; "{}", str::from_utf8(section.as_slice())?)?;
-    Ok(())
+    Ok(host.section(1)?)
 }

@@ -1,8 +1,8 @@
-# Asks the widgets of this wish (8.6) what the tables of widgets of crates/tk_tables ask, and tells each case in which wish answers otherwise:
+# Asks the widgets of this wish (8.6) what the tables of tests/widget-tables ask, and tells each case in which wish answers otherwise:
 #
-#     xvfb-run -a wish tests/widgets.tcl crates/tk_tables/data/widgets/*.table > tests/widgets.otherwise
+#     xvfb-run -a wish tests/widgets.tcl tests/widget-tables/*.table > tests/widgets.otherwise
 #
-# The form of a table is told by the library tables, that of the questions by the program tk_tables. Behind each `new` they are asked up
+# The form of a table is told by the library tables, that of the questions by tests/widgets. Behind each `new` they are asked up
 # to the first of a key or the pointer; sizes, which hang on the font, scripts that are to be run, and what a label or a button shows aren't asked.
 # Two refusals are alike, whatever their texts. The last line counts.
 

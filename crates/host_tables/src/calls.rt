@@ -76,19 +76,23 @@ fn app(alloc: Global, host: &mut Host<Service>, words: &str) -> Result<String>
 }
 
 /// A call that may come before `start`.
-fn early(alloc: Global, host: &mut Host<Service>, call: &str) -> Result<String> {
-    match first_word(call) {
-        ("app", words) => app(alloc, host, words),
-        ("section", slot) => section(alloc, host, slot),
-        ("turns", "") => turns_told(alloc, host.turns()),
+fn early(alloc: Global, host: &mut Host<Service>, call: &str) -> Result<String>
+    ensures { host.new.held.phase ≡ host.old.held.phase }
+{
+    let (what, words) = first_word(call);
+    match what {
+        "app" => app(alloc, host, words),
+        "section" => section(alloc, host, words),
+        "turns" => turns_told(alloc, host.turns()),
         _ => bail!("no such call"),
     }
 }
 
-fn line(alloc: Global, host: &mut Host<Service>, moment: &str, words: &str) -> Result<String>
+fn line(alloc: Global, host: &mut Host<Service>, words: &str) -> Result<String>
     requires { host.old.held.phase ≢ Adding }
     ensures { OnOk result (host.new.held.phase ≢ Adding) }
 {
+    let (moment, words) = first_word(words);
     let line = line_of(words_of(alloc, words, ' ')?.as_slice())?;
     told(alloc, host.line(number(moment)?, line))
 }
@@ -98,18 +102,13 @@ fn late(alloc: Global, host: &mut Host<Service>, call: &str) -> Result<String>
     requires { host.old.held.phase ≢ Adding }
     ensures { OnOk result (host.new.held.phase ≢ Adding) }
 {
-    match first_word(call) {
-        ("app", words) => app(alloc, host, words),
-        ("start", "") => told(alloc, host.start()),
-        ("advance", moment) => told(alloc, host.advance_to(number(moment)?)),
-        ("end", moment) => told(alloc, host.end(number(moment)?)),
-        ("line", words) => {
-            let (moment, words) = first_word(words);
-            line(alloc, host, moment, words)
-        }
-        ("section", slot) => section(alloc, host, slot),
-        ("turns", "") => turns_told(alloc, host.turns()),
-        _ => bail!("no such call"),
+    let (what, words) = first_word(call);
+    match what {
+        "start" => told(alloc, host.start()),
+        "advance" => told(alloc, host.advance_to(number(words)?)),
+        "end" => told(alloc, host.end(number(words)?)),
+        "line" => line(alloc, host, words),
+        _ => early(alloc, host, call),
     }
 }
 

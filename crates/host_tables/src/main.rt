@@ -6,15 +6,12 @@
 
 mod calls;
 mod example;
-mod fakes;
 mod lines;
 mod plays;
 mod routes;
-mod streams;
 
 use crate::plays::play_sessions;
 use crate::routes::Routes;
-use crate::streams::Streams;
 use anyhow::{Result, bail};
 use std::alloc::Global;
 use tables::{Fixture, arguments, ask_tables};
@@ -25,7 +22,6 @@ enum Part {
     Calls,
     Embedding,
     Routes(Routes),
-    Streams(Streams),
 }
 
 impl Fixture for Part {
@@ -34,7 +30,6 @@ impl Fixture for Part {
             "calls" => Ok(Part::Calls),
             "embedding" => Ok(Part::Embedding),
             "routes" => Ok(Part::Routes(Routes::new())),
-            "streams" => Ok(Part::Streams(Streams::new(alloc))),
             _ => bail!("no such table"),
         }
     }
@@ -44,7 +39,6 @@ impl Fixture for Part {
             Part::Calls => calls::answer(alloc, question),
             Part::Embedding => example::answer(alloc, question),
             Part::Routes(routes) => routes.answer(alloc, question),
-            Part::Streams(streams) => streams.answer(alloc, question),
         }
     }
 }

@@ -5,32 +5,32 @@
 //! the fault.
 use crate::lines::{line_of, rect_of};
 use anyhow::{Result, bail};
-use std::alloc::Global;
+use std::alloc::{AllocError, Global};
 use tables::{number, result_of, words_of};
 use tk_route::{Delivery, LocalKind, Routed, Router};
 
 /// An event and who gets it.
-fn told(alloc: Global, delivery: &Delivery) -> Result<String> {
+fn told(alloc: Global, delivery: &Delivery) -> Result<String, AllocError> {
     let kind = kind_told(alloc, delivery.event.kind)?;
-    Ok(format!(in alloc;
+    format!(in alloc;
         "{} {} {} {}",
         delivery.slot,
         delivery.event.moment,
         delivery.event.state,
         kind.as_str()
-    )?)
+    )
 }
 
-fn kind_told(alloc: Global, kind: LocalKind) -> Result<String> {
+fn kind_told(alloc: Global, kind: LocalKind) -> Result<String, AllocError> {
     match kind {
-        LocalKind::Position { x, y } => Ok(format!(in alloc; "position {x} {y}")?),
-        LocalKind::Press { button, x, y } => Ok(format!(in alloc; "press {button} {x} {y}")?),
-        LocalKind::Release { button, x, y } => Ok(format!(in alloc; "release {button} {x} {y}")?),
-        LocalKind::Keydown(key) => Ok(format!(in alloc; "keydown {}", key.name())?),
-        LocalKind::Keyup(key) => Ok(format!(in alloc; "keyup {}", key.name())?),
-        LocalKind::FocusIn => Ok(String::from_str(alloc, "focusin")?),
-        LocalKind::FocusOut => Ok(String::from_str(alloc, "focusout")?),
-        LocalKind::Size { width, height } => Ok(format!(in alloc; "size {width} {height}")?),
+        LocalKind::Position { x, y } => format!(in alloc; "position {x} {y}"),
+        LocalKind::Press { button, x, y } => format!(in alloc; "press {button} {x} {y}"),
+        LocalKind::Release { button, x, y } => format!(in alloc; "release {button} {x} {y}"),
+        LocalKind::Keydown(key) => format!(in alloc; "keydown {}", key.name()),
+        LocalKind::Keyup(key) => format!(in alloc; "keyup {}", key.name()),
+        LocalKind::FocusIn => String::from_str(alloc, "focusin"),
+        LocalKind::FocusOut => String::from_str(alloc, "focusout"),
+        LocalKind::Size { width, height } => format!(in alloc; "size {width} {height}"),
     }
 }
 

@@ -4,14 +4,13 @@
 //! `sequences OWNER TAG`; `virtual NAME SEQUENCE`, which adds a sequence to a virtual event; `push EVENT`; `matches SEQUENCE EVENT`;
 //! `winner OWNER TAG EVENT`. An event is `TYPE WINDOW MOMENT STATE DETAIL X Y`, the detail a key or a button or `-`, the place from the application's
 //! corner; or `<<NAME>> WINDOW`. Each is answered `=` and what it tells, `-` where it tells that there is none.
-pub mod bench;
 pub mod read;
 
 use crate::bindings::read::{event_of, sequence_of};
 use crate::words::word_of;
 use anyhow::{Result, bail};
 use std::alloc::Global;
-use tables::{number, result_of, words_of};
+use tables::{first_word, number, result_of, words_of};
 use tcl_text::Text;
 use tk_patterns::{BindFault, BindTable, History, VirtualPairs};
 
@@ -41,35 +40,12 @@ pub fn bind(
     }
 }
 
-fn unbind(
-    alloc: Global,
-    bindings: &mut BindTable,
-    owner: usize,
-    tag: &str,
-    sequence: &str,
-) -> Result<String> {
-    let sequence = sequence_of(alloc, sequence)?;
-    bindings.unbind(owner, tag, &sequence);
-    result_of(alloc, "")
-}
-
 /// A script, or that there is none.
 fn script_told(alloc: Global, script: Option<&Text>) -> Result<String> {
     match script {
         Some(script) => result_of(alloc, script.as_str()),
         None => result_of(alloc, "-"),
     }
-}
-
-fn script(
-    alloc: Global,
-    bindings: &BindTable,
-    owner: usize,
-    tag: &str,
-    sequence: &str,
-) -> Result<String> {
-    let sequence = sequence_of(alloc, sequence)?;
-    script_told(alloc, bindings.script(owner, tag, &sequence))
 }
 
 fn sequences(alloc: Global, bindings: &BindTable, owner: usize, tag: &str) -> Result<String> {
@@ -80,7 +56,10 @@ fn sequences(alloc: Global, bindings: &BindTable, owner: usize, tag: &str) -> Re
     Ok(list)
 }
 
-fn matched(alloc: Global, history: &History, sequence: &str, event: &[&str]) -> Result<String> {
+fn matched(alloc: Global, history: &History, words: &[&str]) -> Result<String> {
+    let [sequence, event @ ..] = words else {
+        bail!("no sequence");
+    };
     let sequence = sequence_of(alloc, sequence)?;
     let event = event_of(alloc, event)?;
     let answer = if history.matches(&sequence, &event) {
@@ -91,19 +70,59 @@ fn matched(alloc: Global, history: &History, sequence: &str, event: &[&str]) -> 
     result_of(alloc, answer)
 }
 
-/// What a call on bindings answers.
-fn binding_answer(alloc: Global, bindings: &mut BindTable, words: &[&str]) -> Result<String> {
-    match words {
-        ["bind", owner, tag, sequence, script] => {
-            bind(alloc, bindings, number(owner)?, tag, sequence, script)
-        }
-        ["unbind", owner, tag, sequence] => unbind(alloc, bindings, number(owner)?, tag, sequence),
-        ["unbindall", owner, tag] => {
-            bindings.unbind_all(number(owner)?, tag);
+/// What a call on the bindings of a tag answers.
+fn tag_answer(
+    alloc: Global,
+    bindings: &mut BindTable,
+    what: &str,
+    owner: usize,
+    tag: &str,
+) -> Result<String> {
+    match what {
+        "unbindall" => {
+            bindings.unbind_all(owner, tag);
             result_of(alloc, "")
         }
-        ["script", owner, tag, sequence] => script(alloc, bindings, number(owner)?, tag, sequence),
-        ["sequences", owner, tag] => sequences(alloc, bindings, number(owner)?, tag),
+        "sequences" => sequences(alloc, bindings, owner, tag),
+        _ => bail!("no such question"),
+    }
+}
+
+/// What a call on a tag's binding of a sequence answers.
+fn sequence_answer(
+    alloc: Global,
+    bindings: &mut BindTable,
+    what: &str,
+    owner: usize,
+    tag: &str,
+    sequence: &str,
+) -> Result<String> {
+    let sequence = sequence_of(alloc, sequence)?;
+    match what {
+        "unbind" => {
+            bindings.unbind(owner, tag, &sequence);
+            result_of(alloc, "")
+        }
+        "script" => script_told(alloc, bindings.script(owner, tag, &sequence)),
+        _ => bail!("no such question"),
+    }
+}
+
+/// What a call on bindings answers.
+fn binding_answer(
+    alloc: Global,
+    bindings: &mut BindTable,
+    what: &str,
+    words: &[&str],
+) -> Result<String> {
+    let [owner, tag, words @ ..] = words else {
+        bail!("no tag");
+    };
+    let owner = number(owner)?;
+    match words {
+        [] => tag_answer(alloc, bindings, what, owner, tag),
+        [sequence] => sequence_answer(alloc, bindings, what, owner, tag, sequence),
+        [sequence, script] => bind(alloc, bindings, owner, tag, sequence, script),
         _ => bail!("no such question"),
     }
 }
@@ -117,7 +136,10 @@ impl State {
         })
     }
 
-    fn add_virtual(&mut self, alloc: Global, name: &str, sequence: &str) -> Result<String> {
+    fn add_virtual(&mut self, alloc: Global, words: &[&str]) -> Result<String> {
+        let [name, sequence] = words else {
+            bail!("no pair");
+        };
         let name = Text::new(alloc, name)?;
         let sequence = Text::new(alloc, sequence)?;
         match self.virtuals.add(alloc, &name, &sequence) {
@@ -126,28 +148,33 @@ impl State {
         }
     }
 
-    fn winner(&self, alloc: Global, owner: usize, tag: &str, event: &[&str]) -> Result<String> {
+    fn push(&mut self, alloc: Global, event: &[&str]) -> Result<String> {
+        self.history.push(event_of(alloc, event)?);
+        result_of(alloc, "")
+    }
+
+    fn winner(&self, alloc: Global, words: &[&str]) -> Result<String> {
+        let [owner, tag, event @ ..] = words else {
+            bail!("no tag");
+        };
         let event = event_of(alloc, event)?;
         let winner = self
             .bindings
-            .winner(owner, tag, &event, &self.history, &self.virtuals)?;
+            .winner(number(owner)?, tag, &event, &self.history, &self.virtuals)?;
         script_told(alloc, winner.as_ref())
     }
-}
 
-impl State {
     /// What a question is answered.
     pub fn answer(&mut self, alloc: Global, question: &str) -> Result<String> {
-        let words = words_of(alloc, question, ' ')?;
-        match words.as_slice() {
-            ["virtual", name, sequence] => self.add_virtual(alloc, name, sequence),
-            ["push", event @ ..] => {
-                self.history.push(event_of(alloc, event)?);
-                result_of(alloc, "")
-            }
-            ["matches", sequence, event @ ..] => matched(alloc, &self.history, sequence, event),
-            ["winner", owner, tag, event @ ..] => self.winner(alloc, number(owner)?, tag, event),
-            words => binding_answer(alloc, &mut self.bindings, words),
+        let (what, words) = first_word(question);
+        let words = words_of(alloc, words, ' ')?;
+        let words = words.as_slice();
+        match what {
+            "virtual" => self.add_virtual(alloc, words),
+            "push" => self.push(alloc, words),
+            "matches" => matched(alloc, &self.history, words),
+            "winner" => self.winner(alloc, words),
+            _ => binding_answer(alloc, &mut self.bindings, what, words),
         }
     }
 }

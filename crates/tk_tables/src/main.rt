@@ -1,7 +1,5 @@
 //! Asks the parts of Tk, each by itself, for the answers in tables, and tells of each that isn't the one in its table (`tables` says what stands in
 //! one). A table's name, or its folder, says what its questions are put to; the modules say what they mean.
-//!
-//! `bench bindings` times events by how many bindings there are instead, and `bench windows` windows by how many they are.
 #![tactic(auto)]
 
 mod bindings;
@@ -9,18 +7,14 @@ mod counting;
 mod dispatch;
 mod sequences;
 mod services;
-mod sessions;
 mod timers;
-mod widgets;
 mod windows;
 mod words;
 
 use crate::bindings::State;
 use crate::dispatch::Dispatch;
 use crate::services::Caller;
-use crate::sessions::Given;
 use crate::timers::Kept;
-use crate::widgets::Application;
 use crate::windows::Screen;
 use anyhow::{Result, bail};
 use std::alloc::Global;
@@ -31,11 +25,9 @@ use tables::{Fixture, arguments, ask_tables};
 enum Part {
     Bindings(State),
     Dispatch(Dispatch),
-    Reading(Given),
     Sequences,
     Services(Caller),
     Timers(Kept),
-    Widgets(Application),
     Windows(Screen),
 }
 
@@ -45,11 +37,9 @@ impl Fixture for Part {
         match part {
             "bindings" => Ok(Part::Bindings(State::new(alloc)?)),
             "dispatch" => Ok(Part::Dispatch(Dispatch::new(alloc)?)),
-            "reading" => Ok(Part::Reading(Given::new(alloc))),
             "sequences" => Ok(Part::Sequences),
             "services" => Ok(Part::Services(Caller::new())),
             "timers" => Ok(Part::Timers(Kept::new(alloc))),
-            "widgets" => Ok(Part::Widgets(Application::of(alloc, "frame")?)),
             "windows" => Ok(Part::Windows(Screen::new(alloc, name)?)),
             _ => bail!("no such table"),
         }
@@ -59,24 +49,14 @@ impl Fixture for Part {
         match self {
             Part::Bindings(state) => state.answer(alloc, question),
             Part::Dispatch(dispatch) => dispatch.answer(alloc, question),
-            Part::Reading(given) => given.answer(alloc, question),
             Part::Sequences => sequences::answer(alloc, question),
             Part::Services(caller) => caller.answer(alloc, question),
             Part::Timers(kept) => kept.answer(alloc, question),
-            Part::Widgets(application) => application.answer(alloc, question),
             Part::Windows(screen) => screen.answer(alloc, question),
         }
     }
 }
 
 fn main(rt: HostRuntime) -> Result<()> {
-    match arguments(&rt)?.as_slice() {
-        [word, part] if word.as_str() == "bench" && part.as_str() == "bindings" => {
-            bindings::bench::run(&rt)
-        }
-        [word, part] if word.as_str() == "bench" && part.as_str() == "windows" => {
-            windows::bench::run(&rt)
-        }
-        names => ask_tables::<Part, _>(&rt, names),
-    }
+    ask_tables::<Part, _>(&rt, arguments(&rt)?.as_slice())
 }

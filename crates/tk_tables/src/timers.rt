@@ -91,15 +91,44 @@ fn fill(alloc: Global, timers: &mut Timers, owner: usize, moment: u64) -> Result
     Ok(format!(in alloc; "={count}")?)
 }
 
-/// What a call answers that changes nothing.
-fn looked_up(alloc: Global, timers: &Timers, owner: usize, words: &[&str]) -> Result<String> {
-    match words {
-        ["count"] => Ok(format!(in alloc; "={}", timers.count(owner))?),
-        ["full"] => Ok(format!(in alloc; "={}", timers.is_full(owner))?),
-        ["next"] => optional(alloc, timers.next_due_of(owner)),
-        ["first"] => optional(alloc, timers.next_due()),
-        ["round"] => round(alloc, timers, owner),
-        ["due", id] => due(alloc, timers, owner, number(id)?),
+/// What a call of one word answers.
+fn told(
+    alloc: Global,
+    timers: &mut Timers,
+    owner: usize,
+    moment: u64,
+    call: &str,
+) -> Result<String> {
+    match call {
+        "count" => Ok(format!(in alloc; "={}", timers.count(owner))?),
+        "full" => result_of(
+            alloc,
+            if timers.is_full(owner) {
+                "true"
+            } else {
+                "false"
+            },
+        ),
+        "next" => optional(alloc, timers.next_due_of(owner)),
+        "first" => optional(alloc, timers.next_due()),
+        "round" => round(alloc, timers, owner),
+        "take" => take(alloc, timers, owner, moment),
+        "fill" => fill(alloc, timers, owner, moment),
+        _ => bail!("no such call"),
+    }
+}
+
+/// What a call for an entry answers.
+fn told_of(
+    alloc: Global,
+    timers: &mut Timers,
+    owner: usize,
+    call: &str,
+    id: u64,
+) -> Result<String> {
+    match call {
+        "due" => due(alloc, timers, owner, id),
+        "cancel" => cancel(alloc, timers, owner, id),
         _ => bail!("no such call"),
     }
 }
@@ -114,10 +143,9 @@ fn answer_of(
 ) -> Result<String> {
     match words {
         ["after", words @ ..] => after(alloc, timers, owner, moment, words),
-        ["take"] => take(alloc, timers, owner, moment),
-        ["fill"] => fill(alloc, timers, owner, moment),
-        ["cancel", id] => cancel(alloc, timers, owner, number(id)?),
-        _ => looked_up(alloc, timers, owner, words),
+        [call] => told(alloc, timers, owner, moment, call),
+        [call, id] => told_of(alloc, timers, owner, call, number(id)?),
+        _ => bail!("no such call"),
     }
 }
 

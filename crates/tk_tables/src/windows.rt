@@ -1,6 +1,5 @@
 //! The questions of `windows`: windows (`trees`), how they are packed (`packings`), and how they are laid out (`layouts`). Each is answered `=` and
 //! what it tells.
-pub mod bench;
 mod layouts;
 mod packings;
 mod requests;

@@ -46,7 +46,7 @@ fn shape_in(words: &[&str]) -> Result<Shape> {
 }
 
 /// The shape of a window that isn't laid out yet, which asks for a size.
-pub fn new_shape(number: u64, (width, height): (u32, u32), border: u32, propagates: bool) -> Shape {
+fn new_shape(number: u64, (width, height): (u32, u32), border: u32, propagates: bool) -> Shape {
     Shape {
         number,
         width,
@@ -90,8 +90,8 @@ impl Layouts {
     /// What a question is answered.
     pub fn answer(&mut self, alloc: Global, words: &[&str]) -> Result<String> {
         match words {
-            ["asks", window] => self.asks(alloc, number(window)?),
             ["lay"] => self.lay(alloc),
+            [what, window] => self.answer_of(alloc, what, number(window)?),
             ["begin", width, height] => {
                 *self = Layouts::new(alloc);
                 self.size = (number(width)?, number(height)?);
@@ -104,30 +104,37 @@ impl Layouts {
         }
     }
 
-    /// Changes what windows there are, and what they ask for.
+    /// What a question about a window is answered.
+    fn answer_of(&mut self, alloc: Global, what: &str, window: u64) -> Result<String> {
+        match what {
+            "asks" => self.asks(alloc, window),
+            "forget" => {
+                self.packs.forget(win(window));
+                Ok(String::new(alloc))
+            }
+            "gone" => {
+                self.take_out(window);
+                Ok(String::new(alloc))
+            }
+            _ => bail!("no such question"),
+        }
+    }
+
+    /// Changes what windows there are and what they ask for, or where one is packed.
     fn change(&mut self, words: &[&str]) -> Result<()> {
         match words {
             ["window", shape @ ..] => self.set(shape_in(shape)?),
             ["pack", master, slave, place, request @ ..] => {
-                let request = request_in(request)?;
-                self.packs.put(
-                    number(master)?,
-                    win(number(slave)?),
-                    number(place)?,
-                    request,
-                )?;
-                Ok(())
-            }
-            ["forget", window] => {
-                self.packs.forget(win(number(window)?));
-                Ok(())
-            }
-            ["gone", window] => {
-                self.take_out(number(window)?);
-                Ok(())
+                self.pack(number(master)?, slave, place, request_in(request)?)
             }
             _ => bail!("no such question"),
         }
+    }
+
+    fn pack(&mut self, master: u64, slave: &str, place: &str, request: Request) -> Result<()> {
+        self.packs
+            .put(master, win(number(slave)?), number(place)?, request)?;
+        Ok(())
     }
 
     /// Adds a window, or changes what it asks for.

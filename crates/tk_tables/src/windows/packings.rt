@@ -69,6 +69,20 @@ fn place_text(alloc: Global, place: Option<Rect>) -> Result<String> {
     }
 }
 
+/// The size that windows ask for, and where each lies.
+fn places_told(
+    alloc: Global,
+    (width, height): (u32, u32),
+    places: &[Option<Rect>],
+) -> Result<String> {
+    let mut text = format!(in alloc; "{width} {height}:")?;
+    for (index, place) in places.iter().enumerate() {
+        text.push_str(if index == 0 { " " } else { ", " })?;
+        text.push_str(place_text(alloc, *place)?.as_str())?;
+    }
+    Ok(text)
+}
+
 impl Packings {
     pub fn new(alloc: Global) -> Packings {
         Packings {
@@ -120,26 +134,26 @@ impl Packings {
         Ok(requests)
     }
 
-    fn arranged(&mut self, alloc: Global) -> Result<String> {
-        let requests = self.requests(alloc)?;
-        let places = arrange(alloc, self.size, requests.as_slice())?;
+    /// Where windows with these requests lie, by an arrangement that is made anew, and twice by the kept one.
+    fn places(&mut self, alloc: Global, requests: &[Request]) -> Result<Vec<Option<Rect>>> {
+        let places = arrange(alloc, self.size, requests)?;
         for _ in 0..2u32 {
-            self.kept.arrange(self.size, requests.as_slice())?;
+            self.kept.arrange(self.size, requests)?;
             if self.kept.places() != places.as_slice() {
                 bail!("a kept arrangement is another");
             }
         }
+        Ok(places)
+    }
+
+    fn arranged(&mut self, alloc: Global) -> Result<String> {
+        let requests = self.requests(alloc)?;
+        let places = self.places(alloc, requests.as_slice())?;
         self.take_out();
         if !self.packs.packed_in(MASTER).is_empty() {
             bail!("a window that was taken out is packed");
         }
-        let (width, height) = request_of(requests.as_slice());
-        let mut text = format!(in alloc; "{width} {height}:")?;
-        for (index, place) in places.iter().enumerate() {
-            text.push_str(if index == 0 { " " } else { ", " })?;
-            text.push_str(place_text(alloc, *place)?.as_str())?;
-        }
-        Ok(text)
+        places_told(alloc, request_of(requests.as_slice()), places.as_slice())
     }
 }
 

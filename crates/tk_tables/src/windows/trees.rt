@@ -26,16 +26,26 @@ impl Trees {
                 self.windows = Windows::new(alloc);
                 Ok(String::new(alloc))
             }
-            ["create", owner, path] => self.create(alloc, number(owner)?, path),
-            ["find", owner, path] => self.find(alloc, number(owner)?, path),
-            [name, owner, window] => {
-                let win = Win {
-                    owner: number(owner)?,
-                    number: number(window)?,
-                };
-                self.answer_of(alloc, name, win)
-            }
+            [name, owner, window] => self.answer_at(alloc, name, number(owner)?, window),
             _ => bail!("no such question"),
+        }
+    }
+
+    /// What a question about a window or a path of an application is answered.
+    fn answer_at(
+        &mut self,
+        alloc: Global,
+        name: &str,
+        owner: usize,
+        window: &str,
+    ) -> Result<String> {
+        match name {
+            "create" => self.create(alloc, owner, window),
+            "find" => self.find(alloc, owner, window),
+            _ => {
+                let number = number(window)?;
+                self.answer_of(alloc, name, Win { owner, number })
+            }
         }
     }
 

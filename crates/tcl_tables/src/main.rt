@@ -11,7 +11,6 @@ mod panel;
 mod runner;
 mod runs;
 mod scripts;
-mod slices;
 
 use crate::commands::Frames;
 use crate::kept::Kept;
@@ -27,7 +26,6 @@ enum Part {
     Kept(Kept),
     Runs,
     Scripts,
-    Slices,
 }
 
 impl Fixture for Part {
@@ -39,7 +37,6 @@ impl Fixture for Part {
             "kept" => Ok(Part::Kept(Kept::new(alloc)?)),
             "runs" => Ok(Part::Runs),
             "scripts" => Ok(Part::Scripts),
-            "slices" => Ok(Part::Slices),
             _ => bail!("no such table"),
         }
     }
@@ -51,7 +48,6 @@ impl Fixture for Part {
             Part::Kept(kept) => kept.answer(alloc, question),
             Part::Runs => runs::answer(alloc, question),
             Part::Scripts => scripts::answer(alloc, question),
-            Part::Slices => slices::answer(alloc, question),
         }
     }
 }

@@ -1,7 +1,7 @@
 //! An interpreter with its variables, whose outside commands are those of the panel.
 ghost use Rattle.std.specs.Prelude.{◌≡◌, ◌≢◌, ◌<◌, ◌+◌, IfOk, OnOk, Ok};
 ghost use Rattle.tcl_interp.specs.Finish.{Idle};
-ghost use Rattle.tcl_interp.specs.Interp.{rest_of, left_of, budget_of, LeavesRest};
+ghost use Rattle.tcl_interp.specs.Interp.{rest_of, left_of, LeavesRest};
 
 use crate::panel::Panel;
 use anyhow::{Result, bail};
@@ -31,7 +31,7 @@ impl Runner {
     }
 
     /// Begins a script.
-    pub fn begin(&mut self, script: &str) -> Result<()>
+    fn begin(&mut self, script: &str) -> Result<()>
         requires idle { rest_of self.old.interp ≡ Idle }
         ensures begun { OnOk result (rest_of self.new.interp ≢ Idle) }
     {
@@ -39,17 +39,8 @@ impl Runner {
         Ok(())
     }
 
-    /// Begins a task.
-    pub fn begin_task(&mut self, task: u64) -> Result<()>
-        requires idle { rest_of self.old.interp ≡ Idle }
-        ensures begun { OnOk result (rest_of self.new.interp ≢ Idle) }
-    {
-        self.interp.begin_task(task)?;
-        Ok(())
-    }
-
     /// A slice of so many steps.
-    pub fn slice(&mut self, steps: u64) -> Result<SliceEnd>
+    fn slice(&mut self, steps: u64) -> Result<SliceEnd>
         requires positive { 0 < steps }
         requires begun { rest_of self.old.interp ≢ Idle }
         ensures rest { IfOk result (λ end. LeavesRest end (rest_of self.new.interp)) }
@@ -62,7 +53,7 @@ impl Runner {
     }
 
     /// Slices of one size, to the end.
-    pub fn to_end(&mut self, size: u64) -> Result<SliceEnd>
+    fn to_end(&mut self, size: u64) -> Result<SliceEnd>
         requires positive { 0 < size }
         requires begun { rest_of self.old.interp ≢ Idle }
         ensures rest { IfOk result (λ end. LeavesRest end (rest_of self.new.interp)) }
@@ -82,7 +73,7 @@ impl Runner {
     {
         self.begin(script)?;
         let end = self.to_end(slice)?;
-        let left = self.steps_left();
+        let left = self.interp.steps_left();
         match end {
             SliceEnd::Done(Code::Error, text) => {
                 Ok(format!(in self.alloc; "!{left} {}", text.as_str())?)
@@ -91,19 +82,5 @@ impl Runner {
             SliceEnd::Exhausted => Ok(String::from_str(self.alloc, "-")?),
             SliceEnd::More => bail!("there is more to do"),
         }
-    }
-
-    /// The steps that are left.
-    pub fn steps_left(&self) -> u64
-        ensures { result ≡ left_of self.now.interp }
-    {
-        self.interp.steps_left()
-    }
-
-    /// The steps that were taken.
-    pub fn steps_used(&self) -> u64
-        ensures { result + left_of self.now.interp ≡ budget_of self.now.interp }
-    {
-        self.interp.steps_used()
     }
 }

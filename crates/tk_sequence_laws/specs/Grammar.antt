@@ -2,6 +2,7 @@
 -- into white space, patterns and fields, and says nothing of how a text is read. The words are those of the tables of `tk_sequences` and `tk_keys`.
 use Rattle.std.specs.Prelude.{◌≡◌, ◌≢◌, ◌⊎◌, ℕ, ◌<◌, ◌≤◌, true, false, bit_or, List, [], ◌∷◌, ◌++◌, Option, Some, None, codes}
 use Rattle.tcl_text.specs.Backslash.{is_white}
+use Rattle.tcl_text.specs.Bytes.{greater_sign, less_sign, minus_sign, space}
 use Rattle.tk_keys.specs.Names.{key_named, key_of_character}
 use Rattle.tk_sequences.specs.Modifiers.{modifier_named, modifier_bit}
 use Rattle.tk_sequences.specs.Patterns.{count_of, most_events, repetition_named}
@@ -33,7 +34,7 @@ IsGap text = Each (λ byte. is_white byte ≡ true) text
 
 -- no `>`
 abbrev pub HasNoClosing : List ℕ → Type 0
-HasNoClosing text = Each (λ byte. byte ≢ 62) text
+HasNoClosing text = Each (λ byte. byte ≢ greater_sign) text
 
 -- ---- the fields of a pattern in brackets
 
@@ -70,7 +71,7 @@ pub data ArePrefixes : List (List ℕ) → ℕ → Repetition → Type 0 where
 -- A key by its name, or by its character, which is a printing ASCII character other than `-`, `<` and `>`.
 pub data IsKey : List ℕ → ℕ → Type 0 where
   by_name : {word : List ℕ} {key : ℕ} → key_named word ≡ Some key → IsKey word key
-  by_character : (byte : ℕ) {key : ℕ} → byte ≢ 45 → byte ≢ 60 → byte ≢ 62 → key_of_character byte ≡ Some key → IsKey (byte ∷ []) key
+  by_character : (byte : ℕ) {key : ℕ} → byte ≢ minus_sign → byte ≢ less_sign → byte ≢ greater_sign → key_of_character byte ≡ Some key → IsKey (byte ∷ []) key
 
 -- The detail of a type: a key, or a button from 1 to 5.
 pub data IsDetail : EventType → List ℕ → Detail → Type 0 where
@@ -112,10 +113,10 @@ key_pattern key = record { modifiers = 0; times = Single; kind = types.Key; deta
 -- The text is this pattern.
 pub data IsPattern : List ℕ → Pattern → Type 0 where
   -- a printing ASCII character other than blank and `<`, for its key
-  character : (byte key : ℕ) → byte ≢ 32 → byte ≢ 60 → key_of_character byte ≡ Some key → IsPattern (byte ∷ []) (key_pattern key)
+  character : (byte key : ℕ) → byte ≢ space → byte ≢ less_sign → key_of_character byte ≡ Some key → IsPattern (byte ∷ []) (key_pattern key)
   -- fields in `<` and `>`, neither of which is in a word of the tables: so the first `>` closes them
   brackets : (inner : List ℕ) {fields : List (List ℕ)} {pattern : Pattern} → AreFields inner fields → AreOf fields pattern →
-      IsPattern (60 ∷ (inner ++ 62 ∷ [])) pattern
+      IsPattern (less_sign ∷ (inner ++ greater_sign ∷ [])) pattern
 
 -- The text begins with these patterns, with white space in front of each, and goes on with the rest.
 abbrev pub BeginsWith : List ℕ → List Pattern → List ℕ → Type 0
@@ -185,11 +186,11 @@ pub data IsFaulty (whole : List ℕ) : List ℕ → SequenceFault → Type 0 whe
   -- a character that has no key
   character : {byte : ℕ} {rest : List ℕ} → is_white byte ≡ false → key_of_character byte ≡ None → IsFaulty whole (byte ∷ rest) (BadSequence whole)
   -- a bracket that never closes
-  unclosed : {rest : List ℕ} → HasNoClosing rest → IsFaulty whole (60 ∷ rest) (BadSequence whole)
+  unclosed : {rest : List ℕ} → HasNoClosing rest → IsFaulty whole (less_sign ∷ rest) (BadSequence whole)
   -- fields at fault, up to the first bracket that closes
   brackets : (inner rest : List ℕ) {fields : List (List ℕ)} {fault : SequenceFault} → HasNoClosing inner → AreFields inner fields →
       AreFaulty whole fields fault →
-      IsFaulty whole (60 ∷ (inner ++ 62 ∷ rest)) fault
+      IsFaulty whole (less_sign ∷ (inner ++ greater_sign ∷ rest)) fault
 
 -- `<<` stands somewhere in the text
 abbrev pub HasOpening : List ℕ → Type 0

@@ -1,5 +1,5 @@
-"""What the benches of panels share: a run's processor time and memory, applications in a session, and wish 8.6 under a virtual display."""
-import os, pathlib, shutil, subprocess, tempfile
+"""What the benches share: a run's processor time and memory, applications in a session, and wish 8.6 under a virtual display."""
+import os, pathlib, shutil, subprocess, sys, tempfile
 
 ROUNDS, COLUMNS = 3, 4
 
@@ -18,6 +18,14 @@ def timed(words, text, environment=None):
         process.returncode = os.waitstatus_to_exitcode(status)
         written.seek(0)
         return usage.ru_utime + usage.ru_stime, usage.ru_maxrss * 1024, process.returncode, written.read()
+
+
+def well(words, text=b""):
+    """The processor time of a run that has to end with status 0, and what it wrote."""
+    time, _, status, written = timed(words, text)
+    if status:
+        sys.exit("%s ended with status %d: %s" % (words[0], status, written[-500:].decode(errors="replace")))
+    return time, written
 
 
 def least(run):

@@ -1,8 +1,8 @@
 # Packs windows in cavities in many ways with the packer of this wish (8.6), and prints the table of where they come to lie:
 #
-#     xvfb-run -a wish tests/packings.tcl > crates/tk_tables/data/windows/packings.table
+#     xvfb-run -a wish tests/packings.tcl > crates/test_tk/data/windows/packings.table
 #
-# The form of its questions is told by the program tk_tables, which asks them.
+# The form of its questions is told by the program test_tk, which asks them.
 
 frame .f
 place .f -x 0 -y 0

@@ -2,7 +2,7 @@
 #
 #     xvfb-run -a wish tests/widgets.tcl tests/widget-tables/*.table > tests/widgets.otherwise
 #
-# The form of a table is told by the library tables, that of the questions by tests/widgets. Behind each `new` they are asked up
+# The form of a table is told by the library tables, that of the questions by tests/widgets.py. Behind each `new` they are asked up
 # to the first of a key or the pointer; sizes, which hang on the font, scripts that are to be run, and what a label or a button shows aren't asked.
 # Two refusals are alike, whatever their texts. The last line counts.
 

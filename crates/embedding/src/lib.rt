@@ -1,11 +1,13 @@
 //! Two applications in one host, of which one never ends, and what the other has shown when both have run for ten milliseconds.
 #![tactic(auto)]
 
+mod greeting;
+
 use anyhow::Result;
+pub use greeting::section_of_the_greeted;
 use std::alloc::Global;
 use tcl_text::Text;
-use tk_host::{Aliases, Budget, Host, Rect};
-use tk_services::Service;
+use tk_host::{Aliases, Budget, Host, NoAlias, Rect};
 
 const LEFT: Rect = Rect {
     x: 0,
@@ -24,7 +26,7 @@ const BUDGET: Budget = Budget {
 
 /// What the application beside the one that never ends has shown after ten milliseconds.
 pub fn section_beside_a_runaway(alloc: Global) -> Result<Vec<u8>> {
-    let mut host: Host<Service> = Host::new(alloc, 64)?;
+    let mut host: Host<NoAlias> = Host::new(alloc, 64)?;
     for (name, rect, script) in [
         ("runaway", LEFT, "while 1 {}"),
         ("gauge", RIGHT, "after 5 {puts ready}"),

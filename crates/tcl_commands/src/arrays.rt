@@ -9,11 +9,12 @@ ghost use Rattle.tcl_commands.specs.Texts.{cannot_set};
 ghost use Rattle.tcl_commands.specs.Arrays as spec;
 ghost use Rattle.tcl_commands.specs.ArraySteps.{pairs_matching};
 
-use crate::texts::{Reply, cannot_set, empty_answer};
+use crate::texts::cannot_set;
 use crate::unset::unset_one;
 use std::alloc::{AllocError, Global};
 use tcl_text::answers::{
-    Refusal, bad_option, decimal_answer, limit_reached, missing_value, truth_answer, wrong_args,
+    Refusal, Reply, bad_option, decimal_answer, limit_reached, missing_value, truth_answer,
+    wrong_args,
 };
 use tcl_text::items::{items_in, list_answer};
 use tcl_text::{MAX_BYTES, Text, TextList};
@@ -225,7 +226,7 @@ fn unset_array(alloc: Global, scopes: &mut Scopes, level: usize, name: &Text) ->
     if scopes.has_array(level, name) {
         unset_one(alloc, scopes, true, level, name)?;
     }
-    empty_answer(alloc)
+    Ok(Text::empty())
 }
 
 /// Unsets elements of an array.
@@ -246,7 +247,7 @@ fn unset_elements(
         unset_element(scopes, level, name, index)?;
         rest = others;
     }
-    empty_answer(alloc)
+    Ok(Text::empty())
 }
 
 /// Unsets an element, if it is there.
@@ -309,7 +310,7 @@ fn set_items(alloc: Global, scopes: &mut Scopes, level: usize, name: &Text, item
 {
     if items.is_empty() {
         make_array(alloc, scopes, level, name)?;
-        return empty_answer(alloc);
+        return Ok(Text::empty());
     }
     if scopes.is_element(level, name) {
         return cannot_set(alloc, name.as_str(), SetFault::NotArray);
@@ -341,7 +342,7 @@ fn set_each(alloc: Global, scopes: &mut Scopes, level: usize, name: &Text, items
         set_element(alloc, scopes, level, name, key, value)?;
         rest = others;
     }
-    empty_answer(alloc)
+    Ok(Text::empty())
 }
 
 /// Sets an element. A name that would be too long can't be set.

@@ -7,12 +7,11 @@ ghost use Rattle.tcl_commands.specs.Values.{exists_words};
 
 use crate::arrays::array_words;
 use crate::links::{global_words, upvar_words};
-use crate::texts::Reply;
 use crate::unset::unset_words;
 use crate::values::{append_words, exists_words, incr_words, lappend_words, set_words};
 use std::alloc::{AllocError, Global};
 use tcl_text::Text;
-use tcl_text::answers::Refusal;
+use tcl_text::answers::{Refusal, Reply};
 use tcl_vars::Scopes;
 
 /// A command on variables, which the manual page of its name describes, as set(n).

@@ -3,10 +3,9 @@ ghost use Rattle.std.specs.Prelude.{◌≡◌, ◌<◌, length, IfOk};
 ghost use Rattle.tcl_commands.specs.Done.{Does, Steps};
 ghost use Rattle.tcl_commands.specs.Links as spec;
 
-use crate::texts::{Reply, empty_answer};
 use std::alloc::{AllocError, Global};
 use tcl_text::Text;
-use tcl_text::answers::{Refusal, wrong_args};
+use tcl_text::answers::{Refusal, Reply, wrong_args};
 use tcl_vars::{LinkFault, Scopes, element_of};
 
 /// `global name ?name ..?`: each name of the frame becomes a link to the global variable of that name, up to the
@@ -21,14 +20,14 @@ pub fn global_words(alloc: Global, scopes: &mut Scopes, level: usize, words: &[T
         return wrong_args(alloc, "global name ?name ..?");
     }
     if level == 0 {
-        return empty_answer(alloc);
+        return Ok(Text::empty());
     }
     let mut rest = words;
     while let [name, others @ ..] = rest {
         link_global(alloc, scopes, level, name)?;
         rest = others;
     }
-    empty_answer(alloc)
+    Ok(Text::empty())
 }
 
 /// Links a name of the frame to the global variable of that name; more than 4,096 variables are refused (19), and a name that can't be
@@ -97,7 +96,7 @@ pub fn upvar_words(
         link_one(alloc, scopes, level, to_level, other, name)?;
         rest = others;
     }
-    empty_answer(alloc)
+    Ok(Text::empty())
 }
 
 /// Links a name of the frame to another one of an earlier frame, with the same refusals.

@@ -8,9 +8,6 @@ use tcl_text::Text;
 use tcl_text::answers::Refusal;
 use tcl_vars::{ReadFault, SetFault};
 
-/// What a command replies: its result, or why there is none.
-pub type Reply = Result<Text, Refusal>;
-
 /// Why a variable can't be read (15 to 18), as its script is told of it. A text past 65,536 bytes is that of the limit (4).
 #[tactic(auto, unfolding(tcl_text::specs::Messages::bounded))]
 pub fn cannot_read<T>(alloc: Global, name: &str, fault: ReadFault) -> Result<T, Refusal>
@@ -28,11 +25,4 @@ pub fn cannot_set<T>(alloc: Global, name: &str, fault: SetFault) -> Result<T, Re
         SetFault::NoMemory => Err(Refusal::NoMemory),
         _ => Err(Refusal::Error(fault.text(alloc, name)?)),
     }
-}
-
-/// The empty result.
-pub fn empty_answer(alloc: Global) -> Reply
-    ensures { Gives result (Ok []) }
-{
-    Ok(Text::of_short(alloc, "")?)
 }

@@ -3,10 +3,9 @@ ghost use Rattle.std.specs.Prelude.{◌≡◌, ◌<◌, length};
 ghost use Rattle.tcl_commands.specs.Done.{Does, Steps};
 ghost use Rattle.tcl_commands.specs.Unset as spec;
 
-use crate::texts::{Reply, empty_answer};
 use std::alloc::Global;
 use tcl_text::Text;
-use tcl_text::answers::Refusal;
+use tcl_text::answers::{Refusal, Reply};
 use tcl_vars::{Scopes, UnsetFault};
 
 /// `unset ?-nocomplain? ?name ..?`: each is unset up to the first that can't be; with the switch, each that can be.
@@ -41,7 +40,7 @@ fn unset_each(
         unset_one(alloc, scopes, quiet, level, name)?;
         rest = others;
     }
-    empty_answer(alloc)
+    Ok(Text::empty())
 }
 
 /// Unsets a variable, or quietly lets it be where it can't be unset (15, 16, 18).

@@ -9,9 +9,9 @@ ghost use Rattle.tcl_commands.specs.Done.{Does, IfNoMemory};
 ghost use Rattle.tcl_commands.specs.Edits.{edit_answer};
 ghost use Rattle.tcl_commands.specs.Values as spec;
 
-use crate::texts::{Reply, cannot_read, cannot_set};
+use crate::texts::{cannot_read, cannot_set};
 use std::alloc::{AllocError, Global};
-use tcl_text::answers::{Refusal, too_large, truth_answer, wrong_args};
+use tcl_text::answers::{Refusal, Reply, too_large, truth_answer, wrong_args};
 use tcl_text::integers::integer_of;
 use tcl_text::items::items_in;
 use tcl_text::{Edit, EditFault, Text};
@@ -225,7 +225,7 @@ fn set_edited(
 fn edited_empty(alloc: Global, edit: Edit<'_>) -> Reply
     ensures { Gives result (edit_answer edit.entry []) }
 {
-    let mut text = Text::of_short(alloc, "")?;
+    let mut text = Text::empty();
     match text.edit(alloc, edit) {
         Ok(()) => Ok(text),
         Err(EditFault::NoMemory) => Err(Refusal::NoMemory),

@@ -34,7 +34,7 @@ fn item_at(alloc: Global, items: &ListItems, at: usize) -> Result<Text, AllocErr
 {
     match items.get(alloc, at)? {
         Some(item) => Ok(item),
-        None => Text::of_short(alloc, ""),
+        None => Ok(Text::empty()),
     }
 }
 

@@ -70,7 +70,7 @@ fn body_of(alloc: Global, arms: &[Branch]) -> Result<Plan, AllocError>
             return Ok(Plan::Runs(Source::of_text(arm.body.copy()?)));
         }
     }
-    Ok(Plan::Ends(Code::Normal, Text::of_short(alloc, "")?))
+    Ok(Plan::Ends(Code::Normal, Text::empty()))
 }
 
 /// The body of the first arm that takes a value.
@@ -89,7 +89,7 @@ fn arm_for(
         }
         rest = behind;
     }
-    Ok(Plan::Ends(Code::Normal, Text::of_short(alloc, "")?))
+    Ok(Plan::Ends(Code::Normal, Text::empty()))
 }
 
 fn no_body(alloc: Global) -> Result<Plan, AllocError>

@@ -3,9 +3,8 @@ ghost use Rattle.std.specs.Option.{option_copied};
 ghost use Rattle.tcl_text.specs.Commands.{command_answer};
 ghost use Rattle.tcl_text.specs.Readings.{integer_of};
 ghost use Rattle.tcl_text.specs.StringCommands.{concat_words};
-ghost use Rattle.tcl_vars.specs.Store.{with_variable};
+ghost use Rattle.tcl_vars.specs.Store.{Store, with_variable};
 ghost use Rattle.tcl_control.specs.Commands.{code_number, stored_ending, caught_ending, break_plan, catch_plan, continue_plan, error_plan, eval_plan, expr_plan, for_plan, foreach_plan, info_plan, return_plan, texts_plan, uplevel_plan, while_plan, on_joined, code_of, code_of_integer, code_numbered, unsigned_of, absolute, relative, runs_up, returns_as, returns_code, is_level, levels_left, bad_level, runs_at, level_plan};
-ghost use Rattle.tcl_vars.specs.Store.{Store};
 ghost use Rattle.tcl_control.specs.Control.{recorded_plan, proc_call, rename_call, builtin_call, by_command, call_of, keeps_all};
 ghost use Rattle.tcl_text.specs.Limits.{most_bytes};
 
@@ -43,7 +42,7 @@ fn break_plan(alloc: Global, words: &[Text]) -> Result<Plan, AllocError>
     ensures { IfOk result (λ plan. plan ≡ break_plan words.now) }
 {
     match words {
-        [] => Ok(Plan::Ends(Code::Break, Text::of_short(alloc, "")?)),
+        [] => Ok(Plan::Ends(Code::Break, Text::empty())),
         _ => misused(alloc, Usage::Break),
     }
 }
@@ -53,7 +52,7 @@ fn continue_plan(alloc: Global, words: &[Text]) -> Result<Plan, AllocError>
     ensures { IfOk result (λ plan. plan ≡ continue_plan words.now) }
 {
     match words {
-        [] => Ok(Plan::Ends(Code::Continue, Text::of_short(alloc, "")?)),
+        [] => Ok(Plan::Ends(Code::Continue, Text::empty())),
         _ => misused(alloc, Usage::Continue),
     }
 }
@@ -154,7 +153,7 @@ fn recorded(alloc: Global, refused: Option<Text>) -> Result<Plan, AllocError>
     ensures { IfOk result (λ plan. plan ≡ recorded_plan refused) }
 {
     match refused {
-        None => Ok(Plan::Ends(Code::Normal, Text::of_short(alloc, "")?)),
+        None => Ok(Plan::Ends(Code::Normal, Text::empty())),
         Some(text) => Ok(fails(text)),
     }
 }
@@ -301,9 +300,9 @@ fn return_plan(alloc: Global, words: &[Text]) -> Result<Plan, AllocError>
     ensures { IfOk result (λ plan. plan ≡ return_plan words.now) }
 {
     match words {
-        [] => Ok(Plan::Ends(Code::Return(ReturnCode::Normal), Text::of_short(alloc, "")?)),
+        [] => Ok(Plan::Ends(Code::Return(ReturnCode::Normal), Text::empty())),
         [text] => returns_value(alloc, text),
-        [option, word] => returns_as(alloc, option, word, Text::of_short(alloc, "")?),
+        [option, word] => returns_as(alloc, option, word, Text::empty()),
         [option, word, text] => returns_as(alloc, option, word, text.copy()?),
         _ => misused(alloc, Usage::Return),
     }

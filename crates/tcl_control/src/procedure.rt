@@ -53,7 +53,7 @@ fn value_for(alloc: Global, fallback: &Option<Text>, words: &[Text]) -> Result<T
         [word, ..] => word.copy(),
         [] => match fallback {
             Some(value) => value.copy(),
-            None => Text::of_short(alloc, ""),
+            None => Ok(Text::empty()),
         },
     }
 }

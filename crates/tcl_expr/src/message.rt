@@ -66,7 +66,7 @@ impl EvalFault {
                 "can't use non-numeric string as operand of ",
                 operator_name(*operator),
             ),
-            EvalFault::NoMemory => Text::of_short(alloc, ""),
+            EvalFault::NoMemory => Ok(Text::empty()),
         }
     }
 }

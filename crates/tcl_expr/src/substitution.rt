@@ -43,7 +43,7 @@ fn begin_text<'a>(
             dues.push(Due::Others(others, room))?;
             dues.push(Due::Piece(own, room))?;
         }
-        None => steps.push(Step::Plain(Text::of_short(alloc, "")?))?,
+        None => steps.push(Step::Plain(Text::empty()))?,
     }
     Ok(())
 }

@@ -2,10 +2,14 @@
 pub mod Answering
 pub mod Bounds
 pub mod ChoiceLemmas
+pub mod Ends
 pub mod Finishing
 pub mod IndexLemmas
+pub mod Kept
+pub mod LeavesSame
 pub mod Same
 pub mod Settled
 pub mod Stepping
+pub mod Unrolled
 pub mod Weights
 pub mod WordLemmas

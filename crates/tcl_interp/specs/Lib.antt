@@ -1,9 +1,14 @@
 -- What the contracts cite.
 pub mod Advances
+pub mod Course
 pub mod Evaluation
 pub mod Expressions
+pub mod Falls
 pub mod Finish
 pub mod Interp
+pub mod JobLaws
+pub mod Leaves
+pub mod Meaning
 pub mod Moves
 pub mod Outside
 pub mod Plans
@@ -13,3 +18,4 @@ pub mod Rests
 pub mod Runs
 pub mod Scripts
 pub mod Steps
+pub mod Tasks

@@ -147,7 +147,7 @@ pub fn turn<K: Drop>(
         }
         Ok(false) => Ok(Now::Ends {
             code: Code::Normal,
-            text: Text::of_short(alloc, "")?,
+            text: Text::empty(),
         }),
         Err(text) => Ok(Now::Ends {
             code: Code::Error,
@@ -167,7 +167,7 @@ fn otherwise<K: Drop>(alloc: Global, room: u64, body: &Option<Text>) -> Next<K>
         }),
         None => Ok(Now::Ends {
             code: Code::Normal,
-            text: Text::of_short(alloc, "")?,
+            text: Text::empty(),
         }),
     }
 }

@@ -101,7 +101,7 @@ impl<K: Drop> Interp<K> {
         ensures kept { OnErr result (context_of self.new ≡ context_of self.old) }
         ensures budget { budget_of self.new ≡ budget_of self.old }
     {
-        let text = Text::of_short(self.alloc, "")?;
+        let text = Text::empty();
         let task = Box::new(self.alloc, task)?;
         let levels = Levels::global(self.alloc)?;
         self.frames.clear();

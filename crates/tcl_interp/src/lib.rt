@@ -3,6 +3,10 @@
 
 mod expressions;
 mod interp;
+mod job;
+mod job_laws;
+mod jobs;
+mod leaving_laws;
 mod machine;
 mod moves;
 mod slices;
@@ -11,5 +15,9 @@ mod tasks;
 mod words;
 
 pub use interp::{Interp, SliceEnd};
+pub use job::{Looked, Started, Task};
+pub use job_laws::{ends_looked, goes_on, steps_fall, unrolls};
+pub use jobs::{Acted, Jobs, act_for, look_at, resume};
+pub use leaving_laws::{scripts_leave, tasks_leave};
 pub use tasks::{Act, Tasks};
 pub use tcl_control::{Code, ReturnCode};

@@ -53,7 +53,7 @@ fn first_command<K>(alloc: Global, script: Script, room: u64) -> Next<K>
             next: 0,
             room,
         },
-        result: Text::of_short(alloc, "")?,
+        result: Text::empty(),
     })
 }
 
@@ -106,7 +106,7 @@ fn after_body<K: Drop>(
         Code::Continue => next_turn(frames, room, turning),
         Code::Break => Ok(Now::Ends {
             code: Code::Normal,
-            text: Text::of_short(alloc, "")?,
+            text: Text::empty(),
         }),
         Code::Error => Ok(Now::Ends { code, text }),
         Code::Return(_) => Ok(Now::Ends { code, text }),
@@ -127,7 +127,7 @@ fn after_next<K: Drop>(
         Code::Normal => Ok(Now::Tests { room, turning }),
         Code::Break => Ok(Now::Ends {
             code: Code::Normal,
-            text: Text::of_short(alloc, "")?,
+            text: Text::empty(),
         }),
         Code::Continue => Ok(Now::Ends { code, text }),
         Code::Error => Ok(Now::Ends { code, text }),

@@ -140,7 +140,7 @@ fn take_step<T: Tasks>(
             room,
             task,
             code: Code::Normal,
-            text: Text::of_short(alloc, "")?,
+            text: Text::empty(),
         }),
         _ => unreachable!(),
     }

@@ -125,7 +125,7 @@ fn test_items<K: Drop>(
         }
         Verdict::NoMore => Ok(Now::Ends {
             code: Code::Normal,
-            text: Text::of_short(alloc, "")?,
+            text: Text::empty(),
         }),
         Verdict::Fails(text) => Ok(Now::Ends {
             code: Code::Error,
@@ -238,7 +238,7 @@ pub fn call<T: Tasks>(
     match words {
         [] => Ok(Now::Ends {
             code: Code::Normal,
-            text: Text::of_short(alloc, "")?,
+            text: Text::empty(),
         }),
         [name, arguments @ ..] => {
             call_named(alloc, tasks, scopes, context, frames, name, arguments, room)

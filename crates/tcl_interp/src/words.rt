@@ -261,7 +261,7 @@ fn called<K: Drop>(
     if whole.is_empty() {
         return Ok(Now::GoesOn {
             place,
-            result: Text::of_short(alloc, "")?,
+            result: Text::empty(),
         });
     }
     wait(frames, Frame::ForCommand(place))?;
@@ -317,7 +317,7 @@ fn put_words<K: Drop>(
             continue;
         }
         let pieces = pieces_at(words, word);
-        match put_pieces(alloc, scopes, level, pieces, 0, Text::of_short(alloc, "")?)? {
+        match put_pieces(alloc, scopes, level, pieces, 0, Text::empty())? {
             Put::Whole(text) => {
                 let more = with_word(alloc, whole, words, word, text)?;
                 match more {
@@ -376,7 +376,7 @@ fn element_begins<K: Drop>(
         name,
         index,
         piece: 0,
-        so_far: Text::of_short(alloc, "")?,
+        so_far: Text::empty(),
     };
     Ok(Now::Indexes(Box::new(alloc, indexing)?))
 }

@@ -1,2 +1,4 @@
-pub mod TableLemmas
+pub mod KeptLemmas
 pub mod SourceLemmas
+pub mod TableLemmas
+pub mod Twice

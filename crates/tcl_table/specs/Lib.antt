@@ -1,4 +1,7 @@
 -- What the contracts cite.
+pub mod CacheLaws
+pub mod Entries
+pub mod Kept
 pub mod Levels
 pub mod Limits
 pub mod Names

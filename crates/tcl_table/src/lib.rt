@@ -2,6 +2,8 @@
 #![tactic(auto)]
 
 mod builtin;
+mod cache;
+mod cache_laws;
 mod command;
 mod kept;
 mod levels;
@@ -10,6 +12,8 @@ mod source;
 pub mod texts;
 
 pub use builtin::Builtin;
+pub use cache::ScriptCache;
+pub use cache_laws::{last_asked_for_is_kept, no_text_twice};
 pub use command::{Command, CommandTable, first_commands, is_dotted, plain_name};
 pub use levels::Levels;
 pub use procedure::Procedure;

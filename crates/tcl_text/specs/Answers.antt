@@ -81,3 +81,7 @@ abbrev pub Gives : {T : Type 0} → Result T Refusal → Result T (List ℕ) →
 Gives (Ok value) wanted = wanted ≡ Ok value
 Gives (Err (Error message)) wanted = wanted ≡ Err message
 Gives (Err NoMemory) wanted = ⊤
+
+-- an answer is what the steps of a command gave
+abbrev pub IsAnswerOf : Result (List ℕ) Refusal → Answer → Type 0
+IsAnswerOf given answer = (wanted : Answer) → Gives given wanted → answer ≡ wanted

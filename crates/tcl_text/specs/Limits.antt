@@ -36,7 +36,3 @@ most_procedures = 1024
 -- how many timers and idle scripts of it wait at most
 abbrev pub most_waiting : ℕ
 most_waiting = 256
-
--- the last moment, in milliseconds, and the longest delay
-abbrev pub last_moment : ℕ
-last_moment = 1000000000000

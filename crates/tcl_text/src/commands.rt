@@ -15,7 +15,7 @@ mod splits;
 mod strings;
 
 use crate::text::Text;
-use answers::{Refusal, Step};
+use answers::{Reply, answered};
 use lists::{
     join_words, lindex_words, linsert_words, list_words, llength_words, lrange_words,
     lreplace_words, lsearch_words,
@@ -93,16 +93,12 @@ impl TextCommand {
     pub fn answer(self, alloc: Global, words: &[Text]) -> Result<Result<Text, Text>, AllocError>
         ensures { IfOk result (λ answer. answer ≡ spec.command_answer self words.now) }
     {
-        match answer_of(alloc, self, words) {
-            Ok(text) => Ok(Ok(text)),
-            Err(Refusal::Error(message)) => Ok(Err(message)),
-            Err(Refusal::NoMemory) => Err(AllocError),
-        }
+        answered(answer_of(alloc, self, words))
     }
 }
 
 /// What a command answers to the words after its name.
-fn answer_of(alloc: Global, command: TextCommand, words: &[Text]) -> Step
+fn answer_of(alloc: Global, command: TextCommand, words: &[Text]) -> Reply
     ensures { Gives result (spec.command_answer command words.now) }
 {
     match command {

@@ -464,7 +464,7 @@ impl SetFault {
     {
         match self {
             SetFault::Full => Text::of_short(alloc, NO_ROOM),
-            SetFault::NoMemory => Text::of_short(alloc, ""),
+            SetFault::NoMemory => Ok(Text::empty()),
             _ => cannot(alloc, "set", name, self.reason()),
         }
     }
@@ -531,7 +531,7 @@ impl ChangeFault {
             ChangeFault::Unread(fault) => fault.text(alloc, name),
             ChangeFault::TooLong => limit(alloc),
             ChangeFault::BadList(fault) => fault.told(alloc),
-            ChangeFault::NoMemory => Text::of_short(alloc, ""),
+            ChangeFault::NoMemory => Ok(Text::empty()),
         }
     }
 }
@@ -594,7 +594,7 @@ impl UnsetFault {
         ensures { IfOk result (λ text. text ≡ message (texts.unset_text name.now self.now)) }
     {
         match self {
-            UnsetFault::NoMemory => Text::of_short(alloc, ""),
+            UnsetFault::NoMemory => Ok(Text::empty()),
             _ => cannot(alloc, "unset", name, self.reason()),
         }
     }
@@ -660,7 +660,7 @@ impl LinkFault {
             LinkFault::BadName => bad_name_text(alloc, name),
             LinkFault::Exists => about_between(alloc, "variable ", name, " already exists"),
             LinkFault::Full => Text::of_short(alloc, NO_ROOM),
-            LinkFault::NoMemory => Text::of_short(alloc, ""),
+            LinkFault::NoMemory => Ok(Text::empty()),
         }
     }
 }

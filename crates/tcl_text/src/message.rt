@@ -1,6 +1,5 @@
 //! The texts of errors, for commands that answer with a text or with that of an error.
 ghost use Rattle.std.specs.Prelude.{◌≡◌, ◌++◌, IfOk, OnOk, string_bytes};
-ghost use Rattle.tcl_text.specs.Answers.{bad_option as bad_option_of, wrong_args as wrong_args_of};
 ghost use Rattle.tcl_text.specs.Messages.{bad_name_text, bad_option_text, limit_text, message as message_of, quoted, too_large_text, wrong_args_text};
 
 use crate::text::Text;
@@ -42,30 +41,16 @@ pub fn too_large_text(alloc: Global) -> Result<Text, AllocError>
     Text::of_short(alloc, "integer value too large to represent")
 }
 
-/// The error for a wrong number of words: `wrong # args: should be` and the usage. It has no number.
-#[tactic(auto, unfolding(crate::specs::Messages::bounded))]
-pub fn wrong_args(alloc: Global, usage: &str) -> Result<Answer, AllocError>
-    ensures { IfOk result (λ answer. answer ≡ wrong_args_of usage.now) }
-{
-    Ok(Err(wrong_args_text(alloc, usage)?))
-}
-
-/// The text of that error; that of the limit (4) where it is past 65,536 bytes.
+/// The text of the error for a wrong number of words, `wrong # args: should be` and the usage; that of the limit (4) where it is past 65,536
+/// bytes. The error has no number.
 pub fn wrong_args_text(alloc: Global, usage: &str) -> Result<Text, AllocError>
     ensures { IfOk result (λ text. text ≡ message_of (wrong_args_text usage.now)) }
 {
     about(alloc, "wrong # args: should be ", usage)
 }
 
-/// The error for a word that is none of those that may stand in its place. It has no number.
-#[tactic(auto, unfolding(crate::specs::Messages::bounded))]
-pub fn bad_option(alloc: Global, word: &str) -> Result<Answer, AllocError>
-    ensures { IfOk result (λ answer. answer ≡ bad_option_of word.now) }
-{
-    Ok(Err(bad_option_text(alloc, word)?))
-}
-
-/// The text of that error; that of the limit (4) where it is past 65,536 bytes.
+/// The text of the error for a word that is none of those that may stand in its place; that of the limit (4) where it is past 65,536 bytes.
+/// The error has no number.
 pub fn bad_option_text(alloc: Global, word: &str) -> Result<Text, AllocError>
     ensures { IfOk result (λ text. text ≡ message_of (bad_option_text word.now)) }
 {

@@ -1,4 +1,4 @@
-ghost use Rattle.std.specs.Prelude.{◌≡◌, ◌≢◌, ◌<◌, ◌≤◌, ◌↔◌, ◌++◌, length, Ok, Err, IfOk, IfErr, IfSome, OnOk, OnErr, IsErrOf, IsUtf8, MatchBool, string_bytes, string_len};
+ghost use Rattle.std.specs.Prelude.{◌≡◌, ◌≢◌, ◌<◌, ◌≤◌, ◌↔◌, [], ◌++◌, length, Ok, Err, IfOk, IfErr, IfSome, OnOk, OnErr, IsErrOf, IsUtf8, MatchBool, string_bytes, string_len};
 ghost use Rattle.std.specs.Fmt.{signed_decimal};
 ghost use Rattle.tcl_text.specs.Answers.{bounded};
 ghost use Rattle.tcl_text.specs.AsciiMarks.{MarksAscii};
@@ -177,6 +177,15 @@ impl Text {
             return Err(TextFault::TooLong);
         }
         Ok(Text::of_short(alloc, characters)?)
+    }
+
+    /// The empty text. It takes no memory.
+    pub fn empty() -> Text
+        ensures { result ≡ [] }
+    {
+        Text {
+            form: TextForm::Short(ShortText::new("")),
+        }
     }
 
     /// A text of characters that are known to be 65,536 bytes at most.

@@ -8,8 +8,8 @@ use Rattle.std.proofs.lemmas.Bool.{eqb-true, false≢true}
 use Rattle.std.proofs.lemmas.Cmp.{tied_itself}
 use Rattle.std.proofs.lemmas.List.{map-append}
 use Rattle.std.proofs.lemmas.Option.{none-some, same_Some}
-use Rattle.tk_bag.specs.Bag.{Item, listed, without, AllBelow, IsRising}
-use Rattle.tk_bag.proofs.Owners.{item, listed_new, listed_gone, listed_other, listed_found}
+use Rattle.tk_base.specs.Bag.{Item, listed, without, AllBelow, IsRising}
+use Rattle.tk_base.proofs.Owners.{item, listed_new, listed_gone, listed_other, listed_found}
 use Rattle.tk_after.specs.declared.entry.Entry.{Entry}
 use Rattle.tk_after.specs.declared.keys.DueKey.{DueKey}
 use Rattle.tk_after.specs.declared.keys.Name.{Name}

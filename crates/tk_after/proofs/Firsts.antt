@@ -6,9 +6,9 @@ use Rattle.std.specs.List.{AllByRecursion, cons_option}
 use Rattle.std.specs.Map.{keys_of}
 use Rattle.std.proofs.lemmas.List.Elements.{All-from_recursion}
 use Rattle.std.proofs.lemmas.Option.{none-some, same_Some}
-use Rattle.tk_bag.specs.Bag.{Item}
-use Rattle.tk_bag.proofs.Owners.{item}
-use Rattle.tk_after.specs.declared.counter.Counter.{Counter}
+use Rattle.tk_base.specs.Bag.{Item}
+use Rattle.tk_base.proofs.Owners.{item}
+use Rattle.tk_base.specs.declared.counter.Counter.{Counter}
 use Rattle.tk_after.specs.declared.entry.Entry.{Entry}
 use Rattle.tk_after.specs.declared.keys.DueKey.{DueKey}
 use Rattle.tk_after.specs.Keys.{Stored, due_cmp, number_of, timer_item, idle_item, bag_of, entries_in, IsTimer, AreKeyed}

@@ -4,13 +4,14 @@ use Rattle.std.specs.Prelude.{◌==◌, find, filter, option_map, is_none, IfSom
 use Rattle.std.specs.List.{cons_option, filter_map}
 use Rattle.std.proofs.lemmas.Bool.{eqb-true, eq-eqb, ne_eqb, false≢true}
 use Rattle.std.proofs.lemmas.Option.{none-some, same_Some}
-use Rattle.tk_bag.specs.Bag.{numbered, without, AllBelow, AllAbove, IsRising}
-use Rattle.tk_after.specs.declared.counter.Counter.{Counter}
+use Rattle.tk_base.specs.Bag.{numbered, without, AllBelow, AllAbove, IsRising}
+use Rattle.tk_base.specs.declared.counter.Counter.{Counter}
 use Rattle.tk_after.specs.declared.entry.Entry.{Entry}
 use Rattle.tk_after.specs.declared.keys.Name.{Name}
 use Rattle.tk_after.specs.Keys.{Stored, number_of, entries_in, Mark, mark_number, mark_of, marks_of, held_by, AreKept}
-use Rattle.tk_after.specs.Timers.{Own, own_of, next_of, count_of, Counts, with_entry, without as own_without, entry_with, ids, idle_ids, due_moments, is_full, IsNumbered, IsKept}
+use Rattle.tk_after.specs.Timers.{Own, own_of, with_entry, without as own_without, entry_with, ids, idle_ids, due_moments, is_full, IsNumbered, IsKept}
 use Rattle.tk_after.proofs.Numbers.{IsNumbered-lower, IsNumbered-push, room_from_is_full}
+use Rattle.tk_base.specs.Counters.{next_of, count_of, Counts}
 
 -- ── numbers that rise ──
 low_at_most : (low : ℕ) (entries : List Entry) (next : ℕ) → IsNumbered low entries next → low ≤ next

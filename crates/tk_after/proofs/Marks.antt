@@ -11,9 +11,9 @@ use Rattle.std.specs.declared.ops.Bound.TheVariants.{Included}
 use Rattle.std.proofs.lemmas.Bool.{eqb-true, eq-eqb, ne_eqb}
 use Rattle.std.proofs.lemmas.List.{map-append}
 use Rattle.std.proofs.lemmas.Option.{none-some}
-use Rattle.tk_bag.specs.Bag.{values_of, listed, numbered, without, AllBelow, AllAbove, IsRising}
-use Rattle.tk_bag.proofs.Orders.{gone_there}
-use Rattle.tk_bag.proofs.Owners.{item, values_of-append, listed_new}
+use Rattle.tk_base.specs.Bag.{values_of, listed, numbered, without, AllBelow, AllAbove, IsRising}
+use Rattle.tk_base.proofs.Orders.{gone_there}
+use Rattle.tk_base.proofs.Owners.{item, values_of-append, listed_new}
 use Rattle.tk_after.specs.declared.keys.Name.{Name}
 use Rattle.tk_after.specs.Keys.{name_cmp, name, Mark, mark_number, mark_in, marks_in, mark_item, marks_of, IsNumber}
 use Rattle.tk_after.proofs.KeyOrders.{at_name, other_owner, other_id, same_name, less_id, in_range}

@@ -5,8 +5,8 @@ use Rattle.std.specs.List.{filter_map}
 use Rattle.std.specs.Str.{bytes_eq}
 use Rattle.std.proofs.lemmas.Bool.{eq-eqb, ne_eqb}
 use Rattle.std.proofs.lemmas.Option.{none-some, same_Some, option_and_then_some}
-use Rattle.tk_bag.specs.Bag.{numbered, without, AllBelow, IsRising}
-use Rattle.tk_after.specs.declared.counter.Counter.{Counter}
+use Rattle.tk_base.specs.Bag.{numbered, without, AllBelow, IsRising}
+use Rattle.tk_base.specs.declared.counter.Counter.{Counter}
 use Rattle.tk_after.specs.declared.entry.Entry.{Entry}
 use Rattle.tk_after.specs.declared.keys.Name.{Name}
 use Rattle.tk_after.specs.Keys.{Stored, number_of, entries_in, IsMarked, Mark, mark_number, mark_of, marks_of, lies_due_at, held_by, AreKept}

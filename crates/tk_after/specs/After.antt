@@ -8,7 +8,7 @@ use Rattle.tcl_text.specs.Readings.{integer_of, list_form}
 use Rattle.tcl_text.specs.StringCommands.{concat_words}
 use Rattle.tk_after.specs.declared.entry.Entry.{Entry}
 use Rattle.tk_after.specs.Timers.{Own, is_full, with_entry, without, ids}
-use Rattle.tcl_text.specs.Limits.{last_moment}
+use Rattle.tk_base.specs.Limits.{last_moment}
 
 -- what the application has after the command, and the command's answer
 abbrev pub Told : Type 0

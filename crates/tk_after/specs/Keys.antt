@@ -7,12 +7,13 @@ use Rattle.std.specs.Map.{keys_of, lookup, remove_entry}
 use Rattle.std.specs.Option.{option_map_or}
 use Rattle.std.specs.declared.cmp.Ordering.{Ordering}
 use Rattle.std.specs.Ordering.{nat_cmp, ordering_then}
-use Rattle.tk_bag.specs.Bag.{Item, listed, values_of}
-use Rattle.tk_after.specs.declared.counter.Counter.{Counter}
+use Rattle.tk_base.specs.Bag.{Item, listed, values_of}
+use Rattle.tk_base.specs.declared.counter.Counter.{Counter}
 use Rattle.tk_after.specs.declared.entry.Entry.{Entry}
 use Rattle.tk_after.specs.declared.keys.DueKey.{DueKey}
 use Rattle.tk_after.specs.declared.keys.Name.{Name}
-use Rattle.tk_after.specs.Timers.{Held, own_of, count_of, entry_with, IsKept}
+use Rattle.tk_after.specs.Timers.{Held, own_of, entry_with, IsKept}
+use Rattle.tk_base.specs.Counters.{count_of}
 
 -- ---- keys
 

@@ -3,10 +3,11 @@ use Rattle.std.specs.Prelude.{◌≡◌, ◌≢◌, ℕ, ◌+◌, ◌-◌, ◌^�
 use Rattle.std.specs.List.{filter_map}
 use Rattle.std.specs.Map.{lookup}
 use Rattle.std.specs.Option.{option_map_or}
-use Rattle.tk_bag.specs.Bag.{Item, listed}
-use Rattle.tk_after.specs.declared.counter.Counter.{Counter}
+use Rattle.tk_base.specs.Bag.{Item, listed}
+use Rattle.tk_base.specs.declared.counter.Counter.{Counter}
 use Rattle.tk_after.specs.declared.entry.Entry.{Entry}
 use Rattle.tcl_text.specs.Limits.{most_waiting}
+use Rattle.tk_base.specs.Counters.{next_of}
 
 -- what one application has waiting, in the order of its numbers, and the number that comes next
 pub record Own : Type 0 where
@@ -21,12 +22,6 @@ pub record Held : Type 0 where
 -- nothing was ever waiting
 abbrev pub fresh : Own
 fresh = record { next_number = 0; entries = [] }
-
-abbrev pub next_of : ℕ → List (ℕ × Counter) → ℕ
-next_of owner counters = option_map_or (λ counter. counter.next) (lookup (nat_eq owner) counters) 0
-
-abbrev pub count_of : ℕ → List (ℕ × Counter) → ℕ
-count_of owner counters = option_map_or (λ counter. counter.count) (lookup (nat_eq owner) counters) 0
 
 -- what one application has, in the order of numbers
 abbrev pub entries_of : ℕ → Held → List Entry
@@ -116,13 +111,6 @@ abbrev pub LeavesOthers : ℕ → Held → Held → Type 0
 LeavesOthers owner old new = (other : ℕ) → other ≢ owner → own_of other new ≡ own_of other old
 
 -- ---- what is kept
-
--- an application's counter is this one, and the others' are as before
-pub record Counts (owner : ℕ) (counter : Counter) (old new : List (ℕ × Counter)) : Type 0 where
-  pub next_is : next_of owner new ≡ counter.next
-  pub count_is : count_of owner new ≡ counter.count
-  pub nexts : (other : ℕ) → other ≢ owner → next_of other new ≡ next_of other old
-  pub counts : (other : ℕ) → other ≢ owner → count_of other new ≡ count_of other old
 
 -- numbers rise along the list, from low on, and all have been given
 abbrev pub IsNumbered : ℕ → List Entry → ℕ → Type 0

@@ -5,13 +5,14 @@ ghost use Rattle.tcl_text.specs.Readings.{integer_of, list_form};
 ghost use Rattle.tcl_text.specs.StringCommands.{concat_words};
 ghost use Rattle.tk_after.specs.Timers.{own_of, entries_of, ids, LeavesOthers};
 ghost use Rattle.tk_after.specs.After.{after_words, add_words, add_script, cancel_words, info_words, kind_told, name_of, delay_of, delay_words};
-ghost use Rattle.tcl_text.specs.Limits.{last_moment};
+ghost use Rattle.tk_base.specs.Limits.{last_moment};
 
 use crate::answers::{name_of, no_event};
 use crate::entry::Entry;
 use crate::timers::Timers;
 use std::alloc::{AllocError, Global};
-use tcl_text::message::{Answer, bad_option, limit, short_text, wrong_args};
+use tcl_text::answers::{answered, bad_option, wrong_args};
+use tcl_text::message::{Answer, limit, short_text};
 use tcl_text::{Text, TextCommand, TextFault};
 use tk_base::MAX_MOMENT;
 
@@ -44,7 +45,7 @@ pub fn after_command(
     ensures err { OnErr result (timers.new ≡ timers.old) }
 {
     let Some((first, words)) = words.split_first() else {
-        return wrong_args(alloc, DELAY_USAGE);
+        return answered(wrong_args(alloc, DELAY_USAGE));
     };
     match first.as_str() {
         "cancel" => cancel(alloc, timers, owner, words),
@@ -76,7 +77,7 @@ fn add_delayed(
             let due = moment + delay_of(ms);
             add(alloc, timers, owner, Some(due), DELAY_USAGE, scripts)
         }
-        Err(_) => bad_option(alloc, delay.as_str()),
+        Err(_) => answered(bad_option(alloc, delay)),
     }
 }
 
@@ -105,7 +106,7 @@ fn add(
     ensures err { OnErr result (timers.new ≡ timers.old) }
 {
     if scripts.is_empty() {
-        return wrong_args(alloc, usage);
+        return answered(wrong_args(alloc, usage));
     }
     match joined(alloc, scripts)? {
         Ok(script) => add_joined(alloc, timers, owner, due, script),
@@ -150,13 +151,12 @@ fn cancel(
     ensures err { OnErr result (timers.new ≡ timers.old) }
 {
     if words.is_empty() {
-        return wrong_args(alloc, CANCEL_USAGE);
+        return answered(wrong_args(alloc, CANCEL_USAGE));
     }
-    let nothing = short_text(alloc, "")?;
     match joined(alloc, words)? {
         Ok(text) => {
             timers.cancel_meant(owner, text.as_str());
-            Ok(Ok(nothing))
+            Ok(Ok(Text::empty()))
         }
         Err(text) => Ok(Err(text)),
     }
@@ -173,7 +173,7 @@ fn info(alloc: Global, timers: &Timers, owner: usize, words: &[Text]) -> Result<
             Some(entry) => entry_info(alloc, entry),
             None => no_event(alloc, name.as_str()),
         },
-        _ => wrong_args(alloc, INFO_USAGE),
+        _ => answered(wrong_args(alloc, INFO_USAGE)),
     }
 }
 

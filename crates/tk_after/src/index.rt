@@ -3,7 +3,7 @@ ghost use Rattle.std.specs.Prelude.{◌≡◌, ◌≢◌, ℕ, ◌==◌, [], ◌
 ghost use Rattle.std.specs.List.{filter_map};
 ghost use Rattle.std.specs.Option.{option_map_or};
 ghost use Rattle.std.specs.Str.{bytes_eq};
-ghost use Rattle.tk_bag.specs.Bag.{AllBelow, numbered, without};
+ghost use Rattle.tk_base.specs.Bag.{AllBelow, numbered, without};
 ghost use Rattle.tk_after.specs.After.{name_of};
 ghost use Rattle.tk_after.specs.Keys.{Mark, marks_in, marks_of, mark_number, lies_due_at};
 ghost use Rattle.tk_after.specs.Timers.{lesser, least};
@@ -17,12 +17,12 @@ use std::marker::Model;
 
 /// The numbers of all applications in one map, each with the moment at which its timer is due, if it is one.
 #[derive(Drop)]
-pub struct Index {
+pub struct TimerIndex {
     marks: BTreeMap<Name, Option<u64>>,
     alloc: Global,
 }
 
-impl Model for Index {
+impl Model for TimerIndex {
     ghost use Rattle.std.specs.Prelude.{List};
     ghost use Rattle.std.specs.Prelude.{Option, ℕ};
     ghost use Rattle.tk_after.specs.declared.keys.Name.{Name as Key};
@@ -35,12 +35,12 @@ impl Model for Index {
     ghost invariant = { λ i. AreMarks i.marks.entries };
 }
 
-impl Index {
+impl TimerIndex {
     /// Nothing is listed. It takes no memory.
-    pub fn new(alloc: Global) -> Index
+    pub fn new(alloc: Global) -> TimerIndex
         ensures { result ≡ [] }
     {
-        Index {
+        TimerIndex {
             marks: BTreeMap::new(alloc),
             alloc,
         }

@@ -3,7 +3,6 @@
 
 mod after;
 mod answers;
-mod counter;
 mod entry;
 mod index;
 mod keys;

@@ -1,25 +1,25 @@
 //! What waits of all applications: the timers in the order in which they are due, and the idle scripts.
 ghost use Rattle.std.specs.Prelude.{◌≡◌, ◌≢◌, ℕ, List, [], ◌∷◌, ◌++◌, IfSome, IfNone, IsSome, OnOk, OnErr};
 ghost use Rattle.std.specs.Option.{option_copied};
-ghost use Rattle.tk_bag.specs.Bag.{AllBelow, IsRising, without};
+ghost use Rattle.tk_base.specs.Bag.{AllBelow, IsRising, without};
 ghost use Rattle.tk_after.specs.Keys.{entries_in, bag_of, taken, number_of, IsMarked};
 ghost use Rattle.tk_after.specs.Timers.{Held, entry_with, due_moments, IsNextDue};
 
-use crate::counter::Counter;
 use crate::entry::Entry;
 use crate::keys::{DueKey, Name};
 use std::alloc::{AllocError, Global};
 use std::collections::BTreeMap;
 use std::marker::Model;
+use tk_base::Counter;
 
 /// The timers of all applications in one map, the one that is due first in front, and all idle scripts in one list by application and number.
 #[derive(Drop)]
-pub struct Scripts {
+pub struct TimerScripts {
     timers: BTreeMap<DueKey, Entry>,
     idle: BTreeMap<Name, Entry>,
 }
 
-impl Model for Scripts {
+impl Model for TimerScripts {
     ghost use Rattle.tk_after.specs.Keys.{Stored, AreKeyed};
 
     ghost Value = { Stored };
@@ -29,12 +29,12 @@ impl Model for Scripts {
     ghost invariant = { λ s. AreKeyed (record { timers = s.timers.entries; idle = s.idle.entries }) };
 }
 
-impl Scripts {
+impl TimerScripts {
     /// Nothing waits. It takes no memory.
-    pub fn new(alloc: Global) -> Scripts
+    pub fn new(alloc: Global) -> TimerScripts
         ensures { result ≡ record { timers = []; idle = [] } }
     {
-        Scripts {
+        TimerScripts {
             timers: BTreeMap::new(alloc),
             idle: BTreeMap::new(alloc),
         }

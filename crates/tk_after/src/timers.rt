@@ -1,18 +1,19 @@
 ghost use Rattle.std.specs.Prelude.{◌≡◌, ◌≢◌, ℕ, ◌+◌, ◌^◌, ◌<◌, ◌==◌, false, [], ◌∷◌, ◌++◌, length, map, find, IfOk, IfSome, IfNone, OnOk, OnErr, Some, None, Ok, option_map};
 ghost use Rattle.std.specs.Option.{option_copied, option_map_or};
 ghost use Rattle.std.specs.Str.{bytes_eq};
-ghost use Rattle.tk_bag.specs.Bag.{AllBelow, IsRising};
+ghost use Rattle.tk_base.specs.Bag.{AllBelow, IsRising};
 ghost use Rattle.tk_after.specs.Keys.{entries_in, marks_of, mark_of, mark_number, number_of};
-ghost use Rattle.tk_after.specs.Timers.{next_of, count_of, Counts, own_of, entries_of, is_full, with_entry, entry_with, without, ids, idle_ids, IsKept, least, IsLeastOf, due_moments, first_due, IsFirstDue, NothingDue, IsNextDue, LeavesOthers};
+ghost use Rattle.tk_after.specs.Timers.{own_of, entries_of, is_full, with_entry, entry_with, without, ids, idle_ids, IsKept, least, IsLeastOf, due_moments, first_due, IsFirstDue, NothingDue, IsNextDue, LeavesOthers};
+ghost use Rattle.tk_base.specs.Counters.{next_of, count_of, Counts};
 
-use crate::counter::{Counter, count_less, counter_of, set_counter};
 use crate::entry::Entry;
-use crate::index::Index;
-use crate::scripts::Scripts;
+use crate::index::TimerIndex;
+use crate::scripts::TimerScripts;
 use std::alloc::{AllocError, Global};
 use std::collections::HashMap;
 use std::marker::Model;
 use tcl_text::Text;
+use tk_base::{Counter, count_less, counter_of, set_counter};
 
 /// How many timers and idle scripts an application has at most.
 const MAX_LISTED: usize = 256;
@@ -25,8 +26,8 @@ const NUMBERS_END: u64 = u64::MAX;
 /// `owner` is an application's number everywhere, and a moment is in milliseconds. An application that hasn't been named yet has nothing
 /// waiting.
 pub struct Timers {
-    scripts: Scripts,
-    index: Index,
+    scripts: TimerScripts,
+    index: TimerIndex,
     counters: HashMap<usize, Counter>,
 }
 
@@ -49,8 +50,8 @@ impl Timers {
         ensures { result ≡ record { counters = []; bag = [] } }
     {
         Timers {
-            scripts: Scripts::new(alloc),
-            index: Index::new(alloc),
+            scripts: TimerScripts::new(alloc),
+            index: TimerIndex::new(alloc),
             counters: HashMap::new(alloc),
         }
     }
@@ -259,7 +260,7 @@ impl Timers {
 
 /// Lists an application's next number, and counts it.
 fn list_number(
-    index: &mut Index,
+    index: &mut TimerIndex,
     counters: &mut HashMap<usize, Counter>,
     owner: usize,
     due: Option<u64>,
@@ -292,8 +293,8 @@ fn list_number(
 
 /// The first of what an application has listed that has a script.
 fn entry_with_script<'a>(
-    scripts: &'a Scripts,
-    index: &Index,
+    scripts: &'a TimerScripts,
+    index: &TimerIndex,
     owner: usize,
     script: &str,
 ) -> Option<&'a Entry>

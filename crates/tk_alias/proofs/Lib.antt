@@ -1,0 +1,2 @@
+mod JoinLemmas
+mod SumLemmas

@@ -1,2 +1,3 @@
 -- What the contracts cite.
 pub mod Replies
+pub mod Services

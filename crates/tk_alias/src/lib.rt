@@ -2,7 +2,15 @@
 #![tactic(auto)]
 
 mod alias;
+mod closure;
+mod code;
+mod kinds;
 mod reply;
+mod service;
+mod summing;
 
-pub use alias::{Alias, AliasMeaning, Aliases};
+pub use alias::{Alias, AliasMeaning, AliasService, Aliases};
+pub use closure::{Closure, NoAlias};
+pub use code::AliasCode;
 pub use reply::AliasReply;
+pub use service::{Service, ServiceKind};

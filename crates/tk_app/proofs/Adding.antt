@@ -6,7 +6,7 @@ use Rattle.tk_panel.specs.declared.tables.Tables.{Tables}
 use Rattle.tk_panel.specs.Fresh.{fresh, nothing}
 use Rattle.tk_panel.specs.Panel.{LeavesOthers, panel_of}
 use Rattle.tk_panel.proofs.Others.{other_same, others_same}
-use Rattle.tk_app.specs.declared.budget.Budget.{Budget}
+use Rattle.tk_base.specs.declared.budget.Budget.{Budget}
 use Rattle.tk_app.specs.Part.{added}
 use Rattle.tk_app.specs.Turns.{IsVacantFrom, Program, beginning, part_of, parts_from}
 use Rattle.tk_app.proofs.Slots.{push_parts, same_from}

@@ -5,10 +5,10 @@ use Rattle.tcl_vars.specs.Store.{Store}
 use Rattle.tcl_interp.specs.declared.interp.Interp.{Interp}
 use Rattle.tcl_interp.specs.Finish.{RestToDo, rest_of_task}
 use Rattle.tcl_interp.specs.Interp.{at_top, context_of, first_context, left_of, rest_of}
-use Rattle.tcl_jobs.specs.declared.job.Task.{Task}
-use Rattle.tcl_jobs.specs.declared.job.Task.TheVariants as task
+use Rattle.tcl_interp.specs.declared.job.Task.{Task}
+use Rattle.tcl_interp.specs.declared.job.Task.TheVariants as task
 use Rattle.tk_panel.specs.declared.job.Job.{Job}
-use Rattle.tk_app.specs.declared.budget.Budget.{Budget}
+use Rattle.tk_base.specs.declared.budget.Budget.{Budget}
 use Rattle.tk_app.specs.declared.state.AppState.TheVariants.{Running}
 use Rattle.tk_app.specs.Names.{command_names}
 use Rattle.tk_app.specs.Part.{work_of}

@@ -5,11 +5,11 @@ use Rattle.tcl_vars.specs.Store.{Store}
 use Rattle.tcl_control.specs.declared.code.Code.{Code}
 use Rattle.tcl_control.specs.declared.code.Code.TheVariants.{Normal, Error, Return, Break, Continue}
 use Rattle.tcl_interp.specs.Evaluation.{State, Ended}
-use Rattle.tcl_jobs.specs.declared.job.Looked.{Looked}
-use Rattle.tcl_jobs.specs.declared.job.Looked.TheVariants.{Wants, Ends}
-use Rattle.tcl_jobs.specs.Laws.{Keeps, runs}
-use Rattle.tcl_jobs.specs.Meaning.{looked}
-use Rattle.tcl_jobs.proofs.Unrolled as jobs
+use Rattle.tcl_interp.specs.declared.job.Looked.{Looked}
+use Rattle.tcl_interp.specs.declared.job.Looked.TheVariants.{Wants, Ends}
+use Rattle.tcl_interp.specs.JobLaws.{Keeps, runs}
+use Rattle.tcl_interp.specs.Meaning.{looked}
+use Rattle.tcl_interp.proofs.Unrolled as jobs
 use Rattle.tk_after.specs.declared.entry.Entry.{Entry}
 use Rattle.tk_after.specs.Timers.{first_due, idle_ids}
 use Rattle.tk_panel.specs.declared.job.Home.{Home}
@@ -22,12 +22,12 @@ use Rattle.tk_panel.specs.Next.{next, next_event, next_rest}
 use Rattle.tk_panel.specs.Panel.{Panel}
 use Rattle.tk_panel.specs.Settle.{Next, after_layout, after_round, at_home, drained, idle_round, is_closed, is_due, on_event, on_round, on_timer, queue_or_round, still_waiting, turn}
 use Rattle.tk_panel.specs.Start.{start_event, start_rest, timer_taken}
-use Rattle.tk_panel_jobs.specs.Calls.{calls as panel_calls}
-use Rattle.tk_panel_jobs.specs.Course.{bound_ended, course as panel_course, ended_by, look, looked_of}
-use Rattle.tk_panel_jobs.specs.Laws.{meaning as panel_meaning}
-use Rattle.tk_panel_jobs.specs.Rests.{has_settled, home_settles, rest_settles, settles_last}
-use Rattle.tk_panel_jobs.proofs.Drained.{drained_leaves, layout_leaves}
-use Rattle.tk_panel_jobs.proofs.Settled.{rests}
+use Rattle.tk_commands.specs.Calls.{calls as panel_calls}
+use Rattle.tk_commands.specs.Course.{bound_ended, course as panel_course, ended_by, look, looked_of}
+use Rattle.tk_commands.specs.Laws.{meaning as panel_meaning}
+use Rattle.tk_commands.specs.Rests.{has_settled, home_settles, rest_settles, settles_last}
+use Rattle.tk_commands.proofs.Drained.{drained_leaves, layout_leaves}
+use Rattle.tk_commands.proofs.Settled.{rests}
 use Rattle.tk_app.specs.Outside.{course}
 
 -- ── what comes next of a job that settles ──

@@ -5,14 +5,14 @@ use Rattle.tcl_control.specs.declared.code.Code.TheVariants.{Normal}
 use Rattle.tcl_interp.specs.Evaluation.{State, Outcome, Ended, OutOfSteps, and_then}
 use Rattle.tcl_interp.specs.Scripts.{script_meaning, task_meaning}
 use Rattle.tcl_interp.specs.Finish.{waits_meaning}
-use Rattle.tcl_jobs.specs.declared.job.Task.TheVariants as task
-use Rattle.tcl_jobs.specs.Laws.{runs}
-use Rattle.tcl_jobs.specs.Meaning.{looked}
-use Rattle.tcl_jobs.proofs.Unrolled as jobs
+use Rattle.tcl_interp.specs.declared.job.Task.TheVariants as task
+use Rattle.tcl_interp.specs.JobLaws.{runs}
+use Rattle.tcl_interp.specs.Meaning.{looked}
+use Rattle.tcl_interp.proofs.Unrolled as jobs
 use Rattle.tk_panel.specs.declared.job.Job.{Job}
 use Rattle.tk_panel.specs.Next.{next}
 use Rattle.tk_panel.specs.Settle.{Next}
-use Rattle.tk_panel_jobs.specs.Course.{looked_of}
+use Rattle.tk_commands.specs.Course.{looked_of}
 use Rattle.tk_app.specs.declared.state.AppState.{AppState}
 use Rattle.tk_app.specs.declared.state.AppState.TheVariants.{Running, Exhausted, Closed}
 use Rattle.tk_app.specs.Application.{Application, fresh}

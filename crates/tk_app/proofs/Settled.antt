@@ -10,24 +10,24 @@ use Rattle.tcl_control.specs.declared.code.Code.TheVariants.{Normal}
 use Rattle.tcl_interp.specs.Evaluation.{State, Outcome, Ended, OutOfSteps, and_then}
 use Rattle.tcl_interp.specs.declared.tasks.Act.{Act}
 use Rattle.tcl_interp.specs.Scripts.{out_of_global}
-use Rattle.tcl_jobs.specs.declared.job.Looked.{Looked}
-use Rattle.tcl_jobs.specs.declared.job.Looked.TheVariants.{Ends}
-use Rattle.tcl_jobs.specs.declared.job.Task.{Task}
-use Rattle.tcl_jobs.specs.declared.job.Task.TheVariants as task
-use Rattle.tcl_jobs.specs.Laws.{EndsBelow, LookedLast}
-use Rattle.tcl_jobs.proofs.Ends.{ends_looked, steps_fall}
-use Rattle.tcl_unchanged.specs.Leaves.{EndsWith, Leaves}
-use Rattle.tcl_unchanged.proofs.Same.{task_leaves}
+use Rattle.tcl_interp.specs.declared.job.Looked.{Looked}
+use Rattle.tcl_interp.specs.declared.job.Looked.TheVariants.{Ends}
+use Rattle.tcl_interp.specs.declared.job.Task.{Task}
+use Rattle.tcl_interp.specs.declared.job.Task.TheVariants as task
+use Rattle.tcl_interp.specs.JobLaws.{EndsBelow, LookedLast}
+use Rattle.tcl_interp.proofs.Ends.{ends_looked, steps_fall}
+use Rattle.tcl_interp.specs.Leaves.{EndsWith, Leaves}
+use Rattle.tcl_interp.proofs.LeavesSame.{task_leaves}
 use Rattle.tk_after.specs.declared.entry.Entry.{Entry}
 use Rattle.tk_after.specs.Timers.{due_moments, idle_ids, least}
-use Rattle.tk_turns.specs.Stages.{IsPast}
+use Rattle.tk_app.specs.Stages.{IsPast}
 use Rattle.tk_panel.specs.declared.job.Job.{Job}
 use Rattle.tk_panel.specs.Next.{next}
 use Rattle.tk_panel.specs.Panel.{Panel}
 use Rattle.tk_panel.specs.Settle.{is_closed, is_due, still_waiting}
-use Rattle.tk_panel_jobs.specs.Course.{look, looked_of, with_end}
-use Rattle.tk_panel_jobs.specs.Rests.{has_settled, is_empty, settles_last}
-use Rattle.tk_panel_jobs.proofs.Settled.{due_comes}
+use Rattle.tk_commands.specs.Course.{look, looked_of, with_end}
+use Rattle.tk_commands.specs.Rests.{has_settled, is_empty, settles_last}
+use Rattle.tk_commands.proofs.Settled.{due_comes}
 use Rattle.tk_app.specs.declared.state.AppState.{AppState}
 use Rattle.tk_app.specs.declared.state.AppState.TheVariants.{Running, Exhausted, Closed}
 use Rattle.tk_app.specs.Application.{Application, next_due, next_due_as, panel_at}

@@ -3,7 +3,7 @@ use Rattle.std.proofs.Common.{◌≡◌, ℕ, ap, ◌∙◌}
 use Rattle.tcl_vars.specs.Store.{Store}
 use Rattle.tcl_interp.specs.declared.tasks.Act.{Act}
 use Rattle.tcl_interp.specs.Outside.{Told}
-use Rattle.tcl_jobs.specs.declared.job.Task.{Task}
+use Rattle.tcl_interp.specs.declared.job.Task.{Task}
 use Rattle.tk_panel.specs.declared.job.Job.{Job}
 use Rattle.tk_panel.specs.Panel.{Panel}
 use Rattle.tk_app.specs.Outside.{Does, by_panel, of_panel}

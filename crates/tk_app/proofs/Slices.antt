@@ -11,7 +11,7 @@ use Rattle.tcl_interp.specs.declared.interp.SliceEnd.TheVariants as slice
 use Rattle.tcl_interp.specs.Interp.{IsRunning, context_of, left_of, rest_of, state_of}
 use Rattle.tcl_interp.proofs.Bounds.{Within}
 use Rattle.tcl_interp.proofs.Finishing.{within_finish}
-use Rattle.tcl_jobs.specs.declared.job.Task.{Task}
+use Rattle.tcl_interp.specs.declared.job.Task.{Task}
 use Rattle.tk_panel.specs.declared.job.Job.{Job}
 use Rattle.tk_panel.specs.Panel.{Panel}
 use Rattle.tk_app.specs.declared.runner.Progress.{Progress}

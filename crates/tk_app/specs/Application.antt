@@ -11,7 +11,7 @@ use Rattle.tk_virtual.specs.declared.pair.Pair.{Pair}
 use Rattle.tk_panel.specs.declared.transcript.Line.{Line}
 use Rattle.tk_panel.specs.Fresh.{fresh as fresh_panel}
 use Rattle.tk_panel.specs.Panel.{Panel}
-use Rattle.tk_app.specs.declared.budget.Budget.{Budget}
+use Rattle.tk_base.specs.declared.budget.Budget.{Budget}
 use Rattle.tk_app.specs.declared.state.AppState.{AppState}
 use Rattle.tk_app.specs.declared.state.AppState.TheVariants.{Running, Exhausted, Closed}
 use Rattle.tk_app.specs.Names.{command_names}

@@ -4,8 +4,12 @@ pub mod Dues
 pub mod Names
 pub mod Outside
 pub mod Part
+pub mod Passing
+pub mod Rounds
 pub mod Section
 pub mod Seen
 pub mod Settle
+pub mod Shares
 pub mod Spec
+pub mod Stages
 pub mod Turns

@@ -5,14 +5,14 @@ use Rattle.tcl_control.specs.declared.code.Code.TheVariants.{Normal, Error}
 use Rattle.tcl_interp.specs.declared.tasks.Act.{Act}
 use Rattle.tcl_interp.specs.declared.tasks.Act.TheVariants.{Done}
 use Rattle.tcl_interp.specs.Outside.{Outside, Told}
-use Rattle.tcl_jobs.specs.declared.job.Task.{Task}
-use Rattle.tcl_jobs.specs.Course.{Course}
-use Rattle.tcl_jobs.specs.Tasks.{outside_of}
+use Rattle.tcl_interp.specs.declared.job.Task.{Task}
+use Rattle.tcl_interp.specs.Course.{Course}
+use Rattle.tcl_interp.specs.Tasks.{outside_of}
 use Rattle.tk_alias.specs.Replies.{Answer}
 use Rattle.tk_panel.specs.declared.job.Job.{Job}
 use Rattle.tk_panel.specs.Panel.{Panel}
-use Rattle.tk_panel_jobs.specs.Calls.{calls as panel_calls}
-use Rattle.tk_panel_jobs.specs.Course.{ended as panel_ended, look as panel_look, started as panel_started}
+use Rattle.tk_commands.specs.Calls.{calls as panel_calls}
+use Rattle.tk_commands.specs.Course.{ended as panel_ended, look as panel_look, started as panel_started}
 use Rattle.tk_app.specs.Seen.{Meaning, Seen, served_by, with_panel}
 
 -- ── jobs ──

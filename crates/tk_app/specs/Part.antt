@@ -3,14 +3,14 @@ use Rattle.std.specs.Prelude.{◌≡◌, ℕ, ◌+◌, ◌-◌, min, Bool, true,
 use Rattle.tcl_control.specs.declared.code.Code.TheVariants.{Normal}
 use Rattle.tcl_interp.specs.Evaluation.{State, Outcome, Ended, OutOfSteps}
 use Rattle.tcl_interp.specs.Finish.{Doing, Resumes, Waiting, RestToDo, Running as RestRunning, Idle, Spent, Broken, finish}
-use Rattle.tcl_jobs.specs.declared.job.Task.{Task}
-use Rattle.tcl_jobs.specs.declared.job.Task.TheVariants as task
-use Rattle.tk_input.specs.declared.event.LocalEvent.{LocalEvent}
+use Rattle.tcl_interp.specs.declared.job.Task.{Task}
+use Rattle.tcl_interp.specs.declared.job.Task.TheVariants as task
+use Rattle.tk_keys.specs.declared.local_event.LocalEvent.{LocalEvent}
 use Rattle.tk_panel.specs.declared.job.Job.{Job}
 use Rattle.tk_panel.specs.Deliver.{delivered as delivered_panel}
 use Rattle.tk_panel.specs.Panel.{Panel}
 use Rattle.tk_panel.specs.Settle.{is_closed}
-use Rattle.tk_app.specs.declared.budget.Budget.{Budget}
+use Rattle.tk_base.specs.declared.budget.Budget.{Budget}
 use Rattle.tk_app.specs.declared.state.AppState.{AppState}
 use Rattle.tk_app.specs.declared.state.AppState.TheVariants.{Running, Exhausted, Closed}
 use Rattle.tk_app.specs.Application.{Application, fresh, panel_at, with_panel}

@@ -2,9 +2,9 @@
 use Rattle.std.specs.Prelude.{ℕ, List, ◌++◌, codes, flat_map}
 use Rattle.tk_panel.specs.declared.transcript.Line.{Line}
 use Rattle.tk_panel.specs.Transcript.{stream_name}
-use Rattle.tk_section.specs.Fields.{escaped, field}
-use Rattle.tk_section.specs.Timers.{timer_lines}
-use Rattle.tk_section.specs.Tree.{tree_lines}
+use Rattle.tk_screen.specs.Fields.{escaped, field}
+use Rattle.tk_screen.specs.Timers.{timer_lines}
+use Rattle.tk_screen.specs.Tree.{tree_lines}
 use Rattle.tk_app.specs.declared.state.AppState.{AppState}
 use Rattle.tk_app.specs.declared.state.AppState.TheVariants.{Running, Exhausted, Closed}
 use Rattle.tk_app.specs.Application.{Application}

@@ -5,7 +5,7 @@ use Rattle.tcl_control.specs.declared.code.Code.TheVariants.{Normal}
 use Rattle.tcl_interp.specs.Evaluation.{State, Outcome, Ended, and_then, with_step}
 use Rattle.tcl_interp.specs.Plans.{run_at}
 use Rattle.tcl_interp.specs.Scripts.{out_of_global, script_meaning}
-use Rattle.tcl_jobs.specs.Meaning.{job_meaning}
+use Rattle.tcl_interp.specs.Meaning.{job_meaning}
 use Rattle.tk_panel.specs.declared.job.Home.TheVariants.{Settle}
 use Rattle.tk_panel.specs.declared.job.Job.{Job}
 use Rattle.tk_panel.specs.declared.job.Rest.TheVariants.{Rounds}
@@ -13,7 +13,7 @@ use Rattle.tk_panel.specs.Next.{next}
 use Rattle.tk_panel.specs.Panel.{Panel}
 use Rattle.tk_panel.specs.Settle.{Next}
 use Rattle.tk_panel.specs.Start.{alone, start}
-use Rattle.tk_panel_jobs.specs.Course.{ended, with_end}
+use Rattle.tk_commands.specs.Course.{ended, with_end}
 use Rattle.tk_app.specs.Outside.{calls, course, outside}
 use Rattle.tk_app.specs.Seen.{Seen, with_panel}
 use Rattle.tcl_text.specs.Limits.{most_running}

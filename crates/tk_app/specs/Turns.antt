@@ -6,16 +6,16 @@ use Rattle.tcl_interp.specs.declared.interp.SliceEnd.TheVariants as slice
 use Rattle.tcl_interp.specs.Finish.{RestToDo, Idle, Spent, Broken}
 use Rattle.tcl_interp.specs.Interp.{IsRunning}
 use Rattle.tcl_control.specs.Table.{NamedCommands, first_commands}
-use Rattle.tcl_jobs.specs.declared.job.Task.{Task}
-use Rattle.tcl_jobs.specs.declared.job.Task.TheVariants as task
-use Rattle.tk_input.specs.declared.event.LocalEvent.{LocalEvent}
+use Rattle.tcl_interp.specs.declared.job.Task.{Task}
+use Rattle.tcl_interp.specs.declared.job.Task.TheVariants as task
+use Rattle.tk_keys.specs.declared.local_event.LocalEvent.{LocalEvent}
 use Rattle.tk_panel.specs.declared.job.Job.{Job}
 use Rattle.tk_panel.specs.declared.tables.Tables.{Tables}
 use Rattle.tk_panel.specs.Fresh.{nothing}
 use Rattle.tk_panel.specs.Panel.{Panel, panel_of}
-use Rattle.tk_turns.specs.declared.turn.Turn.{Turn}
-use Rattle.tk_turns.specs.Rounds.{entry}
-use Rattle.tk_app.specs.declared.budget.Budget.{Budget}
+use Rattle.tk_app.specs.declared.turns.Turn.{Turn}
+use Rattle.tk_app.specs.Rounds.{entry}
+use Rattle.tk_base.specs.declared.budget.Budget.{Budget}
 use Rattle.tk_app.specs.declared.runner.Progress.{Progress}
 use Rattle.tk_app.specs.declared.runner.Progress.TheVariants.{Resting, Going, Lost}
 use Rattle.tk_app.specs.declared.state.AppState.{AppState}

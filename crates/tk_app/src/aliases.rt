@@ -6,14 +6,13 @@ ghost use Rattle.tk_app.specs.Seen.{meanings, names_of, served_by};
 
 use crate::names::panel_names;
 use std::alloc::{AllocError, Global};
-use tcl_interp::{Act, Code};
-use tcl_jobs::Task;
+use tcl_interp::{Act, Code, Task};
 use tcl_text::Text;
-use tk_alias::{Alias, AliasMeaning, AliasReply, Aliases};
+use tk_alias::{Alias, AliasReply, AliasService, Aliases};
 use tk_panel::Job;
 
 /// Adds the names of aliases.
-fn push_names<M: AliasMeaning>(
+fn push_names<M: AliasService>(
     names: &mut Vec<Text>,
     aliases: &[Alias<M>],
 ) -> Result<(), AllocError>
@@ -27,7 +26,7 @@ fn push_names<M: AliasMeaning>(
 }
 
 /// The names of the commands that an application with these aliases calls outside the interpreter.
-pub fn command_names<M: AliasMeaning>(
+pub fn command_names<M: AliasService>(
     alloc: Global,
     aliases: &Aliases<M>,
 ) -> Result<Vec<Text>, AllocError>
@@ -39,14 +38,13 @@ pub fn command_names<M: AliasMeaning>(
 }
 
 /// What an alias answers to the words behind its name.
-fn reply<M: AliasMeaning>(
-    alloc: Global,
+fn reply<M: AliasService>(
     alias: &Alias<M>,
     arguments: &[Text],
 ) -> Result<Act<Task<Job>>, AllocError>
     ensures { IfOk result (λ act. act ≡ act_of (M.answer alias.now.1 arguments.now)) }
 {
-    match alias.call(alloc, arguments) {
+    match alias.call(arguments) {
         AliasReply::Ok(text) => Ok(Act::Done(Code::Normal, text)),
         AliasReply::Err(text) => Ok(Act::Done(Code::Error, text)),
         AliasReply::NoMemory => Err(AllocError),
@@ -54,8 +52,7 @@ fn reply<M: AliasMeaning>(
 }
 
 /// What the first alias of this name answers to the words behind it, where there is one.
-fn named<M: AliasMeaning>(
-    alloc: Global,
+fn named<M: AliasService>(
     aliases: &[Alias<M>],
     name: &Text,
     arguments: &[Text],
@@ -65,7 +62,7 @@ fn named<M: AliasMeaning>(
     let mut rest = aliases;
     while let [alias, others @ ..] = rest {
         if alias.name().as_str() == name.as_str() {
-            let act = reply(alloc, alias, arguments)?;
+            let act = reply(alias, arguments)?;
             return Ok(Some(act));
         }
         rest = others;
@@ -74,8 +71,7 @@ fn named<M: AliasMeaning>(
 }
 
 /// What the alias of a command's name answers, where there is one (interp(n), alias).
-pub fn served<M: AliasMeaning>(
-    alloc: Global,
+pub fn served<M: AliasService>(
     aliases: &Aliases<M>,
     words: &[Text],
 ) -> Result<Option<Act<Task<Job>>>, AllocError>
@@ -84,6 +80,6 @@ pub fn served<M: AliasMeaning>(
     let Some((name, arguments)) = words.split_first() else {
         return Ok(None);
     };
-    let act = named(alloc, aliases.as_slice(), name, arguments)?;
+    let act = named(aliases.as_slice(), name, arguments)?;
     Ok(act)
 }

@@ -6,24 +6,23 @@ ghost use Rattle.tk_app.specs.Seen.{meanings};
 
 use crate::aliases::served;
 use std::alloc::AllocError;
-use tcl_interp::{Act, Code, Tasks};
-use tcl_jobs::{Jobs, Looked, Started, Task};
+use tcl_interp::{Act, Code, Jobs, Looked, Started, Task, Tasks};
 use tcl_text::Text;
 use tcl_vars::Scopes;
 use tcl_words::{ParseFault, Script};
-use tk_alias::{AliasMeaning, Aliases};
+use tk_alias::{AliasService, Aliases};
 use tk_panel::{Job, Tables};
 
 /// The tables, as one application sees them.
 #[derive(Drop)]
-pub struct AppTables<'a, M: AliasMeaning> {
+pub struct AppTables<'a, M: AliasService> {
     pub slot: usize,
     pub tables: &'a mut Tables,
     pub aliases: &'a Aliases<M>,
 }
 
 /// The tables as an application with these aliases sees them.
-pub fn tables_of<'a, M: AliasMeaning>(
+pub fn tables_of<'a, M: AliasService>(
     tables: &'a mut Tables,
     slot: usize,
     aliases: &'a Aliases<M>,
@@ -41,7 +40,7 @@ pub fn tables_of<'a, M: AliasMeaning>(
 }
 
 /// A command of an application with these aliases, by its name and the words behind it: an alias goes before the others.
-fn call<M: AliasMeaning>(
+fn call<M: AliasService>(
     tables: &mut Tables,
     slot: usize,
     aliases: &Aliases<M>,
@@ -53,16 +52,16 @@ fn call<M: AliasMeaning>(
         ≡ calls (record { serves = meanings M.answer aliases.now; panel = panel_of slot tables.old }) scopes.old words.now) }
     ensures others { LeavesOthers slot tables.old tables.new }
 {
-    match served(tables.alloc, aliases, words)? {
+    match served(aliases, words)? {
         Some(act) => Ok(act),
         None => {
-            let told = tk_panel_jobs::call(tables, slot, scopes, words)?;
+            let told = tk_commands::call(tables, slot, scopes, words)?;
             Ok(told)
         }
     }
 }
 
-impl<M: AliasMeaning> Jobs for AppTables<'_, M> {
+impl<M: AliasService> Jobs for AppTables<'_, M> {
     ghost use Rattle.std.specs.Prelude.{ℕ, List};
     ghost use Rattle.tk_panel.specs.Panel.{LeftAlone, left_of, panel_of};
     ghost use Rattle.tk_app.specs.Outside.{course as own_course};
@@ -81,24 +80,24 @@ impl<M: AliasMeaning> Jobs for AppTables<'_, M> {
     ghost left_alone = { λ v. (left_of v.slot v.tables.ghost_name v.tables.now, v.aliases.now) };
 
     fn look(&mut self, scopes: &Scopes, job: Job) -> Result<Looked<Job>, AllocError> {
-        let looked = tk_panel_jobs::look(self.tables, self.slot, scopes, job)?;
+        let looked = tk_commands::look(self.tables, self.slot, scopes, job)?;
         Ok(looked)
     }
 
     fn start(&mut self, _scopes: &Scopes, job: Job) -> Result<Started<Job>, AllocError> {
-        let started = tk_panel_jobs::start(self.tables, self.slot, job)?;
+        let started = tk_commands::start(self.tables, self.slot, job)?;
         Ok(started)
     }
 
     fn ended(&mut self, job: Job, code: Code, text: Text) -> Result<Job, AllocError> {
-        let next = tk_panel_jobs::ended(self.tables, self.slot, job, code, text)?;
+        let next = tk_commands::ended(self.tables, self.slot, job, code, text)?;
         Ok(next)
     }
 }
 
-impl<M: AliasMeaning> Tasks for AppTables<'_, M> {
+impl<M: AliasService> Tasks for AppTables<'_, M> {
     ghost use Rattle.std.specs.Prelude.{ℕ, List};
-    ghost use Rattle.tcl_jobs.specs.Falls.{jobs_fall};
+    ghost use Rattle.tcl_interp.specs.Falls.{jobs_fall};
     ghost use Rattle.tk_panel.specs.Panel.{LeftAlone, left_of, panel_of};
     ghost use Rattle.tk_app.specs.Outside.{calls, course, outside as own_commands};
     ghost use Rattle.tk_app.specs.Seen.{Seen, meanings};
@@ -116,7 +115,7 @@ impl<M: AliasMeaning> Tasks for AppTables<'_, M> {
     ghost left_alone = { λ v. (left_of v.slot v.tables.ghost_name v.tables.now, v.aliases.now) };
 
     fn parsed(&mut self, text: &Text) -> Result<Script, ParseFault> {
-        let script = tk_panel_jobs::parsed(self.tables, text)?;
+        let script = tk_commands::parsed(self.tables, text)?;
         Ok(script)
     }
 
@@ -133,7 +132,7 @@ impl<M: AliasMeaning> Tasks for AppTables<'_, M> {
         text: Text,
     ) -> Result<Act<Task<Job>>, AllocError> {
         let alloc = self.tables.alloc;
-        let act = tcl_jobs::resume(alloc, self, scopes, task, code, text)?;
+        let act = tcl_interp::resume(alloc, self, scopes, task, code, text)?;
         Ok(act)
     }
 

@@ -3,7 +3,6 @@
 #![tactic(auto)]
 
 mod aliases;
-mod budget;
 mod jobs;
 mod laws;
 mod names;
@@ -13,9 +12,10 @@ mod shared;
 mod size;
 mod state;
 mod turn;
+mod turn_laws;
+mod turns;
 mod view;
 
-pub use budget::Budget;
 pub use laws::{
     begins_with_script, due_takes_a_step, goes_by_next, settled_is_past, settles_from_rest,
     started_is_past,
@@ -23,8 +23,15 @@ pub use laws::{
 pub use shared::{MAX_APPLICATIONS, Shared};
 pub use size::Size;
 pub use state::{AppEnd, AppState};
-pub use tk_alias::{Alias, AliasMeaning, AliasReply, Aliases};
-pub use tk_input::{LocalEvent, LocalKind};
+pub use tk_alias::{
+    Alias, AliasCode, AliasMeaning, AliasReply, AliasService, Aliases, Closure, NoAlias,
+};
+pub use tk_base::Budget;
+pub use tk_keys::{LocalEvent, LocalKind};
 pub use tk_panel::{Line, Stream};
-pub use tk_turns::Turn;
+pub use turn_laws::{
+    alone_and_together, first_round_and_the_rest, moment_in_two_calls, stage_is_bounded,
+    stages_by_each_alone, turns_add_up, turns_in_two_calls, waits_a_round,
+};
+pub use turns::{Turn, earlier};
 pub use view::AppView;

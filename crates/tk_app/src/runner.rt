@@ -1,21 +1,20 @@
 ghost use Rattle.std.specs.Prelude.{◌≡◌};
 ghost use Rattle.tk_panel.specs.Panel.{panel_of};
 ghost use Rattle.tk_app.specs.Part.{state_after};
-ghost use Rattle.tk_app.specs.Settle.{settling};
 ghost use Rattle.tk_app.specs.Turns.{end_as, end_of};
 
 use crate::aliases::command_names;
-use crate::budget::Budget;
 use crate::state::{AppEnd, AppState};
 use crate::turn::run;
 use std::alloc::{AllocError, Global};
 use std::marker::Model;
-use tcl_interp::{Interp, SliceEnd};
-use tcl_jobs::Task;
+use tcl_interp::{Interp, SliceEnd, Task};
 use tcl_text::Text;
 use tcl_vars::Scopes;
-use tk_alias::{AliasMeaning, Aliases};
-use tk_panel::{Home, Job, Numbers, Rest, Tables, is_closed};
+use tk_alias::{AliasService, Aliases};
+use tk_base::Budget;
+use tk_commands::settling;
+use tk_panel::{Home, Job, Tables, is_closed};
 
 /// Whether something is under way.
 #[derive(Clone, Copy, Debug, PartialEq, Eq)]
@@ -29,7 +28,7 @@ pub enum Progress {
 }
 
 /// What of an application isn't in the tables: its name, its aliases, its variables, and its interpreter with what it still has to do.
-pub struct Runner<M: AliasMeaning> {
+pub struct Runner<M: AliasService> {
     name: Text,
     aliases: Aliases<M>,
     budget: Budget,
@@ -39,7 +38,7 @@ pub struct Runner<M: AliasMeaning> {
     progress: Progress,
 }
 
-impl<M: AliasMeaning> Model for Runner<M> {
+impl<M: AliasService> Model for Runner<M> {
     ghost use Rattle.std.specs.Prelude.{◌≡◌};
     ghost use Rattle.tcl_interp.specs.Interp.{budget_of, context_of, left_of, rest_of};
     ghost use Rattle.tk_app.specs.Part.{work_of};
@@ -59,19 +58,6 @@ impl<M: AliasMeaning> Model for Runner<M> {
     } };
 
     ghost invariant = { λ r. IsAsFar r.progress r.state (rest_of r.interp) × (budget_of r.interp ≡ r.budget.total) };
-}
-
-/// What is to be done at a moment, where nothing is under way.
-fn settling(alloc: Global) -> Job
-    ensures { result ≡ settling }
-{
-    Job {
-        event: None,
-        rest: Rest::Rounds {
-            round: Numbers::none(alloc),
-            home: Home::Settle,
-        },
-    }
 }
 
 /// What has become of an application that ran, once nothing is under way: it is closed where its main window is gone.
@@ -106,7 +92,7 @@ fn end_as(state: AppState) -> AppEnd
     }
 }
 
-impl<M: AliasMeaning> Runner<M> {
+impl<M: AliasService> Runner<M> {
     ghost use Rattle.std.specs.Prelude.{◌≡◌, ◌≢◌, ◌<◌, ◌≤◌, ◌↔◌, ◌⊎◌, IfOk, IsTrue, OnErr, OnOk};
     ghost use Rattle.tk_panel.specs.Panel.{others_of, panel_of};
     ghost use Rattle.tk_app.specs.declared.state.AppState.TheVariants.{Running};
@@ -127,7 +113,7 @@ impl<M: AliasMeaning> Runner<M> {
         let mut interp = Interp::new(alloc, budget.total, commands.as_slice())?;
         interp.begin_task(Task::Begins {
             script,
-            job: settling(alloc),
+            job: settling(alloc, Home::Settle),
         })?;
         Ok(Runner {
             name,
@@ -193,7 +179,8 @@ impl<M: AliasMeaning> Runner<M> {
     {
         match (self.state, self.progress) {
             (AppState::Running, Progress::Resting) => {
-                self.interp.begin_task(Task::Runs(settling(alloc)))?;
+                self.interp
+                    .begin_task(Task::Runs(settling(alloc, Home::Settle)))?;
                 self.progress = Progress::Going;
                 Ok(())
             }
@@ -265,7 +252,7 @@ impl<M: AliasMeaning> Runner<M> {
 }
 
 /// By hand: a proof sees one call where it is dropped, and not its parts.
-impl<M: AliasMeaning> Drop for Runner<M> {
+impl<M: AliasService> Drop for Runner<M> {
     fn drop(self) {
         let Runner {
             name: _,

@@ -8,9 +8,9 @@ ghost use Rattle.tk_app.specs.Turns.{application_of};
 use crate::runner::Runner;
 use crate::state::AppState;
 use std::alloc::{AllocError, Global};
-use tk_alias::AliasMeaning;
+use tk_alias::AliasService;
 use tk_panel::{Line, Tables, Written};
-use tk_section::{push_escaped, push_field, push_timers, push_tree};
+use tk_screen::{push_escaped, push_field, push_timers, push_tree};
 
 /// Adds a line of a transcript.
 fn push_transcript_line(out: &mut Vec<u8>, line: &Line) -> Result<(), AllocError>
@@ -49,7 +49,7 @@ fn push_head(out: &mut Vec<u8>, name: &str, state: AppState, steps: u64) -> Resu
 
 /// The section of an application: what it wrote, its windows, and what it has waiting.
 #[tactic(auto, unfolding(crate::specs::Section::section))]
-pub fn section<M: AliasMeaning>(
+pub fn section<M: AliasService>(
     alloc: Global,
     tables: &Tables,
     slot: usize,

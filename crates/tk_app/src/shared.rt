@@ -2,7 +2,7 @@ ghost use Rattle.std.specs.Prelude.{◌≡◌, ◌↔◌, Any, IsTrue};
 ghost use Rattle.tk_panel.specs.Panel.{panel_of};
 ghost use Rattle.tk_app.specs.Application.{next_due_as};
 
-use crate::budget::Budget;
+use crate::Turn;
 use crate::runner::Runner;
 use crate::section::section;
 use crate::size::Size;
@@ -11,23 +11,23 @@ use crate::view::AppView;
 use std::alloc::{AllocError, Global};
 use std::marker::Model;
 use tcl_text::Text;
-use tk_alias::{AliasMeaning, Aliases};
+use tk_alias::{AliasService, Aliases};
+use tk_base::Budget;
 use tk_panel::Tables;
-use tk_turns::Turn;
 
 /// How many applications there are at most.
 pub const MAX_APPLICATIONS: usize = 16;
 
 /// All applications, at one moment, in milliseconds: the tables that they have in common, and what each has by itself. An application is known by its
 /// slot, from 0 on, and each call on one goes through its view.
-pub struct Shared<M: AliasMeaning> {
+pub struct Shared<M: AliasService> {
     pub(crate) tables: Tables,
     pub(crate) runners: Vec<Runner<M>>,
     pub(crate) turns: Vec<Turn>,
     pub(crate) refused: bool,
 }
 
-impl<M: AliasMeaning> Model for Shared<M> {
+impl<M: AliasService> Model for Shared<M> {
     ghost use Rattle.std.specs.Prelude.{◌≡◌, ◌≤◌, length};
     ghost use Rattle.tk_app.specs.Turns.{Applications, IsVacantFrom, parts_from};
 
@@ -38,12 +38,12 @@ impl<M: AliasMeaning> Model for Shared<M> {
     ghost invariant = { λ s. (length s.runners.items ≤ 16) × IsVacantFrom (length s.runners.items) s.tables };
 }
 
-impl<M: AliasMeaning> Shared<M> {
+impl<M: AliasService> Shared<M> {
     ghost use Rattle.std.specs.Prelude.{◌≡◌, ◌<◌, ◌≤◌, ◌↔◌, [], ◌∷◌, ◌++◌, Any, IfOk, IsTrue, OnErr, OnOk, Some, false, length, option_map, slice_get};
     ghost use Rattle.tk_app.specs.Application.{next_due};
     ghost use Rattle.tk_app.specs.Part.{added, is_under_way};
     ghost use Rattle.tk_app.specs.Section.{section};
-    ghost use Rattle.tcl_text.specs.Limits.{last_moment};
+    ghost use Rattle.tk_base.specs.Limits.{last_moment};
 
     /// No application, at moment 0.
     #[tactic(auto, unfolding(crate::specs::Turns::parts_from))]
@@ -196,14 +196,14 @@ fn next_due(tables: &Tables, slot: usize, state: AppState) -> Option<u64>
 }
 
 /// Whether one of them has this name.
-fn have_name<M: AliasMeaning>(runners: &[Runner<M>], name: &Text) -> bool
+fn have_name<M: AliasService>(runners: &[Runner<M>], name: &Text) -> bool
     ensures { IsTrue result ↔ Any (λ program. program.name ≡ name.now) runners.now }
 {
     runners.iter().any(|runner| runner.has_name(name))
 }
 
 /// By hand: a proof sees one call where it is dropped, and not its parts.
-impl<M: AliasMeaning> Drop for Shared<M> {
+impl<M: AliasService> Drop for Shared<M> {
     fn drop(self) {
         let Shared {
             tables: _,

@@ -4,26 +4,25 @@ ghost use Rattle.std.specs.Vec.{vec_capacity, vec_len};
 ghost use Rattle.tcl_interp.specs.Finish.{Broken, Idle, finish};
 ghost use Rattle.tcl_interp.specs.Interp.{LeavesRest, Reaches, budget_of, left_of, rest_of, state_of};
 ghost use Rattle.tk_panel.specs.Panel.{others_of, panel_of};
-ghost use Rattle.tk_turns.specs.Rounds.{entry};
+ghost use Rattle.tk_app.specs.Rounds.{entry};
 ghost use Rattle.tk_app.specs.Outside.{outside};
 ghost use Rattle.tk_app.specs.Part.{delivered, settling_begun};
 ghost use Rattle.tk_app.specs.Seen.{meanings};
 ghost use Rattle.tk_app.specs.Turns.{MayGet, TakesTurn, part_of};
 
+use crate::Turn;
 use crate::jobs::{AppTables, tables_of};
 use crate::runner::Runner;
 use crate::state::{AppEnd, AppState};
 use std::alloc::AllocError;
-use tcl_interp::{Interp, SliceEnd};
-use tcl_jobs::Task;
+use tcl_interp::{Interp, SliceEnd, Task};
 use tcl_vars::Scopes;
-use tk_alias::{AliasMeaning, Aliases};
-use tk_input::LocalEvent;
+use tk_alias::{AliasService, Aliases};
+use tk_keys::LocalEvent;
 use tk_panel::{Job, Tables};
-use tk_turns::Turn;
 
 /// Does what an interpreter still has to do, through the view of its application.
-fn run_view<M: AliasMeaning>(
+fn run_view<M: AliasService>(
     view: &mut AppTables<'_, M>,
     interp: &mut Interp<Task<Job>>,
     scopes: &mut Scopes,
@@ -54,7 +53,7 @@ fn run_view<M: AliasMeaning>(
 }
 
 /// Does what the interpreter of an application still has to do, over the tables.
-pub fn run<M: AliasMeaning>(
+pub fn run<M: AliasService>(
     tables: &mut Tables,
     slot: usize,
     aliases: &Aliases<M>,
@@ -98,7 +97,7 @@ fn push_turn(turns: &mut Vec<Turn>, slot: usize, steps: u64)
 }
 
 /// An application's turn: it settles, by at most so many steps, which are told.
-pub fn take_turn<M: AliasMeaning>(
+pub fn take_turn<M: AliasService>(
     tables: &mut Tables,
     slot: usize,
     runner: &mut Runner<M>,
@@ -125,7 +124,7 @@ pub fn take_turn<M: AliasMeaning>(
 }
 
 /// Gives an application that runs an event: it is granted steps, and the event is added to what it has to do.
-fn deliver_running<M: AliasMeaning>(
+fn deliver_running<M: AliasService>(
     tables: &mut Tables,
     slot: usize,
     runner: &mut Runner<M>,
@@ -148,7 +147,7 @@ fn deliver_running<M: AliasMeaning>(
 }
 
 /// Gives an application an event. One that doesn't run gets nothing.
-pub fn deliver<M: AliasMeaning>(
+pub fn deliver<M: AliasService>(
     tables: &mut Tables,
     slot: usize,
     runner: &mut Runner<M>,

@@ -4,18 +4,18 @@ use crate::shared::Shared;
 use crate::state::{AppEnd, AppState};
 use crate::turn::{deliver, take_turn};
 use std::alloc::{AllocError, Global};
-use tk_alias::AliasMeaning;
-use tk_input::LocalEvent;
+use tk_alias::AliasService;
+use tk_keys::LocalEvent;
 
 /// All applications, as one of them is called.
 #[derive(Drop)]
-pub struct AppView<'a, M: AliasMeaning> {
+pub struct AppView<'a, M: AliasService> {
     pub(crate) slot: usize,
     pub(crate) shared: &'a mut Shared<M>,
     ghost held: { slot < length shared.now.parts },
 }
 
-impl<M: AliasMeaning> AppView<'_, M> {
+impl<M: AliasService> AppView<'_, M> {
     ghost use Rattle.std.specs.Prelude.{◌≡◌, ◌<◌, IfOk, IsErr, OnErr, OnOk, Some, false, length, option_map, slice_get, true};
     ghost use Rattle.tk_app.specs.Application.{next_due};
     ghost use Rattle.tk_app.specs.Part.{is_under_way};

@@ -3,10 +3,10 @@ use Rattle.std.specs.Prelude.{◌≡◌, ℕ, List, [], ◌∷◌, Option, None,
 use Rattle.tcl_text.specs.Answers.{Answer, Gives, answers, items_in, wrong_args}
 use Rattle.tcl_text.specs.declared.commands.answers.Refusal.{Refusal}
 use Rattle.tcl_text.specs.Readings.{list_form}
-use Rattle.tk_bind_commands.specs.Words.{bad_path}
 use Rattle.tk_tree.specs.declared.window.Window.{Window}
 use Rattle.tk_tree.specs.Change.{with_tags}
 use Rattle.tk_tree.specs.Own.{Own, at_path, with_change}
+use Rattle.tk_tree.specs.Path.{bad_path}
 
 abbrev pub Told : Type 0
 Told = Own × Answer

@@ -8,10 +8,7 @@ use Rattle.tk_sequences.specs.FaultTexts as sequence_faults
 use Rattle.tk_tree.specs.Own.{Own}
 use Rattle.tk_virtual.specs.declared.fault.VirtualFault.{VirtualFault}
 use Rattle.tk_virtual.specs.FaultTexts as virtual_faults
-
--- no window has this path (24)
-abbrev pub bad_path : {T : Type 0} → List ℕ → Result T (List ℕ)
-bad_path word = fails (codes "bad window path name " ++ quoted word)
+use Rattle.tk_tree.specs.Path.{bad_path}
 
 -- a binding tag that is a path must be a window's
 abbrev pub tag_or_error : Own → List ℕ → Result (List ℕ) (List ℕ)
@@ -26,7 +23,3 @@ or_sequence_fault (Err fault) = fails (sequence_faults.fault_text fault)
 abbrev pub or_virtual_fault : {T : Type 0} → Result T VirtualFault → Result T (List ℕ)
 or_virtual_fault (Ok value) = Ok value
 or_virtual_fault (Err fault) = fails (virtual_faults.fault_text fault)
-
--- an answer is what a step gave or refused
-abbrev pub IsAnswerOf : Result (List ℕ) Refusal → Answer → Type 0
-IsAnswerOf given answer = (wanted : Answer) → Gives given wanted → answer ≡ wanted

@@ -13,33 +13,8 @@ use tcl_text::answers::{Refusal, quoting_error};
 use tcl_text::message::Answer;
 use tk_dispatch::is_live;
 use tk_sequences::{Sequence, SequenceFault};
-use tk_tree::Windows;
+use tk_tree::{Windows, bad_path};
 use tk_virtual::VirtualFault;
-
-/// What a step gave or refused, as the answer.
-pub fn answered(given: Result<Text, Refusal>) -> Result<Answer, AllocError>
-    ensures { IfOk result (λ answer. words_of.IsAnswerOf given answer) }
-{
-    match given {
-        Ok(text) => Ok(Ok(text)),
-        Err(Refusal::Error(text)) => Ok(Err(text)),
-        Err(Refusal::NoMemory) => Err(AllocError),
-    }
-}
-
-/// The empty text.
-pub fn nothing(alloc: Global) -> Result<Text, AllocError>
-    ensures { IfOk result (λ text. text ≡ []) }
-{
-    Text::of_short(alloc, "")
-}
-
-/// The error for a path that no window has (24).
-pub fn bad_path<T>(alloc: Global, path: &Text) -> Result<T, Refusal>
-    ensures { Gives result (words_of.bad_path path.now) }
-{
-    Err(quoting_error(alloc, "bad window path name ", path.as_str()))
-}
 
 /// Tests a binding tag: where it is a path, it must be a window's (24).
 pub fn test_tag(alloc: Global, windows: &Windows, slot: usize, tag: &Text) -> Result<Text, Refusal>

@@ -7,9 +7,9 @@ ghost use Rattle.tk_patterns.specs.Own.{LeavesAll, LeavesOthers, own_of, script_
 ghost use Rattle.tk_sequences.specs.Writing.{canonical};
 ghost use Rattle.tk_tree.specs.Own as windows_of;
 
-use crate::answers::{answered, nothing, sequence_in, test_tag};
+use crate::answers::{sequence_in, test_tag};
 use std::alloc::{AllocError, Global};
-use tcl_text::answers::{Refusal, copy_answer, text_answer, wrong_args};
+use tcl_text::answers::{Refusal, answered, copy_answer, text_answer, wrong_args};
 use tcl_text::items::list_answer;
 use tcl_text::message::Answer;
 use tcl_text::{Text, TextList};
@@ -175,7 +175,7 @@ fn script_told(
 {
     match bindings.script(slot, tag, sequence) {
         Some(script) => script.copy(),
-        None => nothing(alloc),
+        None => Ok(Text::empty()),
     }
 }
 
@@ -293,7 +293,7 @@ fn put(
     ensures others { LeavesOthers slot bindings.old bindings.new }
     ensures err { OnErr result (LeavesAll bindings.old bindings.new) }
 {
-    let done = nothing(alloc)?;
+    let done = Text::empty();
     if is_empty(script.as_str()) {
         bindings.unbind(slot, tag.as_str(), &sequence);
         return Ok(Ok(done));

@@ -4,14 +4,13 @@ ghost use Rattle.tcl_text.specs.Answers.{Gives};
 ghost use Rattle.tk_bind_commands.specs.Bindtags as spec;
 ghost use Rattle.tk_tree.specs.Own.{LeavesOthers, at_path, own_of, window_at};
 
-use crate::answers::{answered, bad_path, nothing};
 use std::alloc::{AllocError, Global};
-use tcl_text::answers::{Refusal, wrong_args};
+use tcl_text::answers::{Refusal, answered, wrong_args};
 use tcl_text::items::{items_in, list_answer};
 use tcl_text::message::Answer;
 use tcl_text::{Text, TextList};
 use tk_base::Win;
-use tk_tree::Windows;
+use tk_tree::{Windows, bad_path};
 
 /// The command `bindtags path ?list?` of bindtags(n), with the words behind its name: tells the binding tags of a window, or sets them, where
 /// an empty list restores the default. Errors are a path that no window has (24), what is no list (3), and an answer past 65,536 bytes (4);
@@ -79,7 +78,7 @@ fn set_items(
 {
     match items {
         Ok(tags) => {
-            let done = nothing(alloc)?;
+            let done = Text::empty();
             windows.set_tags(win, tags.as_slice())?;
             Ok(Ok(done))
         }

@@ -6,10 +6,10 @@ ghost use Rattle.tk_bind_commands.specs.Words.{or_virtual_fault};
 ghost use Rattle.tk_sequences.specs.Reading.{name_in};
 ghost use Rattle.tk_virtual.specs.Virtual.{LeavesOthers, name_or_fault, own_of};
 
-use crate::answers::{answered, nothing, virtual_refusal, virtual_refused};
+use crate::answers::{virtual_refusal, virtual_refused};
 use std::alloc::{AllocError, Global};
 use tcl_text::Text;
-use tcl_text::answers::{Refusal, bad_option, wrong_args};
+use tcl_text::answers::{Refusal, answered, bad_option, wrong_args};
 use tcl_text::items::list_answer;
 use tcl_text::message::Answer;
 use tk_sequences::VirtualName;
@@ -73,7 +73,7 @@ fn add_sequences(
     ensures others { LeavesOthers slot virtuals.old virtuals.new }
     ensures err { OnErr result (virtuals.new ≡ virtuals.old) }
 {
-    let done = nothing(alloc)?;
+    let done = Text::empty();
     match virtuals.add_all(alloc, slot, name, sequences) {
         Ok(()) => Ok(Ok(done)),
         Err(fault) => refused(alloc, &fault),
@@ -93,7 +93,7 @@ pub fn event_delete(
     ensures others { LeavesOthers slot virtuals.old virtuals.new }
     ensures err { OnErr result (virtuals.new ≡ virtuals.old) }
 {
-    let done = nothing(alloc)?;
+    let done = Text::empty();
     match words {
         [name, sequences @ ..] => {
             match virtuals.delete(alloc, slot, name, sequences) {

@@ -24,7 +24,7 @@ use Rattle.tk_screen.specs.Own.{Own}
 use Rattle.tk_screen.specs.Widgets.{widget_at}
 use Rattle.tk_widgets.specs.Classes.{has_value, invoked, relief_of}
 use Rattle.tk_widgets.specs.Commands.{options_in}
-use Rattle.tk_widgets.specs.declared.outcome.Change.TheVariants.{Configure}
+use Rattle.tk_widgets.specs.declared.outcome.WidgetChange.TheVariants.{Configure}
 use Rattle.tk_widgets.specs.declared.widget.Widget.{Widget}
 use Rattle.tk_widgets.specs.declared.widget.Widget.TheVariants.{Button}
 

@@ -2,8 +2,8 @@
 use Rattle.std.specs.Prelude.{ℕ}
 use Rattle.tk_screen.specs.Own.{Own}
 use Rattle.tk_screen.specs.Widgets.{made_at}
-use Rattle.tk_widgets.specs.declared.outcome.Change.{Change}
+use Rattle.tk_widgets.specs.declared.outcome.WidgetChange.{WidgetChange}
 
 -- a change of the widget of the window with a number
-abbrev pub with_change : ℕ → Change → Own → Own
+abbrev pub with_change : ℕ → WidgetChange → Own → Own
 with_change number change own = record own { widgets = (made_at number change own.widgets).widgets }

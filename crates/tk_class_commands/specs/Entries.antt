@@ -28,9 +28,9 @@ use Rattle.tk_screen.specs.Own.{Own}
 use Rattle.tk_screen.specs.Shapes.{variable_text}
 use Rattle.tk_screen.specs.Widgets.{widget_at}
 use Rattle.tk_widgets.specs.Classes.{columns_to, has_value}
-use Rattle.tk_widgets.specs.declared.outcome.Asked.{Asked}
-use Rattle.tk_widgets.specs.declared.outcome.Asked.TheVariants as asked
-use Rattle.tk_widgets.specs.declared.outcome.Change.TheVariants.{PutCursor}
+use Rattle.tk_widgets.specs.declared.outcome.WidgetRequest.{WidgetRequest}
+use Rattle.tk_widgets.specs.declared.outcome.WidgetRequest.TheVariants as asked
+use Rattle.tk_widgets.specs.declared.outcome.WidgetChange.TheVariants.{PutCursor}
 use Rattle.tk_widgets.specs.declared.outcome.WidgetAct.TheVariants.{Answer}
 use Rattle.tk_widgets.specs.declared.widget.EntryWidget.{EntryWidget}
 use Rattle.tk_widgets.specs.declared.widget.Widget.{Widget}
@@ -55,7 +55,7 @@ wanted (key.Type new) text entry = typed new text entry
 wanted key.Backspace text entry = backspaced text entry
 wanted key.Delete text entry = deleted_behind text entry
 
-abbrev pub asked_of : EntryKey → Widget → Store → Asked
+abbrev pub asked_of : EntryKey → Widget → Store → WidgetRequest
 asked_of key (Entry entry) store = asked_by (wanted key (variable_text (Entry entry) store) entry)
 asked_of key widget store = asked.Done (Answer [])
 
@@ -72,7 +72,7 @@ abbrev pub told_of : Changed → Edited
 told_of there = edit_told there.own there.store (outcome_of there.act)
 
 -- an edit sets the variable that the entry shows; where that can't be set, its error is told, and nothing is changed
-abbrev pub edited_as : ℕ → Own → Store → Asked → Edited
+abbrev pub edited_as : ℕ → Own → Store → WidgetRequest → Edited
 edited_as number own store (asked.Done act) = edit_told own store (outcome_of (Some act))
 edited_as number own store (asked.Wants change) = told_of (changed number change own store)
 

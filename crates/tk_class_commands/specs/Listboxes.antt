@@ -21,8 +21,8 @@ use Rattle.tk_listbox.specs.declared.choice.Choice.{Choice}
 use Rattle.tk_listbox.specs.declared.choice.Choice.TheVariants.{Alone, Toggle}
 use Rattle.tk_screen.specs.Own.{Own}
 use Rattle.tk_screen.specs.Widgets.{widget_at}
-use Rattle.tk_widgets.specs.declared.listbox_keys.Step.{Step}
-use Rattle.tk_widgets.specs.declared.outcome.Change.TheVariants.{Activate, Select}
+use Rattle.tk_widgets.specs.declared.listbox_keys.RowStep.{RowStep}
+use Rattle.tk_widgets.specs.declared.outcome.WidgetChange.TheVariants.{Activate, Select}
 use Rattle.tk_widgets.specs.declared.widget.ListboxWidget.{ListboxWidget}
 use Rattle.tk_widgets.specs.declared.widget.Widget.{Widget}
 use Rattle.tk_widgets.specs.declared.widget.Widget.TheVariants.{Listbox}
@@ -67,7 +67,7 @@ dragged y listbox =
     else effect (row_of y listbox) (Some (Alone (row_of y listbox)))
 
 -- a step from the active item, where there is another: that one; in the mode `browse` it is the selection
-abbrev pub stepped : Step → ListboxWidget → Option Effect
+abbrev pub stepped : RowStep → ListboxWidget → Option Effect
 stepped step listbox =
     if place_after step listbox.listbox == listbox.listbox.active then None
     else effect (place_after step listbox.listbox) (if has_mode (codes "browse") listbox then Some (Alone (place_after step listbox.listbox)) else None)
@@ -80,7 +80,7 @@ chosen listbox =
 abbrev pub effect_on : ListboxAsk → ListboxWidget → Option Effect
 effect_on (ask.Press y) listbox = pressed y listbox
 effect_on (ask.Drag y) listbox = dragged y listbox
-effect_on (ask.Step step) listbox = stepped step listbox
+effect_on (ask.RowStep step) listbox = stepped step listbox
 effect_on ask.Choose listbox = chosen listbox
 
 abbrev pub effect_of : ListboxAsk → Option Widget → Option Effect
@@ -93,7 +93,7 @@ effect_at number ask own = effect_of ask (widget_at number own.widgets)
 abbrev pub is_press : ListboxAsk → Bool
 is_press (ask.Press y) = true
 is_press (ask.Drag y) = false
-is_press (ask.Step step) = false
+is_press (ask.RowStep step) = false
 is_press ask.Choose = false
 
 abbrev pub with_choice : ℕ → Option Choice → Own → Own
@@ -136,18 +136,18 @@ drag_in (path ∷ word ∷ []) own = do
   Ok (request number (ask.Drag y))
 drag_in _ own = wrong_args (codes "tk::ListboxDrag %W %y")
 
-abbrev pub step_or_error : List ℕ → Option Step → Result Step (List ℕ)
+abbrev pub step_or_error : List ℕ → Option RowStep → Result RowStep (List ℕ)
 step_or_error word (Some step) = Ok step
 step_or_error word None = bad_option word
 
-abbrev pub step_in : List ℕ → Result Step (List ℕ)
+abbrev pub step_in : List ℕ → Result RowStep (List ℕ)
 step_in word = step_or_error word (step_named word)
 
 abbrev pub move_in : List (List ℕ) → Own → Result ListboxRequest (List ℕ)
 move_in (path ∷ word ∷ []) own = do
   number ← number_of ListboxKind path own
   step ← step_in word
-  Ok (request number (ask.Step step))
+  Ok (request number (ask.RowStep step))
 move_in _ own = wrong_args (codes "tk::ListboxMove %W -1")
 
 abbrev pub space_in : List (List ℕ) → Own → Result ListboxRequest (List ℕ)

@@ -7,10 +7,7 @@ use Rattle.tk_base.specs.Kind.{class_of}
 use Rattle.tk_screen.specs.Own.{Own}
 use Rattle.tk_tree.specs.declared.window.Window.{Window}
 use Rattle.tk_tree.specs.Own.{at_path}
-
--- no window of the class has this path (24)
-abbrev pub bad_path : {T : Type 0} → List ℕ → Result T (List ℕ)
-bad_path path = fails (codes "bad window path name " ++ quoted path)
+use Rattle.tk_tree.specs.Path.{bad_path}
 
 abbrev pub number_in : Kind → List ℕ → Option Window → Result ℕ (List ℕ)
 number_in kind path None = bad_path path

@@ -16,7 +16,7 @@ use tk_base::{Kind, Win};
 use tk_inputs::Inputs;
 use tk_options::{OptionFault, Settings};
 use tk_screen::Screen;
-use tk_widgets::{Change, Widget};
+use tk_widgets::{Widget, WidgetChange};
 
 /// A command of the class Button.
 #[derive(Clone, Copy, Debug, PartialEq, Eq)]
@@ -161,7 +161,7 @@ fn enter(
         sink(alloc, screen, win)?;
     }
     inputs.enter(win.owner, win.number)?;
-    nothing(alloc)
+    Ok(nothing())
 }
 
 /// The pointer leaves a button: it has the relief that it had before it was pressed.
@@ -180,7 +180,7 @@ fn leave(
         restore(alloc, screen, inputs, win)?;
     }
     inputs.leave(win.owner, win.number)?;
-    nothing(alloc)
+    Ok(nothing())
 }
 
 /// A button is pressed, unless it is disabled: it is sunken, and its relief is kept.
@@ -199,7 +199,7 @@ fn down(
         sink(alloc, screen, win)?;
         inputs.press(win.owner, win.number, relief)?;
     }
-    nothing(alloc)
+    Ok(nothing())
 }
 
 /// A button is let go, if it is pressed: it has its relief again, and is invoked where the pointer is over it.
@@ -215,14 +215,14 @@ fn up(
     ensures inputs { inputs_of.LeavesOthers win.owner inputs.old inputs.new }
 {
     if !is_pressed(inputs, win) {
-        return nothing(alloc);
+        return Ok(nothing());
     }
     restore(alloc, screen, inputs, win)?;
     inputs.release(win.owner)?;
     if is_over(inputs, win) {
         return invoke(alloc, screen, win);
     }
-    nothing(alloc)
+    Ok(nothing())
 }
 
 /// What `invoke` of a button does: nothing where it is disabled, and else it runs its command.
@@ -233,10 +233,10 @@ fn invoke(alloc: Global, screen: &Screen, win: Win) -> Result<ClassOutcome, Allo
         Some(Widget::Button(button)) => {
             match button.invoke() {
                 Some(script) => Ok(ClassOutcome::Runs(script.copy()?)),
-                None => nothing(alloc),
+                None => Ok(nothing()),
             }
         }
-        _ => nothing(alloc),
+        _ => Ok(nothing()),
     }
 }
 
@@ -308,7 +308,7 @@ fn put_relief(alloc: Global, screen: &mut Screen, win: Win, relief: Text) -> Res
         return Ok(());
     };
     match relief_settings(alloc, widget, relief)? {
-        Some(all) => make(alloc, screen, win, Change::Configure(all)),
+        Some(all) => make(alloc, screen, win, WidgetChange::Configure(all)),
         None => Ok(()),
     }
 }

@@ -6,10 +6,15 @@ ghost use Rattle.tk_screen.specs.Own.{LeavesOthers, own_of};
 use std::alloc::{AllocError, Global};
 use tk_base::Win;
 use tk_screen::Screen;
-use tk_widgets::Change;
+use tk_widgets::WidgetChange;
 
 /// Makes a change of a window's widget; nothing where it has none.
-pub fn make(alloc: Global, screen: &mut Screen, win: Win, change: Change) -> Result<(), AllocError>
+pub fn make(
+    alloc: Global,
+    screen: &mut Screen,
+    win: Win,
+    change: WidgetChange,
+) -> Result<(), AllocError>
     ensures own { OnOk result (own_of win.owner screen.new ≡ with_change win.number change (own_of win.owner screen.old)) }
     ensures others { LeavesOthers win.owner screen.old screen.new }
 {

@@ -4,7 +4,7 @@ ghost use Rattle.tk_class_commands.specs.Commands as spec;
 ghost use Rattle.tk_class_commands.specs.Outcomes.{done};
 ghost use Rattle.tk_inputs.specs.Deliver.{arrivals_of};
 ghost use Rattle.tk_inputs.specs.Inputs as inputs_of;
-ghost use Rattle.tk_queue.specs.Queue as queue_of;
+ghost use Rattle.tk_dispatch.specs.Queue as queue_of;
 ghost use Rattle.tk_screen.specs.Own.{LeavesOthers, own_of};
 
 use crate::buttons::{ButtonCommand, button_command_done, button_command_named};
@@ -14,8 +14,8 @@ use crate::outcome::ClassOutcome;
 use std::alloc::{AllocError, Global};
 use tcl_text::Text;
 use tcl_vars::Scopes;
+use tk_dispatch::EventQueue;
 use tk_inputs::Inputs;
-use tk_queue::EventQueue;
 use tk_screen::Screen;
 
 /// A command that class bindings run, by the class.

@@ -5,7 +5,7 @@ ghost use Rattle.tk_class_commands.specs.Entries as spec;
 ghost use Rattle.tk_class_commands.specs.Outcomes.{done};
 ghost use Rattle.tk_inputs.specs.Deliver.{arrivals_of};
 ghost use Rattle.tk_inputs.specs.Inputs as inputs_of;
-ghost use Rattle.tk_queue.specs.Queue as queue_of;
+ghost use Rattle.tk_dispatch.specs.Queue as queue_of;
 ghost use Rattle.tk_screen.specs.Own.{LeavesOthers, own_of};
 
 use crate::entry_keys::{EntryAsk, EntryKey, entry_asked};
@@ -16,9 +16,9 @@ use tcl_text::Text;
 use tcl_text::answers::{Refusal, bad_option, wrong_args};
 use tcl_vars::Scopes;
 use tk_base::{Kind, Win};
+use tk_dispatch::EventQueue;
 use tk_entry::Move;
 use tk_inputs::Inputs;
-use tk_queue::EventQueue;
 use tk_screen::Screen;
 
 /// A command of the class Entry.

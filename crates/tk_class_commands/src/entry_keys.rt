@@ -8,7 +8,7 @@ ghost use Rattle.tk_entry.specs.Columns.{characters_within};
 ghost use Rattle.tk_entry.specs.Entries.{moved, shown};
 ghost use Rattle.tk_inputs.specs.Deliver.{arrivals_of};
 ghost use Rattle.tk_inputs.specs.Inputs as inputs_of;
-ghost use Rattle.tk_queue.specs.Queue as queue_of;
+ghost use Rattle.tk_dispatch.specs.Queue as queue_of;
 ghost use Rattle.tk_screen.specs.Own.{LeavesOthers, own_of};
 ghost use Rattle.tk_widgets.specs.Classes.{columns_to};
 ghost use Rattle.tk_widgets.specs.Outcomes.{asked_by};
@@ -19,12 +19,12 @@ use std::alloc::{AllocError, Global};
 use tcl_text::Text;
 use tcl_vars::Scopes;
 use tk_base::Win;
+use tk_dispatch::EventQueue;
 use tk_entry::{Entry, Move};
 use tk_inputs::{Inputs, set_focus};
 use tk_options::OptionName;
-use tk_queue::EventQueue;
 use tk_screen::{Screen, change_widget, variable_text};
-use tk_widgets::{Asked, Change, EntryWidget, Widget, WidgetAct};
+use tk_widgets::{EntryWidget, Widget, WidgetAct, WidgetChange, WidgetRequest};
 
 /// The width of a column, in pixels.
 const COLUMN: usize = 8;
@@ -72,7 +72,7 @@ pub fn entry_asked(
         EntryAsk::Edit(key) => edit(alloc, screen, scopes, win, key),
         EntryAsk::Move(way) => {
             move_cursor(alloc, screen, scopes, win, way)?;
-            nothing(alloc)
+            Ok(nothing())
         }
         EntryAsk::Point(x) => point(alloc, screen, inputs, queue, scopes, win, moment, x),
     }
@@ -91,13 +91,13 @@ fn edit(
     ensures others { LeavesOthers win.owner screen.old screen.new }
 {
     let Some(widget) = screen.widget(win) else {
-        return nothing(alloc);
+        return Ok(nothing());
     };
     match asked_of(alloc, widget, scopes, &key)? {
-        Asked::Done(act) => outcome_of(alloc, Some(act)),
-        Asked::Wants(change) => {
+        WidgetRequest::Done(act) => Ok(outcome_of(Some(act))),
+        WidgetRequest::Wants(change) => {
             let act = change_widget(alloc, screen, scopes, win, change)?;
-            outcome_of(alloc, act)
+            Ok(outcome_of(act))
         }
     }
 }
@@ -108,12 +108,12 @@ fn asked_of(
     widget: &Widget,
     scopes: &Scopes,
     key: &EntryKey,
-) -> Result<Asked, AllocError>
+) -> Result<WidgetRequest, AllocError>
     ensures { IfOk result (λ asked. asked ≡ spec.asked_of key.now widget.now scopes.now) }
 {
     match widget {
         Widget::Entry(entry) => key_asked(alloc, entry, variable_text(widget, scopes), key),
-        _ => Ok(Asked::Done(WidgetAct::Answer(Text::of_short(alloc, "")?))),
+        _ => Ok(WidgetRequest::Done(WidgetAct::Answer(Text::empty()))),
     }
 }
 
@@ -123,7 +123,7 @@ fn key_asked(
     entry: &EntryWidget,
     variable: Option<&Text>,
     key: &EntryKey,
-) -> Result<Asked, AllocError>
+) -> Result<WidgetRequest, AllocError>
     ensures { IfOk result (λ asked. asked ≡ asked_by (spec.wanted key.now (option_copied variable.entry) entry.now)) }
 {
     match key {
@@ -144,7 +144,7 @@ fn put_cursor(
     ensures others { LeavesOthers win.owner screen.old screen.new }
 {
     match at {
-        Some(at) => make(alloc, screen, win, Change::PutCursor(at)),
+        Some(at) => make(alloc, screen, win, WidgetChange::PutCursor(at)),
         None => Ok(()),
     }
 }
@@ -266,11 +266,11 @@ fn point(
     ensures queue { queue_of.LeavesOthers win.owner queue.old queue.new }
 {
     if is_disabled(screen, win) {
-        return nothing(alloc);
+        return Ok(nothing());
     }
     set_focus(&screen.windows, inputs, queue, win, moment)?;
     point_cursor(alloc, screen, scopes, win, x)?;
-    nothing(alloc)
+    Ok(nothing())
 }
 
 /// Whether it is an entry that takes no part in anything.

@@ -4,7 +4,7 @@ ghost use Rattle.tcl_text.specs.Answers.{Gives};
 ghost use Rattle.tk_class_commands.specs.Listboxes as spec;
 ghost use Rattle.tk_inputs.specs.Deliver.{arrivals_of};
 ghost use Rattle.tk_inputs.specs.Inputs as inputs_of;
-ghost use Rattle.tk_queue.specs.Queue as queue_of;
+ghost use Rattle.tk_dispatch.specs.Queue as queue_of;
 ghost use Rattle.tk_screen.specs.Own.{LeavesOthers, own_of};
 ghost use Rattle.tk_widgets.specs.ListboxKeys.{place_after};
 
@@ -15,11 +15,11 @@ use std::alloc::{AllocError, Global};
 use tcl_text::Text;
 use tcl_text::answers::{Refusal, bad_option, wrong_args};
 use tk_base::{Kind, Win};
+use tk_dispatch::EventQueue;
 use tk_inputs::{Inputs, set_focus};
 use tk_listbox::{Choice, Listbox};
-use tk_queue::EventQueue;
 use tk_screen::Screen;
-use tk_widgets::{Change, ListboxWidget, Step, Widget};
+use tk_widgets::{ListboxWidget, RowStep, Widget, WidgetChange};
 
 /// A command of the class Listbox.
 #[derive(Clone, Copy, Debug, PartialEq, Eq)]
@@ -39,7 +39,7 @@ pub enum ListboxCommand {
 pub enum ListboxAsk {
     Press(i64),
     Drag(i64),
-    Step(Step),
+    RowStep(RowStep),
     Choose,
 }
 
@@ -143,13 +143,13 @@ fn listbox_asked(
     ensures queue { queue_of.LeavesOthers win.owner queue.old queue.new }
 {
     let Some(effect) = effect_at(screen, win, ask) else {
-        return nothing(alloc);
+        return Ok(nothing());
     };
     if is_press(ask) {
         set_focus(&screen.windows, inputs, queue, win, moment)?;
     }
     take_effect(alloc, screen, win, effect)?;
-    outcome_of(alloc, win.number, effect)
+    Ok(outcome_of(win.number, effect))
 }
 
 /// The item becomes active, and is chosen if it is to be.
@@ -162,20 +162,20 @@ fn take_effect(
     ensures own { OnOk result (own_of win.owner screen.new ≡ spec.with_effect win.number effect (own_of win.owner screen.old)) }
     ensures others { LeavesOthers win.owner screen.old screen.new }
 {
-    make(alloc, screen, win, Change::Activate(effect.active))?;
+    make(alloc, screen, win, WidgetChange::Activate(effect.active))?;
     match effect.choice {
-        Some(choice) => make(alloc, screen, win, Change::Select(choice)),
+        Some(choice) => make(alloc, screen, win, WidgetChange::Select(choice)),
         None => Ok(()),
     }
 }
 
 /// A selection that was made or toggled is to be told.
-fn outcome_of(alloc: Global, number: u64, effect: Effect) -> Result<ClassOutcome, AllocError>
-    ensures { IfOk result (λ outcome. outcome ≡ spec.outcome_of number effect.choice) }
+fn outcome_of(number: u64, effect: Effect) -> ClassOutcome
+    ensures { result ≡ spec.outcome_of number effect.choice }
 {
     match effect.choice {
-        Some(_) => Ok(ClassOutcome::Selects(number)),
-        None => nothing(alloc),
+        Some(_) => ClassOutcome::Selects(number),
+        None => nothing(),
     }
 }
 
@@ -195,7 +195,7 @@ fn effect_on(listbox: &ListboxWidget, ask: ListboxAsk) -> Option<Effect>
     match ask {
         ListboxAsk::Press(y) => pressed(listbox, y),
         ListboxAsk::Drag(y) => dragged(listbox, y),
-        ListboxAsk::Step(step) => stepped(listbox, step),
+        ListboxAsk::RowStep(step) => stepped(listbox, step),
         ListboxAsk::Choose => chosen(listbox),
     }
 }
@@ -229,7 +229,7 @@ fn dragged(listbox: &ListboxWidget, y: i64) -> Option<Effect>
 }
 
 /// A step from the active item, where there is another; in the mode `browse` it is the selection.
-fn stepped(listbox: &ListboxWidget, step: Step) -> Option<Effect>
+fn stepped(listbox: &ListboxWidget, step: RowStep) -> Option<Effect>
     ensures { result ≡ spec.stepped step listbox.now }
 {
     let place = place_after(&listbox.listbox, step);
@@ -273,13 +273,13 @@ fn choice_of(listbox: &ListboxWidget, place: usize) -> Choice
 }
 
 /// The place a step further, or that of the active item where there is none.
-fn place_after(listbox: &Listbox, step: Step) -> usize
+fn place_after(listbox: &Listbox, step: RowStep) -> usize
     ensures { result ≡ place_after step listbox.now }
 {
     let last = listbox.size().saturating_sub(1);
     match step {
-        Step::Up => listbox.active().saturating_sub(1),
-        Step::Down => listbox.active().saturating_add(1).min(last),
+        RowStep::Up => listbox.active().saturating_sub(1),
+        RowStep::Down => listbox.active().saturating_add(1).min(last),
     }
 }
 
@@ -363,7 +363,7 @@ fn move_in(
             let step = step_in(alloc, word)?;
             Ok(ListboxRequest {
                 number,
-                ask: ListboxAsk::Step(step),
+                ask: ListboxAsk::RowStep(step),
             })
         }
         _ => wrong_args(alloc, "tk::ListboxMove %W -1"),
@@ -371,10 +371,10 @@ fn move_in(
 }
 
 /// The step that a word is.
-fn step_in(alloc: Global, word: &Text) -> Result<Step, Refusal>
+fn step_in(alloc: Global, word: &Text) -> Result<RowStep, Refusal>
     ensures { Gives result (spec.step_in word.now) }
 {
-    match Step::named(word.as_str()) {
+    match RowStep::named(word.as_str()) {
         Some(step) => Ok(step),
         None => bad_option(alloc, word),
     }

@@ -1,9 +1,8 @@
 //! What comes of a command.
-ghost use Rattle.std.specs.Prelude.{◌≡◌, [], Ok, IfOk};
+ghost use Rattle.std.specs.Prelude.{◌≡◌, [], Ok};
 ghost use Rattle.tk_class_commands.specs.Outcomes.{outcome_of};
 ghost use Rattle.tk_class_commands.specs.declared.outcome.ClassOutcome.TheVariants.{Answers};
 
-use std::alloc::{AllocError, Global};
 use tcl_text::Text;
 use tk_widgets::WidgetAct;
 
@@ -19,20 +18,20 @@ pub enum ClassOutcome {
 }
 
 /// The empty result.
-pub fn nothing(alloc: Global) -> Result<ClassOutcome, AllocError>
-    ensures { IfOk result (λ outcome. outcome ≡ Answers (Ok [])) }
+pub fn nothing() -> ClassOutcome
+    ensures { result ≡ Answers (Ok []) }
 {
-    Ok(ClassOutcome::Answers(Ok(Text::of_short(alloc, "")?)))
+    ClassOutcome::Answers(Ok(Text::empty()))
 }
 
 /// What was told of a widget; the empty result where there is none.
-pub fn outcome_of(alloc: Global, act: Option<WidgetAct>) -> Result<ClassOutcome, AllocError>
-    ensures { IfOk result (λ outcome. outcome ≡ outcome_of act) }
+pub fn outcome_of(act: Option<WidgetAct>) -> ClassOutcome
+    ensures { result ≡ outcome_of act }
 {
     match act {
-        Some(WidgetAct::Answer(text)) => Ok(ClassOutcome::Answers(Ok(text))),
-        Some(WidgetAct::Script(script)) => Ok(ClassOutcome::Runs(script)),
-        Some(WidgetAct::Fault(text)) => Ok(ClassOutcome::Answers(Err(text))),
-        None => nothing(alloc),
+        Some(WidgetAct::Answer(text)) => ClassOutcome::Answers(Ok(text)),
+        Some(WidgetAct::Script(script)) => ClassOutcome::Runs(script),
+        Some(WidgetAct::Fault(text)) => ClassOutcome::Answers(Err(text)),
+        None => nothing(),
     }
 }

@@ -11,7 +11,7 @@ use tcl_text::Text;
 use tcl_text::answers::{Refusal, not_integer, quoting_error};
 use tk_base::{Kind, Win};
 use tk_screen::Screen;
-use tk_tree::{Window, Windows};
+use tk_tree::{Window, Windows, bad_path};
 
 /// The number of the window of a path, which has to be of the class of a kind of widgets (24).
 #[tactic(auto, unfolding(crate::specs::Targets::number_of))]
@@ -50,13 +50,6 @@ fn number_in(alloc: Global, kind: Kind, path: &Text, window: &Window) -> Result<
     } else {
         bad_path(alloc, path)
     }
-}
-
-/// The error for a path that no window of the class has (24).
-fn bad_path<T>(alloc: Global, path: &Text) -> Result<T, Refusal>
-    ensures { Gives result (spec.bad_path path.now) }
-{
-    Err(quoting_error(alloc, "bad window path name ", path.as_str()))
 }
 
 /// The integer that a word is (1).

@@ -6,7 +6,7 @@ use Rattle.tcl_text.specs.Answers.{Answer, answers}
 use Rattle.tk_events.specs.declared.event.Event.{Event}
 use Rattle.tk_patterns.specs.declared.binding.Binding.{Binding}
 use Rattle.tk_patterns.specs.Winner.{Pairs, winner}
-use Rattle.tk_percent.specs.Percent.{substituted}
+use Rattle.tk_dispatch.specs.Percent.{substituted}
 use Rattle.tk_tree.specs.Own.{Own, at_path, window_at}
 use Rattle.tk_virtual.specs.declared.pair.Pair.{Pair}
 use Rattle.tk_virtual.specs.Virtual.{meanings_of}

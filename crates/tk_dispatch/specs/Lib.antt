@@ -1,3 +1,5 @@
 -- What the contracts cite.
 pub mod Dispatch
 pub mod Histories
+pub mod Percent
+pub mod Queue

@@ -5,15 +5,14 @@ ghost use Rattle.tk_patterns.specs.Own as bindings_of;
 ghost use Rattle.tk_tree.specs.Own as windows_of;
 ghost use Rattle.tk_virtual.specs.Virtual as virtuals_of;
 
+use crate::substitute;
 use crate::tag::is_live;
 use std::alloc::{AllocError, Global};
 use tcl_text::message::limit;
 use tcl_text::{Text, TextFault, TextList};
 use tk_base::Win;
 use tk_events::Event;
-use tk_history::History;
-use tk_patterns::BindTable;
-use tk_percent::substitute;
+use tk_patterns::{BindTable, History};
 use tk_tree::Windows;
 use tk_virtual::{VirtualPairs, VirtualTable};
 

@@ -5,7 +5,7 @@ use std::alloc::{AllocError, Global};
 use std::collections::HashMap;
 use std::marker::Model;
 use tk_events::Event;
-use tk_history::History;
+use tk_patterns::History;
 
 /// The last events of keys and buttons of applications, each application's apart from the others'. `owner` is an application's number
 /// everywhere; one that hasn't been named yet has had none.

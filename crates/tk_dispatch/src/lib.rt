@@ -3,11 +3,17 @@
 #![tactic(auto)]
 
 mod dispatch;
+mod field;
 mod histories;
+mod numbers;
+mod own;
+mod push;
+mod queue;
+mod substitution;
 mod tag;
 
 pub use dispatch::scripts_for;
 pub use histories::Histories;
+pub use queue::EventQueue;
+pub use substitution::substitute;
 pub use tag::is_live;
-pub use tk_percent::substitute;
-pub use tk_queue::EventQueue;

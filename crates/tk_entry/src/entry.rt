@@ -19,12 +19,12 @@ pub struct Entry {
 
 impl Entry {
     /// An empty entry.
-    pub fn new(alloc: Global) -> Result<Entry, AllocError>
-        ensures { IfOk result (λ entry. entry ≡ record { text = []; cursor = 0 }) }
+    pub fn new() -> Entry
+        ensures { result ≡ record { text = []; cursor = 0 } }
     {
-        match Text::new(alloc, "") {
-            Ok(text) => Ok(Entry { text, cursor: 0 }),
-            Err(_) => Err(AllocError),
+        Entry {
+            text: Text::empty(),
+            cursor: 0,
         }
     }
 

@@ -5,8 +5,8 @@ use Rattle.tcl_text.specs.Answers.{◌>>=◌, fails, wrong_args}
 use Rattle.tk_events.specs.declared.event.Event.{Event}
 use Rattle.tk_events.specs.declared.event.EventKind.TheVariants.{Physical, Virtual}
 use Rattle.tk_events.specs.Event.{bare_event}
-use Rattle.tk_generate.specs.declared.asked.Asked.{Asked}
-use Rattle.tk_generate.specs.declared.asked.Asked.TheVariants as asks
+use Rattle.tk_generate.specs.declared.asked.EventRequest.{EventRequest}
+use Rattle.tk_generate.specs.declared.asked.EventRequest.TheVariants as asks
 use Rattle.tk_generate.specs.declared.generate.Generated.{Generated}
 use Rattle.tk_generate.specs.declared.generate.Receiver.{Receiver}
 use Rattle.tk_generate.specs.declared.given.Given.{Given}
@@ -15,12 +15,12 @@ use Rattle.tk_generate.specs.declared.given.When.TheVariants.{Now, Tail, Head}
 use Rattle.tk_generate.specs.Asked.{asked_in, is_for_keys}
 use Rattle.tk_generate.specs.Fields.{button_for, detail_for, from_corner, key_for, place_for, root_for, state_for}
 use Rattle.tk_generate.specs.Given.{given_from, nothing_given}
-use Rattle.tk_generate.specs.Refusals.{bad_path}
 use Rattle.tk_sequences.specs.declared.pattern.Pattern.{Pattern}
 use Rattle.tk_tree.specs.declared.corner.Corner.{Corner}
 use Rattle.tk_tree.specs.declared.window.Window.{Window}
 use Rattle.tk_tree.specs.Corners.{corner}
 use Rattle.tk_tree.specs.Own.{Own, at_path, window_at}
+use Rattle.tk_tree.specs.Path.{bad_path}
 
 -- ---- who gets it
 
@@ -32,7 +32,7 @@ abbrev pub receiver_named : List ℕ → Own → Result Receiver (List ℕ)
 receiver_named path own = named_or_bad path (at_path path own)
 
 -- events of keys go to the focus window
-abbrev pub receiver_of : Asked → Option Window → Receiver → Receiver
+abbrev pub receiver_of : EventRequest → Option Window → Receiver → Receiver
 receiver_of asked focus named =
     if is_for_keys asked then option_map_or (λ window. record { number = window.number; path = window.path }) focus named else named
 
@@ -64,11 +64,11 @@ virtual_event name given receiver corner moment = record (bare_event (Virtual na
   detail = given.detail;
 }
 
-abbrev pub event_in : Asked → Given → Receiver → Corner → ℕ → Result Event (List ℕ)
+abbrev pub event_in : EventRequest → Given → Receiver → Corner → ℕ → Result Event (List ℕ)
 event_in (asks.Physical pattern) given receiver corner moment = physical_event pattern given receiver corner moment
 event_in (asks.Virtual name) given receiver corner moment = Ok (virtual_event name given receiver corner moment)
 
-abbrev pub event_for : Asked → Given → Receiver → ℕ → Own → Result Event (List ℕ)
+abbrev pub event_for : EventRequest → Given → Receiver → ℕ → Own → Result Event (List ℕ)
 event_for asked given receiver moment own = event_in asked given receiver (corner receiver.number own) moment
 
 -- ---- when it comes

@@ -7,10 +7,6 @@ use Rattle.tk_options.specs.FaultTexts.{fault_text}
 use Rattle.tk_sequences.specs.declared.fault.SequenceFault.{SequenceFault}
 use Rattle.tk_sequences.specs.FaultTexts as sequences
 
--- no window has the path
-abbrev pub bad_path : {T : Type 0} → List ℕ → Result T (List ℕ)
-bad_path path = fails (codes "bad window path name " ++ quoted path)
-
 abbrev pub option_refused : {T : Type 0} → OptionFault → Result T (List ℕ)
 option_refused fault = fails (fault_text fault)
 

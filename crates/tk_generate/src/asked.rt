@@ -12,20 +12,20 @@ use tk_sequences::{Pattern, Repetition, Sequence, SequenceFault, VirtualName};
 
 /// The event that is to be made.
 #[derive(Drop)]
-pub enum Asked {
+pub enum EventRequest {
     /// One that matches this pattern.
     Physical(Pattern),
     Virtual(VirtualName),
 }
 
-impl Asked {
+impl EventRequest {
     /// Whether a key is pressed or released.
     pub fn is_for_keys(&self) -> bool
         ensures { result ≡ is_for_keys self.now }
     {
         match self {
-            Asked::Physical(pattern) => pattern.kind.is_key(),
-            Asked::Virtual(_) => false,
+            EventRequest::Physical(pattern) => pattern.kind.is_key(),
+            EventRequest::Virtual(_) => false,
         }
     }
 }
@@ -33,11 +33,11 @@ impl Asked {
 /// The event that a text names: a virtual event, or one pattern without `Double`, `Triple` and `Quadruple`. Else the error of a bad sequence
 /// (29), or of a bad type or key (30).
 #[tactic(auto, unfolding(crate::specs::Asked::asked_in))]
-pub fn asked_in(alloc: Global, text: &Text) -> Result<Asked, Refusal>
+pub fn asked_in(alloc: Global, text: &Text) -> Result<EventRequest, Refusal>
     ensures { Gives result (asked_in text.now) }
 {
     match Sequence::parse(alloc, text) {
-        Ok(Sequence::Virtual(name)) => Ok(Asked::Virtual(name)),
+        Ok(Sequence::Virtual(name)) => Ok(EventRequest::Virtual(name)),
         Ok(Sequence::Physical(patterns)) => one_pattern(alloc, text, patterns.as_slice()),
         Err(SequenceFault::NoMemory) => Err(Refusal::NoMemory),
         Err(fault) => sequence_refused(alloc, fault),
@@ -45,11 +45,11 @@ pub fn asked_in(alloc: Global, text: &Text) -> Result<Asked, Refusal>
 }
 
 /// The pattern, if it is only one and comes once.
-fn one_pattern(alloc: Global, text: &Text, patterns: &[Pattern]) -> Result<Asked, Refusal>
+fn one_pattern(alloc: Global, text: &Text, patterns: &[Pattern]) -> Result<EventRequest, Refusal>
     ensures { Gives result (one_pattern text.now patterns.now) }
 {
     match patterns {
-        [pattern] if is_single(pattern.times) => Ok(Asked::Physical(*pattern)),
+        [pattern] if is_single(pattern.times) => Ok(EventRequest::Physical(*pattern)),
         _ => bad_sequence(alloc, text),
     }
 }
@@ -62,7 +62,7 @@ fn is_single(times: Repetition) -> bool
 }
 
 /// The error of a text that is no such pattern (29).
-fn bad_sequence(alloc: Global, text: &Text) -> Result<Asked, Refusal>
+fn bad_sequence(alloc: Global, text: &Text) -> Result<EventRequest, Refusal>
     ensures { Gives result (one_pattern text.now []) }
 {
     sequence_refused(alloc, SequenceFault::BadSequence(text.copy()?))

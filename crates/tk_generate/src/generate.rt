@@ -6,17 +6,16 @@ ghost use Rattle.tk_generate.specs.Generate as spec;
 ghost use Rattle.tk_tree.specs.Corners.{corner};
 ghost use Rattle.tk_tree.specs.Own.{at_path, own_of, window_at};
 
-use crate::asked::{Asked, asked_in};
+use crate::asked::{EventRequest, asked_in};
 use crate::fields::{button_for, detail_for, from_corner, key_for, place_for, root_for, state_for};
 use crate::given::{Given, When, given_in};
-use crate::refusals::bad_path;
 use std::alloc::{AllocError, Global};
 use tcl_text::Text;
 use tcl_text::answers::{Refusal, error, wrong_args};
 use tk_base::Win;
 use tk_events::{Event, EventKind};
 use tk_sequences::{Pattern, VirtualName};
-use tk_tree::{Corner, Windows};
+use tk_tree::{Corner, Windows, bad_path};
 
 const USAGE: &str = "event generate path pattern ?option value ..?";
 
@@ -108,7 +107,7 @@ fn receiver_named(
 
 /// The window that gets the event: of a key the focus window, if it is there, and else the one named.
 fn receiver_of(
-    asked: &Asked,
+    asked: &EventRequest,
     windows: &Windows,
     slot: usize,
     focus: u64,
@@ -136,7 +135,7 @@ fn event_for(
     alloc: Global,
     windows: &Windows,
     slot: usize,
-    asked: Asked,
+    asked: EventRequest,
     given: Given,
     receiver: Receiver,
     moment: u64,
@@ -148,10 +147,10 @@ fn event_for(
         number: receiver.number,
     });
     match asked {
-        Asked::Physical(pattern) => physical_event(
+        EventRequest::Physical(pattern) => physical_event(
             alloc, &pattern, given, receiver, corner, moment,
         ),
-        Asked::Virtual(name) => Ok(virtual_event(name, given, receiver, corner, moment)),
+        EventRequest::Virtual(name) => Ok(virtual_event(name, given, receiver, corner, moment)),
     }
 }
 

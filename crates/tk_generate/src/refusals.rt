@@ -1,22 +1,16 @@
 //! The errors of words.
 ghost use Rattle.std.specs.Prelude.{◌≡◌, ◌++◌, IfOk, codes};
 ghost use Rattle.tcl_text.specs.Answers.{Gives, Refuses, bounded, fails, quoted};
-ghost use Rattle.tk_generate.specs.Refusals.{bad_path, option_refused, or_bad_value, sequence_refused};
+ghost use Rattle.tk_generate.specs.Refusals.{option_refused, or_bad_value, sequence_refused};
 ghost use Rattle.tk_options.specs.FaultTexts.{fault_text};
 ghost use Rattle.tk_sequences.specs.FaultTexts as sequences;
+ghost use Rattle.tk_tree.specs.Path.{bad_path};
 
 use std::alloc::{AllocError, Global};
 use tcl_text::Text;
 use tcl_text::answers::{Refusal, quoting_error};
 use tk_options::OptionFault;
 use tk_sequences::SequenceFault;
-
-/// The error of a path that names no window (24).
-pub fn bad_path<T>(alloc: Global, path: &Text) -> Result<T, Refusal>
-    ensures { Gives result (bad_path path.now) }
-{
-    Err(quoting_error(alloc, "bad window path name ", path.as_str()))
-}
 
 /// The error of an option (20, 22, 23).
 pub fn option_refused<T>(alloc: Global, fault: OptionFault) -> Result<T, Refusal>

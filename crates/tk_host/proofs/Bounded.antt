@@ -4,12 +4,12 @@ use Rattle.std.specs.Prelude.{nat_eq, filter, ◌==◌, sum, sum_by, if◌then�
 use Rattle.std.specs.List.{AllByRecursion, list_any}
 use Rattle.std.proofs.lemmas.Bool.{eqb-true}
 use Rattle.std.proofs.lemmas.List.Sums.{sum_by-cons}
-use Rattle.tk_input.specs.declared.event.LocalEvent.{LocalEvent}
+use Rattle.tk_keys.specs.declared.local_event.LocalEvent.{LocalEvent}
 use Rattle.tk_route.specs.declared.delivery.Delivery.{Delivery}
 use Rattle.tk_route.specs.Routes.{events_of}
-use Rattle.tk_turns.specs.Stages.{settled_at, used_at}
-use Rattle.tk_turns.proofs.Rounds.{sum-cons}
-use Rattle.tk_turns.proofs.Shares.{steps_in_turns, sum_used}
+use Rattle.tk_app.specs.Stages.{settled_at, used_at}
+use Rattle.tk_app.proofs.Rounds.{sum-cons}
+use Rattle.tk_app.proofs.Shares.{steps_in_turns, sum_used}
 use Rattle.tk_app.specs.Application.{Application, next_due}
 use Rattle.tk_app.specs.Part.{Part, needs, settled, stage_done}
 use Rattle.tk_app.specs.Seen.{Meaning}

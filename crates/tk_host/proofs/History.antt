@@ -4,14 +4,14 @@ use Rattle.std.proofs.lemmas.List.{map-append, append-nil, append_assoc, reverse
 use Rattle.std.proofs.lemmas.Option.{slice_get-map}
 use Rattle.std.specs.Prelude.{Some, Result, Ok, Err, OnOk, option_map, slice_get}
 use Rattle.tk_base.specs.declared.rect.Rect.{Rect}
-use Rattle.tk_input.specs.declared.event.LocalEvent.{LocalEvent}
+use Rattle.tk_keys.specs.declared.local_event.LocalEvent.{LocalEvent}
 use Rattle.tk_route.specs.Lines.{Line, at, values}
 use Rattle.tk_route.specs.Routes.{events_of, routed, routes}
 use Rattle.tk_route.specs.declared.delivery.Delivery.{Delivery}
 use Rattle.tk_route.specs.declared.line.HostLine.{HostLine}
-use Rattle.tk_turns.specs.Stages.{IsPast}
-use Rattle.tk_turns.specs.declared.turn.Turn.{Turn}
-use Rattle.tk_turns.specs.Rounds.{turns_of}
+use Rattle.tk_app.specs.Stages.{IsPast}
+use Rattle.tk_app.specs.declared.turns.Turn.{Turn}
+use Rattle.tk_app.specs.Rounds.{turns_of}
 use Rattle.tk_app.specs.Application.{Application, fresh, next_due}
 use Rattle.tk_app.specs.Part.{Part, Rests, added, delivered, needs, settled, stage_done, started}
 use Rattle.tk_app.specs.Section.{section}

@@ -2,14 +2,14 @@
 use Rattle.std.proofs.Common.{◌≡◌, ℕ, ◌+◌, ◌≤◌, Bool, true, false, cond, List, [], ◌∷◌, ◌++◌, map, refl, sym, ap, ◌∙◌, subst, arith}
 use Rattle.std.specs.Prelude.{filter, nat_eq, ◌==◌}
 use Rattle.tk_base.specs.declared.rect.Rect.{Rect}
-use Rattle.tk_input.specs.declared.event.LocalEvent.{LocalEvent}
+use Rattle.tk_keys.specs.declared.local_event.LocalEvent.{LocalEvent}
 use Rattle.tk_route.specs.Lines.{Line, values}
 use Rattle.tk_route.specs.Routes.{events_of, routes}
 use Rattle.tk_route.specs.Values.{Values}
 use Rattle.tk_route.specs.declared.delivery.Delivery.{Delivery}
-use Rattle.tk_turns.specs.Rounds.{turns_of}
-use Rattle.tk_turns.specs.Stages.{IsPast, earlier, first_due}
-use Rattle.tk_turns.proofs.Stages.{both_past, past_both}
+use Rattle.tk_app.specs.Rounds.{turns_of}
+use Rattle.tk_app.specs.Stages.{IsPast, earlier, first_due}
+use Rattle.tk_app.proofs.Stages.{both_past, past_both}
 use Rattle.tk_app.specs.Application.{Application, next_due}
 use Rattle.tk_app.specs.Part.{Part, added, delivered, needs, settled, stage_done}
 use Rattle.tk_app.specs.Seen.{Meaning}

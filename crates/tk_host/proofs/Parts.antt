@@ -1,8 +1,8 @@
 -- Parts at rest, and after a stage.
 use Rattle.std.proofs.Common.{◌≡◌, ◌-◌, ℕ, Bool, true, false, List, [], ◌∷◌, ◌++◌, map, Option, Some, None, refl, sym, ap, ◌∙◌, subst}
 use Rattle.std.specs.Prelude.{nat_eq, if◌then◌else◌}
-use Rattle.tk_turns.specs.Stages.{IsPast, first_due, settled_if, settled_at, stage_at, used_at}
-use Rattle.tk_turns.proofs.Stages.{past_both}
+use Rattle.tk_app.specs.Stages.{IsPast, first_due, settled_if, settled_at, stage_at, used_at}
+use Rattle.tk_app.proofs.Stages.{past_both}
 use Rattle.tk_app.specs.Application.{Application, fresh, next_due}
 use Rattle.tk_app.specs.Part.{Part, Work, Rests, added, done_as, needs, settled, settling_begun, stage_done, started}
 use Rattle.tk_app.specs.Spec.{Spec}

@@ -1,9 +1,9 @@
 -- Applications on their way to a moment.
 use Rattle.std.proofs.Common.{◌≡◌, ℕ, ◌≤◌, ◌<◌, ◌++◌, List, [], map, Some}
 use Rattle.std.specs.Prelude.{sum_by}
-use Rattle.tk_turns.specs.Stages.{IsPast, first_due, stage_at, turns_at}
-use Rattle.tk_turns.proofs.Passing.{brought_brought}
-use Rattle.tk_turns.proofs.Stages.{all_at, all_past, brought_past, stage_lighter, told_past, told_step}
+use Rattle.tk_app.specs.Stages.{IsPast, first_due, stage_at, turns_at}
+use Rattle.tk_app.proofs.Passing.{brought_brought}
+use Rattle.tk_app.proofs.Stages.{all_at, all_past, brought_past, stage_lighter, told_past, told_step}
 use Rattle.tk_app.specs.Application.{Application, next_due}
 use Rattle.tk_app.specs.Part.{settled}
 use Rattle.tk_host.specs.Alone.{weight, passed}

@@ -2,10 +2,10 @@
 use Rattle.std.proofs.Common.{◌≡◌, ℕ, zero, suc, ◌+◌, ◌-◌, ◌≤◌, ◌<◌, ◌++◌, ◌||◌, min, Bool, true, false, List, [], ◌∷◌, length, get_or, set, map, drop, Option, Some, None, refl, sym, ap, ◌∙◌, subst, append-nil, arith}
 use Rattle.std.specs.Prelude.{slice_get, option_map, sum}
 use Rattle.std.proofs.Common.{length-set}
-use Rattle.tk_turns.specs.Rounds.{entry}
-use Rattle.tk_turns.specs.Stages.{earlier, first_due}
-use Rattle.tk_turns.proofs.Reached.{Reached, TookTurn, reached_more}
-use Rattle.tk_turns.proofs.Rounds.{sum-cons}
+use Rattle.tk_app.specs.Rounds.{entry}
+use Rattle.tk_app.specs.Stages.{earlier, first_due}
+use Rattle.tk_app.proofs.Reached.{Reached, TookTurn, reached_more}
+use Rattle.tk_app.proofs.Rounds.{sum-cons}
 use Rattle.tk_app.specs.declared.state.AppEnd.{AppEnd}
 use Rattle.tk_app.specs.declared.state.AppEnd.TheVariants.{Settled, More, Stopped}
 use Rattle.tk_app.specs.declared.state.AppState.{AppState}

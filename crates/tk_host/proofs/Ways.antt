@@ -3,9 +3,9 @@ use Rattle.std.proofs.Common.{◌≡◌, ◌≢◌, ℕ, ◌+◌, ◌≤◌, ◌
 use Rattle.std.specs.Prelude.{nat_eq, slice_get, option_map, sum_by, if◌then◌else◌}
 use Rattle.std.proofs.lemmas.Bool.{eqb-true}
 use Rattle.std.proofs.lemmas.List.Edits.{map_over_more}
-use Rattle.tk_turns.specs.Rounds.{turns_of}
-use Rattle.tk_turns.specs.Stages.{IsPast, first_due, stage_at, turns_at}
-use Rattle.tk_turns.proofs.Stages.{IsFrom, stage_past}
+use Rattle.tk_app.specs.Rounds.{turns_of}
+use Rattle.tk_app.specs.Stages.{IsPast, first_due, stage_at, turns_at}
+use Rattle.tk_app.proofs.Stages.{IsFrom, stage_past}
 use Rattle.tk_app.specs.Application.{Application, next_due}
 use Rattle.tk_app.specs.Part.{Part, needs, settled, settling_begun, stage_done}
 use Rattle.tk_app.specs.Turns.{Applications, BeginsIn}

@@ -1,7 +1,7 @@
 -- What becomes of an application, whatever else there is.
 use Rattle.std.specs.Prelude.{ℕ, suc, List, [], ◌∷◌}
-use Rattle.tk_input.specs.declared.event.LocalEvent.{LocalEvent}
-use Rattle.tk_turns.specs.Passing.{brought}
+use Rattle.tk_keys.specs.declared.local_event.LocalEvent.{LocalEvent}
+use Rattle.tk_app.specs.Passing.{brought}
 use Rattle.tk_app.specs.declared.state.AppState.{AppState}
 use Rattle.tk_app.specs.declared.state.AppState.TheVariants.{Running, Exhausted, Closed}
 use Rattle.tk_app.specs.Application.{Application, fresh, next_due}

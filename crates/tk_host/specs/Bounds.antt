@@ -1,12 +1,12 @@
 -- How many steps a stage takes at most.
 use Rattle.std.specs.Prelude.{ℕ, ◌+◌, ◌-◌, ◌≤◌, List, [], ◌∷◌, length, sum_by}
 use Rattle.std.specs.List.{AllByRecursion}
-use Rattle.tk_input.specs.declared.event.LocalEvent.{LocalEvent}
+use Rattle.tk_keys.specs.declared.local_event.LocalEvent.{LocalEvent}
 use Rattle.tk_route.specs.declared.delivery.Delivery.{Delivery}
 use Rattle.tk_route.specs.Routes.{events_of}
-use Rattle.tk_turns.specs.Rounds.{turns_of}
-use Rattle.tk_turns.specs.Shares.{steps_in}
-use Rattle.tk_turns.specs.Stages.{turns_at}
+use Rattle.tk_app.specs.Rounds.{turns_of}
+use Rattle.tk_app.specs.Shares.{steps_in}
+use Rattle.tk_app.specs.Stages.{turns_at}
 use Rattle.tk_app.specs.Application.{Application, next_due}
 use Rattle.tk_app.specs.Part.{Part, delivered, settled}
 use Rattle.tk_app.specs.Seen.{Meaning}

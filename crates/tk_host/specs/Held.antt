@@ -1,13 +1,13 @@
 -- What a host holds, and what it holds after a list of calls.
 use Rattle.std.specs.Prelude.{ℕ, ◌+◌, List, [], ◌∷◌, ◌++◌, map}
 use Rattle.tk_base.specs.declared.rect.Rect.{Rect}
-use Rattle.tk_input.specs.declared.event.LocalEvent.{LocalEvent}
+use Rattle.tk_keys.specs.declared.local_event.LocalEvent.{LocalEvent}
 use Rattle.tk_route.specs.Lines.{Line, at, values}
 use Rattle.tk_route.specs.Routes.{routed, routes}
 use Rattle.tk_route.specs.Values.{Values}
 use Rattle.tk_route.specs.declared.line.HostLine.{HostLine}
-use Rattle.tk_turns.specs.declared.turn.Turn.{Turn}
-use Rattle.tk_turns.specs.Rounds.{turns_of}
+use Rattle.tk_app.specs.declared.turns.Turn.{Turn}
+use Rattle.tk_app.specs.Rounds.{turns_of}
 use Rattle.tk_app.specs.Application.{Application, fresh}
 use Rattle.tk_app.specs.Part.{Part, Work, Rests, added, stage_done}
 use Rattle.tk_app.specs.Seen.{Meaning}

@@ -4,7 +4,7 @@ use Rattle.tk_base.specs.declared.rect.Rect.{Rect}
 use Rattle.tk_route.specs.Lines.{Line, values}
 use Rattle.tk_route.specs.Screen.{are_apart}
 use Rattle.tk_route.specs.Values.{Values}
-use Rattle.tk_turns.specs.Stages.{IsPast, first_due}
+use Rattle.tk_app.specs.Stages.{IsPast, first_due}
 use Rattle.tk_app.specs.Application.{next_due}
 use Rattle.tk_app.specs.Part.{Part, Rests, added, settled}
 use Rattle.tk_app.specs.Seen.{Meaning}

@@ -12,7 +12,7 @@ use Rattle.tk_route.specs.Values.{Values}
 use Rattle.tk_route.specs.declared.line.HostLine.{HostLine}
 use Rattle.tk_host.specs.Spec.{Given, IsInRange, are_aliases, have_one_name, rect_of}
 use Rattle.tk_host.specs.Held.{Held, Hosted, reached}
-use Rattle.tcl_text.specs.Limits.{last_moment}
+use Rattle.tk_base.specs.Limits.{last_moment}
 
 -- the first of these faults that applies is this one
 abbrev pub IsFirst : (HostFault → Type 0) → List HostFault → HostFault → Type 0

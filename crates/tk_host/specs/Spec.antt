@@ -5,7 +5,7 @@ use Rattle.std.specs.List.{list_all}
 use Rattle.std.specs.Str.{bytes_eq}
 use Rattle.tk_base.specs.Rect.{most_pixels}
 use Rattle.tk_base.specs.declared.rect.Rect.{Rect}
-use Rattle.tk_app.specs.declared.budget.Budget.{Budget}
+use Rattle.tk_base.specs.declared.budget.Budget.{Budget}
 use Rattle.tk_app.specs.Spec.{Spec}
 
 abbrev pub IsNameByte : ℕ → Type 0

@@ -1,12 +1,12 @@
 -- The turns of the calls that run applications.
 use Rattle.std.specs.Prelude.{ℕ, ◌+◌, ◌-◌, ◌==◌, List, [], ◌∷◌, ◌++◌, map, if◌then◌else◌}
 use Rattle.std.specs.List.{list_any}
-use Rattle.tk_input.specs.declared.event.LocalEvent.{LocalEvent}
+use Rattle.tk_keys.specs.declared.local_event.LocalEvent.{LocalEvent}
 use Rattle.tk_route.specs.declared.delivery.Delivery.{Delivery}
 use Rattle.tk_route.specs.Routes.{events_of}
-use Rattle.tk_turns.specs.declared.turn.Turn.{Turn}
-use Rattle.tk_turns.specs.Rounds.{turns_of}
-use Rattle.tk_turns.specs.Stages.{turns_to}
+use Rattle.tk_app.specs.declared.turns.Turn.{Turn}
+use Rattle.tk_app.specs.Rounds.{turns_of}
+use Rattle.tk_app.specs.Stages.{turns_to}
 use Rattle.tk_app.specs.Application.{Application, fresh, next_due}
 use Rattle.tk_app.specs.Part.{Part, delivered, needs, settled, started}
 use Rattle.tk_app.specs.Seen.{Meaning}

@@ -10,12 +10,12 @@ ghost use Rattle.tk_host.specs.Turns.{after_given, applications, stages_of, turn
 
 use crate::stages::{begin_settling, stage};
 use std::alloc::AllocError;
-use tk_app::{AliasMeaning, LocalEvent, Shared};
+use tk_app::{AliasService, LocalEvent, Shared};
 use tk_route::{Delivery, Routed};
 
 /// Gives what a line gives, and does what comes of it. Events of different applications are one stage, in which these take turns; a second
 /// event of the same application is a stage of its own.
-pub fn deliver_all<M: AliasMeaning>(
+pub fn deliver_all<M: AliasService>(
     shared: &mut Shared<M>,
     routed: Routed,
     slice: u64,
@@ -42,7 +42,7 @@ pub fn deliver_all<M: AliasMeaning>(
 }
 
 /// A stage of one event.
-fn deliver_one<M: AliasMeaning>(
+fn deliver_one<M: AliasService>(
     shared: &mut Shared<M>,
     only: Delivery,
     slice: u64,
@@ -59,7 +59,7 @@ fn deliver_one<M: AliasMeaning>(
 }
 
 /// Two stages, of an event each, for the same application.
-fn deliver_twice<M: AliasMeaning>(
+fn deliver_twice<M: AliasService>(
     shared: &mut Shared<M>,
     first: Delivery,
     second: Delivery,
@@ -80,7 +80,7 @@ fn deliver_twice<M: AliasMeaning>(
 }
 
 /// A stage of two events, for different applications.
-fn deliver_both<M: AliasMeaning>(
+fn deliver_both<M: AliasService>(
     shared: &mut Shared<M>,
     first: Delivery,
     second: Delivery,
@@ -102,7 +102,7 @@ fn deliver_both<M: AliasMeaning>(
 }
 
 /// Gives an event to the application that it is for, which begins to settle. A slot that no application has is given nothing.
-fn give<M: AliasMeaning>(shared: &mut Shared<M>, delivery: Delivery) -> Result<(), AllocError>
+fn give<M: AliasService>(shared: &mut Shared<M>, delivery: Delivery) -> Result<(), AllocError>
     requires now { delivery.event.moment ≡ shared.old.moment }
     requires rests { RestsIn delivery.slot shared.old.parts }
     ensures { OnOk result (shared.new ≡ record shared.old { parts = given_from 0 delivery shared.old.parts }) }
@@ -115,7 +115,7 @@ fn give<M: AliasMeaning>(shared: &mut Shared<M>, delivery: Delivery) -> Result<(
 }
 
 /// Gives an event to the application in a slot.
-fn deliver<M: AliasMeaning>(
+fn deliver<M: AliasService>(
     shared: &mut Shared<M>,
     slot: usize,
     event: LocalEvent,

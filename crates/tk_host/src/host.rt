@@ -15,14 +15,13 @@ use crate::stages::{advance, stage};
 use std::alloc::{AllocError, Global};
 use std::marker::Model;
 use tcl_text::Text;
-use tk_app::{Alias, AliasMeaning, Aliases, Budget, MAX_APPLICATIONS, Shared, Size};
+use tk_app::{Alias, AliasService, Aliases, Budget, MAX_APPLICATIONS, Shared, Size, Turn};
 use tk_base::{MAX_MOMENT, Rect};
 use tk_route::{HostLine, LineFault, Routed, Router};
-use tk_turns::Turn;
 
 /// Applications side by side with one clock, in milliseconds from 0. What becomes of each rests on itself alone; those that have something to
 /// do at a moment take turns, in the order of their slots, each at most a slice of steps.
-pub struct Host<M: AliasMeaning> {
+pub struct Host<M: AliasService> {
     alloc: Global,
     slice: u64,
     phase: Phase,
@@ -31,7 +30,7 @@ pub struct Host<M: AliasMeaning> {
     shared: Shared<M>,
 }
 
-impl<M: AliasMeaning> Model for Host<M> {
+impl<M: AliasService> Model for Host<M> {
     ghost use Rattle.std.specs.Prelude.{◌≤◌};
     ghost use Rattle.tk_host.specs.Held.{Hosted, known_by};
     ghost use Rattle.tk_host.specs.Ready.{IsReady, IsRouted};
@@ -47,7 +46,7 @@ impl<M: AliasMeaning> Model for Host<M> {
     ghost invariant = { λ h. (1 ≤ h.slice) × IsReady M.answer h.phase h.shared.moment h.shared.parts × IsRouted h.phase h.rects.items h.router h.shared.parts };
 }
 
-impl<M: AliasMeaning> Host<M> {
+impl<M: AliasService> Host<M> {
     ghost use Rattle.std.specs.Prelude.{◌≡◌, ◌≢◌, ◌≤◌, ℕ, List, [], ◌∷◌, ◌++◌, map, slice_get, Some, IfOk, IfErr, OnOk, OnErr, MatchResult};
     ghost use Rattle.tk_app.specs.Section.{section};
     ghost use Rattle.tk_base.specs.declared.rect.Rect.{Rect};
@@ -312,7 +311,7 @@ impl<M: AliasMeaning> Host<M> {
 }
 
 /// Why an application can't join these, if it can't.
-fn test_app<M: AliasMeaning>(
+fn test_app<M: AliasService>(
     shared: &Shared<M>,
     rects: &[Rect],
     name: &Text,
@@ -347,7 +346,7 @@ fn is_place_taken(rects: &[Rect], rect: Rect) -> bool
 }
 
 /// Whether two of the aliases have one name.
-fn have_one_name<M: AliasMeaning>(aliases: &[Alias<M>]) -> bool
+fn have_one_name<M: AliasService>(aliases: &[Alias<M>]) -> bool
     ensures { result ≡ have_one_name aliases.now }
 {
     let mut rest = aliases;
@@ -361,7 +360,7 @@ fn have_one_name<M: AliasMeaning>(aliases: &[Alias<M>]) -> bool
 }
 
 /// Whether one of the aliases has this name.
-fn is_served<M: AliasMeaning>(name: &Text, aliases: &[Alias<M>]) -> bool
+fn is_served<M: AliasService>(name: &Text, aliases: &[Alias<M>]) -> bool
     ensures { result ≡ is_served name.now aliases.now }
 {
     let mut rest = aliases;
@@ -407,7 +406,7 @@ fn route(router: &mut Router, moment: u64, line: HostLine) -> Result<Routed, Hos
 }
 
 /// By hand: a proof sees one call where it is dropped, and not its parts.
-impl<M: AliasMeaning> Drop for Host<M> {
+impl<M: AliasService> Drop for Host<M> {
     fn drop(self) {
         let Host {
             alloc: _,

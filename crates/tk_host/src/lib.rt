@@ -14,7 +14,9 @@ pub use host::Host;
 pub use laws::{bounded_stages, each_by_itself, one_refusal};
 pub use phase::Phase;
 pub use spec::{MAX_ALIASES, MAX_BUDGET, is_command_name, is_name};
-pub use tk_app::{Alias, AliasMeaning, AliasReply, Aliases, Budget, MAX_APPLICATIONS};
+pub use tk_app::{
+    Alias, AliasCode, AliasMeaning, AliasReply, AliasService, Aliases, Budget, Closure,
+    MAX_APPLICATIONS, NoAlias, Turn,
+};
 pub use tk_base::{MAX_MOMENT, MAX_PIXELS, Rect};
 pub use tk_route::{HostLine, Keysym};
-pub use tk_turns::Turn;

@@ -3,7 +3,7 @@ ghost use Rattle.std.specs.List.{list_all};
 ghost use Rattle.tk_host.specs.Spec.{IsName, IsNameByte, IsLength, IsInRange, are_aliases, begins_apart, is_command_name, is_printing};
 
 use tcl_text::Text;
-use tk_app::{Alias, AliasMeaning, Aliases, Budget};
+use tk_app::{Alias, AliasService, Aliases, Budget};
 use tk_base::{MAX_PIXELS, Rect};
 
 /// How many steps an application is given at most, be it at first or with an event.
@@ -93,7 +93,7 @@ pub fn is_command_name(text: &[u8]) -> bool
 }
 
 /// Whether each of the aliases has a name that a command may have.
-fn are_command_names<M: AliasMeaning>(aliases: &[Alias<M>]) -> bool
+fn are_command_names<M: AliasService>(aliases: &[Alias<M>]) -> bool
     ensures { result ≡ list_all (λ alias. is_command_name alias.0) aliases.now }
 {
     aliases
@@ -102,7 +102,7 @@ fn are_command_names<M: AliasMeaning>(aliases: &[Alias<M>]) -> bool
 }
 
 /// Whether an application may have these aliases: at most 64, by names that commands may have.
-fn are_aliases<M: AliasMeaning>(aliases: &Aliases<M>) -> bool
+fn are_aliases<M: AliasService>(aliases: &Aliases<M>) -> bool
     ensures { result ≡ are_aliases aliases.now }
 {
     let aliases = aliases.as_slice();
@@ -110,7 +110,7 @@ fn are_aliases<M: AliasMeaning>(aliases: &Aliases<M>) -> bool
 }
 
 /// Whether what is given of an application is in the ranges that a session allows.
-pub fn may_be_given<M: AliasMeaning>(
+pub fn may_be_given<M: AliasService>(
     name: &Text,
     rect: Rect,
     budget: Budget,

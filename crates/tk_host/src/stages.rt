@@ -1,8 +1,8 @@
 //! Stages: what all applications do at one moment, in turns of slices, and the way from stage to stage.
 
 ghost use Rattle.std.specs.Prelude.{◌≡◌, ◌-◌, ◌≤◌, ◌<◌, ◌++◌, map, length, true, false, Ok, OnOk, IfOk, sum_by};
-ghost use Rattle.tk_turns.specs.Rounds.{round, turns_of};
-ghost use Rattle.tk_turns.specs.Stages.{IsPast, first_due};
+ghost use Rattle.tk_app.specs.Rounds.{round, turns_of};
+ghost use Rattle.tk_app.specs.Stages.{IsPast, first_due};
 ghost use Rattle.tk_app.specs.Application.{next_due};
 ghost use Rattle.tk_app.specs.Part.{needs, settled, stage_done};
 ghost use Rattle.tk_app.specs.Turns.{BeginsIn};
@@ -10,14 +10,13 @@ ghost use Rattle.tk_host.specs.Alone.{passed};
 ghost use Rattle.tk_host.specs.Ready.{AllRest};
 ghost use Rattle.tk_host.specs.Slots.{BeginsAt, TakesTurn, begun_at};
 ghost use Rattle.tk_host.specs.Turns.{applications, turns_on_the_way};
-ghost use Rattle.tcl_text.specs.Limits.{last_moment};
+ghost use Rattle.tk_base.specs.Limits.{last_moment};
 
 use std::alloc::AllocError;
-use tk_app::{AliasMeaning, AppEnd, Shared};
-use tk_turns::earlier;
+use tk_app::{AliasService, AppEnd, Shared, earlier};
 
 /// Goes on to a moment, from due moment to due moment: at each the applications of which something is due then do it.
-pub fn advance<M: AliasMeaning>(
+pub fn advance<M: AliasService>(
     shared: &mut Shared<M>,
     target: u64,
     slice: u64,
@@ -46,7 +45,7 @@ pub fn advance<M: AliasMeaning>(
 }
 
 /// When something is due next of any of the applications.
-fn next_due<M: AliasMeaning>(shared: &Shared<M>) -> Option<u64>
+fn next_due<M: AliasService>(shared: &Shared<M>) -> Option<u64>
     ensures { result ≡ first_due next_due (settled M.answer) (applications shared.now.parts) }
 {
     let mut first = None;
@@ -57,7 +56,7 @@ fn next_due<M: AliasMeaning>(shared: &Shared<M>) -> Option<u64>
 }
 
 /// The applications of which something is due at a moment begin to settle.
-fn begin_all<M: AliasMeaning>(shared: &mut Shared<M>, moment: u64) -> Result<(), AllocError>
+fn begin_all<M: AliasService>(shared: &mut Shared<M>, moment: u64) -> Result<(), AllocError>
     requires { shared.old.moment ≡ moment }
     ensures { OnOk result (shared.new ≡ record shared.old { parts = map (begun_at moment) shared.old.parts }) }
 {
@@ -68,7 +67,7 @@ fn begin_all<M: AliasMeaning>(shared: &mut Shared<M>, moment: u64) -> Result<(),
 }
 
 /// The application in a slot begins to settle, if something is due of it at the moment.
-fn begin<M: AliasMeaning>(
+fn begin<M: AliasService>(
     shared: &mut Shared<M>,
     slot: usize,
     moment: u64,
@@ -87,7 +86,7 @@ fn begin<M: AliasMeaning>(
 }
 
 /// The application in a slot begins to settle.
-pub fn begin_settling<M: AliasMeaning>(
+pub fn begin_settling<M: AliasService>(
     shared: &mut Shared<M>,
     slot: usize,
 ) -> Result<(), AllocError>
@@ -99,7 +98,7 @@ pub fn begin_settling<M: AliasMeaning>(
 }
 
 /// Does what is under way in each application, in turns of at most `slice` steps.
-pub fn stage<M: AliasMeaning>(shared: &mut Shared<M>, slice: u64) -> Result<(), AllocError>
+pub fn stage<M: AliasService>(shared: &mut Shared<M>, slice: u64) -> Result<(), AllocError>
     requires { 0 < slice }
     ensures moment { OnOk result (shared.new.moment ≡ shared.old.moment) }
     ensures done { OnOk result (shared.new.parts ≡ map (stage_done M.answer shared.old.moment) shared.old.parts) }
@@ -113,7 +112,7 @@ pub fn stage<M: AliasMeaning>(shared: &mut Shared<M>, slice: u64) -> Result<(), 
 }
 
 /// One round: each application in which something is under way takes a turn, in the order of their slots. It answers whether one needs more.
-fn run_round<M: AliasMeaning>(shared: &mut Shared<M>, slice: u64) -> Result<bool, AllocError>
+fn run_round<M: AliasService>(shared: &mut Shared<M>, slice: u64) -> Result<bool, AllocError>
     requires { 0 < slice }
     ensures moment { OnOk result (shared.new.moment ≡ shared.old.moment) }
     ensures done { OnOk result (map (stage_done M.answer shared.old.moment) shared.new.parts ≡ map (stage_done M.answer shared.old.moment) shared.old.parts) }
@@ -132,7 +131,7 @@ fn run_round<M: AliasMeaning>(shared: &mut Shared<M>, slice: u64) -> Result<bool
 }
 
 /// The turn of the application in a slot, where something is under way in it. It answers whether it needs more.
-fn take_turn<M: AliasMeaning>(
+fn take_turn<M: AliasService>(
     shared: &mut Shared<M>,
     slot: usize,
     slice: u64,

@@ -2,18 +2,18 @@
 use Rattle.std.specs.Prelude.{ℕ, ℤ, pos, Bool, true, false, List, [], ◌∷◌, ◌++◌, Option, Some, None, if◌then◌else◌}
 use Rattle.std.specs.List.{flat_map}
 use Rattle.tk_events.specs.declared.event.Event.{Event}
-use Rattle.tk_input.specs.declared.event.LocalEvent.{LocalEvent}
-use Rattle.tk_input.specs.declared.event.LocalKind.{LocalKind}
-use Rattle.tk_input.specs.declared.event.LocalKind.TheVariants as kinds
+use Rattle.tk_keys.specs.declared.local_event.LocalEvent.{LocalEvent}
+use Rattle.tk_keys.specs.declared.local_event.LocalKind.{LocalKind}
+use Rattle.tk_keys.specs.declared.local_event.LocalKind.TheVariants as kinds
 use Rattle.tk_inputs.specs.declared.delivery.KeyLine.{KeyLine}
 use Rattle.tk_inputs.specs.declared.events.PointerLine.{PointerLine}
 use Rattle.tk_inputs.specs.declared.inputs.Input.{Input}
 use Rattle.tk_inputs.specs.Events.{key_event, plain_event, pointer_event}
 use Rattle.tk_inputs.specs.Inputs as inputs_of
-use Rattle.tk_pointer.specs.declared.event.PointerEvent.{PointerEvent}
-use Rattle.tk_pointer.specs.declared.pointer.Pointer.{Pointer}
-use Rattle.tk_pointer.specs.Pointer.{moved, moved_told, pressed, pressed_told, released, released_told}
-use Rattle.tk_queue.specs.Queue as queue_of
+use Rattle.tk_inputs.specs.declared.pointer_event.PointerEvent.{PointerEvent}
+use Rattle.tk_inputs.specs.declared.pointer.Pointer.{Pointer}
+use Rattle.tk_inputs.specs.Pointer.{moved, moved_told, pressed, pressed_told, released, released_told}
+use Rattle.tk_dispatch.specs.Queue as queue_of
 use Rattle.tk_sequences.specs.declared.event_type.EventType.{EventType}
 use Rattle.tk_sequences.specs.declared.event_type.EventType.TheVariants as types
 use Rattle.tk_tree.specs.declared.window.Window.{Window}

@@ -4,11 +4,11 @@ use Rattle.tk_events.specs.declared.event.Event.{Event}
 use Rattle.tk_events.specs.declared.event.EventKind.TheVariants.{Physical}
 use Rattle.tk_events.specs.Event.{bare_event}
 use Rattle.tk_inputs.specs.declared.events.PointerLine.{PointerLine}
-use Rattle.tk_pointer.specs.declared.event.CrossingKind.{CrossingKind}
-use Rattle.tk_pointer.specs.declared.event.CrossingKind.TheVariants.{Enter, Leave}
-use Rattle.tk_pointer.specs.declared.event.PointerKind.{PointerKind}
-use Rattle.tk_pointer.specs.declared.event.PointerKind.TheVariants.{Crossing, Motion, Press, Release}
-use Rattle.tk_pointer.specs.Crossings.{detail_name}
+use Rattle.tk_inputs.specs.declared.pointer_event.CrossingKind.{CrossingKind}
+use Rattle.tk_inputs.specs.declared.pointer_event.CrossingKind.TheVariants.{Enter, Leave}
+use Rattle.tk_inputs.specs.declared.pointer_event.PointerKind.{PointerKind}
+use Rattle.tk_inputs.specs.declared.pointer_event.PointerKind.TheVariants.{Crossing, Motion, Press, Release}
+use Rattle.tk_inputs.specs.Crossings.{detail_name}
 use Rattle.tk_sequences.specs.declared.event_type.EventType.{EventType}
 use Rattle.tk_sequences.specs.declared.event_type.EventType.TheVariants as types
 use Rattle.tk_tree.specs.declared.corner.Corner.{Corner}

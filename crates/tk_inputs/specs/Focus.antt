@@ -10,6 +10,7 @@ use Rattle.tk_inputs.specs.Deliver.{Arrivals, plain_events}
 use Rattle.tk_sequences.specs.declared.event_type.EventType.TheVariants as types
 use Rattle.tk_tree.specs.declared.window.Window.{Window}
 use Rattle.tk_tree.specs.Own.{Own, at_path, window_at}
+use Rattle.tk_tree.specs.Path.{bad_path}
 
 -- what is left of the application, and what the command answers
 pub record Told : Type 0 where
@@ -18,10 +19,6 @@ pub record Told : Type 0 where
 
 abbrev pub told : Arrivals → Answer → Told
 told arrivals answer = record { arrivals = arrivals; answer = answer }
-
--- a result, or the text of an error, is what was given unless memory was refused
-abbrev pub IsAnswer : Result (List ℕ) Refusal → Answer → Type 0
-IsAnswer given answer = (wanted : Answer) → Gives given wanted → answer ≡ wanted
 
 -- ---- a window gets the keys
 
@@ -37,10 +34,6 @@ focused number moment own arrivals = record {
 }
 
 -- ---- the command
-
--- no window has the path
-abbrev pub bad_path : List ℕ → Answer
-bad_path path = fails (codes "bad window path name " ++ quoted path)
 
 -- the path of the focus window
 abbrev pub focus_path : Own → Input → List ℕ

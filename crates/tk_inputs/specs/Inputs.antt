@@ -3,7 +3,7 @@ use Rattle.std.specs.Prelude.{◌≡◌, ◌≢◌, ℕ, false, ◌==◌, nat_eq
 use Rattle.std.specs.Map.{lookup}
 use Rattle.std.specs.Option.{option_map_or}
 use Rattle.tk_inputs.specs.declared.inputs.Input.{Input}
-use Rattle.tk_pointer.specs.Pointer.{outside}
+use Rattle.tk_inputs.specs.Pointer.{outside}
 
 -- all applications'
 abbrev pub Held : Type 0

@@ -3,22 +3,21 @@ ghost use Rattle.std.specs.Prelude.{◌≡◌, ◌++◌, true, false, IfOk, OnOk
 ghost use Rattle.std.specs.List.{flat_map};
 ghost use Rattle.tk_inputs.specs.Deliver as spec;
 ghost use Rattle.tk_inputs.specs.Inputs as inputs_of;
-ghost use Rattle.tk_queue.specs.Queue as queue_of;
+ghost use Rattle.tk_dispatch.specs.Queue as queue_of;
 ghost use Rattle.tk_tree.specs.Own as tree_of;
 
+use crate::PointerEvent;
 use crate::events::{PointerLine, key_event, plain_event, pointer_event};
 use crate::inputs::Inputs;
 use std::alloc::{AllocError, Global};
 use tk_base::Win;
+use tk_dispatch::EventQueue;
 use tk_events::EventType;
-use tk_input::{LocalEvent, LocalKind};
-use tk_keys::Keysym;
-use tk_pointer::PointerEvent;
-use tk_queue::EventQueue;
+use tk_keys::{Keysym, LocalEvent, LocalKind};
 use tk_tree::Windows;
 
 /// What a line of the session gives an application: the events that it queues, at once, with the windows as they are then. The keys go to the
-/// focus window, and so does what is told of the host's focus; positions, presses and releases go to windows as `tk_pointer` has it, where a
+/// focus window, and so does what is told of the host's focus; positions, presses and releases go to windows as `tk_inputs` has it, where a
 /// point outside of the main window is in no window. A new size queues nothing here: who calls this sets it.
 ///
 /// After want of memory the application may have got some of the events.

@@ -1,13 +1,13 @@
 //! The events that lines make for windows.
 ghost use Rattle.std.specs.Prelude.{◌≡◌, ◌<◌, ◌^◌, IfOk, Some};
 ghost use Rattle.tk_inputs.specs.Events as spec;
-ghost use Rattle.tk_pointer.specs.Crossings.{detail_name};
+ghost use Rattle.tk_inputs.specs.Crossings.{detail_name};
 
+use crate::{CrossingDetail, CrossingKind, PointerKind};
 use std::alloc::{AllocError, Global};
 use tcl_text::Text;
 use tk_events::{Event, EventKind, EventType};
 use tk_keys::Keysym;
-use tk_pointer::{CrossingDetail, CrossingKind, PointerKind};
 use tk_tree::{Corner, Window};
 
 /// What a line of the pointer says to an application.

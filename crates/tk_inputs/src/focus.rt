@@ -4,18 +4,18 @@ ghost use Rattle.tcl_text.specs.Answers.{Gives};
 ghost use Rattle.tk_inputs.specs.Deliver.{arrivals_of};
 ghost use Rattle.tk_inputs.specs.Focus as spec;
 ghost use Rattle.tk_inputs.specs.Inputs as inputs_of;
-ghost use Rattle.tk_queue.specs.Queue as queue_of;
+ghost use Rattle.tk_dispatch.specs.Queue as queue_of;
 ghost use Rattle.tk_tree.specs.Own as tree_of;
 
 use crate::delivery::queue_plain;
 use crate::inputs::Inputs;
 use std::alloc::{AllocError, Global};
 use tcl_text::Text;
-use tcl_text::answers::{Refusal, bad_option, quoting_error, wrong_args};
+use tcl_text::answers::{Refusal, answered, bad_option, quoting_error, wrong_args};
 use tk_base::Win;
+use tk_dispatch::EventQueue;
 use tk_events::EventType;
-use tk_queue::EventQueue;
-use tk_tree::Windows;
+use tk_tree::{Windows, bad_path};
 
 const USAGE: &str = "focus ?path?";
 
@@ -92,17 +92,6 @@ fn is_option(word: &str) -> bool
     matches!(word.as_bytes(), [b'-', ..])
 }
 
-/// The result of a command, or the text of its error.
-fn answered(given: Result<Text, Refusal>) -> Result<Result<Text, Text>, AllocError>
-    ensures { IfOk result (λ answer. spec.IsAnswer given answer) }
-{
-    match given {
-        Ok(text) => Ok(Ok(text)),
-        Err(Refusal::Error(text)) => Ok(Err(text)),
-        Err(Refusal::NoMemory) => Err(AllocError),
-    }
-}
-
 /// The path of the focus window, where the application has the host's focus.
 fn shown(alloc: Global, windows: &Windows, inputs: &Inputs, slot: usize) -> Result<Text, Refusal>
     ensures { Gives result (spec.shown (tree_of.own_of slot windows.now) (inputs_of.own_of slot inputs.now)) }
@@ -110,7 +99,7 @@ fn shown(alloc: Global, windows: &Windows, inputs: &Inputs, slot: usize) -> Resu
     if inputs.has_focus(slot) {
         focus_path(alloc, windows, inputs, slot)
     } else {
-        empty_text(alloc)
+        Ok(Text::empty())
     }
 }
 
@@ -128,16 +117,7 @@ fn focus_path(
         number: inputs.focus(slot),
     }) {
         Some(window) => Ok(window.path.copy()?),
-        None => empty_text(alloc),
-    }
-}
-
-fn empty_text(alloc: Global) -> Result<Text, Refusal>
-    ensures { Gives result (Ok []) }
-{
-    match Text::new(alloc, "") {
-        Ok(text) => Ok(text),
-        Err(_) => Err(Refusal::NoMemory),
+        None => Ok(Text::empty()),
     }
 }
 
@@ -162,13 +142,6 @@ fn last_for(
     }
 }
 
-/// The error of a path that names no window (24).
-fn bad_path(alloc: Global, path: &Text) -> Result<Text, Refusal>
-    ensures { Gives result (spec.bad_path path.now) }
-{
-    Err(quoting_error(alloc, "bad window path name ", path.as_str()))
-}
-
 /// The window of a path gets the keys; where the path is empty nothing is changed.
 fn focus_on(
     alloc: Global,
@@ -184,7 +157,7 @@ fn focus_on(
     ensures inputs { inputs_of.LeavesOthers slot inputs.old inputs.new }
     ensures queue { queue_of.LeavesOthers slot queue.old queue.new }
 {
-    let nothing = answered(empty_text(alloc))?;
+    let nothing = Ok(Text::empty());
     if path.as_str().is_empty() {
         return Ok(nothing);
     }

@@ -2,11 +2,11 @@ ghost use Rattle.std.specs.Prelude.{◌≡◌, [], Some, None, IfOk, OnOk, OnErr
 ghost use Rattle.std.specs.Option.{option_copied};
 ghost use Rattle.tk_inputs.specs.Inputs.{fresh, left_by, own_of, put_away, without_window, LeavesAll, LeavesOthers};
 
+use crate::Pointer;
 use std::alloc::{AllocError, Global};
 use std::collections::HashMap;
 use std::marker::Model;
 use tcl_text::Text;
-use tk_pointer::Pointer;
 
 /// The number of the main window `.`, which is the first of its application.
 const MAIN: u64 = 0;

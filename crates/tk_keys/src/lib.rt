@@ -3,6 +3,8 @@
 
 mod keysym;
 pub mod laws;
+mod local_event;
 mod names;
 
 pub use keysym::Keysym;
+pub use local_event::{LocalEvent, LocalKind};

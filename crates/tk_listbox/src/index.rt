@@ -6,7 +6,7 @@ use tcl_text::Text;
 
 /// An index of listbox(n).
 #[derive(Clone, Copy, Debug, PartialEq, Eq)]
-pub enum Index {
+pub enum ItemIndex {
     /// So many items behind the first; below 0 it means a place before all, and past the last one behind all.
     Number(i64),
     /// The active item.
@@ -15,15 +15,15 @@ pub enum Index {
     End,
 }
 
-impl Index {
+impl ItemIndex {
     /// The index that a word is: an integer, `active` or `end`. It takes no memory.
     #[tactic(auto, unfolding(crate::specs::Indices::index_in))]
-    pub fn read(word: &Text) -> Option<Index>
+    pub fn read(word: &Text) -> Option<ItemIndex>
         ensures { result ≡ spec.index_in word.now }
     {
         match word.as_str() {
-            "active" => Some(Index::Active),
-            "end" => Some(Index::End),
+            "active" => Some(ItemIndex::Active),
+            "end" => Some(ItemIndex::End),
             _ => number_in(word),
         }
     }
@@ -33,9 +33,9 @@ impl Index {
         ensures { result ≡ spec.before self size active }
     {
         match self {
-            Index::Number(number) => from_zero(number).min(size),
-            Index::Active => active,
-            Index::End => size.saturating_sub(1),
+            ItemIndex::Number(number) => from_zero(number).min(size),
+            ItemIndex::Active => active,
+            ItemIndex::End => size.saturating_sub(1),
         }
     }
 
@@ -44,9 +44,9 @@ impl Index {
         ensures { result ≡ spec.through self size active }
     {
         match self {
-            Index::Number(number) => through_number(number).min(size),
-            Index::Active => active.saturating_add(1).min(size),
-            Index::End => size,
+            ItemIndex::Number(number) => through_number(number).min(size),
+            ItemIndex::Active => active.saturating_add(1).min(size),
+            ItemIndex::End => size,
         }
     }
 
@@ -55,18 +55,18 @@ impl Index {
         ensures { result ≡ spec.before_inserted self size active }
     {
         match self {
-            Index::Number(number) => from_zero(number).min(size),
-            Index::Active => active,
-            Index::End => size,
+            ItemIndex::Number(number) => from_zero(number).min(size),
+            ItemIndex::Active => active,
+            ItemIndex::End => size,
         }
     }
 }
 
-fn number_in(word: &Text) -> Option<Index>
+fn number_in(word: &Text) -> Option<ItemIndex>
     ensures { result ≡ spec.number_in word.now }
 {
     match word.integer() {
-        Ok(number) => Some(Index::Number(number)),
+        Ok(number) => Some(ItemIndex::Number(number)),
         Err(_) => None,
     }
 }

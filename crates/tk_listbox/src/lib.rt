@@ -7,6 +7,6 @@ mod items;
 mod listbox;
 
 pub use choice::Choice;
-pub use index::Index;
+pub use index::ItemIndex;
 pub use items::Item;
 pub use listbox::Listbox;

@@ -8,68 +8,68 @@ use tk_base::Kind;
 
 /// An option: its name, what values it takes, and the value of a new widget.
 #[derive(Clone, Copy)]
-pub struct Row(pub OptionName, pub Form, pub &'static str);
+pub struct OptionRow(pub OptionName, pub Form, pub &'static str);
 
-const FRAME: &[Row] = &[
-    Row(OptionName::Background, Form::AnyText, ""),
-    Row(OptionName::BorderWidth, Form::Amount, "0"),
-    Row(OptionName::Height, Form::Amount, "0"),
-    Row(OptionName::Relief, Form::Relief, "flat"),
-    Row(OptionName::Width, Form::Amount, "0"),
+const FRAME: &[OptionRow] = &[
+    OptionRow(OptionName::Background, Form::AnyText, ""),
+    OptionRow(OptionName::BorderWidth, Form::Amount, "0"),
+    OptionRow(OptionName::Height, Form::Amount, "0"),
+    OptionRow(OptionName::Relief, Form::Relief, "flat"),
+    OptionRow(OptionName::Width, Form::Amount, "0"),
 ];
 
-const LABEL: &[Row] = &[
-    Row(OptionName::Anchor, Form::Anchor, "center"),
-    Row(OptionName::Background, Form::AnyText, ""),
-    Row(OptionName::BorderWidth, Form::Amount, "1"),
-    Row(OptionName::Foreground, Form::AnyText, ""),
-    Row(OptionName::Height, Form::Amount, "0"),
-    Row(OptionName::PadX, Form::Amount, "1"),
-    Row(OptionName::PadY, Form::Amount, "1"),
-    Row(OptionName::Relief, Form::Relief, "flat"),
-    Row(OptionName::Text, Form::AnyText, ""),
-    Row(OptionName::TextVariable, Form::AnyText, ""),
-    Row(OptionName::Width, Form::Amount, "0"),
+const LABEL: &[OptionRow] = &[
+    OptionRow(OptionName::Anchor, Form::Anchor, "center"),
+    OptionRow(OptionName::Background, Form::AnyText, ""),
+    OptionRow(OptionName::BorderWidth, Form::Amount, "1"),
+    OptionRow(OptionName::Foreground, Form::AnyText, ""),
+    OptionRow(OptionName::Height, Form::Amount, "0"),
+    OptionRow(OptionName::PadX, Form::Amount, "1"),
+    OptionRow(OptionName::PadY, Form::Amount, "1"),
+    OptionRow(OptionName::Relief, Form::Relief, "flat"),
+    OptionRow(OptionName::Text, Form::AnyText, ""),
+    OptionRow(OptionName::TextVariable, Form::AnyText, ""),
+    OptionRow(OptionName::Width, Form::Amount, "0"),
 ];
 
-const BUTTON: &[Row] = &[
-    Row(OptionName::Anchor, Form::Anchor, "center"),
-    Row(OptionName::Background, Form::AnyText, ""),
-    Row(OptionName::BorderWidth, Form::Amount, "2"),
-    Row(OptionName::Command, Form::AnyText, ""),
-    Row(OptionName::Foreground, Form::AnyText, ""),
-    Row(OptionName::Height, Form::Amount, "0"),
-    Row(OptionName::PadX, Form::Amount, "8"),
-    Row(OptionName::PadY, Form::Amount, "4"),
-    Row(OptionName::Relief, Form::Relief, "raised"),
-    Row(OptionName::State, Form::ButtonState, "normal"),
-    Row(OptionName::Text, Form::AnyText, ""),
-    Row(OptionName::TextVariable, Form::AnyText, ""),
-    Row(OptionName::Width, Form::Amount, "0"),
+const BUTTON: &[OptionRow] = &[
+    OptionRow(OptionName::Anchor, Form::Anchor, "center"),
+    OptionRow(OptionName::Background, Form::AnyText, ""),
+    OptionRow(OptionName::BorderWidth, Form::Amount, "2"),
+    OptionRow(OptionName::Command, Form::AnyText, ""),
+    OptionRow(OptionName::Foreground, Form::AnyText, ""),
+    OptionRow(OptionName::Height, Form::Amount, "0"),
+    OptionRow(OptionName::PadX, Form::Amount, "8"),
+    OptionRow(OptionName::PadY, Form::Amount, "4"),
+    OptionRow(OptionName::Relief, Form::Relief, "raised"),
+    OptionRow(OptionName::State, Form::ButtonState, "normal"),
+    OptionRow(OptionName::Text, Form::AnyText, ""),
+    OptionRow(OptionName::TextVariable, Form::AnyText, ""),
+    OptionRow(OptionName::Width, Form::Amount, "0"),
 ];
 
-const ENTRY: &[Row] = &[
-    Row(OptionName::Background, Form::AnyText, ""),
-    Row(OptionName::BorderWidth, Form::Amount, "2"),
-    Row(OptionName::Foreground, Form::AnyText, ""),
-    Row(OptionName::Relief, Form::Relief, "sunken"),
-    Row(OptionName::State, Form::EntryState, "normal"),
-    Row(OptionName::TextVariable, Form::AnyText, ""),
-    Row(OptionName::Width, Form::Amount, "20"),
+const ENTRY: &[OptionRow] = &[
+    OptionRow(OptionName::Background, Form::AnyText, ""),
+    OptionRow(OptionName::BorderWidth, Form::Amount, "2"),
+    OptionRow(OptionName::Foreground, Form::AnyText, ""),
+    OptionRow(OptionName::Relief, Form::Relief, "sunken"),
+    OptionRow(OptionName::State, Form::EntryState, "normal"),
+    OptionRow(OptionName::TextVariable, Form::AnyText, ""),
+    OptionRow(OptionName::Width, Form::Amount, "20"),
 ];
 
-const LISTBOX: &[Row] = &[
-    Row(OptionName::Background, Form::AnyText, ""),
-    Row(OptionName::BorderWidth, Form::Amount, "1"),
-    Row(OptionName::Foreground, Form::AnyText, ""),
-    Row(OptionName::Height, Form::Amount, "10"),
-    Row(OptionName::Relief, Form::Relief, "sunken"),
-    Row(OptionName::SelectMode, Form::SelectMode, "browse"),
-    Row(OptionName::Width, Form::Amount, "20"),
+const LISTBOX: &[OptionRow] = &[
+    OptionRow(OptionName::Background, Form::AnyText, ""),
+    OptionRow(OptionName::BorderWidth, Form::Amount, "1"),
+    OptionRow(OptionName::Foreground, Form::AnyText, ""),
+    OptionRow(OptionName::Height, Form::Amount, "10"),
+    OptionRow(OptionName::Relief, Form::Relief, "sunken"),
+    OptionRow(OptionName::SelectMode, Form::SelectMode, "browse"),
+    OptionRow(OptionName::Width, Form::Amount, "20"),
 ];
 
 /// The options of a kind of widget, in the order in which they are told.
-pub fn rows_of(kind: Kind) -> &'static [Row]
+pub fn rows_of(kind: Kind) -> &'static [OptionRow]
     ensures { map (λ row. row_of row.0 row.1 row.2.now) result.now ≡ options_of kind }
 {
     match kind {

@@ -9,7 +9,7 @@ ghost use Rattle.tk_options.specs.Forms.{most_amount};
 use crate::fault::OptionFault;
 use crate::form::amount_in;
 use crate::option::{OptionEntry, OptionName};
-use crate::rows::{Row, rows_of};
+use crate::rows::{OptionRow, rows_of};
 use crate::settings::{Setting, Settings};
 use indexmap::IndexMap;
 use std::alloc::{AllocError, Global};
@@ -160,9 +160,8 @@ impl OptionTable {
         }
     }
 
-    /// Sets an option to a value, which isn't tested: what is put is to be a value that the option had, or one that it takes. Nothing is set where
-    /// the widget has no such option. It takes no memory.
-    pub fn put(&mut self, option: OptionName, value: Text)
+    /// Sets an option to a value that was tested. Nothing is set where the widget has no such option.
+    fn put(&mut self, option: OptionName, value: Text)
         ensures { self.new ≡ with_value option value self.old }
     {
         let Some(entry) = self.entries.get_mut(option.name()) else {
@@ -182,10 +181,10 @@ impl OptionTable {
 }
 
 /// The option of a row, with its default.
-fn new_entry(alloc: Global, row: Row) -> Result<OptionEntry, AllocError>
+fn new_entry(alloc: Global, row: OptionRow) -> Result<OptionEntry, AllocError>
     ensures { IfOk result (λ entry. entry ≡ row_of row.0 row.1 row.2.now) }
 {
-    let Row(option, form, default) = row;
+    let OptionRow(option, form, default) = row;
     Ok(OptionEntry {
         option,
         form,

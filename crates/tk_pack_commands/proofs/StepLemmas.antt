@@ -2,7 +2,7 @@
 use Rattle.std.proofs.Common.{◌≡◌, ℕ, List, [], ◌∷◌, ◌++◌, Result, Ok, Err, refl, sym, ap, ◌∙◌, append_assoc, append-nil}
 use Rattle.tk_tree.specs.Own.{Own as Tree}
 use Rattle.tk_packer.specs.Packs.{Own as Packs}
-use Rattle.tk_pack_commands.specs.declared.asked.Asked.{Asked}
+use Rattle.tk_pack_commands.specs.declared.asked.PackRequest.{PackRequest}
 use Rattle.tk_pack_commands.specs.declared.targets.Target.{Target}
 use Rattle.tk_pack_commands.specs.Options.{with_named, options_in}
 use Rattle.tk_pack_commands.specs.Targets.{target_in, targets_in}
@@ -34,6 +34,6 @@ pub targets_behind-refused : (front : List Target) (path : List ℕ) (paths : Li
 targets_behind-refused front path paths tree text is = rw is refl
 
 -- one more option is asked for
-pub options_in-more : (name value : List ℕ) (words : List (List ℕ)) (targets : List Target) (tree : Tree) (packs : Packs) (asked more : Asked)
+pub options_in-more : (name value : List ℕ) (words : List (List ℕ)) (targets : List Target) (tree : Tree) (packs : Packs) (asked more : PackRequest)
     → with_named name value targets tree packs asked ≡ Ok more → options_in words targets tree packs more ≡ options_in (name ∷ value ∷ words) targets tree packs asked
 options_in-more name value words targets tree packs asked more is = rw is refl

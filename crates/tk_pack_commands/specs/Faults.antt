@@ -3,10 +3,6 @@ use Rattle.std.specs.Prelude.{ℕ, List, ◌++◌, Result, codes}
 use Rattle.tcl_text.specs.Answers.{fails, missing_value, quoted}
 use Rattle.tcl_text.specs.FaultTexts.{boolean_text}
 
--- no window has the path (24)
-abbrev pub bad_path : {T : Type 0} → List ℕ → Result T (List ℕ)
-bad_path path = fails (codes "bad window path name " ++ quoted path)
-
 -- the main window is packed nowhere
 abbrev pub is_top_level : {T : Type 0} → Result T (List ℕ)
 is_top_level = fails (codes "can't pack \".\": it's a top-level window")

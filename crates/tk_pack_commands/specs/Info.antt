@@ -5,14 +5,14 @@ use Rattle.std.specs.List.{flat_map}
 use Rattle.tcl_text.specs.Answers.{Answer, answers}
 use Rattle.tcl_text.specs.Readings.{list_form}
 use Rattle.tk_packer.specs.declared.packed.Packed.{Packed}
-use Rattle.tk_parcels.specs.declared.request.Anchor.{Anchor}
-use Rattle.tk_parcels.specs.declared.request.Anchor.TheVariants.{Center, N, Ne, E, Se, S, Sw, W, Nw}
-use Rattle.tk_parcels.specs.declared.request.Fill.{Fill}
-use Rattle.tk_parcels.specs.declared.request.Fill.TheVariants.{None as Neither, X, Y, Both}
-use Rattle.tk_parcels.specs.declared.request.Pads.{Pads}
-use Rattle.tk_parcels.specs.declared.request.Request.{Request}
-use Rattle.tk_parcels.specs.declared.request.Side.{Side}
-use Rattle.tk_parcels.specs.declared.request.Side.TheVariants.{Top, Bottom, Left, Right}
+use Rattle.tk_packer.specs.declared.request.Anchor.{Anchor}
+use Rattle.tk_packer.specs.declared.request.Anchor.TheVariants.{Center, N, Ne, E, Se, S, Sw, W, Nw}
+use Rattle.tk_packer.specs.declared.request.Fill.{Fill}
+use Rattle.tk_packer.specs.declared.request.Fill.TheVariants.{None as Neither, X, Y, Both}
+use Rattle.tk_packer.specs.declared.request.Pads.{Pads}
+use Rattle.tk_packer.specs.declared.request.Request.{Request}
+use Rattle.tk_packer.specs.declared.request.Side.{Side}
+use Rattle.tk_packer.specs.declared.request.Side.TheVariants.{Top, Bottom, Left, Right}
 use Rattle.tk_tree.specs.Own.{Own as Tree, window_at}
 use Rattle.tk_tree.specs.declared.window.Window.{Window}
 use Rattle.tk_pack_commands.specs.Faults.{not_packed}

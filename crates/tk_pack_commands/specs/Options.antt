@@ -6,10 +6,10 @@ use Rattle.tcl_text.specs.Answers.{◌>>=◌}
 use Rattle.tcl_text.specs.Readings.{boolean_of}
 use Rattle.tk_options.specs.Forms.{amount_in}
 use Rattle.tk_packer.specs.Packs.{Own as Packs, request_in}
-use Rattle.tk_parcels.specs.declared.request.Pads.{Pads}
-use Rattle.tk_parcels.specs.declared.request.Request.{Request}
+use Rattle.tk_packer.specs.declared.request.Pads.{Pads}
+use Rattle.tk_packer.specs.declared.request.Request.{Request}
 use Rattle.tk_tree.specs.Own.{Own as Tree}
-use Rattle.tk_pack_commands.specs.declared.asked.Asked.{Asked}
+use Rattle.tk_pack_commands.specs.declared.asked.PackRequest.{PackRequest}
 use Rattle.tk_pack_commands.specs.declared.asked.PackOption.{PackOption}
 use Rattle.tk_pack_commands.specs.declared.asked.PackOption.TheVariants.{Side, Anchor, Fill, Expand, Padx, Pady, Ipadx, Ipady, After, Before}
 use Rattle.tk_pack_commands.specs.declared.targets.Found.{Found}
@@ -34,19 +34,19 @@ option_named name =
     else None)))))))))
 
 -- nothing is asked for yet
-abbrev pub nothing_asked : Asked
+abbrev pub nothing_asked : PackRequest
 nothing_asked = record { side = None; anchor = None; fill = None; expand = None; padx = None; pady = None; ipadx = None; ipady = None; beside = None }
 
 -- ---- how a window is packed
 
-abbrev pub with_padx : Option Pads → Asked → Option Asked
+abbrev pub with_padx : Option Pads → PackRequest → Option PackRequest
 with_padx pads asked = option_map (λ padx. record asked { padx = Some padx }) pads
 
-abbrev pub with_pady : Option Pads → Asked → Option Asked
+abbrev pub with_pady : Option Pads → PackRequest → Option PackRequest
 with_pady pads asked = option_map (λ pady. record asked { pady = Some pady }) pads
 
 -- what is asked for with this value for an option, if it takes it
-abbrev pub with_value : PackOption → List ℕ → Asked → Option Asked
+abbrev pub with_value : PackOption → List ℕ → PackRequest → Option PackRequest
 with_value Side value asked = option_map (λ side. record asked { side = Some side }) (side_in value)
 with_value Anchor value asked = option_map (λ anchor. record asked { anchor = Some anchor }) (anchor_in value)
 with_value Fill value asked = option_map (λ fill. record asked { fill = Some fill }) (fill_in value)
@@ -58,7 +58,7 @@ with_value Ipady value asked = option_map (λ ipady. record asked { ipady = Some
 with_value After value asked = None
 with_value Before value asked = None
 
-abbrev pub or_bad : List ℕ → List ℕ → Option Asked → Result Asked (List ℕ)
+abbrev pub or_bad : List ℕ → List ℕ → Option PackRequest → Result PackRequest (List ℕ)
 or_bad name value (Some asked) = Ok asked
 or_bad name value None = bad_value value name
 
@@ -81,14 +81,14 @@ sibling_in path targets tree packs = do
   found ← window_in path tree
   if_sibling path targets packs found
 
-abbrev pub with_beside : Bool → List ℕ → List Target → Tree → Packs → Asked → Result Asked (List ℕ)
+abbrev pub with_beside : Bool → List ℕ → List Target → Tree → Packs → PackRequest → Result PackRequest (List ℕ)
 with_beside after path targets tree packs asked = do
   number ← sibling_in path targets tree packs
   Ok (record asked { beside = Some (record { number = number; after = after }) })
 
 -- ---- options and their values, from left to right; of one that is named twice the last counts
 
-abbrev pub with_option : PackOption → List ℕ → List ℕ → List Target → Tree → Packs → Asked → Result Asked (List ℕ)
+abbrev pub with_option : PackOption → List ℕ → List ℕ → List Target → Tree → Packs → PackRequest → Result PackRequest (List ℕ)
 with_option After name value targets tree packs asked = with_beside true value targets tree packs asked
 with_option Before name value targets tree packs asked = with_beside false value targets tree packs asked
 with_option option name value targets tree packs asked = or_bad name value (with_value option value asked)
@@ -97,18 +97,18 @@ abbrev pub known : List ℕ → Option PackOption → Result PackOption (List �
 known name (Some option) = Ok option
 known name None = unknown_option name
 
-unfoldable pub with_named : List ℕ → List ℕ → List Target → Tree → Packs → Asked → Result Asked (List ℕ)
+unfoldable pub with_named : List ℕ → List ℕ → List Target → Tree → Packs → PackRequest → Result PackRequest (List ℕ)
 with_named name value targets tree packs asked = do
   option ← known name (option_named name)
   with_option option name value targets tree packs asked
 
 -- the last may lack its value
-unfoldable pub without_value : List ℕ → Result Asked (List ℕ)
+unfoldable pub without_value : List ℕ → Result PackRequest (List ℕ)
 without_value name = do
   _ ← known name (option_named name)
   no_value name
 
-abbrev pub options_in : List (List ℕ) → List Target → Tree → Packs → Asked → Result Asked (List ℕ)
+abbrev pub options_in : List (List ℕ) → List Target → Tree → Packs → PackRequest → Result PackRequest (List ℕ)
 options_in [] targets tree packs asked = Ok asked
 options_in (name ∷ []) targets tree packs asked = without_value name
 options_in (name ∷ value ∷ words) targets tree packs asked = do
@@ -118,7 +118,7 @@ options_in (name ∷ value ∷ words) targets tree packs asked = do
 -- ---- the request
 
 -- a request with what is asked for, the rest as it was
-unfoldable pub asked_request : Asked → Request → Request
+unfoldable pub asked_request : PackRequest → Request → Request
 asked_request asked request = record {
   width = request.width;
   height = request.height;

@@ -5,7 +5,7 @@ use Rattle.tcl_text.specs.Answers.{Answer, ◌>>=◌, answers, truth, wrong_args
 use Rattle.tcl_text.specs.Readings.{boolean_of, list_form}
 use Rattle.tk_packer.specs.Packs.{Own as Packs, slaves_of, request_in, propagates_in, with_propagation, without_packed}
 use Rattle.tk_tree.specs.Own.{Own as Tree, at_path}
-use Rattle.tk_pack_commands.specs.declared.asked.Asked.{Asked}
+use Rattle.tk_pack_commands.specs.declared.asked.PackRequest.{PackRequest}
 use Rattle.tk_pack_commands.specs.declared.targets.Found.{Found}
 use Rattle.tk_pack_commands.specs.declared.targets.Target.{Target}
 use Rattle.tk_pack_commands.specs.Faults.{not_boolean}
@@ -23,7 +23,7 @@ Told = Packs × Answer
 -- the windows that are to be packed, and what is asked for
 pub record Planned : Type 0 where
   pub targets : List Target
-  pub asked : Asked
+  pub asked : PackRequest
 
 -- all words tested, before anything is packed
 unfoldable pub plan_in : List (List ℕ) → Tree → Packs → Result Planned (List ℕ)

@@ -3,9 +3,9 @@ use Rattle.std.specs.Prelude.{ℕ, ◌+◌, true, ◌==◌, if◌then◌else◌,
 use Rattle.std.specs.List.{position_or_len}
 use Rattle.tk_packer.specs.Packs.{Own as Packs, slaves_of, without, request_in, with_packed}
 use Rattle.tk_packer.specs.declared.packed.Packed.{Packed}
-use Rattle.tk_parcels.specs.Ask.{default_request}
-use Rattle.tk_parcels.specs.declared.request.Request.{Request}
-use Rattle.tk_pack_commands.specs.declared.asked.Asked.{Asked}
+use Rattle.tk_packer.specs.Ask.{default_request}
+use Rattle.tk_packer.specs.declared.request.Request.{Request}
+use Rattle.tk_pack_commands.specs.declared.asked.PackRequest.{PackRequest}
 use Rattle.tk_pack_commands.specs.declared.asked.Beside.{Beside}
 use Rattle.tk_pack_commands.specs.declared.targets.Target.{Target}
 use Rattle.tk_pack_commands.specs.Options.{asked_request}
@@ -27,7 +27,7 @@ abbrev pub request_or_default : ℕ → List Packed → Request
 request_or_default number packs = unwrap_or (request_in number packs) (default_request 1 1)
 
 -- one window packed
-unfoldable pub packed_one : Asked → Option Beside → Target → Packs → Packs
+unfoldable pub packed_one : PackRequest → Option Beside → Target → Packs → Packs
 packed_one asked beside target own =
     with_packed (place_beside beside target.number (slaves_of target.master own.packs))
     (record { master = target.master; number = target.number; request = asked_request asked (request_or_default target.number own.packs) }) own
@@ -36,6 +36,6 @@ packed_one asked beside target own =
 abbrev pub next_beside : Target → Option Beside → Option Beside
 next_beside target beside = option_map (λ _. record { number = target.number; after = true }) beside
 
-abbrev pub packed_all : Asked → Option Beside → List Target → Packs → Packs
+abbrev pub packed_all : PackRequest → Option Beside → List Target → Packs → Packs
 packed_all asked beside [] own = own
 packed_all asked beside (target ∷ targets) own = packed_all asked (next_beside target beside) targets (packed_one asked beside target own)

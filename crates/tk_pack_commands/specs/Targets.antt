@@ -8,7 +8,8 @@ use Rattle.tk_tree.specs.Own.{Own as Tree, at_path}
 use Rattle.tk_tree.specs.declared.window.Window.{Window}
 use Rattle.tk_pack_commands.specs.declared.targets.Found.{Found}
 use Rattle.tk_pack_commands.specs.declared.targets.Target.{Target}
-use Rattle.tk_pack_commands.specs.Faults.{bad_path, is_top_level}
+use Rattle.tk_pack_commands.specs.Faults.{is_top_level}
+use Rattle.tk_tree.specs.Path.{bad_path}
 
 abbrev pub begins_path : List ℕ → Bool
 begins_path [] = false

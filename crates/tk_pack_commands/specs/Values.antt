@@ -5,13 +5,13 @@ use Rattle.std.specs.Str.{bytes_eq}
 use Rattle.tcl_text.specs.Readings.{list_of}
 use Rattle.tcl_text.specs.declared.fault.ListFault.{ListFault}
 use Rattle.tk_options.specs.Forms.{amount_in}
-use Rattle.tk_parcels.specs.declared.request.Side.{Side}
-use Rattle.tk_parcels.specs.declared.request.Side.TheVariants.{Top, Bottom, Left, Right}
-use Rattle.tk_parcels.specs.declared.request.Anchor.{Anchor}
-use Rattle.tk_parcels.specs.declared.request.Anchor.TheVariants.{Center, N, Ne, E, Se, S, Sw, W, Nw}
-use Rattle.tk_parcels.specs.declared.request.Fill.{Fill}
-use Rattle.tk_parcels.specs.declared.request.Fill.TheVariants.{None as Neither, X, Y, Both}
-use Rattle.tk_parcels.specs.declared.request.Pads.{Pads}
+use Rattle.tk_packer.specs.declared.request.Side.{Side}
+use Rattle.tk_packer.specs.declared.request.Side.TheVariants.{Top, Bottom, Left, Right}
+use Rattle.tk_packer.specs.declared.request.Anchor.{Anchor}
+use Rattle.tk_packer.specs.declared.request.Anchor.TheVariants.{Center, N, Ne, E, Se, S, Sw, W, Nw}
+use Rattle.tk_packer.specs.declared.request.Fill.{Fill}
+use Rattle.tk_packer.specs.declared.request.Fill.TheVariants.{None as Neither, X, Y, Both}
+use Rattle.tk_packer.specs.declared.request.Pads.{Pads}
 
 unfoldable pub side_in : List ℕ → Option Side
 side_in text =

@@ -10,7 +10,7 @@ pub struct Beside {
 
 /// What the options of `pack configure` ask for; none for an option that isn't named.
 #[derive(Clone, Copy)]
-pub struct Asked {
+pub struct PackRequest {
     pub side: Option<Side>,
     pub anchor: Option<Anchor>,
     pub fill: Option<Fill>,

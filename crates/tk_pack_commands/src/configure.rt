@@ -5,8 +5,7 @@ ghost use Rattle.tk_pack_commands.specs.Pack as spec;
 ghost use Rattle.tk_packer.specs.Packs.{own_of as packs_of, LeavesOthers};
 ghost use Rattle.tk_tree.specs.Own.{own_of};
 
-use crate::answers::{answered, nothing};
-use crate::asked::Asked;
+use crate::asked::PackRequest;
 use crate::options::options_in;
 use crate::pack::PACK_USAGE;
 use crate::places::pack_all;
@@ -15,19 +14,19 @@ use crate::targets::{Target, path_count, targets_in};
 use std::alloc::{AllocError, Global};
 use std::marker::Model;
 use tcl_text::Text;
-use tcl_text::answers::{Refusal, wrong_args};
+use tcl_text::answers::{Refusal, answered, wrong_args};
 use tcl_text::message::Answer;
 use tk_packer::PackTable;
 use tk_tree::Windows;
 
 /// Windows that are to be packed, and what is asked for.
 #[derive(Drop)]
-pub struct Plan {
+pub struct PackPlan {
     targets: Vec<Target>,
-    asked: Asked,
+    asked: PackRequest,
 }
 
-impl Model for Plan {
+impl Model for PackPlan {
     ghost use Rattle.tk_pack_commands.specs.Pack.{Planned};
 
     ghost Value = { Planned };
@@ -37,17 +36,17 @@ impl Model for Plan {
 
 /// All words tested, before anything is packed.
 #[tactic(auto, unfolding(crate::specs::Pack::plan_in))]
-fn plan_in(scene: Scene, words: &[Text]) -> Result<Plan, Refusal>
+fn plan_in(scene: Scene, words: &[Text]) -> Result<PackPlan, Refusal>
     ensures { Gives result (spec.plan_in words.now (own_of scene.entry.owner scene.entry.windows.now) (packs_of scene.entry.owner scene.entry.packs.now)) }
 {
     let (paths, options) = words.split_at(path_count(words));
     let targets = targets_in(scene.alloc, scene.windows, scene.owner, paths)?;
     let asked = options_in(scene, targets.as_slice(), options)?;
-    Ok(Plan { targets, asked })
+    Ok(PackPlan { targets, asked })
 }
 
 /// What is to be packed, or the text of the error.
-fn planned(scene: Scene, words: &[Text]) -> Result<Result<Plan, Text>, AllocError>
+fn planned(scene: Scene, words: &[Text]) -> Result<Result<PackPlan, Text>, AllocError>
     ensures { IfOk result (λ plan. plan ≡ spec.plan_in words.now
         (own_of scene.entry.owner scene.entry.windows.now) (packs_of scene.entry.owner scene.entry.packs.now)) }
 {
@@ -95,7 +94,7 @@ fn configure_tested(
     };
     match planned(scene, words)? {
         Ok(plan) => {
-            let nothing = nothing(alloc)?;
+            let nothing = Text::empty();
             pack_all(packs, owner, &plan.asked, plan.targets.as_slice())?;
             Ok(Ok(nothing))
         }

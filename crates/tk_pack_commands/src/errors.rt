@@ -8,13 +8,6 @@ use tcl_text::answers::{Refusal, error, error_about, missing_value, quoting_erro
 use tcl_text::message::quoting;
 use tcl_text::{NotBoolean, Text};
 
-/// The error for a path that names no window (24).
-pub fn bad_path<T>(alloc: Global, path: &Text) -> Result<T, Refusal>
-    ensures { Gives result (spec.bad_path path.now) }
-{
-    Err(quoting_error(alloc, "bad window path name ", path.as_str()))
-}
-
 /// The error for the main window, which is packed nowhere.
 pub fn is_top_level<T>(alloc: Global) -> Result<T, Refusal>
     ensures { Gives result spec.is_top_level }

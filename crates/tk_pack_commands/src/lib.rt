@@ -1,7 +1,6 @@
 //! The command `pack` (pack(n)): how windows are packed in their parents, in what order, and what is told of that.
 #![tactic(auto)]
 
-mod answers;
 mod asked;
 mod configure;
 mod errors;

@@ -6,7 +6,7 @@ ghost use Rattle.tk_pack_commands.specs.Options as spec;
 ghost use Rattle.tk_packer.specs.Packs.{own_of as packs_of};
 ghost use Rattle.tk_tree.specs.Own.{own_of};
 
-use crate::asked::{Asked, Beside, PackOption};
+use crate::asked::{Beside, PackOption, PackRequest};
 use crate::errors::{bad_value, no_value, not_packed, not_sibling, unknown_option};
 use crate::scene::Scene;
 use crate::targets::{Target, window_in};
@@ -47,12 +47,12 @@ fn known(alloc: Global, name: &Text) -> Result<PackOption, Refusal>
     }
 }
 
-impl Asked {
+impl PackRequest {
     /// Nothing is asked for.
-    pub fn nothing() -> Asked
+    pub fn nothing() -> PackRequest
         ensures { result ≡ spec.nothing_asked }
     {
-        Asked {
+        PackRequest {
             side: None,
             anchor: None,
             fill: None,
@@ -90,7 +90,7 @@ impl Asked {
         alloc: Global,
         option: PackOption,
         value: &Text,
-    ) -> Result<Option<Asked>, AllocError>
+    ) -> Result<Option<PackRequest>, AllocError>
         ensures { IfOk result (λ asked. asked ≡ spec.with_value option value.now self) }
     {
         match option {
@@ -107,41 +107,41 @@ impl Asked {
         }
     }
 
-    fn with_side(self, value: &str) -> Option<Asked>
+    fn with_side(self, value: &str) -> Option<PackRequest>
         ensures { result ≡ spec.with_value PackOption.Side value.now self }
     {
         let side = side_in(value)?;
-        Some(Asked {
+        Some(PackRequest {
             side: Some(side),
             ..self
         })
     }
 
-    fn with_anchor(self, value: &str) -> Option<Asked>
+    fn with_anchor(self, value: &str) -> Option<PackRequest>
         ensures { result ≡ spec.with_value PackOption.Anchor value.now self }
     {
         let anchor = anchor_in(value)?;
-        Some(Asked {
+        Some(PackRequest {
             anchor: Some(anchor),
             ..self
         })
     }
 
-    fn with_fill(self, value: &str) -> Option<Asked>
+    fn with_fill(self, value: &str) -> Option<PackRequest>
         ensures { result ≡ spec.with_value PackOption.Fill value.now self }
     {
         let fill = fill_in(value)?;
-        Some(Asked {
+        Some(PackRequest {
             fill: Some(fill),
             ..self
         })
     }
 
-    fn with_expand(self, value: &Text) -> Option<Asked>
+    fn with_expand(self, value: &Text) -> Option<PackRequest>
         ensures { result ≡ spec.with_value PackOption.Expand value.now self }
     {
         match value.boolean() {
-            Ok(expand) => Some(Asked {
+            Ok(expand) => Some(PackRequest {
                 expand: Some(expand),
                 ..self
             }),
@@ -149,41 +149,41 @@ impl Asked {
         }
     }
 
-    fn with_padx(self, pads: Option<Pads>) -> Option<Asked>
+    fn with_padx(self, pads: Option<Pads>) -> Option<PackRequest>
         ensures { result ≡ spec.with_padx pads self }
     {
         let padx = pads?;
-        Some(Asked {
+        Some(PackRequest {
             padx: Some(padx),
             ..self
         })
     }
 
-    fn with_pady(self, pads: Option<Pads>) -> Option<Asked>
+    fn with_pady(self, pads: Option<Pads>) -> Option<PackRequest>
         ensures { result ≡ spec.with_pady pads self }
     {
         let pady = pads?;
-        Some(Asked {
+        Some(PackRequest {
             pady: Some(pady),
             ..self
         })
     }
 
-    fn with_ipadx(self, value: &Text) -> Option<Asked>
+    fn with_ipadx(self, value: &Text) -> Option<PackRequest>
         ensures { result ≡ spec.with_value PackOption.Ipadx value.now self }
     {
         let ipadx = amount_in(value)?;
-        Some(Asked {
+        Some(PackRequest {
             ipadx: Some(ipadx),
             ..self
         })
     }
 
-    fn with_ipady(self, value: &Text) -> Option<Asked>
+    fn with_ipady(self, value: &Text) -> Option<PackRequest>
         ensures { result ≡ spec.with_value PackOption.Ipady value.now self }
     {
         let ipady = amount_in(value)?;
-        Some(Asked {
+        Some(PackRequest {
             ipady: Some(ipady),
             ..self
         })
@@ -196,10 +196,10 @@ impl Asked {
 fn with_named(
     scene: Scene,
     targets: &[Target],
-    asked: Asked,
+    asked: PackRequest,
     name: &Text,
     value: &Text,
-) -> Result<Asked, Refusal>
+) -> Result<PackRequest, Refusal>
     ensures { Gives result (spec.with_named name.now value.now targets.now
         (own_of scene.entry.owner scene.entry.windows.now) (packs_of scene.entry.owner scene.entry.packs.now) asked) }
 {
@@ -210,11 +210,11 @@ fn with_named(
 fn with_option(
     scene: Scene,
     targets: &[Target],
-    asked: Asked,
+    asked: PackRequest,
     option: PackOption,
     name: &Text,
     value: &Text,
-) -> Result<Asked, Refusal>
+) -> Result<PackRequest, Refusal>
     ensures { Gives result (spec.with_option option name.now value.now targets.now
         (own_of scene.entry.owner scene.entry.windows.now) (packs_of scene.entry.owner scene.entry.packs.now) asked) }
 {
@@ -231,15 +231,15 @@ fn with_option(
 fn with_beside(
     scene: Scene,
     targets: &[Target],
-    asked: Asked,
+    asked: PackRequest,
     path: &Text,
     after: bool,
-) -> Result<Asked, Refusal>
+) -> Result<PackRequest, Refusal>
     ensures { Gives result (spec.with_beside after path.now targets.now
         (own_of scene.entry.owner scene.entry.windows.now) (packs_of scene.entry.owner scene.entry.packs.now) asked) }
 {
     let number = sibling_in(scene, targets, path)?;
-    Ok(Asked {
+    Ok(PackRequest {
         beside: Some(Beside { number, after }),
         ..asked
     })
@@ -283,7 +283,7 @@ fn have_master(targets: &[Target], master: u64) -> bool
 
 /// The error of a last option that lacks its value: 20, or 23.
 #[tactic(auto, unfolding(crate::specs::Options::without_value))]
-fn without_value(alloc: Global, name: &Text) -> Result<Asked, Refusal>
+fn without_value(alloc: Global, name: &Text) -> Result<PackRequest, Refusal>
     ensures { Gives result (spec.without_value name.now) }
 {
     let _ = known(alloc, name)?;
@@ -291,11 +291,11 @@ fn without_value(alloc: Global, name: &Text) -> Result<Asked, Refusal>
 }
 
 /// What options and their values ask for, tested from the left.
-pub fn options_in(scene: Scene, targets: &[Target], words: &[Text]) -> Result<Asked, Refusal>
+pub fn options_in(scene: Scene, targets: &[Target], words: &[Text]) -> Result<PackRequest, Refusal>
     ensures { Gives result (spec.options_in words.now targets.now
         (own_of scene.entry.owner scene.entry.windows.now) (packs_of scene.entry.owner scene.entry.packs.now) spec.nothing_asked) }
 {
-    let mut asked = Asked::nothing();
+    let mut asked = PackRequest::nothing();
     let mut rest = words;
     while let Some((name, others)) = rest.split_first() {
         let Some((value, others)) = others.split_first() else {

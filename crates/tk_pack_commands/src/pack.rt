@@ -5,14 +5,13 @@ ghost use Rattle.tk_pack_commands.specs.Pack as spec;
 ghost use Rattle.tk_packer.specs.Packs.{own_of as packs_of, LeavesOthers};
 ghost use Rattle.tk_tree.specs.Own.{own_of};
 
-use crate::answers::{answered, nothing};
 use crate::configure::configure;
 use crate::errors::not_boolean;
 use crate::info::{info_of, paths_of};
 use crate::targets::{begins_path, found_at, window_in};
 use std::alloc::{AllocError, Global};
 use tcl_text::Text;
-use tcl_text::answers::{Refusal, bad_option, truth_answer, wrong_args};
+use tcl_text::answers::{Refusal, answered, bad_option, truth_answer, wrong_args};
 use tcl_text::items::list_answer;
 use tcl_text::message::Answer;
 use tk_base::Win;
@@ -82,7 +81,7 @@ fn forget(
         ≡ spec.forget_words paths.now (own_of owner windows.now) (packs_of owner packs.old)) }
     ensures others { LeavesOthers owner packs.old packs.new }
 {
-    let nothing = nothing(alloc)?;
+    let nothing = Text::empty();
     forget_all(windows, packs, owner, paths);
     Ok(Ok(nothing))
 }
@@ -207,7 +206,7 @@ fn set_propagation(
 {
     match propagation_in(alloc, windows, owner, path, word) {
         Ok((number, propagates)) => {
-            let nothing = nothing(alloc)?;
+            let nothing = Text::empty();
             packs.set_propagates(Win { owner, number }, propagates)?;
             Ok(Ok(nothing))
         }

@@ -3,7 +3,7 @@ ghost use Rattle.std.specs.Prelude.{◌≡◌, ◌≤◌, length, OnOk, IsOk};
 ghost use Rattle.tk_pack_commands.specs.Places as spec;
 ghost use Rattle.tk_packer.specs.Packs.{own_of, without, LeavesOthers};
 
-use crate::asked::{Asked, Beside};
+use crate::asked::{Beside, PackRequest};
 use crate::targets::Target;
 use std::alloc::AllocError;
 use tk_base::Win;
@@ -60,7 +60,7 @@ fn place_beside(slaves: &[Packed], beside: Option<Beside>, number: u64) -> usize
 fn pack_one(
     packs: &mut PackTable,
     owner: usize,
-    asked: &Asked,
+    asked: &PackRequest,
     beside: Option<Beside>,
     target: Target,
 ) -> Result<(), AllocError>
@@ -84,7 +84,7 @@ fn pack_one(
 pub fn pack_all(
     packs: &mut PackTable,
     owner: usize,
-    asked: &Asked,
+    asked: &PackRequest,
     targets: &[Target],
 ) -> Result<(), AllocError>
     ensures own { OnOk result (own_of owner packs.new

@@ -5,11 +5,11 @@ ghost use Rattle.tcl_text.specs.Answers.{Gives};
 ghost use Rattle.tk_pack_commands.specs.Targets as spec;
 ghost use Rattle.tk_tree.specs.Own.{own_of, at_path};
 
-use crate::errors::{bad_path, is_top_level};
+use crate::errors::is_top_level;
 use std::alloc::Global;
 use tcl_text::Text;
 use tcl_text::answers::Refusal;
-use tk_tree::Windows;
+use tk_tree::{Windows, bad_path};
 
 /// A window that is to be packed, and its parent, in which it is packed.
 #[derive(Clone, Copy)]

@@ -1,3 +1,13 @@
+pub mod Alike
+pub mod ChangeLemmas
+pub mod Giving
+pub mod Inside
 pub mod Orders
+pub mod Packing
+pub mod Rest
+pub mod SameInputs
+pub mod Shares
+pub mod Sizes
+pub mod Telling
 pub mod Ties
-pub mod Changes
+pub mod Whole

@@ -1,6 +1,6 @@
 -- What an arrangement is made from.
 use Rattle.std.specs.Prelude.{ℕ, List, []}
-use Rattle.tk_parcels.specs.declared.request.Request.{Request}
+use Rattle.tk_packer.specs.declared.request.Request.{Request}
 
 pub record Inputs : Type 0 where
   pub size : ℕ × ℕ

@@ -6,7 +6,7 @@ use Rattle.std.specs.Map.{lookup}
 use Rattle.std.specs.Option.{option_map_or}
 use Rattle.tk_base.specs.declared.win.Win.{Win}
 use Rattle.tk_packer.specs.declared.packed.Packed.{Packed}
-use Rattle.tk_parcels.specs.declared.request.Request.{Request}
+use Rattle.tk_packer.specs.declared.request.Request.{Request}
 
 -- ---- lists in the rising order of numbers that their elements have
 

@@ -4,7 +4,7 @@ use Rattle.std.specs.Map.{lookup}
 use Rattle.std.specs.Option.{option_map_or, IsSomeAnd}
 use Rattle.tk_packer.specs.declared.packed.Packed.{Packed}
 use Rattle.tk_packer.specs.Packs.{slaves_of, without, master_of, replaced}
-use Rattle.tk_siblings.specs.Line.{Line}
+use Rattle.tk_base.specs.Line.{Line}
 
 -- the lists of slaves, by the numbers of their masters
 abbrev pub Lists : Type 0

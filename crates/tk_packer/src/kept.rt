@@ -1,22 +1,22 @@
 ghost use Rattle.std.specs.Prelude.{◌≡◌, ◌↔◌, IsTrue, OnOk, OnErr, IsOk};
 
 use crate::same::are_same;
+use crate::{Request, arrange};
 use std::alloc::{AllocError, Global};
 use std::marker::Model;
 use tk_base::Rect;
-use tk_parcels::{Request, arrange};
 
 /// Where the slaves of a master lie, kept with what that was made from: the size of the cavity and the requests, in pixels.
 #[derive(Drop)]
-pub struct Kept {
+pub struct KeptArrangement {
     size: (u32, u32),
     requests: Vec<Request>,
     places: Vec<Option<Rect>>,
 }
 
-impl Model for Kept {
+impl Model for KeptArrangement {
     ghost use Rattle.std.specs.Prelude.{◌≡◌};
-    ghost use Rattle.tk_parcels.specs.Layout.{arrangement};
+    ghost use Rattle.tk_packer.specs.Parcels.{arrangement};
     ghost use Rattle.tk_packer.specs.Kept.{Inputs};
 
     ghost Value = { Inputs };
@@ -26,16 +26,16 @@ impl Model for Kept {
     ghost invariant = { λ k. k.places.items ≡ arrangement k.size k.requests.items };
 }
 
-impl Kept {
+impl KeptArrangement {
     ghost use Rattle.tk_packer.specs.Kept.{nothing};
-    ghost use Rattle.tk_parcels.specs.Layout.{arrangement};
+    ghost use Rattle.tk_packer.specs.Parcels.{arrangement};
 
     /// Nothing is arranged yet. It takes no memory.
-    #[tactic(auto, unfolding(tk_parcels::specs::Layout::packed))]
-    pub fn new(alloc: Global) -> Kept
+    #[tactic(auto, unfolding(crate::specs::Parcels::packed))]
+    pub fn new(alloc: Global) -> KeptArrangement
         ensures { result ≡ nothing }
     {
-        Kept {
+        KeptArrangement {
             size: (0, 0),
             requests: Vec::new(alloc),
             places: Vec::new(alloc),
@@ -56,7 +56,7 @@ impl Kept {
         let alloc = *self.requests.allocator();
         let places = arrange(alloc, size, requests)?;
         let requests = Vec::from_slice(alloc, requests)?;
-        *self = Kept {
+        *self = KeptArrangement {
             size,
             requests,
             places,

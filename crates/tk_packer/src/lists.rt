@@ -7,7 +7,7 @@ ghost use Rattle.tk_packer.specs.Tables.{slaves_at, HasRoom, AreApart, taken_out
 use crate::packed::Packed;
 use std::alloc::{AllocError, Global};
 use std::collections::HashMap;
-use tk_siblings::Siblings;
+use tk_base::Siblings;
 
 /// The slaves of a master.
 pub fn slaves_at(masters: &HashMap<u64, Siblings<Packed>>, master: u64) -> &[Packed]

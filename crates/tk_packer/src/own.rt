@@ -1,12 +1,12 @@
 ghost use Rattle.std.specs.Prelude.{◌≡◌, OnOk, OnErr};
 
+use crate::Request;
 use crate::lists::{close, drop_slave, move_slave, open, slaves_at};
 use crate::packed::Packed;
 use std::alloc::{AllocError, Global};
 use std::collections::{HashMap, HashSet};
 use std::marker::Model;
-use tk_parcels::Request;
-use tk_siblings::Siblings;
+use tk_base::Siblings;
 
 /// What one application has packed, found by hashing.
 #[derive(Drop)]

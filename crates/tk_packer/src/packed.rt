@@ -1,4 +1,4 @@
-use tk_parcels::Request;
+use crate::Request;
 
 /// A packed window. The numbers are those of windows of one application.
 #[derive(Clone, Copy, Debug, PartialEq, Eq)]

@@ -1,7 +1,7 @@
 //! Whether requests are the same.
 ghost use Rattle.std.specs.Prelude.{◌≡◌, ◌↔◌, IsTrue};
 
-use tk_parcels::{Anchor, Fill, Pads, Request, Side};
+use crate::{Anchor, Fill, Pads, Request, Side};
 
 /// Whether two lists of requests are the same.
 pub fn are_same(one: &[Request], other: &[Request]) -> bool

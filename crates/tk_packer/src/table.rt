@@ -1,13 +1,13 @@
 ghost use Rattle.std.specs.Prelude.{◌≡◌, ◌≢◌, ℕ, [], insert, IfOk, OnOk, OnErr};
 ghost use Rattle.tk_packer.specs.Packs.{own_of, with_packed, without_packed, without_window, with_propagation, propagates_in, without, slaves_of, request_in, LeavesOthers, wins_of};
 
+use crate::Request;
 use crate::own::OwnPacks;
 use crate::packed::Packed;
 use std::alloc::{AllocError, Global};
 use std::collections::HashMap;
 use std::marker::Model;
 use tk_base::Win;
-use tk_parcels::Request;
 
 /// Which windows are packed in which master, and how, for all applications, each application's apart from the others' (pack(n)).
 ///

@@ -1,6 +1,6 @@
 -- An application that is added, or isn't.
 use Rattle.std.proofs.Common.{◌≡◌, ℕ, List, [], sym, ap, ◌∙◌}
-use Rattle.tk_bind_class.specs.ClassBindings.{with_class_bindings, without_class_bindings}
+use Rattle.tk_panel.specs.ClassBindings.{with_class_bindings, without_class_bindings}
 use Rattle.tk_patterns.specs.declared.binding.Binding.{Binding}
 use Rattle.tk_screen.specs.Own as screens
 use Rattle.tk_panel.specs.Fresh.{fresh, nothing}

@@ -2,9 +2,11 @@
 pub mod Adds
 pub mod Bounds
 pub mod Choices
+pub mod ClassSequences
 pub mod Dooms
 pub mod Drains
 pub mod Heads
+pub mod Kept
 pub mod Marks
 pub mod Nexts
 pub mod Others

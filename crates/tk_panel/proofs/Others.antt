@@ -4,7 +4,7 @@ use Rattle.std.specs.Prelude.{filter, not, ◌==◌, nat_eq}
 use Rattle.std.specs.Borrow.{GName}
 use Rattle.std.specs.List.{range_with_len}
 use Rattle.std.proofs.lemmas.Bool.{eqb-true, eqb-false}
-use Rattle.tk_queue.specs.Queue.{Held, LeavesOthers as LeavesQueue}
+use Rattle.tk_dispatch.specs.Queue.{Held, LeavesOthers as LeavesQueue}
 use Rattle.tk_panel.specs.declared.tables.Tables.{Tables}
 use Rattle.tk_panel.specs.Panel.{LeavesOthers, left_of, others_of, panel_of}
 

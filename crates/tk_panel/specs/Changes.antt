@@ -5,8 +5,8 @@ use Rattle.tk_base.specs.declared.rect.Rect.{Rect}
 use Rattle.tk_events.specs.declared.event.Event.{Event}
 use Rattle.tk_events.specs.declared.event.EventKind.TheVariants.{Physical}
 use Rattle.tk_events.specs.Event.{bare_event}
-use Rattle.tk_layout.specs.declared.changes.Change.{Change}
-use Rattle.tk_layout.specs.declared.changes.Change.TheVariants.{Unmap, Configure, Map}
+use Rattle.tk_packer.specs.declared.changes.PlaceChange.{PlaceChange}
+use Rattle.tk_packer.specs.declared.changes.PlaceChange.TheVariants.{Unmap, Configure, Map}
 use Rattle.tk_sequences.specs.declared.event_type.EventType.{EventType}
 use Rattle.tk_sequences.specs.declared.event_type.EventType.TheVariants as types
 use Rattle.tk_tree.specs.declared.window.Window.{Window}
@@ -29,26 +29,26 @@ abbrev pub configure_event : Window → Rect → ℕ → Event
 configure_event window rect moment =
     record (window_event types.Configure window moment) { x = place_of rect.x; y = place_of rect.y; width = Some rect.width; height = Some rect.height }
 
-abbrev pub event_of : Change → Window → ℕ → Event
+abbrev pub event_of : PlaceChange → Window → ℕ → Event
 event_of (Unmap number) window moment = window_event types.Unmap window moment
 event_of (Configure number rect) window moment = configure_event window rect moment
 event_of (Map number) window moment = window_event types.Map window moment
 
-abbrev pub number_of : Change → ℕ
+abbrev pub number_of : PlaceChange → ℕ
 number_of (Unmap number) = number
 number_of (Configure number rect) = number
 number_of (Map number) = number
 
 -- the event of a change is the last in the queue
-abbrev pub queued_at : Change → Panel → Option Window → Panel
+abbrev pub queued_at : PlaceChange → Panel → Option Window → Panel
 queued_at change panel None = panel
 queued_at change panel (Some window) = record panel { queue = panel.queue ++ event_of change window panel.moment ∷ [] }
 
-abbrev pub with_change : Change → Panel → Panel
+abbrev pub with_change : PlaceChange → Panel → Panel
 with_change change panel = queued_at change panel (window_at (number_of change) panel.screen.tree)
 
 -- those of changes, in their order
-unfoldable pub with_changes : List Change → Panel → Panel
+unfoldable pub with_changes : List PlaceChange → Panel → Panel
 with_changes [] panel = panel
 with_changes (change ∷ changes) panel = with_changes changes (with_change change panel)
 

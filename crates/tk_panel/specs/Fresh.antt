@@ -1,7 +1,7 @@
 -- What an application has before it is added, and when it was.
 use Rattle.std.specs.Prelude.{ℕ, List, []}
 use Rattle.tk_after.specs.Timers as timers
-use Rattle.tk_bind_class.specs.ClassBindings.{with_class_bindings}
+use Rattle.tk_panel.specs.ClassBindings.{with_class_bindings}
 use Rattle.tk_inputs.specs.Inputs as inputs
 use Rattle.tk_screen.specs.Own as screens
 use Rattle.tk_panel.specs.Panel.{Panel}

@@ -1,6 +1,8 @@
 -- What the contracts cite.
 pub mod Changes
 pub mod Choice
+pub mod ClassBindings
+pub mod ClassLaws
 pub mod Commands
 pub mod Deliver
 pub mod Destroy

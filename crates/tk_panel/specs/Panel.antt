@@ -9,7 +9,7 @@ use Rattle.tk_inputs.specs.declared.inputs.Input.{Input}
 use Rattle.tk_inputs.specs.Inputs as inputs
 use Rattle.tk_patterns.specs.declared.binding.Binding.{Binding}
 use Rattle.tk_patterns.specs.Own as bindings
-use Rattle.tk_queue.specs.Queue as queues
+use Rattle.tk_dispatch.specs.Queue as queues
 use Rattle.tk_screen.specs.Own as screens
 use Rattle.tk_virtual.specs.declared.pair.Pair.{Pair}
 use Rattle.tk_virtual.specs.Virtual as virtuals

@@ -7,13 +7,12 @@ ghost use Rattle.tk_screen.specs.Own as screens;
 ghost use Rattle.tk_widgets.specs.Sizes.{new_widget};
 
 use crate::tables::Tables;
+use crate::{bind_classes, unbind_classes};
 use std::alloc::{AllocError, Global};
 use tcl_text::Text;
 use tcl_text::message::short_text;
 use tk_base::Kind;
-use tk_bind_class::{bind_classes, unbind_classes};
-use tk_marks::MarkedScreen;
-use tk_screen::{Screen, Toplevel};
+use tk_screen::{MarkedScreen, Screen, Toplevel};
 use tk_widgets::Widget;
 
 /// Adds an application of a name that had nothing, with a rectangle of a size in pixels: its main window `.`, whose title is the name, and the bindings

@@ -8,7 +8,7 @@ use std::alloc::AllocError;
 use tcl_vars::Scopes;
 use tk_base::{Rect, Win};
 use tk_events::{Event, EventKind, EventType};
-use tk_layout::Change;
+use tk_packer::PlaceChange;
 use tk_tree::Window;
 
 /// An event of a window, without fields.
@@ -41,26 +41,27 @@ fn configure_event(window: &Window, rect: Rect, moment: u64) -> Result<Event, Al
 }
 
 /// The event of what became of a window.
-fn event_of(change: Change, window: &Window, moment: u64) -> Result<Event, AllocError>
+fn event_of(change: PlaceChange, window: &Window, moment: u64) -> Result<Event, AllocError>
     ensures { IfOk result (λ event. event ≡ event_of change window.now moment) }
 {
     match change {
-        Change::Unmap(_) => window_event(EventType::Unmap, window, moment),
-        Change::Configure(_, rect) => configure_event(window, rect, moment),
-        Change::Map(_) => window_event(EventType::Map, window, moment),
+        PlaceChange::Unmap(_) => window_event(EventType::Unmap, window, moment),
+        PlaceChange::Configure(_, rect) => configure_event(window, rect, moment),
+        PlaceChange::Map(_) => window_event(EventType::Map, window, moment),
     }
 }
 
-fn number_of(change: Change) -> u64
+fn number_of(change: PlaceChange) -> u64
     ensures { result ≡ number_of change }
 {
     match change {
-        Change::Unmap(number) | Change::Configure(number, _) | Change::Map(number) => number,
+        PlaceChange::Unmap(number) | PlaceChange::Configure(number, _) | PlaceChange::Map(number) =>
+            number,
     }
 }
 
 /// Queues the event of a change.
-fn queue_change(tables: &mut Tables, slot: usize, change: Change) -> Result<(), AllocError>
+fn queue_change(tables: &mut Tables, slot: usize, change: PlaceChange) -> Result<(), AllocError>
     ensures own { OnOk result (panel_of slot tables.new ≡ with_change change (panel_of slot tables.old)) }
     ensures others { LeavesOthers slot tables.old tables.new }
 {
@@ -79,7 +80,11 @@ fn queue_change(tables: &mut Tables, slot: usize, change: Change) -> Result<(), 
 
 /// Queues the events of changes, in their order.
 #[tactic(auto, unfolding(crate::specs::Changes::with_changes))]
-fn queue_changes(tables: &mut Tables, slot: usize, changes: &[Change]) -> Result<(), AllocError>
+fn queue_changes(
+    tables: &mut Tables,
+    slot: usize,
+    changes: &[PlaceChange],
+) -> Result<(), AllocError>
     ensures own { OnOk result (panel_of slot tables.new ≡ with_changes changes.now (panel_of slot tables.old)) }
     ensures others { LeavesOthers slot tables.old tables.new }
 {

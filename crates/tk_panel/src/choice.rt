@@ -3,6 +3,7 @@ ghost use Rattle.std.specs.Prelude.{◌≡◌, IfOk};
 ghost use Rattle.tk_panel.specs.Choice.{chosen, scripts_of};
 ghost use Rattle.tk_panel.specs.Panel.{LeavesOthers, panel_of};
 
+use crate::Scripts;
 use crate::report::write;
 use crate::tables::Tables;
 use crate::transcript::Stream;
@@ -11,7 +12,6 @@ use tcl_text::{Text, TextList};
 use tk_base::Win;
 use tk_dispatch::scripts_for;
 use tk_events::Event;
-use tk_upcoming::Scripts;
 
 /// The scripts of an event of a window that is there, or the text of a refused substitution.
 fn scripts_of(

@@ -1,5 +1,5 @@
 ghost use Rattle.std.specs.Prelude.{◌≡◌, ◌≤◌};
-ghost use Rattle.tcl_text.specs.Limits.{last_moment};
+ghost use Rattle.tk_base.specs.Limits.{last_moment};
 
 use std::marker::Model;
 
@@ -11,7 +11,7 @@ pub struct Clock {
 
 impl Model for Clock {
     ghost use Rattle.std.specs.Prelude.{ℕ, ◌≤◌};
-    ghost use Rattle.tcl_text.specs.Limits.{last_moment};
+    ghost use Rattle.tk_base.specs.Limits.{last_moment};
 
     ghost Value = { ℕ };
 

@@ -10,7 +10,8 @@ use crate::transcript::Stream;
 use itoa::Buffer;
 use std::alloc::{AllocError, Global};
 use tcl_text::Text;
-use tcl_text::message::{Answer, bad_option, short_text, wrong_args};
+use tcl_text::answers::{answered, bad_option, wrong_args};
+use tcl_text::message::{Answer, short_text};
 
 /// Writes a line, and answers the empty text.
 fn write_out(tables: &mut Tables, slot: usize, text: &Text) -> Result<Answer, AllocError>
@@ -18,9 +19,8 @@ fn write_out(tables: &mut Tables, slot: usize, text: &Text) -> Result<Answer, Al
     ensures others { LeavesOthers slot tables.old tables.new }
 {
     let line = text.copy()?;
-    let empty = short_text(tables.alloc, "")?;
     write(tables, slot, Stream::Out, line)?;
-    Ok(Ok(empty))
+    Ok(Ok(Text::empty()))
 }
 
 /// Writes a line to a channel: to `stdout` alone.
@@ -36,14 +36,15 @@ fn put_to(
     if channel.as_str() == "stdout" {
         return write_out(tables, slot, text);
     }
-    let answer = bad_option(tables.alloc, channel.as_str())?;
+    let answer = answered(bad_option(tables.alloc, channel))?;
     Ok(answer)
 }
 
-fn puts_usage(alloc: Global) -> Result<Answer, AllocError>
-    ensures { IfOk result (λ answer. answer ≡ wrong_args_of (codes "puts ?stdout? text")) }
+/// The error for a wrong number of words.
+fn misused(alloc: Global, usage: &str) -> Result<Answer, AllocError>
+    ensures { IfOk result (λ answer. answer ≡ wrong_args_of usage.now) }
 {
-    wrong_args(alloc, "puts ?stdout? text")
+    answered(wrong_args(alloc, usage))
 }
 
 /// The command `puts` (puts(n)): one line of the transcript, at the moment.
@@ -56,11 +57,11 @@ pub fn puts_command(tables: &mut Tables, slot: usize, words: &[Text]) -> Result<
         [text] => write_out(tables, slot, text),
         [channel, text] => put_to(tables, slot, channel, text),
         [] => {
-            let answer = puts_usage(tables.alloc)?;
+            let answer = misused(tables.alloc, "puts ?stdout? text")?;
             Ok(answer)
         }
         [_, _, _, ..] => {
-            let answer = puts_usage(tables.alloc)?;
+            let answer = misused(tables.alloc, "puts ?stdout? text")?;
             Ok(answer)
         }
     }
@@ -75,7 +76,7 @@ fn milliseconds(alloc: Global, moment: u64, words: &[Text]) -> Result<Answer, Al
             let mut buffer = Buffer::new();
             Ok(Ok(short_text(alloc, buffer.format(moment))?))
         }
-        [_, ..] => wrong_args(alloc, "clock milliseconds"),
+        [_, ..] => misused(alloc, "clock milliseconds"),
     }
 }
 
@@ -85,11 +86,11 @@ pub fn clock_command(alloc: Global, moment: u64, words: &[Text]) -> Result<Answe
     ensures { IfOk result (λ answer. answer ≡ clock_words words.now moment) }
 {
     let Some((option, words)) = words.split_first() else {
-        return wrong_args(alloc, "clock option ?arg ..?");
+        return misused(alloc, "clock option ?arg ..?");
     };
     match option.as_str() {
         "milliseconds" => milliseconds(alloc, moment, words),
-        other => bad_option(alloc, other),
+        _ => answered(bad_option(alloc, option)),
     }
 }
 

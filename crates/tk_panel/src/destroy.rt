@@ -9,13 +9,13 @@ ghost use Rattle.tk_tree.specs.Own.{own_of, window_at, with_change, LeavesOthers
 use crate::choice::choose;
 use crate::job::{Job, Rest};
 use crate::tables::Tables;
+use crate::{Numbers, Scripts};
 use std::alloc::AllocError;
 use tcl_text::Text;
 use tk_base::Win;
 use tk_events::{Event, EventKind, EventType};
-use tk_marks::MarkedScreen;
+use tk_screen::MarkedScreen;
 use tk_tree::{Window, Windows};
-use tk_upcoming::{Numbers, Scripts};
 
 /// A window is being destroyed from now on, if it is there.
 fn mark_dying(windows: &mut Windows, win: Win)

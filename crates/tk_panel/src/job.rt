@@ -1,4 +1,4 @@
-use tk_upcoming::{Numbers, Scripts};
+use crate::{Numbers, Scripts};
 
 /// What is left to do of what runs one script after another.
 #[derive(Drop)]

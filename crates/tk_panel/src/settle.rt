@@ -7,9 +7,9 @@ use crate::changes::lay_out;
 use crate::choice::choose;
 use crate::job::{Home, Job, Rest};
 use crate::tables::Tables;
+use crate::{Numbers, Scripts};
 use std::alloc::AllocError;
 use tcl_vars::Scopes;
-use tk_upcoming::{Numbers, Scripts};
 
 /// Takes queued events, one after another, up to one that has scripts, and answers these; none where no event has any.
 #[tactic(auto, unfolding(crate::specs::Settle::drained))]

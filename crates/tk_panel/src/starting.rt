@@ -4,12 +4,11 @@ ghost use Rattle.tk_panel.specs.Panel.{LeavesOthers, panel_of};
 ghost use Rattle.tk_panel.specs.Start.{alone, idle_taken, start, start_rest, timer_taken};
 ghost use Rattle.tk_after.specs.Timers.{entry_with, first_due};
 
+use crate::Numbers;
 use crate::job::{Home, Job, Rest};
 use crate::tables::Tables;
 use std::alloc::AllocError;
 use tcl_text::Text;
-use tcl_text::message::short_text;
-use tk_upcoming::Numbers;
 
 /// A script that is no event's, and the job behind it.
 fn alone(script: Text, rest: Rest) -> (Text, Job)
@@ -34,7 +33,7 @@ fn start_timer(
     let rest = Rest::Rounds { round, home };
     match tables.timers.take_due(slot, moment) {
         Some((_id, script)) => Ok(alone(script, rest)),
-        None => Ok(alone(short_text(tables.alloc, "")?, rest)),
+        None => Ok(alone(Text::empty(), rest)),
     }
 }
 
@@ -53,7 +52,7 @@ fn start_idle(
     let rest = Rest::Rounds { round, home };
     match tables.timers.cancel(slot, id) {
         Some(script) => Ok(alone(script, rest)),
-        None => Ok(alone(short_text(tables.alloc, "")?, rest)),
+        None => Ok(alone(Text::empty(), rest)),
     }
 }
 
@@ -70,7 +69,7 @@ fn start_rest(tables: &mut Tables, slot: usize, rest: Rest) -> Result<(Text, Job
                 None => start_timer(tables, slot, round, home),
             }
         }
-        other => Ok(alone(short_text(tables.alloc, "")?, other)),
+        other => Ok(alone(Text::empty(), other)),
     }
 }
 

@@ -5,13 +5,12 @@ ghost use Rattle.tk_panel.specs.Panel.{panel_of};
 use crate::clock::Clock;
 use crate::transcript::Transcripts;
 use std::alloc::{AllocError, Global};
-use tcl_cache::ScriptCache;
+use tcl_table::ScriptCache;
 use tk_after::Timers;
-use tk_dispatch::Histories;
+use tk_dispatch::{EventQueue, Histories};
 use tk_inputs::Inputs;
-use tk_marks::MarkedScreen;
 use tk_patterns::BindTable;
-use tk_queue::EventQueue;
+use tk_screen::MarkedScreen;
 use tk_virtual::VirtualTable;
 
 /// How many scripts that were read are kept for all applications.

@@ -1,6 +1,5 @@
 ghost use Rattle.std.specs.Prelude.{◌≡◌, [], ◌∷◌, ◌++◌, OnErr, OnOk};
-ghost use Rattle.tk_panel.specs.Transcript.{stream_name};
-ghost use Rattle.tk_panel.specs.Transcript.{LeavesLines, lines_of};
+ghost use Rattle.tk_panel.specs.Transcript.{LeavesLines, lines_of, stream_name};
 
 use std::alloc::{AllocError, Global};
 use std::marker::Model;

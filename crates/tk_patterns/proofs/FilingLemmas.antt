@@ -3,16 +3,16 @@ use Rattle.std.proofs.Common.{◌≡◌, ℕ, zero, suc, ◌+◌, ◌*◌, ◌-�
 use Rattle.std.proofs.lemmas.Bool.Decides.{nat_tests}
 use Rattle.std.proofs.lemmas.Slice.Eq.{bytes_eq-Decides}
 use Rattle.std.specs.Option.{option_map_or}
-use Rattle.tk_buckets.proofs.RestLemmas.{NoneSought}
-use Rattle.tk_buckets.specs.declared.filed.Filed.{Filed}
-use Rattle.tk_buckets.specs.Filed.{stamps_of}
+use Rattle.tk_patterns.proofs.RestLemmas.{NoneSought}
+use Rattle.tk_patterns.specs.declared.filed.Filed.{Filed}
+use Rattle.tk_patterns.specs.Filed.{stamps_of}
 use Rattle.tk_events.specs.declared.event.Event.{Event}
 use Rattle.tk_events.specs.declared.event.EventKind.TheVariants as kinds
-use Rattle.tk_history.specs.declared.step.Step.{Step}
-use Rattle.tk_history.specs.Fits.{fits, has_type, has_detail, has_modifiers}
-use Rattle.tk_history.specs.Matches.{earlier_at}
-use Rattle.tk_history.specs.Steps.{steps_of, newest_copy, earlier_copies, copies_of}
-use Rattle.tk_history.specs.Walk.{matches, ends_at, walk}
+use Rattle.tk_patterns.specs.declared.step.PatternStep.{PatternStep}
+use Rattle.tk_patterns.specs.Fits.{fits, has_type, has_detail, has_modifiers}
+use Rattle.tk_patterns.specs.Matches.{earlier_at}
+use Rattle.tk_patterns.specs.Steps.{steps_of, newest_copy, earlier_copies, copies_of}
+use Rattle.tk_patterns.specs.Walk.{matches, ends_at, walk}
 use Rattle.tk_patterns.specs.declared.binding.Binding.{Binding}
 use Rattle.tk_patterns.specs.Filing.{filing_number, detail_number, class_number, sequence_class, number_of, is_number, is_number_of_key, is_number_of_button, is_number_of_virtuals, is_sought}
 use Rattle.tk_patterns.specs.Own.{has_tag}
@@ -40,8 +40,8 @@ class_is pattern patterns =
     ap (λ n. option_map_or (λ (p : Pattern). class_number p.kind p.detail) (slice_get (pattern ∷ patterns) n) 0) place
     ∙ ap (λ found. option_map_or (λ (p : Pattern). class_number p.kind p.detail) found 0) (last_at pattern patterns)
 
-record Newest (steps : List Step) (pattern : Pattern) : Type 0 where
-  rest : List Step
+record Newest (steps : List PatternStep) (pattern : Pattern) : Type 0 where
+  rest : List PatternStep
   is : steps ≡ newest_copy pattern ∷ rest
 
 newest : (pattern : Pattern) (patterns : List Pattern) → Newest (steps_of (pattern ∷ patterns)) (last_of pattern patterns)

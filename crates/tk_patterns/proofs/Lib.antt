@@ -1,7 +1,13 @@
 -- Lemmas of the proofs.
 pub mod BindLemmas
+pub mod EventLemmas
+pub mod FiledLemmas
 pub mod FilingLemmas
 pub mod KeptLemmas
+pub mod MatchLemmas
+pub mod PlaceLemmas
 pub mod Reached
+pub mod RestLemmas
+pub mod StepLemmas
 pub mod VerdictLemmas
 pub mod WinnerLemmas

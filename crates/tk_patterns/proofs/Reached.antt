@@ -1,10 +1,10 @@
 -- How far the candidates of an event have been gone through: from a place on, all that is sought is still to come.
 use Rattle.std.proofs.Common.{◌≡◌, ℕ, zero, suc, ◌+◌, ◌||◌, Bool, true, false, List, [], ◌∷◌, length, drop, map, Option, Some, None, slice_get, refl, sym, ap, ◌∙◌, subst, arith}
 use Rattle.std.proofs.lemmas.List.Sums.{fold-append}
-use Rattle.tk_buckets.proofs.RestLemmas.{NoneSought, step, earlier_is, none_left}
-use Rattle.tk_buckets.specs.declared.filed.Filed.{Filed}
-use Rattle.tk_buckets.specs.Filed.{numbers_of, stamps_of, HasStampAt, IsRising}
-use Rattle.tk_buckets.specs.Rests.{first_of, past, earlier}
+use Rattle.tk_patterns.proofs.RestLemmas.{NoneSought, step, earlier_is, none_left}
+use Rattle.tk_patterns.specs.declared.filed.Filed.{Filed}
+use Rattle.tk_patterns.specs.Filed.{numbers_of, stamps_of, HasStampAt, IsRising}
+use Rattle.tk_patterns.specs.Rests.{first_of, past, earlier}
 use Rattle.tk_events.specs.declared.event.Event.{Event}
 use Rattle.tk_events.specs.declared.event.EventKind.TheVariants as kinds
 use Rattle.tk_patterns.proofs.FilingLemmas.{passed_over, none_at_all}

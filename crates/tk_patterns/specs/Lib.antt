@@ -1,9 +1,16 @@
 -- What the contracts cite.
 pub mod FaultTexts
+pub mod Filed
 pub mod Filing
+pub mod Fits
+pub mod Inputs
+pub mod Matches
 pub mod Named
 pub mod Own
+pub mod Rests
 pub mod Same
 pub mod Shown
 pub mod Specific
+pub mod Steps
+pub mod Walk
 pub mod Winner

@@ -3,8 +3,8 @@ use Rattle.std.specs.Prelude.{ℕ, Bool, true, false, ◌-◌, nat_lt, List, [],
 use Rattle.std.specs.Option.{option_map_or}
 use Rattle.std.specs.Ordering.{is_lt, nat_cmp}
 use Rattle.std.specs.Cmp.Lexicographic.{slice_cmp}
-use Rattle.tk_history.specs.declared.step.Step.{Step}
-use Rattle.tk_history.specs.Steps.{steps_of}
+use Rattle.tk_patterns.specs.declared.step.PatternStep.{PatternStep}
+use Rattle.tk_patterns.specs.Steps.{steps_of}
 use Rattle.tk_patterns.specs.declared.verdict.Verdict.{Verdict}
 use Rattle.tk_patterns.specs.declared.verdict.Verdict.TheVariants.{More, Less, Alike}
 use Rattle.tk_patterns.specs.Same.{same_patterns}
@@ -49,7 +49,7 @@ abbrev pub by_held : ℕ → ℕ → Verdict
 by_held modifiers others = if contains_more modifiers others then More else if contains_more others modifiers then Less else Alike
 
 -- (c) from the newest event to the oldest, a proper superset of modifiers
-abbrev pub by_modifiers : List Step → List Step → Verdict
+abbrev pub by_modifiers : List PatternStep → List PatternStep → Verdict
 by_modifiers [] others = Alike
 by_modifiers (step ∷ steps) [] = Alike
 by_modifiers (step ∷ steps) (other ∷ others) = first_of (by_held step.pattern.modifiers other.pattern.modifiers) (by_modifiers steps others)

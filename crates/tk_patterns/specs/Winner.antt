@@ -4,7 +4,7 @@ use Rattle.std.specs.Str.{bytes_eq}
 use Rattle.tk_events.specs.declared.event.Event.{Event}
 use Rattle.tk_events.specs.declared.event.EventKind.{EventKind}
 use Rattle.tk_events.specs.declared.event.EventKind.TheVariants as kinds
-use Rattle.tk_history.specs.Walk.{matches}
+use Rattle.tk_patterns.specs.Walk.{matches}
 use Rattle.tk_patterns.specs.declared.binding.Binding.{Binding}
 use Rattle.tk_patterns.specs.Own.{has_tag, script_of}
 use Rattle.tk_patterns.specs.Specific.{Candidate, beats}

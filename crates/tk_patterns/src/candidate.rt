@@ -1,15 +1,15 @@
 //! Which of two matching sequences is more specific.
 ghost use Rattle.std.specs.Prelude.{◌≡◌, ◌≤◌};
 ghost use Rattle.std.specs.Option.{option_copied};
-ghost use Rattle.tk_history.specs.Steps.{steps_of};
+ghost use Rattle.tk_patterns.specs.Steps.{steps_of};
 ghost use Rattle.tk_patterns.specs.Shown.{shown};
 ghost use Rattle.tk_patterns.specs.Specific.{ends_with_detail, by_detail, by_length, by_held, by_modifiers, by_origin, by_name, verdict, beats};
 ghost use Rattle.tk_sequences.specs.Patterns.{count_of};
 
 use crate::same::same_patterns;
 use crate::verdict::{Verdict, by_having, if_same};
+use crate::{count_of, step_at};
 use tcl_text::Text;
-use tk_history::{count_of, step_at};
 use tk_sequences::{Modifiers, Pattern, Patterns, VirtualName};
 
 /// A sequence that matches.

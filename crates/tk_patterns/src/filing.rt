@@ -1,10 +1,10 @@
 //! Under which number a binding is filed, so that an event looks at few of them.
 ghost use Rattle.std.specs.Prelude.{◌≡◌, ◌<◌, ◌==◌, ◌^◌, Some, None};
-ghost use Rattle.tk_buckets.specs.Filed.{stamps_of, IsRising};
+ghost use Rattle.tk_patterns.specs.Filed.{stamps_of, IsRising};
 ghost use Rattle.tk_patterns.specs.Filing.{mixed, filing_number, key_number, detail_number, class_number, sequence_class, number_of, is_number, is_number_of_key, is_number_of_button, is_number_of_virtuals};
 
+use crate::Buckets;
 use crate::binding::Binding;
-use tk_buckets::Buckets;
 use tk_keys::Keysym;
 use tk_sequences::{Detail, EventType, Sequence};
 

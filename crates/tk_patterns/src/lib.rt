@@ -2,20 +2,31 @@
 #![tactic(auto)]
 
 mod binding;
+mod buckets;
 mod candidate;
 mod fault;
+mod filed;
 mod filing;
+mod fitting;
+mod history;
 mod own;
+mod rests;
 mod same;
+mod step;
 mod table;
 mod verdict;
 mod winning;
 
 pub use binding::Binding;
+pub use buckets::Buckets;
 pub use fault::BindFault;
+pub use filed::Filed;
+pub use fitting::fits;
+pub use history::History;
+pub use rests::{earlier, first_of, past};
+pub use step::{PatternStep, count_of, step_at};
 pub use table::BindTable;
 pub use tk_events::{Event, EventKind, EventType};
-pub use tk_history::History;
 pub use tk_keys::Keysym;
 pub use tk_sequences::{Sequence, VirtualName};
 pub use tk_virtual::VirtualPairs;

@@ -2,7 +2,7 @@ ghost use Rattle.std.specs.Prelude.{◌≡◌, [], ◌∷◌, ◌++◌, ◌<◌,
 ghost use Rattle.std.specs.List.{remove};
 ghost use Rattle.std.specs.Option.{option_copied};
 ghost use Rattle.tk_patterns.specs.Own.{has_tag, is_of, binding_of, most_bindings, script_of, sequences_of, refuses, with_script_at, with_binding, without_binding, without_tag};
-ghost use Rattle.tk_buckets.specs.Filed.{numbers_of};
+ghost use Rattle.tk_patterns.specs.Filed.{numbers_of};
 ghost use Rattle.tk_patterns.specs.Filing.{number_of};
 ghost use Rattle.tk_patterns.specs.Winner.{winner};
 ghost use Rattle.tk_virtual.specs.Virtual.{meanings_of};
@@ -11,12 +11,11 @@ use crate::binding::{Binding, has_tag, is_of};
 use crate::fault::BindFault;
 use crate::filing::number_of;
 use crate::winning::winner;
+use crate::{Buckets, History};
 use std::alloc::{AllocError, Global};
 use std::marker::Model;
 use tcl_text::Text;
-use tk_buckets::Buckets;
 use tk_events::Event;
-use tk_history::History;
 use tk_sequences::Sequence;
 use tk_virtual::VirtualPairs;
 
@@ -33,7 +32,7 @@ pub(crate) struct OwnBindings {
 
 impl Model for OwnBindings {
     ghost use Rattle.std.specs.Prelude.{◌≡◌, List, map};
-    ghost use Rattle.tk_buckets.specs.Filed.{numbers_of};
+    ghost use Rattle.tk_patterns.specs.Filed.{numbers_of};
     ghost use Rattle.tk_patterns.specs.declared.binding.Binding.{Binding};
     ghost use Rattle.tk_patterns.specs.Filing.{number_of};
 

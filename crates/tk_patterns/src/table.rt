@@ -4,6 +4,7 @@ ghost use Rattle.tk_patterns.specs.Own.{own_of, script_of, sequences_of, refuses
 ghost use Rattle.tk_patterns.specs.Winner.{winner};
 ghost use Rattle.tk_virtual.specs.Virtual.{meanings_of};
 
+use crate::History;
 use crate::fault::BindFault;
 use crate::own::OwnBindings;
 use std::alloc::{AllocError, Global};
@@ -11,7 +12,6 @@ use std::collections::HashMap;
 use std::marker::Model;
 use tcl_text::Text;
 use tk_events::Event;
-use tk_history::History;
 use tk_sequences::Sequence;
 use tk_virtual::VirtualPairs;
 

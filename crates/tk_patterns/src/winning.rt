@@ -1,8 +1,8 @@
 //! Which binding of a tag an event runs.
 ghost use Rattle.std.specs.Prelude.{◌≡◌, ℕ, Some, None, map, option_map, slice_get};
 ghost use Rattle.std.specs.Option.{option_copied};
-ghost use Rattle.tk_buckets.specs.Filed.{numbers_of, HasStampAt};
-ghost use Rattle.tk_buckets.specs.Rests.{first_of, earlier};
+ghost use Rattle.tk_patterns.specs.Filed.{numbers_of, HasStampAt};
+ghost use Rattle.tk_patterns.specs.Rests.{first_of, earlier};
 ghost use Rattle.tk_patterns.specs.Filing.{number_of};
 ghost use Rattle.tk_patterns.specs.Own.{is_of, script_of};
 ghost use Rattle.tk_patterns.specs.Same.{same_sequence};
@@ -14,10 +14,9 @@ ghost use Rattle.tk_virtual.specs.Virtual.{meanings_of};
 use crate::binding::{Binding, has_tag};
 use crate::candidate::{Contender, beats};
 use crate::filing::{stamps_of_any, stamps_of_button, stamps_of_key, stamps_of_virtuals};
+use crate::{Buckets, History, earlier, first_of, past};
 use tcl_text::Text;
-use tk_buckets::{Buckets, earlier, first_of, past};
 use tk_events::{Event, EventKind, EventType};
-use tk_history::History;
 use tk_sequences::{Sequence, VirtualName};
 use tk_virtual::{Pair, VirtualPairs};
 

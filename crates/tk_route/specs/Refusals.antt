@@ -1,6 +1,6 @@
 -- Which lines are refused, and with which fault.
 use Rattle.std.specs.Prelude.{◌≡◌, ℕ, ◌<◌, ◌≤◌, ◌⊎◌, true, false, IsTrue, List, [], ◌∷◌, length, Some}
-use Rattle.tcl_text.specs.Limits.{last_moment}
+use Rattle.tk_base.specs.Limits.{last_moment}
 use Rattle.tk_base.specs.Rect.{last_place}
 use Rattle.tk_base.specs.declared.rect.Rect.{Rect}
 use Rattle.tk_route.specs.Screen.{IsOnScreen, are_apart, shares_with_another}

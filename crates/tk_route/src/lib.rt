@@ -21,5 +21,4 @@ pub use place::Point;
 pub use rects::shares_with_another;
 pub use router::Router;
 pub use tk_base::Rect;
-pub use tk_input::{LocalEvent, LocalKind};
-pub use tk_keys::Keysym;
+pub use tk_keys::{Keysym, LocalEvent, LocalKind};

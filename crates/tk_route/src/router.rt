@@ -12,8 +12,7 @@ use crate::place::{Point, local, under};
 use crate::rects::{MAX_APPLICATIONS, Rects, are_apart, shares_with_another};
 use std::marker::Model;
 use tk_base::{MAX_MOMENT, Rect};
-use tk_input::LocalKind;
-use tk_keys::Keysym;
+use tk_keys::{Keysym, LocalKind};
 
 const NO_BUTTONS: Buttons = Buttons {
     first: false,
@@ -60,7 +59,7 @@ impl Model for Router {
 impl Router {
     ghost use Rattle.std.specs.Prelude.{◌≡◌, ◌<◌, ◌≤◌, true, length, List, [], ◌∷◌, Some, MatchResult, OnOk, OnErr, IfOk, slice_set};
     ghost use Rattle.tk_base.specs.declared.rect.Rect.{Rect};
-    ghost use Rattle.tk_input.specs.declared.event.LocalKind.TheVariants.{Keydown, Keyup};
+    ghost use Rattle.tk_keys.specs.declared.local_event.LocalKind.TheVariants.{Keydown, Keyup};
     ghost use Rattle.tk_route.specs.Lines.{Line, at, values};
     ghost use Rattle.tk_route.specs.Refusals.{IsFirst, IsInRange, NamesNobody, NoneApplies, Refuses, RefusesRects, line_faults};
     ghost use Rattle.tk_route.specs.Routes.{deliveries, routes, to, told, told_focus, told_move, told_press, told_rect, told_release};

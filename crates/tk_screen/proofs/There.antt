@@ -5,12 +5,12 @@ use Rattle.std.specs.List.{filter_map, cons_option}
 use Rattle.std.proofs.lemmas.Bool.{eqb-true}
 use Rattle.tcl_vars.specs.Store.{Store}
 use Rattle.tk_base.specs.declared.rect.Rect.{Rect}
-use Rattle.tk_layout.specs.Changes.{changes_at, changes_of, is_same_rect}
-use Rattle.tk_layout.specs.declared.changes.Change.{Change}
-use Rattle.tk_layout.specs.declared.changes.Change.TheVariants.{Unmap, Configure, Map}
-use Rattle.tk_layout.specs.declared.shape.Shape.{Shape}
+use Rattle.tk_packer.specs.Changes.{changes_at, changes_of, is_same_rect}
+use Rattle.tk_packer.specs.declared.changes.PlaceChange.{PlaceChange}
+use Rattle.tk_packer.specs.declared.changes.PlaceChange.TheVariants.{Unmap, Configure, Map}
+use Rattle.tk_packer.specs.declared.shape.Shape.{Shape}
 use Rattle.tk_packer.specs.Packs.{Own as Packs}
-use Rattle.tk_placing.specs.Placing.{AreThere, with_changes}
+use Rattle.tk_screen.specs.Placing.{AreThere, with_changes}
 use Rattle.tk_tree.specs.declared.window.Window.{Window}
 use Rattle.tk_tree.specs.Own.{Own as Tree, window_at}
 use Rattle.tk_tree.proofs.Lists.{find_passes, some_same}
@@ -25,7 +25,7 @@ module _ (tree : Tree) where
   AllThere [] = Unit {0}
   AllThere (shape ∷ all) = IsSome (window_at shape.number tree) × AllThere all
 
-  both_there : (a b : List Change) → AreThere a tree → AreThere b tree → AreThere (a ++ b) tree
+  both_there : (a b : List PlaceChange) → AreThere a tree → AreThere b tree → AreThere (a ++ b) tree
   unfolding AreThere
   both_there [] b x y = y
   both_there (change ∷ a) b x y = (x.0, both_there a b x.1 y)
@@ -80,12 +80,12 @@ module _ (own : Own) (store : Store) where
   due_there places = changes_there own.tree (shapes own store) places (all_there (pre_order own.tree))
 
 -- ── a layout written ──
-pub there_by : (changes items : List Change) (own : Own) (store : Store) (tree : Tree) → changes ≡ items → items ≡ changes_due own store → tree ≡ own.tree → AreThere changes tree
+pub there_by : (changes items : List PlaceChange) (own : Own) (store : Store) (tree : Tree) → changes ≡ items → items ≡ changes_due own store → tree ≡ own.tree → AreThere changes tree
 unfolding changes_due
 there_by changes items own store tree same is tree_is =
     subst (λ t. AreThere changes t) (sym tree_is) (subst (λ cs. AreThere cs own.tree) (sym (same ∙ is)) (due_there own store _))
 
-pub laid_by : (own mid : Own) (tree : Tree) (changes : List Change) (store : Store) → mid ≡ own → changes ≡ changes_due own store → tree ≡ with_changes changes mid.tree → record mid { tree = tree } ≡ laid_out own store
+pub laid_by : (own mid : Own) (tree : Tree) (changes : List PlaceChange) (store : Store) → mid ≡ own → changes ≡ changes_due own store → tree ≡ with_changes changes mid.tree → record mid { tree = tree } ≡ laid_out own store
 unfolding laid_out
 laid_by own mid tree changes store same is tree_is =
     let put : Own → Tree → Own = λ o t. record o { tree = t } in

@@ -5,7 +5,7 @@ use Rattle.tcl_vars.specs.Store.{Store, variable_in, with_variable}
 use Rattle.tcl_text.specs.declared.fault.ReadFault.{ReadFault}
 use Rattle.tcl_text.specs.declared.fault.ReadFault.TheVariants.{NoVariable, NoElement, IsArray, NotArray}
 use Rattle.tcl_text.specs.declared.fault.SetFault.{SetFault}
-use Rattle.tk_widgets.specs.declared.outcome.Change.{Change}
+use Rattle.tk_widgets.specs.declared.outcome.WidgetChange.{WidgetChange}
 use Rattle.tk_widgets.specs.declared.outcome.VariableWrite.{VariableWrite}
 use Rattle.tk_widgets.specs.declared.outcome.WidgetAct.{WidgetAct}
 use Rattle.tk_widgets.specs.declared.outcome.WidgetAct.TheVariants.{Fault}
@@ -53,14 +53,14 @@ abbrev pub with_told : Own → Store → ToldOf → Changed
 with_told own store told = record { own = record own { widgets = told.widgets }; store = store; act = told.act }
 
 -- the change is made once the variable is set; where that can't be set, its error is told, and nothing is changed
-abbrev pub changed_after : ℕ → Change → Own → Store → Result Store (List ℕ) → Changed
+abbrev pub changed_after : ℕ → WidgetChange → Own → Store → Result Store (List ℕ) → Changed
 changed_after number change own store (Ok new) = with_told own new (made_at number change own.widgets)
 changed_after number change own store (Err text) = stays own store (Some (Fault text))
 
-abbrev pub changed_by : ℕ → Change → Own → Store → Option Widget → Changed
+abbrev pub changed_by : ℕ → WidgetChange → Own → Store → Option Widget → Changed
 changed_by number change own store None = stays own store None
 changed_by number change own store (Some widget) = changed_after number change own store (wrote (variable_write change widget) store)
 
 -- a change that the widget of the window with a number was asked for
-unfoldable pub changed : ℕ → Change → Own → Store → Changed
+unfoldable pub changed : ℕ → WidgetChange → Own → Store → Changed
 changed number change own store = changed_by number change own store (widget_at number own.widgets)

@@ -3,12 +3,12 @@ use Rattle.std.specs.Prelude.{ℕ, nat_eq, List, [], Option}
 use Rattle.std.specs.Map.{lookup}
 use Rattle.std.specs.Option.{option_map_or}
 use Rattle.tcl_vars.specs.Store.{Store}
-use Rattle.tk_layout.specs.Asked.{sizes_asked}
-use Rattle.tk_layout.specs.Changes.{changes_of}
-use Rattle.tk_layout.specs.declared.changes.Change.{Change}
-use Rattle.tk_layout.specs.Layout.{layout}
+use Rattle.tk_packer.specs.Asked.{sizes_asked}
+use Rattle.tk_packer.specs.Changes.{changes_of}
+use Rattle.tk_packer.specs.declared.changes.PlaceChange.{PlaceChange}
+use Rattle.tk_packer.specs.Layout.{layout}
 use Rattle.tk_packer.specs.Packs.{slaves_of}
-use Rattle.tk_placing.specs.Placing.{with_changes}
+use Rattle.tk_screen.specs.Placing.{with_changes}
 use Rattle.tk_screen.specs.Own.{Own}
 use Rattle.tk_screen.specs.Shapes.{shapes}
 
@@ -21,7 +21,7 @@ abbrev pub size_of : Own → ℕ × ℕ
 size_of own = option_map_or (λ toplevel. toplevel.size) own.toplevel (0, 0)
 
 -- what a layout from nothing would change, in the order of the windows
-unfoldable pub changes_due : Own → Store → List Change
+unfoldable pub changes_due : Own → Store → List PlaceChange
 changes_due own store = changes_of (shapes own store) (layout (size_of own) own.packs.packs (shapes own store))
 
 -- the windows where the layout says

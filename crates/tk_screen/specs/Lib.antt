@@ -1,6 +1,14 @@
 -- What the contracts cite.
 pub mod Changes
+pub mod Fields
 pub mod Layout
+pub mod Marks
 pub mod Own
+pub mod Placing
+pub mod Reading
+pub mod Reads
+pub mod Settled
 pub mod Shapes
+pub mod Timers
+pub mod Tree
 pub mod Widgets

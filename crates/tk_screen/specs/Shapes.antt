@@ -6,7 +6,7 @@ use Rattle.std.specs.Result.{result_ok}
 use Rattle.tcl_vars.specs.Store.{Store, variable_in}
 use Rattle.tk_base.specs.declared.kind.Kind.{Kind}
 use Rattle.tk_base.specs.declared.kind.Kind.TheVariants as kind
-use Rattle.tk_layout.specs.declared.shape.Shape.{Shape}
+use Rattle.tk_packer.specs.declared.shape.Shape.{Shape}
 use Rattle.tk_options.specs.declared.option.OptionName.TheVariants.{BorderWidth}
 use Rattle.tk_options.specs.Options.{amount_of}
 use Rattle.tk_packer.specs.Packs.{Own as Packs, propagates_in}

@@ -5,7 +5,7 @@ use Rattle.std.specs.Map.{lookup, remove_entry, set_value}
 use Rattle.std.specs.Option.{option_map_or, IsSomeAnd}
 use Rattle.indexmap.specs.IndexMap.{insert_entry}
 use Rattle.tk_screen.specs.declared.widgets.Widgets.{Widgets}
-use Rattle.tk_widgets.specs.declared.outcome.Change.{Change}
+use Rattle.tk_widgets.specs.declared.outcome.WidgetChange.{WidgetChange}
 use Rattle.tk_widgets.specs.declared.outcome.WidgetAct.{WidgetAct}
 use Rattle.tk_widgets.specs.declared.widget.Widget.{Widget}
 use Rattle.tk_widgets.specs.Commands.{Told, made}
@@ -36,11 +36,11 @@ abbrev pub told_of : ℕ → OwnWidgets → Told → ToldOf
 told_of number widgets told = record { widgets = set_value (nat_eq number) widgets told.widget; act = Some told.act }
 
 -- a change made of the widget of the window with a number; nothing is told where there is none
-abbrev pub made_of : ℕ → Change → OwnWidgets → Option Widget → ToldOf
+abbrev pub made_of : ℕ → WidgetChange → OwnWidgets → Option Widget → ToldOf
 made_of number change widgets None = record { widgets = widgets; act = None }
 made_of number change widgets (Some widget) = told_of number widgets (made change widget)
 
-abbrev pub made_at : ℕ → Change → OwnWidgets → ToldOf
+abbrev pub made_at : ℕ → WidgetChange → OwnWidgets → ToldOf
 made_at number change widgets = made_of number change widgets (widget_at number widgets)
 
 -- ---- all applications

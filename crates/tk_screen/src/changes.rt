@@ -13,7 +13,7 @@ use tcl_text::Text;
 use tcl_text::answers::Refusal;
 use tcl_vars::{ReadFault, Scopes, SetFault};
 use tk_base::Win;
-use tk_widgets::{Change, VariableWrite, WidgetAct};
+use tk_widgets::{VariableWrite, WidgetAct, WidgetChange};
 
 /// Makes a change that the widget of a window was asked for, once the variable that it asks for is set, and answers what its command tells
 /// then: the error of `set` where the variable can't be set, and nothing is changed. None where the window has no widget.
@@ -23,7 +23,7 @@ pub fn change_widget(
     screen: &mut Screen,
     scopes: &mut Scopes,
     win: Win,
-    change: Change,
+    change: WidgetChange,
 ) -> Result<Option<WidgetAct>, AllocError>
     ensures own { IfOk result (λ act. record { own = own_of win.owner screen.new; store = scopes.new; act = act }
         ≡ changed win.number change (own_of win.owner screen.old) scopes.old) }

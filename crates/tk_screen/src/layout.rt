@@ -6,12 +6,12 @@ ghost use Rattle.tk_screen.specs.Own.{own_of, LeavesOthers};
 
 use crate::screen::Screen;
 use crate::shapes::shapes;
+use crate::write_changes;
 use std::alloc::{AllocError, Global};
 use std::collections::HashMap;
 use tcl_vars::Scopes;
 use tk_base::Win;
-use tk_layout::{Arrangements, Change};
-use tk_placing::write_changes;
+use tk_packer::{Arrangements, PlaceChange};
 
 /// The size that a window asks for, in pixels, with what is packed in it and with the texts that variables have now, as `winfo reqwidth` and
 /// `reqheight` tell it (winfo(n)); none where the window isn't there or has no widget.
@@ -25,7 +25,7 @@ pub fn requested_size(
     ensures { IfOk result (λ size. size ≡ size_asked (own_of win.owner screen.now) scopes.now win.number) }
 {
     let shapes = shapes(alloc, screen, win.owner, scopes)?;
-    tk_layout::requested_size(
+    tk_packer::requested_size(
         alloc,
         &screen.packs,
         win.owner,
@@ -43,7 +43,7 @@ pub fn lay_out(
     screen: &mut Screen,
     slot: usize,
     scopes: &Scopes,
-) -> Result<Vec<Change>, AllocError>
+) -> Result<Vec<PlaceChange>, AllocError>
     ensures changes { IfOk result (λ changes. changes.items ≡ changes_due (own_of slot screen.old) scopes.now) }
     ensures own { OnOk result (own_of slot screen.new ≡ laid_out (own_of slot screen.old) scopes.now) }
     ensures others { LeavesOthers slot screen.old screen.new }
@@ -61,7 +61,7 @@ fn changes_due(
     screen: &mut Screen,
     slot: usize,
     scopes: &Scopes,
-) -> Result<Vec<Change>, AllocError>
+) -> Result<Vec<PlaceChange>, AllocError>
     ensures changes { IfOk result (λ changes. changes.items ≡ changes_due (own_of slot screen.old) scopes.now) }
     ensures same { (other : ℕ) → own_of other screen.new ≡ own_of other screen.old }
     ensures windows { screen.new.windows ≡ screen.old.windows }
@@ -70,7 +70,7 @@ fn changes_due(
     let size = size_of(screen, slot);
     open_arrangements(alloc, &mut screen.arrangements, slot)?;
     match screen.arrangements.get_mut(&slot) {
-        Some(arrangements) => tk_layout::lay_out(
+        Some(arrangements) => tk_packer::lay_out(
             alloc,
             size,
             &screen.packs,

@@ -1,6 +1,6 @@
 ghost use Rattle.std.specs.Prelude.{◌≡◌, ◌≢◌, ℕ, [], None, Some, Ok, Err, IfOk, IfSome, IsSome, OnOk, OnErr, IsOkUnless, MatchOption, codes};
 ghost use Rattle.std.specs.Option.{option_copied};
-ghost use Rattle.tk_screen.specs.Own.{own_of, nothing, added, with_size, with_title, with_made, without, LeavesOthers};
+ghost use Rattle.tk_screen.specs.Own.{own_of, nothing, with_size, with_title, with_made, without, LeavesOthers};
 ghost use Rattle.tk_screen.specs.Widgets.{widget_at};
 ghost use Rattle.tk_tree.specs.Create.{refusal};
 ghost use Rattle.tk_tree.specs.Own.{window_at, child_numbers};
@@ -11,8 +11,7 @@ use std::alloc::{AllocError, Global};
 use std::collections::HashMap;
 use tcl_text::Text;
 use tk_base::{Kind, Win};
-use tk_layout::Arrangements;
-use tk_packer::PackTable;
+use tk_packer::{Arrangements, PackTable};
 use tk_tree::{WindowFault, Windows};
 use tk_widgets::Widget;
 
@@ -37,33 +36,6 @@ impl Screen {
             widgets: Widgets::new(alloc),
             toplevels: HashMap::new(alloc),
             arrangements: HashMap::new(alloc),
-        }
-    }
-
-    /// Adds an application of a name, with a rectangle of a size in pixels, of which nothing is on the screen: its main window `.` is a frame,
-    /// and its title is its name.
-    pub fn add(
-        &mut self,
-        alloc: Global,
-        slot: usize,
-        name: &Text,
-        size: (u32, u32),
-    ) -> Result<(), AllocError>
-        requires { own_of slot self.old ≡ nothing }
-        ensures own { OnOk result (own_of slot self.new ≡ added name.now size) }
-        ensures others { LeavesOthers slot self.old self.new }
-    {
-        let main = main_path(alloc)?;
-        let toplevel = Toplevel {
-            name: name.copy()?,
-            title: name.copy()?,
-            size,
-        };
-        let widget = Widget::new(alloc, Kind::Frame)?;
-        self.toplevels.insert(slot, toplevel)?;
-        match self.create(slot, &main, Kind::Frame, widget) {
-            Ok(_) => Ok(()),
-            Err(_) => Err(AllocError),
         }
     }
 
@@ -146,16 +118,6 @@ impl Screen {
         if let Some(arrangements) = self.arrangements.get_mut(&win.owner) {
             arrangements.forget(win.number);
         }
-    }
-}
-
-/// The path of the main window.
-fn main_path(alloc: Global) -> Result<Text, AllocError>
-    ensures { IfOk result (λ path. path ≡ codes ".") }
-{
-    match Text::new(alloc, ".") {
-        Ok(path) => Ok(path),
-        Err(_) => Err(AllocError),
     }
 }
 

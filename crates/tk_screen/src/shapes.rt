@@ -4,17 +4,17 @@ ghost use Rattle.std.specs.List.{filter_map};
 ghost use Rattle.std.specs.Option.{option_copied};
 ghost use Rattle.tk_packer.specs.Packs.{own_of as packs_of};
 ghost use Rattle.tk_screen.specs.Own.{own_of};
-ghost use Rattle.tk_screen.specs.Shapes.{is_frame, shape_at, shape_of, shapes, pre_order, value_of, variable_text};
+ghost use Rattle.tk_screen.specs.Shapes.{is_frame, shape_at, shape_of, shapes, value_of, variable_text};
 ghost use Rattle.tk_tree.specs.Own.{own_of as tree_of};
 
+use crate::order::pre_order;
 use crate::screen::Screen;
 use std::alloc::{AllocError, Global};
 use tcl_text::Text;
 use tcl_vars::Scopes;
 use tk_base::{Kind, Win};
-use tk_layout::Shape;
 use tk_options::OptionName;
-use tk_packer::PackTable;
+use tk_packer::{PackTable, Shape};
 use tk_tree::{Window, Windows};
 use tk_widgets::Widget;
 
@@ -63,20 +63,6 @@ fn shapes_of(
         rest = others;
     }
     Ok(list)
-}
-
-/// The numbers of all windows of an application.
-#[tactic(auto, unfolding(crate::specs::Shapes::pre_order))]
-fn pre_order(alloc: Global, windows: &Windows, slot: usize) -> Result<Vec<u64>, AllocError>
-    ensures { IfOk result (λ order. order.items ≡ pre_order (tree_of slot windows.now)) }
-{
-    match windows.find(slot, ".") {
-        Some(main) => windows.subtree(Win {
-            owner: slot,
-            number: main.number,
-        }),
-        None => Ok(Vec::new(alloc)),
-    }
 }
 
 /// A window of an application, if it is there and has a widget.
@@ -143,8 +129,5 @@ pub fn value(
     let Some(widget) = screen.widgets.get(win) else {
         return Ok(None);
     };
-    match widget.value(alloc, variable_text(widget, scopes)) {
-        Ok(value) => Ok(value),
-        Err(_) => Err(AllocError),
-    }
+    widget.value(alloc, variable_text(widget, scopes))
 }

@@ -8,7 +8,7 @@ use indexmap::IndexMap;
 use std::alloc::{AllocError, Global};
 use std::collections::HashMap;
 use tk_base::Win;
-use tk_widgets::{Change, Widget, WidgetAct};
+use tk_widgets::{Widget, WidgetAct, WidgetChange};
 
 /// The widgets of the windows of all applications.
 pub struct Widgets {
@@ -88,7 +88,7 @@ impl Widgets {
         &mut self,
         alloc: Global,
         win: Win,
-        change: Change,
+        change: WidgetChange,
     ) -> Result<Option<WidgetAct>, AllocError>
         ensures made { IfOk result (λ act. record { widgets = widgets_of win.owner self.new; act = act }
             ≡ made_at win.number change (widgets_of win.owner self.old)) }

@@ -1,4 +1,17 @@
+pub mod EventsCut
+pub mod EventsRead
 pub mod FieldLemmas
+pub mod FieldsCut
+pub mod GrammarExamples
+pub mod Grammars
+pub mod HeldLemmas
+pub mod KnownWords
 pub mod NameLemmas
+pub mod PatternsCut
+pub mod PatternsRead
 pub mod PieceLemmas
+pub mod ReadBack
+pub mod ReadLemmas
+pub mod WordLemmas
 pub mod WritingLemmas
+pub mod WrittenLemmas

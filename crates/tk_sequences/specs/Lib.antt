@@ -1,5 +1,7 @@
 -- What the contracts cite.
 pub mod FaultTexts
+pub mod Grammar
+pub mod Laws
 pub mod Lookup
 pub mod Modifiers
 pub mod Names

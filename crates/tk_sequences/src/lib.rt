@@ -5,6 +5,7 @@ mod detail;
 mod event_type;
 mod fault;
 mod fields;
+mod laws;
 mod modifier;
 mod pattern;
 mod reading;
@@ -15,6 +16,10 @@ mod written;
 pub use detail::Detail;
 pub use event_type::EventType;
 pub use fault::SequenceFault;
+pub use laws::{
+    canonical_form_is_read_back, canonical_forms_differ, faults_are_told, one_sequence_or_fault,
+    sequences_are_read,
+};
 pub use modifier::{Modifier, Modifiers};
 pub use pattern::{Pattern, Patterns, Repetition};
 pub use sequence::Sequence;

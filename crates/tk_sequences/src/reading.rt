@@ -126,7 +126,7 @@ fn detail_behind(
 
 /// What is held, and how often the event comes, as far as it was read.
 #[derive(Clone, Copy)]
-struct Held {
+struct HeldModifiers {
     modifiers: Modifiers,
     times: Repetition,
 }
@@ -142,7 +142,7 @@ fn is_single(times: Repetition) -> bool
 fn typed(
     alloc: Global,
     whole: &Text,
-    held: Held,
+    held: HeldModifiers,
     kind: EventType,
     rest: &str,
 ) -> Result<Pattern, SequenceFault>
@@ -177,7 +177,7 @@ fn button_or_key(alloc: Global, word: &str) -> Result<Detail, SequenceFault>
 fn untyped(
     alloc: Global,
     whole: &Text,
-    held: Held,
+    held: HeldModifiers,
     word: &str,
     rest: &str,
 ) -> Result<Pattern, SequenceFault>
@@ -212,7 +212,7 @@ fn type_of(detail: Detail) -> EventType
 fn headed(
     alloc: Global,
     whole: &Text,
-    held: Held,
+    held: HeldModifiers,
     word: &str,
     rest: &str,
 ) -> Result<Pattern, SequenceFault>
@@ -232,7 +232,7 @@ pub fn pattern_of(alloc: Global, whole: &Text, inner: &str) -> Result<Pattern, S
     ensures ok { IfOk result (λ pattern. pattern_of whole.now inner.now ≡ Ok pattern) }
     ensures refused { IfErr result (λ fault. fault ≢ SequenceFault.NoMemory → pattern_of whole.now inner.now ≡ Err fault) }
 {
-    let mut held = Held {
+    let mut held = HeldModifiers {
         modifiers: Modifiers::NONE,
         times: Repetition::Single,
     };

@@ -8,8 +8,8 @@ use Rattle.std.proofs.lemmas.Bool.Decides.{Decides-or, not_from_Decides}
 use Rattle.std.proofs.lemmas.Option.{cond_some, none-some, same_Some}
 use Rattle.std.proofs.lemmas.Slice.Eq.{bytes_eq-Decides}
 use Rattle.std.proofs.lemmas.Str.{is_utf8-from_IsUtf8, IsUtf8-from_is_utf8, IsUtf8-from_ascii}
-use Rattle.tk_services.specs.declared.service.ServiceKind.{ServiceKind}
-use Rattle.tk_services.specs.declared.service.ServiceKind.TheVariants.{Const, Upper, Table, Sum, Fail}
+use Rattle.tk_alias.specs.declared.service.ServiceKind.{ServiceKind}
+use Rattle.tk_alias.specs.declared.service.ServiceKind.TheVariants.{Const, Upper, Table, Sum, Fail}
 use Rattle.tk_session.specs.declared.fault.LineFault.{LineFault}
 use Rattle.tk_session.specs.declared.fault.LineFault.TheVariants.{BadLine, TooManyApps, NameTaken, TimeBack, NoApp, RectOverlap}
 use Rattle.tk_session.specs.declared.fault.LineFault.TheVariants as faults

@@ -12,7 +12,7 @@ use Rattle.tk_session.specs.declared.fault.LineFault.{LineFault}
 use Rattle.tk_session.specs.declared.fault.LineFault.TheVariants.{TimeBack}
 use Rattle.tk_session.specs.declared.session.AliasLine.{AliasLine}
 use Rattle.tk_session.specs.declared.session.AppBlock.{AppBlock}
-use Rattle.tk_session.specs.declared.session.Budget.{Budget}
+use Rattle.tk_base.specs.declared.budget.Budget.{Budget}
 use Rattle.tk_session.specs.declared.session.EventLine.{EventLine}
 use Rattle.tk_session.specs.declared.session.Head.{Head}
 use Rattle.tk_session.specs.declared.stage.Format.{Format}

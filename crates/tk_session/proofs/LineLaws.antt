@@ -13,7 +13,7 @@ use Rattle.std.proofs.lemmas.Option.{cond_some, none-some, same_Some}
 use Rattle.std.proofs.lemmas.Slice.Eq.{bytes_eq-Decides}
 use Rattle.tk_base.specs.declared.rect.Rect.{Rect}
 use Rattle.tk_route.specs.Screen.{IsOnScreen}
-use Rattle.tk_session.specs.declared.session.Budget.{Budget}
+use Rattle.tk_base.specs.declared.budget.Budget.{Budget}
 use Rattle.tk_session.specs.declared.stage.Format.{Format}
 use Rattle.tk_session.specs.declared.stage.Format.TheVariants.{First, Second}
 use Rattle.tk_session.specs.Names.{IsName}

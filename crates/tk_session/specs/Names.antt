@@ -4,8 +4,8 @@ use Rattle.std.specs.Char.{IsAsciiAlphabetic, IsAsciiAlphanumeric}
 use Rattle.std.specs.List.{list_all}
 use Rattle.std.specs.Str.{bytes_eq}
 use Rattle.tk_session.specs.declared.session.AppBlock.{AppBlock}
-use Rattle.tk_services.specs.declared.service.ServiceKind.{ServiceKind}
-use Rattle.tk_services.specs.declared.service.ServiceKind.TheVariants.{Const, Upper, Table, Sum, Fail}
+use Rattle.tk_alias.specs.declared.service.ServiceKind.{ServiceKind}
+use Rattle.tk_alias.specs.declared.service.ServiceKind.TheVariants.{Const, Upper, Table, Sum, Fail}
 
 abbrev pub IsNameByte : ℕ → Type 0
 IsNameByte byte = IsAsciiAlphanumeric byte ⊎ (byte ≡ 95)

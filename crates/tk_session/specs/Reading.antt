@@ -11,8 +11,8 @@ use Rattle.tk_route.specs.Lines.{rects_by}
 use Rattle.tk_route.specs.Screen.{shares_with_another}
 use Rattle.tk_route.specs.declared.line.HostLine.{HostLine}
 use Rattle.tk_route.specs.declared.line.HostLine.TheVariants.{Move, Press, Release, Keydown, Keyup, Focus, Rect as Placed}
-use Rattle.tk_services.specs.declared.service.ServiceKind.{ServiceKind}
-use Rattle.tk_services.specs.declared.service.ServiceKind.TheVariants.{Const, Upper, Table, Sum, Fail}
+use Rattle.tk_alias.specs.declared.service.ServiceKind.{ServiceKind}
+use Rattle.tk_alias.specs.declared.service.ServiceKind.TheVariants.{Const, Upper, Table, Sum, Fail}
 use Rattle.tk_session.specs.declared.fault.LineError.{LineError}
 use Rattle.tk_session.specs.declared.fault.LineError.TheVariants.{Faulty, NoMemory}
 use Rattle.tk_session.specs.declared.fault.LineFault.{LineFault}
@@ -23,7 +23,7 @@ use Rattle.tk_session.specs.declared.fault.SessionFault.TheVariants as refusals
 use Rattle.tk_session.specs.declared.screen.Screen.{Screen}
 use Rattle.tk_session.specs.declared.session.AliasLine.{AliasLine}
 use Rattle.tk_session.specs.declared.session.AppBlock.{AppBlock}
-use Rattle.tk_session.specs.declared.session.Budget.{Budget}
+use Rattle.tk_base.specs.declared.budget.Budget.{Budget}
 use Rattle.tk_session.specs.declared.session.EventLine.{EventLine}
 use Rattle.tk_session.specs.declared.session.Head.{Head}
 use Rattle.tk_session.specs.declared.stage.Format.{Format}
@@ -32,7 +32,8 @@ use Rattle.tk_session.specs.declared.stage.Stage.{Stage}
 use Rattle.tk_session.specs.declared.stage.Stage.TheVariants as stages
 use Rattle.tk_session.specs.Names.{is_command_name, slot_of}
 use Rattle.tk_session.specs.Session.{heading, events, most_lines, Plan, rects_of}
-use Rattle.tcl_text.specs.Limits.{most_bytes, last_moment}
+use Rattle.tcl_text.specs.Limits.{most_bytes}
+use Rattle.tk_base.specs.Limits.{last_moment}
 
 infixl 10 ◌>>=◌
 abbrev pub ◌>>=◌ : {A B : Type 0} → Option A → (A → Option B) → Option B

@@ -14,7 +14,7 @@ use Rattle.tk_route.specs.declared.line.HostLine.TheVariants.{Move, Press, Relea
 use Rattle.tk_session.specs.Names.{IsName, is_command_name, kind_word, slot_of}
 use Rattle.tk_session.specs.declared.session.AliasLine.{AliasLine}
 use Rattle.tk_session.specs.declared.session.AppBlock.{AppBlock}
-use Rattle.tk_session.specs.declared.session.Budget.{Budget}
+use Rattle.tk_base.specs.declared.budget.Budget.{Budget}
 use Rattle.tk_session.specs.declared.session.EventLine.{EventLine}
 use Rattle.tk_session.specs.declared.session.Head.{Head}
 use Rattle.tk_session.specs.declared.stage.Format.{Format}
@@ -24,7 +24,8 @@ use Rattle.tk_session.specs.declared.fault.LineFault.TheVariants.{BadLine, TooMa
 use Rattle.tk_session.specs.declared.fault.LineFault.TheVariants as faults
 use Rattle.tk_session.specs.declared.fault.SessionFault.{SessionFault}
 use Rattle.tk_session.specs.declared.fault.SessionFault.TheVariants.{Refused, NoMemory}
-use Rattle.tcl_text.specs.Limits.{most_bytes, last_moment}
+use Rattle.tcl_text.specs.Limits.{most_bytes}
+use Rattle.tk_base.specs.Limits.{last_moment}
 
 -- ---- lines
 

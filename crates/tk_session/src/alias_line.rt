@@ -7,7 +7,7 @@ ghost use Rattle.tcl_text.specs.Limits.{most_bytes};
 
 use crate::line::{as_text, cut, fields_behind, utf8};
 use tcl_text::MAX_BYTES;
-use tk_services::ServiceKind;
+use tk_alias::ServiceKind;
 
 /// How many bytes the name of a command has at most.
 const MAX_NAME: usize = 64;

@@ -6,10 +6,9 @@ ghost use Rattle.std.specs.Char.{is_ascii_digit};
 ghost use Rattle.std.specs.Str.{IsUtf8};
 ghost use Rattle.tk_session.specs.Reading.{cut_at, behind, has_plain_front, is_name, is_name_part, is_numeral, number_of, number_field, rect_field, rect_of, name_of, utf8_of, fixed_of, refilled_of, budget_of, app_line_of, script_line_of, end_line_of};
 
-use crate::session::Budget;
 use crate::stage::Format;
 use memchr::memchr;
-use tk_base::{MAX_MOMENT, Rect};
+use tk_base::{Budget, MAX_MOMENT, Rect};
 
 /// The largest coordinate, width and height of a rectangle.
 const MAX_PIXELS: u64 = 32_767;

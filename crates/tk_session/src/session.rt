@@ -3,17 +3,9 @@ ghost use Rattle.std.specs.Prelude.{◌≡◌, ◌≤◌};
 use crate::listing::Listing;
 use std::marker::Model;
 use tcl_text::Text;
-use tk_base::Rect;
+use tk_alias::Service;
+use tk_base::{Budget, Rect};
 use tk_route::HostLine;
-use tk_services::Service;
-
-/// How many steps the scripts of an application may take: so many at first, and so many more with each event, up to as many as at first.
-#[derive(Clone, Copy, Debug, PartialEq, Eq)]
-pub struct Budget {
-    pub total: u64,
-    /// 0 in the first format.
-    pub refill: u64,
-}
 
 /// A command of an application that a service of the program answers (interp(n), alias).
 #[derive(Drop)]
@@ -72,7 +64,7 @@ impl Model for Session {
 impl Session {
     ghost use Rattle.std.specs.Prelude.{[]};
     ghost use Rattle.tk_session.specs.Session.{IsAllowed, AreAllowed, MayHappen, moment_at};
-    ghost use Rattle.tcl_text.specs.Limits.{last_moment};
+    ghost use Rattle.tk_base.specs.Limits.{last_moment};
 
     /// What may stand in a session.
     pub(crate) fn new(apps: Listing<AppBlock>, events: Listing<EventLine>, end: u64) -> Session

@@ -14,8 +14,8 @@ use crate::script::ScriptText;
 use crate::session::{AliasLine, AppBlock, EventLine, Head};
 use std::alloc::Global;
 use tcl_text::Text;
+use tk_alias::Service;
 use tk_base::Rect;
-use tk_services::Service;
 
 /// How many applications a session has at most.
 const MAX_APPS: usize = 16;
@@ -287,7 +287,7 @@ fn read_count(
 {
     match script_line(line) {
         None => Err(LineError::Faulty(LineFault::BadLine)),
-        Some(0) => close(format, apps, head, Text::of_short(alloc, "")?),
+        Some(0) => close(format, apps, head, Text::empty()),
         Some(left) => Ok(Stage::Text {
             format,
             apps,

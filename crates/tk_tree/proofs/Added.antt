@@ -4,23 +4,24 @@ use Rattle.std.specs.Prelude.{◌==◌, ◌||◌, nat_le}
 use Rattle.std.specs.Str.{bytes_eq}
 use Rattle.std.proofs.lemmas.Option.{none-some}
 use Rattle.std.proofs.lemmas.Bool.{cases_eq, leb-false}
-use Rattle.tk_bag.specs.Bag.{AllBelow, listed}
-use Rattle.tk_bag.proofs.Owners.{listed_new, listed_other}
+use Rattle.tk_base.specs.Bag.{AllBelow, listed}
+use Rattle.tk_base.proofs.Owners.{listed_new, listed_other}
 use Rattle.tk_base.specs.declared.kind.Kind.{Kind}
-use Rattle.tk_tree.specs.declared.counter.Counter.{Counter}
-use Rattle.tk_tree.specs.declared.index.Index.{Index}
+use Rattle.tk_base.specs.declared.counter.Counter.{Counter}
+use Rattle.tk_tree.specs.declared.index.PathIndex.{PathIndex}
 use Rattle.tk_tree.specs.declared.window.Window.{Window}
 use Rattle.tk_tree.specs.declared.windows.Node.{Node}
 use Rattle.tk_tree.specs.Arena.{at, held_by, IsKept, HoldsNumber, HoldsPath}
 use Rattle.tk_tree.specs.Create.{with_window}
 use Rattle.tk_tree.specs.Index.{key_at, number_at, children_at, added_child, left_children, Adds, Removes, SameIndex}
-use Rattle.tk_tree.specs.Own.{Own, Counts, own_of, next_of, count_of, LeavesOthers, HasOlderParent, IsSound, at_path, is_full, child_numbers}
+use Rattle.tk_tree.specs.Own.{Own, own_of, LeavesOthers, HasOlderParent, IsSound, at_path, is_full, child_numbers}
 use Rattle.tk_tree.specs.Window.{number_of, new_window}
 use Rattle.tk_tree.proofs.Children.{Differ, differ_below, one_child, children-append, left_new, no_children}
 use Rattle.tk_tree.proofs.IndexLemmas.{text_is, text_same}
 use Rattle.tk_tree.proofs.Lists.{some_same, rising_more, below_more, parents_more}
 use Rattle.tk_tree.proofs.Looks.{next_unused, number_is}
 use Rattle.tk_tree.proofs.Slots.{Slots, own_list, one_more}
+use Rattle.tk_base.specs.Counters.{next_of, count_of, Counts}
 
 pub own_same : (n m : ℕ) (xs ys : List Window) → n ≡ m → xs ≡ ys → ◌≡◌ {A = Own} (record { next_number = n; windows = xs }) (record { next_number = m; windows = ys })
 own_same n m xs ys same list = ap (λ k. record { next_number = k; windows = xs }) same ∙ ap (λ zs. record { next_number = m; windows = zs }) list
@@ -32,12 +33,12 @@ cases_text p q = by (bytes_eq p q) refl
     by true is = inl (text_is p q is)
     by false is = inr (λ same. absurd (cc (sym is ∙ ap (bytes_eq p) (sym same) ∙ text_same p)))
 
-pub record Added (index : Index) (old new : Slots) (counters later : List (ℕ × Counter)) (owner : ℕ) (window : Window) : Type 0 where
+pub record Added (index : PathIndex) (old new : Slots) (counters later : List (ℕ × Counter)) (owner : ℕ) (window : Window) : Type 0 where
   pub kept : IsKept index new later
   pub own : own_of owner (held_by new later) ≡ record { next_number = window.number + 1; windows = own_list owner old ++ window ∷ [] }
   pub others : LeavesOthers owner (held_by old counters) (held_by new later)
 
-module _ (index after : Index) (slots new : Slots) (counters later : List (ℕ × Counter)) (owner key count : ℕ) (window : Window)
+module _ (index after : PathIndex) (slots new : Slots) (counters later : List (ℕ × Counter)) (owner key count : ℕ) (window : Window)
     (kept : IsKept index slots counters)
     (adds : Adds index after owner window.path window.number key window.parent)
     (vacant : at slots key ≡ None)
@@ -164,7 +165,7 @@ module _ (index after : Index) (slots new : Slots) (counters later : List (ℕ �
   }
 
 -- ── the index with a window more that is taken out again ──
-pub restored : (index with_one after : Index) (owner : ℕ) (path : List ℕ) (number key : ℕ) (parent : Option ℕ) (ws : List Window) → Adds index with_one owner path number key parent → Removes with_one after owner path number parent → ((n : ℕ) → children_at index owner n ≡ child_numbers n ws) → Differ number ws → child_numbers number ws ≡ [] → key_at index owner number ≡ None → number_at index owner path ≡ None → SameIndex index after
+pub restored : (index with_one after : PathIndex) (owner : ℕ) (path : List ℕ) (number key : ℕ) (parent : Option ℕ) (ws : List Window) → Adds index with_one owner path number key parent → Removes with_one after owner path number parent → ((n : ℕ) → children_at index owner n ≡ child_numbers n ws) → Differ number ws → child_numbers number ws ≡ [] → key_at index owner number ≡ None → number_at index owner path ≡ None → SameIndex index after
 restored index with_one after owner path number key parent ws adds removes were apart_all none no_key no_path = record {
   keys = λ o n. keys_by o n (cases_eq o owner) (cases_eq n number);
   numbers = λ o p. numbers_by o p (cases_eq o owner) (cases_text p path);
@@ -195,7 +196,7 @@ restored index with_one after owner path number key parent ws adds removes were 
         ap (λ p. children_at after p n) same ∙ removes.children n apart ∙ ap (left_children parent number n) (adds.children n ∙ ap (λ l. l ++ added_child parent number n) (were n))
         ∙ left_new n parent number ws apart_all ∙ sym (were n) ∙ sym (ap (λ p. children_at index p n) same)
 
-pub same_kept : (index after : Index) (slots : Slots) (counters : List (ℕ × Counter)) → SameIndex index after → IsKept index slots counters → IsKept after slots counters
+pub same_kept : (index after : PathIndex) (slots : Slots) (counters : List (ℕ × Counter)) → SameIndex index after → IsKept index slots counters → IsKept after slots counters
 same_kept index after slots counters same kept = record {
   indexed = record {
     keys_found = λ o n k is. kept.indexed.keys_found o n k (sym (same.keys o n) ∙ is);
@@ -213,7 +214,7 @@ left_false true b is = is
 left_false false b is = refl
 
 -- ── what `insert` did, as its calls say it ──
-pub record Inserted (after : Index) (slots new : Slots) (counters later : List (ℕ × Counter)) (owner : ℕ) (path : List ℕ) (kind : Kind) (parent : Option ℕ) : Type 0 where
+pub record Inserted (after : PathIndex) (slots new : Slots) (counters later : List (ℕ × Counter)) (owner : ℕ) (path : List ℕ) (kind : Kind) (parent : Option ℕ) : Type 0 where
   pub kept : IsKept after new later
   pub own : own_of owner (held_by new later) ≡ with_window path kind parent (own_of owner (held_by slots counters))
   pub others : LeavesOthers owner (held_by slots counters) (held_by new later)
@@ -226,7 +227,7 @@ inserted_own slots new counters later owner number path kind parent own next =
     ∙ own_same (number + 1) (next_of owner counters + 1) (own_list owner slots ++ new_window number path kind parent ∷ []) (own_list owner slots ++ new_window (next_of owner counters) path kind parent ∷ []) (ap (λ n. n + 1) next)
     (ap (λ n. own_list owner slots ++ new_window n path kind parent ∷ []) next)
 
-pub inserted : (index after : Index) (slots reserved new : Slots) (counters later : List (ℕ × Counter)) (owner key vacant_key new_key number count : ℕ) (path name : List ℕ) (kind : Kind) (parent : Option ℕ) (window : Window)
+pub inserted : (index after : PathIndex) (slots reserved new : Slots) (counters later : List (ℕ × Counter)) (owner key vacant_key new_key number count : ℕ) (path name : List ℕ) (kind : Kind) (parent : Option ℕ) (window : Window)
     → IsKept index slots counters → reserved ≡ slots → Adds index after owner name number key parent → name ≡ path → window ≡ new_window number path kind parent
     → key ≡ vacant_key → new_key ≡ vacant_key → at reserved key ≡ None → at new new_key ≡ Some (record { owner = owner; window = window }) → ((other : ℕ) → other ≢ new_key → at new other ≡ at reserved other)
     → Counts owner (record { next = number + 1; count = count + 1 }) counters later → number ≡ next_of owner counters → count ≡ count_of owner counters
@@ -251,7 +252,7 @@ inserted index after slots reserved new counters later owner key vacant_key new_
     in record { kept = done.kept; own = inserted_own slots new counters later owner number path kind parent done.own next; others = done.others }
 
 -- the index after a window was put in and taken out again
-pub undone : (index with_one after : Index) (slots reserved : Slots) (counters later : List (ℕ × Counter)) (owner key number : ℕ) (path name again : List ℕ) (parent : Option ℕ)
+pub undone : (index with_one after : PathIndex) (slots reserved : Slots) (counters later : List (ℕ × Counter)) (owner key number : ℕ) (path name again : List ℕ) (parent : Option ℕ)
     → IsKept index slots counters → reserved ≡ slots → later ≡ counters → Adds index with_one owner name number key parent → name ≡ path → Removes with_one after owner again number parent → again ≡ path
     → number ≡ next_of owner counters → at_path path (own_of owner (held_by slots counters)) ≡ None → IsKept after reserved later
 undone index with_one after slots reserved counters later owner key number path name again parent kept room same_counters adds name_is removes again_is next no_path =

@@ -3,31 +3,32 @@ use Rattle.std.proofs.Common.{◌≡◌, ◌≢◌, ◌⊎◌, inl, inr, ℕ, �
 use Rattle.std.specs.Prelude.{slice_set}
 use Rattle.std.proofs.lemmas.Option.{none-some}
 use Rattle.std.proofs.lemmas.Bool.{cases_eq}
-use Rattle.tk_bag.specs.Bag.{listed, changed_at, without, IsRising}
-use Rattle.tk_bag.proofs.Owners.{own_stands, listed_changed, listed_gone, listed_other}
-use Rattle.tk_tree.specs.declared.counter.Counter.{Counter}
-use Rattle.tk_tree.specs.declared.index.Index.{Index}
+use Rattle.tk_base.specs.Bag.{listed, changed_at, without, IsRising}
+use Rattle.tk_base.proofs.Owners.{own_stands, listed_changed, listed_gone, listed_other}
+use Rattle.tk_base.specs.declared.counter.Counter.{Counter}
+use Rattle.tk_tree.specs.declared.index.PathIndex.{PathIndex}
 use Rattle.tk_tree.specs.declared.window.Window.{Window}
 use Rattle.tk_tree.specs.declared.windows.Node.{Node}
 use Rattle.tk_tree.specs.Arena.{at, item_of, held_by, IsKept, HoldsPath}
 use Rattle.tk_tree.specs.Change.{changed as change_of}
-use Rattle.tk_tree.specs.declared.change.Change.{Change}
-use Rattle.tk_tree.specs.declared.change.Change.TheVariants.{Dying, Tags, Place}
+use Rattle.tk_tree.specs.declared.change.WindowChange.{WindowChange}
+use Rattle.tk_tree.specs.declared.change.WindowChange.TheVariants.{Dying, Tags, Place}
 use Rattle.tk_tree.specs.Index.{key_at, number_at, children_at, left_children, Removes}
-use Rattle.tk_tree.specs.Own.{Own, Counts, own_of, next_of, count_of, LeavesOthers, HasOlderParent, HaveOlderParents, IsSound, with_change, without_window, child_numbers}
+use Rattle.tk_tree.specs.Own.{Own, own_of, LeavesOthers, HasOlderParent, HaveOlderParents, IsSound, with_change, without_window, child_numbers}
 use Rattle.tk_tree.specs.Window.{number_of}
 use Rattle.tk_tree.proofs.Added.{own_same, cases_text}
 use Rattle.tk_tree.proofs.Children.{differ_front, differ_back, children-append, children_with, children_swap, children_less, still_none}
 use Rattle.tk_tree.proofs.Lists.{some_same, rising_less, below_less, rising_swap, below_swap, length_less, length_swap, parents_less, parents_swap, parent_at}
 use Rattle.tk_tree.proofs.Slots.{Slots, own_list, opens, set_here, set_there}
+use Rattle.tk_base.specs.Counters.{next_of, count_of, Counts}
 
 -- ── a change ──
-pub record Changed (index : Index) (old new : Slots) (counters : List (ℕ × Counter)) (owner number : ℕ) (change : Window → Window) : Type 0 where
+pub record Changed (index : PathIndex) (old new : Slots) (counters : List (ℕ × Counter)) (owner number : ℕ) (change : Window → Window) : Type 0 where
   pub kept : IsKept index new counters
   pub own : own_of owner (held_by new counters) ≡ with_change number change (own_of owner (held_by old counters))
   pub others : LeavesOthers owner (held_by old counters) (held_by new counters)
 
-module _ (index : Index) (slots : Slots) (counters : List (ℕ × Counter)) (key : ℕ) (node : Node) (change : Window → Window)
+module _ (index : PathIndex) (slots : Slots) (counters : List (ℕ × Counter)) (key : ℕ) (node : Node) (change : Window → Window)
     (kept : IsKept index slots counters)
     (there : at slots key ≡ Some node)
     (same_number : (change node.window).number ≡ node.window.number)
@@ -167,12 +168,12 @@ module _ (index : Index) (slots : Slots) (counters : List (ℕ × Counter)) (key
   }
 
 -- ── a removal ──
-pub record Removed (after : Index) (old new : Slots) (counters later : List (ℕ × Counter)) (owner number : ℕ) : Type 0 where
+pub record Removed (after : PathIndex) (old new : Slots) (counters later : List (ℕ × Counter)) (owner number : ℕ) : Type 0 where
   pub kept : IsKept after new later
   pub own : own_of owner (held_by new later) ≡ without_window number (own_of owner (held_by old counters))
   pub others : LeavesOthers owner (held_by old counters) (held_by new later)
 
-module _ (index after : Index) (slots : Slots) (counters later : List (ℕ × Counter)) (key : ℕ) (node : Node)
+module _ (index after : PathIndex) (slots : Slots) (counters later : List (ℕ × Counter)) (key : ℕ) (node : Node)
     (kept : IsKept index slots counters)
     (there : at slots key ≡ Some node)
     (removes : Removes index after node.owner node.window.path node.window.number node.window.parent)
@@ -319,7 +320,7 @@ pub own_windows : (own : Own) (xs ys : List Window) → xs ≡ ys → ◌≡◌ 
 own_windows own xs ys same = ap (λ zs. record own { windows = zs }) same
 
 -- ── what `change` and `remove` did, as their calls say it ──
-pub made : (index : Index) (slots : Slots) (counters : List (ℕ × Counter)) (owner number key : ℕ) (node : Node) (change : Change) (window : Window)
+pub made : (index : PathIndex) (slots : Slots) (counters : List (ℕ × Counter)) (owner number key : ℕ) (node : Node) (change : WindowChange) (window : Window)
     → IsKept index slots counters → key_at index owner number ≡ Some key → at slots key ≡ Some node → window ≡ change_of change node.window
     → Changed index slots (slice_set slots key (Some (record { owner = node.owner; window = window }))) counters owner number (change_of change)
 made index slots counters owner number key node change window kept key_is there window_is =
@@ -332,22 +333,22 @@ made index slots counters owner number key node change window kept key_is there 
     (subst (λ o. Changed index slots (slice_set slots key (Some (record { owner = node.owner; window = change_of change node.window }))) counters o number (change_of change)) its_owner
     (subst (λ n. Changed index slots (slice_set slots key (Some (record { owner = node.owner; window = change_of change node.window }))) counters node.owner n (change_of change)) its_number done))
   where
-    keeps_number : (c : Change) (w : Window) → (change_of c w).number ≡ w.number
+    keeps_number : (c : WindowChange) (w : Window) → (change_of c w).number ≡ w.number
     keeps_number Dying w = refl
     keeps_number (Tags tags) w = refl
     keeps_number (Place place mapped) w = refl
 
-    keeps_path : (c : Change) (w : Window) → (change_of c w).path ≡ w.path
+    keeps_path : (c : WindowChange) (w : Window) → (change_of c w).path ≡ w.path
     keeps_path Dying w = refl
     keeps_path (Tags tags) w = refl
     keeps_path (Place place mapped) w = refl
 
-    keeps_parent : (c : Change) (w : Window) → (change_of c w).parent ≡ w.parent
+    keeps_parent : (c : WindowChange) (w : Window) → (change_of c w).parent ≡ w.parent
     keeps_parent Dying w = refl
     keeps_parent (Tags tags) w = refl
     keeps_parent (Place place mapped) w = refl
 
-pub gone : (index after : Index) (slots new : Slots) (counters later : List (ℕ × Counter)) (owner number key : ℕ) (node : Node) (name : List ℕ)
+pub gone : (index after : PathIndex) (slots new : Slots) (counters later : List (ℕ × Counter)) (owner number key : ℕ) (node : Node) (name : List ℕ)
     → IsKept index slots counters → key_at index owner number ≡ Some key → at slots key ≡ Some node → new ≡ slice_set slots key None → name ≡ node.window.path
     → Removes index after owner name number node.window.parent → child_numbers number (own_list owner slots) ≡ [] → Counts owner (record { next = next_of owner counters; count = count_of owner counters - 1 }) counters later
     → Removed after slots new counters later owner number

@@ -4,8 +4,8 @@ use Rattle.std.specs.Prelude.{is_some, option_and_then}
 use Rattle.std.specs.Option.{option_map_or}
 use Rattle.std.specs.declared.hash.FoldHasher.{FoldHasher}
 use Rattle.std.specs.declared.hash.BuildHasherDefault.{BuildHasherDefault}
-use Rattle.tk_tree.specs.declared.index.Row.{Row}
-use Rattle.tk_tree.specs.declared.index.Index.{Index}
+use Rattle.tk_tree.specs.declared.index.PathRow.{PathRow}
+use Rattle.tk_tree.specs.declared.index.PathIndex.{PathIndex}
 use Rattle.tk_tree.specs.Index.{row_key, row_number, row_children, IsEmptyRow, SameIndex}
 use Rattle.std.specs.HashMap as hash
 use Rattle.std.specs.HashMap.{HashMap}
@@ -35,7 +35,7 @@ module _ {X S : Type 0} (p : List ℕ) (old new : HashMap (String Global) X S) (
   text_kept q differ = hash_map_updates_text p old new w updates q ∙ ap (λ b. cond b w (hash.get_by_text old q)) (text_other p q differ)
 
 -- an index with an empty row more, of an application that had none, answers as before
-pub opened : (old : Index) (rows : HashMap ℕ Row (BuildHasherDefault FoldHasher)) (owner : ℕ) (row : Row) → is_some (hash.get nat_eq old.rows owner) ≡ false → hash.get nat_eq rows owner ≡ Some row → ((o : ℕ) → nat_eq owner o ≡ false → hash.get nat_eq rows o ≡ hash.get nat_eq old.rows o) → IsEmptyRow row
+pub opened : (old : PathIndex) (rows : HashMap ℕ PathRow (BuildHasherDefault FoldHasher)) (owner : ℕ) (row : PathRow) → is_some (hash.get nat_eq old.rows owner) ≡ false → hash.get nat_eq rows owner ≡ Some row → ((o : ℕ) → nat_eq owner o ≡ false → hash.get nat_eq rows o ≡ hash.get nat_eq old.rows o) → IsEmptyRow row
     → SameIndex old (record old { rows = rows })
 opened old rows owner row lacks here rest empty = record {
   keys = λ o n. by (λ r. row_key r n) None (empty.keys n) o (nat_eq owner o) refl;
@@ -43,18 +43,18 @@ opened old rows owner row lacks here rest empty = record {
   children = λ o n. by_list (λ r. row_children r n) (empty.children n) o (nat_eq owner o) refl;
 }
   where
-    none : (found : Option Row) → is_some found ≡ false → found ≡ None
+    none : (found : Option PathRow) → is_some found ≡ false → found ≡ None
     none None is = refl
     none (Some r) is = absurd (cc)
 
-    by : {X : Type 0} (look : Row → Option X) (nothing : Option X) → look row ≡ None → (o : ℕ) (b : Bool) → nat_eq owner o ≡ b → option_and_then look (hash.get nat_eq rows o) ≡ option_and_then look (hash.get nat_eq old.rows o)
+    by : {X : Type 0} (look : PathRow → Option X) (nothing : Option X) → look row ≡ None → (o : ℕ) (b : Bool) → nat_eq owner o ≡ b → option_and_then look (hash.get nat_eq rows o) ≡ option_and_then look (hash.get nat_eq old.rows o)
     by look nothing at_row o true same =
         let alike : owner ≡ o = eqb-true owner o same in
         ap (λ q. option_and_then look (hash.get nat_eq rows q)) (sym alike) ∙ ap (option_and_then look) here ∙ at_row
         ∙ sym (ap (option_and_then look) (none (hash.get nat_eq old.rows owner) lacks)) ∙ ap (λ q. option_and_then look (hash.get nat_eq old.rows q)) alike
     by look nothing at_row o false differs = ap (option_and_then look) (rest o differs)
 
-    by_list : (look : Row → List ℕ) → look row ≡ [] → (o : ℕ) (b : Bool) → nat_eq owner o ≡ b → option_map_or look (hash.get nat_eq rows o) [] ≡ option_map_or look (hash.get nat_eq old.rows o) []
+    by_list : (look : PathRow → List ℕ) → look row ≡ [] → (o : ℕ) (b : Bool) → nat_eq owner o ≡ b → option_map_or look (hash.get nat_eq rows o) [] ≡ option_map_or look (hash.get nat_eq old.rows o) []
     by_list look at_row o true same =
         let alike : owner ≡ o = eqb-true owner o same in
         ap (λ q. option_map_or look (hash.get nat_eq rows q) []) (sym alike) ∙ ap (λ r. option_map_or look r []) here ∙ at_row

@@ -4,19 +4,20 @@ use Rattle.std.specs.Prelude.{◌==◌, find, is_some}
 use Rattle.std.specs.Str.{bytes_eq}
 use Rattle.std.proofs.lemmas.Option.{none-some}
 use Rattle.std.proofs.lemmas.Bool.{eqb-true}
-use Rattle.tk_bag.specs.Bag.{numbered}
-use Rattle.tk_tree.specs.declared.counter.Counter.{Counter}
-use Rattle.tk_tree.specs.declared.index.Index.{Index}
+use Rattle.tk_base.specs.Bag.{numbered}
+use Rattle.tk_base.specs.declared.counter.Counter.{Counter}
+use Rattle.tk_tree.specs.declared.index.PathIndex.{PathIndex}
 use Rattle.tk_tree.specs.declared.window.Window.{Window}
 use Rattle.tk_tree.specs.declared.windows.Node.{Node}
 use Rattle.tk_tree.specs.Arena.{at, held_by, IsKept}
 use Rattle.tk_tree.specs.Index.{key_at, number_at}
 use Rattle.std.specs.Option.{option_copied}
-use Rattle.tk_tree.specs.Own.{Own, own_of, next_of, window_at, at_path}
+use Rattle.tk_tree.specs.Own.{Own, own_of, window_at, at_path}
 use Rattle.tk_tree.specs.Window.{number_of}
 use Rattle.tk_tree.proofs.IndexLemmas.{text_is, text_same}
 use Rattle.tk_tree.proofs.Lists.{some_same, find_passes, find_below, find_numbered}
 use Rattle.tk_tree.proofs.Slots.{Slots, own_list, placed, numbered_there, fails_there}
+use Rattle.tk_base.specs.Counters.{next_of}
 
 nothing_there : {X : Type 0} (o : Option X) → IsSome o → o ≡ None → ⊥
 nothing_there None some none = cc
@@ -30,7 +31,7 @@ some_mapped f n (Some x) is = refl
 some_by : {X : Type 0} (o other : Option X) → o ≡ other → IsSome other → IsSome o
 some_by o other same some = ap is_some same ∙ some
 
-module _ (index : Index) (slots : Slots) (counters : List (ℕ × Counter)) (kept : IsKept index slots counters) where
+module _ (index : PathIndex) (slots : Slots) (counters : List (ℕ × Counter)) (kept : IsKept index slots counters) where
   -- the index has the key of each window of an application's part
   placed_key : (owner number : ℕ) (window : Window) → window_at number (own_of owner (held_by slots counters)) ≡ Some window → (key : ℕ) × (key_at index owner number ≡ Some key)
   placed_key owner number window is =

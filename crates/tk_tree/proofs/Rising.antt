@@ -5,16 +5,17 @@ use Rattle.std.specs.List.{remove}
 use Rattle.std.specs.List.Sorted.{IsBinarySearchResult}
 use Rattle.std.proofs.lemmas.List.Sorted.{searched}
 use Rattle.std.proofs.lemmas.Bool.{eq-eqb, ne_eqb, cases_order}
-use Rattle.tk_bag.specs.Bag.{AllBelow, AllAbove, IsRising}
-use Rattle.tk_tree.specs.declared.counter.Counter.{Counter}
-use Rattle.tk_tree.specs.declared.index.Index.{Index}
+use Rattle.tk_base.specs.Bag.{AllBelow, AllAbove, IsRising}
+use Rattle.tk_base.specs.declared.counter.Counter.{Counter}
+use Rattle.tk_tree.specs.declared.index.PathIndex.{PathIndex}
 use Rattle.tk_tree.specs.declared.window.Window.{Window}
 use Rattle.tk_tree.specs.Arena.{IsKept}
 use Rattle.tk_tree.specs.Index.{AreRising, Adds, children_at, added_child}
-use Rattle.tk_tree.specs.Own.{next_of, is_child_of, child_numbers}
+use Rattle.tk_tree.specs.Own.{is_child_of, child_numbers}
 use Rattle.tk_tree.specs.Window.{number_of}
 use Rattle.tk_tree.proofs.Lists.{rising_more}
 use Rattle.tk_tree.proofs.Slots.{Slots, own_list}
+use Rattle.tk_base.specs.Counters.{next_of}
 
 abbrev itself : ℕ → ℕ
 itself n = n
@@ -102,13 +103,13 @@ module _ (n : ℕ) where
       by false is = rw is (subst AreRising (sym (append-nil (child_numbers n ws))) (children_rising ws rising))
 
 -- ── the index ──
-module _ (index : Index) (slots : Slots) (counters : List (ℕ × Counter)) (owner : ℕ) (kept : IsKept index slots counters) where
+module _ (index : PathIndex) (slots : Slots) (counters : List (ℕ × Counter)) (owner : ℕ) (kept : IsKept index slots counters) where
   -- the children that the index tells are in the order of their numbers
   pub kept_rising : (n : ℕ) → AreRising (children_at index owner n)
   kept_rising n = subst AreRising (sym (kept.indexed.children_are owner n)) (children_rising n (own_list owner slots) (kept.sound owner).rising)
 
   -- and with a new window
-  pub adds_rising : (with_one : Index) (key number : ℕ) (path : List ℕ) (parent : Option ℕ) → Adds index with_one owner path number key parent → number ≡ next_of owner counters → (n : ℕ) → AreRising (children_at with_one owner n)
+  pub adds_rising : (with_one : PathIndex) (key number : ℕ) (path : List ℕ) (parent : Option ℕ) → Adds index with_one owner path number key parent → number ≡ next_of owner counters → (n : ℕ) → AreRising (children_at with_one owner n)
   adds_rising with_one key number path parent adds next n =
       let below : AllBelow number_of number (own_list owner slots) = subst (λ m. AllBelow number_of m (own_list owner slots)) (sym next) (kept.sound owner).below in
       subst AreRising (sym (adds.children n ∙ ap (λ numbers. numbers ++ added_child parent number n) (kept.indexed.children_are owner n)))

@@ -1,13 +1,14 @@
 -- The arena's places as a bag, and what the index says of them.
 use Rattle.std.specs.Prelude.{◌≡◌, ℕ, List, [], ◌∷◌, length, Option, None, Some, slice_index_or}
-use Rattle.tk_bag.specs.Bag.{Item, listed}
-use Rattle.tk_tree.specs.declared.counter.Counter.{Counter}
-use Rattle.tk_tree.specs.declared.index.Index.{Index}
+use Rattle.tk_base.specs.Bag.{Item, listed}
+use Rattle.tk_base.specs.declared.counter.Counter.{Counter}
+use Rattle.tk_tree.specs.declared.index.PathIndex.{PathIndex}
 use Rattle.tk_tree.specs.declared.windows.Node.{Node}
 use Rattle.tk_tree.specs.declared.window.Window.{Window}
 use Rattle.tk_tree.specs.Index.{key_at, number_at, children_at}
-use Rattle.tk_tree.specs.Own.{Held, own_of, windows_of, count_of, child_numbers, IsSound}
+use Rattle.tk_tree.specs.Own.{Held, own_of, windows_of, child_numbers, IsSound}
 use Rattle.tk_tree.specs.Window.{number_of}
+use Rattle.tk_base.specs.Counters.{count_of}
 
 abbrev pub item_of : Node → Item Window
 item_of node = record { owner = node.owner; value = node.window }
@@ -41,7 +42,7 @@ pub record HoldsPath (slots : List (Option Node)) (owner : ℕ) (path : List ℕ
   pub its_number : node.window.number ≡ number
 
 -- the index has what stands in the arena, and nothing else
-pub record IsIndexed (index : Index) (slots : List (Option Node)) : Type 0 where
+pub record IsIndexed (index : PathIndex) (slots : List (Option Node)) : Type 0 where
   pub keys_found : (owner number key : ℕ) → key_at index owner number ≡ Some key → HoldsNumber slots owner number key
   pub keys_all : (key : ℕ) (node : Node) → at slots key ≡ Some node → key_at index node.owner node.window.number ≡ Some key
   pub numbers_found : (owner : ℕ) (path : List ℕ) (number : ℕ) → number_at index owner path ≡ Some number → HoldsPath slots owner path number
@@ -49,7 +50,7 @@ pub record IsIndexed (index : Index) (slots : List (Option Node)) : Type 0 where
   pub children_are : (owner number : ℕ) → children_at index owner number ≡ child_numbers number (listed number_of owner (bag_of slots))
 
 -- what holds of the arena, its index and the counters
-pub record IsKept (index : Index) (slots : List (Option Node)) (counters : List (ℕ × Counter)) : Type 0 where
+pub record IsKept (index : PathIndex) (slots : List (Option Node)) (counters : List (ℕ × Counter)) : Type 0 where
   pub indexed : IsIndexed index slots
   pub sound : (owner : ℕ) → IsSound (own_of owner (held_by slots counters))
   pub counted : (owner : ℕ) → count_of owner counters ≡ length (windows_of owner (held_by slots counters))

@@ -3,10 +3,11 @@ use Rattle.std.specs.Prelude.{◌≡◌, ◌≢◌, ◌<◌, ◌≤◌, ℕ, Boo
 use Rattle.std.specs.Option.{option_map_or}
 use Rattle.std.specs.Map.{lookup}
 use Rattle.std.specs.Str.{bytes_eq}
-use Rattle.tk_bag.specs.Bag.{Item, listed, numbered, without, changed_at, AllBelow, IsRising}
-use Rattle.tk_tree.specs.declared.counter.Counter.{Counter}
+use Rattle.tk_base.specs.Bag.{Item, listed, numbered, without, changed_at, AllBelow, IsRising}
+use Rattle.tk_base.specs.declared.counter.Counter.{Counter}
 use Rattle.tk_tree.specs.declared.window.Window.{Window}
 use Rattle.tk_tree.specs.Window.{number_of}
+use Rattle.tk_base.specs.Counters.{next_of}
 
 -- one application's part: the number that comes next, and its windows in the order of creation, which is that of their numbers
 pub record Own : Type 0 where
@@ -17,12 +18,6 @@ pub record Own : Type 0 where
 pub record Held : Type 0 where
   pub counters : List (ℕ × Counter)
   pub bag : List (Item Window)
-
-abbrev pub next_of : ℕ → List (ℕ × Counter) → ℕ
-next_of owner counters = option_map_or (λ counter. counter.next) (lookup (nat_eq owner) counters) 0
-
-abbrev pub count_of : ℕ → List (ℕ × Counter) → ℕ
-count_of owner counters = option_map_or (λ counter. counter.count) (lookup (nat_eq owner) counters) 0
 
 abbrev pub windows_of : ℕ → Held → List Window
 windows_of owner held = listed number_of owner held.bag
@@ -65,13 +60,6 @@ pub record IsSound (own : Own) : Type 0 where
   pub below : AllBelow number_of own.next_number own.windows
   pub parents : HaveOlderParents own.windows
   pub few : length own.windows ≤ most_windows
-
--- an application's counter is this one, and the others' are as before
-pub record Counts (owner : ℕ) (counter : Counter) (old new : List (ℕ × Counter)) : Type 0 where
-  pub next_is : next_of owner new ≡ counter.next
-  pub count_is : count_of owner new ≡ counter.count
-  pub nexts : (other : ℕ) → other ≢ owner → next_of other new ≡ next_of other old
-  pub counts : (other : ℕ) → other ≢ owner → count_of other new ≡ count_of other old
 
 -- ── what calls do to one application's part ──
 

@@ -1,6 +1,7 @@
 -- Path names of windows: `.` is the main window, and a child's is its parent's, a dot and its name, with one dot alone below `.`.
-use Rattle.std.specs.Prelude.{ℕ, Bool, true, false, ◌==◌, ◌&&◌, nat_le, List, [], ◌∷◌, Option, None, Some, option_and_then, if◌then◌else◌, codes}
+use Rattle.std.specs.Prelude.{ℕ, Bool, true, false, ◌==◌, ◌&&◌, nat_le, List, [], ◌∷◌, ◌++◌, Option, None, Some, option_and_then, Result, if◌then◌else◌, codes}
 use Rattle.std.specs.Str.{bytes_eq}
+use Rattle.tcl_text.specs.Answers.{fails, quoted}
 
 -- what stands before the last dot, and behind it
 abbrev pub with_front : ℕ → List ℕ → Option (List ℕ × List ℕ) → Option (List ℕ × List ℕ)
@@ -30,3 +31,7 @@ parent_and_name path = option_and_then child_names (split_last path)
 abbrev pub begins_upper : List ℕ → Bool
 begins_upper [] = false
 begins_upper (c ∷ rest) = nat_le 65 c && nat_le c 90
+
+-- the error for a path that no window has (24)
+abbrev pub bad_path : {T : Type 0} → List ℕ → Result T (List ℕ)
+bad_path path = fails (codes "bad window path name " ++ quoted path)

@@ -7,7 +7,7 @@ use tk_base::Rect;
 
 /// What a window becomes.
 #[derive(Drop)]
-pub enum Change {
+pub enum WindowChange {
     /// It is being destroyed.
     Dying,
     /// It has these binding tags.
@@ -17,13 +17,13 @@ pub enum Change {
 }
 
 /// Changes a window.
-pub fn change_window(window: &mut Window, change: Change)
+pub fn change_window(window: &mut Window, change: WindowChange)
     ensures { window.new ≡ changed change window.old }
 {
     match change {
-        Change::Dying => window.dying = true,
-        Change::Tags(tags) => window.tags = tags,
-        Change::Place(place, mapped) => {
+        WindowChange::Dying => window.dying = true,
+        WindowChange::Tags(tags) => window.tags = tags,
+        WindowChange::Place(place, mapped) => {
             window.place = place;
             window.mapped = mapped;
         }

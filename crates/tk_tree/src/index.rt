@@ -5,12 +5,12 @@ ghost use Rattle.tk_tree.specs.Index.{AreRising};
 
 use std::alloc::{AllocError, Global};
 use std::collections::HashMap;
-use tk_siblings::Siblings;
+use tk_base::Siblings;
 
 /// The windows of one application: the arena's key of each number, the number of each path, and the children
 /// of each window in the order of creation.
 #[derive(Drop)]
-pub struct Row {
+pub struct PathRow {
     keys: HashMap<u64, usize>,
     numbers: HashMap<String, u64>,
     children: HashMap<u64, Siblings<u64>>,
@@ -19,18 +19,18 @@ pub struct Row {
 
 /// The windows of all applications by number and by path.
 #[derive(Drop)]
-pub struct Index {
-    rows: HashMap<usize, Row>,
+pub struct PathIndex {
+    rows: HashMap<usize, PathRow>,
     alloc: Global,
 }
 
-impl Row {
+impl PathRow {
     ghost use Rattle.tk_tree.specs.Index.{row_key, row_number, row_children, RowNames, RowForgets, RowChild, RowChildless, RowAdds, RowRemoves, SameRow, IsEmptyRow};
 
-    fn new(alloc: Global) -> Row
+    fn new(alloc: Global) -> PathRow
         ensures { IsEmptyRow result }
     {
-        Row {
+        PathRow {
             keys: HashMap::new(alloc),
             numbers: HashMap::new(alloc),
             children: HashMap::new(alloc),
@@ -132,14 +132,14 @@ fn take_out(list: &mut Siblings<u64>, number: u64)
     }
 }
 
-impl Index {
+impl PathIndex {
     ghost use Rattle.tk_tree.specs.Index.{key_at, number_at, children_at, Adds, Removes, SameIndex, IsEmptyIndex};
 
     /// No windows. It takes no memory.
-    pub fn new(alloc: Global) -> Index
+    pub fn new(alloc: Global) -> PathIndex
         ensures { IsEmptyIndex result }
     {
-        Index {
+        PathIndex {
             rows: HashMap::new(alloc),
             alloc,
         }
@@ -202,7 +202,7 @@ impl Index {
         if self.rows.contains_key(&owner) {
             return Ok(());
         }
-        self.rows.insert(owner, Row::new(self.alloc))?;
+        self.rows.insert(owner, PathRow::new(self.alloc))?;
         Ok(())
     }
 

@@ -3,9 +3,9 @@
 
 mod change;
 mod corner;
-mod counter;
 mod fault;
 mod index;
+mod no_window;
 mod order;
 mod path;
 mod window;
@@ -13,6 +13,7 @@ mod windows;
 
 pub use corner::Corner;
 pub use fault::WindowFault;
+pub use no_window::bad_path;
 pub use path::parent_and_name;
 pub use window::Window;
 pub use windows::Windows;

@@ -7,11 +7,10 @@ ghost use Rattle.tk_tree.specs.Orders.{below, below_first, all_below, all_below_
 ghost use Rattle.tk_tree.specs.Own.{own_of, window_at, at_path, is_full, child_numbers, with_change, without_window, LeavesOthers, IsSound};
 ghost use Rattle.tk_tree.specs.Ways.{at_point, way_at, way_to, way_up};
 
-use crate::change::{Change, change_window};
+use crate::change::{WindowChange, change_window};
 use crate::corner::Corner;
-use crate::counter::{Counter, count_less, counter_of, set_counter};
 use crate::fault::WindowFault;
-use crate::index::Index;
+use crate::index::PathIndex;
 use crate::order::push_reversed;
 use crate::path::{begins_upper, parent_and_name};
 use crate::window::{Window, has_point, new_window, offset, tags_for};
@@ -20,7 +19,7 @@ use std::alloc::{AllocError, Global};
 use std::collections::HashMap;
 use std::marker::Model;
 use tcl_text::Text;
-use tk_base::{Kind, Rect, Win};
+use tk_base::{Counter, Kind, Rect, Win, count_less, counter_of, set_counter};
 
 /// How many windows an application has at most.
 const MAX_WINDOWS: usize = 512;
@@ -41,7 +40,7 @@ pub struct Node {
 /// that the `Win` of a window that is gone finds nothing, whatever stands in its old place.
 pub struct Windows {
     slab: Slab<Node>,
-    index: Index,
+    index: PathIndex,
     counters: HashMap<usize, Counter>,
     alloc: Global,
 }
@@ -59,7 +58,7 @@ impl Model for Windows {
 }
 
 impl Windows {
-    ghost use Rattle.tk_tree.specs.Own.{next_of};
+    ghost use Rattle.tk_base.specs.Counters.{next_of};
 
     /// No windows. It takes no memory.
     pub fn new(alloc: Global) -> Windows
@@ -67,7 +66,7 @@ impl Windows {
     {
         Windows {
             slab: Slab::new(alloc),
-            index: Index::new(alloc),
+            index: PathIndex::new(alloc),
             counters: HashMap::new(alloc),
             alloc,
         }
@@ -375,7 +374,7 @@ impl Windows {
         ensures own { own_of win.owner self.new ≡ with_change win.number dying (own_of win.owner self.old) }
         ensures others { LeavesOthers win.owner self.old self.new }
     {
-        self.change(win, Change::Dying);
+        self.change(win, WindowChange::Dying);
     }
 
     /// Sets where a window is laid out, in pixels, and whether it is mapped. It takes no memory.
@@ -385,7 +384,7 @@ impl Windows {
             ≡ with_change win.number (with_place place mapped) (own_of win.owner self.old) }
         ensures others { LeavesOthers win.owner self.old self.new }
     {
-        self.change(win, Change::Place(place, mapped));
+        self.change(win, WindowChange::Place(place, mapped));
     }
 
     /// Sets the binding tags of a window; none of them restores the default: its path, its class, `.` and `all` (bindtags(n)).
@@ -397,12 +396,12 @@ impl Windows {
         ensures err { OnErr result (self.new ≡ self.old) }
     {
         let tags = tags_for(self.alloc, self.there(win), tags)?;
-        self.change(win, Change::Tags(tags));
+        self.change(win, WindowChange::Tags(tags));
         Ok(())
     }
 
     /// Changes a window.
-    fn change(&mut self, win: Win, change: Change)
+    fn change(&mut self, win: Win, change: WindowChange)
         requires { IsSome (window_at win.number (own_of win.owner self.old)) }
         ensures own { own_of win.owner self.new ≡ with_change win.number (changed change) (own_of win.owner self.old) }
         ensures others { LeavesOthers win.owner self.old self.new }

@@ -10,7 +10,7 @@ use Rattle.tcl_text.proofs.ListFormLemmas.{list_form-cons}
 use Rattle.tk_entry.specs.declared.entry.Entry.{Entry}
 use Rattle.tk_options.specs.declared.option.OptionEntry.{OptionEntry}
 use Rattle.tk_options.specs.Options.{description, IsTooLong}
-use Rattle.tk_widgets.specs.declared.outcome.Change.TheVariants.{Edit}
+use Rattle.tk_widgets.specs.declared.outcome.WidgetChange.TheVariants.{Edit}
 use Rattle.tk_widgets.specs.declared.widget.ListboxWidget.{ListboxWidget}
 use Rattle.tk_widgets.specs.declared.widget.Widget.TheVariants.{Listbox}
 use Rattle.tk_listbox.specs.Items.{texts}

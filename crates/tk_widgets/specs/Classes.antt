@@ -9,10 +9,9 @@ use Rattle.tk_listbox.specs.Items.{texts}
 use Rattle.tk_listbox.specs.Listboxes.{part}
 use Rattle.tk_options.specs.declared.option.OptionEntry.{OptionEntry}
 use Rattle.tk_options.specs.declared.option.OptionName.{OptionName}
-use Rattle.tk_options.specs.declared.option.OptionName.TheVariants.{BorderWidth, Command, Relief, State}
-use Rattle.tk_options.specs.Options.{amount_of, value_of, with_value}
+use Rattle.tk_options.specs.declared.option.OptionName.TheVariants.{Command, Relief, State}
+use Rattle.tk_options.specs.Options.{value_of}
 use Rattle.tk_widgets.specs.Sizes.{or_empty, text_shown}
-use Rattle.tk_widgets.specs.declared.widget.Button.{Button as ButtonWidget}
 use Rattle.tk_widgets.specs.declared.widget.Widget.{Widget}
 use Rattle.tk_widgets.specs.declared.widget.Widget.TheVariants.{Frame, Label, Button, Entry, Listbox}
 
@@ -32,22 +31,9 @@ value_told (Listbox listbox) text = Some (list_form (texts listbox.listbox.items
 abbrev pub invoked : List OptionEntry → Option (List ℕ)
 invoked options = if has_value State (codes "disabled") options then None else value_of Command options
 
--- a button's relief, and the button with another
+-- a button's relief
 abbrev pub relief_of : List OptionEntry → List ℕ
 relief_of options = or_empty (value_of Relief options)
-
-abbrev pub with_relief : List ℕ → ButtonWidget → ButtonWidget
-with_relief relief button = record { options = with_value Relief relief button.options }
-
--- a button that is pressed becomes sunken, and its relief is told, to be put back; nothing happens where it is disabled
-pub record Pressed : Type 0 where
-  pub saved : Option (List ℕ)
-  pub button : ButtonWidget
-
-abbrev pub pressed : ButtonWidget → Pressed
-pressed button =
-    if has_value State (codes "disabled") button.options then record { saved = None; button = button }
-    else record { saved = Some (relief_of button.options); button = with_relief (codes "sunken") button }
 
 -- how many columns stand to the left of so many pixels, inside the border
 abbrev pub columns_to : ℤ → ℕ → ℕ

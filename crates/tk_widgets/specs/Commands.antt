@@ -12,10 +12,10 @@ use Rattle.tk_options.specs.declared.option.OptionName.{OptionName}
 use Rattle.tk_options.specs.declared.option.OptionName.TheVariants.{Text, TextVariable}
 use Rattle.tk_options.specs.declared.settings.Setting.{Setting}
 use Rattle.tk_options.specs.Options.{description, last_setting, meant, settings, value_meant, value_of, with_settings}
-use Rattle.tk_widgets.specs.declared.outcome.Asked.{Asked}
-use Rattle.tk_widgets.specs.declared.outcome.Asked.TheVariants.{Done, Wants}
-use Rattle.tk_widgets.specs.declared.outcome.Change.{Change}
-use Rattle.tk_widgets.specs.declared.outcome.Change.TheVariants.{Configure, Edit, PutCursor, InsertItems, DeleteItems, Activate, Select}
+use Rattle.tk_widgets.specs.declared.outcome.WidgetRequest.{WidgetRequest}
+use Rattle.tk_widgets.specs.declared.outcome.WidgetRequest.TheVariants.{Done, Wants}
+use Rattle.tk_widgets.specs.declared.outcome.WidgetChange.{WidgetChange}
+use Rattle.tk_widgets.specs.declared.outcome.WidgetChange.TheVariants.{Configure, Edit, PutCursor, InsertItems, DeleteItems, Activate, Select}
 use Rattle.tk_widgets.specs.declared.outcome.VariableWrite.{VariableWrite}
 use Rattle.tk_widgets.specs.declared.outcome.WidgetAct.{WidgetAct}
 use Rattle.tk_widgets.specs.declared.outcome.WidgetAct.TheVariants as act
@@ -110,7 +110,7 @@ abbrev pub within_list : Widget → Result Widget (List ℕ)
 within_list (Listbox widget) = if_listed widget
 within_list widget = Ok widget
 
-abbrev pub with_change : Change → Widget → Result Widget (List ℕ)
+abbrev pub with_change : WidgetChange → Widget → Result Widget (List ℕ)
 with_change (Configure all) widget = Ok (with_options (with_settings all) widget)
 with_change (Edit edited) widget = Ok (with_entry (λ _. edited) widget)
 with_change (PutCursor at) widget = Ok (with_entry (λ entry. record entry { cursor = at }) widget)
@@ -130,10 +130,10 @@ abbrev pub made_by : Widget → Result Widget (List ℕ) → Told
 made_by widget (Ok changed) = record { widget = changed; act = act.Answer [] }
 made_by widget (Err text) = record { widget = widget; act = act.Fault text }
 
-abbrev pub made : Change → Widget → Told
+abbrev pub made : WidgetChange → Widget → Told
 made change widget = made_by widget (with_change change widget)
 
-abbrev pub done : Asked → Widget → Told
+abbrev pub done : WidgetRequest → Widget → Told
 done (Done act) widget = record { widget = widget; act = act }
 done (Wants change) widget = made change widget
 
@@ -162,7 +162,7 @@ own_text_after all (Entry widget) = widget.entry.text
 own_text_after all widget = or_empty (option_or (last_setting Text all) (value_of Text (options_in widget)))
 
 -- an edit sets the variable; setting `-textvariable` sets one that is absent to the own text
-abbrev pub variable_write : Change → Widget → Option VariableWrite
+abbrev pub variable_write : WidgetChange → Widget → Option VariableWrite
 variable_write (Edit edited) widget = write edited.text false (variable_of widget)
 variable_write (Configure all) widget = write (own_text_after all widget) true (linked (last_setting TextVariable all))
 variable_write change widget = None

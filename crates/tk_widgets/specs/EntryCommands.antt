@@ -7,7 +7,7 @@ use Rattle.tk_entry.specs.declared.entry.Entry.{Entry}
 use Rattle.tcl_text.specs.Characters.{size}
 use Rattle.tk_entry.specs.Entries.{shown, cursor_in, index_in, inserted, deleted, edited, by_text, by_backspace, by_delete}
 use Rattle.tk_options.specs.declared.option.OptionName.TheVariants.{State}
-use Rattle.tk_widgets.specs.declared.outcome.Change.TheVariants.{PutCursor}
+use Rattle.tk_widgets.specs.declared.outcome.WidgetChange.TheVariants.{PutCursor}
 use Rattle.tk_widgets.specs.declared.widget.EntryWidget.{EntryWidget}
 use Rattle.tk_widgets.specs.Classes.{has_value}
 use Rattle.tk_widgets.specs.Outcomes.{Wanted, told, nothing, change, edit, edit_if}

@@ -6,32 +6,32 @@ use Rattle.tcl_text.specs.Answers.{Answer, ◌>>=◌, answers, bad_index, bad_op
 use Rattle.tcl_text.specs.Readings.{list_form}
 use Rattle.tk_listbox.specs.declared.choice.Choice.{Choice}
 use Rattle.tk_listbox.specs.declared.choice.Choice.TheVariants.{Set, Clear}
-use Rattle.tk_listbox.specs.declared.index.Index.{Index}
-use Rattle.tk_listbox.specs.declared.index.Index.TheVariants.{Number, Active, End}
+use Rattle.tk_listbox.specs.declared.index.ItemIndex.{ItemIndex}
+use Rattle.tk_listbox.specs.declared.index.ItemIndex.TheVariants.{Number, Active, End}
 use Rattle.tk_listbox.specs.Indices.{index_in, before, through, before_inserted}
 use Rattle.tk_listbox.specs.Items.{texts, chosen_from}
 use Rattle.tk_listbox.specs.Listboxes.{Held, part, has_chosen}
-use Rattle.tk_widgets.specs.declared.listbox_commands.Span.{Span}
-use Rattle.tk_widgets.specs.declared.outcome.Change.TheVariants.{InsertItems, DeleteItems, Activate, Select}
+use Rattle.tk_widgets.specs.declared.listbox_commands.ItemRange.{ItemRange}
+use Rattle.tk_widgets.specs.declared.outcome.WidgetChange.TheVariants.{InsertItems, DeleteItems, Activate, Select}
 use Rattle.tk_widgets.specs.Outcomes.{Wanted, told, change}
 use Rattle.tk_widgets.specs.Sizes.{or_empty}
 
 -- the index that a word is
-abbrev pub index_or_error : List ℕ → Option Index → Result Index (List ℕ)
+abbrev pub index_or_error : List ℕ → Option ItemIndex → Result ItemIndex (List ℕ)
 index_or_error word (Some index) = Ok index
 index_or_error word None = bad_index word
 
-unfoldable pub index_of : List ℕ → Result Index (List ℕ)
+unfoldable pub index_of : List ℕ → Result ItemIndex (List ℕ)
 index_of word = index_or_error word (index_in word)
 
 -- the items from one index to another, with both
-abbrev pub span : Index → Index → Held → Span
+abbrev pub span : ItemIndex → ItemIndex → Held → ItemRange
 span first last box = record {
   from = before first (length box.items) box.active;
   to = through last (length box.items) box.active;
 }
 
-abbrev pub span_of : List ℕ → List ℕ → Held → Result Span (List ℕ)
+abbrev pub span_of : List ℕ → List ℕ → Held → Result ItemRange (List ℕ)
 span_of first last box = do
   from ← index_of first
   to ← index_of last
@@ -74,7 +74,7 @@ list_size [] box = told (answers (decimal (length box.items)))
 list_size _ box = wrong_args (codes "path size")
 
 -- path index index: a number as it is, where there is no such item too
-abbrev pub number_of : Index → Held → List ℕ
+abbrev pub number_of : ItemIndex → Held → List ℕ
 number_of (Number n) box = signed_decimal n
 number_of Active box = decimal box.active
 number_of End box = decimal (length box.items)

@@ -5,16 +5,16 @@ use Rattle.tcl_text.specs.declared.commands.answers.Refusal.{Refusal}
 use Rattle.tk_entry.specs.declared.entry.Entry.{Entry}
 use Rattle.tk_options.specs.declared.fault.OptionFault.{OptionFault}
 use Rattle.tk_options.specs.FaultTexts.{fault_text}
-use Rattle.tk_widgets.specs.declared.outcome.Asked.{Asked}
-use Rattle.tk_widgets.specs.declared.outcome.Asked.TheVariants.{Done, Wants}
-use Rattle.tk_widgets.specs.declared.outcome.Change.{Change}
-use Rattle.tk_widgets.specs.declared.outcome.Change.TheVariants.{Edit}
+use Rattle.tk_widgets.specs.declared.outcome.WidgetRequest.{WidgetRequest}
+use Rattle.tk_widgets.specs.declared.outcome.WidgetRequest.TheVariants.{Done, Wants}
+use Rattle.tk_widgets.specs.declared.outcome.WidgetChange.{WidgetChange}
+use Rattle.tk_widgets.specs.declared.outcome.WidgetChange.TheVariants.{Edit}
 use Rattle.tk_widgets.specs.declared.outcome.WidgetAct.TheVariants as act
 use Rattle.tcl_text.specs.Limits.{most_bytes}
 
 -- what a sub-command asks for, or the text of its error
 abbrev pub Wanted : Type 0
-Wanted = Result Asked (List ℕ)
+Wanted = Result WidgetRequest (List ℕ)
 
 -- it changes nothing, and this is its result or its error
 abbrev pub told : Answer → Wanted
@@ -31,7 +31,7 @@ script (Some command) = Ok (Done (act.Script command))
 script None = nothing
 
 -- it wants this change, and its result is empty
-abbrev pub change : Change → Wanted
+abbrev pub change : WidgetChange → Wanted
 change what = Ok (Wants what)
 
 -- an entry's edit, which is refused where the text is past the limit
@@ -48,10 +48,10 @@ or_fault (Ok value) = Ok value
 or_fault (Err fault) = Err (bounded (fault_text fault))
 
 -- an error is told too
-abbrev pub asked_by : Wanted → Asked
+abbrev pub asked_by : Wanted → WidgetRequest
 asked_by (Ok asked) = asked
 asked_by (Err text) = Done (act.Fault text)
 
 -- what is told of a step that gave or refused what the definition says
-abbrev pub IsAskedBy : Result Asked Refusal → Asked → Type 0
+abbrev pub IsAskedBy : Result WidgetRequest Refusal → WidgetRequest → Type 0
 IsAskedBy given asked = (wanted : Wanted) → Gives given wanted → asked ≡ asked_by wanted

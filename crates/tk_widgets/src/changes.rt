@@ -7,8 +7,7 @@ ghost use Rattle.tk_options.specs.Options.{last_setting, with_settings};
 ghost use Rattle.tk_widgets.specs.Commands as spec;
 ghost use Rattle.tk_widgets.specs.declared.widget.Widget.{Widget};
 
-use crate::classes::empty_text;
-use crate::outcome::{Change, VariableWrite, WidgetAct};
+use crate::outcome::{VariableWrite, WidgetAct, WidgetChange};
 use crate::widget::Widget;
 use std::alloc::{AllocError, Global};
 use tcl_text::answers::{Refusal, limit_reached};
@@ -19,11 +18,11 @@ use tk_options::{OptionName, Settings};
 
 impl Widget {
     /// Makes a change that this widget was asked for, and answers what its command tells then.
-    pub fn make(&mut self, alloc: Global, change: Change) -> Result<WidgetAct, AllocError>
+    pub fn make(&mut self, alloc: Global, change: WidgetChange) -> Result<WidgetAct, AllocError>
         ensures told { IfOk result (λ act. spec.made change self.old ≡ record { widget = self.new; act = act }) }
         ensures err { OnErr result (self.new ≡ self.old) }
     {
-        let nothing = empty_text(alloc)?;
+        let nothing = Text::empty();
         match make_change(alloc, self, change) {
             Ok(()) => Ok(WidgetAct::Answer(nothing)),
             Err(Refusal::Error(text)) => Ok(WidgetAct::Fault(text)),
@@ -45,13 +44,13 @@ impl Widget {
     pub fn variable_write(
         &self,
         alloc: Global,
-        change: &Change,
+        change: &WidgetChange,
     ) -> Result<Option<VariableWrite>, AllocError>
         ensures { IfOk result (λ wanted. wanted ≡ spec.variable_write change.now self.now) }
     {
         match change {
-            Change::Edit(edited) => write(&edited.text, false, self.variable()),
-            Change::Configure(all) => self.configure_write(alloc, all),
+            WidgetChange::Edit(edited) => write(&edited.text, false, self.variable()),
+            WidgetChange::Configure(all) => self.configure_write(alloc, all),
             _ => Ok(None),
         }
     }
@@ -84,7 +83,7 @@ impl Widget {
             .or(self.options().value(OptionName::Text))
         {
             Some(text) => text.copy(),
-            None => empty_text(alloc),
+            None => Ok(Text::empty()),
         }
     }
 }
@@ -119,19 +118,24 @@ fn write(
 }
 
 /// Makes a change.
-fn make_change(alloc: Global, widget: &mut Widget, change: Change) -> Result<(), Refusal>
+fn make_change(alloc: Global, widget: &mut Widget, change: WidgetChange) -> Result<(), Refusal>
     ensures ok { OnOk result (spec.with_change change widget.old ≡ Ok widget.new) }
     ensures refused { IfErr result (λ refusal. Gives {T = Widget} (Err refusal) (spec.with_change change widget.old)) }
     ensures err { OnErr result (widget.new ≡ widget.old) }
 {
     match change {
-        Change::Configure(all) => widget.set_all(all),
-        Change::Edit(edited) => widget.put_entry(edited),
-        Change::PutCursor(at) => widget.put_cursor(at),
-        Change::InsertItems { at, items } => insert_items(alloc, widget, at, items.as_slice())?,
-        Change::DeleteItems { from, to } => widget.delete_items(alloc, from, to)?,
-        Change::Activate(place) => widget.activate(place),
-        Change::Select(how) => widget.select(how),
+        WidgetChange::Configure(all) => widget.set_all(all),
+        WidgetChange::Edit(edited) => widget.put_entry(edited),
+        WidgetChange::PutCursor(at) => widget.put_cursor(at),
+        WidgetChange::InsertItems { at, items } => insert_items(
+            alloc,
+            widget,
+            at,
+            items.as_slice(),
+        )?,
+        WidgetChange::DeleteItems { from, to } => widget.delete_items(alloc, from, to)?,
+        WidgetChange::Activate(place) => widget.activate(place),
+        WidgetChange::Select(how) => widget.select(how),
     }
     Ok(())
 }

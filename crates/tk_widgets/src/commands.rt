@@ -9,7 +9,7 @@ ghost use Rattle.tk_widgets.specs.Outcomes.{asked_by};
 
 use crate::entry_commands::{asked, entry_words, nothing};
 use crate::listbox_commands::listbox_words;
-use crate::outcome::{Asked, Change, WidgetAct};
+use crate::outcome::{WidgetAct, WidgetChange, WidgetRequest};
 use crate::widget::{Button, Widget};
 use std::alloc::{AllocError, Global};
 use tcl_text::answers::{Refusal, bad_option, copy_answer, limit_reached, wrong_args};
@@ -33,8 +33,8 @@ impl Widget {
         ensures err { OnErr result (self.new ≡ self.old) }
     {
         match self.ask(alloc, variable, words)? {
-            Asked::Done(act) => Ok(act),
-            Asked::Wants(change) => self.make(alloc, change),
+            WidgetRequest::Done(act) => Ok(act),
+            WidgetRequest::Wants(change) => self.make(alloc, change),
         }
     }
 
@@ -44,7 +44,7 @@ impl Widget {
         alloc: Global,
         variable: Option<&Text>,
         words: &[Text],
-    ) -> Result<Asked, AllocError>
+    ) -> Result<WidgetRequest, AllocError>
         ensures { IfOk result (λ asked. asked ≡ asked_by (spec.wanted words.now (option_copied variable.entry) self.now)) }
     {
         asked(wanted(alloc, self, variable, words))
@@ -71,7 +71,7 @@ fn wanted(
     widget: &Widget,
     variable: Option<&Text>,
     words: &[Text],
-) -> Result<Asked, Refusal>
+) -> Result<WidgetRequest, Refusal>
     ensures { Gives result (spec.wanted words.now (option_copied variable.entry) widget.now) }
 {
     let Some((name, words)) = words.split_first() else {
@@ -91,7 +91,7 @@ fn own_words(
     variable: Option<&Text>,
     name: &Text,
     words: &[Text],
-) -> Result<Asked, Refusal>
+) -> Result<WidgetRequest, Refusal>
     ensures { Gives result (spec.own_words name.now words.now (option_copied variable.entry) widget.now) }
 {
     match widget {
@@ -110,7 +110,7 @@ fn button_words(
     button: &Button,
     name: &Text,
     words: &[Text],
-) -> Result<Asked, Refusal>
+) -> Result<WidgetRequest, Refusal>
     ensures { Gives result (spec.button_words name.now words.now button.now.options) }
 {
     match name.as_str() {
@@ -119,24 +119,24 @@ fn button_words(
     }
 }
 
-fn button_invoke(alloc: Global, button: &Button, words: &[Text]) -> Result<Asked, Refusal>
+fn button_invoke(alloc: Global, button: &Button, words: &[Text]) -> Result<WidgetRequest, Refusal>
     ensures { Gives result (spec.button_invoke words.now button.now.options) }
 {
     match words {
         [] => match button.invoke() {
-            Some(script) => Ok(Asked::Done(WidgetAct::Script(script.copy()?))),
-            None => nothing(alloc),
+            Some(script) => Ok(WidgetRequest::Done(WidgetAct::Script(script.copy()?))),
+            None => Ok(nothing()),
         },
         _ => wrong_args(alloc, "path invoke"),
     }
 }
 
-fn cget(alloc: Global, options: &OptionTable, words: &[Text]) -> Result<Asked, Refusal>
+fn cget(alloc: Global, options: &OptionTable, words: &[Text]) -> Result<WidgetRequest, Refusal>
     ensures { Gives result (spec.cget words.now options.now) }
 {
     match words {
         [option] => match options.cget(option) {
-            Ok(value) => Ok(Asked::Done(WidgetAct::Answer(value.copy()?))),
+            Ok(value) => Ok(WidgetRequest::Done(WidgetAct::Answer(value.copy()?))),
             Err(OptionFault::NoMemory) => Err(Refusal::NoMemory),
             Err(fault) => Err(option_refusal(alloc, &fault)),
         },
@@ -144,7 +144,7 @@ fn cget(alloc: Global, options: &OptionTable, words: &[Text]) -> Result<Asked, R
     }
 }
 
-fn configure(alloc: Global, options: &OptionTable, words: &[Text]) -> Result<Asked, Refusal>
+fn configure(alloc: Global, options: &OptionTable, words: &[Text]) -> Result<WidgetRequest, Refusal>
     ensures { Gives result (spec.configure words.now options.now) }
 {
     match words {
@@ -155,11 +155,15 @@ fn configure(alloc: Global, options: &OptionTable, words: &[Text]) -> Result<Ask
 }
 
 /// Options are set.
-fn set_options(alloc: Global, options: &OptionTable, words: &[Text]) -> Result<Asked, Refusal>
+fn set_options(
+    alloc: Global,
+    options: &OptionTable,
+    words: &[Text],
+) -> Result<WidgetRequest, Refusal>
     ensures { Gives result (spec.configure_pairs words.now options.now) }
 {
     match options.settings(alloc, words) {
-        Ok(all) => Ok(Asked::Wants(Change::Configure(all))),
+        Ok(all) => Ok(WidgetRequest::Wants(WidgetChange::Configure(all))),
         Err(OptionFault::NoMemory) => Err(Refusal::NoMemory),
         Err(fault) => Err(option_refusal(alloc, &fault)),
     }
@@ -167,13 +171,13 @@ fn set_options(alloc: Global, options: &OptionTable, words: &[Text]) -> Result<A
 
 /// All options are told.
 #[tactic(auto, using(crate::proofs::CommandLemmas::long_lists))]
-fn describe_all(alloc: Global, options: &OptionTable) -> Result<Asked, Refusal>
+fn describe_all(alloc: Global, options: &OptionTable) -> Result<WidgetRequest, Refusal>
     ensures { Gives result (spec.configure [] options.now) }
 {
     match options.describe(alloc) {
         Ok(all) => {
             let text = list_answer(alloc, all.as_slice())?;
-            Ok(Asked::Done(WidgetAct::Answer(text)))
+            Ok(WidgetRequest::Done(WidgetAct::Answer(text)))
         }
         Err(TextFault::TooLong) => Err(limit_reached(alloc)),
         Err(TextFault::NoMemory) => Err(Refusal::NoMemory),
@@ -181,13 +185,13 @@ fn describe_all(alloc: Global, options: &OptionTable) -> Result<Asked, Refusal>
 }
 
 /// One option is told, which is found without a copy of the others.
-fn describe(alloc: Global, options: &OptionTable, option: &Text) -> Result<Asked, Refusal>
+fn describe(alloc: Global, options: &OptionTable, option: &Text) -> Result<WidgetRequest, Refusal>
     ensures { Gives result (spec.configure (option.now ∷ []) options.now) }
 {
     match options.entry(option) {
         Ok(entry) => {
             let text = description_of(alloc, entry)?;
-            Ok(Asked::Done(WidgetAct::Answer(text)))
+            Ok(WidgetRequest::Done(WidgetAct::Answer(text)))
         }
         Err(OptionFault::NoMemory) => Err(Refusal::NoMemory),
         Err(fault) => Err(option_refusal(alloc, &fault)),

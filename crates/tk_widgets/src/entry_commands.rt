@@ -7,7 +7,7 @@ ghost use Rattle.tk_widgets.specs.EntryCommands as spec;
 ghost use Rattle.tk_widgets.specs.Outcomes.{IsAskedBy, asked_by, edit, nothing};
 ghost use Rattle.tcl_text.specs.Limits.{most_bytes};
 
-use crate::outcome::{Asked, Change, WidgetAct};
+use crate::outcome::{WidgetAct, WidgetChange, WidgetRequest};
 use crate::widget::EntryWidget;
 use std::alloc::{AllocError, Global};
 use tcl_text::answers::{
@@ -24,7 +24,7 @@ pub fn entry_words(
     variable: Option<&Text>,
     name: &Text,
     words: &[Text],
-) -> Result<Asked, Refusal>
+) -> Result<WidgetRequest, Refusal>
     ensures { Gives result (spec.entry_words name.now words.now (option_copied variable.entry) widget.now) }
 {
     match name.as_str() {
@@ -42,13 +42,13 @@ fn entry_get(
     widget: &EntryWidget,
     variable: Option<&Text>,
     words: &[Text],
-) -> Result<Asked, Refusal>
+) -> Result<WidgetRequest, Refusal>
     ensures { Gives result (spec.entry_get words.now (option_copied variable.entry) widget.now) }
 {
     match words {
         [] => {
             let text = widget.entry.shown(variable).copy()?;
-            Ok(Asked::Done(WidgetAct::Answer(text)))
+            Ok(WidgetRequest::Done(WidgetAct::Answer(text)))
         }
         _ => wrong_args(alloc, "path get"),
     }
@@ -59,7 +59,7 @@ fn entry_insert(
     widget: &EntryWidget,
     variable: Option<&Text>,
     words: &[Text],
-) -> Result<Asked, Refusal>
+) -> Result<WidgetRequest, Refusal>
     ensures { Gives result (spec.entry_insert words.now (option_copied variable.entry) widget.now) }
 {
     match words {
@@ -79,14 +79,14 @@ fn insert_at(
     variable: Option<&Text>,
     at: usize,
     new: &Text,
-) -> Result<Asked, Refusal>
+) -> Result<WidgetRequest, Refusal>
     ensures { Gives result (spec.if_editable widget.now (edit (edited (inserted at new.now) (option_copied variable.entry) widget.now.entry))) }
 {
     if !widget.is_editable() {
-        return nothing(alloc);
+        return Ok(nothing());
     }
     match widget.entry.with_inserted(alloc, variable, at, new) {
-        Ok(edited) => Ok(Asked::Wants(Change::Edit(edited))),
+        Ok(edited) => Ok(WidgetRequest::Wants(WidgetChange::Edit(edited))),
         Err(TextFault::TooLong) => Err(limit_reached(alloc)),
         Err(TextFault::NoMemory) => Err(Refusal::NoMemory),
     }
@@ -97,7 +97,7 @@ fn entry_delete(
     widget: &EntryWidget,
     variable: Option<&Text>,
     words: &[Text],
-) -> Result<Asked, Refusal>
+) -> Result<WidgetRequest, Refusal>
     ensures { Gives result (spec.entry_delete words.now (option_copied variable.entry) widget.now) }
 {
     match words {
@@ -122,14 +122,14 @@ fn delete_between(
     variable: Option<&Text>,
     from: usize,
     to: usize,
-) -> Result<Asked, Refusal>
+) -> Result<WidgetRequest, Refusal>
     ensures { Gives result (spec.if_editable widget.now (edit (edited (deleted from to) (option_copied variable.entry) widget.now.entry))) }
 {
     if !widget.is_editable() {
-        return nothing(alloc);
+        return Ok(nothing());
     }
     match widget.entry.without(alloc, variable, from, to) {
-        Ok(edited) => Ok(Asked::Wants(Change::Edit(edited))),
+        Ok(edited) => Ok(WidgetRequest::Wants(WidgetChange::Edit(edited))),
         Err(TextFault::TooLong) => Err(limit_reached(alloc)),
         Err(TextFault::NoMemory) => Err(Refusal::NoMemory),
     }
@@ -140,13 +140,13 @@ fn entry_icursor(
     widget: &EntryWidget,
     variable: Option<&Text>,
     words: &[Text],
-) -> Result<Asked, Refusal>
+) -> Result<WidgetRequest, Refusal>
     ensures { Gives result (spec.entry_icursor words.now (option_copied variable.entry) widget.now) }
 {
     match words {
         [index] => {
             let at = place_in(alloc, &widget.entry, variable, index)?;
-            Ok(Asked::Wants(Change::PutCursor(at)))
+            Ok(WidgetRequest::Wants(WidgetChange::PutCursor(at)))
         }
         _ => wrong_args(alloc, "path icursor index"),
     }
@@ -157,14 +157,14 @@ fn entry_index(
     widget: &EntryWidget,
     variable: Option<&Text>,
     words: &[Text],
-) -> Result<Asked, Refusal>
+) -> Result<WidgetRequest, Refusal>
     ensures { Gives result (spec.entry_index words.now (option_copied variable.entry) widget.now) }
 {
     match words {
         [index] => {
             let at = place_in(alloc, &widget.entry, variable, index)?;
             let text = decimal_answer(alloc, at)?;
-            Ok(Asked::Done(WidgetAct::Answer(text)))
+            Ok(WidgetRequest::Done(WidgetAct::Answer(text)))
         }
         _ => wrong_args(alloc, "path index index"),
     }
@@ -188,22 +188,19 @@ fn place_in(
 }
 
 /// Nothing is changed, and the result is empty.
-pub fn nothing(alloc: Global) -> Result<Asked, Refusal>
-    ensures { Gives result nothing }
+pub fn nothing() -> WidgetRequest
+    ensures { Ok result ≡ nothing }
 {
-    match Text::new(alloc, "") {
-        Ok(text) => Ok(Asked::Done(WidgetAct::Answer(text))),
-        Err(_) => Err(Refusal::NoMemory),
-    }
+    WidgetRequest::Done(WidgetAct::Answer(Text::empty()))
 }
 
 /// What is asked for, an error too.
-pub fn asked(wanted: Result<Asked, Refusal>) -> Result<Asked, AllocError>
+pub fn asked(wanted: Result<WidgetRequest, Refusal>) -> Result<WidgetRequest, AllocError>
     ensures { IfOk result (λ asked. IsAskedBy wanted asked) }
 {
     match wanted {
         Ok(asked) => Ok(asked),
-        Err(Refusal::Error(text)) => Ok(Asked::Done(WidgetAct::Fault(text))),
+        Err(Refusal::Error(text)) => Ok(WidgetRequest::Done(WidgetAct::Fault(text))),
         Err(Refusal::NoMemory) => Err(AllocError),
     }
 }
@@ -216,21 +213,29 @@ impl EntryWidget {
         alloc: Global,
         variable: Option<&Text>,
         new: &Text,
-    ) -> Result<Asked, AllocError>
+    ) -> Result<WidgetRequest, AllocError>
         ensures { IfOk result (λ asked. asked ≡ asked_by (spec.typed new.now (option_copied variable.entry) self.now)) }
     {
         asked(typed(alloc, self, variable, new))
     }
 
     /// What a key asks for that deletes the character before the cursor, where there is one and the entry can be edited.
-    pub fn ask_backspace(&self, alloc: Global, variable: Option<&Text>) -> Result<Asked, AllocError>
+    pub fn ask_backspace(
+        &self,
+        alloc: Global,
+        variable: Option<&Text>,
+    ) -> Result<WidgetRequest, AllocError>
         ensures { IfOk result (λ asked. asked ≡ asked_by (spec.backspaced (option_copied variable.entry) self.now)) }
     {
         asked(backspaced(alloc, self, variable))
     }
 
     /// What a key asks for that deletes the character behind the cursor, where there is one and the entry can be edited.
-    pub fn ask_delete(&self, alloc: Global, variable: Option<&Text>) -> Result<Asked, AllocError>
+    pub fn ask_delete(
+        &self,
+        alloc: Global,
+        variable: Option<&Text>,
+    ) -> Result<WidgetRequest, AllocError>
         ensures { IfOk result (λ asked. asked ≡ asked_by (spec.deleted_behind (option_copied variable.entry) self.now)) }
     {
         asked(deleted_behind(alloc, self, variable))
@@ -243,15 +248,15 @@ fn typed(
     widget: &EntryWidget,
     variable: Option<&Text>,
     new: &Text,
-) -> Result<Asked, Refusal>
+) -> Result<WidgetRequest, Refusal>
     ensures { Gives result (spec.typed new.now (option_copied variable.entry) widget.now) }
 {
     if !widget.is_editable() {
-        return nothing(alloc);
+        return Ok(nothing());
     }
     match widget.entry.with_typed(alloc, variable, new) {
-        Ok(Some(edited)) => Ok(Asked::Wants(Change::Edit(edited))),
-        Ok(None) => nothing(alloc),
+        Ok(Some(edited)) => Ok(WidgetRequest::Wants(WidgetChange::Edit(edited))),
+        Ok(None) => Ok(nothing()),
         Err(TextFault::TooLong) => Err(limit_reached(alloc)),
         Err(TextFault::NoMemory) => Err(Refusal::NoMemory),
     }
@@ -262,15 +267,15 @@ fn backspaced(
     alloc: Global,
     widget: &EntryWidget,
     variable: Option<&Text>,
-) -> Result<Asked, Refusal>
+) -> Result<WidgetRequest, Refusal>
     ensures { Gives result (spec.backspaced (option_copied variable.entry) widget.now) }
 {
     if !widget.is_editable() {
-        return nothing(alloc);
+        return Ok(nothing());
     }
     match widget.entry.without_before(alloc, variable) {
-        Ok(Some(edited)) => Ok(Asked::Wants(Change::Edit(edited))),
-        Ok(None) => nothing(alloc),
+        Ok(Some(edited)) => Ok(WidgetRequest::Wants(WidgetChange::Edit(edited))),
+        Ok(None) => Ok(nothing()),
         Err(TextFault::TooLong) => Err(limit_reached(alloc)),
         Err(TextFault::NoMemory) => Err(Refusal::NoMemory),
     }
@@ -281,15 +286,15 @@ fn deleted_behind(
     alloc: Global,
     widget: &EntryWidget,
     variable: Option<&Text>,
-) -> Result<Asked, Refusal>
+) -> Result<WidgetRequest, Refusal>
     ensures { Gives result (spec.deleted_behind (option_copied variable.entry) widget.now) }
 {
     if !widget.is_editable() {
-        return nothing(alloc);
+        return Ok(nothing());
     }
     match widget.entry.without_behind(alloc, variable) {
-        Ok(Some(edited)) => Ok(Asked::Wants(Change::Edit(edited))),
-        Ok(None) => nothing(alloc),
+        Ok(Some(edited)) => Ok(WidgetRequest::Wants(WidgetChange::Edit(edited))),
+        Ok(None) => Ok(nothing()),
         Err(TextFault::TooLong) => Err(limit_reached(alloc)),
         Err(TextFault::NoMemory) => Err(Refusal::NoMemory),
     }

@@ -12,6 +12,6 @@ mod outcome;
 mod size;
 mod widget;
 
-pub use listbox_keys::Step;
-pub use outcome::{Asked, Change, VariableWrite, WidgetAct};
+pub use listbox_keys::RowStep;
+pub use outcome::{VariableWrite, WidgetAct, WidgetChange, WidgetRequest};
 pub use widget::{Button, EntryWidget, Frame, Label, ListboxWidget, Widget};

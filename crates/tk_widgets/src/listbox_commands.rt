@@ -5,7 +5,7 @@ ghost use Rattle.tcl_text.specs.Answers.{Gives, answers};
 ghost use Rattle.tk_widgets.specs.ListboxCommands as spec;
 ghost use Rattle.tk_widgets.specs.Outcomes.{told};
 
-use crate::outcome::{Asked, Change, WidgetAct};
+use crate::outcome::{WidgetAct, WidgetChange, WidgetRequest};
 use itoa::Buffer;
 use std::alloc::{AllocError, Global};
 use tcl_text::answers::{
@@ -14,11 +14,11 @@ use tcl_text::answers::{
 };
 use tcl_text::items::list_answer;
 use tcl_text::{Text, TextList};
-use tk_listbox::{Choice, Index, Listbox};
+use tk_listbox::{Choice, ItemIndex, Listbox};
 
 /// The items from a place on and before another.
 #[derive(Clone, Copy)]
-pub struct Span {
+pub struct ItemRange {
     pub from: usize,
     pub to: usize,
 }
@@ -30,7 +30,7 @@ pub fn listbox_words(
     listbox: &Listbox,
     name: &Text,
     words: &[Text],
-) -> Result<Asked, Refusal>
+) -> Result<WidgetRequest, Refusal>
     ensures { Gives result (spec.listbox_words name.now words.now listbox.now) }
 {
     match name.as_str() {
@@ -48,28 +48,33 @@ pub fn listbox_words(
 
 /// The index that a word is, or the error that it is none.
 #[tactic(auto, unfolding(crate::specs::ListboxCommands::index_of))]
-fn index_of(alloc: Global, word: &Text) -> Result<Index, Refusal>
+fn index_of(alloc: Global, word: &Text) -> Result<ItemIndex, Refusal>
     ensures { Gives result (spec.index_of word.now) }
 {
-    match Index::read(word) {
+    match ItemIndex::read(word) {
         Some(index) => Ok(index),
         None => bad_index(alloc, word),
     }
 }
 
 /// The items from one index to another, with both.
-fn span_of(alloc: Global, listbox: &Listbox, first: &Text, last: &Text) -> Result<Span, Refusal>
+fn span_of(
+    alloc: Global,
+    listbox: &Listbox,
+    first: &Text,
+    last: &Text,
+) -> Result<ItemRange, Refusal>
     ensures { Gives result (spec.span_of first.now last.now listbox.now) }
 {
     let first = index_of(alloc, first)?;
     let last = index_of(alloc, last)?;
-    Ok(Span {
+    Ok(ItemRange {
         from: first.before(listbox.size(), listbox.active()),
         to: last.through(listbox.size(), listbox.active()),
     })
 }
 
-fn list_insert(alloc: Global, listbox: &Listbox, words: &[Text]) -> Result<Asked, Refusal>
+fn list_insert(alloc: Global, listbox: &Listbox, words: &[Text]) -> Result<WidgetRequest, Refusal>
     ensures { Gives result (spec.list_insert words.now listbox.now) }
 {
     match words {
@@ -77,7 +82,7 @@ fn list_insert(alloc: Global, listbox: &Listbox, words: &[Text]) -> Result<Asked
             let index = index_of(alloc, index)?;
             let items = copies(alloc, items)?;
             let at = index.before_inserted(listbox.size(), listbox.active());
-            Ok(Asked::Wants(Change::InsertItems { at, items }))
+            Ok(WidgetRequest::Wants(WidgetChange::InsertItems { at, items }))
         }
         [] => wrong_args(alloc, "path insert index ?text ..?"),
     }
@@ -94,37 +99,37 @@ fn copies(alloc: Global, texts: &[Text]) -> Result<TextList, AllocError>
     Ok(list)
 }
 
-fn list_delete(alloc: Global, listbox: &Listbox, words: &[Text]) -> Result<Asked, Refusal>
+fn list_delete(alloc: Global, listbox: &Listbox, words: &[Text]) -> Result<WidgetRequest, Refusal>
     ensures { Gives result (spec.list_delete words.now listbox.now) }
 {
     match words {
         [first] => {
-            let Span { from, to } = span_of(alloc, listbox, first, first)?;
-            Ok(Asked::Wants(Change::DeleteItems { from, to }))
+            let ItemRange { from, to } = span_of(alloc, listbox, first, first)?;
+            Ok(WidgetRequest::Wants(WidgetChange::DeleteItems { from, to }))
         }
         [first, last] => {
-            let Span { from, to } = span_of(alloc, listbox, first, last)?;
-            Ok(Asked::Wants(Change::DeleteItems { from, to }))
+            let ItemRange { from, to } = span_of(alloc, listbox, first, last)?;
+            Ok(WidgetRequest::Wants(WidgetChange::DeleteItems { from, to }))
         }
         _ => wrong_args(alloc, "path delete first ?last?"),
     }
 }
 
-fn list_get(alloc: Global, listbox: &Listbox, words: &[Text]) -> Result<Asked, Refusal>
+fn list_get(alloc: Global, listbox: &Listbox, words: &[Text]) -> Result<WidgetRequest, Refusal>
     ensures { Gives result (spec.list_get words.now listbox.now) }
 {
     match words {
         [index] => {
-            let Span { from, to } = span_of(alloc, listbox, index, index)?;
+            let ItemRange { from, to } = span_of(alloc, listbox, index, index)?;
             let texts = listbox.get(alloc, from, to)?;
             let text = first_of(alloc, texts.as_slice())?;
-            Ok(Asked::Done(WidgetAct::Answer(text)))
+            Ok(WidgetRequest::Done(WidgetAct::Answer(text)))
         }
         [first, last] => {
-            let Span { from, to } = span_of(alloc, listbox, first, last)?;
+            let ItemRange { from, to } = span_of(alloc, listbox, first, last)?;
             let texts = listbox.get(alloc, from, to)?;
             let text = list_answer(alloc, texts.as_slice())?;
-            Ok(Asked::Done(WidgetAct::Answer(text)))
+            Ok(WidgetRequest::Done(WidgetAct::Answer(text)))
         }
         _ => wrong_args(alloc, "path get first ?last?"),
     }
@@ -140,43 +145,47 @@ fn first_of(alloc: Global, texts: &[Text]) -> Result<Text, Refusal>
     }
 }
 
-fn list_size(alloc: Global, listbox: &Listbox, words: &[Text]) -> Result<Asked, Refusal>
+fn list_size(alloc: Global, listbox: &Listbox, words: &[Text]) -> Result<WidgetRequest, Refusal>
     ensures { Gives result (spec.list_size words.now listbox.now) }
 {
     match words {
         [] => {
             let text = decimal_answer(alloc, listbox.size())?;
-            Ok(Asked::Done(WidgetAct::Answer(text)))
+            Ok(WidgetRequest::Done(WidgetAct::Answer(text)))
         }
         _ => wrong_args(alloc, "path size"),
     }
 }
 
-fn list_index(alloc: Global, listbox: &Listbox, words: &[Text]) -> Result<Asked, Refusal>
+fn list_index(alloc: Global, listbox: &Listbox, words: &[Text]) -> Result<WidgetRequest, Refusal>
     ensures { Gives result (spec.list_index words.now listbox.now) }
 {
     match words {
         [index] => {
             let index = index_of(alloc, index)?;
             let text = number_of(alloc, listbox, index)?;
-            Ok(Asked::Done(WidgetAct::Answer(text)))
+            Ok(WidgetRequest::Done(WidgetAct::Answer(text)))
         }
         _ => wrong_args(alloc, "path index index"),
     }
 }
 
 /// The number of an index, which isn't cut to the items.
-fn number_of(alloc: Global, listbox: &Listbox, index: Index) -> Result<Text, Refusal>
+fn number_of(alloc: Global, listbox: &Listbox, index: ItemIndex) -> Result<Text, Refusal>
     ensures { Gives result (answers (spec.number_of index listbox.now)) }
 {
     match index {
-        Index::Number(number) => copy_answer(&Text::from_integer(alloc, number)?),
-        Index::Active => decimal_answer(alloc, listbox.active()),
-        Index::End => decimal_answer(alloc, listbox.size()),
+        ItemIndex::Number(number) => copy_answer(&Text::from_integer(alloc, number)?),
+        ItemIndex::Active => decimal_answer(alloc, listbox.active()),
+        ItemIndex::End => decimal_answer(alloc, listbox.size()),
     }
 }
 
-fn list_curselection(alloc: Global, listbox: &Listbox, words: &[Text]) -> Result<Asked, Refusal>
+fn list_curselection(
+    alloc: Global,
+    listbox: &Listbox,
+    words: &[Text],
+) -> Result<WidgetRequest, Refusal>
     ensures { Gives result (spec.list_curselection words.now listbox.now) }
 {
     match words {
@@ -184,7 +193,7 @@ fn list_curselection(alloc: Global, listbox: &Listbox, words: &[Text]) -> Result
             let places = listbox.selection(alloc)?;
             let numbers = decimals(alloc, &places)?;
             let text = list_answer(alloc, numbers.as_slice())?;
-            Ok(Asked::Done(WidgetAct::Answer(text)))
+            Ok(WidgetRequest::Done(WidgetAct::Answer(text)))
         }
         _ => wrong_args(alloc, "path curselection"),
     }
@@ -212,7 +221,11 @@ fn decimal_text(alloc: Global, number: usize) -> Result<Text, AllocError>
     }
 }
 
-fn list_selection(alloc: Global, listbox: &Listbox, words: &[Text]) -> Result<Asked, Refusal>
+fn list_selection(
+    alloc: Global,
+    listbox: &Listbox,
+    words: &[Text],
+) -> Result<WidgetRequest, Refusal>
     ensures { Gives result (spec.list_selection words.now listbox.now) }
 {
     match words {
@@ -228,7 +241,7 @@ fn selection_words(
     listbox: &Listbox,
     name: &Text,
     words: &[Text],
-) -> Result<Asked, Refusal>
+) -> Result<WidgetRequest, Refusal>
     ensures { Gives result (spec.selection_words name.now words.now listbox.now) }
 {
     match name.as_str() {
@@ -239,59 +252,67 @@ fn selection_words(
     }
 }
 
-fn selection_set(alloc: Global, listbox: &Listbox, words: &[Text]) -> Result<Asked, Refusal>
+fn selection_set(alloc: Global, listbox: &Listbox, words: &[Text]) -> Result<WidgetRequest, Refusal>
     ensures { Gives result (spec.selection_set words.now listbox.now) }
 {
     match words {
         [first] => {
-            let Span { from, to } = span_of(alloc, listbox, first, first)?;
-            Ok(Asked::Wants(Change::Select(Choice::Set { from, to })))
+            let ItemRange { from, to } = span_of(alloc, listbox, first, first)?;
+            Ok(WidgetRequest::Wants(WidgetChange::Select(Choice::Set { from, to })))
         }
         [first, last] => {
-            let Span { from, to } = span_of(alloc, listbox, first, last)?;
-            Ok(Asked::Wants(Change::Select(Choice::Set { from, to })))
+            let ItemRange { from, to } = span_of(alloc, listbox, first, last)?;
+            Ok(WidgetRequest::Wants(WidgetChange::Select(Choice::Set { from, to })))
         }
         _ => wrong_args(alloc, "path selection set first ?last?"),
     }
 }
 
-fn selection_clear(alloc: Global, listbox: &Listbox, words: &[Text]) -> Result<Asked, Refusal>
+fn selection_clear(
+    alloc: Global,
+    listbox: &Listbox,
+    words: &[Text],
+) -> Result<WidgetRequest, Refusal>
     ensures { Gives result (spec.selection_clear words.now listbox.now) }
 {
     match words {
         [first] => {
-            let Span { from, to } = span_of(alloc, listbox, first, first)?;
-            Ok(Asked::Wants(Change::Select(Choice::Clear { from, to })))
+            let ItemRange { from, to } = span_of(alloc, listbox, first, first)?;
+            Ok(WidgetRequest::Wants(WidgetChange::Select(Choice::Clear { from, to })))
         }
         [first, last] => {
-            let Span { from, to } = span_of(alloc, listbox, first, last)?;
-            Ok(Asked::Wants(Change::Select(Choice::Clear { from, to })))
+            let ItemRange { from, to } = span_of(alloc, listbox, first, last)?;
+            Ok(WidgetRequest::Wants(WidgetChange::Select(Choice::Clear { from, to })))
         }
         _ => wrong_args(alloc, "path selection clear first ?last?"),
     }
 }
 
-fn selection_includes(alloc: Global, listbox: &Listbox, words: &[Text]) -> Result<Asked, Refusal>
+fn selection_includes(
+    alloc: Global,
+    listbox: &Listbox,
+    words: &[Text],
+) -> Result<WidgetRequest, Refusal>
     ensures { Gives result (spec.selection_includes words.now listbox.now) }
 {
     match words {
         [index] => {
-            let Span { from, to } = span_of(alloc, listbox, index, index)?;
+            let ItemRange { from, to } = span_of(alloc, listbox, index, index)?;
             let text = truth_answer(alloc, listbox.includes(from, to))?;
-            Ok(Asked::Done(WidgetAct::Answer(text)))
+            Ok(WidgetRequest::Done(WidgetAct::Answer(text)))
         }
         _ => wrong_args(alloc, "path selection includes index"),
     }
 }
 
-fn list_activate(alloc: Global, listbox: &Listbox, words: &[Text]) -> Result<Asked, Refusal>
+fn list_activate(alloc: Global, listbox: &Listbox, words: &[Text]) -> Result<WidgetRequest, Refusal>
     ensures { Gives result (spec.list_activate words.now listbox.now) }
 {
     match words {
         [index] => {
             let index = index_of(alloc, index)?;
             let place = index.before(listbox.size(), listbox.active());
-            Ok(Asked::Wants(Change::Activate(place)))
+            Ok(WidgetRequest::Wants(WidgetChange::Activate(place)))
         }
         _ => wrong_args(alloc, "path activate index"),
     }

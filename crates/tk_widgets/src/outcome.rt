@@ -17,16 +17,16 @@ pub enum WidgetAct {
 
 /// What a widget's command asks for.
 #[derive(Drop)]
-pub enum Asked {
+pub enum WidgetRequest {
     /// Nothing is changed, and this is told.
     Done(WidgetAct),
     /// The widget is to be changed; the command's result is empty then.
-    Wants(Change),
+    Wants(WidgetChange),
 }
 
 /// How a widget is to be changed. It is made of the widget as it is, and tested, and is to be made before the widget is changed in another way.
 #[derive(Drop)]
-pub enum Change {
+pub enum WidgetChange {
     /// Options are set.
     Configure(Settings),
     /// An entry's text is edited, and becomes this one with this cursor.

@@ -1,12 +1,11 @@
-ghost use Rattle.std.specs.Prelude.{◌≡◌, ◌≢◌, ◌<◌, [], length, Some, IfOk, IfErr, IfSome};
+ghost use Rattle.std.specs.Prelude.{◌≡◌, [], Some, IfOk};
 ghost use Rattle.tk_widgets.specs.Classes.{value_told};
 ghost use Rattle.std.specs.Option.{option_copied};
 ghost use Rattle.tk_widgets.specs.Sizes.{requested, new_widget, text_size, text_shown};
-ghost use Rattle.tcl_text.specs.Limits.{most_bytes};
 
 use crate::size::{entry_size, frame_size, listbox_size, text_shown, text_size};
 use std::alloc::{AllocError, Global};
-use tcl_text::{Text, TextFault};
+use tcl_text::Text;
 use tk_base::Kind;
 use tk_entry::Entry;
 use tk_listbox::Listbox;
@@ -64,7 +63,7 @@ impl Widget {
             Kind::Button => Ok(Widget::Button(Button { options })),
             Kind::Entry => Ok(Widget::Entry(EntryWidget {
                 options,
-                entry: Entry::new(alloc)?,
+                entry: Entry::new(),
             })),
             Kind::Listbox => Ok(Widget::Listbox(ListboxWidget {
                 options,
@@ -74,11 +73,9 @@ impl Widget {
     }
 
     /// What the widget tells as its value: the text that it shows, or the list of all items (`get` of entry(n) and listbox(n)); a frame has
-    /// none. `TooLong` (4) only where that list would pass 65,536 bytes.
-    pub fn value(&self, alloc: Global, variable: Option<&Text>) -> Result<Option<Text>, TextFault>
-        ensures ok { IfOk result (λ value. value ≡ value_told self.now (option_copied variable.entry)) }
-        ensures too_long { IfErr result (λ fault. fault ≢ TextFault.NoMemory
-            → IfSome (value_told self.now (option_copied variable.entry)) (λ text. most_bytes < length text)) }
+    /// none.
+    pub fn value(&self, alloc: Global, variable: Option<&Text>) -> Result<Option<Text>, AllocError>
+        ensures { IfOk result (λ value. value ≡ value_told self.now (option_copied variable.entry)) }
     {
         match self {
             Widget::Frame(_) => Ok(None),
@@ -115,12 +112,10 @@ fn shown_value(
     alloc: Global,
     variable: Option<&Text>,
     options: &OptionTable,
-) -> Result<Option<Text>, TextFault>
-    ensures ok { IfOk result (λ value. value ≡ Some (text_shown (option_copied variable.entry) options.now)) }
-    ensures too_long { IfErr result (λ fault. fault ≢ TextFault.NoMemory
-        → most_bytes < length (text_shown (option_copied variable.entry) options.now)) }
+) -> Result<Option<Text>, AllocError>
+    ensures { IfOk result (λ value. value ≡ Some (text_shown (option_copied variable.entry) options.now)) }
 {
-    let text = Text::new(alloc, text_shown(variable, options))?;
+    let text = Text::of_short(alloc, text_shown(variable, options))?;
     Ok(Some(text))
 }
 

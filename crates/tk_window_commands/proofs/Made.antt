@@ -15,7 +15,7 @@ use Rattle.tk_options.specs.Rows.{options_of}
 use Rattle.tk_screen.specs.Changes.{wrote}
 use Rattle.tk_screen.specs.Own.{Own, with_made}
 use Rattle.tk_widgets.specs.Commands.{Told, made, options_in, with_options}
-use Rattle.tk_widgets.specs.declared.outcome.Change.TheVariants.{Configure}
+use Rattle.tk_widgets.specs.declared.outcome.WidgetChange.TheVariants.{Configure}
 use Rattle.tk_widgets.specs.declared.outcome.WidgetAct.{WidgetAct}
 use Rattle.tk_widgets.specs.declared.widget.Widget.{Widget}
 use Rattle.tk_widgets.specs.Outcomes.{or_fault}

@@ -34,11 +34,3 @@ abbrev pub DoesThere : Result (List ℕ) Refusal → Own → Told → Type 0
 DoesThere (Ok text) own wanted = wanted ≡ record { own = own; answer = Ok text }
 DoesThere (Err (Error message)) own wanted = wanted ≡ record { own = own; answer = Err message }
 DoesThere (Err NoMemory) own wanted = ⊤
-
--- what is told of steps that gave or refused what the definition says
-abbrev pub IsAnsweredBy : Result (List ℕ) Refusal → Answer → Type 0
-IsAnsweredBy given answer = (wanted : Answer) → Gives given wanted → answer ≡ wanted
-
--- the error for what is no path of a window that is there (24)
-abbrev pub bad_path : {T : Type 0} → List ℕ → Result T (List ℕ)
-bad_path path = fails (codes "bad window path name " ++ quoted path)

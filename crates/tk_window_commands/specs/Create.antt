@@ -19,7 +19,7 @@ use Rattle.tk_tree.specs.declared.fault.WindowFault.TheVariants.{BadPath, BadNam
 use Rattle.tk_tree.specs.Own.{Own as Tree}
 use Rattle.tk_tree.specs.Path.{parent_and_name}
 use Rattle.tk_widgets.specs.Commands.{variable_write, with_options}
-use Rattle.tk_widgets.specs.declared.outcome.Change.TheVariants.{Configure}
+use Rattle.tk_widgets.specs.declared.outcome.WidgetChange.TheVariants.{Configure}
 use Rattle.tk_widgets.specs.declared.widget.Widget.{Widget}
 use Rattle.tk_widgets.specs.Sizes.{new_widget}
 use Rattle.tk_window_commands.specs.Answers.{Done, keeps}

@@ -8,13 +8,13 @@ use Rattle.tk_screen.specs.Widgets.{widget_at}
 use Rattle.tk_tree.specs.declared.window.Window.{Window}
 use Rattle.tk_tree.specs.Own.{at_path}
 use Rattle.tk_widgets.specs.Commands.{wanted}
-use Rattle.tk_widgets.specs.declared.outcome.Asked.{Asked}
-use Rattle.tk_widgets.specs.declared.outcome.Asked.TheVariants.{Done, Wants}
+use Rattle.tk_widgets.specs.declared.outcome.WidgetRequest.{WidgetRequest}
+use Rattle.tk_widgets.specs.declared.outcome.WidgetRequest.TheVariants.{Done, Wants}
 use Rattle.tk_widgets.specs.declared.widget.Widget.{Widget}
 use Rattle.tk_widgets.specs.Outcomes.{asked_by}
 
 -- what the widget's words ask for: to be told something, or a change
-abbrev pub asked_of : ℕ → Asked → Own → Store → Changed
+abbrev pub asked_of : ℕ → WidgetRequest → Own → Store → Changed
 asked_of number (Done act) own store = stays own store (Some act)
 asked_of number (Wants change) own store = changed number change own store
 

@@ -12,10 +12,10 @@ use Rattle.tk_screen.specs.Own.{Own}
 use Rattle.tk_tree.specs.Corners.{corner}
 use Rattle.tk_tree.specs.declared.window.Window.{Window}
 use Rattle.tk_tree.specs.Own.{Own as Tree, at_path, child_numbers, window_at}
-use Rattle.tk_window_commands.specs.Answers.{bad_path}
 use Rattle.tk_window_commands.specs.Create.{name_in}
 use Rattle.tk_window_commands.specs.declared.winfo.Question.{Question}
 use Rattle.tk_window_commands.specs.declared.winfo.Question.TheVariants.{Children, Class, Exists, Height, IsMapped, Name, Parent, RequestedHeight, RequestedWidth, RootX, RootY, Toplevel, Width, X, Y}
+use Rattle.tk_tree.specs.Path.{bad_path}
 
 -- the sub-command of a name
 unfoldable pub question_named : List ℕ → Option Question

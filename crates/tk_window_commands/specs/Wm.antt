@@ -5,7 +5,8 @@ use Rattle.std.specs.Str.{bytes_eq}
 use Rattle.tcl_text.specs.Answers.{Answer, bad_option, wrong_args}
 use Rattle.tk_screen.specs.Own.{Own, with_title}
 use Rattle.tk_tree.specs.Own.{at_path}
-use Rattle.tk_window_commands.specs.Answers.{Told, stays, bad_path}
+use Rattle.tk_window_commands.specs.Answers.{Told, stays}
+use Rattle.tk_tree.specs.Path.{bad_path}
 
 -- a path names the main window, and it is there
 abbrev pub is_main : List ℕ → Own → Bool

@@ -2,25 +2,13 @@
 ghost use Rattle.std.specs.Prelude.{◌≡◌, [], Some, IfOk, IfSome};
 ghost use Rattle.std.specs.Option.{option_copied};
 ghost use Rattle.tk_tree.specs.Own.{own_of as tree_of, at_path, window_at};
-ghost use Rattle.tk_window_commands.specs.Answers.{IsAnsweredBy};
 
 use std::alloc::{AllocError, Global};
 use tcl_text::Text;
 use tcl_text::answers::Refusal;
-use tcl_text::message::{Answer, short_text};
+use tcl_text::message::Answer;
 use tk_base::Win;
 use tk_tree::{Window, Windows};
-
-/// A command's answer from what its steps gave.
-pub fn answered(given: Result<Text, Refusal>) -> Result<Answer, AllocError>
-    ensures { IfOk result (λ answer. IsAnsweredBy given answer) }
-{
-    match given {
-        Ok(text) => Ok(Ok(text)),
-        Err(Refusal::Error(text)) => Ok(Err(text)),
-        Err(Refusal::NoMemory) => Err(AllocError),
-    }
-}
 
 /// The window of a path; none where the application has none of it. It takes no memory.
 pub fn window_at_path<'a>(windows: &'a Windows, slot: usize, path: &Text) -> Option<&'a Window>
@@ -32,11 +20,4 @@ pub fn window_at_path<'a>(windows: &'a Windows, slot: usize, path: &Text) -> Opt
         owner: slot,
         number: win.number,
     })
-}
-
-/// The empty text.
-pub fn empty_text(alloc: Global) -> Result<Text, AllocError>
-    ensures { IfOk result (λ text. text ≡ []) }
-{
-    short_text(alloc, "")
 }

@@ -10,18 +10,17 @@ ghost use Rattle.tk_widgets.specs.Outcomes.{or_fault};
 ghost use Rattle.tk_window_commands.specs.Answers.{Does};
 ghost use Rattle.tk_window_commands.specs.Create as spec;
 
-use crate::answers::answered;
 use crate::refusals::path_refused;
 use std::alloc::{AllocError, Global};
 use tcl_text::Text;
-use tcl_text::answers::{Refusal, wrong_args};
+use tcl_text::answers::{Refusal, answered, wrong_args};
 use tcl_text::message::Answer;
 use tcl_vars::Scopes;
 use tk_base::Kind;
 use tk_options::{OptionFault, Settings};
 use tk_screen::{Screen, write_variable};
 use tk_tree::{WindowFault, Windows};
-use tk_widgets::{Change, VariableWrite, Widget};
+use tk_widgets::{VariableWrite, Widget, WidgetChange};
 
 /// The command `frame`, `label`, `button`, `entry` or `listbox` (frame(n), ..), from the words behind its name: makes a window of a path with its
 /// options set, and answers the path. Refused are a path (24 to 28), then options (20 to 23), then a variable that can't be set (19); a command
@@ -130,7 +129,7 @@ fn configured_new(alloc: Global, kind: Kind, options: &[Text]) -> Result<Ready, 
 fn configured(alloc: Global, mut widget: Widget, all: Settings) -> Result<Ready, AllocError>
     ensures { IfOk result (λ ready. ready ≡ spec.configured all widget) }
 {
-    let change = Change::Configure(all);
+    let change = WidgetChange::Configure(all);
     let write = widget.variable_write(alloc, &change)?;
     widget.make(alloc, change)?;
     Ok(Ready { widget, write })

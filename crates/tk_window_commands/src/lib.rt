@@ -14,6 +14,5 @@ mod wm;
 pub use commands::{WindowCommand, window_command_done, window_command_named};
 pub use create::create_command;
 pub use path::path_command;
-pub use refusals::bad_path;
 pub use winfo::winfo_command;
 pub use wm::wm_command;

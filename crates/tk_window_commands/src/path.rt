@@ -9,7 +9,7 @@ use tcl_text::Text;
 use tcl_vars::Scopes;
 use tk_base::Win;
 use tk_screen::{Screen, change_widget, variable_text};
-use tk_widgets::{Asked, WidgetAct};
+use tk_widgets::{WidgetAct, WidgetRequest};
 
 /// A window's own command: `cget` and `configure` of all, `invoke` of button(n), the sub-commands of entry(n) and listbox(n), from the words
 /// behind its path. None, and nothing is done, where the path names no window, so that there is no command of this name. A script that is answered
@@ -38,7 +38,7 @@ pub fn path_command(
         return Ok(None);
     };
     match widget.ask(alloc, variable_text(widget, scopes), words)? {
-        Asked::Done(act) => Ok(Some(act)),
-        Asked::Wants(change) => change_widget(alloc, screen, scopes, win, change),
+        WidgetRequest::Done(act) => Ok(Some(act)),
+        WidgetRequest::Wants(change) => change_widget(alloc, screen, scopes, win, change),
     }
 }

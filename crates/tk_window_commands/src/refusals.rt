@@ -9,13 +9,6 @@ use tcl_text::Text;
 use tcl_text::answers::{Refusal, error, error_about, quoting_error};
 use tk_tree::{WindowFault, parent_and_name};
 
-/// The error for what is no path of a window that is there (24).
-pub fn bad_path<T>(alloc: Global, path: &Text) -> Result<T, Refusal>
-    ensures { Gives result (spec.bad_path path.now) }
-{
-    Err(quoting_error(alloc, "bad window path name ", path.as_str()))
-}
-
 /// The error for a path under which no window can be made (24 to 28).
 #[tactic(auto, unfolding(crate::specs::Create::refusal_text))]
 pub fn path_refused(alloc: Global, path: &Text, fault: WindowFault) -> Refusal

@@ -4,15 +4,15 @@ ghost use Rattle.tcl_text.specs.Answers.{Gives};
 ghost use Rattle.tk_screen.specs.Own.{own_of};
 ghost use Rattle.tk_window_commands.specs.Winfo as spec;
 
-use crate::answers::{answered, window_at_path};
-use crate::refusals::bad_path;
+use crate::answers::window_at_path;
 use crate::winfo_told::told;
 use std::alloc::{AllocError, Global};
 use tcl_text::Text;
-use tcl_text::answers::{Refusal, bad_option, truth_answer, wrong_args};
+use tcl_text::answers::{Refusal, answered, bad_option, truth_answer, wrong_args};
 use tcl_text::message::Answer;
 use tcl_vars::Scopes;
 use tk_screen::Screen;
+use tk_tree::bad_path;
 
 /// What can be asked of a window (winfo(n)).
 #[derive(Clone, Copy, Debug, PartialEq, Eq)]

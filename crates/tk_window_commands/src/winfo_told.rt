@@ -93,7 +93,7 @@ fn path_at(alloc: Global, windows: &Windows, slot: usize, number: u64) -> Result
         number,
     }) {
         Some(window) => window.path.copy(),
-        None => short_text(alloc, ""),
+        None => Ok(Text::empty()),
     }
 }
 

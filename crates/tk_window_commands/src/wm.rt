@@ -5,13 +5,12 @@ ghost use Rattle.tk_screen.specs.Own.{own_of, LeavesOthers};
 ghost use Rattle.tk_window_commands.specs.Answers.{DoesThere};
 ghost use Rattle.tk_window_commands.specs.Wm as spec;
 
-use crate::answers::{answered, empty_text};
-use crate::refusals::bad_path;
 use std::alloc::{AllocError, Global};
 use tcl_text::Text;
-use tcl_text::answers::{Refusal, bad_option, wrong_args};
+use tcl_text::answers::{Refusal, answered, bad_option, wrong_args};
 use tcl_text::message::Answer;
 use tk_screen::Screen;
+use tk_tree::bad_path;
 
 /// `wm title . ?text?` (wm(n)), from the words behind `wm`: the application's title, or sets it. Another path is refused (24).
 pub fn wm_command(
@@ -71,7 +70,7 @@ fn title_of(alloc: Global, screen: &Screen, slot: usize, path: &Text) -> Result<
     }
     match screen.toplevel(slot) {
         Some(toplevel) => Ok(toplevel.title.copy()?),
-        None => Ok(empty_text(alloc)?),
+        None => Ok(Text::empty()),
     }
 }
 
@@ -89,7 +88,7 @@ fn set_title(
     if !is_main(screen, slot, path) {
         return bad_path(alloc, path);
     }
-    let answer = empty_text(alloc)?;
+    let answer = Text::empty();
     let title = title.copy()?;
     screen.set_title(slot, title);
     Ok(answer)

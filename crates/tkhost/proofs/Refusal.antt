@@ -10,7 +10,7 @@ use Rattle.tkhost.specs.declared.outcome.Outcome.{Outcome}
 use Rattle.tkhost.specs.declared.outcome.Outcome.TheVariants.{Refused}
 
 -- what was read to the end is all that was known
-all_read : (known new : Option (List ℕ)) (bytes : List ℕ) (P : List ℕ → Type 0) → Consumes known new bytes → IsAtEnd new → P bytes → IfSome known P
+pub all_read : (known new : Option (List ℕ)) (bytes : List ℕ) (P : List ℕ → Type 0) → Consumes known new bytes → IsAtEnd new → P bytes → IfSome known P
 all_read None new bytes P consumes end holds = tt
 all_read (Some xs) None bytes P consumes end holds = absurd consumes
 all_read (Some xs) (Some ys) bytes P consumes end holds =

@@ -1,7 +1,7 @@
 -- The program's own services serve the applications of a session.
 use Rattle.std.proofs.Common.{◌≡◌, ℕ, zero, suc, ◌≤◌, List, [], ◌∷◌, length, map, take, refl, sym, ap, ◌∙◌, subst, arith}
 use Rattle.tk_app.specs.Seen.{names_of}
-use Rattle.tk_services.specs.declared.service.Service.{Service}
+use Rattle.tk_alias.specs.declared.service.Service.{Service}
 use Rattle.tk_session.specs.declared.session.AliasLine.{AliasLine}
 use Rattle.tk_session.specs.declared.session.AppBlock.{AppBlock}
 use Rattle.tkhost.specs.Play.{Serve, service_of, services_in}

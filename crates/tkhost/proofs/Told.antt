@@ -3,7 +3,7 @@ use Rattle.std.proofs.Common.{◌≡◌, ◌≢◌, ℕ, zero, suc, ◌+◌, ◌
 use Rattle.std.specs.Prelude.{slice_get, flat_map}
 use Rattle.std.proofs.lemmas.Option.{none-some, same_Some}
 use Rattle.tk_base.specs.declared.rect.Rect.{Rect}
-use Rattle.tk_input.specs.declared.event.LocalEvent.{LocalEvent}
+use Rattle.tk_keys.specs.declared.local_event.LocalEvent.{LocalEvent}
 use Rattle.tk_route.specs.Lines.{Line}
 use Rattle.tk_route.specs.Routes.{routed}
 use Rattle.tk_app.specs.Part.{Part}

@@ -3,22 +3,22 @@ use Rattle.std.specs.Prelude.{◌≡◌, ℕ, ◌+◌, List, [], ◌∷◌, ◌+
 use Rattle.tk_base.specs.declared.rect.Rect.{Rect}
 use Rattle.tk_route.specs.Lines.{Line}
 use Rattle.tk_route.specs.Routes.{routed}
-use Rattle.tk_app.specs.declared.budget.Budget.{Budget}
+use Rattle.tk_alias.specs.Replies.{IsReply}
+use Rattle.tk_alias.specs.declared.reply.AliasReply.{AliasReply}
+use Rattle.tk_base.specs.declared.budget.Budget.{Budget}
 use Rattle.tk_app.specs.Section.{section}
 use Rattle.tk_app.specs.Seen.{Meaning, names_of}
 use Rattle.tk_app.specs.Spec.{Spec}
 use Rattle.tk_host.specs.Alone.{alone}
 use Rattle.tk_host.specs.Held.{Call, AddApp, End, LineAt, Start}
 use Rattle.tk_host.specs.Spec.{Given, given}
-use Rattle.tk_services.specs.Services.{answer_of}
-use Rattle.tk_services.specs.declared.service.Service.{Service}
+use Rattle.tk_alias.specs.Services.{answer_of}
+use Rattle.tk_alias.specs.declared.service.Service.{Service}
+use Rattle.tk_alias.specs.declared.service.ServiceKind.{ServiceKind}
 use Rattle.tk_session.specs.declared.session.AliasLine.{AliasLine}
 use Rattle.tk_session.specs.declared.session.AppBlock.{AppBlock}
 use Rattle.tk_session.specs.declared.session.EventLine.{EventLine}
 use Rattle.tk_session.specs.Session.{Plan, newest_first, rects_of}
-
-abbrev pub budget_of : AppBlock → Budget
-budget_of app = record { total = app.budget.total; refill = app.budget.refill }
 
 -- an alias that a service of the program answers
 abbrev pub service_of : AliasLine → List ℕ × Service
@@ -26,6 +26,13 @@ service_of line = (line.name, line.service)
 
 abbrev pub services_in : AppBlock → List (List ℕ × Service)
 services_in app = map service_of app.aliases
+
+-- Closures are made of a kind and a configuration: each may be called with any arguments, and replies what a service of these answers, or `NoMemory`.
+pub record MakesServices {F : Type 0} (made : ServiceKind → List ℕ → F → Type 0) (may_call : F → Type 0) (may_reply : F → List (List ℕ) → AliasReply → Type 0) : Type 0 where
+  pub callable : (kind : ServiceKind) (config : List ℕ) (code : F) → made kind config code → may_call code
+  pub replies :
+      (kind : ServiceKind) (config : List ℕ) (code : F) → made kind config code
+      → (args : List (List ℕ)) (reply : AliasReply) → may_reply code args reply → IsReply (answer_of kind config args) reply
 
 -- the calls that hand the events to a host
 abbrev pub lining : {M : Type 0} → List EventLine → List (Call M)
@@ -43,11 +50,11 @@ module _ {M : Type 0} where
   -- what an application of a session is begun with: no slot, no place on the screen and no neighbour
   abbrev pub spec_of : AppBlock → List (List ℕ × M) → Spec M
   spec_of app aliases =
-      record { name = app.name; width = app.rect.width; height = app.rect.height; script = app.script; budget = budget_of app; aliases = aliases }
+      record { name = app.name; width = app.rect.width; height = app.rect.height; script = app.script; budget = app.budget; aliases = aliases }
 
   -- an application as a host is given it
   abbrev pub given_of : AppBlock → List (List ℕ × M) → Given M
-  given_of app aliases = given app.name app.rect app.script (budget_of app) aliases
+  given_of app aliases = given app.name app.rect app.script app.budget aliases
 
   -- the calls that add applications
   abbrev pub adding : List AppBlock → List (List (List ℕ × M)) → List (Call M)

@@ -16,8 +16,10 @@ pub use output::{WriteFault, write_whole};
 pub use playing::{PlayFault, play};
 pub use program::run;
 pub use services::services_of;
-pub use tk_host::{Alias, AliasMeaning, AliasReply, Aliases};
+pub use tk_host::{
+    Alias, AliasCode, AliasMeaning, AliasReply, AliasService, Aliases, Budget, Closure,
+};
 pub use tk_session::{
-    AliasLine, AppBlock, Budget, EventLine, HostLine, LineFault, Listing, Rect, Service,
-    ServiceKind, Session, SessionFault, read_session,
+    AliasLine, AppBlock, EventLine, HostLine, LineFault, Listing, Rect, Service, ServiceKind,
+    Session, SessionFault, read_session,
 };

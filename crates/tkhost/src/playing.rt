@@ -13,7 +13,7 @@ use crate::output::write_whole;
 use std::alloc::{AllocError, AllocFailed, Global};
 use std::io::Write;
 use thiserror::Error;
-use tk_host::{AliasMeaning, Aliases, Budget, Host, HostFault};
+use tk_host::{AliasService, Aliases, Host, HostFault};
 use tk_session::{AppBlock, EventLine, Session};
 
 /// Why a session was not played to its end, or its sections not written.
@@ -64,7 +64,7 @@ fn unless_memory<T: Drop>(answer: Result<T, HostFault>) -> Result<T, PlayFault>
 }
 
 /// Adds an application that the host takes, with these aliases.
-fn add<M: AliasMeaning>(
+fn add<M: AliasService>(
     host: &mut Host<M>,
     app: &AppBlock,
     aliases: Aliases<M>,
@@ -76,15 +76,11 @@ fn add<M: AliasMeaning>(
 {
     let name = app.name.copy()?;
     let script = app.script.copy()?;
-    let budget = Budget {
-        total: app.budget.total,
-        refill: app.budget.refill,
-    };
-    unless_memory(host.add_app(name, app.rect, script, budget, aliases))
+    unless_memory(host.add_app(name, app.rect, script, app.budget, aliases))
 }
 
 /// Adds applications that may stand side by side, each with its aliases.
-fn add_all<M: AliasMeaning>(
+fn add_all<M: AliasService>(
     host: &mut Host<M>,
     apps: &[AppBlock],
     aliases: Vec<Aliases<M>>,
@@ -106,7 +102,7 @@ fn add_all<M: AliasMeaning>(
 }
 
 /// Hands the events of a session to a host whose applications have these rectangles and have just been started.
-fn line_all<M: AliasMeaning>(host: &mut Host<M>, session: &Session) -> Result<(), PlayFault>
+fn line_all<M: AliasService>(host: &mut Host<M>, session: &Session) -> Result<(), PlayFault>
     requires phase { host.old.held.phase ≡ reached_at 0 }
     requires known { host.old.held.known ≡ values (rects_of session.now.apps) [] }
     ensures history { (calls : List (Call M)) → host.old.held ≡ held_after M.answer calls
@@ -120,7 +116,7 @@ fn line_all<M: AliasMeaning>(host: &mut Host<M>, session: &Session) -> Result<()
 }
 
 /// A host to which the applications of a session were added, each with its aliases.
-fn filled<M: AliasMeaning>(
+fn filled<M: AliasService>(
     alloc: Global,
     session: &Session,
     aliases: Vec<Aliases<M>>,
@@ -137,7 +133,7 @@ fn filled<M: AliasMeaning>(
 }
 
 /// The host runs the applications of a session that were added to it, hands them its events, and comes to its end.
-fn run_through<M: AliasMeaning>(host: &mut Host<M>, session: &Session) -> Result<(), PlayFault>
+fn run_through<M: AliasService>(host: &mut Host<M>, session: &Session) -> Result<(), PlayFault>
     requires { (lists : List (List (List ℕ × M))) × Serve session.now.apps lists × (host.old.held ≡ held_after M.answer (adding session.now.apps lists)) }
     ensures history { (calls : List (Call M)) → host.old.held ≡ held_after M.answer calls
         → OnOk result (host.new.held ≡ held_after M.answer (calls ++ Start ∷ (lining session.now.events ++ End session.now.end ∷ []))) }
@@ -149,7 +145,7 @@ fn run_through<M: AliasMeaning>(host: &mut Host<M>, session: &Session) -> Result
 }
 
 /// The sections of all applications of a host, one after another.
-fn sections<M: AliasMeaning>(
+fn sections<M: AliasService>(
     alloc: Global,
     host: &Host<M>,
     count: usize,
@@ -167,7 +163,7 @@ fn sections<M: AliasMeaning>(
     Ok(text)
 }
 
-fn text_of<M: AliasMeaning>(
+fn text_of<M: AliasService>(
     alloc: Global,
     session: &Session,
     aliases: Vec<Aliases<M>>,
@@ -189,7 +185,7 @@ fn text_of<M: AliasMeaning>(
 ///
 /// What each application's section is rests on its own name, size, script, budget and aliases, on the events that are routed to it, and on
 /// the moment of the end: on nothing that another does.
-pub fn play<M: AliasMeaning, W: Write>(
+pub fn play<M: AliasService, W: Write>(
     alloc: Global,
     session: &Session,
     aliases: Vec<Aliases<M>>,

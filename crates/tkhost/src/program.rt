@@ -1,11 +1,11 @@
 ghost use Rattle.std.specs.Prelude.{◌≡◌, ℕ, IfSome};
 ghost use Rattle.std.specs.Io.KnownBytes.{Appends};
-ghost use Rattle.tk_services.specs.Services.{answer_of};
+ghost use Rattle.tk_alias.specs.Services.{answer_of};
 ghost use Rattle.tk_session.specs.Fault.{number_of as number_of_fault};
 ghost use Rattle.tk_session.specs.Session.{Plan, IsSession, HasFault};
 ghost use Rattle.tk_session.specs.declared.fault.LineFault.{LineFault};
 ghost use Rattle.tkhost.specs.Output.{AppendsFront};
-ghost use Rattle.tkhost.specs.Play.{program_sections};
+ghost use Rattle.tkhost.specs.Play.{MakesServices, program_sections};
 
 use crate::input::{InputFault, read_input};
 use crate::outcome::Outcome;
@@ -13,14 +13,23 @@ use crate::playing::{PlayFault, play};
 use crate::services::services_of;
 use std::alloc::Global;
 use std::io::{Read, Write};
-use tk_session::{SessionFault, read_session};
+use tcl_text::Text;
+use tk_host::AliasCode;
+use tk_session::{ServiceKind, SessionFault, read_session};
 
 /// How many steps of an application the interpreter takes at a stretch.
 const SLICE: u64 = 64;
 
-/// What the program does without arguments: reads a session, plays it with its own services as aliases, at most 64 steps of an application
-/// at a time, and writes its sections. The first fault is the outcome.
-pub fn run<R: Read, W: Write>(alloc: Global, reader: &mut R, writer: &mut W) -> Outcome
+/// What the program does without arguments: reads a session, plays it with the closures that are made for its alias lines, at most 64 steps
+/// of an application at a time, and writes its sections. The first fault is the outcome.
+pub fn run<R: Read, W: Write, F: AliasCode, K: Fn(ServiceKind, Text) -> F>(
+    alloc: Global,
+    reader: &mut R,
+    writer: &mut W,
+    make: K,
+) -> Outcome
+    requires make { K.IsAlwaysCallable make }
+    requires services { MakesServices (K.post make) F.may_call F.may_reply }
     ensures done { result ≡ Outcome.Done → (plan : Plan)
         × IfSome (R.remaining reader.old) (λ input. IsSession input plan)
         × Appends (W.contents writer.old) (W.contents writer.new) (program_sections plan) }
@@ -50,7 +59,7 @@ pub fn run<R: Read, W: Write>(alloc: Global, reader: &mut R, writer: &mut W) -> 
         }
         Err(SessionFault::NoMemory) => return Outcome::NoMemory,
     };
-    let Ok(aliases) = services_of(alloc, &session) else {
+    let Ok(aliases) = services_of(alloc, &session, &make) else {
         return Outcome::NoMemory;
     };
     match play(alloc, &session, aliases, SLICE, writer) {

@@ -3,7 +3,8 @@
 
 use std::env::{Env, FillError};
 use std::process::ExitCode;
-use tkhost::{Outcome, run};
+use tcl_text::Text;
+use tkhost::{Outcome, ServiceKind, run};
 
 /// Whether the program was given an argument.
 fn has_argument(rt: &impl Env) -> bool {
@@ -14,7 +15,15 @@ fn main(rt: HostRuntime) -> ExitCode {
     let outcome = if has_argument(&rt) {
         Outcome::Usage
     } else {
-        run(rt.alloc(), &mut rt.stdin(), &mut rt.stdout())
+        let alloc = rt.alloc();
+        run(
+            alloc,
+            &mut rt.stdin(),
+            &mut rt.stdout(),
+            |kind: ServiceKind, config: Text| {
+                move |args: &[Text]| kind.reply(alloc, &config, args)
+            },
+        )
     };
     // where standard error takes nothing, the status alone tells
     let _ = outcome.write_to(&mut rt.stderr());

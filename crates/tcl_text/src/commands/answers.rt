@@ -1,21 +1,21 @@
 //! What the steps of a command answer, and the texts of their errors.
-ghost use Rattle.std.specs.Prelude.{◌≡◌, ◌++◌, string_bytes};
+ghost use Rattle.std.specs.Prelude.{◌≡◌, ◌++◌, IfOk, string_bytes};
 ghost use Rattle.std.specs.Fmt.{decimal};
-ghost use Rattle.tcl_text.specs.Answers.{Gives, Refuses, answers, truth as truth_of, place as place_of, wrong_args as wrong_args_of, bad_option as bad_option_of, bad_index as bad_index_of, missing_value as missing_value_of, too_large as too_large_of, expected_integer};
+ghost use Rattle.tcl_text.specs.Answers.{Gives, IsAnswerOf, Refuses, answers, truth as truth_of, place as place_of, wrong_args as wrong_args_of, bad_option as bad_option_of, bad_index as bad_index_of, missing_value as missing_value_of, too_large as too_large_of, expected_integer};
 ghost use Rattle.tcl_text.specs.Messages.{bounded, limit_text, quoted};
 ghost use Rattle.tcl_text.specs.declared.commands.answers.Refusal.TheVariants as refusal;
 
 use crate::fault::{NotInteger, TextFault};
 use crate::message::{
-    MISSING, VALUE_FOR, about, about_between, bad_option_text, limit, too_large_text,
+    Answer, MISSING, VALUE_FOR, about, about_between, bad_option_text, limit, too_large_text,
     wrong_args_text,
 };
 use crate::text::Text;
 use itoa::Buffer;
 use std::alloc::{AllocError, AllocFailed, Global};
 
-/// What a step of a command answers, or why it gave nothing.
-pub type Step = Result<Text, Refusal>;
+/// What a command answers from its words, or a step of it: a text, or why there is none.
+pub type Reply = Result<Text, Refusal>;
 
 /// Why a step of a command gave nothing.
 #[derive(Drop)]
@@ -42,9 +42,20 @@ impl<T: Drop> From<AllocFailed<T>> for Refusal {
     }
 }
 
+/// What the steps of a command gave, as its answer.
+pub fn answered(given: Reply) -> Result<Answer, AllocError>
+    ensures { IfOk result (λ answer. IsAnswerOf given answer) }
+{
+    match given {
+        Ok(text) => Ok(Ok(text)),
+        Err(Refusal::Error(text)) => Ok(Err(text)),
+        Err(Refusal::NoMemory) => Err(AllocError),
+    }
+}
+
 /// An answer of these characters, or the error of a value past 65,536 bytes (4).
 #[tactic(auto, using(crate::proofs::AnswerLemmas::bounds))]
-pub fn text_answer(alloc: Global, characters: &str) -> Step
+pub fn text_answer(alloc: Global, characters: &str) -> Reply
     ensures { Gives result (answers characters.now) }
 {
     match Text::new(alloc, characters) {
@@ -56,7 +67,7 @@ pub fn text_answer(alloc: Global, characters: &str) -> Step
 
 /// An answer of the characters of a string, which it takes over, or the error of a value past 65,536 bytes (4).
 #[tactic(auto, using(crate::proofs::AnswerLemmas::bounds))]
-pub fn string_answer(alloc: Global, string: String) -> Step
+pub fn string_answer(alloc: Global, string: String) -> Reply
     ensures { Gives result (answers (string_bytes string)) }
 {
     match Text::from_string(alloc, string) {
@@ -68,7 +79,7 @@ pub fn string_answer(alloc: Global, string: String) -> Step
 
 /// A text as it is.
 #[tactic(auto, using(crate::proofs::AnswerLemmas::bounds))]
-pub fn copy_answer(text: &Text) -> Step
+pub fn copy_answer(text: &Text) -> Reply
     ensures { Gives result (answers text.now) }
 {
     let _characters = text.as_str();
@@ -77,7 +88,7 @@ pub fn copy_answer(text: &Text) -> Step
 
 /// A text that is given away, as it is.
 #[tactic(auto, using(crate::proofs::AnswerLemmas::bounds))]
-pub fn own_answer(text: Text) -> Step
+pub fn own_answer(text: Text) -> Reply
     ensures { Gives result (answers text) }
 {
     let _characters = text.as_str();
@@ -85,7 +96,7 @@ pub fn own_answer(text: Text) -> Step
 }
 
 /// A number in decimal.
-pub fn decimal_answer(alloc: Global, number: usize) -> Step
+pub fn decimal_answer(alloc: Global, number: usize) -> Reply
     ensures { Gives result (answers (decimal number)) }
 {
     let mut buffer = Buffer::new();
@@ -93,7 +104,7 @@ pub fn decimal_answer(alloc: Global, number: usize) -> Step
 }
 
 /// A place, counted from 0, in decimal, or -1 where there is none, as lsearch(n) answers.
-pub fn place_answer(alloc: Global, place: Option<usize>) -> Step
+pub fn place_answer(alloc: Global, place: Option<usize>) -> Reply
     ensures { Gives result (place_of place) }
 {
     match place {
@@ -103,7 +114,7 @@ pub fn place_answer(alloc: Global, place: Option<usize>) -> Step
 }
 
 /// The answer 1 or 0.
-pub fn truth_answer(alloc: Global, truth: bool) -> Step
+pub fn truth_answer(alloc: Global, truth: bool) -> Reply
     ensures { Gives result (truth_of truth) }
 {
     text_answer(alloc, if truth { "1" } else { "0" })

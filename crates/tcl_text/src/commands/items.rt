@@ -3,7 +3,7 @@ ghost use Rattle.std.specs.Prelude.{◌≡◌};
 ghost use Rattle.tcl_text.specs.Answers.{Gives, answers, items_in as items_of};
 ghost use Rattle.tcl_text.specs.Readings.{list_form};
 
-use crate::commands::answers::{Refusal, Step, error, limit_reached};
+use crate::commands::answers::{Refusal, Reply, error, limit_reached};
 use crate::fault::{SplitFault, TextFault};
 use crate::list::TextList;
 use crate::text::Text;
@@ -23,7 +23,7 @@ pub fn items_in(alloc: Global, list: &Text) -> Result<TextList, Refusal>
 
 /// The list of these items as an answer (list(n)), or the error of a value past 65,536 bytes (4).
 #[tactic(auto, using(crate::proofs::AnswerLemmas::bounds))]
-pub fn list_answer(alloc: Global, items: &[Text]) -> Step
+pub fn list_answer(alloc: Global, items: &[Text]) -> Reply
     ensures { Gives result (answers (list_form items.now)) }
 {
     match Text::join_list(alloc, items) {

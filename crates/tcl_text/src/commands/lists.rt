@@ -8,7 +8,7 @@ ghost use Rattle.tcl_text.specs.ListCommands as spec;
 ghost use Rattle.tcl_text.specs.ListSteps.{each_behind};
 
 use crate::commands::answers::{
-    Refusal, Step, bad_option, copy_answer, decimal_answer, limit_reached, own_answer,
+    Refusal, Reply, bad_option, copy_answer, decimal_answer, limit_reached, own_answer,
     place_answer, string_answer, text_answer, wrong_args,
 };
 use crate::commands::indices::{Index, index_in};
@@ -19,14 +19,14 @@ use crate::text::Text;
 use std::alloc::{AllocError, Global};
 
 /// `list ?value ..?`: the list of the words.
-pub fn list_words(alloc: Global, words: &[Text]) -> Step
+pub fn list_words(alloc: Global, words: &[Text]) -> Reply
     ensures { Gives result (spec.list_words words.now) }
 {
     list_answer(alloc, words)
 }
 
 /// `llength list`: how many items the list has.
-pub fn llength_words(alloc: Global, words: &[Text]) -> Step
+pub fn llength_words(alloc: Global, words: &[Text]) -> Reply
     ensures { Gives result (spec.llength_words words.now) }
 {
     match words {
@@ -51,7 +51,7 @@ fn item_count(alloc: Global, list: &Text) -> Result<usize, Refusal>
 
 /// `lindex list ?index?`: the item at the index, or the empty text where there is none. Without an
 /// index it is the word itself, which need not be a list.
-pub fn lindex_words(alloc: Global, words: &[Text]) -> Step
+pub fn lindex_words(alloc: Global, words: &[Text]) -> Reply
     ensures { Gives result (spec.lindex_words words.now) }
 {
     match words {
@@ -62,7 +62,7 @@ pub fn lindex_words(alloc: Global, words: &[Text]) -> Step
 }
 
 /// The item at an index of the list that a word is.
-fn item_of_word(alloc: Global, list: &Text, index: &Text) -> Step
+fn item_of_word(alloc: Global, list: &Text, index: &Text) -> Reply
     ensures { Gives result (spec.of_items (spec.item_at index.now) list.now) }
 {
     if let Some(kept) = list.as_list(alloc) {
@@ -72,7 +72,7 @@ fn item_of_word(alloc: Global, list: &Text, index: &Text) -> Step
     item_of_items(alloc, items.as_slice(), index)
 }
 
-fn item_of_kept(alloc: Global, list: &ListString, index: &Text) -> Step
+fn item_of_kept(alloc: Global, list: &ListString, index: &Text) -> Reply
     ensures { Gives result (spec.item_at index.now list.now) }
 {
     let index = index_in(alloc, index)?;
@@ -80,7 +80,7 @@ fn item_of_kept(alloc: Global, list: &ListString, index: &Text) -> Step
 }
 
 /// The item of a kept list at an index, or the empty text where there is none.
-fn kept_item_answer(alloc: Global, list: &ListString, index: Index) -> Step
+fn kept_item_answer(alloc: Global, list: &ListString, index: Index) -> Reply
     ensures { Gives result (answers (spec.item_or_empty (part index index list.now))) }
 {
     let count = list.len();
@@ -94,7 +94,7 @@ fn kept_item_answer(alloc: Global, list: &ListString, index: Index) -> Step
     }
 }
 
-fn item_of_items(alloc: Global, items: &[Text], index: &Text) -> Step
+fn item_of_items(alloc: Global, items: &[Text], index: &Text) -> Reply
     ensures { Gives result (spec.item_at index.now items.now) }
 {
     let index = index_in(alloc, index)?;
@@ -114,7 +114,7 @@ fn items_between(items: &[Text], first: Index, last: Index) -> &[Text]
 }
 
 /// `lrange list first last`: the items from one index to another, as a list.
-pub fn lrange_words(alloc: Global, words: &[Text]) -> Step
+pub fn lrange_words(alloc: Global, words: &[Text]) -> Reply
     ensures { Gives result (spec.lrange_words words.now) }
 {
     match words {
@@ -124,7 +124,7 @@ pub fn lrange_words(alloc: Global, words: &[Text]) -> Step
 }
 
 /// The list of the items from one index to another of the list that a word is.
-fn range_of_word(alloc: Global, list: &Text, first: &Text, last: &Text) -> Step
+fn range_of_word(alloc: Global, list: &Text, first: &Text, last: &Text) -> Reply
     ensures { Gives result (spec.of_items (spec.range_of first.now last.now) list.now) }
 {
     if let Some(kept) = list.as_list(alloc) {
@@ -134,7 +134,7 @@ fn range_of_word(alloc: Global, list: &Text, first: &Text, last: &Text) -> Step
     range_of_items(alloc, items.as_slice(), first, last)
 }
 
-fn range_of_kept(alloc: Global, list: &ListString, first: &Text, last: &Text) -> Step
+fn range_of_kept(alloc: Global, list: &ListString, first: &Text, last: &Text) -> Reply
     ensures { Gives result (spec.range_of first.now last.now list.now) }
 {
     let first = index_in(alloc, first)?;
@@ -143,7 +143,7 @@ fn range_of_kept(alloc: Global, list: &ListString, first: &Text, last: &Text) ->
 }
 
 /// The list of the items of a kept list from one index to another.
-fn kept_range_answer(alloc: Global, list: &ListString, first: Index, last: Index) -> Step
+fn kept_range_answer(alloc: Global, list: &ListString, first: Index, last: Index) -> Reply
     ensures { Gives result (answers (list_form (part first last list.now))) }
 {
     let count = list.len();
@@ -154,7 +154,7 @@ fn kept_range_answer(alloc: Global, list: &ListString, first: Index, last: Index
     kept_answer(alloc, part)
 }
 
-fn range_of_items(alloc: Global, items: &[Text], first: &Text, last: &Text) -> Step
+fn range_of_items(alloc: Global, items: &[Text], first: &Text, last: &Text) -> Reply
     ensures { Gives result (spec.range_of first.now last.now items.now) }
 {
     let first = index_in(alloc, first)?;
@@ -164,7 +164,7 @@ fn range_of_items(alloc: Global, items: &[Text], first: &Text, last: &Text) -> S
 
 /// A list that is kept, as an answer.
 #[tactic(auto, using(crate::proofs::AnswerLemmas::bounds))]
-fn kept_answer(alloc: Global, list: ListString) -> Step
+fn kept_answer(alloc: Global, list: ListString) -> Reply
     ensures { Gives result (answers (list_form list)) }
 {
     Ok(Text::of_list(alloc, list)?)
@@ -172,7 +172,7 @@ fn kept_answer(alloc: Global, list: ListString) -> Step
 
 /// `linsert list index ?value ..?`: the list with the values put in before the item at the index;
 /// `end` puts them behind the last.
-pub fn linsert_words(alloc: Global, words: &[Text]) -> Step
+pub fn linsert_words(alloc: Global, words: &[Text]) -> Reply
     ensures { Gives result (spec.linsert_words words.now) }
 {
     match words {
@@ -182,7 +182,7 @@ pub fn linsert_words(alloc: Global, words: &[Text]) -> Step
 }
 
 /// The list that a word is, with values put in before an index.
-fn insert_into_word(alloc: Global, list: &Text, index: &Text, values: &[Text]) -> Step
+fn insert_into_word(alloc: Global, list: &Text, index: &Text, values: &[Text]) -> Reply
     ensures { Gives result (spec.of_items (spec.inserted index.now values.now) list.now) }
 {
     if let Some(kept) = list.as_list(alloc) {
@@ -192,7 +192,7 @@ fn insert_into_word(alloc: Global, list: &Text, index: &Text, values: &[Text]) -
     insert_into_items(alloc, items.as_slice(), index, values)
 }
 
-fn insert_into_kept(alloc: Global, list: &ListString, index: &Text, values: &[Text]) -> Step
+fn insert_into_kept(alloc: Global, list: &ListString, index: &Text, values: &[Text]) -> Reply
     ensures { Gives result (spec.inserted index.now values.now list.now) }
 {
     let index = index_in(alloc, index)?;
@@ -200,7 +200,7 @@ fn insert_into_kept(alloc: Global, list: &ListString, index: &Text, values: &[Te
     splice_of_kept(alloc, list, place, place, values)
 }
 
-fn insert_into_items(alloc: Global, items: &[Text], index: &Text, values: &[Text]) -> Step
+fn insert_into_items(alloc: Global, items: &[Text], index: &Text, values: &[Text]) -> Reply
     ensures { Gives result (spec.inserted index.now values.now items.now) }
 {
     let index = index_in(alloc, index)?;
@@ -210,7 +210,7 @@ fn insert_into_items(alloc: Global, items: &[Text], index: &Text, values: &[Text
 
 /// `lreplace list first last ?value ..?`: the list with the values in place of the items from one
 /// index to another; with the last before the first they go before the first.
-pub fn lreplace_words(alloc: Global, words: &[Text]) -> Step
+pub fn lreplace_words(alloc: Global, words: &[Text]) -> Reply
     ensures { Gives result (spec.lreplace_words words.now) }
 {
     match words {
@@ -220,7 +220,7 @@ pub fn lreplace_words(alloc: Global, words: &[Text]) -> Step
 }
 
 /// The list that a word is, with values in place of the items from one index to another.
-fn replace_in_word(alloc: Global, list: &Text, first: &Text, last: &Text, values: &[Text]) -> Step
+fn replace_in_word(alloc: Global, list: &Text, first: &Text, last: &Text, values: &[Text]) -> Reply
     ensures { Gives result (spec.of_items (spec.replaced first.now last.now values.now) list.now) }
 {
     if let Some(kept) = list.as_list(alloc) {
@@ -236,7 +236,7 @@ fn replace_kept(
     first: &Text,
     last: &Text,
     values: &[Text],
-) -> Step
+) -> Reply
     ensures { Gives result (spec.replaced first.now last.now values.now list.now) }
 {
     let from = index_in(alloc, first)?.before(list.len());
@@ -244,7 +244,7 @@ fn replace_kept(
     splice_of_kept(alloc, list, from, to, values)
 }
 
-fn replace_items(alloc: Global, items: &[Text], first: &Text, last: &Text, values: &[Text]) -> Step
+fn replace_items(alloc: Global, items: &[Text], first: &Text, last: &Text, values: &[Text]) -> Reply
     ensures { Gives result (spec.replaced first.now last.now values.now items.now) }
 {
     let from = index_in(alloc, first)?.before(items.len());
@@ -254,7 +254,13 @@ fn replace_items(alloc: Global, items: &[Text], first: &Text, last: &Text, value
 
 /// The list with the values in place of the items between two places.
 #[tactic(auto, using(crate::proofs::AnswerLemmas::bounds))]
-fn splice_of_kept(alloc: Global, list: &ListString, from: usize, to: usize, values: &[Text]) -> Step
+fn splice_of_kept(
+    alloc: Global,
+    list: &ListString,
+    from: usize,
+    to: usize,
+    values: &[Text],
+) -> Reply
     requires in_order { from ≤ to }
     requires within { to ≤ length list.now }
     ensures { Gives result (answers (list_form (spec.spliced list.now from to values.now))) }
@@ -267,7 +273,7 @@ fn splice_of_kept(alloc: Global, list: &ListString, from: usize, to: usize, valu
 }
 
 /// The list of the items with the values in place of those between two places.
-fn splice_answer(alloc: Global, items: &[Text], from: usize, to: usize, values: &[Text]) -> Step
+fn splice_answer(alloc: Global, items: &[Text], from: usize, to: usize, values: &[Text]) -> Reply
     requires in_order { from ≤ to }
     requires within { to ≤ length items.now }
     ensures { Gives result (answers (list_form (spec.spliced items.now from to values.now))) }
@@ -290,7 +296,7 @@ fn push_copies(list: &mut Vec<Text>, texts: &[Text]) -> Result<(), AllocError>
 }
 
 /// `lsearch ?-exact|-glob? list pattern`: the place of the first item that matches, or -1.
-pub fn lsearch_words(alloc: Global, words: &[Text]) -> Step
+pub fn lsearch_words(alloc: Global, words: &[Text]) -> Reply
     ensures { Gives result (spec.lsearch_words words.now) }
 {
     match words {
@@ -302,7 +308,7 @@ pub fn lsearch_words(alloc: Global, words: &[Text]) -> Step
 
 /// The place of the first item that matches in the way that the option names.
 #[tactic(auto, unfolding(crate::specs::ListCommands::search_by))]
-fn search_by(alloc: Global, option: &Text, list: &Text, pattern: &Text) -> Step
+fn search_by(alloc: Global, option: &Text, list: &Text, pattern: &Text) -> Reply
     ensures { Gives result (spec.search_by option.now pattern.now list.now) }
 {
     match option.as_str() {
@@ -312,14 +318,14 @@ fn search_by(alloc: Global, option: &Text, list: &Text, pattern: &Text) -> Step
     }
 }
 
-fn search_exact(alloc: Global, list: &Text, pattern: &Text) -> Step
+fn search_exact(alloc: Global, list: &Text, pattern: &Text) -> Reply
     ensures { Gives result (spec.search_in (spec.is_exactly pattern.now) list.now) }
 {
     let items = items_in(alloc, list)?;
     place_answer(alloc, place_of_equal(items.as_slice(), pattern))
 }
 
-fn search_glob(alloc: Global, list: &Text, pattern: &Text) -> Step
+fn search_glob(alloc: Global, list: &Text, pattern: &Text) -> Reply
     ensures { Gives result (spec.search_in (spec.is_like pattern.now) list.now) }
 {
     let items = items_in(alloc, list)?;
@@ -343,7 +349,7 @@ fn place_of_match(items: &[Text], pattern: &Text) -> Option<usize>
 }
 
 /// `join list ?text?`: the items with the text, or a blank, between each two.
-pub fn join_words(alloc: Global, words: &[Text]) -> Step
+pub fn join_words(alloc: Global, words: &[Text]) -> Reply
     ensures { Gives result (spec.join_words words.now) }
 {
     match words {
@@ -353,7 +359,7 @@ pub fn join_words(alloc: Global, words: &[Text]) -> Step
     }
 }
 
-fn join_list_by(alloc: Global, list: &Text, between: &str) -> Step
+fn join_list_by(alloc: Global, list: &Text, between: &str) -> Reply
     ensures { Gives result (spec.join_list_by list.now between.now) }
 {
     let items = items_in(alloc, list)?;

@@ -3,7 +3,7 @@ ghost use Rattle.std.specs.Prelude.{◌≡◌, IfOk, IfErr, ℤ, List, ℕ, map,
 ghost use Rattle.tcl_text.specs.Answers.{Gives};
 ghost use Rattle.tcl_text.specs.ListCommands as spec;
 
-use crate::commands::answers::{Refusal, Step, bad_option, wrong_args};
+use crate::commands::answers::{Refusal, Reply, bad_option, wrong_args};
 use crate::commands::integers::integer_of;
 use crate::commands::items::{items_in, list_answer};
 use crate::list::TextList;
@@ -26,7 +26,7 @@ impl Order {
 }
 
 /// `lsort ?-integer? ?-decreasing? list`: the items in order; equal ones keep theirs.
-pub fn lsort_words(alloc: Global, words: &[Text]) -> Step
+pub fn lsort_words(alloc: Global, words: &[Text]) -> Reply
     ensures { Gives result (spec.lsort_words words.now) }
 {
     match words {
@@ -62,7 +62,7 @@ fn with_option(alloc: Global, option: &Text, order: Order) -> Result<Order, Refu
     }
 }
 
-fn sort_list(alloc: Global, order: Order, list: &Text) -> Step
+fn sort_list(alloc: Global, order: Order, list: &Text) -> Reply
     ensures { Gives result (spec.sort_list order list.now) }
 {
     let items = items_in(alloc, list)?;

@@ -9,7 +9,7 @@ ghost use Rattle.tcl_text.specs.ListSteps.{CutsOnce};
 ghost use Rattle.tcl_text.specs.Limits.{most_bytes};
 
 use crate::characters::split_first_char;
-use crate::commands::answers::{Step, wrong_args};
+use crate::commands::answers::{Reply, wrong_args};
 use crate::commands::items::list_answer;
 use crate::text::Text;
 use memchr::memchr;
@@ -17,7 +17,7 @@ use std::alloc::{AllocError, Global};
 
 /// `split text ?chars?`: the parts of the text between the characters, or between white space; with
 /// no characters at all, each character of the text.
-pub fn split_words(alloc: Global, words: &[Text]) -> Step
+pub fn split_words(alloc: Global, words: &[Text]) -> Reply
     ensures { Gives result (spec.split_words words.now) }
 {
     match words {
@@ -27,14 +27,14 @@ pub fn split_words(alloc: Global, words: &[Text]) -> Step
     }
 }
 
-fn split_at_white(alloc: Global, text: &str) -> Step
+fn split_at_white(alloc: Global, text: &str) -> Reply
     requires { length text.now ≤ most_bytes }
     ensures { Gives result (spec.split_text text.now spec.white_characters) }
 {
     split_text(alloc, text, " \t\n\u{b}\u{c}\r")
 }
 
-fn split_text(alloc: Global, text: &str, separators: &str) -> Step
+fn split_text(alloc: Global, text: &str, separators: &str) -> Reply
     requires { length text.now ≤ most_bytes }
     ensures { Gives result (spec.split_text text.now (chars separators.now)) }
 {

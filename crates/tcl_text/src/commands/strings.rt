@@ -10,7 +10,7 @@ ghost use Rattle.tcl_text.specs.StringSteps.{with_word};
 
 use crate::characters::{self, split_characters, trimmed};
 use crate::commands::answers::{
-    Step, bad_option, decimal_answer, limit_reached, place_answer, string_answer, text_answer,
+    Reply, bad_option, decimal_answer, limit_reached, place_answer, string_answer, text_answer,
     truth_answer, wrong_args,
 };
 use crate::commands::indices::{Index, index_in};
@@ -20,7 +20,7 @@ use memchr::memmem;
 use std::alloc::{AllocError, Global};
 use std::cmp::Ordering;
 
-fn string_length(alloc: Global, words: &[Text]) -> Step
+fn string_length(alloc: Global, words: &[Text]) -> Reply
     ensures { Gives result (spec.string_length words.now) }
 {
     match words {
@@ -29,7 +29,7 @@ fn string_length(alloc: Global, words: &[Text]) -> Step
     }
 }
 
-fn string_index(alloc: Global, words: &[Text]) -> Step
+fn string_index(alloc: Global, words: &[Text]) -> Reply
     ensures { Gives result (spec.string_index words.now) }
 {
     match words {
@@ -41,7 +41,7 @@ fn string_index(alloc: Global, words: &[Text]) -> Step
     }
 }
 
-fn string_range(alloc: Global, words: &[Text]) -> Step
+fn string_range(alloc: Global, words: &[Text]) -> Reply
     ensures { Gives result (spec.string_range words.now) }
 {
     match words {
@@ -103,7 +103,7 @@ fn bytes_in(text: &str, first: Index, last: Index) -> &str
     &text[start..end]
 }
 
-fn string_compare(alloc: Global, words: &[Text]) -> Step
+fn string_compare(alloc: Global, words: &[Text]) -> Reply
     ensures { Gives result (spec.string_compare words.now) }
 {
     match words {
@@ -122,7 +122,7 @@ fn sign_of(ordering: Ordering) -> &'static str
     }
 }
 
-fn string_equal(alloc: Global, words: &[Text]) -> Step
+fn string_equal(alloc: Global, words: &[Text]) -> Reply
     ensures { Gives result (spec.string_equal words.now) }
 {
     match words {
@@ -131,7 +131,7 @@ fn string_equal(alloc: Global, words: &[Text]) -> Step
     }
 }
 
-fn string_match(alloc: Global, words: &[Text]) -> Step
+fn string_match(alloc: Global, words: &[Text]) -> Reply
     ensures { Gives result (spec.string_match words.now) }
 {
     match words {
@@ -140,7 +140,7 @@ fn string_match(alloc: Global, words: &[Text]) -> Step
     }
 }
 
-fn string_tolower(alloc: Global, words: &[Text]) -> Step
+fn string_tolower(alloc: Global, words: &[Text]) -> Reply
     ensures { Gives result (spec.string_tolower words.now) }
 {
     match words {
@@ -149,7 +149,7 @@ fn string_tolower(alloc: Global, words: &[Text]) -> Step
     }
 }
 
-fn string_toupper(alloc: Global, words: &[Text]) -> Step
+fn string_toupper(alloc: Global, words: &[Text]) -> Reply
     ensures { Gives result (spec.string_toupper words.now) }
 {
     match words {
@@ -158,7 +158,7 @@ fn string_toupper(alloc: Global, words: &[Text]) -> Step
     }
 }
 
-fn string_trim(alloc: Global, words: &[Text]) -> Step
+fn string_trim(alloc: Global, words: &[Text]) -> Reply
     ensures { Gives result (spec.string_trim words.now) }
 {
     match words {
@@ -167,7 +167,7 @@ fn string_trim(alloc: Global, words: &[Text]) -> Step
     }
 }
 
-fn string_first(alloc: Global, words: &[Text]) -> Step
+fn string_first(alloc: Global, words: &[Text]) -> Reply
     ensures { Gives result (spec.string_first words.now) }
 {
     match words {
@@ -195,7 +195,7 @@ fn find_text(text: &str, needle: &str) -> Option<usize>
     memmem::find(text.as_bytes(), needle.as_bytes())
 }
 
-fn string_repeat(alloc: Global, words: &[Text]) -> Step
+fn string_repeat(alloc: Global, words: &[Text]) -> Reply
     ensures { Gives result (spec.string_repeat words.now) }
 {
     match words {
@@ -209,7 +209,7 @@ fn string_repeat(alloc: Global, words: &[Text]) -> Step
 
 /// So many copies of a text, one after another.
 #[tactic(auto, using(crate::proofs::StringLemmas::repeats))]
-fn repeated(alloc: Global, text: &str, count: u64) -> Step
+fn repeated(alloc: Global, text: &str, count: u64) -> Reply
     ensures { Gives result (answers (concat (replicate count text.now))) }
 {
     if text.is_empty() {
@@ -234,7 +234,7 @@ fn copies(alloc: Global, text: &str, count: u64) -> Result<String, AllocError>
 
 /// `concat ?arg ..?`: the words without white space around them, those that aren't empty, with a
 /// blank between each two.
-pub fn concat_words(alloc: Global, words: &[Text]) -> Step
+pub fn concat_words(alloc: Global, words: &[Text]) -> Reply
     ensures { Gives result (spec.concat_words words.now) }
 {
     if let [word] = words
@@ -271,7 +271,7 @@ fn push_word(string: &mut String, word: &str) -> Result<(), AllocError>
 }
 
 /// `string NAME ?arg ..?`: what the command of that name answers to the words after it.
-pub fn string_words(alloc: Global, words: &[Text]) -> Step
+pub fn string_words(alloc: Global, words: &[Text]) -> Reply
     ensures { Gives result (spec.string_words words.now) }
 {
     match words {
@@ -281,7 +281,7 @@ pub fn string_words(alloc: Global, words: &[Text]) -> Step
 }
 
 #[tactic(auto, unfolding(crate::specs::StringCommands::string_named))]
-fn string_named(alloc: Global, name: &Text, words: &[Text]) -> Step
+fn string_named(alloc: Global, name: &Text, words: &[Text]) -> Reply
     ensures { Gives result (spec.string_named name.now words.now) }
 {
     match name.as_str() {

@@ -13,7 +13,7 @@ returns-in-AtPart g c =
     let waits = waits_of c.loop-word.frames.items in
     let pieces = c.pieces_at-pieces.result.now in
     let less : c.loop-word.word < length words = rw c.next_words.ensures at c.loop-word-test.true in
-    let end : AtPart (part_of c.in-AtPart.part) (drop c.in-AtPart.next pieces) c.in-AtPart.so_far ≡ word_end c.args.level c.args.scopes.now (drop 0 pieces) [] = rw (c.in-AtPart.is, c.in_ok-of_short.ensures) at c.in_ok-text-2.ensures in
+    let end : AtPart (part_of c.in-AtPart.part) (drop c.in-AtPart.next pieces) c.in-AtPart.so_far ≡ word_end c.args.level c.args.scopes.now (drop 0 pieces) [] = rw (c.in-AtPart.is, c.empty.ensures) at c.in_ok-text-2.ensures in
     ok_along c.word_part.result (λ now. moved_of now c.word_part.new.frames.items) _ _ c.word_part.ensures
     (word_waits c.args.level c.args.scopes.now place.room waits after words c.loop-word.word c.loop-word.whole (part_of c.in-AtPart.part) c.in-AtPart.so_far c.in-AtPart.next pieces less (rw c.next_words-words.ensures at c.pieces_at-pieces.ensures) end
     ∙ c.loop-word.invariant)
@@ -27,7 +27,7 @@ loop-word-preserved g c =
     let pieces = c.pieces_at-pieces.result.now in
     let i = c.loop-word.word in
     let less : i < length words = rw c.next_words.ensures at c.loop-word-test.true in
-    let end : Whole c.in-Whole.text ≡ word_end c.args.level c.args.scopes.now (drop 0 pieces) [] = rw (c.in-Whole.is, c.in_ok-of_short.ensures) at c.in_ok-text-2.ensures in
+    let end : Whole c.in-Whole.text ≡ word_end c.args.level c.args.scopes.now (drop 0 pieces) [] = rw (c.in-Whole.is, c.empty.ensures) at c.in_ok-text-2.ensures in
     let more : Ok c.in-Ok.all ≡ with_more_words c.loop-word.whole (words_of (expand_in_front (drop i words)) c.in-Whole.text) =
     sym c.in-Ok.is ∙ c.in_ok-more-in-Whole.ensures ∙ ap (λ ws. with_more_words c.loop-word.whole (words_of (expand_in_front (drop i ws)) c.in-Whole.text)) c.next_words-words.ensures in
     word_whole c.args.level c.args.scopes.now place.room waits after words i c.loop-word.whole c.in-Ok.all c.in-Whole.text pieces less (rw c.next_words-words.ensures at c.pieces_at-pieces.ensures) end more
@@ -42,7 +42,7 @@ returns-in-Err g c =
     let pieces = c.pieces_at-pieces.result.now in
     let i = c.loop-word.word in
     let less : i < length words = rw c.next_words.ensures at c.loop-word-test.true in
-    let end : Whole c.in-Whole.text ≡ word_end c.args.level c.args.scopes.now (drop 0 pieces) [] = rw (c.in-Whole.is, c.in_ok-of_short.ensures) at c.in_ok-text-2.ensures in
+    let end : Whole c.in-Whole.text ≡ word_end c.args.level c.args.scopes.now (drop 0 pieces) [] = rw (c.in-Whole.is, c.empty.ensures) at c.in_ok-text-2.ensures in
     let more : Err c.in-Err.text ≡ with_more_words c.loop-word.whole (words_of (expand_in_front (drop i words)) c.in-Whole.text) =
     sym c.in-Err.is ∙ c.in_ok-more-in-Whole.ensures ∙ ap (λ ws. with_more_words c.loop-word.whole (words_of (expand_in_front (drop i ws)) c.in-Whole.text)) c.next_words-words.ensures in
     word_faulty c.args.level c.args.scopes.now place.room waits after words i c.loop-word.whole c.in-Err.text c.in-Whole.text pieces less (rw c.next_words-words.ensures at c.pieces_at-pieces.ensures) end more

@@ -1,6 +1,6 @@
 use Rattle.std.proofs.Common.{◌≡◌, ◌++◌, ◌∷◌, [], map, List, sym, ap, ◌∙◌, subst, append_assoc}
 use Rattle.std.proofs.lemmas.Result.{on_ok_weaker}
-use Rattle.tk_turns.specs.Rounds.{turns_of}
+use Rattle.tk_app.specs.Rounds.{turns_of}
 use Rattle.tk_app.specs.Application.{Application}
 use Rattle.tk_host.specs.Held.{at_rest}
 use Rattle.tk_host.specs.Ready.{AllRest}

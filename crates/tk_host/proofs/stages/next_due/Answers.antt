@@ -1,5 +1,5 @@
 use Rattle.std.proofs.Common.{◌+◌, sym, ap, ◌∙◌, drop}
-use Rattle.tk_turns.specs.Stages.{earlier, first_due}
+use Rattle.tk_app.specs.Stages.{earlier, first_due}
 use Rattle.tk_app.specs.Application.{next_due}
 use Rattle.tk_app.specs.Part.{settled}
 use Rattle.tk_host.specs.Turns.{applications}

@@ -1,6 +1,6 @@
 use Rattle.std.proofs.Common.{◌≡◌, ◌++◌, ◌-◌, ℕ, List, [], map, sum, sym, ap, ◌∙◌, append-nil, arith, Ok}
-use Rattle.tk_turns.specs.Rounds.{round, turns_of}
-use Rattle.tk_turns.proofs.Rounds.{turns_more, turns_none}
+use Rattle.tk_app.specs.Rounds.{round, turns_of}
+use Rattle.tk_app.proofs.Rounds.{turns_more, turns_none}
 use Rattle.tk_app.specs.Part.{Part, needs, stage_done}
 use Rattle.tk_host.proofs.Slots.{none_needed}
 use Rattle.tk_host.proofs.stages.stage.Goals as goal

@@ -1,6 +1,6 @@
 use Rattle.std.proofs.Common.{◌≡◌, ◌++◌, map, suc, cond, false}
 use Rattle.std.specs.Prelude.{sum_by}
-use Rattle.tk_turns.specs.Rounds.{turns_of}
+use Rattle.tk_app.specs.Rounds.{turns_of}
 use Rattle.tk_app.specs.Part.{needs, stage_done}
 use Rattle.tk_host.proofs.stages.stage.Given as goal
 

@@ -14,11 +14,11 @@ returns-in-Some-clause-own c =
     ap (λ started. (record panel { timers = left }, started)) c.alone.ensures
     ∙ idle_found c.args.id rest panel (timers.entry_with c.args.id panel.timers.entries) left c.cancel.ensures.own c.in-Some.script (sym c.in-Some.is ∙ c.cancel.ensures.script)
 
-pub returns-in_ok-short_text-in-None-clause-own : goal.returns-in_ok-short_text-in-None-clause-own
-returns-in_ok-short_text-in-None-clause-own c =
+pub returns-in-None-clause-own : goal.returns-in-None-clause-own
+returns-in-None-clause-own c =
     let panel = panel_of c.args.slot c.args.tables.now in
     let rest = Rounds c.args.round c.args.home in
     let left = timers.own_of c.args.slot c.cancel.new.self in
     ap (λ started. (record panel { timers = left }, started)) c.alone-in-None.ensures
-    ∙ ap (λ script. (record panel { timers = left }, (script, alone rest))) c.in_ok-short_text-in-None.ensures
+    ∙ ap (λ script. (record panel { timers = left }, (script, alone rest))) c.empty.ensures
     ∙ idle_gone c.args.id rest panel (timers.entry_with c.args.id panel.timers.entries) left c.cancel.ensures.own (sym c.in-None.is ∙ c.cancel.ensures.script)

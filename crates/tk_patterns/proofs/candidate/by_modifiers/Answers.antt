@@ -1,5 +1,5 @@
 use Rattle.std.proofs.Common.{sym, ◌∙◌, ap}
-use Rattle.tk_history.specs.Steps.{steps_of}
+use Rattle.tk_patterns.specs.Steps.{steps_of}
 use Rattle.tk_patterns.specs.Specific.{is_alike}
 use Rattle.tk_patterns.proofs.VerdictLemmas.{decided_at, alike_at, ended_at}
 use Rattle.tk_patterns.proofs.candidate.by_modifiers.Goals as goal

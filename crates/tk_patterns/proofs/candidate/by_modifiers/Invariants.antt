@@ -1,5 +1,5 @@
 use Rattle.std.proofs.Common.{◌≡◌, drop}
-use Rattle.tk_history.specs.Steps.{steps_of}
+use Rattle.tk_patterns.specs.Steps.{steps_of}
 use Rattle.tk_patterns.specs.Specific.{by_modifiers}
 use Rattle.tk_patterns.proofs.candidate.by_modifiers.Given as goal
 

@@ -1,5 +1,5 @@
 use Rattle.std.proofs.Common.{sym, ap, ◌∙◌}
-use Rattle.tk_buckets.specs.Filed.{stamps_of}
+use Rattle.tk_patterns.specs.Filed.{stamps_of}
 use Rattle.tk_patterns.specs.Filing.{is_number_of_key}
 use Rattle.tk_patterns.proofs.FilingLemmas.{none_stamps}
 use Rattle.tk_patterns.proofs.filing.stamps_of_key.Goals as goal

@@ -1,5 +1,5 @@
 use Rattle.std.proofs.Common.{◌≡◌, ◌≤◌, not, length, map}
-use Rattle.tk_buckets.specs.Filed.{numbers_of}
+use Rattle.tk_patterns.specs.Filed.{numbers_of}
 use Rattle.tk_patterns.specs.declared.binding.Binding.{Binding}
 use Rattle.tk_patterns.specs.Filing.{number_of}
 use Rattle.tk_patterns.specs.Own.{has_tag}

@@ -1,7 +1,7 @@
 use Rattle.std.proofs.Common.{map, sym, ap, ◌∙◌}
 use Rattle.std.specs.List.{remove}
-use Rattle.tk_buckets.specs.declared.filed.Filed.{Filed}
-use Rattle.tk_buckets.specs.Filed.{numbers_of}
+use Rattle.tk_patterns.specs.declared.filed.Filed.{Filed}
+use Rattle.tk_patterns.specs.Filed.{numbers_of}
 use Rattle.tk_patterns.specs.Filing.{number_of}
 use Rattle.tk_patterns.proofs.KeptLemmas.{map_remove}
 use Rattle.tk_patterns.proofs.own.take_out.Goals as goal

@@ -1,5 +1,5 @@
 use Rattle.std.proofs.Common.{◌≡◌, Some, None, refl, sym, ◌∙◌}
-use Rattle.tk_buckets.proofs.RestLemmas.{fewer}
+use Rattle.tk_patterns.proofs.RestLemmas.{fewer}
 use Rattle.tk_patterns.proofs.Reached.{next, all_done}
 use Rattle.tk_virtual.specs.Virtual.{meanings_of}
 use Rattle.tk_patterns.proofs.winning.holder_of.Goals as goal

@@ -1,5 +1,10 @@
-use Rattle.std.proofs.Common.{refl}
-use Rattle.tkhost.proofs.Refusal.{told_fault}
+use Rattle.std.proofs.Common.{Err, refl, ap, subst}
+use Rattle.tk_alias.specs.declared.service.Service.{Service}
+use Rattle.tk_alias.specs.Services.{answer_of}
+use Rattle.tk_session.specs.Session.{IsSession}
+use Rattle.tkhost.specs.Output.{AppendsFront}
+use Rattle.tkhost.specs.Play.{sections_of}
+use Rattle.tkhost.proofs.Refusal.{all_read, told_fault}
 use Rattle.tkhost.proofs.program.run.Goals as goal
 
 pub returns-in-Err-Refused-clause-refused : goal.returns-in-Err-Refused-clause-refused
@@ -8,3 +13,15 @@ returns-in-Err-Refused-clause-refused g c = λ number line is.
     let told = told_fault (g.R.Read.remaining c.args.reader.now) (g.R.Read.remaining c.read_input.new.reader) c.in-Ok.input.items c.as_slice.result.now _ refused.fault _ _ refused.line number line
     c.in-Ok.ensures.bytes c.in-Ok.ensures.end c.as_slice.ensures.value (rw refused.field-0-is at refused.ensures.answer) refused.fault-is c.number.ensures refused.line-is is in
     (told.0, told.1, told.2, refl)
+
+pub returns-in-Err-Write-clause-write : goal.returns-in-Err-Write-clause-write
+returns-in-Err-Write-clause-write g c = λ is.
+    let plan = c.in-Ok-read_session.session in
+    let said = subst (λ input. IsSession input plan) c.as_slice.ensures.value c.in-Ok-read_session.ensures.answer in
+    let front = subst (λ lists. AppendsFront (g.W.Write.contents c.args.writer.now) (g.W.Write.contents c.play.new.writer) (sections_of (λ (service : Service). answer_of service.kind service.config) plan lists))
+    c.in-Ok-services_of.ensures.services (c.in-Err-Write.ensures.write (ap Err c.in-Err-Write.field-0-is)) in (
+      plan,
+      all_read (g.R.Read.remaining c.args.reader.now) (g.R.Read.remaining c.read_input.new.reader) c.in-Ok.input.items (λ input. IsSession input plan)
+          c.in-Ok.ensures.bytes c.in-Ok.ensures.end said,
+      front,
+    )

@@ -1,5 +1,5 @@
 use Rattle.std.proofs.Common.{◌≡◌, false, sym, subst}
-use Rattle.tk_bag.specs.Bag.{AllBelow}
+use Rattle.tk_base.specs.Bag.{AllBelow}
 use Rattle.tk_after.specs.Keys.{number_of, entries_in, held_by}
 use Rattle.tk_after.specs.Timers.{Held, own_of, is_full}
 use Rattle.tk_after.proofs.Kept.{inserted, kept_below, next_unmarked}

@@ -1,7 +1,7 @@
 use Rattle.std.proofs.Common.{ap}
 use Rattle.tk_panel.specs.Panel.{panel_of}
 use Rattle.tk_panel.proofs.Others.{left_same}
-use Rattle.tk_panel_jobs.specs.Course.{look as panel_look}
+use Rattle.tk_commands.specs.Course.{look as panel_look}
 use Rattle.tk_app.specs.Seen.{meanings}
 use Rattle.tk_app.proofs.Shows.{panel_shown}
 use Rattle.tk_app.proofs.jobs.AppTablesJobs.look.Goals as goal

@@ -1,5 +1,5 @@
 use Rattle.std.proofs.Common.{◌++◌, ◌<◌, set, ap, ◌∙◌, subst, length, arith, true, false}
-use Rattle.tk_turns.specs.Rounds.{entry}
+use Rattle.tk_app.specs.Rounds.{entry}
 use Rattle.tk_panel.specs.Panel.{panel_of}
 use Rattle.tk_app.specs.Turns.{Applications, ChangesOnly, Program, SettlesSlot, part_of, parts_from}
 use Rattle.tk_app.proofs.Slots.{in_range}

@@ -1,6 +1,6 @@
 use Rattle.std.proofs.Common.{◌≡◌, ◌≤◌, ◌<◌, arith, sym, ap, ◌∙◌, subst}
 use Rattle.std.proofs.lemmas.Result.{err_from_is_err_and}
-use Rattle.tk_turns.specs.Stages.{IsPast, first_due}
+use Rattle.tk_app.specs.Stages.{IsPast, first_due}
 use Rattle.tk_route.specs.Lines.{at}
 use Rattle.tk_route.specs.Routes.{deliveries}
 use Rattle.tk_app.specs.Application.{next_due}

@@ -4,7 +4,7 @@ use Rattle.std.specs.Map.{lookup}
 use Rattle.tk_packer.specs.declared.packed.Packed.{Packed}
 use Rattle.tk_packer.specs.Packs.{Own, without_packed}
 use Rattle.tk_packer.specs.Tables.{slaves_at, taken_out, rising}
-use Rattle.tk_packer.proofs.Changes.{forget_steps}
+use Rattle.tk_packer.proofs.ChangeLemmas.{forget_steps}
 use Rattle.tk_packer.proofs.own.OwnPacks.forget.Goals as goal
 
 pub invariant_of-self : goal.invariant_of-self

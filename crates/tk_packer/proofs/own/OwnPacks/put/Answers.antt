@@ -4,7 +4,7 @@ use Rattle.std.specs.Map.{lookup}
 use Rattle.tk_packer.specs.declared.packed.Packed.{Packed}
 use Rattle.tk_packer.specs.Packs.{Own, with_packed}
 use Rattle.tk_packer.specs.Tables.{slaves_at, taken_out, put_in, rising}
-use Rattle.tk_packer.proofs.Changes.{after_error, gathered_same, put_steps}
+use Rattle.tk_packer.proofs.ChangeLemmas.{after_error, gathered_same, put_steps}
 use Rattle.tk_packer.proofs.own.OwnPacks.put.Goals as goal
 
 pub returns-in_err-open-clause-err : goal.returns-in_err-open-clause-err

@@ -4,7 +4,7 @@ use Rattle.std.specs.Map.{lookup}
 use Rattle.tk_packer.specs.declared.packed.Packed.{Packed}
 use Rattle.tk_packer.specs.Packs.{Own, without, without_window}
 use Rattle.tk_packer.specs.Tables.{slaves_at, taken_out, gathered, rising}
-use Rattle.tk_packer.proofs.Changes.{forget_steps}
+use Rattle.tk_packer.proofs.ChangeLemmas.{forget_steps}
 use Rattle.tk_packer.proofs.Orders.{rising_less}
 use Rattle.tk_packer.proofs.own.OwnPacks.remove.Goals as goal
 

@@ -1,6 +1,6 @@
 use Rattle.std.proofs.Common.{ap, ◌∙◌}
 use Rattle.tk_packer.specs.Packs.{own_of, slaves_of}
-use Rattle.tk_packer.proofs.Changes.{slaves_of-without}
+use Rattle.tk_packer.proofs.ChangeLemmas.{slaves_of-without}
 use Rattle.tk_packer.proofs.table.PackTable.forget.Goals as goal
 
 pub returns-clause-masters : goal.returns-clause-masters

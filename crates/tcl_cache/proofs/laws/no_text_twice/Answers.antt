@@ -1,5 +1,0 @@
-use Rattle.tcl_cache.proofs.Twice.{no_text_twice_holds}
-use Rattle.tcl_cache.proofs.laws.no_text_twice.Goals as goal
-
-pub returns : goal.returns
-returns c = no_text_twice_holds

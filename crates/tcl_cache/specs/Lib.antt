@@ -1,4 +1,0 @@
--- What the contracts cite.
-pub mod Entries
-pub mod Kept
-pub mod Laws

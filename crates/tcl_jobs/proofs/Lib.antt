@@ -1,3 +1,0 @@
--- What the proofs share.
-pub mod Ends
-pub mod Unrolled

@@ -1,8 +1,0 @@
-use Rattle.tcl_jobs.proofs.Unrolled.{unrolls, determined}
-use Rattle.tcl_jobs.proofs.laws.unrolls.Goals as goal
-
-pub returns-clause-equation : goal.returns-clause-equation
-returns-clause-equation g c = unrolls
-
-pub returns-clause-determined : goal.returns-clause-determined
-returns-clause-determined g c = determined

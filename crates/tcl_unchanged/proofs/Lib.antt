@@ -1,3 +1,0 @@
--- What the proofs share.
-pub mod Kept
-pub mod Same

@@ -1,0 +1,160 @@
+//! The questions of `calls`: what the calls of a host tell.
+//!
+//! A question is a host and the calls that it gets, each on a line of its own. The first line is the most steps of a turn. Then come `app NAME X Y W H
+//! TOTAL REFILL SCRIPT`, and `start`, which has to succeed; behind it `line MOMENT LINE` (`lines.rt`), `advance MOMENT` and `end MOMENT`.
+//! `section SLOT`, `turns` and `app` may stand anywhere, and `start` again behind the first. It is answered `=` and what the calls tell, each on a line:
+//! nothing where one succeeds that tells nothing, `!NUMBER` where one is refused, and of `turns` each as SLOT:STEPS.
+ghost use Rattle.std.specs.Prelude.{◌≡◌, ◌≢◌, OnOk};
+ghost use Rattle.tk_host.specs.declared.phase.Phase.TheVariants.{Adding};
+
+use crate::lines::{line_of, rect_of};
+use anyhow::{Result, bail};
+use asking::{first_word, number, words_of};
+use std::alloc::Global;
+use std::str;
+use tcl_text::Text;
+use tk_host::{Aliases, Budget, Host, HostFault, NoAlias, Turn};
+
+fn fault_told(alloc: Global, fault: HostFault) -> Result<String> {
+    match fault.number() {
+        Some(number) => Ok(format!(in alloc; "!{number}")?),
+        None => bail!("memory was refused"),
+    }
+}
+
+/// What a call that tells nothing is told as.
+fn told(alloc: Global, answer: Result<(), HostFault>) -> Result<String> {
+    match answer {
+        Ok(()) => Ok(String::new(alloc)),
+        Err(fault) => fault_told(alloc, fault),
+    }
+}
+
+fn section(alloc: Global, host: &Host<NoAlias>, slot: &str) -> Result<String> {
+    match host.section(number(slot)?) {
+        Ok(bytes) => Ok(String::from_str(alloc, str::from_utf8(bytes.as_slice())?)?),
+        Err(fault) => fault_told(alloc, fault),
+    }
+}
+
+fn turns_told(alloc: Global, turns: &[Turn]) -> Result<String> {
+    let mut told = String::from_str(alloc, "turns")?;
+    for turn in turns {
+        let one = format!(in alloc; " {}:{}", turn.slot, turn.steps)?;
+        told.push_str(one.as_str())?;
+    }
+    Ok(told)
+}
+
+fn budget_of(total: &str, refill: &str) -> Result<Budget> {
+    Ok(Budget {
+        total: number(total)?,
+        refill: number(refill)?,
+    })
+}
+
+fn app(alloc: Global, host: &mut Host<NoAlias>, words: &str) -> Result<String>
+    ensures { host.new.held.phase ≡ host.old.held.phase }
+{
+    let parts = words_of(alloc, words, ' ')?;
+    let [name, x, y, width, height, total, refill, script @ ..] = parts.as_slice() else {
+        bail!("an application that lacks a word");
+    };
+    let (rect, budget) = (rect_of(x, y, width, height)?, budget_of(total, refill)?);
+    let script = Text::new(alloc, script.join(alloc, " ")?.as_str())?;
+    match host.add_app(
+        Text::new(alloc, name)?,
+        rect,
+        script,
+        budget,
+        Aliases::new(alloc),
+    ) {
+        Ok(_slot) => Ok(String::new(alloc)),
+        Err(fault) => fault_told(alloc, fault),
+    }
+}
+
+/// A call that may come before `start`.
+fn early(alloc: Global, host: &mut Host<NoAlias>, call: &str) -> Result<String>
+    ensures { host.new.held.phase ≡ host.old.held.phase }
+{
+    let (what, words) = first_word(call);
+    match what {
+        "app" => app(alloc, host, words),
+        "section" => section(alloc, host, words),
+        "turns" => turns_told(alloc, host.turns()),
+        _ => bail!("no such call"),
+    }
+}
+
+fn line(alloc: Global, host: &mut Host<NoAlias>, words: &str) -> Result<String>
+    requires { host.old.held.phase ≢ Adding }
+    ensures { OnOk result (host.new.held.phase ≢ Adding) }
+{
+    let (moment, words) = first_word(words);
+    let line = line_of(words_of(alloc, words, ' ')?.as_slice())?;
+    told(alloc, host.line(number(moment)?, line))
+}
+
+/// A call of a host that was started.
+fn late(alloc: Global, host: &mut Host<NoAlias>, call: &str) -> Result<String>
+    requires { host.old.held.phase ≢ Adding }
+    ensures { OnOk result (host.new.held.phase ≢ Adding) }
+{
+    let (what, words) = first_word(call);
+    match what {
+        "start" => told(alloc, host.start()),
+        "advance" => told(alloc, host.advance_to(number(words)?)),
+        "end" => told(alloc, host.end(number(words)?)),
+        "line" => line(alloc, host, words),
+        _ => early(alloc, host, call),
+    }
+}
+
+/// Starts the host, and adds what this and the calls behind it tell.
+fn run(alloc: Global, host: &mut Host<NoAlias>, calls: &[&str], all: &mut String) -> Result<()> {
+    match host.start() {
+        Ok(()) => {}
+        Err(HostFault::NoMemory) => bail!("memory was refused"),
+        Err(_) => bail!("the start was refused"),
+    }
+    all.push_str("\n")?;
+    for call in calls.iter().skip(1) {
+        all.push_str(late(alloc, host, call)?.as_str())?;
+        all.push_str("\n")?;
+    }
+    Ok(())
+}
+
+/// A host that takes so many steps in a turn.
+fn host_of(alloc: Global, slice: &str) -> Result<Host<NoAlias>> {
+    let slice: u64 = number(slice)?;
+    if slice == 0 {
+        bail!("a turn of no step");
+    }
+    Ok(Host::new(alloc, slice)?)
+}
+
+/// What the calls tell, in two parts: those before `start`, and the others.
+fn all_told(alloc: Global, host: &mut Host<NoAlias>, calls: &[&str]) -> Result<String> {
+    let mut told = String::from_str(alloc, "=")?;
+    for (place, call) in calls.iter().enumerate() {
+        if *call == "start" {
+            run(alloc, host, &calls[place..], &mut told)?;
+            return Ok(told);
+        }
+        told.push_str(early(alloc, host, call)?.as_str())?;
+        told.push_str("\n")?;
+    }
+    Ok(told)
+}
+
+/// What a question is answered.
+pub fn answer(alloc: Global, question: &str) -> Result<String> {
+    let calls = words_of(alloc, question, '\n')?;
+    let [slice, calls @ ..] = calls.as_slice() else {
+        bail!("no calls");
+    };
+    let mut host = host_of(alloc, slice)?;
+    all_told(alloc, &mut host, calls)
+}

@@ -1,0 +1,62 @@
+//! Asks the parts of Tcl for the answers in tables, and tells of each that isn't the one in its table (`tables` says what stands in one). The folder
+//! of a table says what its questions are put to; the modules say what they mean.
+//!
+//! `repeat COUNT FILE` reads the script in a file so many times instead.
+#![tactic(auto)]
+
+mod commands;
+mod expressions;
+mod kept;
+mod panel;
+mod runner;
+mod runs;
+mod scripts;
+
+use crate::commands::Frames;
+use crate::kept::Kept;
+use anyhow::{Result, bail};
+use asking::{Fixture, arguments, ask_tables};
+use std::alloc::Global;
+
+/// What the questions of a table are put to.
+#[derive(Drop)]
+enum Part {
+    Commands(Frames),
+    Expressions,
+    Kept(Kept),
+    Runs,
+    Scripts,
+}
+
+impl Fixture for Part {
+    fn new(alloc: Global, table: &str) -> Result<Part> {
+        let (folder, _name) = table.split_once('/').unwrap_or((table, ""));
+        match folder {
+            "commands" => Ok(Part::Commands(Frames::new(alloc)?)),
+            "expressions" => Ok(Part::Expressions),
+            "kept" => Ok(Part::Kept(Kept::new(alloc)?)),
+            "runs" => Ok(Part::Runs),
+            "scripts" => Ok(Part::Scripts),
+            _ => bail!("no such table"),
+        }
+    }
+
+    fn answer(&mut self, alloc: Global, question: &str) -> Result<String> {
+        match self {
+            Part::Commands(frames) => frames.answer(alloc, question),
+            Part::Expressions => expressions::answer(alloc, question),
+            Part::Kept(kept) => kept.answer(alloc, question),
+            Part::Runs => runs::answer(alloc, question),
+            Part::Scripts => scripts::answer(alloc, question),
+        }
+    }
+}
+
+fn main(rt: HostRuntime) -> Result<()> {
+    match arguments(&rt)?.as_slice() {
+        [mode, count, path] if mode.as_str() == "repeat" => {
+            scripts::repeat(&rt, count.as_str(), path.as_str())
+        }
+        names => ask_tables::<Part, _>(&rt, names),
+    }
+}

@@ -1,0 +1,62 @@
+//! Asks the parts of Tk, each by itself, for the answers in tables, and tells of each that isn't the one in its table (`tables` says what stands in
+//! one). A table's name, or its folder, says what its questions are put to; the modules say what they mean.
+#![tactic(auto)]
+
+mod bindings;
+mod counting;
+mod dispatch;
+mod sequences;
+mod services;
+mod timers;
+mod windows;
+mod words;
+
+use crate::bindings::State;
+use crate::dispatch::Dispatch;
+use crate::services::Caller;
+use crate::timers::Kept;
+use crate::windows::Screen;
+use anyhow::{Result, bail};
+use asking::{Fixture, arguments, ask_tables};
+use std::alloc::Global;
+
+/// What the questions of a table are put to.
+#[derive(Drop)]
+enum Part {
+    Bindings(State),
+    Dispatch(Dispatch),
+    Sequences,
+    Services(Caller),
+    Timers(Kept),
+    Windows(Screen),
+}
+
+impl Fixture for Part {
+    fn new(alloc: Global, table: &str) -> Result<Part> {
+        let (part, name) = table.split_once('/').unwrap_or((table, ""));
+        match part {
+            "bindings" => Ok(Part::Bindings(State::new(alloc)?)),
+            "dispatch" => Ok(Part::Dispatch(Dispatch::new(alloc)?)),
+            "sequences" => Ok(Part::Sequences),
+            "services" => Ok(Part::Services(Caller::new())),
+            "timers" => Ok(Part::Timers(Kept::new(alloc))),
+            "windows" => Ok(Part::Windows(Screen::new(alloc, name)?)),
+            _ => bail!("no such table"),
+        }
+    }
+
+    fn answer(&mut self, alloc: Global, question: &str) -> Result<String> {
+        match self {
+            Part::Bindings(state) => state.answer(alloc, question),
+            Part::Dispatch(dispatch) => dispatch.answer(alloc, question),
+            Part::Sequences => sequences::answer(alloc, question),
+            Part::Services(caller) => caller.answer(alloc, question),
+            Part::Timers(kept) => kept.answer(alloc, question),
+            Part::Windows(screen) => screen.answer(alloc, question),
+        }
+    }
+}
+
+fn main(rt: HostRuntime) -> Result<()> {
+    ask_tables::<Part, _>(&rt, arguments(&rt)?.as_slice())
+}

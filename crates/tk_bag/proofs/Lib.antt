@@ -1,3 +1,0 @@
--- What the crates above cite in their proofs.
-pub mod Orders
-pub mod Owners

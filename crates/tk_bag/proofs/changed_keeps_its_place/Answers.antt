@@ -1,5 +1,0 @@
-use Rattle.tk_bag.proofs.Owners.{listed_changed}
-use Rattle.tk_bag.proofs.changed_keeps_its_place.Goals as goal
-
-pub returns : goal.returns
-returns g c = listed_changed

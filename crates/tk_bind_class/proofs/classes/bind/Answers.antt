@@ -1,8 +1,0 @@
-use Rattle.std.proofs.Common.{ap, ◌∙◌}
-use Rattle.tk_patterns.specs.Own.{own_of, without_tag}
-use Rattle.tk_bind_class.proofs.Kept.{with_binding_kept}
-use Rattle.tk_bind_class.proofs.classes.bind.Goals as goal
-
-pub returns-in-Ok-clause-kept : goal.returns-in-Ok-clause-kept
-returns-in-Ok-clause-kept c =
-    ap (without_tag c.args.class) c.in-Ok.ensures.ok ∙ with_binding_kept c.args.class c.args.sequence c.args.script (own_of c.args.slot c.args.bindings.now)

@@ -1,0 +1,4 @@
+-- Lemmas of the proofs.
+pub mod Drained
+pub mod Meanings
+pub mod Settled

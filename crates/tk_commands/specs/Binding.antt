@@ -1,0 +1,58 @@
+-- The commands `bind`, `bindtags`, `event` and `focus`, from the words behind their names.
+use Rattle.std.specs.Prelude.{ℕ, List, [], ◌∷◌, Option, Some, None, codes, if◌then◌else◌}
+use Rattle.std.specs.Str.{bytes_eq}
+use Rattle.tcl_text.specs.Answers.{Answer}
+use Rattle.tk_bind_commands.specs.Bind.{bind_words}
+use Rattle.tk_bind_commands.specs.Bindtags.{bindtags_words}
+use Rattle.tk_bind_commands.specs.Event.{event_words}
+use Rattle.tk_inputs.specs.Deliver.{Arrivals}
+use Rattle.tk_inputs.specs.Focus as focus
+use Rattle.tk_panel.specs.Panel.{Panel}
+use Rattle.tk_commands.specs.declared.binding.BindingCommand.{BindingCommand}
+use Rattle.tk_commands.specs.declared.binding.BindingCommand.TheVariants as command
+use Rattle.tk_commands.specs.Dispatch.{generate_told}
+use Rattle.tk_commands.specs.Outcomes.{Told, answered}
+use Rattle.tk_screen.specs.Own.{Own}
+
+abbrev pub bind_told : List (List ℕ) → Panel → Panel × Answer
+bind_told words panel =
+    (let there = bind_words panel.screen.tree words panel.bindings in (record panel { bindings = there.0 }, there.1))
+
+abbrev pub tags_told : List (List ℕ) → Own → Own × Answer
+tags_told words own = (let there = bindtags_words words own.tree in (record own { tree = there.0 }, there.1))
+
+abbrev pub bindtags_told : List (List ℕ) → Panel → Panel × Answer
+bindtags_told words panel = (let there = tags_told words panel.screen in (record panel { screen = there.0 }, there.1))
+
+-- add, delete, info
+abbrev pub virtual_told : List (List ℕ) → Panel → Panel × Answer
+virtual_told words panel = (let there = event_words words panel.virtuals in (record panel { virtuals = there.0 }, there.1))
+
+-- event generate .., or another form
+unfoldable pub event_told : List (List ℕ) → Panel → Told
+event_told [] panel = answered (virtual_told [] panel)
+event_told (name ∷ words) panel =
+    if bytes_eq name (codes "generate") then generate_told words panel else answered (virtual_told (name ∷ words) panel)
+
+abbrev pub arrivals_in : Panel → Arrivals
+arrivals_in panel = record { input = panel.input; queue = panel.queue }
+
+abbrev pub with_focus : Panel → focus.Told → Panel × Answer
+with_focus panel there = (record panel { input = there.arrivals.input; queue = there.arrivals.queue }, there.answer)
+
+abbrev pub focus_told : List (List ℕ) → Panel → Panel × Answer
+focus_told words panel = with_focus panel (focus.focus_words words panel.moment panel.screen.tree (arrivals_in panel))
+
+unfoldable pub binding_command_named : List ℕ → Option BindingCommand
+binding_command_named name =
+    if bytes_eq name (codes "bind") then Some command.Bind
+    else (if bytes_eq name (codes "bindtags") then Some command.Bindtags
+    else (if bytes_eq name (codes "event") then Some command.Event
+    else (if bytes_eq name (codes "focus") then Some command.Focus
+    else None)))
+
+unfoldable pub binding_command_done : BindingCommand → List (List ℕ) → Panel → Told
+binding_command_done command.Bind words panel = answered (bind_told words panel)
+binding_command_done command.Bindtags words panel = answered (bindtags_told words panel)
+binding_command_done command.Event words panel = event_told words panel
+binding_command_done command.Focus words panel = answered (focus_told words panel)

@@ -1,0 +1,44 @@
+-- The commands of an application, as its interpreter calls them.
+use Rattle.std.specs.Prelude.{ℕ, List, [], Ok, Err}
+use Rattle.tcl_text.specs.Answers.{Answer}
+use Rattle.tcl_vars.specs.Store.{Store}
+use Rattle.tcl_control.specs.declared.code.Code.TheVariants.{Normal, Error}
+use Rattle.tcl_interp.specs.declared.tasks.Act.{Act}
+use Rattle.tcl_interp.specs.declared.tasks.Act.TheVariants as act
+use Rattle.tcl_interp.specs.Outside.{Told}
+use Rattle.tcl_interp.specs.declared.job.Task.{Task}
+use Rattle.tcl_interp.specs.declared.job.Task.TheVariants.{Invoked}
+use Rattle.tcl_interp.specs.Tasks.{looked_told, told}
+use Rattle.tk_panel.specs.declared.job.Job.{Job}
+use Rattle.tk_panel.specs.Panel.{Panel}
+use Rattle.tk_commands.specs.declared.outcome.CommandOutcome.{CommandOutcome}
+use Rattle.tk_commands.specs.declared.outcome.CommandOutcome.TheVariants as outcome
+use Rattle.tk_commands.specs.Commands.{panel_command}
+use Rattle.tk_commands.specs.Outcomes.{Done as Came}
+use Rattle.tk_commands.specs.Course.{course}
+
+abbrev pub Does : Type 0
+Does = Told Panel (Task Job)
+
+-- ── jobs ──
+
+-- a command that begins a job goes on with it
+abbrev pub begun : Job → Panel → Store → Does
+begun job panel store = looked_told course panel store job
+
+-- ── commands ──
+
+abbrev pub answer_act : Answer → Act (Task Job)
+answer_act (Ok text) = act.Done Normal text
+answer_act (Err text) = act.Done Error text
+
+-- A script that a command runs ends as the command does, and so does a job that it begins.
+abbrev pub outcome_told : CommandOutcome → Panel → Store → Does
+outcome_told (outcome.Answers answer) panel store = told panel store (answer_act answer)
+outcome_told (outcome.Runs script) panel store = told panel store (act.Run script Invoked)
+outcome_told (outcome.Begins job) panel store = begun job panel store
+outcome_told outcome.Unknown panel store = told panel store act.Unknown
+
+-- what a command does, by its words, its name first
+unfoldable pub calls : Panel → Store → List (List ℕ) → Does
+calls panel store words = (let came : Came = panel_command words panel store in outcome_told came.outcome came.panel came.store)

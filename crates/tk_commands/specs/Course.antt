@@ -1,0 +1,67 @@
+-- The course of an application's jobs: what comes next of each, what that starts, and what the end of a script makes of it.
+use Rattle.std.specs.Prelude.{ℕ, List, [], Option, Some, None}
+use Rattle.tcl_vars.specs.Store.{Store}
+use Rattle.tcl_control.specs.declared.code.Code.{Code}
+use Rattle.tcl_control.specs.declared.code.Code.TheVariants.{Normal, Error, Return, Break, Continue}
+use Rattle.tcl_control.specs.Texts.{break_outside, continue_outside}
+use Rattle.tcl_interp.specs.declared.job.Looked.{Looked}
+use Rattle.tcl_interp.specs.declared.job.Looked.TheVariants.{Wants, Ends}
+use Rattle.tcl_interp.specs.declared.job.Started.{Started}
+use Rattle.tcl_interp.specs.Course.{Course}
+use Rattle.tk_panel.specs.declared.job.Job.{Job}
+use Rattle.tk_panel.specs.declared.job.Rest.{Rest}
+use Rattle.tk_panel.specs.declared.transcript.Stream.TheVariants.{Err as Errors}
+use Rattle.tk_panel.specs.Next.{next}
+use Rattle.tk_panel.specs.Panel.{Panel}
+use Rattle.tk_panel.specs.Reports.{with_line}
+use Rattle.tk_panel.specs.Settle.{Next}
+use Rattle.tk_panel.specs.Start.{alone, start}
+
+-- ── what comes next, and what it starts ──
+
+-- a job that has nothing more ends, with the empty text
+abbrev pub looked_of : Option Job → Looked Job
+looked_of (Some job) = Wants job
+looked_of None = Ends Normal []
+
+abbrev pub look : Panel → Store → Job → Panel × Looked Job
+look panel store job = (let there : Next = next job store panel in (there.0, looked_of there.1))
+
+abbrev pub started : Panel → Store → Job → Panel × Started Job
+started panel store job = (let there : Panel × (List ℕ × Job) = start job panel in (there.0, record { script = there.1.0; job = there.1.1 }))
+
+-- ── how a script has ended ──
+
+-- the scripts of an event that are still to run, and what comes behind them
+abbrev pub event_job : List (List ℕ) → Rest → Job
+event_job scripts rest = record { event = Some scripts; rest = rest }
+
+-- A bound script: continue goes on to the next one, break ends the event, and so does an error, which is told (bind(n)).
+abbrev pub bound_ended : Code → List ℕ → List (List ℕ) → Rest → Panel → Panel × Job
+bound_ended Normal text scripts rest panel = (panel, event_job scripts rest)
+bound_ended Error text scripts rest panel = (with_line Errors text panel, event_job [] rest)
+bound_ended (Return code) text scripts rest panel = (panel, event_job scripts rest)
+bound_ended Break text scripts rest panel = (panel, event_job [] rest)
+bound_ended Continue text scripts rest panel = (panel, event_job scripts rest)
+
+-- A timer, an idle script or the application's own: an error is told, and that a break or a continue has left it, which is one.
+abbrev pub with_end : Code → List ℕ → Panel → Panel
+with_end Normal text panel = panel
+with_end Error text panel = with_line Errors text panel
+with_end (Return code) text panel = panel
+with_end Break text panel = with_line Errors break_outside panel
+with_end Continue text panel = with_line Errors continue_outside panel
+
+abbrev pub ended_by : Option (List (List ℕ)) → Rest → Code → List ℕ → Panel → Panel × Job
+ended_by (Some scripts) rest code text panel = bound_ended code text scripts rest panel
+ended_by None rest code text panel = (with_end code text panel, alone rest)
+
+abbrev pub ended : Code → List ℕ → Panel → Job → Panel × Job
+ended code text panel job = ended_by job.event job.rest code text panel
+
+abbrev pub course : Course Panel Job
+course = record {
+  look = λ panel store job. look panel store job;
+  start = λ panel store job. started panel store job;
+  ended = λ code text panel job. ended code text panel job;
+}

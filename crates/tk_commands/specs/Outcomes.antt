@@ -1,0 +1,29 @@
+-- What a command leaves of its application, and what comes of it.
+use Rattle.tcl_text.specs.Answers.{Answer}
+use Rattle.tcl_vars.specs.Store.{Store}
+use Rattle.tk_panel.specs.Panel.{Panel}
+use Rattle.tk_commands.specs.declared.outcome.CommandOutcome.{CommandOutcome}
+use Rattle.tk_commands.specs.declared.outcome.CommandOutcome.TheVariants.{Answers}
+
+pub record Done : Type 0 where
+  pub panel : Panel
+  pub store : Store
+  pub outcome : CommandOutcome
+
+abbrev pub done : Panel → Store → CommandOutcome → Done
+done panel store outcome = record { panel = panel; store = store; outcome = outcome }
+
+-- the same of a command that has to do with no variables
+pub record Told : Type 0 where
+  pub panel : Panel
+  pub outcome : CommandOutcome
+
+abbrev pub with_store : Store → Told → Done
+with_store store told = record { panel = told.panel; store = store; outcome = told.outcome }
+
+abbrev pub told : Panel → CommandOutcome → Told
+told panel outcome = record { panel = panel; outcome = outcome }
+
+-- a command that answers
+abbrev pub answered : Panel × Answer → Told
+answered there = told there.0 (Answers there.1)

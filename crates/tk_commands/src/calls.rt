@@ -1,0 +1,82 @@
+//! The commands of an application, as its interpreter calls them.
+ghost use Rattle.std.specs.Prelude.{◌≡◌, ◌⊎◌, ℕ, Err, IfErr, IfOk, IsOk};
+ghost use Rattle.tcl_table.specs.Source.{script_of};
+ghost use Rattle.tk_panel.specs.Panel.{LeavesOthers, panel_of};
+ghost use Rattle.tk_commands.specs.Calls.{answer_act, calls, outcome_told};
+
+use crate::jobs::begin;
+use crate::{CommandOutcome, panel_command};
+use std::alloc::AllocError;
+use tcl_interp::{Act, Code, Task};
+use tcl_text::Text;
+use tcl_text::message::Answer;
+use tcl_vars::Scopes;
+use tcl_words::{ParseFault, Script};
+use tk_panel::{Job, Tables};
+
+/// The act of a command that answers.
+fn answer_act(answer: Answer) -> Act<Task<Job>>
+    ensures { result ≡ answer_act answer }
+{
+    match answer {
+        Ok(text) => Act::Done(Code::Normal, text),
+        Err(text) => Act::Done(Code::Error, text),
+    }
+}
+
+/// The act of a command that runs a script.
+fn invoke_act(script: Text) -> Act<Task<Job>>
+    ensures { result ≡ Act.Run script Task.Invoked }
+{
+    Act::Run {
+        script,
+        task: Task::Invoked,
+    }
+}
+
+/// What the interpreter does then.
+fn act_for(
+    tables: &mut Tables,
+    slot: usize,
+    scopes: &Scopes,
+    outcome: CommandOutcome,
+) -> Result<Act<Task<Job>>, AllocError>
+    ensures own { IfOk result (λ act. record { shows = panel_of slot tables.new; store = scopes.now; act = act }
+        ≡ outcome_told outcome (panel_of slot tables.old) scopes.now) }
+    ensures others { LeavesOthers slot tables.old tables.new }
+{
+    match outcome {
+        CommandOutcome::Answers(answer) => Ok(answer_act(answer)),
+        CommandOutcome::Runs(script) => Ok(invoke_act(script)),
+        CommandOutcome::Begins(job) => begin(tables, slot, scopes, job),
+        CommandOutcome::Unknown => Ok(Act::Unknown),
+    }
+}
+
+#[tactic(auto, unfolding(crate::specs::Calls::calls))]
+/// A command of an application, by its words, its name first: it answers, runs a script whose end is its own, or begins a job, whose end is its own.
+pub fn call(
+    tables: &mut Tables,
+    slot: usize,
+    scopes: &mut Scopes,
+    words: &[Text],
+) -> Result<Act<Task<Job>>, AllocError>
+    ensures own { IfOk result (λ act. record { shows = panel_of slot tables.new; store = scopes.new; act = act }
+        ≡ calls (panel_of slot tables.old) scopes.old words.now) }
+    ensures others { LeavesOthers slot tables.old tables.new }
+{
+    let outcome = panel_command(tables, slot, scopes, words)?;
+    act_for(tables, slot, scopes, outcome)
+}
+
+/// The commands of a script's text (Tcl(n)), or its fault (4 to 10): what was read last for any application isn't read again.
+#[tactic(auto, using(tcl_table::proofs::SourceLemmas::script_walk))]
+pub fn parsed(tables: &mut Tables, text: &Text) -> Result<Script, ParseFault>
+    ensures text { IfOk result (λ script. script ≡ text.now) }
+    ensures ok { IfOk result (λ _. IsOk (script_of text.now)) }
+    ensures fault { IfErr result (λ fault. (script_of text.now ≡ Err fault) ⊎ (fault ≡ ParseFault.NoMemory)) }
+    ensures panels { (slot : ℕ) → panel_of slot tables.new ≡ panel_of slot tables.old }
+    ensures others { (slot : ℕ) → LeavesOthers slot tables.old tables.new }
+{
+    tables.scripts.parsed(text)
+}

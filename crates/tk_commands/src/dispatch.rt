@@ -1,0 +1,137 @@
+//! Events that commands dispatch at once, or queue.
+ghost use Rattle.std.specs.Prelude.{◌≡◌, IfOk, codes};
+ghost use Rattle.tk_panel.specs.Panel.{LeavesOthers, panel_of};
+ghost use Rattle.tk_commands.specs.Dispatch as spec;
+ghost use Rattle.tk_commands.specs.Outcomes.{told};
+ghost use Rattle.tk_tree.specs.Own as windows_of;
+
+use crate::outcome::CommandOutcome;
+use std::alloc::{AllocError, Global};
+use tcl_text::Text;
+use tcl_text::message::short_text;
+use tk_base::Win;
+use tk_events::{Event, EventKind};
+use tk_generate::{Generated, When, generate_command};
+use tk_panel::{Job, Rest, Tables, choose};
+use tk_sequences::VirtualName;
+use tk_tree::Windows;
+
+/// An event comes at once: its scripts are chosen, and the command ends when they have run.
+pub fn dispatch(
+    tables: &mut Tables,
+    slot: usize,
+    event: Event,
+) -> Result<CommandOutcome, AllocError>
+    ensures own { IfOk result (λ outcome. told (panel_of slot tables.new) outcome ≡ spec.dispatched event (panel_of slot tables.old)) }
+    ensures others { LeavesOthers slot tables.old tables.new }
+{
+    let scripts = choose(tables, slot, event)?;
+    Ok(CommandOutcome::Begins(Job {
+        event: Some(scripts),
+        rest: Rest::Ends,
+    }))
+}
+
+/// `event generate` (event(n)), with the words behind `generate`.
+#[tactic(auto, unfolding(crate::specs::Dispatch::generate_told))]
+pub fn generate(
+    tables: &mut Tables,
+    slot: usize,
+    words: &[Text],
+) -> Result<CommandOutcome, AllocError>
+    ensures own { IfOk result (λ outcome. told (panel_of slot tables.new) outcome ≡ spec.generate_told words.now (panel_of slot tables.old)) }
+    ensures others { LeavesOthers slot tables.old tables.new }
+{
+    let answer = generate_command(
+        tables.alloc,
+        &tables.screen.shown().windows,
+        slot,
+        tables.inputs.focus(slot),
+        tables.queue.count(slot),
+        tables.clock.moment(),
+        words,
+    )?;
+    match answer {
+        Ok(generated) => arrive(tables, slot, generated),
+        Err(text) => Ok(CommandOutcome::Answers(Err(text))),
+    }
+}
+
+/// A generated event comes at once, or waits behind all others or before them.
+fn arrive(
+    tables: &mut Tables,
+    slot: usize,
+    generated: Generated,
+) -> Result<CommandOutcome, AllocError>
+    ensures own { IfOk result (λ outcome. told (panel_of slot tables.new) outcome
+        ≡ spec.arrived generated.when generated.event (panel_of slot tables.old)) }
+    ensures others { LeavesOthers slot tables.old tables.new }
+{
+    let Generated { event, when } = generated;
+    let nothing = Text::empty();
+    match when {
+        When::Now => dispatch(tables, slot, event),
+        When::Tail => {
+            tables.queue.push_tail(slot, event)?;
+            Ok(CommandOutcome::Answers(Ok(nothing)))
+        }
+        When::Head => {
+            tables.queue.push_head(slot, event)?;
+            Ok(CommandOutcome::Answers(Ok(nothing)))
+        }
+    }
+}
+
+/// `<<ListboxSelect>>` comes at once to the listbox with a number (listbox(n)).
+pub fn dispatch_selection(
+    tables: &mut Tables,
+    slot: usize,
+    number: u64,
+) -> Result<CommandOutcome, AllocError>
+    ensures own { IfOk result (λ outcome. told (panel_of slot tables.new) outcome ≡ spec.selection_told number (panel_of slot tables.old)) }
+    ensures others { LeavesOthers slot tables.old tables.new }
+{
+    let moment = tables.clock.moment();
+    match selection_event(
+        tables.alloc,
+        &tables.screen.shown().windows,
+        slot,
+        number,
+        moment,
+    )? {
+        Some(event) => dispatch(tables, slot, event),
+        None => Ok(CommandOutcome::Answers(Ok(Text::empty()))),
+    }
+}
+
+/// The event `<<ListboxSelect>>` of a window, if it is there.
+fn selection_event(
+    alloc: Global,
+    windows: &Windows,
+    slot: usize,
+    number: u64,
+    moment: u64,
+) -> Result<Option<Event>, AllocError>
+    ensures { IfOk result (λ event. event ≡ spec.selection_of moment (windows_of.window_at number (windows_of.own_of slot windows.now))) }
+{
+    let Some(window) = windows.window(Win {
+        owner: slot,
+        number,
+    }) else {
+        return Ok(None);
+    };
+    let kind = EventKind::Virtual(selection_name(alloc)?);
+    Ok(Some(Event::new(kind, window.number, window.path.copy()?, moment)))
+}
+
+/// The name of the event of a listbox that has another selection.
+#[tactic(auto, unfolding(tk_sequences::specs::Reading::name_in))]
+fn selection_name(alloc: Global) -> Result<VirtualName, AllocError>
+    ensures { IfOk result (λ name. name ≡ codes "ListboxSelect") }
+{
+    let text = short_text(alloc, "<<ListboxSelect>>")?;
+    match VirtualName::parse(alloc, &text)? {
+        Some(name) => Ok(name),
+        None => Err(AllocError),
+    }
+}

@@ -1,0 +1,60 @@
+//! The commands of windows.
+ghost use Rattle.std.specs.Prelude.{◌≡◌, IfOk};
+ghost use Rattle.tk_panel.specs.Panel.{LeavesOthers, panel_of};
+ghost use Rattle.tk_commands.specs.Outcomes.{done};
+ghost use Rattle.tk_commands.specs.Path as spec;
+ghost use Rattle.tk_screen.specs.Own as screens;
+ghost use Rattle.tk_window_commands.specs.Path as path_of;
+
+use crate::outcome::CommandOutcome;
+use std::alloc::{AllocError, Global};
+use tcl_text::Text;
+use tcl_vars::Scopes;
+use tk_panel::Tables;
+use tk_screen::MarkedScreen;
+use tk_widgets::WidgetAct;
+
+/// A window's own command, `path ..`, from its path and the words behind it; there is none where the path names no window.
+pub fn path_command(
+    tables: &mut Tables,
+    slot: usize,
+    scopes: &mut Scopes,
+    path: &Text,
+    words: &[Text],
+) -> Result<CommandOutcome, AllocError>
+    ensures own { IfOk result (λ outcome. done (panel_of slot tables.new) scopes.new outcome
+        ≡ spec.path_told path.now words.now (panel_of slot tables.old) scopes.old) }
+    ensures others { LeavesOthers slot tables.old tables.new }
+{
+    let act = act_of(tables.alloc, &mut tables.screen, scopes, slot, path, words)?;
+    Ok(outcome_of(act))
+}
+
+/// What the window's widget tells.
+fn act_of(
+    alloc: Global,
+    marked: &mut MarkedScreen,
+    scopes: &mut Scopes,
+    slot: usize,
+    path: &Text,
+    words: &[Text],
+) -> Result<Option<WidgetAct>, AllocError>
+    ensures own { IfOk result (λ act. record { own = screens.own_of slot marked.new; store = scopes.new; act = act }
+        ≡ path_of.path_words path.now words.now (screens.own_of slot marked.old) scopes.old) }
+    ensures others { screens.LeavesOthers slot marked.old marked.new }
+{
+    marked.marks.forget(slot);
+    tk_window_commands::path_command(alloc, &mut marked.screen, scopes, slot, path, words)
+}
+
+/// What comes of it.
+fn outcome_of(act: Option<WidgetAct>) -> CommandOutcome
+    ensures { result ≡ spec.outcome_of act }
+{
+    match act {
+        Some(WidgetAct::Answer(text)) => CommandOutcome::Answers(Ok(text)),
+        Some(WidgetAct::Script(script)) => CommandOutcome::Runs(script),
+        Some(WidgetAct::Fault(text)) => CommandOutcome::Answers(Err(text)),
+        None => CommandOutcome::Unknown,
+    }
+}

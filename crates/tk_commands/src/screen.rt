@@ -1,0 +1,134 @@
+//! The commands on windows: those that make them, `winfo`, `wm` and `pack`.
+ghost use Rattle.std.specs.Prelude.{◌≡◌, IfOk};
+ghost use Rattle.tk_panel.specs.Panel.{LeavesOthers, panel_of};
+ghost use Rattle.tk_commands.specs.Outcomes.{done};
+ghost use Rattle.tk_commands.specs.Screen as spec;
+ghost use Rattle.tk_screen.specs.Own as screens;
+ghost use Rattle.tk_window_commands.specs.Commands as windows_of;
+
+use crate::outcome::CommandOutcome;
+use std::alloc::{AllocError, Global};
+use tcl_text::Text;
+use tcl_text::message::Answer;
+use tcl_vars::Scopes;
+use tk_panel::Tables;
+use tk_screen::{MarkedScreen, Screen};
+use tk_window_commands::{WindowCommand, window_command_done, window_command_named, winfo_command};
+
+/// A command on what is on the screen.
+#[derive(Clone, Copy, Debug, PartialEq, Eq)]
+pub enum ScreenCommand {
+    Window(WindowCommand),
+    Pack,
+}
+
+/// The one of a name.
+#[tactic(auto, unfolding(crate::specs::Screen::screen_command_named))]
+pub fn screen_command_named(name: &str) -> Option<ScreenCommand>
+    ensures { result ≡ spec.screen_command_named name.now }
+{
+    if name == "pack" {
+        return Some(ScreenCommand::Pack);
+    }
+    match window_command_named(name) {
+        Some(command) => Some(ScreenCommand::Window(command)),
+        None => None,
+    }
+}
+
+/// What one does, from the words behind its name.
+#[tactic(auto, unfolding(crate::specs::Screen::screen_command_done))]
+pub fn screen_command_done(
+    tables: &mut Tables,
+    slot: usize,
+    scopes: &mut Scopes,
+    command: ScreenCommand,
+    words: &[Text],
+) -> Result<CommandOutcome, AllocError>
+    ensures own { IfOk result (λ outcome. done (panel_of slot tables.new) scopes.new outcome
+        ≡ spec.screen_command_done command words.now (panel_of slot tables.old) scopes.old) }
+    ensures others { LeavesOthers slot tables.old tables.new }
+{
+    match command {
+        ScreenCommand::Window(command) => {
+            let answer = window_command(
+                tables.alloc,
+                &mut tables.screen,
+                scopes,
+                slot,
+                command,
+                words,
+            )?;
+            Ok(CommandOutcome::Answers(answer))
+        }
+        ScreenCommand::Pack => {
+            let answer = pack(tables.alloc, &mut tables.screen, slot, words)?;
+            Ok(CommandOutcome::Answers(answer))
+        }
+    }
+}
+
+/// A command that makes a window, or `winfo` or `wm`; `winfo` changes nothing.
+#[tactic(auto, unfolding(tk_window_commands::specs::Commands::window_command_done))]
+fn window_command(
+    alloc: Global,
+    marked: &mut MarkedScreen,
+    scopes: &mut Scopes,
+    slot: usize,
+    command: WindowCommand,
+    words: &[Text],
+) -> Result<Answer, AllocError>
+    ensures own { IfOk result (λ answer. record { own = screens.own_of slot marked.new; store = scopes.new; answer = answer }
+        ≡ windows_of.window_command_done command words.now (screens.own_of slot marked.old) scopes.old) }
+    ensures others { screens.LeavesOthers slot marked.old marked.new }
+{
+    match command {
+        WindowCommand::Winfo => winfo_command(alloc, marked.shown(), scopes, slot, words),
+        WindowCommand::Make(_) | WindowCommand::Wm => {
+            changing_command(alloc, marked, scopes, slot, command, words)
+        }
+    }
+}
+
+/// One that may change something.
+fn changing_command(
+    alloc: Global,
+    marked: &mut MarkedScreen,
+    scopes: &mut Scopes,
+    slot: usize,
+    command: WindowCommand,
+    words: &[Text],
+) -> Result<Answer, AllocError>
+    ensures own { IfOk result (λ answer. record { own = screens.own_of slot marked.new; store = scopes.new; answer = answer }
+        ≡ windows_of.window_command_done command words.now (screens.own_of slot marked.old) scopes.old) }
+    ensures others { screens.LeavesOthers slot marked.old marked.new }
+{
+    marked.marks.forget(slot);
+    window_command_done(alloc, &mut marked.screen, scopes, slot, command, words)
+}
+
+/// The command `pack` (pack(n)).
+fn pack(
+    alloc: Global,
+    marked: &mut MarkedScreen,
+    slot: usize,
+    words: &[Text],
+) -> Result<Answer, AllocError>
+    ensures own { IfOk result (λ answer. (screens.own_of slot marked.new, answer) ≡ spec.pack_told words.now (screens.own_of slot marked.old)) }
+    ensures others { screens.LeavesOthers slot marked.old marked.new }
+{
+    marked.marks.forget(slot);
+    pack_windows(alloc, &mut marked.screen, slot, words)
+}
+
+fn pack_windows(
+    alloc: Global,
+    screen: &mut Screen,
+    slot: usize,
+    words: &[Text],
+) -> Result<Answer, AllocError>
+    ensures own { IfOk result (λ answer. (screens.own_of slot screen.new, answer) ≡ spec.pack_told words.now (screens.own_of slot screen.old)) }
+    ensures others { screens.LeavesOthers slot screen.old screen.new }
+{
+    tk_pack_commands::pack_command(alloc, &screen.windows, &mut screen.packs, slot, words)
+}

@@ -1,0 +1,106 @@
+-- A script with the fields of an event put in where `%` and a character stand for them.
+use Rattle.std.specs.Prelude.{ℕ, ℤ, Bool, true, false, ◌==◌, if◌then◌else◌, List, [], ◌∷◌, ◌++◌, Option, Some, None, option_map, encode_utf8, codes}
+use Rattle.std.specs.Fmt.{decimal, signed_decimal}
+use Rattle.tcl_text.specs.Readings.{list_form}
+use Rattle.tk_events.specs.declared.event.Event.{Event}
+use Rattle.tk_events.specs.declared.event.EventKind.{EventKind}
+use Rattle.tk_events.specs.declared.event.EventKind.TheVariants.{Physical, Virtual}
+use Rattle.tk_keys.specs.Names.{name_of, character_of}
+use Rattle.tk_dispatch.specs.declared.field.Field.{Field}
+use Rattle.tk_dispatch.specs.declared.field.Field.TheVariants.{Path, TypeNumber, Moment, State, X, Y, RootX, RootY, Button, Key, KeyText, Width, Height, Detail}
+use Rattle.tk_sequences.specs.Types.{type_number}
+
+-- a text as an element of a list
+abbrev pub element : List ℕ → List ℕ
+element text = list_form (text ∷ [])
+
+-- ---- the fields
+
+-- two question marks for what an event lacks
+abbrev pub or_lacking : Option (List ℕ) → List ℕ
+or_lacking (Some text) = text
+or_lacking None = codes "??"
+
+abbrev pub text_shown : Option (List ℕ) → List ℕ
+text_shown text = or_lacking (option_map element text)
+
+abbrev pub number_shown : Option ℕ → List ℕ
+number_shown number = or_lacking (option_map decimal number)
+
+abbrev pub place_shown : Option ℤ → List ℕ
+place_shown number = or_lacking (option_map signed_decimal number)
+
+-- the number of an event's type; virtual events have none
+abbrev pub number_of_kind : EventKind → Option ℕ
+number_of_kind (Physical kind) = Some (type_number kind)
+number_of_kind (Virtual name) = None
+
+-- what a key types: one character, or nothing
+abbrev pub typed_by : Option ℕ → List ℕ
+typed_by (Some character) = encode_utf8 character
+typed_by None = []
+
+abbrev pub key_text : ℕ → List ℕ
+key_text key = typed_by (character_of key)
+
+-- the characters that stand for fields
+abbrev pub field_characters : List (ℕ × Field)
+field_characters =
+    (87, Path)
+    ∷ (84, TypeNumber)
+    ∷ (116, Moment)
+    ∷ (115, State)
+    ∷ (120, X)
+    ∷ (121, Y)
+    ∷ (88, RootX)
+    ∷ (89, RootY)
+    ∷ (98, Button)
+    ∷ (75, Key)
+    ∷ (65, KeyText)
+    ∷ (119, Width)
+    ∷ (104, Height)
+    ∷ (100, Detail)
+    ∷ []
+
+abbrev pub field_among : ℕ → List (ℕ × Field) → Option Field
+field_among character [] = None
+field_among character (entry ∷ entries) = if character == entry.0 then Some entry.1 else field_among character entries
+
+abbrev pub field_named : ℕ → Option Field
+field_named character = field_among character field_characters
+
+abbrev pub field_shown : Event → Field → List ℕ
+field_shown event Path = element event.path
+field_shown event TypeNumber = number_shown (number_of_kind event.kind)
+field_shown event Moment = decimal event.moment
+field_shown event State = number_shown event.state
+field_shown event X = place_shown event.x
+field_shown event Y = place_shown event.y
+field_shown event RootX = place_shown event.root_x
+field_shown event RootY = place_shown event.root_y
+field_shown event Button = number_shown event.button
+field_shown event Key = text_shown (option_map name_of event.key)
+field_shown event KeyText = text_shown (option_map key_text event.key)
+field_shown event Width = number_shown event.width
+field_shown event Height = number_shown event.height
+field_shown event Detail = text_shown event.detail
+
+-- what `%` and a character stand for: a field, or the character where it stands for none, as `%%` does
+abbrev pub shown_or_itself : Event → ℕ → Option Field → List ℕ
+shown_or_itself event character (Some field) = field_shown event field
+shown_or_itself event character None = character ∷ []
+
+unfoldable pub replacement : Event → ℕ → List ℕ
+replacement event character = shown_or_itself event character (field_named character)
+
+-- ---- the script
+
+-- the script from a byte on, which may stand behind a `%`; a `%` at the end stays
+abbrev pub substituted_from : Event → Bool → List ℕ → List ℕ
+substituted_from event false [] = []
+substituted_from event true [] = codes "%"
+substituted_from event false (byte ∷ bytes) = if byte == 37 then substituted_from event true bytes else byte ∷ substituted_from event false bytes
+substituted_from event true (byte ∷ bytes) = replacement event byte ++ substituted_from event false bytes
+
+unfoldable pub substituted : Event → List ℕ → List ℕ
+substituted event script = substituted_from event false script

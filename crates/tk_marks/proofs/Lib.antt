@@ -1,3 +1,0 @@
--- Lemmas.
-pub mod SameTexts
-pub mod Settled

@@ -1,4 +1,0 @@
--- What the contracts cite.
-pub mod Marks
-pub mod Reads
-pub mod Settled

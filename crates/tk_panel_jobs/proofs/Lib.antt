@@ -1,4 +1,0 @@
--- What the proofs share.
-pub mod Drained
-pub mod Meanings
-pub mod Settled

@@ -1,4 +1,0 @@
-pub mod Inside
-pub mod Packing
-pub mod Rest
-pub mod Shares

@@ -1,4 +1,0 @@
--- What the contracts cite.
-pub mod Ask
-pub mod Layout
-pub mod Loops

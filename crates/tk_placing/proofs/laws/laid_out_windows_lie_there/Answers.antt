@@ -1,5 +1,0 @@
-use Rattle.tk_placing.proofs.Laid.{all_laid}
-use Rattle.tk_placing.proofs.laws.laid_out_windows_lie_there.Goals as goal
-
-pub returns : goal.returns
-returns c = all_laid

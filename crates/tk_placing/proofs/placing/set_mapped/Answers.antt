@@ -1,8 +1,0 @@
-use Rattle.tk_tree.specs.Own.{own_of, window_at}
-use Rattle.tk_placing.proofs.Placed.{mapped_by}
-use Rattle.tk_placing.proofs.placing.set_mapped.Goals as goal
-
-pub returns-clause-own : goal.returns-clause-own
-returns-clause-own c =
-    let own = own_of c.args.win.owner c.args.windows.now in
-    mapped_by c.args.win.number c.args.mapped c.place.result (window_at c.args.win.number own) own _ c.requires c.place.ensures c.set_place.ensures.own

@@ -1,5 +1,0 @@
-use Rattle.std.proofs.Common.{length}
-use Rattle.tk_pointer.proofs.borders.+crossings.Given as goal
-
-abbrev pub decreases-crossings : goal.decreases-crossings
-decreases-crossings l = length l.from.now

@@ -1,5 +1,0 @@
-use Rattle.tk_sequence_laws.proofs.ReadBack.{forms_differ}
-use Rattle.tk_sequence_laws.proofs.laws.canonical_forms_differ.Goals as goal
-
-pub returns : goal.returns
-returns c = forms_differ

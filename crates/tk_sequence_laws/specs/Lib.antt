@@ -1,3 +1,0 @@
--- What the laws cite.
-pub mod Grammar
-pub mod Laws

@@ -1,5 +1,0 @@
-use Rattle.tk_turns.proofs.Rounds.{turns_step}
-use Rattle.tk_turns.proofs.laws.first_round_and_the_rest.Goals as goal
-
-pub returns : goal.returns
-returns c = turns_step

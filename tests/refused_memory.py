@@ -1,0 +1,96 @@
+#!/usr/bin/env python3
+"""refused_memory.py: refuses requests for memory, one in each run, until a run meets no refusal: each of the first 250, and of those behind them
+fewer and fewer, so that a session that asks ten thousand times is run some eleven hundred times.
+
+The programs are those that the gate left in crates/NAME/out. A session whose run is refused memory must end with status 4, its line on standard error, and nothing written, or else
+write what is stored (the standard library's `collect` asks first for room that it can do without); one that isn't refused memory must
+write what is stored. A table that is refused memory may pass, or else has to tell of the want of memory: no other answer may change."""
+import concurrent.futures, os, signal, subprocess, sys, tempfile
+from programs import CRATES, EXAMPLES, HOST, TABLES_OF_HOSTS, TABLES_OF_TCL, TABLES_OF_TK, TOP, built
+
+# These sessions ask for memory more than ten thousand times, by the same calls as others.
+LONG = {"conditions-by-expressions", "limit-of-procedures", "nested-too-deep"}
+# Tables, and the program that reads each.
+TABLES = {**dict.fromkeys(("commands/few", "expressions/few", "runs/few", "scripts/few"), TABLES_OF_TCL), "timers": TABLES_OF_TK, "calls": TABLES_OF_HOSTS}
+
+
+def requests():
+    """The numbers of the requests that are refused."""
+    number = 1
+    while number < 1 << 20:
+        yield number
+        number += 1 + number // 250
+
+
+def run(words, number, library, stdin=b"", folder=None):
+    """A run in which one request is refused: its exit status and what it wrote on both streams, and whether the refusal was met."""
+    # (files and posix_spawn: tens of thousands of short runs, where pipes and a fork of this process would take most of the time)
+    with tempfile.TemporaryFile() as given, tempfile.TemporaryFile() as out, tempfile.TemporaryFile() as err, tempfile.TemporaryFile() as met:
+        given.write(stdin)
+        given.flush()
+        given.seek(0)
+        os.chdir(folder or TOP)
+        streams = [(os.POSIX_SPAWN_DUP2, file.fileno(), at) for file, at in ((given, 0), (out, 1), (err, 2), (met, 9))]
+        process = os.posix_spawn(words[0], words, {"LD_PRELOAD": library, "REFUSE": str(number)}, file_actions=streams)
+        signal.signal(signal.SIGALRM, lambda *_: os.kill(process, signal.SIGKILL))
+        signal.alarm(60)
+        status = os.waitstatus_to_exitcode(os.waitpid(process, 0)[1])
+        signal.alarm(0)
+        out.seek(0)
+        err.seek(0)
+        return (status, out.read(), err.read()), met.seek(0, os.SEEK_END) > 0
+
+
+def session_faults(program, library, session):
+    """What is wrong with the runs of a session, and how many met a refusal."""
+    text, expected = session.read_bytes(), session.with_suffix(".expected")
+    wanted = (0, expected.read_bytes(), b"")
+    if not expected.exists():
+        return [], 0
+    for number in requests():
+        got, met = run([program], number, library, text)
+        if not met:
+            return ([] if got == wanted else [f"{session.stem}: without a refusal {got}"]), number - 1
+        if got not in ((4, b"", b"tkhost: out of memory\n"), wanted):
+            return [f"{session.stem}: with request {number} refused {got}"], number
+    return [f"{session.stem}: no end"], number
+
+
+def tells_of_memory(said):
+    return any(word in said for word in ("out of memory", "memory was refused", "NoMemory", "AllocError", "AllocFailed", "allocation"))
+
+
+def table_faults(program, library, table):
+    """What is wrong with the runs of a table, and how many met a refusal."""
+    for number in requests():
+        (status, out, err), met = run([program, table], number, library, folder=CRATES / program.name / "data")
+        said = (out + err).decode(errors="replace")
+        if not met:
+            return ([f"{table}: without a refusal {said}"] if status else []), number - 1
+        if status and not tells_of_memory(said):
+            return [f"{table}: with request {number} refused: {said}"], number
+    return [f"{table}: no end"], number
+
+
+def main():
+    if len(sys.argv) != 1:
+        sys.exit(__doc__)
+    failed = 0
+    with tempfile.TemporaryDirectory() as folder:
+        library = f"{folder}/refusing.so"
+        subprocess.run(["gcc", "-shared", "-fPIC", "-O1", "-o", library, TOP / "tests" / "refusing.c", "-ldl"], check=True)
+        runs = [(s.stem, session_faults, built(HOST), s) for s in sorted(EXAMPLES.rglob("*.session"))
+                if s.with_suffix(".expected").exists() and s.stem not in LONG]
+        runs += [(table, table_faults, built(name), table) for table, name in TABLES.items()]
+        with concurrent.futures.ProcessPoolExecutor(len(os.sched_getaffinity(0))) as pool:
+            jobs = [(name, pool.submit(faults, program, library, *rest)) for name, faults, program, *rest in runs]
+            jobs = [(name, job.result()) for name, job in jobs]
+    for name, (faults, refusals) in jobs:
+        failed += bool(faults)
+        print(f"{name}: {refusals} refusals" + "".join(f"\n  {f}" for f in faults))
+    print(f"refused memory: {len(jobs) - failed} passed, {failed} failed")
+    return 1 if failed else 0
+
+
+if __name__ == "__main__":
+    sys.exit(main())

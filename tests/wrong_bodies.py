@@ -16,7 +16,8 @@ bodies are laid in together, those of one function in rounds of their own. One c
 function, in its own lines, that what it ensures isn't proved; any other is tried alone by `rt must-fail`.
 
 --gate runs `rt ci` in the tree itself, with the wrong bodies that are due laid where rt looks for them, crates/NAME/must-fail, so that rt
-tries each from nothing. They are taken away when it ends, however it ends. The crate on which most others stand is proved before, alone, so that all
+tries each from nothing. They are taken away when it ends, however it ends. Where more than 150 are due, as after a change of a crate on which all
+others stand, they would take hours: the gate then tries none, says how many are due, and they are tried by this program without a flag. The crate on which most others stand is proved before, alone, so that all
 processors work at it. How far it is, progress.py shows; the log is out/gate.log."""
 import collections, concurrent.futures, fcntl, hashlib, os, pathlib, re, resource, shutil, signal, subprocess, sys, tempfile, threading, time
 from programs import TOP, below, crates_lines
@@ -24,6 +25,8 @@ from progress import Progress
 
 LEDGER = TOP / "tests" / "wrong_bodies.tried"
 PARTS = ("src", "specs", "proofs")
+# How many wrong bodies the gate tries at most: one takes up to a minute of one processor.
+MOST_AT_GATE = 150
 # What a check reports of a function at fault; that it rests on another one that is at fault says nothing of its own body.
 AT_FAULT = re.compile(r"^fn (\S+): (?!proved)(?!no proof: it calls )(?!not proved: it calls )", re.M)
 PLACE = re.compile(r"^note: (src/\S+?):(\d+):\d+: it is not proved", re.M)
@@ -400,6 +403,10 @@ def main():
         print("".join(f"{it}\n" for it in due), end="")
         return 0
     if "--gate" in flags:
+        count = sum(len(bodies_of(it)) for it in due)
+        if count > MOST_AT_GATE:
+            say(f"{count} wrong bodies of {len(due)} crates are due, more than the gate tries: tests/wrong_bodies.py tries them")
+            due = []
         return gate(due, lines, by)
     if not due:
         print("no wrong bodies are due")

@@ -1,5 +1,6 @@
 #!/usr/bin/env python3
-"""readings.py [TABLE]: the program tells of texts what the table tests/readings.table says: whether they are sessions, and what is wrong with them.
+"""readings.py [TABLE ..]: the program tells of texts what the tables tests/readings.table and tests/limits.table say: whether they are sessions, and
+what is wrong with them.
 
 A table has the form that the library `tables` tells. A question `session TEXT` gives a session; in its text `\\xHH` stands for a byte that is no
 character, and for the backslash, and `\\*N*TEXT` for the text up to the next backslash N times. Those behind it ask the program: `plays` what it
@@ -82,14 +83,18 @@ def blocks(table):
 
 
 def main():
-    table = pathlib.Path(sys.argv[1]) if sys.argv[1:] else TOP / "tests" / "readings.table"
+    tables = [pathlib.Path(it) for it in sys.argv[1:]] or [TOP / "tests" / name for name in ("readings.table", "limits.table")]
+    all_answers = all_wrong = 0
     with concurrent.futures.ProcessPoolExecutor(len(os.sched_getaffinity(0))) as pool:
-        answered = list(pool.map(told, blocks(table)))
-    failed = [line for lines, _ in answered for line in lines]
-    for line in failed:
-        print("%s:%s" % (table.name, line))
-    print("%d answers, %d wrong" % (sum(count for _, count in answered), len(failed)))
-    return 1 if failed or not any(count for _, count in answered) else 0
+        for table in tables:
+            answered = list(pool.map(told, blocks(table)))
+            wrong = [line for lines, _ in answered for line in lines]
+            for line in wrong:
+                print("%s:%s" % (table.name, line))
+            all_answers += sum(count for _, count in answered)
+            all_wrong += len(wrong) or not answered
+    print("%d answers, %d wrong" % (all_answers, all_wrong))
+    return 1 if all_wrong else 0
 
 
 if __name__ == "__main__":

@@ -1,25 +1,36 @@
 #!/usr/bin/env python3
-"""refused_memory.py: refuses requests for memory, one in each run, until a run meets no refusal: each of the first 250, and of those behind them
-fewer and fewer, so that a session that asks ten thousand times is run some eleven hundred times.
+"""refused_memory.py [--whole]: refuses requests for memory, one in each run, until a run meets no refusal: each of the first 250, and of those behind
+them fewer and fewer, so that a session that asks ten thousand times is run some eleven hundred times. --whole refuses each in turn, of ten sessions with
+all kinds of calls and of all tables, which takes a quarter of an hour of four processors.
 
 The programs are those that the gate left in crates/NAME/out. A session whose run is refused memory must end with status 4, its line on standard error, and nothing written, or else
 write what is stored (the standard library's `collect` asks first for room that it can do without); one that isn't refused memory must
-write what is stored. A table that is refused memory may pass, or else has to tell of the want of memory: no other answer may change."""
-import concurrent.futures, os, signal, subprocess, sys, tempfile
+write what is stored. A program of tables asks a question that failed once more: what a call that was refused memory was put to is as it was, so the
+answer and all behind it are those of the table. Where the program itself wanted the memory, for a question or an answer, it tells so and ends."""
+import concurrent.futures, os, re, signal, subprocess, sys, tempfile
 from programs import CRATES, EXAMPLES, HOST, TABLES_OF_HOSTS, TABLES_OF_TCL, TABLES_OF_TK, TOP, built
 
 # These sessions ask for memory more than ten thousand times, by the same calls as others.
 LONG = {"conditions-by-expressions", "limit-of-procedures", "nested-too-deep"}
+# Sessions with all kinds of calls: scripts, windows, bindings, timers, events of each kind, destruction, aliases.
+ALL_KINDS = ("hello-and-bye", "two-buttons", "three-frames", "destroy-in-destroy", "timer-before-key", "nested-generate", "alias-per-app",
+             "press-and-drag-off", "entry-typing", "listbox-click")
 # Tables, and the program that reads each.
-TABLES = {**dict.fromkeys(("commands/few", "expressions/few", "runs/few", "scripts/few"), TABLES_OF_TCL), "timers": TABLES_OF_TK, "calls": TABLES_OF_HOSTS}
+TABLES = {
+    **dict.fromkeys(("commands/few", "expressions/few", "runs/few", "scripts/few", "slices"), TABLES_OF_TCL),
+    **dict.fromkeys(("bindings/few", "dispatch/few", "options", "services/few", "timers", "virtuals", "windows/packings/few", "windows/trees/few"), TABLES_OF_TK),
+    "calls": TABLES_OF_HOSTS,
+}
+# How a program of tables counts the answers of one, where none is wrong.
+COUNTED = re.compile(r"\S+: \d+ answers, 0 wrong(, 1 asked again)?\n")
 
 
-def requests():
+def requests(whole):
     """The numbers of the requests that are refused."""
     number = 1
     while number < 1 << 20:
         yield number
-        number += 1 + number // 250
+        number += 1 if whole else 1 + number // 250
 
 
 def run(words, number, library, stdin=b"", folder=None):
@@ -41,13 +52,13 @@ def run(words, number, library, stdin=b"", folder=None):
         return (status, out.read(), err.read()), met.seek(0, os.SEEK_END) > 0
 
 
-def session_faults(program, library, session):
+def session_faults(program, library, whole, session):
     """What is wrong with the runs of a session, and how many met a refusal."""
     text, expected = session.read_bytes(), session.with_suffix(".expected")
     wanted = (0, expected.read_bytes(), b"")
     if not expected.exists():
         return [], 0
-    for number in requests():
+    for number in requests(whole):
         got, met = run([program], number, library, text)
         if not met:
             return ([] if got == wanted else [f"{session.stem}: without a refusal {got}"]), number - 1
@@ -60,30 +71,31 @@ def tells_of_memory(said):
     return any(word in said for word in ("out of memory", "memory was refused", "NoMemory", "AllocError", "AllocFailed", "allocation"))
 
 
-def table_faults(program, library, table):
+def table_faults(program, library, whole, table):
     """What is wrong with the runs of a table, and how many met a refusal."""
-    for number in requests():
+    for number in requests(whole):
         (status, out, err), met = run([program, table], number, library, folder=CRATES / program.name / "data")
         said = (out + err).decode(errors="replace")
         if not met:
-            return ([f"{table}: without a refusal {said}"] if status else []), number - 1
-        if status and not tells_of_memory(said):
+            return ([f"{table}: without a refusal {said}"] if status or not COUNTED.fullmatch(said) or "again" in said else []), number - 1
+        if not COUNTED.fullmatch(said) if status == 0 else out or not tells_of_memory(said):
             return [f"{table}: with request {number} refused: {said}"], number
     return [f"{table}: no end"], number
 
 
 def main():
-    if len(sys.argv) != 1:
+    whole = sys.argv[1:] == ["--whole"]
+    if sys.argv[1:] and not whole:
         sys.exit(__doc__)
     failed = 0
     with tempfile.TemporaryDirectory() as folder:
         library = f"{folder}/refusing.so"
         subprocess.run(["gcc", "-shared", "-fPIC", "-O1", "-o", library, TOP / "tests" / "refusing.c", "-ldl"], check=True)
-        runs = [(s.stem, session_faults, built(HOST), s) for s in sorted(EXAMPLES.rglob("*.session"))
-                if s.with_suffix(".expected").exists() and s.stem not in LONG]
+        sessions = [s for s in sorted(EXAMPLES.rglob("*.session")) if s.with_suffix(".expected").exists() and s.stem not in LONG]
+        runs = [(s.stem, session_faults, built(HOST), s) for s in sessions if not whole or s.stem in ALL_KINDS]
         runs += [(table, table_faults, built(name), table) for table, name in TABLES.items()]
         with concurrent.futures.ProcessPoolExecutor(len(os.sched_getaffinity(0))) as pool:
-            jobs = [(name, pool.submit(faults, program, library, *rest)) for name, faults, program, *rest in runs]
+            jobs = [(name, pool.submit(faults, program, library, whole, *rest)) for name, faults, program, *rest in runs]
             jobs = [(name, job.result()) for name, job in jobs]
     for name, (faults, refusals) in jobs:
         failed += bool(faults)

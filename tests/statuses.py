@@ -50,12 +50,30 @@ def streams(library):
                 yield f"output in {calls} pieces of {piece}, which then {end}", streamed(library, session, piece, writes=f"{calls} {end}"), wanted
 
 
+def longest_session():
+    """A session of as many bytes as the most, which writes nothing but its section: nearly all are configurations of aliases."""
+    lines = ["tkhost 1"]
+    for app in range(4):
+        lines += [f"app a{app} {app * 10} 0 10 10 5", *(f"alias c{it} const {'x' * 65_536}" for it in range(64 if app < 3 else 62)), "script 0"]
+    rest = MOST_BYTES - len("\n".join([*lines, "events", "0 end", ""]).encode())
+    for number, alias in enumerate(("alias last const ", "alias more const ")):
+        # (a line more has its end more; the first takes what it can)
+        count = min(rest - len(alias) - 1, 65_536)
+        if count > 0:
+            lines.insert(-1, alias + "x" * count)
+            rest -= len(alias) + 1 + count
+    return "\n".join([*lines, "events", "0 end", ""]).encode()
+
+
 def main():
     if sys.argv[1:]:
         sys.exit(__doc__)
     status, line = FAULTY.with_suffix(".fault").read_text().split("\n", 1)
     with tempfile.TemporaryDirectory() as folder, tempfile.NamedTemporaryFile() as long, open("/dev/full", "wb") as full:
         long.truncate(MOST_BYTES + 1)
+        most, more = pathlib.Path(folder, "most"), pathlib.Path(folder, "more")
+        most.write_bytes(longest_session())
+        more.write_bytes(longest_session() + b"\n")
         library = str(pathlib.Path(folder, "streaming.so"))
         subprocess.run(["gcc", "-shared", "-fPIC", "-O2", "-o", library, TOP / "tests" / "streaming.c", "-ldl"], check=True)
         runs = {
@@ -64,6 +82,8 @@ def main():
             "an argument": (ended(LAMP, "--help"), (2, "usage: tkhost\n", b"")),
             "an input that can't be read": (ended(TOP), (*READ_FAULT, b"")),
             "an input that is too long": (ended(long.name), (*READ_FAULT, b"")),
+            "an input of the most bytes": (ended(most), (0, "", "".join(f"app a{it} running 5\ntree\nwin . Tk 0 0 10 10 1\ntimers\ndone\n" for it in range(4)).encode())),
+            "a session of a byte more": (ended(more), (*READ_FAULT, b"")),
             "an input that never ends": (ended("/dev/zero"), (*READ_FAULT, b"")),
             "an output that takes nothing": (ended(LAMP, output=full), (*WRITE_FAULT, None)),
             **{about: (got, wanted) for about, got, wanted in streams(library)},

@@ -1,4 +1,5 @@
-use crate::pictures::{with_pictures, without_pictures};
+use crate::pictures::{with_number, with_pictures, without_pictures};
+use crate::words::number;
 use anyhow::{Context, Result, bail};
 use std::alloc::Global;
 use std::rt::{Env, Files};
@@ -30,6 +31,8 @@ struct Asking<'a, F: Fixture> {
     /// The question of the line above, where that was one.
     last: Option<Asked>,
     answers: u32,
+    /// How many questions failed and were asked again.
+    again: u32,
 }
 
 impl<'a, F: Fixture> Asking<'a, F> {
@@ -39,16 +42,44 @@ impl<'a, F: Fixture> Asking<'a, F> {
             fixture: F::new(alloc, name)?,
             last: None,
             answers: 0,
+            again: 0,
         })
+    }
+
+    /// What the fixture answers. Where it fails it is asked once more: what a call that was refused memory was put to is as it was before, so that
+    /// the answer, and all behind it, are those of the table.
+    fn answer(&mut self, alloc: Global, question: &str) -> Result<String> {
+        if let Ok(answer) = self.fixture.answer(alloc, question) {
+            return Ok(answer);
+        }
+        self.again = self.again.saturating_add(1);
+        self.fixture.answer(alloc, question)
     }
 
     fn ask(&mut self, alloc: Global, question: &str) -> Result<Asked> {
         let plain = without_pictures(alloc, question)?;
-        let answer = self.fixture.answer(alloc, plain.as_str())?;
+        let answer = self.answer(alloc, plain.as_str())?;
         Ok(Asked {
             question: String::from_str(alloc, question)?,
             answer: with_pictures(alloc, answer.as_str())?,
         })
+    }
+
+    /// Asks what stands behind the mark of a question: once, or where `*N` and a blank stand first, N times; the last answer counts then.
+    fn ask_marked(&mut self, alloc: Global, marked: &str) -> Result<Option<Asked>> {
+        let Some((count, question)) = marked
+            .strip_prefix('*')
+            .and_then(|rest| rest.split_once(' '))
+        else {
+            return Ok(Some(self.ask(alloc, marked.strip_prefix(' ').unwrap_or(marked))?));
+        };
+        let count: u32 = number(count)?;
+        let mut last = None;
+        for time in 0..count {
+            let numbered = with_number(alloc, question, time.saturating_add(1))?;
+            last = Some(self.ask(alloc, numbered.as_str())?);
+        }
+        Ok(last)
     }
 
     /// Reads a line of the table: the question that it answers otherwise than the fixture did, if it does.
@@ -57,7 +88,7 @@ impl<'a, F: Fixture> Asking<'a, F> {
         if line.is_empty() {
             self.fixture = F::new(alloc, self.name)?;
         } else if let Some(question) = line.strip_prefix('?') {
-            self.last = Some(self.ask(alloc, question.strip_prefix(' ').unwrap_or(question))?);
+            self.last = self.ask_marked(alloc, question)?;
         } else if !line.starts_with('#') {
             let Some(asked) = last else {
                 bail!("an answer with no question above it");
@@ -86,8 +117,12 @@ fn ask_table<F: Fixture, R: Print + AllocGlobal>(rt: &R, name: &str, table: &str
             println!(rt; "{name}:{number}: {question}: {answer} and not {line}")?;
         }
     }
-    let answers = asking.answers;
-    println!(rt; "{name}: {answers} answers, {wrong} wrong")?;
+    let (answers, again) = (asking.answers, asking.again);
+    if again == 0 {
+        println!(rt; "{name}: {answers} answers, {wrong} wrong")?;
+    } else {
+        println!(rt; "{name}: {answers} answers, {wrong} wrong, {again} asked again")?;
+    }
     Ok(wrong == 0)
 }
 

@@ -2,7 +2,8 @@
 //!
 //! A table is a file `NAME.table`. The first character of a line says what it is:
 //!
-//! - `?` and a blank: behind them stands a question, which is asked.
+//! - `?` and a blank: behind them stands a question, which is asked. `?*N` and a blank: it is asked N times, with the number of the time, from 1 on,
+//!   where it has the sign `№`; the last answer counts.
 //! - `#`: the line says something to its reader.
 //! - An empty line begins anew, without what the questions above it have left.
 //! - Any other line is what the question right above it is answered: mostly `=` and a result, or `!` and an error.

@@ -1,4 +1,4 @@
-//! Control characters, and the pictures that stand for them in a table.
+//! Control characters, and the pictures that stand for them in a table; and the sign that stands for a number.
 
 use std::alloc::{AllocError, Global};
 
@@ -7,6 +7,9 @@ const FIRST: u32 = 0x2400;
 
 /// How many control characters have pictures.
 const COUNT: u32 = 32;
+
+/// Stands for the number of the time, in a question that is asked several times.
+const NUMBER: char = '№';
 
 fn without_picture(character: char) -> char {
     let number = u32::from(character);
@@ -40,4 +43,18 @@ pub fn with_pictures(alloc: Global, text: &str) -> Result<String, AllocError> {
         line.push(with_picture(character))?;
     }
     Ok(line)
+}
+
+/// A question with this number where the sign for one stands.
+pub fn with_number(alloc: Global, question: &str, number: u32) -> Result<String, AllocError> {
+    let digits = format!(in alloc; "{number}")?;
+    let mut text = String::new(alloc);
+    for character in question.chars() {
+        if character == NUMBER {
+            text.push_str(digits.as_str())?;
+        } else {
+            text.push(character)?;
+        }
+    }
+    Ok(text)
 }

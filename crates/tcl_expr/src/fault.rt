@@ -5,6 +5,7 @@ ghost use Rattle.tcl_expr.specs.declared.fault.EvalFault.TheVariants as eval_fau
 
 use crate::operators::NumberOperator;
 use std::alloc::{AllocError, AllocFailed};
+use std::fmt::{self, Debug, Formatter, Write};
 use tcl_text::{ListFault, SplitFault, Text, TextFault};
 use tcl_words::ParseFault;
 use thiserror::Error;
@@ -22,22 +23,35 @@ pub enum ExprFault {
 }
 
 /// Why an expression has no value (expr(n)).
-#[derive(Drop)]
+#[derive(Drop, Error)]
 pub enum EvalFault {
     /// This text is no boolean, as an operand of `!`, `&&` or `||` or the condition of `?:` has to be (2).
+    #[error("not a boolean")]
     NotBoolean(Text),
     /// The right operand of `in` or `ni` is no list (3).
+    #[error("not a list")]
     BadList(ListFault),
     /// A text that is put together would pass 65,536 bytes (4).
+    #[error("limit reached: value")]
     TooLong,
     /// The divisor of `/` or `%` is 0 (12).
+    #[error("divide by zero")]
     DivideByZero,
     /// An integer that is written or computed passes signed 64 bits, or a shift has a negative count (13).
+    #[error("integer overflow")]
     Overflow,
     /// An operand of this operator is no integer (14).
+    #[error("not an integer")]
     NotNumber(NumberOperator),
     /// Memory was refused.
+    #[error("out of memory")]
     NoMemory,
+}
+
+impl Debug for EvalFault {
+    fn fmt<W: Write>(&self, formatter: &mut Formatter<W>) -> Result<(), fmt::Error> {
+        formatter.write_str("EvalFault")
+    }
 }
 
 impl ExprFault {

@@ -21,3 +21,4 @@ pub use jobs::{Acted, Jobs, act_for, look_at, resume};
 pub use leaving_laws::{scripts_leave, tasks_leave};
 pub use tasks::{Act, Tasks};
 pub use tcl_control::{Code, ReturnCode};
+pub use tcl_table::ScriptCache;

@@ -4,6 +4,9 @@
 //! TOTAL REFILL SCRIPT`, and `start`, which has to succeed; behind it `line MOMENT LINE` (`lines.rt`), `advance MOMENT` and `end MOMENT`.
 //! `section SLOT`, `turns` and `app` may stand anywhere, and `start` again behind the first. It is answered `=` and what the calls tell, each on a line:
 //! nothing where one succeeds that tells nothing, `!NUMBER` where one is refused, and of `turns` each as SLOT:STEPS.
+//!
+//! Where memory is refused to a call that leaves the host as it was, it is made once more. Where it is refused to one that breaks the host, each call
+//! behind it but `turns` has to be refused with 42, which no table can ask; the question then fails.
 ghost use Rattle.std.specs.Prelude.{◌≡◌, ◌≢◌, OnOk};
 ghost use Rattle.tk_host.specs.declared.phase.Phase.TheVariants.{Adding};
 
@@ -22,10 +25,14 @@ fn fault_told(alloc: Global, fault: HostFault) -> Result<String> {
     }
 }
 
-/// What a call that tells nothing is told as.
+/// How it is told that memory was refused to a call that runs applications.
+const BREAKS: &str = "!memory";
+
+/// What a call that runs applications is told as.
 fn told(alloc: Global, answer: Result<(), HostFault>) -> Result<String> {
     match answer {
         Ok(()) => Ok(String::new(alloc)),
+        Err(HostFault::NoMemory) => Ok(String::from_str(alloc, BREAKS)?),
         Err(fault) => fault_told(alloc, fault),
     }
 }
@@ -74,8 +81,8 @@ fn app(alloc: Global, host: &mut Host<NoAlias>, words: &str) -> Result<String>
     }
 }
 
-/// A call that may come before `start`.
-fn early(alloc: Global, host: &mut Host<NoAlias>, call: &str) -> Result<String>
+/// A call that may come before `start`, once.
+fn early_once(alloc: Global, host: &mut Host<NoAlias>, call: &str) -> Result<String>
     ensures { host.new.held.phase ≡ host.old.held.phase }
 {
     let (what, words) = first_word(call);
@@ -85,6 +92,16 @@ fn early(alloc: Global, host: &mut Host<NoAlias>, call: &str) -> Result<String>
         "turns" => turns_told(alloc, host.turns()),
         _ => bail!("no such call"),
     }
+}
+
+/// A call that may come before `start`, and once more where it was refused memory, which changes nothing.
+fn early(alloc: Global, host: &mut Host<NoAlias>, call: &str) -> Result<String>
+    ensures { host.new.held.phase ≡ host.old.held.phase }
+{
+    if let Ok(told) = early_once(alloc, host, call) {
+        return Ok(told);
+    }
+    early_once(alloc, host, call)
 }
 
 fn line(alloc: Global, host: &mut Host<NoAlias>, words: &str) -> Result<String>
@@ -111,19 +128,53 @@ fn late(alloc: Global, host: &mut Host<NoAlias>, call: &str) -> Result<String>
     }
 }
 
-/// Starts the host, and adds what this and the calls behind it tell.
-fn run(alloc: Global, host: &mut Host<NoAlias>, calls: &[&str], all: &mut String) -> Result<()> {
-    match host.start() {
-        Ok(()) => {}
-        Err(HostFault::NoMemory) => bail!("memory was refused"),
-        Err(_) => bail!("the start was refused"),
+/// What the calls of a host tell that was refused memory: an error where each is refused with 42, but `turns`, or else the first that isn't.
+fn broken(alloc: Global, host: &mut Host<NoAlias>, calls: &[&str]) -> Result<String>
+    requires { host.old.held.phase ≢ Adding }
+{
+    for call in calls.iter() {
+        let told = late(alloc, host, call)?;
+        if told.as_str() != "!42" && !told.as_str().starts_with("turns") {
+            return Ok(format!(in alloc;
+                "a host that was refused memory answers {call} with {told}"
+            )?);
+        }
     }
-    all.push_str("\n")?;
-    for call in calls.iter().skip(1) {
-        all.push_str(late(alloc, host, call)?.as_str())?;
+    bail!("memory was refused")
+}
+
+/// Makes the calls of a host that was started, and adds what they tell.
+fn go_on(alloc: Global, host: &mut Host<NoAlias>, calls: &[&str], all: &mut String) -> Result<()>
+    requires { host.old.held.phase ≢ Adding }
+{
+    for (place, call) in calls.iter().enumerate() {
+        let told = late(alloc, host, call)?;
+        if told.as_str() == BREAKS {
+            all.push_str(broken(alloc, host, &calls[place + 1..])?.as_str())?;
+            return Ok(());
+        }
+        all.push_str(told.as_str())?;
         all.push_str("\n")?;
     }
     Ok(())
+}
+
+/// Starts the host, and adds what this and the calls behind it tell.
+fn run(alloc: Global, host: &mut Host<NoAlias>, calls: &[&str], all: &mut String) -> Result<()> {
+    let Some((_start, calls)) = calls.split_first() else {
+        bail!("no start");
+    };
+    match host.start() {
+        Ok(()) => {
+            all.push_str("\n")?;
+            go_on(alloc, host, calls, all)
+        }
+        Err(HostFault::NoMemory) => {
+            all.push_str(broken(alloc, host, calls)?.as_str())?;
+            Ok(())
+        }
+        Err(_) => bail!("the start was refused"),
+    }
 }
 
 /// A host that takes so many steps in a turn.

@@ -9,9 +9,12 @@ mod example;
 mod lines;
 mod plays;
 mod routes;
+mod stream;
+mod streams;
 
 use crate::plays::play_sessions;
 use crate::routes::Routes;
+use crate::streams::Streams;
 use anyhow::{Result, bail};
 use asking::{Fixture, arguments, ask_tables};
 use std::alloc::Global;
@@ -22,6 +25,7 @@ enum Part {
     Calls,
     Embedding,
     Routes(Routes),
+    Streams(Streams),
 }
 
 impl Fixture for Part {
@@ -30,6 +34,7 @@ impl Fixture for Part {
             "calls" => Ok(Part::Calls),
             "embedding" => Ok(Part::Embedding),
             "routes" => Ok(Part::Routes(Routes::new())),
+            "streams" => Ok(Part::Streams(Streams::new(alloc))),
             _ => bail!("no such table"),
         }
     }
@@ -39,6 +44,7 @@ impl Fixture for Part {
             Part::Calls => calls::answer(alloc, question),
             Part::Embedding => example::answer(alloc, question),
             Part::Routes(routes) => routes.answer(alloc, question),
+            Part::Streams(streams) => streams.answer(alloc, question),
         }
     }
 }

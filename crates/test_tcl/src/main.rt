@@ -1,4 +1,4 @@
-//! Asks the parts of Tcl for the answers in tables, and tells of each that isn't the one in its table (`tables` says what stands in one). The folder
+//! Asks the parts of Tcl for the answers in tables, and tells of each that isn't the one in its table (`asking` says what stands in one). The folder
 //! of a table says what its questions are put to; the modules say what they mean.
 //!
 //! `repeat COUNT FILE` reads the script in a file so many times instead.
@@ -11,6 +11,7 @@ mod panel;
 mod runner;
 mod runs;
 mod scripts;
+mod slices;
 
 use crate::commands::Frames;
 use crate::kept::Kept;
@@ -26,6 +27,7 @@ enum Part {
     Kept(Kept),
     Runs,
     Scripts,
+    Slices,
 }
 
 impl Fixture for Part {
@@ -37,6 +39,7 @@ impl Fixture for Part {
             "kept" => Ok(Part::Kept(Kept::new(alloc)?)),
             "runs" => Ok(Part::Runs),
             "scripts" => Ok(Part::Scripts),
+            "slices" => Ok(Part::Slices),
             _ => bail!("no such table"),
         }
     }
@@ -48,6 +51,7 @@ impl Fixture for Part {
             Part::Kept(kept) => kept.answer(alloc, question),
             Part::Runs => runs::answer(alloc, question),
             Part::Scripts => scripts::answer(alloc, question),
+            Part::Slices => slices::answer(alloc, question),
         }
     }
 }

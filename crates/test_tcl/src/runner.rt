@@ -18,6 +18,16 @@ pub struct Runner {
     scopes: Scopes,
 }
 
+/// What a slice answers, in a word.
+fn word_of(end: &SliceEnd) -> &'static str {
+    match end {
+        SliceEnd::Done(Code::Error, _) => "error",
+        SliceEnd::Done(_, _) => "done",
+        SliceEnd::More => "more",
+        SliceEnd::Exhausted => "exhausted",
+    }
+}
+
 impl Runner {
     /// One that takes at most so many steps, where outside commands have these names.
     pub fn new(alloc: Global, budget: u64, names: &[Text]) -> Result<Runner>
@@ -63,6 +73,25 @@ impl Runner {
                 SliceEnd::More => {}
                 end => return Ok(end),
             }
+        }
+    }
+
+    /// What each slice of one size answers of a script, up to the last one, with the steps that are left behind it.
+    pub fn slices(&mut self, script: &str, size: u64) -> Result<String>
+        requires idle { rest_of self.old.interp ≡ Idle }
+        requires positive { 0 < size }
+    {
+        self.begin(script)?;
+        let mut told = String::from_str(self.alloc, "=")?;
+        'slices: loop {
+            let end = self.slice(size)?;
+            let left = self.interp.steps_left();
+            let one = format!(in self.alloc; "{} {left}", word_of(&end))?;
+            told.push_str(one.as_str())?;
+            if !matches!(end, SliceEnd::More) {
+                return Ok(told);
+            }
+            told.push_str(", ")?;
         }
     }
 

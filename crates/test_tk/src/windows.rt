@@ -21,9 +21,15 @@ pub enum Screen {
     Layouts(Layouts),
 }
 
+/// The first part of a table's name, and what stands behind it.
+pub fn first_part(table: &str) -> (&str, &str) {
+    table.split_once('/').unwrap_or((table, ""))
+}
+
 impl Screen {
     pub fn new(alloc: Global, table: &str) -> Result<Screen> {
-        match table {
+        let (part, _name) = first_part(table);
+        match part {
             "trees" => Ok(Screen::Trees(Trees::new(alloc))),
             "packings" => Ok(Screen::Packings(Packings::new(alloc))),
             "layouts" => Ok(Screen::Layouts(Layouts::new(alloc))),

@@ -1,3 +1,4 @@
 -- What the contracts cite.
+pub mod Names
 pub mod Replies
 pub mod Services

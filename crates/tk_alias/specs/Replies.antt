@@ -1,4 +1,4 @@
--- What a command answers, and what its reply then is.
+-- Meaning. What a command answers, and what its reply then is.
 use Rattle.std.specs.Prelude.{◌≡◌, ℕ, List, Result, Ok, Err, ⊤}
 use Rattle.tk_alias.specs.declared.reply.AliasReply.{AliasReply}
 use Rattle.tk_alias.specs.declared.reply.AliasReply.TheVariants as reply

@@ -5,7 +5,8 @@ use Rattle.tk_panel.specs.Deliver.{delivered as delivered_panel}
 use Rattle.tk_panel.specs.Panel.{Panel}
 use Rattle.tk_app.specs.declared.state.AppState.{AppState}
 use Rattle.tk_app.specs.declared.state.AppState.TheVariants.{Running, Exhausted, Closed}
-use Rattle.tk_app.specs.Part.{Part, delivered, delivered_as, granted}
+use Rattle.tk_app.specs.Moments.{delivered, delivered_as, granted}
+use Rattle.tk_app.specs.Part.{Part}
 use Rattle.tk_app.specs.Turns.{Program, application_of, part_of}
 
 module _ {M : Type 0} where

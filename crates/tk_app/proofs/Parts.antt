@@ -17,7 +17,8 @@ use Rattle.tk_app.specs.declared.state.AppState.{AppState}
 use Rattle.tk_app.specs.declared.state.AppState.TheVariants.{Running, Exhausted, Closed}
 use Rattle.tk_app.specs.Application.{Application, fresh}
 use Rattle.tk_app.specs.Outside.{calls, course, outside}
-use Rattle.tk_app.specs.Part.{Rests, BeginsWithScript, SettlesFromRest, after_outcome, done_as, settled, settled_as, settling_as, stage_done, started, state_at}
+use Rattle.tk_app.specs.Moments.{after_outcome, settled, settled_as, started, state_at}
+use Rattle.tk_app.specs.Part.{Rests, BeginsWithScript, SettlesFromRest, done_as, settling_as, stage_done}
 use Rattle.tk_app.specs.Seen.{Meaning, Seen}
 use Rattle.tk_app.specs.Settle.{GoesByNext, in_panel, meaning, on_next, settle_meaning, settling, start_meaning}
 

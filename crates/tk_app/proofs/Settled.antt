@@ -33,7 +33,7 @@ use Rattle.tk_app.specs.declared.state.AppState.TheVariants.{Running, Exhausted,
 use Rattle.tk_app.specs.Application.{Application, next_due, next_due_as, panel_at}
 use Rattle.tk_app.specs.Dues.{DueTakesAStep, SettledIsPast, StartedIsPast}
 use Rattle.tk_app.specs.Outside.{calls, called_as, alias_act, course, outside}
-use Rattle.tk_app.specs.Part.{after_outcome, settled, settled_as, started, state_after, state_at}
+use Rattle.tk_app.specs.Moments.{after_outcome, settled, settled_as, started, state_after, state_at}
 use Rattle.tk_app.specs.Seen.{Meaning, Seen}
 use Rattle.tk_app.specs.Settle.{after_script, at_global, comes_next, in_panel, settle_meaning, settling, start_meaning}
 use Rattle.tk_app.proofs.Homes.{keeps, look_stays, looked_last}

@@ -22,7 +22,8 @@ use Rattle.tk_app.specs.declared.state.AppState.{AppState}
 use Rattle.tk_app.specs.declared.state.AppState.TheVariants.{Running, Exhausted, Closed}
 use Rattle.tk_app.specs.Application.{Application}
 use Rattle.tk_app.specs.Outside.{outside}
-use Rattle.tk_app.specs.Part.{Part, Work, Rests, Goes, after_outcome, done_as, granted, settling_as, settling_begun, stage_done, state_after, state_in, with_left, work_of}
+use Rattle.tk_app.specs.Moments.{after_outcome, granted, state_after, state_in, with_left}
+use Rattle.tk_app.specs.Part.{Part, Work, Rests, Goes, done_as, settling_as, settling_begun, stage_done, work_of}
 use Rattle.tk_app.specs.Seen.{Meaning, Seen, meanings}
 use Rattle.tk_app.specs.Turns.{EndsAs, IsAsFar, Program, TakesTurn, end_as, end_of, part_of, work_by}
 

@@ -1,9 +1,9 @@
--- An application as lists and values.
+-- Meaning. An application as lists and values.
 use Rattle.std.specs.Prelude.{ℕ, List, [], ◌∷◌, ◌++◌, Option, None}
 use Rattle.tcl_control.specs.Table.{NamedCommands, first_commands}
 use Rattle.tcl_vars.specs.Store.{Store}
 use Rattle.tk_after.specs.Timers.{Own as Timers, due_moments, least}
-use Rattle.tk_events.specs.declared.event.Event.{Event}
+use Rattle.tk_sequences.specs.declared.event.Event.{Event}
 use Rattle.tk_inputs.specs.declared.inputs.Input.{Input}
 use Rattle.tk_patterns.specs.declared.binding.Binding.{Binding}
 use Rattle.tk_screen.specs.Own.{Own as Screen}

@@ -1,6 +1,7 @@
 -- What the contracts cite.
 pub mod Application
 pub mod Dues
+pub mod Moments
 pub mod Names
 pub mod Outside
 pub mod Part

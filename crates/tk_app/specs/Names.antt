@@ -1,5 +1,7 @@
--- The names of the commands that an application's panel serves, beside the paths of its windows.
-use Rattle.std.specs.Prelude.{ℕ, List, [], ◌∷◌, ◌++◌, codes}
+-- Meaning. The names of the commands that an application's panel serves, beside the paths of its windows.
+use Rattle.std.specs.Prelude.{ℕ, List, [], ◌∷◌, ◌++◌, map, codes}
+use Rattle.tk_base.specs.declared.kind.Kind.{Kind}
+use Rattle.tk_options.specs.Rows.{kinds, row_of}
 
 -- those that write lines, and have to do with time
 abbrev pub moment_names : List (List ℕ)
@@ -13,9 +15,12 @@ binding_names = codes "bind" ∷ codes "bindtags" ∷ codes "event" ∷ codes "f
 abbrev pub window_names : List (List ℕ)
 window_names = codes "destroy" ∷ codes "pack" ∷ codes "winfo" ∷ codes "wm" ∷ []
 
--- those that make widgets
+-- those that make widgets, one of each kind
+abbrev pub command_of : Kind → List ℕ
+command_of kind = (row_of kind).command
+
 abbrev pub widget_names : List (List ℕ)
-widget_names = codes "button" ∷ codes "entry" ∷ codes "frame" ∷ codes "label" ∷ codes "listbox" ∷ []
+widget_names = map command_of kinds
 
 -- those that the bindings of the class Button call
 abbrev pub button_names : List (List ℕ)

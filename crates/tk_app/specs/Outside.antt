@@ -1,4 +1,4 @@
--- The commands of an application and the course of its jobs, as its scripts see them.
+-- Meaning. The commands of an application and the course of its jobs, as its scripts see them.
 use Rattle.std.specs.Prelude.{ℕ, List, [], ◌∷◌, Option, Some, None, option_map, Ok, Err}
 use Rattle.tcl_vars.specs.Store.{Store}
 use Rattle.tcl_control.specs.declared.code.Code.TheVariants.{Normal, Error}

@@ -1,4 +1,4 @@
--- From due moment to due moment.
+-- Steps. From due moment to due moment.
 use Rattle.std.specs.Prelude.{ℕ, zero, suc, Option, Some, None, nat_le, if◌then◌else◌}
 
 -- what comes of a moment that is due by the last, or else of stopping

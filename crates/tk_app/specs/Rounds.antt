@@ -1,4 +1,4 @@
--- Who takes turns in a stage, and how long.
+-- Meaning. Who takes turns in a stage, and how long.
 use Rattle.std.specs.Prelude.{ℕ, zero, suc, ◌+◌, ◌-◌, ◌*◌, ◌++◌, List, [], ◌∷◌, sum, min, flat_map}
 use Rattle.std.specs.List.{range_with_len}
 use Rattle.tk_app.specs.declared.turns.Turn.{Turn}

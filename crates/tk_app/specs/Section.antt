@@ -1,4 +1,4 @@
--- The bytes that an application ends with.
+-- Meaning. The bytes that an application ends with.
 use Rattle.std.specs.Prelude.{ℕ, List, ◌++◌, codes, flat_map}
 use Rattle.tk_panel.specs.declared.transcript.Line.{Line}
 use Rattle.tk_panel.specs.Transcript.{stream_name}

@@ -1,4 +1,4 @@
--- What is done at a moment, and how an application begins.
+-- Meaning. What is done at a moment, and how an application begins.
 use Rattle.std.specs.Prelude.{◌≡◌, ℕ, List, [], Option, Some, None}
 use Rattle.tcl_control.specs.declared.code.Code.{Code}
 use Rattle.tcl_control.specs.declared.code.Code.TheVariants.{Normal}

@@ -1,4 +1,4 @@
--- Who has how much of a list of turns.
+-- Meaning. Who has how much of a list of turns.
 use Rattle.std.specs.Prelude.{◌≡◌, ℕ, ◌+◌, ◌≤◌, ◌==◌, List, [], ◌∷◌, Option, Some, None, IfSome, filter, sum_by, option_map, if◌then◌else◌}
 use Rattle.tk_app.specs.declared.turns.Turn.{Turn}
 

@@ -1,4 +1,4 @@
--- What an application is begun with.
+-- Meaning. What an application is begun with.
 use Rattle.std.specs.Prelude.{ℕ, List}
 use Rattle.tk_base.specs.declared.budget.Budget.{Budget}
 

@@ -1,4 +1,4 @@
--- The stages of a list of parts: one for each moment at which something is due of a part, the earliest first.
+-- Meaning. The stages of a list of parts: one for each moment at which something is due of a part, the earliest first.
 use Rattle.std.specs.Prelude.{◌≡◌, ◌<◌, ◌⊎◌, ℕ, zero, suc, ◌-◌, ◌==◌, ◌++◌, List, [], ◌∷◌, map, min, sum_by, Option, Some, None, if◌then◌else◌}
 use Rattle.tk_app.specs.declared.turns.Turn.{Turn}
 use Rattle.tk_app.specs.Rounds.{turns_of}

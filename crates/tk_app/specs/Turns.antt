@@ -1,4 +1,4 @@
--- All applications side by side, and what a turn of one of them makes of all.
+-- Steps. All applications side by side, and what a turn of one of them makes of all.
 use Rattle.std.specs.Prelude.{◌≡◌, ◌≢◌, ◌⊎◌, ℕ, ◌+◌, ◌-◌, ◌≤◌, ◌<◌, Bool, List, [], ◌∷◌, ◌++◌, Some, min, slice_get, slice_set}
 use Rattle.tcl_vars.specs.Store.{Store}
 use Rattle.tcl_interp.specs.declared.interp.SliceEnd.{SliceEnd}
@@ -10,6 +10,7 @@ use Rattle.tcl_interp.specs.declared.job.Task.{Task}
 use Rattle.tcl_interp.specs.declared.job.Task.TheVariants as task
 use Rattle.tk_keys.specs.declared.local_event.LocalEvent.{LocalEvent}
 use Rattle.tk_panel.specs.declared.job.Job.{Job}
+use Rattle.tk_route.specs.Limits.{most_applications}
 use Rattle.tk_panel.specs.declared.tables.Tables.{Tables}
 use Rattle.tk_panel.specs.Fresh.{nothing}
 use Rattle.tk_panel.specs.Panel.{Panel, panel_of}
@@ -24,7 +25,8 @@ use Rattle.tk_app.specs.declared.state.AppEnd.{AppEnd}
 use Rattle.tk_app.specs.declared.state.AppEnd.TheVariants.{Settled, More, Stopped}
 use Rattle.tk_app.specs.Application.{Application}
 use Rattle.tk_app.specs.Names.{command_names}
-use Rattle.tk_app.specs.Part.{Part, Work, Rests, delivered, needs, settling_begun, stage_done, task_begins}
+use Rattle.tk_app.specs.Moments.{delivered}
+use Rattle.tk_app.specs.Part.{Part, Work, Rests, needs, settling_begun, stage_done, task_begins}
 use Rattle.tk_app.specs.Seen.{Meaning, names_of}
 use Rattle.tk_app.specs.Settle.{settling}
 
@@ -96,7 +98,7 @@ parts_from slot tables (program ∷ programs) = part_of (panel_of slot tables) p
 
 -- no application from a slot on has anything
 abbrev pub IsVacantFrom : ℕ → Tables → Type 0
-IsVacantFrom first tables = (slot : ℕ) → first ≤ slot → slot < 16 → panel_of slot tables ≡ nothing tables.clock
+IsVacantFrom first tables = (slot : ℕ) → first ≤ slot → slot < most_applications → panel_of slot tables ≡ nothing tables.clock
 
 -- ── turns ──
 

@@ -20,7 +20,7 @@ pub use laws::{
     begins_with_script, due_takes_a_step, goes_by_next, settled_is_past, settles_from_rest,
     started_is_past,
 };
-pub use shared::{MAX_APPLICATIONS, Shared};
+pub use shared::Shared;
 pub use size::Size;
 pub use state::{AppEnd, AppState};
 pub use tk_alias::{

@@ -1,10 +1,12 @@
 //! The names of the commands that an application's panel serves, beside the paths of its windows.
-ghost use Rattle.std.specs.Prelude.{◌≡◌, ◌∷◌, [], ◌++◌, IfOk, OnOk};
-ghost use Rattle.tk_app.specs.Names.{binding_names, button_names, class_names, command_names, entry_names, listbox_names, moment_names, plain_names, widget_names, window_names};
+ghost use Rattle.std.specs.Prelude.{◌≡◌, ◌∷◌, [], ◌++◌, IfOk, OnOk, map};
+ghost use Rattle.tk_app.specs.Names.{binding_names, button_names, class_names, command_names, entry_names, listbox_names, command_of, moment_names, plain_names, window_names};
 
 use std::alloc::{AllocError, Global};
 use tcl_text::Text;
 use tcl_text::message::short_text;
+use tk_base::Kind;
+use tk_options::{KINDS, row_of};
 
 /// Adds a name.
 fn push_name(alloc: Global, names: &mut Vec<Text>, name: &str) -> Result<(), AllocError>
@@ -43,15 +45,14 @@ fn push_window(alloc: Global, names: &mut Vec<Text>) -> Result<(), AllocError>
     push_name(alloc, names, "wm")
 }
 
-/// Adds those that make widgets.
-fn push_widget(alloc: Global, names: &mut Vec<Text>) -> Result<(), AllocError>
-    ensures { OnOk result (names.new.items ≡ names.old.items ++ widget_names) }
+/// Adds those that make widgets of some kinds.
+fn push_kinds(alloc: Global, names: &mut Vec<Text>, kinds: &[Kind]) -> Result<(), AllocError>
+    ensures { OnOk result (names.new.items ≡ names.old.items ++ map command_of kinds.now) }
 {
-    push_name(alloc, names, "button")?;
-    push_name(alloc, names, "entry")?;
-    push_name(alloc, names, "frame")?;
-    push_name(alloc, names, "label")?;
-    push_name(alloc, names, "listbox")
+    for kind in kinds {
+        push_name(alloc, names, row_of(*kind).command)?;
+    }
+    Ok(())
 }
 
 /// Adds those that the bindings of class Button call.
@@ -96,7 +97,7 @@ fn push_plain(alloc: Global, names: &mut Vec<Text>) -> Result<(), AllocError>
     push_moment(alloc, names)?;
     push_binding(alloc, names)?;
     push_window(alloc, names)?;
-    push_widget(alloc, names)
+    push_kinds(alloc, names, KINDS)
 }
 
 /// Adds those that the bindings of the widgets' classes call.

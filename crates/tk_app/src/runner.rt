@@ -1,6 +1,6 @@
 ghost use Rattle.std.specs.Prelude.{◌≡◌};
 ghost use Rattle.tk_panel.specs.Panel.{panel_of};
-ghost use Rattle.tk_app.specs.Part.{state_after};
+ghost use Rattle.tk_app.specs.Moments.{state_after};
 ghost use Rattle.tk_app.specs.Turns.{end_as, end_of};
 
 use crate::aliases::command_names;
@@ -96,7 +96,8 @@ impl<M: AliasService> Runner<M> {
     ghost use Rattle.std.specs.Prelude.{◌≡◌, ◌≢◌, ◌<◌, ◌≤◌, ◌↔◌, ◌⊎◌, IfOk, IsTrue, OnErr, OnOk};
     ghost use Rattle.tk_panel.specs.Panel.{others_of, panel_of};
     ghost use Rattle.tk_app.specs.declared.state.AppState.TheVariants.{Running};
-    ghost use Rattle.tk_app.specs.Part.{Rests, granted, is_under_way, settling_as};
+    ghost use Rattle.tk_app.specs.Moments.{granted};
+    ghost use Rattle.tk_app.specs.Part.{Rests, is_under_way, settling_as};
     ghost use Rattle.tk_app.specs.Turns.{TakesTurn, beginning, part_of};
 
     /// An application before its script, with the script as what it has to do.

@@ -15,9 +15,6 @@ use tk_alias::{AliasService, Aliases};
 use tk_base::Budget;
 use tk_panel::Tables;
 
-/// How many applications there are at most.
-pub const MAX_APPLICATIONS: usize = 16;
-
 /// All applications, at one moment, in milliseconds: the tables that they have in common, and what each has by itself. An application is known by its
 /// slot, from 0 on, and each call on one goes through its view.
 pub struct Shared<M: AliasService> {
@@ -30,12 +27,13 @@ pub struct Shared<M: AliasService> {
 impl<M: AliasService> Model for Shared<M> {
     ghost use Rattle.std.specs.Prelude.{◌≡◌, ◌≤◌, length};
     ghost use Rattle.tk_app.specs.Turns.{Applications, IsVacantFrom, parts_from};
+    ghost use Rattle.tk_route.specs.Limits.{most_applications};
 
     ghost Value = { Applications M };
 
     ghost view = { λ s. record { moment = s.tables.clock; parts = parts_from 0 s.tables s.runners.items; turns = s.turns.items; refused = s.refused } };
 
-    ghost invariant = { λ s. (length s.runners.items ≤ 16) × IsVacantFrom (length s.runners.items) s.tables };
+    ghost invariant = { λ s. (length s.runners.items ≤ most_applications) × IsVacantFrom (length s.runners.items) s.tables };
 }
 
 impl<M: AliasService> Shared<M> {
@@ -44,6 +42,7 @@ impl<M: AliasService> Shared<M> {
     ghost use Rattle.tk_app.specs.Part.{added, is_under_way};
     ghost use Rattle.tk_app.specs.Section.{section};
     ghost use Rattle.tk_base.specs.Limits.{last_moment};
+    ghost use Rattle.tk_route.specs.Limits.{most_applications};
 
     /// No application, at moment 0.
     #[tactic(auto, unfolding(crate::specs::Turns::parts_from))]
@@ -75,7 +74,7 @@ impl<M: AliasService> Shared<M> {
         script: Text,
         aliases: Aliases<M>,
     ) -> Result<usize, AllocError>
-        requires { length self.old.parts < 16 }
+        requires { length self.old.parts < most_applications }
         ensures slot { IfOk result (λ slot. slot ≡ length self.old.parts) }
         ensures added { OnOk result (self.new ≡ record self.old {
           parts = self.old.parts

@@ -6,7 +6,8 @@ ghost use Rattle.tcl_interp.specs.Interp.{LeavesRest, Reaches, budget_of, left_o
 ghost use Rattle.tk_panel.specs.Panel.{others_of, panel_of};
 ghost use Rattle.tk_app.specs.Rounds.{entry};
 ghost use Rattle.tk_app.specs.Outside.{outside};
-ghost use Rattle.tk_app.specs.Part.{delivered, settling_begun};
+ghost use Rattle.tk_app.specs.Moments.{delivered};
+ghost use Rattle.tk_app.specs.Part.{settling_begun};
 ghost use Rattle.tk_app.specs.Seen.{meanings};
 ghost use Rattle.tk_app.specs.Turns.{MayGet, TakesTurn, part_of};
 

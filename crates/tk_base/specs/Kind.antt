@@ -1,4 +1,4 @@
--- The kinds of widgets and their classes.
+-- Meaning. The kinds of widgets and their classes.
 use Rattle.std.specs.Prelude.{ℕ, List, codes}
 use Rattle.tk_base.specs.declared.kind.Kind.{Kind}
 use Rattle.tk_base.specs.declared.kind.Kind.TheVariants.{Frame, Label, Button, Entry, Listbox}

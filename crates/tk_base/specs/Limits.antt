@@ -1,4 +1,4 @@
--- Limits of a host.
+-- Meaning. Limits of a host.
 use Rattle.std.specs.Prelude.{ℕ}
 
 -- the last moment, in milliseconds, and the longest delay

@@ -1,4 +1,4 @@
--- Values in an order.
+-- Steps. Values in an order.
 use Rattle.std.specs.Prelude.{ℕ, List}
 
 -- the values, and how many more come in without memory

@@ -1,4 +1,4 @@
--- Rectangles of pixels.
+-- Meaning. Rectangles of pixels.
 use Rattle.std.specs.Prelude.{ℕ, ◌+◌, ◌<◌, ◌≤◌}
 use Rattle.tk_base.specs.declared.rect.Rect.{Rect}
 

@@ -128,7 +128,7 @@ pub fn event_info(
 {
     match words {
         [] => {
-            let names = virtuals.names(alloc, slot)?;
+            let names = virtuals.info(alloc, slot)?;
             list_answer(alloc, names.as_slice())
         }
         [name] => sequences_answer(alloc, virtuals, slot, name),

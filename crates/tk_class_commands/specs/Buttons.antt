@@ -1,19 +1,14 @@
--- What the pointer and keys do to buttons (button(n)). The application keeps the button that the pointer is over, the one that is pressed, and the
+-- Meaning. What the pointer and keys do to buttons (button(n)). The application keeps the button that the pointer is over, the one that is pressed, and the
 -- relief that it had then.
-use Rattle.std.specs.Prelude.{◌≡◌, ℕ, Bool, false, ◌==◌, List, [], ◌∷◌, Option, Some, None, Result, Ok, Err, codes, if◌then◌else◌}
+use Rattle.std.specs.Prelude.{ℕ, Bool, false, ◌==◌, List, [], ◌∷◌, Option, Some, None, codes, if◌then◌else◌}
 use Rattle.std.specs.Option.{option_map_or}
 use Rattle.std.specs.Result.{result_ok}
-use Rattle.std.specs.Str.{bytes_eq}
-use Rattle.tcl_text.specs.Answers.{Gives, wrong_args}
-use Rattle.tcl_text.specs.declared.commands.answers.Refusal.{Refusal}
-use Rattle.tk_base.specs.declared.kind.Kind.TheVariants.{Button as ButtonKind}
 use Rattle.tk_class_commands.specs.Changes.{with_change}
-use Rattle.tk_class_commands.specs.declared.buttons.ButtonCommand.{ButtonCommand}
-use Rattle.tk_class_commands.specs.declared.buttons.ButtonCommand.TheVariants.{Enter, Leave, Down, Up, Invoke}
+use Rattle.tk_class_commands.specs.declared.buttons.ButtonRequest.{ButtonRequest}
+use Rattle.tk_class_commands.specs.declared.buttons.ButtonRequest.TheVariants.{Enter, Leave, Press, Release, Invoke}
 use Rattle.tk_class_commands.specs.declared.outcome.ClassOutcome.{ClassOutcome}
-use Rattle.tk_class_commands.specs.declared.outcome.ClassOutcome.TheVariants.{Runs}
-use Rattle.tk_class_commands.specs.Outcomes.{error, nothing}
-use Rattle.tk_class_commands.specs.Targets.{number_of}
+use Rattle.tk_class_commands.specs.declared.outcome.ClassOutcome.TheVariants.{Acts}
+use Rattle.tk_class_commands.specs.Outcomes.{nothing}
 use Rattle.tk_inputs.specs.declared.inputs.Input.{Input}
 use Rattle.tk_inputs.specs.Inputs.{left_by}
 use Rattle.tk_options.specs.declared.option.OptionEntry.{OptionEntry}
@@ -23,26 +18,9 @@ use Rattle.tk_options.specs.Options.{settings}
 use Rattle.tk_screen.specs.Own.{Own}
 use Rattle.tk_screen.specs.Widgets.{widget_at}
 use Rattle.tk_widgets.specs.Classes.{has_value, invoked, relief_of}
-use Rattle.tk_widgets.specs.Commands.{options_in}
+use Rattle.tk_widgets.specs.declared.outcome.WidgetAct.TheVariants.{Script}
 use Rattle.tk_widgets.specs.declared.outcome.WidgetChange.TheVariants.{Configure}
 use Rattle.tk_widgets.specs.declared.widget.Widget.{Widget}
-use Rattle.tk_widgets.specs.declared.widget.Widget.TheVariants.{Button}
-
-unfoldable pub button_command_named : List ℕ → Option ButtonCommand
-button_command_named name =
-    if bytes_eq name (codes "tk::ButtonEnter") then Some Enter
-    else (if bytes_eq name (codes "tk::ButtonLeave") then Some Leave
-    else (if bytes_eq name (codes "tk::ButtonDown") then Some Down
-    else (if bytes_eq name (codes "tk::ButtonUp") then Some Up
-    else (if bytes_eq name (codes "tk::ButtonInvoke") then Some Invoke
-    else None))))
-
-abbrev pub usage_of : ButtonCommand → List ℕ
-usage_of Enter = codes "tk::ButtonEnter %W"
-usage_of Leave = codes "tk::ButtonLeave %W"
-usage_of Down = codes "tk::ButtonDown %W"
-usage_of Up = codes "tk::ButtonUp %W"
-usage_of Invoke = codes "tk::ButtonInvoke %W"
 
 -- what is left of the application, and what comes of the command
 pub record Told : Type 0 where
@@ -61,7 +39,7 @@ is_it number kept = option_map_or (λ other. other == number) kept false
 
 -- what sets a widget's relief, if it takes that
 unfoldable pub relief_settings : List ℕ → Widget → Option (List Setting)
-relief_settings relief widget = result_ok (settings (codes "-relief" ∷ relief ∷ []) (options_in widget))
+relief_settings relief widget = result_ok (settings (codes "-relief" ∷ relief ∷ []) widget.options)
 
 abbrev pub configured : ℕ → Own → Option (List Setting) → Own
 configured number own None = own
@@ -81,12 +59,12 @@ restored number (Some relief) own = with_relief number relief own
 
 -- a button's command, unless the button is disabled
 abbrev pub script_run : Option (List ℕ) → ClassOutcome
-script_run (Some script) = Runs script
+script_run (Some script) = Acts (Script script)
 script_run None = nothing
 
 abbrev pub invoked_of : Option Widget → ClassOutcome
-invoked_of (Some (Button button)) = script_run (invoked button.options)
-invoked_of _ = nothing
+invoked_of (Some widget) = script_run (invoked widget.options)
+invoked_of None = nothing
 
 abbrev pub invoked_at : ℕ → Own → ClassOutcome
 invoked_at number own = invoked_of (widget_at number own.widgets)
@@ -96,8 +74,8 @@ abbrev pub kept_of : List OptionEntry → Option (List ℕ)
 kept_of options = if has_value State (codes "disabled") options then None else Some (relief_of options)
 
 abbrev pub relief_kept : Option Widget → Option (List ℕ)
-relief_kept (Some (Button button)) = kept_of button.options
-relief_kept _ = None
+relief_kept (Some widget) = kept_of widget.options
+relief_kept None = None
 
 abbrev pub relief_to_keep : ℕ → Own → Option (List ℕ)
 relief_to_keep number own = relief_kept (widget_at number own.widgets)
@@ -129,28 +107,9 @@ let_go number own input =
     then told (restored number input.relief own) (record input { pressed = None }) (invoked_over number input (restored number input.relief own))
     else told own input nothing
 
-unfoldable pub act : ButtonCommand → ℕ → Own → Input → Told
+unfoldable pub act : ButtonRequest → ℕ → Own → Input → Told
 act Enter number own input = entered number own input
 act Leave number own input = left number own input
-act Down number own input = pressed number own input
-act Up number own input = let_go number own input
+act Press number own input = pressed number own input
+act Release number own input = let_go number own input
 act Invoke number own input = told own input (invoked_at number own)
-
--- ---- the words
-
--- the number of the button of a path
-abbrev pub button_in : ButtonCommand → List (List ℕ) → Own → Result ℕ (List ℕ)
-button_in command (path ∷ []) own = number_of ButtonKind path own
-button_in command _ own = wrong_args (usage_of command)
-
-abbrev pub acted : ButtonCommand → Result ℕ (List ℕ) → Own → Input → Told
-acted command (Ok number) own input = act command number own input
-acted command (Err text) own input = told own input (error text)
-
--- the same of a step that gave or refused a number
-abbrev pub IsActed : ButtonCommand → Result ℕ Refusal → Own → Input → Told → Type 0
-IsActed command given own input there = (number : Result ℕ (List ℕ)) → Gives given number → there ≡ acted command number own input
-
--- the words behind the command's name
-unfoldable pub button_words : ButtonCommand → List (List ℕ) → Own → Input → Told
-button_words command words own input = acted command (button_in command words own) own input

@@ -1,4 +1,4 @@
--- Changes of widgets that have to do with no variable.
+-- Meaning. Changes of widgets that have to do with no variable.
 use Rattle.std.specs.Prelude.{ℕ}
 use Rattle.tk_screen.specs.Own.{Own}
 use Rattle.tk_screen.specs.Widgets.{made_at}

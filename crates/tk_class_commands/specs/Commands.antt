@@ -1,24 +1,19 @@
--- The commands that class bindings run, by their names.
-use Rattle.std.specs.Prelude.{ℕ, List, Option, Some, None, option_map}
+-- Meaning. What the commands do that class bindings run.
+use Rattle.std.specs.Prelude.{◌≡◌, ℕ, List, Result, Ok, Err}
+use Rattle.tcl_text.specs.Answers.{Gives}
+use Rattle.tcl_text.specs.declared.commands.answers.Refusal.{Refusal}
 use Rattle.tcl_vars.specs.Store.{Store}
 use Rattle.tk_class_commands.specs.Buttons as buttons
-use Rattle.tk_class_commands.specs.declared.commands.ClassCommand.{ClassCommand}
-use Rattle.tk_class_commands.specs.declared.commands.ClassCommand.TheVariants.{Button, Entry, Listbox}
-use Rattle.tk_class_commands.specs.Entries.{entry_command_named, entry_words}
+use Rattle.tk_class_commands.specs.declared.requests.ClassRequest.{ClassRequest}
+use Rattle.tk_class_commands.specs.declared.requests.ClassRequest.TheVariants.{Button, Entry, Listbox}
+use Rattle.tk_class_commands.specs.declared.requests.ClassTarget.{ClassTarget}
+use Rattle.tk_class_commands.specs.Entries.{entry_asked}
 use Rattle.tk_class_commands.specs.Listboxes as listboxes
-use Rattle.tk_class_commands.specs.Outcomes.{Done, done}
+use Rattle.tk_class_commands.specs.Outcomes.{Done, done, error}
+use Rattle.tk_class_commands.specs.Requests.{target_in}
+use Rattle.tk_class_commands.specs.Table.{ClassCommand}
 use Rattle.tk_inputs.specs.Deliver.{Arrivals}
 use Rattle.tk_screen.specs.Own.{Own}
-
--- the first that there is
-abbrev pub or_else : {T : Type 0} → Option T → Option T → Option T
-or_else (Some found) later = Some found
-or_else None later = later
-
-unfoldable pub class_command_named : List ℕ → Option ClassCommand
-class_command_named name =
-    or_else (option_map Button (buttons.button_command_named name))
-    (or_else (option_map Entry (entry_command_named name)) (option_map Listbox (listboxes.listbox_command_named name)))
 
 -- commands of buttons have to do with no variables and no events
 abbrev pub button_done : Arrivals → Store → buttons.Told → Done
@@ -28,8 +23,21 @@ button_done arrivals store there = done there.own (record arrivals { input = the
 abbrev pub listbox_done : Store → listboxes.Told → Done
 listbox_done store there = done there.own there.arrivals store there.outcome
 
+-- what is asked of the widget with a number, at a moment
+abbrev pub asked : ℕ → ℕ → ClassRequest → Own → Arrivals → Store → Done
+asked number moment (Button request) own arrivals store = button_done arrivals store (buttons.act request number own arrivals.input)
+asked number moment (Entry request) own arrivals store = entry_asked number moment request own arrivals store
+asked number moment (Listbox request) own arrivals store = listbox_done store (listboxes.listbox_asked number moment request own arrivals)
+
+abbrev pub requested : ℕ → Result ClassTarget (List ℕ) → Own → Arrivals → Store → Done
+requested moment (Ok target) own arrivals store = asked target.number moment target.request own arrivals store
+requested moment (Err text) own arrivals store = done own arrivals store (error text)
+
+-- the same of a step that gave or refused a target
+abbrev pub IsRequested : ℕ → Result ClassTarget Refusal → Own → Arrivals → Store → Done → Type 0
+IsRequested moment given own arrivals store there =
+    (target : Result ClassTarget (List ℕ)) → Gives given target → there ≡ requested moment target own arrivals store
+
 -- the words behind the command's name, at a moment
 unfoldable pub class_command_done : ClassCommand → List (List ℕ) → ℕ → Own → Arrivals → Store → Done
-class_command_done (Button command) words moment own arrivals store = button_done arrivals store (buttons.button_words command words own arrivals.input)
-class_command_done (Entry command) words moment own arrivals store = entry_words command words moment own arrivals store
-class_command_done (Listbox command) words moment own arrivals store = listbox_done store (listboxes.listbox_words command words moment own arrivals)
+class_command_done command words moment own arrivals store = requested moment (target_in command words own) own arrivals store

@@ -5,4 +5,6 @@ pub mod Commands
 pub mod Entries
 pub mod Listboxes
 pub mod Outcomes
+pub mod Requests
+pub mod Table
 pub mod Targets

@@ -1,25 +1,23 @@
--- What comes of a command.
-use Rattle.std.specs.Prelude.{ℕ, List, [], Option, Some, None, Ok, Err}
+-- Meaning. What comes of a command.
+use Rattle.std.specs.Prelude.{ℕ, List, [], Option, Some, None}
 use Rattle.tcl_vars.specs.Store.{Store}
 use Rattle.tk_class_commands.specs.declared.outcome.ClassOutcome.{ClassOutcome}
-use Rattle.tk_class_commands.specs.declared.outcome.ClassOutcome.TheVariants.{Answers, Runs}
+use Rattle.tk_class_commands.specs.declared.outcome.ClassOutcome.TheVariants.{Acts}
 use Rattle.tk_inputs.specs.Deliver.{Arrivals}
 use Rattle.tk_screen.specs.Own.{Own}
 use Rattle.tk_widgets.specs.declared.outcome.WidgetAct.{WidgetAct}
-use Rattle.tk_widgets.specs.declared.outcome.WidgetAct.TheVariants.{Answer, Script, Fault}
+use Rattle.tk_widgets.specs.declared.outcome.WidgetAct.TheVariants.{Answer, Fault}
 
 -- the empty result
 abbrev pub nothing : ClassOutcome
-nothing = Answers (Ok [])
+nothing = Acts (Answer [])
 
 abbrev pub error : List ℕ → ClassOutcome
-error text = Answers (Err text)
+error text = Acts (Fault text)
 
 -- what was told of a widget; the empty result where there is none
 abbrev pub outcome_of : Option WidgetAct → ClassOutcome
-outcome_of (Some (Answer text)) = Answers (Ok text)
-outcome_of (Some (Script script)) = Runs script
-outcome_of (Some (Fault text)) = Answers (Err text)
+outcome_of (Some act) = Acts act
 outcome_of None = nothing
 
 -- what is left of the application, and what comes of the command

@@ -1,4 +1,4 @@
--- The window that a command is called for.
+-- Meaning. The window that a command is called for.
 use Rattle.std.specs.Prelude.{ℕ, List, ◌++◌, Option, Some, None, Result, Ok, codes, if◌then◌else◌}
 use Rattle.std.specs.Str.{bytes_eq}
 use Rattle.tcl_text.specs.Answers.{fails, quoted}

@@ -1,147 +1,55 @@
 //! What the pointer and keys do to buttons (button(n)).
 ghost use Rattle.std.specs.Prelude.{◌≡◌, IfOk, OnOk, codes};
 ghost use Rattle.std.specs.Option.{option_copied};
-ghost use Rattle.tcl_text.specs.Answers.{Gives};
 ghost use Rattle.tk_class_commands.specs.Buttons as spec;
 ghost use Rattle.tk_inputs.specs.Inputs as inputs_of;
 ghost use Rattle.tk_screen.specs.Own.{LeavesOthers, own_of};
 
 use crate::changes::make;
 use crate::outcome::{ClassOutcome, nothing};
-use crate::refusals::number_of;
 use std::alloc::{AllocError, Global};
-use tcl_text::answers::{Refusal, wrong_args};
 use tcl_text::{Text, TextList};
-use tk_base::{Kind, Win};
+use tk_base::Win;
 use tk_inputs::Inputs;
 use tk_options::{OptionFault, Settings};
 use tk_screen::Screen;
-use tk_widgets::{Widget, WidgetChange};
+use tk_widgets::{Widget, WidgetAct, WidgetChange};
 
-/// A command of the class Button.
-#[derive(Clone, Copy, Debug, PartialEq, Eq)]
-pub enum ButtonCommand {
-    /// The pointer comes over the button.
+/// What is done to a button.
+#[derive(Clone, Copy)]
+pub enum ButtonRequest {
+    /// The pointer comes over it.
     Enter,
     /// The pointer leaves it.
     Leave,
     /// It is pressed.
-    Down,
+    Press,
     /// It is let go.
-    Up,
+    Release,
     /// It is invoked by a key.
     Invoke,
 }
 
-/// The one of a name.
-#[tactic(auto, unfolding(crate::specs::Buttons::button_command_named))]
-pub fn button_command_named(name: &str) -> Option<ButtonCommand>
-    ensures { result ≡ spec.button_command_named name.now }
-{
-    match name {
-        "tk::ButtonEnter" => Some(ButtonCommand::Enter),
-        "tk::ButtonLeave" => Some(ButtonCommand::Leave),
-        "tk::ButtonDown" => Some(ButtonCommand::Down),
-        "tk::ButtonUp" => Some(ButtonCommand::Up),
-        "tk::ButtonInvoke" => Some(ButtonCommand::Invoke),
-        _ => None,
-    }
-}
-
-/// What one does, from the words behind its name: the path of a button (24).
-#[tactic(auto, unfolding(crate::specs::Buttons::button_words))]
-pub fn button_command_done(
-    alloc: Global,
-    screen: &mut Screen,
-    inputs: &mut Inputs,
-    slot: usize,
-    command: ButtonCommand,
-    words: &[Text],
-) -> Result<ClassOutcome, AllocError>
-    ensures own { IfOk result (λ outcome. spec.told (own_of slot screen.new) (inputs_of.own_of slot inputs.new) outcome
-        ≡ spec.button_words command words.now (own_of slot screen.old) (inputs_of.own_of slot inputs.old)) }
-    ensures screen { LeavesOthers slot screen.old screen.new }
-    ensures inputs { inputs_of.LeavesOthers slot inputs.old inputs.new }
-{
-    let number = button_in(alloc, screen, slot, command, words);
-    acted(alloc, screen, inputs, slot, command, number)
-}
-
-/// The button that the words are for.
-fn button_in(
-    alloc: Global,
-    screen: &Screen,
-    slot: usize,
-    command: ButtonCommand,
-    words: &[Text],
-) -> Result<u64, Refusal>
-    ensures { Gives result (spec.button_in command words.now (own_of slot screen.now)) }
-{
-    match words {
-        [path] => number_of(alloc, screen, slot, Kind::Button, path),
-        _ => wrong_args(alloc, usage_of(command)),
-    }
-}
-
-fn usage_of(command: ButtonCommand) -> &'static str
-    ensures { result.now ≡ spec.usage_of command }
-{
-    match command {
-        ButtonCommand::Enter => "tk::ButtonEnter %W",
-        ButtonCommand::Leave => "tk::ButtonLeave %W",
-        ButtonCommand::Down => "tk::ButtonDown %W",
-        ButtonCommand::Up => "tk::ButtonUp %W",
-        ButtonCommand::Invoke => "tk::ButtonInvoke %W",
-    }
-}
-
-/// What is done to the button, if there is one.
-fn acted(
-    alloc: Global,
-    screen: &mut Screen,
-    inputs: &mut Inputs,
-    slot: usize,
-    command: ButtonCommand,
-    number: Result<u64, Refusal>,
-) -> Result<ClassOutcome, AllocError>
-    ensures own { IfOk result (λ outcome. spec.IsActed command number (own_of slot screen.old) (inputs_of.own_of slot inputs.old)
-        (spec.told (own_of slot screen.new) (inputs_of.own_of slot inputs.new) outcome)) }
-    ensures screen { LeavesOthers slot screen.old screen.new }
-    ensures inputs { inputs_of.LeavesOthers slot inputs.old inputs.new }
-{
-    match number {
-        Ok(number) => {
-            let win = Win {
-                owner: slot,
-                number,
-            };
-            act(alloc, screen, inputs, win, command)
-        }
-        Err(Refusal::Error(text)) => Ok(ClassOutcome::Answers(Err(text))),
-        Err(Refusal::NoMemory) => Err(AllocError),
-    }
-}
-
-/// What is done to a button.
+/// Does it.
 #[tactic(auto, unfolding(crate::specs::Buttons::act))]
-fn act(
+pub fn act(
     alloc: Global,
     screen: &mut Screen,
     inputs: &mut Inputs,
     win: Win,
-    command: ButtonCommand,
+    request: ButtonRequest,
 ) -> Result<ClassOutcome, AllocError>
     ensures own { IfOk result (λ outcome. spec.told (own_of win.owner screen.new) (inputs_of.own_of win.owner inputs.new) outcome
-        ≡ spec.act command win.number (own_of win.owner screen.old) (inputs_of.own_of win.owner inputs.old)) }
+        ≡ spec.act request win.number (own_of win.owner screen.old) (inputs_of.own_of win.owner inputs.old)) }
     ensures screen { LeavesOthers win.owner screen.old screen.new }
     ensures inputs { inputs_of.LeavesOthers win.owner inputs.old inputs.new }
 {
-    match command {
-        ButtonCommand::Enter => enter(alloc, screen, inputs, win),
-        ButtonCommand::Leave => leave(alloc, screen, inputs, win),
-        ButtonCommand::Down => down(alloc, screen, inputs, win),
-        ButtonCommand::Up => up(alloc, screen, inputs, win),
-        ButtonCommand::Invoke => invoke(alloc, screen, win),
+    match request {
+        ButtonRequest::Enter => enter(alloc, screen, inputs, win),
+        ButtonRequest::Leave => leave(alloc, screen, inputs, win),
+        ButtonRequest::Press => press(alloc, screen, inputs, win),
+        ButtonRequest::Release => release(alloc, screen, inputs, win),
+        ButtonRequest::Invoke => invoke(alloc, screen, win),
     }
 }
 
@@ -184,7 +92,7 @@ fn leave(
 }
 
 /// A button is pressed, unless it is disabled: it is sunken, and its relief is kept.
-fn down(
+fn press(
     alloc: Global,
     screen: &mut Screen,
     inputs: &mut Inputs,
@@ -203,7 +111,7 @@ fn down(
 }
 
 /// A button is let go, if it is pressed: it has its relief again, and is invoked where the pointer is over it.
-fn up(
+fn release(
     alloc: Global,
     screen: &mut Screen,
     inputs: &mut Inputs,
@@ -229,14 +137,12 @@ fn up(
 fn invoke(alloc: Global, screen: &Screen, win: Win) -> Result<ClassOutcome, AllocError>
     ensures { IfOk result (λ outcome. outcome ≡ spec.invoked_at win.number (own_of win.owner screen.now)) }
 {
-    match screen.widget(win) {
-        Some(Widget::Button(button)) => {
-            match button.invoke() {
-                Some(script) => Ok(ClassOutcome::Runs(script.copy()?)),
-                None => Ok(nothing()),
-            }
-        }
-        _ => Ok(nothing()),
+    let Some(widget) = screen.widget(win) else {
+        return Ok(nothing());
+    };
+    match widget.invoked() {
+        Some(script) => Ok(ClassOutcome::Acts(WidgetAct::Script(script.copy()?))),
+        None => Ok(nothing()),
     }
 }
 
@@ -269,13 +175,13 @@ fn relief_to_keep(alloc: Global, screen: &Screen, win: Win) -> Result<Option<Tex
     ensures { IfOk result (λ relief. relief ≡ spec.relief_to_keep win.number (own_of win.owner screen.now)) }
 {
     match screen.widget(win) {
-        Some(Widget::Button(button)) => {
+        Some(button) => {
             if button.is_disabled() {
                 return Ok(None);
             }
             Ok(Some(button.relief(alloc)?))
         }
-        _ => Ok(None),
+        None => Ok(None),
     }
 }
 
@@ -325,7 +231,7 @@ fn relief_settings(
     let mut words = TextList::new(alloc);
     words.push(Text::of_short(alloc, "-relief")?)?;
     words.push(relief)?;
-    match widget.options().settings(alloc, words.as_slice()) {
+    match widget.options.settings(alloc, words.as_slice()) {
         Ok(all) => Ok(Some(all)),
         Err(OptionFault::NoMemory) => Err(AllocError),
         Err(_) => Ok(None),

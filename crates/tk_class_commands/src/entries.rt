@@ -1,238 +1,219 @@
-//! The commands of the class Entry, by their words.
-ghost use Rattle.std.specs.Prelude.{◌≡◌, IfOk};
-ghost use Rattle.tcl_text.specs.Answers.{Gives};
+//! What keys and the pointer do to entries (entry(n)).
+ghost use Rattle.std.specs.Prelude.{◌≡◌, IfOk, OnOk};
+ghost use Rattle.std.specs.Option.{option_copied};
 ghost use Rattle.tk_class_commands.specs.Entries as spec;
 ghost use Rattle.tk_class_commands.specs.Outcomes.{done};
 ghost use Rattle.tk_inputs.specs.Deliver.{arrivals_of};
 ghost use Rattle.tk_inputs.specs.Inputs as inputs_of;
 ghost use Rattle.tk_dispatch.specs.Queue as queue_of;
 ghost use Rattle.tk_screen.specs.Own.{LeavesOthers, own_of};
+ghost use Rattle.tk_widgets.specs.Classes.{columns_to};
 
-use crate::entry_keys::{EntryAsk, EntryKey, entry_asked};
-use crate::outcome::ClassOutcome;
-use crate::refusals::{integer_in, number_of};
+use crate::changes::make;
+use crate::outcome::{ClassOutcome, nothing, outcome_of};
 use std::alloc::{AllocError, Global};
 use tcl_text::Text;
-use tcl_text::answers::{Refusal, bad_option, wrong_args};
 use tcl_vars::Scopes;
-use tk_base::{Kind, Win};
+use tk_base::Win;
 use tk_dispatch::EventQueue;
-use tk_entry::Move;
-use tk_inputs::Inputs;
-use tk_screen::Screen;
+use tk_entry::{Entry, Move};
+use tk_inputs::{Inputs, set_focus};
+use tk_options::{OptionName, OptionTable};
+use tk_screen::{Screen, change_widget, variable_text};
+use tk_widgets::{EntryEdit, Parts, Widget, WidgetChange, WidgetRequest};
 
-/// A command of the class Entry.
-#[derive(Clone, Copy, Debug, PartialEq, Eq)]
-pub enum EntryCommand {
-    /// The text of a key is inserted.
-    Insert,
-    /// The character before the cursor is deleted.
-    Backspace,
-    /// The character behind the cursor is deleted.
-    Delete,
-    /// The cursor goes by a key.
-    Move,
-    /// The entry is pressed.
-    Down,
-}
+/// The width of a column, in pixels.
+const COLUMN: usize = 8;
 
-/// An entry, and what a command asks of it.
+/// What a command asks of an entry.
 #[derive(Drop)]
-pub struct EntryRequest {
-    pub number: u64,
-    pub ask: EntryAsk,
+pub enum EntryRequest {
+    /// An edit by a key.
+    Edit(EntryEdit),
+    /// The cursor goes by a key.
+    Move(Move),
+    /// The entry is pressed, so many pixels from its left edge.
+    Point(i64),
 }
 
-/// The one of a name.
-#[tactic(auto, unfolding(crate::specs::Entries::entry_command_named))]
-pub fn entry_command_named(name: &str) -> Option<EntryCommand>
-    ensures { result ≡ spec.entry_command_named name.now }
-{
-    match name {
-        "tk::EntryInsert" => Some(EntryCommand::Insert),
-        "tk::EntryBackspace" => Some(EntryCommand::Backspace),
-        "tk::EntryDelete" => Some(EntryCommand::Delete),
-        "tk::EntryMove" => Some(EntryCommand::Move),
-        "tk::EntryDown" => Some(EntryCommand::Down),
-        _ => None,
-    }
+/// How a cursor goes.
+#[derive(Clone, Copy)]
+pub enum CursorMove {
+    /// By a key.
+    By(Move),
+    /// To the pointer, so many pixels from the left edge.
+    To(i64),
 }
 
-/// What one does, from the words behind its name, at a moment in milliseconds. Errors are a wrong number of words (no number), a path that no
-/// entry has (24), a word that is no way of the cursor's (no number), one that is no integer (1), and a variable that can't be set.
-#[tactic(auto, unfolding(crate::specs::Entries::entry_words))]
-pub fn entry_command_done(
+/// What is done to an entry, at a moment in milliseconds.
+pub fn entry_asked(
     alloc: Global,
     screen: &mut Screen,
     inputs: &mut Inputs,
     queue: &mut EventQueue,
     scopes: &mut Scopes,
-    slot: usize,
+    win: Win,
     moment: u64,
-    command: EntryCommand,
-    words: &[Text],
+    request: EntryRequest,
 ) -> Result<ClassOutcome, AllocError>
-    ensures own { IfOk result (λ outcome. done (own_of slot screen.new) (arrivals_of slot inputs.new queue.new) scopes.new outcome
-        ≡ spec.entry_words command words.now moment (own_of slot screen.old) (arrivals_of slot inputs.old queue.old) scopes.old) }
-    ensures screen { LeavesOthers slot screen.old screen.new }
-    ensures inputs { inputs_of.LeavesOthers slot inputs.old inputs.new }
-    ensures queue { queue_of.LeavesOthers slot queue.old queue.new }
-{
-    let request = entry_in(alloc, screen, slot, command, words);
-    requested(alloc, screen, inputs, queue, scopes, slot, moment, request)
-}
-
-/// What is done to the entry, if there is one.
-fn requested(
-    alloc: Global,
-    screen: &mut Screen,
-    inputs: &mut Inputs,
-    queue: &mut EventQueue,
-    scopes: &mut Scopes,
-    slot: usize,
-    moment: u64,
-    request: Result<EntryRequest, Refusal>,
-) -> Result<ClassOutcome, AllocError>
-    ensures own { IfOk result (λ outcome. spec.IsRequested moment request (own_of slot screen.old) (arrivals_of slot inputs.old queue.old) scopes.old
-        (done (own_of slot screen.new) (arrivals_of slot inputs.new queue.new) scopes.new outcome)) }
-    ensures screen { LeavesOthers slot screen.old screen.new }
-    ensures inputs { inputs_of.LeavesOthers slot inputs.old inputs.new }
-    ensures queue { queue_of.LeavesOthers slot queue.old queue.new }
+    ensures own { IfOk result (λ outcome. done (own_of win.owner screen.new) (arrivals_of win.owner inputs.new queue.new) scopes.new outcome
+        ≡ spec.entry_asked win.number moment request (own_of win.owner screen.old) (arrivals_of win.owner inputs.old queue.old) scopes.old) }
+    ensures screen { LeavesOthers win.owner screen.old screen.new }
+    ensures inputs { inputs_of.LeavesOthers win.owner inputs.old inputs.new }
+    ensures queue { queue_of.LeavesOthers win.owner queue.old queue.new }
 {
     match request {
-        Ok(EntryRequest { number, ask }) => {
-            let win = Win {
-                owner: slot,
-                number,
-            };
-            entry_asked(alloc, screen, inputs, queue, scopes, win, moment, ask)
+        EntryRequest::Edit(key) => edit(alloc, screen, scopes, win, key),
+        EntryRequest::Move(way) => {
+            move_cursor(alloc, screen, scopes, win, CursorMove::By(way))?;
+            Ok(nothing())
         }
-        Err(Refusal::Error(text)) => Ok(ClassOutcome::Answers(Err(text))),
-        Err(Refusal::NoMemory) => Err(AllocError),
+        EntryRequest::Point(x) => point(alloc, screen, inputs, queue, scopes, win, moment, x),
     }
 }
 
-/// The entry that the words are for, and what they ask of it.
-fn entry_in(
+/// An edit by a key, with the variable that the entry shows.
+fn edit(
     alloc: Global,
-    screen: &Screen,
-    slot: usize,
-    command: EntryCommand,
-    words: &[Text],
-) -> Result<EntryRequest, Refusal>
-    ensures { Gives result (spec.entry_in command words.now (own_of slot screen.now)) }
+    screen: &mut Screen,
+    scopes: &mut Scopes,
+    win: Win,
+    key: EntryEdit,
+) -> Result<ClassOutcome, AllocError>
+    ensures own { IfOk result (λ outcome. spec.edit_told (own_of win.owner screen.new) scopes.new outcome
+        ≡ spec.edited win.number key (own_of win.owner screen.old) scopes.old) }
+    ensures others { LeavesOthers win.owner screen.old screen.new }
 {
-    match command {
-        EntryCommand::Insert => typed_in(alloc, screen, slot, words),
-        EntryCommand::Backspace => backspace_in(alloc, screen, slot, words),
-        EntryCommand::Delete => delete_in(alloc, screen, slot, words),
-        EntryCommand::Move => move_in(alloc, screen, slot, words),
-        EntryCommand::Down => down_in(alloc, screen, slot, words),
-    }
-}
-
-fn typed_in(
-    alloc: Global,
-    screen: &Screen,
-    slot: usize,
-    words: &[Text],
-) -> Result<EntryRequest, Refusal>
-    ensures { Gives result (spec.typed_in words.now (own_of slot screen.now)) }
-{
-    match words {
-        [path, text] => {
-            let number = number_of(alloc, screen, slot, Kind::Entry, path)?;
-            let ask = EntryAsk::Edit(EntryKey::Type(text.copy()?));
-            Ok(EntryRequest { number, ask })
+    let Some(widget) = screen.widget(win) else {
+        return Ok(nothing());
+    };
+    match widget.ask_edit(alloc, variable_text(widget, scopes), &key)? {
+        WidgetRequest::Done(act) => Ok(outcome_of(Some(act))),
+        WidgetRequest::Wants(change) => {
+            let act = change_widget(alloc, screen, scopes, win, change)?;
+            Ok(outcome_of(act))
         }
-        _ => wrong_args(alloc, "tk::EntryInsert %W %A"),
     }
 }
 
-fn backspace_in(
+/// Puts the cursor of an entry behind so many characters.
+fn put_cursor(
     alloc: Global,
-    screen: &Screen,
-    slot: usize,
-    words: &[Text],
-) -> Result<EntryRequest, Refusal>
-    ensures { Gives result (spec.backspace_in words.now (own_of slot screen.now)) }
+    screen: &mut Screen,
+    win: Win,
+    at: Option<usize>,
+) -> Result<(), AllocError>
+    ensures own { OnOk result (own_of win.owner screen.new ≡ spec.with_cursor win.number at (own_of win.owner screen.old)) }
+    ensures others { LeavesOthers win.owner screen.old screen.new }
 {
-    match words {
-        [path] => {
-            let number = number_of(alloc, screen, slot, Kind::Entry, path)?;
-            let ask = EntryAsk::Edit(EntryKey::Backspace);
-            Ok(EntryRequest { number, ask })
-        }
-        _ => wrong_args(alloc, "tk::EntryBackspace %W"),
+    match at {
+        Some(at) => make(alloc, screen, win, WidgetChange::PutCursor(at)),
+        None => Ok(()),
     }
 }
 
-fn delete_in(
+/// Behind how many characters the cursor comes; nowhere where the widget is no entry.
+fn place_of(widget: &Widget, scopes: &Scopes, how: CursorMove) -> Result<Option<usize>, AllocError>
+    ensures { IfOk result (λ at. at ≡ spec.place_of how scopes.now widget.now) }
+{
+    match &widget.parts {
+        Parts::Entry(entry) => {
+            let at = place_in(&widget.options, entry, variable_text(widget, scopes), how)?;
+            Ok(Some(at))
+        }
+        _ => Ok(None),
+    }
+}
+
+/// Behind how many characters the cursor of an entry comes that shows this text of a variable.
+fn place_in(
+    options: &OptionTable,
+    entry: &Entry,
+    variable: Option<&Text>,
+    how: CursorMove,
+) -> Result<usize, AllocError>
+    ensures { IfOk result (λ at. at ≡ spec.place_in how (option_copied variable.entry) options.now entry.now) }
+{
+    let mut moved = copy_of(entry)?;
+    match how {
+        CursorMove::By(way) => moved.move_cursor(variable, way),
+        CursorMove::To(x) => {
+            let room = columns_to(x, options.amount(OptionName::BorderWidth));
+            moved.point(variable, room);
+        }
+    }
+    Ok(moved.cursor)
+}
+
+/// How many columns stand to the left of so many pixels, inside a border.
+fn columns_to(x: i64, border: u32) -> usize
+    ensures { result ≡ columns_to x border }
+{
+    usize::try_from(x)
+        .unwrap_or(0)
+        .saturating_sub(border as usize)
+        / COLUMN
+}
+
+/// A copy of an entry.
+fn copy_of(entry: &Entry) -> Result<Entry, AllocError>
+    ensures { IfOk result (λ copy. copy ≡ entry.now) }
+{
+    Ok(Entry {
+        text: entry.text.copy()?,
+        cursor: entry.cursor,
+    })
+}
+
+/// The cursor of an entry goes by a key or to the pointer.
+fn move_cursor(
     alloc: Global,
-    screen: &Screen,
-    slot: usize,
-    words: &[Text],
-) -> Result<EntryRequest, Refusal>
-    ensures { Gives result (spec.delete_in words.now (own_of slot screen.now)) }
+    screen: &mut Screen,
+    scopes: &Scopes,
+    win: Win,
+    how: CursorMove,
+) -> Result<(), AllocError>
+    ensures own { OnOk result (own_of win.owner screen.new ≡ spec.moved_at win.number how (own_of win.owner screen.old) scopes.now) }
+    ensures others { LeavesOthers win.owner screen.old screen.new }
 {
-    match words {
-        [path] => {
-            let number = number_of(alloc, screen, slot, Kind::Entry, path)?;
-            let ask = EntryAsk::Edit(EntryKey::Delete);
-            Ok(EntryRequest { number, ask })
-        }
-        _ => wrong_args(alloc, "tk::EntryDelete %W"),
-    }
+    let Some(widget) = screen.widget(win) else {
+        return Ok(());
+    };
+    let at = place_of(widget, scopes, how)?;
+    put_cursor(alloc, screen, win, at)
 }
 
-fn move_in(
+/// An entry is pressed, unless it is disabled: it gets the keys, and its cursor goes to the pointer.
+fn point(
     alloc: Global,
-    screen: &Screen,
-    slot: usize,
-    words: &[Text],
-) -> Result<EntryRequest, Refusal>
-    ensures { Gives result (spec.move_in words.now (own_of slot screen.now)) }
+    screen: &mut Screen,
+    inputs: &mut Inputs,
+    queue: &mut EventQueue,
+    scopes: &Scopes,
+    win: Win,
+    moment: u64,
+    x: i64,
+) -> Result<ClassOutcome, AllocError>
+    ensures own { IfOk result (λ outcome. done (own_of win.owner screen.new) (arrivals_of win.owner inputs.new queue.new) scopes.now outcome
+        ≡ spec.pointed win.number moment x (own_of win.owner screen.old) (arrivals_of win.owner inputs.old queue.old) scopes.now) }
+    ensures screen { LeavesOthers win.owner screen.old screen.new }
+    ensures inputs { inputs_of.LeavesOthers win.owner inputs.old inputs.new }
+    ensures queue { queue_of.LeavesOthers win.owner queue.old queue.new }
 {
-    match words {
-        [path, word] => {
-            let number = number_of(alloc, screen, slot, Kind::Entry, path)?;
-            let way = way_in(alloc, word)?;
-            Ok(EntryRequest {
-                number,
-                ask: EntryAsk::Move(way),
-            })
-        }
-        _ => wrong_args(alloc, "tk::EntryMove %W left"),
+    if is_disabled(screen, win) {
+        return Ok(nothing());
     }
+    set_focus(&screen.windows, inputs, queue, win, moment)?;
+    move_cursor(alloc, screen, scopes, win, CursorMove::To(x))?;
+    Ok(nothing())
 }
 
-/// The way of the cursor that a word names.
-fn way_in(alloc: Global, word: &Text) -> Result<Move, Refusal>
-    ensures { Gives result (spec.way_in word.now) }
+/// Whether it is an entry that takes no part in anything.
+fn is_disabled(screen: &Screen, win: Win) -> bool
+    ensures { result ≡ spec.is_disabled_at win.number (own_of win.owner screen.now) }
 {
-    match Move::named(word.as_str()) {
-        Some(way) => Ok(way),
-        None => bad_option(alloc, word),
-    }
-}
-
-fn down_in(
-    alloc: Global,
-    screen: &Screen,
-    slot: usize,
-    words: &[Text],
-) -> Result<EntryRequest, Refusal>
-    ensures { Gives result (spec.down_in words.now (own_of slot screen.now)) }
-{
-    match words {
-        [path, x] => {
-            let number = number_of(alloc, screen, slot, Kind::Entry, path)?;
-            let x = integer_in(alloc, x)?;
-            Ok(EntryRequest {
-                number,
-                ask: EntryAsk::Point(x),
-            })
-        }
-        _ => wrong_args(alloc, "tk::EntryDown %W %x"),
+    match screen.widget(win) {
+        Some(entry) => entry.is_disabled(),
+        None => false,
     }
 }

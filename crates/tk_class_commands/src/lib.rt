@@ -6,10 +6,12 @@ mod buttons;
 mod changes;
 mod commands;
 mod entries;
-mod entry_keys;
 mod listboxes;
 mod outcome;
-mod refusals;
+mod requests;
+mod table;
+mod targets;
 
-pub use commands::{ClassCommand, class_command_done, class_command_named};
+pub use commands::class_command_done;
 pub use outcome::ClassOutcome;
+pub use table::{ClassCommand, class_command_named};

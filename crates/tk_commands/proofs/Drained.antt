@@ -3,7 +3,7 @@ use Rattle.std.proofs.Common.{◌≡◌, ℕ, List, [], ◌∷◌, refl, ◌∙�
 use Rattle.std.specs.Prelude.{Option, Some, None, Ok, Err}
 use Rattle.tcl_vars.specs.Store.{Store}
 use Rattle.tk_dispatch.specs.Dispatch.{Chosen}
-use Rattle.tk_events.specs.declared.event.Event.{Event}
+use Rattle.tk_sequences.specs.declared.event.Event.{Event}
 use Rattle.tk_packer.specs.declared.changes.PlaceChange.{PlaceChange}
 use Rattle.tk_screen.specs.Layout.{changes_due, laid_out as laid_out_screen}
 use Rattle.tk_tree.specs.declared.window.Window.{Window}

@@ -1,4 +1,4 @@
--- The commands `bind`, `bindtags`, `event` and `focus`, from the words behind their names.
+-- Meaning. The commands `bind`, `bindtags`, `event` and `focus`, from the words behind their names.
 use Rattle.std.specs.Prelude.{ℕ, List, [], ◌∷◌, Option, Some, None, codes, if◌then◌else◌}
 use Rattle.std.specs.Str.{bytes_eq}
 use Rattle.tcl_text.specs.Answers.{Answer}

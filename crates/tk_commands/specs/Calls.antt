@@ -1,6 +1,5 @@
--- The commands of an application, as its interpreter calls them.
-use Rattle.std.specs.Prelude.{ℕ, List, [], Ok, Err}
-use Rattle.tcl_text.specs.Answers.{Answer}
+-- Meaning. The commands of an application, as its interpreter calls them.
+use Rattle.std.specs.Prelude.{ℕ, List, []}
 use Rattle.tcl_vars.specs.Store.{Store}
 use Rattle.tcl_control.specs.declared.code.Code.TheVariants.{Normal, Error}
 use Rattle.tcl_interp.specs.declared.tasks.Act.{Act}
@@ -16,6 +15,8 @@ use Rattle.tk_commands.specs.declared.outcome.CommandOutcome.TheVariants as outc
 use Rattle.tk_commands.specs.Commands.{panel_command}
 use Rattle.tk_commands.specs.Outcomes.{Done as Came}
 use Rattle.tk_commands.specs.Course.{course}
+use Rattle.tk_widgets.specs.declared.outcome.WidgetAct.{WidgetAct}
+use Rattle.tk_widgets.specs.declared.outcome.WidgetAct.TheVariants as widget
 
 abbrev pub Does : Type 0
 Does = Told Panel (Task Job)
@@ -28,14 +29,14 @@ begun job panel store = looked_told course panel store job
 
 -- ── commands ──
 
-abbrev pub answer_act : Answer → Act (Task Job)
-answer_act (Ok text) = act.Done Normal text
-answer_act (Err text) = act.Done Error text
+abbrev pub act_of : WidgetAct → Act (Task Job)
+act_of (widget.Answer text) = act.Done Normal text
+act_of (widget.Fault text) = act.Done Error text
+act_of (widget.Script script) = act.Run script Invoked
 
 -- A script that a command runs ends as the command does, and so does a job that it begins.
 abbrev pub outcome_told : CommandOutcome → Panel → Store → Does
-outcome_told (outcome.Answers answer) panel store = told panel store (answer_act answer)
-outcome_told (outcome.Runs script) panel store = told panel store (act.Run script Invoked)
+outcome_told (outcome.Acts act) panel store = told panel store (act_of act)
 outcome_told (outcome.Begins job) panel store = begun job panel store
 outcome_told outcome.Unknown panel store = told panel store act.Unknown
 

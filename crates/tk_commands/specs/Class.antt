@@ -1,14 +1,14 @@
--- The commands that class bindings run, from the words behind their names.
+-- Meaning. The commands that class bindings run, from the words behind their names.
 use Rattle.std.specs.Prelude.{ℕ, List}
 use Rattle.tcl_vars.specs.Store.{Store}
 use Rattle.tk_class_commands.specs.Commands.{class_command_done}
-use Rattle.tk_class_commands.specs.declared.commands.ClassCommand.{ClassCommand}
 use Rattle.tk_class_commands.specs.declared.outcome.ClassOutcome.{ClassOutcome}
 use Rattle.tk_class_commands.specs.declared.outcome.ClassOutcome.TheVariants as class
 use Rattle.tk_class_commands.specs.Outcomes as outcomes
+use Rattle.tk_class_commands.specs.Table.{ClassCommand}
 use Rattle.tk_panel.specs.Panel.{Panel}
 use Rattle.tk_commands.specs.Binding.{arrivals_in}
-use Rattle.tk_commands.specs.declared.outcome.CommandOutcome.TheVariants.{Answers, Runs}
+use Rattle.tk_commands.specs.declared.outcome.CommandOutcome.TheVariants.{Acts}
 use Rattle.tk_commands.specs.Dispatch.{selection_told}
 use Rattle.tk_commands.specs.Outcomes.{Done, Told, told, with_store}
 
@@ -31,8 +31,7 @@ class_command command words panel store =
 
 -- a selection that was made is told at once
 abbrev pub outcome_for : ClassOutcome → Panel → Told
-outcome_for (class.Answers answer) panel = told panel (Answers answer)
-outcome_for (class.Runs script) panel = told panel (Runs script)
+outcome_for (class.Acts act) panel = told panel (Acts act)
 outcome_for (class.Selects number) panel = selection_told number panel
 
 abbrev pub outcome_told : ClassDone → Done

@@ -1,7 +1,8 @@
--- The commands of an application, by their names and the words behind them.
+-- Meaning. The commands of an application, by their names and the words behind them.
 use Rattle.std.specs.Prelude.{ℕ, List, [], ◌∷◌, Option, Some, None, option_map, if◌then◌else◌}
+use Rattle.std.specs.Option.{option_or}
 use Rattle.tcl_vars.specs.Store.{Store}
-use Rattle.tk_class_commands.specs.Commands.{class_command_named, or_else}
+use Rattle.tk_class_commands.specs.Table.{class_command_named}
 use Rattle.tk_pack_commands.specs.Targets.{begins_path}
 use Rattle.tk_panel.specs.Panel.{Panel}
 use Rattle.tk_commands.specs.Binding.{binding_command_done, binding_command_named}
@@ -17,9 +18,9 @@ use Rattle.tk_commands.specs.Screen.{screen_command_done, screen_command_named}
 -- the command of a name
 unfoldable pub command_named : List ℕ → Option TkCommand
 command_named name =
-    or_else (option_map Screen (screen_command_named name))
-    (or_else (option_map Moment (moment_command_named name))
-    (or_else (option_map Binding (binding_command_named name)) (option_map Class (class_command_named name))))
+    option_or (option_map Screen (screen_command_named name))
+    (option_or (option_map Moment (moment_command_named name))
+    (option_or (option_map Binding (binding_command_named name)) (option_map Class (class_command_named name))))
 
 -- what it does, with the words behind its name
 unfoldable pub command_done : TkCommand → List (List ℕ) → Panel → Store → Done

@@ -1,4 +1,4 @@
--- The course of an application's jobs: what comes next of each, what that starts, and what the end of a script makes of it.
+-- Meaning. The course of an application's jobs: what comes next of each, what that starts, and what the end of a script makes of it.
 use Rattle.std.specs.Prelude.{ℕ, List, [], Option, Some, None}
 use Rattle.tcl_vars.specs.Store.{Store}
 use Rattle.tcl_control.specs.declared.code.Code.{Code}

@@ -1,8 +1,8 @@
--- Events that commands dispatch at once, or queue (event(n)).
+-- Meaning. Events that commands dispatch at once, or queue (event(n)).
 use Rattle.std.specs.Prelude.{ℕ, List, [], ◌∷◌, ◌++◌, length, Option, Some, None, option_map, Result, Ok, Err, codes}
-use Rattle.tk_events.specs.declared.event.Event.{Event}
-use Rattle.tk_events.specs.declared.event.EventKind.TheVariants.{Virtual}
-use Rattle.tk_events.specs.Event.{bare_event}
+use Rattle.tk_sequences.specs.declared.event.Event.{Event}
+use Rattle.tk_sequences.specs.declared.event.EventKind.TheVariants.{Virtual}
+use Rattle.tk_sequences.specs.Event.{bare_event}
 use Rattle.tk_generate.specs.declared.generate.Generated.{Generated}
 use Rattle.tk_generate.specs.declared.given.When.{When}
 use Rattle.tk_generate.specs.declared.given.When.TheVariants.{Now, Tail, Head}
@@ -10,8 +10,9 @@ use Rattle.tk_generate.specs.Generate.{generate_words}
 use Rattle.tk_panel.specs.declared.job.Rest.TheVariants.{Ends}
 use Rattle.tk_panel.specs.Choice.{chosen}
 use Rattle.tk_panel.specs.Panel.{Panel}
-use Rattle.tk_commands.specs.declared.outcome.CommandOutcome.TheVariants.{Answers, Begins}
+use Rattle.tk_commands.specs.declared.outcome.CommandOutcome.TheVariants.{Acts, Begins}
 use Rattle.tk_commands.specs.Outcomes.{Told, told}
+use Rattle.tk_widgets.specs.declared.outcome.WidgetAct.TheVariants.{Answer, Fault}
 use Rattle.tk_tree.specs.declared.window.Window.{Window}
 use Rattle.tk_tree.specs.Own.{window_at}
 
@@ -29,12 +30,12 @@ with_queue queue panel = record panel { queue = queue }
 -- a generated event comes at once, or waits behind all others or before them
 abbrev pub arrived : When → Event → Panel → Told
 arrived Now event panel = dispatched event panel
-arrived Tail event panel = told (with_queue (panel.queue ++ event ∷ []) panel) (Answers (Ok []))
-arrived Head event panel = told (with_queue (event ∷ panel.queue) panel) (Answers (Ok []))
+arrived Tail event panel = told (with_queue (panel.queue ++ event ∷ []) panel) (Acts (Answer []))
+arrived Head event panel = told (with_queue (event ∷ panel.queue) panel) (Acts (Answer []))
 
 abbrev pub generated_told : Result Generated (List ℕ) → Panel → Told
 generated_told (Ok generated) panel = arrived generated.when generated.event panel
-generated_told (Err text) panel = told panel (Answers (Err text))
+generated_told (Err text) panel = told panel (Acts (Fault text))
 
 -- event generate path pattern ?option value ..?, with the words behind `generate`
 unfoldable pub generate_told : List (List ℕ) → Panel → Told
@@ -48,7 +49,7 @@ selection_of moment window = option_map (λ window. bare_event (Virtual (codes "
 
 abbrev pub dispatched_if : Option Event → Panel → Told
 dispatched_if (Some event) panel = dispatched event panel
-dispatched_if None panel = told panel (Answers (Ok []))
+dispatched_if None panel = told panel (Acts (Answer []))
 
 -- it comes at once
 abbrev pub selection_told : ℕ → Panel → Told

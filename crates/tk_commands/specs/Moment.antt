@@ -1,4 +1,4 @@
--- The commands `puts`, `after`, `clock`, `update` and `destroy`, from the words behind their names.
+-- Meaning. The commands `puts`, `after`, `clock`, `update` and `destroy`, from the words behind their names.
 use Rattle.std.specs.Prelude.{ℕ, List, [], ◌∷◌, Option, Some, None, codes, if◌then◌else◌}
 use Rattle.std.specs.Str.{bytes_eq}
 use Rattle.tcl_text.specs.Answers.{bad_option, wrong_args}
@@ -12,8 +12,8 @@ use Rattle.tk_panel.specs.Start.{alone}
 use Rattle.tk_commands.specs.declared.moment.MomentCommand.{MomentCommand}
 use Rattle.tk_commands.specs.declared.moment.MomentCommand.TheVariants as command
 use Rattle.tk_commands.specs.declared.outcome.CommandOutcome.{CommandOutcome}
-use Rattle.tk_commands.specs.declared.outcome.CommandOutcome.TheVariants.{Answers, Begins}
-use Rattle.tk_commands.specs.Outcomes.{Told, answered, told}
+use Rattle.tk_commands.specs.declared.outcome.CommandOutcome.TheVariants.{Begins}
+use Rattle.tk_commands.specs.Outcomes.{Told, answered, outcome_of, told}
 
 -- what is to be done at the moment, where nothing is under way
 abbrev pub settling : Home → Job
@@ -26,12 +26,12 @@ destroying paths = alone (Destroys None [] paths)
 -- update idletasks
 abbrev pub idle_words : List (List ℕ) → CommandOutcome
 idle_words [] = Begins (settling IdleTasks)
-idle_words (word ∷ words) = Answers (wrong_args (codes "update ?idletasks?"))
+idle_words (word ∷ words) = outcome_of (wrong_args (codes "update ?idletasks?"))
 
 -- update ?idletasks?
 unfoldable pub update_words : List (List ℕ) → CommandOutcome
 update_words [] = Begins (settling Update)
-update_words (option ∷ words) = if bytes_eq option (codes "idletasks") then idle_words words else Answers (bad_option option)
+update_words (option ∷ words) = if bytes_eq option (codes "idletasks") then idle_words words else outcome_of (bad_option option)
 
 unfoldable pub moment_command_named : List ℕ → Option MomentCommand
 moment_command_named name =

@@ -1,9 +1,11 @@
--- What a command leaves of its application, and what comes of it.
+-- Meaning. What a command leaves of its application, and what comes of it.
+use Rattle.std.specs.Prelude.{Ok, Err}
 use Rattle.tcl_text.specs.Answers.{Answer}
 use Rattle.tcl_vars.specs.Store.{Store}
 use Rattle.tk_panel.specs.Panel.{Panel}
 use Rattle.tk_commands.specs.declared.outcome.CommandOutcome.{CommandOutcome}
-use Rattle.tk_commands.specs.declared.outcome.CommandOutcome.TheVariants.{Answers}
+use Rattle.tk_commands.specs.declared.outcome.CommandOutcome.TheVariants.{Acts}
+use Rattle.tk_widgets.specs.declared.outcome.WidgetAct.TheVariants as act
 
 pub record Done : Type 0 where
   pub panel : Panel
@@ -25,5 +27,9 @@ abbrev pub told : Panel → CommandOutcome → Told
 told panel outcome = record { panel = panel; outcome = outcome }
 
 -- a command that answers
+abbrev pub outcome_of : Answer → CommandOutcome
+outcome_of (Ok text) = Acts (act.Answer text)
+outcome_of (Err text) = Acts (act.Fault text)
+
 abbrev pub answered : Panel × Answer → Told
-answered there = told there.0 (Answers there.1)
+answered there = told there.0 (outcome_of there.1)

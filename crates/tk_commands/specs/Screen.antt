@@ -1,14 +1,13 @@
--- The commands on windows, from the words behind their names.
+-- Meaning. The commands on windows, from the words behind their names.
 use Rattle.std.specs.Prelude.{ℕ, List, Option, Some, option_map, codes, if◌then◌else◌}
 use Rattle.std.specs.Str.{bytes_eq}
 use Rattle.tcl_text.specs.Answers.{Answer}
 use Rattle.tcl_vars.specs.Store.{Store}
 use Rattle.tk_pack_commands.specs.Pack.{pack_words}
 use Rattle.tk_panel.specs.Panel.{Panel}
-use Rattle.tk_commands.specs.declared.outcome.CommandOutcome.TheVariants.{Answers}
 use Rattle.tk_commands.specs.declared.screen.ScreenCommand.{ScreenCommand}
 use Rattle.tk_commands.specs.declared.screen.ScreenCommand.TheVariants.{Window, Pack}
-use Rattle.tk_commands.specs.Outcomes.{Done, done}
+use Rattle.tk_commands.specs.Outcomes.{Done, done, outcome_of}
 use Rattle.tk_screen.specs.Own.{Own}
 use Rattle.tk_window_commands.specs.Answers as windows
 use Rattle.tk_window_commands.specs.Commands.{window_command_done, window_command_named}
@@ -18,10 +17,10 @@ pack_told words own = (let there = pack_words words own.tree own.packs in (recor
 
 -- what is on the screen then, and the answer
 abbrev pub with_screen : Panel → Store → Own × Answer → Done
-with_screen panel store there = done (record panel { screen = there.0 }) store (Answers there.1)
+with_screen panel store there = done (record panel { screen = there.0 }) store (outcome_of there.1)
 
 abbrev pub with_windows : Panel → windows.Done → Done
-with_windows panel there = done (record panel { screen = there.own }) there.store (Answers there.answer)
+with_windows panel there = done (record panel { screen = there.own }) there.store (outcome_of there.answer)
 
 unfoldable pub screen_command_named : List ℕ → Option ScreenCommand
 screen_command_named name = if bytes_eq name (codes "pack") then Some Pack else option_map Window (window_command_named name)

@@ -6,7 +6,7 @@ ghost use Rattle.tk_commands.specs.Outcomes.{told};
 ghost use Rattle.tk_screen.specs.Own as screens;
 
 use crate::dispatch::generate;
-use crate::outcome::CommandOutcome;
+use crate::outcome::{CommandOutcome, answering};
 use std::alloc::{AllocError, Global};
 use tcl_text::Text;
 use tcl_text::message::Answer;
@@ -51,16 +51,16 @@ pub fn binding_command_done(
     match command {
         BindingCommand::Bind => {
             let answer = bind(tables, slot, words)?;
-            Ok(CommandOutcome::Answers(answer))
+            Ok(answering(answer))
         }
         BindingCommand::Bindtags => {
             let answer = bindtags(tables.alloc, &mut tables.screen, slot, words)?;
-            Ok(CommandOutcome::Answers(answer))
+            Ok(answering(answer))
         }
         BindingCommand::Event => event(tables, slot, words),
         BindingCommand::Focus => {
             let answer = focus(tables, slot, words)?;
-            Ok(CommandOutcome::Answers(answer))
+            Ok(answering(answer))
         }
     }
 }
@@ -105,7 +105,7 @@ fn event(tables: &mut Tables, slot: usize, words: &[Text]) -> Result<CommandOutc
         return generate(tables, slot, rest);
     }
     let answer = virtual_event(tables, slot, words)?;
-    Ok(CommandOutcome::Answers(answer))
+    Ok(answering(answer))
 }
 
 /// The forms of `event` but `generate`.

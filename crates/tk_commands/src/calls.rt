@@ -2,35 +2,29 @@
 ghost use Rattle.std.specs.Prelude.{◌≡◌, ◌⊎◌, ℕ, Err, IfErr, IfOk, IsOk};
 ghost use Rattle.tcl_table.specs.Source.{script_of};
 ghost use Rattle.tk_panel.specs.Panel.{LeavesOthers, panel_of};
-ghost use Rattle.tk_commands.specs.Calls.{answer_act, calls, outcome_told};
+ghost use Rattle.tk_commands.specs.Calls.{act_of, calls, outcome_told};
 
 use crate::jobs::begin;
 use crate::{CommandOutcome, panel_command};
 use std::alloc::AllocError;
 use tcl_interp::{Act, Code, Task};
 use tcl_text::Text;
-use tcl_text::message::Answer;
 use tcl_vars::Scopes;
 use tcl_words::{ParseFault, Script};
 use tk_panel::{Job, Tables};
+use tk_widgets::WidgetAct;
 
-/// The act of a command that answers.
-fn answer_act(answer: Answer) -> Act<Task<Job>>
-    ensures { result ≡ answer_act answer }
+/// What the interpreter does for a command that has ended, or runs a script.
+fn act_of(act: WidgetAct) -> Act<Task<Job>>
+    ensures { result ≡ act_of act }
 {
-    match answer {
-        Ok(text) => Act::Done(Code::Normal, text),
-        Err(text) => Act::Done(Code::Error, text),
-    }
-}
-
-/// The act of a command that runs a script.
-fn invoke_act(script: Text) -> Act<Task<Job>>
-    ensures { result ≡ Act.Run script Task.Invoked }
-{
-    Act::Run {
-        script,
-        task: Task::Invoked,
+    match act {
+        WidgetAct::Answer(text) => Act::Done(Code::Normal, text),
+        WidgetAct::Fault(text) => Act::Done(Code::Error, text),
+        WidgetAct::Script(script) => Act::Run {
+            script,
+            task: Task::Invoked,
+        },
     }
 }
 
@@ -46,8 +40,7 @@ fn act_for(
     ensures others { LeavesOthers slot tables.old tables.new }
 {
     match outcome {
-        CommandOutcome::Answers(answer) => Ok(answer_act(answer)),
-        CommandOutcome::Runs(script) => Ok(invoke_act(script)),
+        CommandOutcome::Acts(act) => Ok(act_of(act)),
         CommandOutcome::Begins(job) => begin(tables, slot, scopes, job),
         CommandOutcome::Unknown => Ok(Act::Unknown),
     }

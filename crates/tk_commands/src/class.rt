@@ -27,11 +27,11 @@ pub fn class_command_done(
     tables: &mut Tables,
     slot: usize,
     scopes: &mut Scopes,
-    command: ClassCommand,
+    command: &ClassCommand,
     words: &[Text],
 ) -> Result<CommandOutcome, AllocError>
     ensures own { IfOk result (λ outcome. done (panel_of slot tables.new) scopes.new outcome
-        ≡ spec.class_told command words.now (panel_of slot tables.old) scopes.old) }
+        ≡ spec.class_told command.now words.now (panel_of slot tables.old) scopes.old) }
     ensures others { LeavesOthers slot tables.old tables.new }
 {
     let outcome = class_command(tables, slot, scopes, command, words)?;
@@ -43,11 +43,11 @@ fn class_command(
     tables: &mut Tables,
     slot: usize,
     scopes: &mut Scopes,
-    command: ClassCommand,
+    command: &ClassCommand,
     words: &[Text],
 ) -> Result<ClassOutcome, AllocError>
     ensures own { IfOk result (λ outcome. spec.class_done (panel_of slot tables.new) scopes.new outcome
-        ≡ spec.class_command command words.now (panel_of slot tables.old) scopes.old) }
+        ≡ spec.class_command command.now words.now (panel_of slot tables.old) scopes.old) }
     ensures others { LeavesOthers slot tables.old tables.new }
 {
     let moment = tables.clock.moment();
@@ -73,11 +73,11 @@ fn shown_command(
     scopes: &mut Scopes,
     slot: usize,
     moment: u64,
-    command: ClassCommand,
+    command: &ClassCommand,
     words: &[Text],
 ) -> Result<ClassOutcome, AllocError>
     ensures own { IfOk result (λ outcome. outcomes_of.done (screens.own_of slot marked.new) (arrivals_of slot inputs.new queue.new) scopes.new outcome
-        ≡ class_of.class_command_done command words.now moment (screens.own_of slot marked.old) (arrivals_of slot inputs.old queue.old) scopes.old) }
+        ≡ class_of.class_command_done command.now words.now moment (screens.own_of slot marked.old) (arrivals_of slot inputs.old queue.old) scopes.old) }
     ensures screen { screens.LeavesOthers slot marked.old marked.new }
     ensures inputs { inputs_of.LeavesOthers slot inputs.old inputs.new }
     ensures queue { queue_of.LeavesOthers slot queue.old queue.new }
@@ -106,8 +106,7 @@ fn outcome_for(
     ensures others { LeavesOthers slot tables.old tables.new }
 {
     match outcome {
-        ClassOutcome::Answers(answer) => Ok(CommandOutcome::Answers(answer)),
-        ClassOutcome::Runs(script) => Ok(CommandOutcome::Runs(script)),
+        ClassOutcome::Acts(act) => Ok(CommandOutcome::Acts(act)),
         ClassOutcome::Selects(number) => dispatch_selection(tables, slot, number),
     }
 }

@@ -17,7 +17,7 @@ use tk_class_commands::{ClassCommand, class_command_named};
 use tk_panel::Tables;
 
 /// A command, by what it acts on.
-#[derive(Clone, Copy, Debug, PartialEq, Eq)]
+#[derive(Drop)]
 pub enum TkCommand {
     Moment(MomentCommand),
     Binding(BindingCommand),
@@ -62,7 +62,7 @@ fn command_done(
         TkCommand::Moment(command) => moment_command_done(tables, slot, command, words),
         TkCommand::Binding(command) => binding_command_done(tables, slot, command, words),
         TkCommand::Screen(command) => screen_command_done(tables, slot, scopes, command, words),
-        TkCommand::Class(command) => class_command_done(tables, slot, scopes, command, words),
+        TkCommand::Class(command) => class_command_done(tables, slot, scopes, &command, words),
     }
 }
 

@@ -10,11 +10,11 @@ use std::alloc::{AllocError, Global};
 use tcl_text::Text;
 use tcl_text::message::short_text;
 use tk_base::Win;
-use tk_events::{Event, EventKind};
 use tk_generate::{Generated, When, generate_command};
 use tk_panel::{Job, Rest, Tables, choose};
-use tk_sequences::VirtualName;
+use tk_sequences::{Event, EventKind, VirtualName};
 use tk_tree::Windows;
+use tk_widgets::WidgetAct;
 
 /// An event comes at once: its scripts are chosen, and the command ends when they have run.
 pub fn dispatch(
@@ -53,7 +53,7 @@ pub fn generate(
     )?;
     match answer {
         Ok(generated) => arrive(tables, slot, generated),
-        Err(text) => Ok(CommandOutcome::Answers(Err(text))),
+        Err(text) => Ok(CommandOutcome::Acts(WidgetAct::Fault(text))),
     }
 }
 
@@ -68,16 +68,16 @@ fn arrive(
     ensures others { LeavesOthers slot tables.old tables.new }
 {
     let Generated { event, when } = generated;
-    let nothing = Text::empty();
+    let nothing = WidgetAct::Answer(Text::empty());
     match when {
         When::Now => dispatch(tables, slot, event),
         When::Tail => {
             tables.queue.push_tail(slot, event)?;
-            Ok(CommandOutcome::Answers(Ok(nothing)))
+            Ok(CommandOutcome::Acts(nothing))
         }
         When::Head => {
             tables.queue.push_head(slot, event)?;
-            Ok(CommandOutcome::Answers(Ok(nothing)))
+            Ok(CommandOutcome::Acts(nothing))
         }
     }
 }
@@ -100,7 +100,7 @@ pub fn dispatch_selection(
         moment,
     )? {
         Some(event) => dispatch(tables, slot, event),
-        None => Ok(CommandOutcome::Answers(Ok(Text::empty()))),
+        None => Ok(CommandOutcome::Acts(WidgetAct::Answer(Text::empty()))),
     }
 }
 

@@ -4,7 +4,7 @@ ghost use Rattle.tk_panel.specs.Panel.{LeavesOthers, panel_of};
 ghost use Rattle.tk_commands.specs.Moment as spec;
 ghost use Rattle.tk_commands.specs.Outcomes.{told};
 
-use crate::outcome::CommandOutcome;
+use crate::outcome::{CommandOutcome, answering};
 use std::alloc::{AllocError, Global};
 use tcl_text::Text;
 use tcl_text::answers::{answered, bad_option, wrong_args};
@@ -52,15 +52,15 @@ pub fn moment_command_done(
     match command {
         MomentCommand::Puts => {
             let answer = puts_command(tables, slot, words)?;
-            Ok(CommandOutcome::Answers(answer))
+            Ok(answering(answer))
         }
         MomentCommand::After => {
             let answer = after_command(tables, slot, words)?;
-            Ok(CommandOutcome::Answers(answer))
+            Ok(answering(answer))
         }
         MomentCommand::Clock => {
             let answer = clock_command(tables.alloc, tables.clock.moment(), words)?;
-            Ok(CommandOutcome::Answers(answer))
+            Ok(answering(answer))
         }
         MomentCommand::Update => update(tables.alloc, words),
         MomentCommand::Destroy => Ok(CommandOutcome::Begins(destroying(tables.alloc, words)?)),
@@ -77,7 +77,7 @@ fn update(alloc: Global, words: &[Text]) -> Result<CommandOutcome, AllocError>
     };
     match option.as_str() {
         "idletasks" => update_idle(alloc, words),
-        _ => Ok(CommandOutcome::Answers(answered(bad_option(alloc, option))?)),
+        _ => Ok(answering(answered(bad_option(alloc, option))?)),
     }
 }
 
@@ -88,7 +88,7 @@ fn update_idle(alloc: Global, words: &[Text]) -> Result<CommandOutcome, AllocErr
     if words.is_empty() {
         return Ok(CommandOutcome::Begins(settling(alloc, Home::IdleTasks)));
     }
-    Ok(CommandOutcome::Answers(answered(wrong_args(alloc, "update ?idletasks?"))?))
+    Ok(answering(answered(wrong_args(alloc, "update ?idletasks?"))?))
 }
 
 /// What is to be done at a moment, where nothing is under way.

@@ -1,16 +1,28 @@
-use tcl_text::Text;
+//! What comes of commands.
+ghost use Rattle.std.specs.Prelude.{◌≡◌};
+ghost use Rattle.tk_commands.specs.Outcomes.{outcome_of};
+
 use tcl_text::message::Answer;
 use tk_panel::Job;
+use tk_widgets::WidgetAct;
 
 /// What comes of a command.
 #[derive(Drop)]
 pub enum CommandOutcome {
-    /// Its result, or the text of its error.
-    Answers(Answer),
-    /// This script runs at global level, and its result is the command's: `path invoke` of button(n).
-    Runs(Text),
+    /// Its result, the text of its error, or a script that runs at global level, whose result is the command's: `path invoke` of button(n).
+    Acts(WidgetAct),
     /// This job begins, and the command ends, with an empty result, when it does: update(n), destroy(n), event(n).
     Begins(Job),
     /// There is no command of this name.
     Unknown,
+}
+
+/// What comes of a command that answers.
+pub fn answering(answer: Answer) -> CommandOutcome
+    ensures { result ≡ outcome_of answer }
+{
+    match answer {
+        Ok(text) => CommandOutcome::Acts(WidgetAct::Answer(text)),
+        Err(text) => CommandOutcome::Acts(WidgetAct::Fault(text)),
+    }
 }

@@ -52,9 +52,7 @@ fn outcome_of(act: Option<WidgetAct>) -> CommandOutcome
     ensures { result ≡ spec.outcome_of act }
 {
     match act {
-        Some(WidgetAct::Answer(text)) => CommandOutcome::Answers(Ok(text)),
-        Some(WidgetAct::Script(script)) => CommandOutcome::Runs(script),
-        Some(WidgetAct::Fault(text)) => CommandOutcome::Answers(Err(text)),
+        Some(act) => CommandOutcome::Acts(act),
         None => CommandOutcome::Unknown,
     }
 }

@@ -6,7 +6,7 @@ ghost use Rattle.tk_commands.specs.Screen as spec;
 ghost use Rattle.tk_screen.specs.Own as screens;
 ghost use Rattle.tk_window_commands.specs.Commands as windows_of;
 
-use crate::outcome::CommandOutcome;
+use crate::outcome::{CommandOutcome, answering};
 use std::alloc::{AllocError, Global};
 use tcl_text::Text;
 use tcl_text::message::Answer;
@@ -59,11 +59,11 @@ pub fn screen_command_done(
                 command,
                 words,
             )?;
-            Ok(CommandOutcome::Answers(answer))
+            Ok(answering(answer))
         }
         ScreenCommand::Pack => {
             let answer = pack(tables.alloc, &mut tables.screen, slot, words)?;
-            Ok(CommandOutcome::Answers(answer))
+            Ok(answering(answer))
         }
     }
 }

@@ -1,13 +1,14 @@
 -- A script as runs of characters with a `%` behind each.
-use Rattle.std.proofs.Common.{◌≡◌, ◌≢◌, ℕ, suc, ◌+◌, ◌<◌, ◌≤◌, true, false, nat_eq, List, [], ◌∷◌, ◌++◌, append_assoc, length, length-append, take, drop, get_or, Option, Some, None, lit<, refl, sym, ap, ◌∙◌, subst, arith}
+use Rattle.std.proofs.Common.{◌≡◌, ◌≢◌, ℕ, suc, ◌+◌, ◌<◌, ◌≤◌, Bool, true, false, nat_eq, List, [], ◌∷◌, ◌++◌, append_assoc, length, length-append, take, drop, get_or, Option, Some, None, lit<, refl, sym, ap, ◌∙◌, subst, arith}
 use Rattle.std.specs.Str.{IsUtf8, IsCharBoundary}
 use Rattle.std.proofs.lemmas.Bool.{eqb-true}
 use Rattle.std.proofs.lemmas.Bool.Decides.{nat_tests}
 use Rattle.std.proofs.lemmas.List.{drop_more, get_or-take, length-take, take-append-drop}
 use Rattle.std.proofs.lemmas.Str.{IsCharBoundary-after_ascii}
 use Rattle.memchr.specs.Find.{IsFirstByte, is_byte}
-use Rattle.tk_events.specs.declared.event.Event.{Event}
-use Rattle.tk_dispatch.specs.Percent.{field_named, replacement, shown_or_itself, substituted_from}
+use Rattle.tk_sequences.specs.declared.event.Event.{Event}
+use Rattle.tk_dispatch.specs.Percent.{field_named, percent, replacement, shown_or_itself, substituted}
+use Rattle.tk_dispatch.specs.Substitution.{substituted_from}
 use Rattle.tk_dispatch.specs.declared.field.Field.{Field}
 
 not_eqb : (a b : ℕ) → a ≢ b → nat_eq a b ≡ false
@@ -111,3 +112,24 @@ itself event (byte ∷ bytes) some high =
     let plain : nat_eq byte 37 ≡ false = other_than byte 37 high (lit< tt) in
     let first : substituted_from event false (byte ∷ bytes) ≡ byte ∷ substituted_from event false bytes = rw plain refl in
     first ∙ ap (λ (field : Option Field). shown_or_itself event byte field ++ substituted_from event false bytes) (sym (no_field byte high))
+
+-- ---- byte by byte, and two bytes at once
+
+last_by : (event : Event) (byte : ℕ) (b : Bool) → nat_eq byte percent ≡ b → substituted_from event false (byte ∷ []) ≡ byte ∷ []
+last_by event byte true is = rw is (ap (λ (n : ℕ). n ∷ []) (sym (eqb-true byte percent is)))
+last_by event byte false is = rw is refl
+
+pair_by : (event : Event) (byte character : ℕ) (bytes : List ℕ) (b : Bool) → nat_eq byte percent ≡ b → substituted_from event false bytes ≡ substituted event bytes
+    → substituted_from event false (character ∷ bytes) ≡ substituted event (character ∷ bytes) → substituted_from event false (byte ∷ character ∷ bytes) ≡ substituted event (byte ∷ character ∷ bytes)
+unfolding substituted
+pair_by event byte character bytes true is behind rest = rw is (ap (λ (text : List ℕ). replacement event character ++ text) behind)
+pair_by event byte character bytes false is behind rest = rw is (ap (λ (text : List ℕ). byte ∷ text) rest)
+
+pub as_steps : (event : Event) (script : List ℕ) → substituted_from event false script ≡ substituted event script
+unfolding substituted
+as_steps event [] = refl
+as_steps event (byte ∷ []) = last_by event byte (nat_eq byte percent) refl
+as_steps event (byte ∷ character ∷ bytes) = pair_by event byte character bytes (nat_eq byte percent) refl (as_steps event bytes) (as_steps event (character ∷ bytes))
+
+pub as_steps_long : (event : Event) (script : List ℕ) → 65536 < length (substituted_from event false script) → 65536 < length (substituted event script)
+as_steps_long event script long = subst (λ (text : List ℕ). 65536 < length text) (as_steps event script) long

@@ -1,9 +1,9 @@
--- Which scripts an event runs: for each binding tag of its window the winner's, with the event's fields put in (bind(n), bindtags(n)).
+-- Meaning. Which scripts an event runs: for each binding tag of its window the winner's, with the event's fields put in (bind(n), bindtags(n)).
 use Rattle.std.specs.Prelude.{ℕ, Bool, false, ◌==◌, ◌||◌, not, List, [], ◌∷◌, ◌++◌, Option, None, is_some, option_map, Result, Ok, Err, if◌then◌else◌}
 use Rattle.std.specs.List.{filter_map}
 use Rattle.std.specs.Option.{option_map_or}
 use Rattle.tcl_text.specs.Answers.{Answer, answers}
-use Rattle.tk_events.specs.declared.event.Event.{Event}
+use Rattle.tk_sequences.specs.declared.event.Event.{Event}
 use Rattle.tk_patterns.specs.declared.binding.Binding.{Binding}
 use Rattle.tk_patterns.specs.Winner.{Pairs, winner}
 use Rattle.tk_dispatch.specs.Percent.{substituted}

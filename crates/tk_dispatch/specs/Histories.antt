@@ -1,10 +1,10 @@
--- The histories of all applications.
+-- Meaning. The histories of all applications.
 use Rattle.std.specs.Prelude.{◌≡◌, ◌≢◌, ℕ, nat_eq, List, [], ◌∷◌, ◌++◌, if◌then◌else◌}
 use Rattle.std.specs.Option.{option_map_or}
 use Rattle.std.specs.Map.{lookup}
 use Rattle.circular_buffer.specs.Buffer.{keep_last}
-use Rattle.tk_events.specs.declared.event.Event.{Event}
-use Rattle.tk_events.specs.Event.{is_input}
+use Rattle.tk_sequences.specs.declared.event.Event.{Event}
+use Rattle.tk_sequences.specs.Event.{is_input}
 
 -- all applications' events, the oldest first
 abbrev pub Held : Type 0

@@ -3,3 +3,4 @@ pub mod Dispatch
 pub mod Histories
 pub mod Percent
 pub mod Queue
+pub mod Substitution

@@ -1,10 +1,10 @@
--- A script with the fields of an event put in where `%` and a character stand for them.
-use Rattle.std.specs.Prelude.{ℕ, ℤ, Bool, true, false, ◌==◌, if◌then◌else◌, List, [], ◌∷◌, ◌++◌, Option, Some, None, option_map, encode_utf8, codes}
+-- Meaning. A script with the fields of an event put in where `%` and a character stand for them.
+use Rattle.std.specs.Prelude.{ℕ, ℤ, ◌==◌, if◌then◌else◌, List, [], ◌∷◌, ◌++◌, Option, Some, None, option_map, encode_utf8, codes}
 use Rattle.std.specs.Fmt.{decimal, signed_decimal}
 use Rattle.tcl_text.specs.Readings.{list_form}
-use Rattle.tk_events.specs.declared.event.Event.{Event}
-use Rattle.tk_events.specs.declared.event.EventKind.{EventKind}
-use Rattle.tk_events.specs.declared.event.EventKind.TheVariants.{Physical, Virtual}
+use Rattle.tk_sequences.specs.declared.event.Event.{Event}
+use Rattle.tk_sequences.specs.declared.event.EventKind.{EventKind}
+use Rattle.tk_sequences.specs.declared.event.EventKind.TheVariants.{Physical, Virtual}
 use Rattle.tk_keys.specs.Names.{name_of, character_of}
 use Rattle.tk_dispatch.specs.declared.field.Field.{Field}
 use Rattle.tk_dispatch.specs.declared.field.Field.TheVariants.{Path, TypeNumber, Moment, State, X, Y, RootX, RootY, Button, Key, KeyText, Width, Height, Detail}
@@ -95,12 +95,12 @@ replacement event character = shown_or_itself event character (field_named chara
 
 -- ---- the script
 
--- the script from a byte on, which may stand behind a `%`; a `%` at the end stays
-abbrev pub substituted_from : Event → Bool → List ℕ → List ℕ
-substituted_from event false [] = []
-substituted_from event true [] = codes "%"
-substituted_from event false (byte ∷ bytes) = if byte == 37 then substituted_from event true bytes else byte ∷ substituted_from event false bytes
-substituted_from event true (byte ∷ bytes) = replacement event byte ++ substituted_from event false bytes
+-- the byte of `%`
+abbrev pub percent : ℕ
+percent = 37
 
+-- a script with what stands for each `%` and the character behind it; a `%` at the end stays
 unfoldable pub substituted : Event → List ℕ → List ℕ
-substituted event script = substituted_from event false script
+substituted event [] = []
+substituted event (byte ∷ []) = byte ∷ []
+substituted event (byte ∷ character ∷ bytes) = if byte == percent then replacement event character ++ substituted event bytes else byte ∷ substituted event (character ∷ bytes)

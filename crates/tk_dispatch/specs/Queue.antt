@@ -1,8 +1,8 @@
--- The queued events of each application, the next one first.
+-- Meaning. The queued events of each application, the next one first.
 use Rattle.std.specs.Prelude.{◌≡◌, ◌≢◌, ℕ, nat_eq, List, []}
 use Rattle.std.specs.Option.{option_map_or}
 use Rattle.std.specs.Map.{lookup}
-use Rattle.tk_events.specs.declared.event.Event.{Event}
+use Rattle.tk_sequences.specs.declared.event.Event.{Event}
 
 -- all applications' events
 abbrev pub Held : Type 0

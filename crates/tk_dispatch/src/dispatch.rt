@@ -11,8 +11,8 @@ use std::alloc::{AllocError, Global};
 use tcl_text::message::limit;
 use tcl_text::{Text, TextFault, TextList};
 use tk_base::Win;
-use tk_events::Event;
 use tk_patterns::{BindTable, History};
+use tk_sequences::Event;
 use tk_tree::Windows;
 use tk_virtual::{VirtualPairs, VirtualTable};
 

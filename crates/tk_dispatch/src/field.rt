@@ -9,7 +9,7 @@ use crate::push::{
 };
 use std::alloc::Global;
 use tcl_text::{Text, TextFault};
-use tk_events::{Event, EventKind};
+use tk_sequences::{Event, EventKind};
 
 /// What `%` and a character may stand for.
 #[derive(Clone, Copy)]

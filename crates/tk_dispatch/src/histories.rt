@@ -4,8 +4,8 @@ ghost use Rattle.tk_dispatch.specs.Histories.{own_of, entered, LeavesOthers, Lea
 use std::alloc::{AllocError, Global};
 use std::collections::HashMap;
 use std::marker::Model;
-use tk_events::Event;
 use tk_patterns::History;
+use tk_sequences::Event;
 
 /// The last events of keys and buttons of applications, each application's apart from the others'. `owner` is an application's number
 /// everywhere; one that hasn't been named yet has had none.

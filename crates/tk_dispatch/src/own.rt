@@ -3,7 +3,7 @@ ghost use Rattle.std.specs.Prelude.{◌≡◌, [], ◌∷◌, ◌++◌, OnOk, On
 use std::alloc::{AllocError, Global};
 use std::collections::VecDeque;
 use std::marker::Model;
-use tk_events::Event;
+use tk_sequences::Event;
 
 /// One application's events, the next one first.
 #[derive(Drop)]
@@ -13,7 +13,7 @@ pub(crate) struct OwnEvents {
 
 impl Model for OwnEvents {
     ghost use Rattle.std.specs.Prelude.{List};
-    ghost use Rattle.tk_events.specs.declared.event.Event.{Event};
+    ghost use Rattle.tk_sequences.specs.declared.event.Event.{Event};
 
     ghost Value = { List Event };
 

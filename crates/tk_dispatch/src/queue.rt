@@ -5,7 +5,7 @@ use crate::own::OwnEvents;
 use std::alloc::{AllocError, Global};
 use std::collections::HashMap;
 use std::marker::Model;
-use tk_events::Event;
+use tk_sequences::Event;
 
 /// The events that wait for applications. `owner` is an application's number everywhere; one that hasn't been named yet has none.
 ///

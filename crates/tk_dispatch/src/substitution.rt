@@ -1,14 +1,15 @@
 //! Substitutes in whole scripts.
 ghost use Rattle.std.specs.Prelude.{◌≡◌, ◌≢◌, ◌+◌, ◌<◌, ◌++◌, ◌≤◌, true, false, length, drop, IfOk, IfErr, IfSome, MatchOption};
 ghost use Rattle.std.specs.Str.{IsCharBoundary};
-ghost use Rattle.tk_dispatch.specs.Percent.{substituted, substituted_from};
+ghost use Rattle.tk_dispatch.specs.Percent.{substituted};
+ghost use Rattle.tk_dispatch.specs.Substitution.{substituted_from};
 ghost use Rattle.tcl_text.specs.Limits.{most_bytes};
 
 use crate::field::push_replacement;
 use memchr::memchr;
 use std::alloc::Global;
 use tcl_text::{Text, TextFault};
-use tk_events::Event;
+use tk_sequences::Event;
 
 /// Adds what stands for a `%` and what is behind it, and tells how many bytes behind it were taken. A character that isn't ASCII is left: it
 /// stands for itself with or without the `%`.

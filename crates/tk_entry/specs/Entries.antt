@@ -1,4 +1,4 @@
--- An entry of entry(n): its text, its cursor, and what edits make of them. Places count characters.
+-- Meaning. An entry of entry(n): its text, its cursor, and what edits make of them. Places count characters.
 use Rattle.std.specs.Prelude.{ℕ, ◌+◌, ◌-◌, min, Bool, false, not, ◌&&◌, ◌==◌, nat_le, nat_lt, if◌then◌else◌, List, [], ◌∷◌, Option, Some, None, option_map, codes}
 use Rattle.std.specs.Str.{chars, bytes_eq}
 use Rattle.tcl_text.specs.Characters.{size, with_inserted, without_characters}

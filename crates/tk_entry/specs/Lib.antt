@@ -1,3 +1,4 @@
 -- What the contracts cite.
 pub mod Columns
 pub mod Entries
+pub mod Walk

@@ -2,6 +2,7 @@
 ghost use Rattle.std.specs.Prelude.{◌≡◌};
 ghost use Rattle.std.specs.Str.{chars};
 ghost use Rattle.tk_entry.specs.Columns.{columns, characters_within};
+ghost use Rattle.tk_entry.specs.Walk.{walk};
 
 use tcl_text::characters::split_first_char;
 use unicode_width::UnicodeWidthStr;
@@ -9,6 +10,13 @@ use unicode_width::UnicodeWidthStr;
 /// The greatest number of characters, from the first on, whose columns, each by itself, are at most so many together.
 pub fn characters_within(text: &str, columns: usize) -> usize
     ensures { result ≡ characters_within columns (chars text.now) }
+{
+    walk(text, columns)
+}
+
+/// The same, by a walk from the first character on.
+fn walk(text: &str, columns: usize) -> usize
+    ensures { result ≡ walk columns (chars text.now) }
 {
     let mut room = columns;
     let mut count = 0;

@@ -1,4 +1,4 @@
--- Which event a pattern names.
+-- Meaning. Which event a pattern names.
 use Rattle.std.specs.Prelude.{ℕ, Bool, false, List, [], ◌∷◌, Result, Ok, Err, if◌then◌else◌}
 use Rattle.tk_generate.specs.declared.asked.EventRequest.{EventRequest}
 use Rattle.tk_generate.specs.declared.asked.EventRequest.TheVariants as asks

@@ -1,4 +1,4 @@
--- Which fields a generated event has, beside its type, its window and its moment.
+-- Meaning. Which fields a generated event has, beside its type, its window and its moment.
 use Rattle.std.specs.Prelude.{ℕ, ℤ, pos, ◌+ℤ◌, Bool, true, false, ◌||◌, bit_or, fold, unwrap_or, List, Option, Some, None, option_map, Result, Ok, codes, if◌then◌else◌}
 use Rattle.std.specs.Option.{option_or}
 use Rattle.tcl_text.specs.Answers.{fails}

@@ -1,10 +1,10 @@
--- The words of `event generate path pattern ?option value ..?`, to the event that they make.
+-- Meaning. The words of `event generate path pattern ?option value ..?`, to the event that they make.
 use Rattle.std.specs.Prelude.{ℕ, Bool, true, false, ◌&&◌, nat_le, List, ◌∷◌, Option, Some, None, Result, Ok, codes, if◌then◌else◌}
 use Rattle.std.specs.Option.{option_map_or}
 use Rattle.tcl_text.specs.Answers.{◌>>=◌, fails, wrong_args}
-use Rattle.tk_events.specs.declared.event.Event.{Event}
-use Rattle.tk_events.specs.declared.event.EventKind.TheVariants.{Physical, Virtual}
-use Rattle.tk_events.specs.Event.{bare_event}
+use Rattle.tk_sequences.specs.declared.event.Event.{Event}
+use Rattle.tk_sequences.specs.declared.event.EventKind.TheVariants.{Physical, Virtual}
+use Rattle.tk_sequences.specs.Event.{bare_event}
 use Rattle.tk_generate.specs.declared.asked.EventRequest.{EventRequest}
 use Rattle.tk_generate.specs.declared.asked.EventRequest.TheVariants as asks
 use Rattle.tk_generate.specs.declared.generate.Generated.{Generated}

@@ -1,4 +1,4 @@
--- What the options of `event generate` say.
+-- Meaning. What the options of `event generate` say.
 use Rattle.std.specs.Prelude.{ℕ, List, [], ◌∷◌, Option, Some, None, Result, Ok, codes}
 use Rattle.tcl_text.specs.Answers.{◌>>=◌}
 use Rattle.tk_options.specs.declared.fault.OptionFault.TheVariants.{UnknownOption, NoValue}

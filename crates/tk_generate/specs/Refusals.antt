@@ -1,4 +1,4 @@
--- The errors of words.
+-- Meaning. The errors of words.
 use Rattle.std.specs.Prelude.{ℕ, List, ◌++◌, Option, Some, None, Result, Ok, codes}
 use Rattle.tcl_text.specs.Answers.{fails, quoted}
 use Rattle.tk_options.specs.declared.fault.OptionFault.{OptionFault}

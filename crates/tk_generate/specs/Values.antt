@@ -1,4 +1,4 @@
--- What the values of options are read as.
+-- Meaning. What the values of options are read as.
 use Rattle.std.specs.Prelude.{ℕ, ℤ, pos, negsuc, ◌&&◌, nat_le, List, [], ◌∷◌, Option, Some, None, Result, Ok, codes, if◌then◌else◌}
 use Rattle.tcl_text.specs.Readings.{integer_of}
 use Rattle.tk_keys.specs.Names.{key_named}

@@ -13,8 +13,7 @@ use std::alloc::{AllocError, Global};
 use tcl_text::Text;
 use tcl_text::answers::{Refusal, error, wrong_args};
 use tk_base::Win;
-use tk_events::{Event, EventKind};
-use tk_sequences::{Pattern, VirtualName};
+use tk_sequences::{Event, EventKind, Pattern, VirtualName};
 use tk_tree::{Corner, Windows, bad_path};
 
 const USAGE: &str = "event generate path pattern ?option value ..?";

@@ -11,7 +11,8 @@ use Rattle.tk_app.specs.Stages.{settled_at, used_at}
 use Rattle.tk_app.proofs.Rounds.{sum-cons}
 use Rattle.tk_app.proofs.Shares.{steps_in_turns, sum_used}
 use Rattle.tk_app.specs.Application.{Application, next_due}
-use Rattle.tk_app.specs.Part.{Part, needs, settled, stage_done}
+use Rattle.tk_app.specs.Moments.{settled}
+use Rattle.tk_app.specs.Part.{Part, needs, stage_done}
 use Rattle.tk_app.specs.Seen.{Meaning}
 use Rattle.tk_host.specs.Bounds.{BoundedStages, IsOneEach, granted_for, granted_in}
 use Rattle.tk_host.specs.Turns.{joined, stages_of, steps_for, steps_given, steps_left}

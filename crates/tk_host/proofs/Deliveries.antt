@@ -6,7 +6,8 @@ use Rattle.tk_keys.specs.declared.local_event.LocalEvent.{LocalEvent}
 use Rattle.tk_route.specs.declared.delivery.Delivery.{Delivery}
 use Rattle.tk_app.specs.Rounds.{turns_of}
 use Rattle.tk_app.specs.Application.{Application}
-use Rattle.tk_app.specs.Part.{Part, Rests, delivered, needs, settling_begun, stage_done}
+use Rattle.tk_app.specs.Moments.{delivered}
+use Rattle.tk_app.specs.Part.{Part, Rests, needs, settling_begun, stage_done}
 use Rattle.tk_app.specs.Seen.{Meaning}
 use Rattle.tk_app.specs.Turns.{Applications, BeginsIn, DeliversIn}
 use Rattle.tk_app.proofs.Parts.{settles_from_rest}

@@ -13,12 +13,13 @@ use Rattle.tk_app.specs.Stages.{IsPast}
 use Rattle.tk_app.specs.declared.turns.Turn.{Turn}
 use Rattle.tk_app.specs.Rounds.{turns_of}
 use Rattle.tk_app.specs.Application.{Application, fresh, next_due}
-use Rattle.tk_app.specs.Part.{Part, Rests, added, delivered, needs, settled, stage_done, started}
+use Rattle.tk_app.specs.Moments.{delivered, settled, started}
+use Rattle.tk_app.specs.Part.{Part, Rests, added, needs, stage_done}
 use Rattle.tk_app.specs.Section.{section}
 use Rattle.tk_app.specs.Seen.{Meaning}
 use Rattle.tk_app.specs.Spec.{Spec}
 use Rattle.tk_app.proofs.Parts.{begins_with_script}
-use Rattle.tk_host.specs.declared.fault.HostFault.TheVariants.{Started, Ended, Broken}
+use Rattle.tk_route.specs.declared.fault.LineFault.TheVariants.{Started, Ended, Broken}
 use Rattle.tk_host.specs.declared.phase.Phase.{Phase}
 use Rattle.tk_host.specs.declared.phase.Phase.TheVariants.{Adding, Reached, Finished, Lost}
 use Rattle.tk_host.specs.Spec.{Given, rect_of}

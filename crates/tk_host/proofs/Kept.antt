@@ -11,7 +11,8 @@ use Rattle.tk_app.specs.Rounds.{turns_of}
 use Rattle.tk_app.specs.Stages.{IsPast, earlier, first_due}
 use Rattle.tk_app.proofs.Stages.{both_past, past_both}
 use Rattle.tk_app.specs.Application.{Application, next_due}
-use Rattle.tk_app.specs.Part.{Part, added, delivered, needs, settled, stage_done}
+use Rattle.tk_app.specs.Moments.{delivered, settled}
+use Rattle.tk_app.specs.Part.{Part, added, needs, stage_done}
 use Rattle.tk_app.specs.Seen.{Meaning}
 use Rattle.tk_app.specs.Spec.{Spec}
 use Rattle.tk_app.specs.Turns.{Applications}

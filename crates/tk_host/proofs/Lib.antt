@@ -10,3 +10,4 @@ mod Routing
 mod Settling
 mod Slots
 mod Ways
+pub mod Used

@@ -4,7 +4,8 @@ use Rattle.std.specs.Prelude.{nat_eq, if◌then◌else◌}
 use Rattle.tk_app.specs.Stages.{IsPast, first_due, settled_if, settled_at, stage_at, used_at}
 use Rattle.tk_app.proofs.Stages.{past_both}
 use Rattle.tk_app.specs.Application.{Application, fresh, next_due}
-use Rattle.tk_app.specs.Part.{Part, Work, Rests, added, done_as, needs, settled, settling_begun, stage_done, started}
+use Rattle.tk_app.specs.Moments.{settled, started}
+use Rattle.tk_app.specs.Part.{Part, Work, Rests, added, done_as, needs, settling_begun, stage_done}
 use Rattle.tk_app.specs.Spec.{Spec}
 use Rattle.tk_app.proofs.Parts.{settles_from_rest, begins_with_script}
 use Rattle.tk_host.specs.Alone.{passed}

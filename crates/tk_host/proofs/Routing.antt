@@ -6,7 +6,8 @@ use Rattle.tk_keys.specs.declared.local_event.LocalKind.{LocalKind}
 use Rattle.tk_keys.specs.declared.local_event.LocalKind.TheVariants.{Position, FocusIn, FocusOut, Press as PressAt, Release as ReleaseAt, Keydown as KeydownOf, Keyup as KeyupOf}
 use Rattle.tk_route.specs.Lines.{Line, values}
 use Rattle.tk_route.specs.Routes.{is_same, routes, stamp_of, to, to_place, to_pointer, told, told_size, under_in}
-use Rattle.tk_route.specs.Values.{Values, has, is_any_held, local}
+use Rattle.tk_route.specs.Buttons.{has, is_any_held}
+use Rattle.tk_route.specs.Values.{Values, local}
 use Rattle.tk_route.specs.declared.delivery.Delivery.{Delivery}
 use Rattle.tk_route.specs.declared.line.HostLine.{HostLine}
 use Rattle.tk_route.specs.declared.line.HostLine.TheVariants.{Move, Press, Release, Keydown, Keyup, Focus, Rect as Placed}

@@ -4,10 +4,10 @@ use Rattle.std.proofs.lemmas.Option.{none-some}
 use Rattle.tk_app.specs.declared.state.AppState.{AppState}
 use Rattle.tk_app.specs.declared.state.AppState.TheVariants.{Running, Exhausted, Closed}
 use Rattle.tk_app.specs.Application.{Application, next_due, next_due_as}
-use Rattle.tk_app.specs.Part.{settled}
+use Rattle.tk_app.specs.Moments.{settled}
 use Rattle.tk_app.specs.Seen.{Meaning}
 use Rattle.tk_app.proofs.Settled.{due_takes_a_step}
-use Rattle.tk_host.specs.Alone.{weight_as, weight}
+use Rattle.tk_host.specs.Dues.{weight_as, weight}
 
 module _ {M : Type 0} (answer : M → Meaning) where
   -- something is due of an application only while it runs

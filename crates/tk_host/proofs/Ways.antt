@@ -7,9 +7,11 @@ use Rattle.tk_app.specs.Rounds.{turns_of}
 use Rattle.tk_app.specs.Stages.{IsPast, first_due, stage_at, turns_at}
 use Rattle.tk_app.proofs.Stages.{IsFrom, stage_past}
 use Rattle.tk_app.specs.Application.{Application, next_due}
-use Rattle.tk_app.specs.Part.{Part, needs, settled, settling_begun, stage_done}
+use Rattle.tk_app.specs.Moments.{settled}
+use Rattle.tk_app.specs.Part.{Part, needs, settling_begun, stage_done}
 use Rattle.tk_app.specs.Turns.{Applications, BeginsIn}
-use Rattle.tk_host.specs.Alone.{passed, weight}
+use Rattle.tk_host.specs.Alone.{passed}
+use Rattle.tk_host.specs.Dues.{weight}
 use Rattle.tk_host.specs.Held.{at_rest}
 use Rattle.tk_host.specs.Ready.{AllRest}
 use Rattle.tk_host.specs.Slots.{BeginsAt, begun_by, begun_at}

@@ -1,4 +1,4 @@
--- How many steps a stage takes at most.
+-- Meaning. How many steps a stage takes at most.
 use Rattle.std.specs.Prelude.{ℕ, ◌+◌, ◌-◌, ◌≤◌, List, [], ◌∷◌, length, sum_by}
 use Rattle.std.specs.List.{AllByRecursion}
 use Rattle.tk_keys.specs.declared.local_event.LocalEvent.{LocalEvent}
@@ -8,7 +8,8 @@ use Rattle.tk_app.specs.Rounds.{turns_of}
 use Rattle.tk_app.specs.Shares.{steps_in}
 use Rattle.tk_app.specs.Stages.{turns_at}
 use Rattle.tk_app.specs.Application.{Application, next_due}
-use Rattle.tk_app.specs.Part.{Part, delivered, settled}
+use Rattle.tk_app.specs.Moments.{delivered, settled}
+use Rattle.tk_app.specs.Part.{Part}
 use Rattle.tk_app.specs.Seen.{Meaning}
 use Rattle.tk_host.specs.Alone.{after_event}
 use Rattle.tk_host.specs.Turns.{stages_of, steps_given, steps_left, turns_at_start}

@@ -1,4 +1,4 @@
--- What a host holds, and what it holds after a list of calls.
+-- Meaning. What a host holds, and what it holds after a list of calls.
 use Rattle.std.specs.Prelude.{ℕ, ◌+◌, List, [], ◌∷◌, ◌++◌, map}
 use Rattle.tk_base.specs.declared.rect.Rect.{Rect}
 use Rattle.tk_keys.specs.declared.local_event.LocalEvent.{LocalEvent}

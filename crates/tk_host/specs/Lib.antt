@@ -1,7 +1,7 @@
 -- What the contracts cite.
 pub mod Alone
 pub mod Bounds
-pub mod Fault
+pub mod Dues
 pub mod Held
 pub mod Ready
 pub mod Refusals
@@ -9,3 +9,4 @@ pub mod Sections
 pub mod Slots
 pub mod Spec
 pub mod Turns
+pub mod Used

@@ -1,12 +1,14 @@
--- What a host knows of its parts while it waits for a call.
+-- Steps. What a host knows of its parts while it waits for a call.
 use Rattle.std.specs.Prelude.{◌≡◌, ◌≤◌, ℕ, true, List, [], ◌∷◌, length}
 use Rattle.tk_base.specs.declared.rect.Rect.{Rect}
+use Rattle.tk_route.specs.Limits.{most_applications}
 use Rattle.tk_route.specs.Lines.{Line, values}
 use Rattle.tk_route.specs.Screen.{are_apart}
 use Rattle.tk_route.specs.Values.{Values}
 use Rattle.tk_app.specs.Stages.{IsPast, first_due}
 use Rattle.tk_app.specs.Application.{next_due}
-use Rattle.tk_app.specs.Part.{Part, Rests, added, settled}
+use Rattle.tk_app.specs.Moments.{settled}
+use Rattle.tk_app.specs.Part.{Part, Rests, added}
 use Rattle.tk_app.specs.Seen.{Meaning}
 use Rattle.tk_app.specs.Spec.{Spec}
 use Rattle.tk_host.specs.declared.phase.Phase.{Phase}
@@ -39,5 +41,5 @@ IsAt moment Lost = ⊥
 -- Before the start the applications' rectangles are apart, and there are as many as parts; then what is known is known by lines, none of which came after the
 -- moment that was reached.
 pub record IsRouted {M : Type 0} (phase : Phase) (rects : List Rect) (known : Values) (parts : List (Part M)) : Type 0 where
-  pub adding : phase ≡ Adding → (are_apart rects ≡ true) × (length rects ≤ 16) × (length rects ≡ length parts)
+  pub adding : phase ≡ Adding → (are_apart rects ≡ true) × (length rects ≤ most_applications) × (length rects ≡ length parts)
   pub reached : (last : ℕ) → phase ≡ Reached last → (known.moment ≤ last) × (first : List Rect) × (earlier : List Line) × (known ≡ values first earlier)

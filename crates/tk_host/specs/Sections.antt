@@ -1,4 +1,4 @@
--- The sections of all applications.
+-- Meaning. The sections of all applications.
 use Rattle.std.specs.Prelude.{◌≡◌, ℕ, List, map, slice_get, Some}
 use Rattle.tk_host.specs.declared.phase.Phase.TheVariants.{Adding}
 use Rattle.tk_host.specs.Spec.{Given}

@@ -1,10 +1,11 @@
--- What a step of a stage makes of the part in one slot.
+-- Steps. What a step of a stage makes of the part in one slot.
 use Rattle.std.specs.Prelude.{◌≡◌, ◌+◌, ◌≤◌, ◌-◌, ◌++◌, ◌==◌, ℕ, Bool, true, false, List, [], ◌∷◌, Option, Some, None, slice_get, slice_set, min, if◌then◌else◌}
 use Rattle.tk_keys.specs.declared.local_event.LocalEvent.{LocalEvent}
 use Rattle.tk_route.specs.declared.delivery.Delivery.{Delivery}
 use Rattle.tk_app.specs.Rounds.{entry}
 use Rattle.tk_app.specs.Application.{next_due}
-use Rattle.tk_app.specs.Part.{Part, Rests, delivered, needs, settling_begun, stage_done}
+use Rattle.tk_app.specs.Moments.{delivered}
+use Rattle.tk_app.specs.Part.{Part, Rests, needs, settling_begun, stage_done}
 use Rattle.tk_app.specs.Seen.{Meaning}
 use Rattle.tk_app.specs.Turns.{Applications}
 

@@ -1,4 +1,4 @@
--- The turns of the calls that run applications.
+-- Meaning. The turns of the calls that run applications.
 use Rattle.std.specs.Prelude.{ℕ, ◌+◌, ◌-◌, ◌==◌, List, [], ◌∷◌, ◌++◌, map, if◌then◌else◌}
 use Rattle.std.specs.List.{list_any}
 use Rattle.tk_keys.specs.declared.local_event.LocalEvent.{LocalEvent}
@@ -8,10 +8,12 @@ use Rattle.tk_app.specs.declared.turns.Turn.{Turn}
 use Rattle.tk_app.specs.Rounds.{turns_of}
 use Rattle.tk_app.specs.Stages.{turns_to}
 use Rattle.tk_app.specs.Application.{Application, fresh, next_due}
-use Rattle.tk_app.specs.Part.{Part, delivered, needs, settled, started}
+use Rattle.tk_app.specs.Moments.{delivered, settled, started}
+use Rattle.tk_app.specs.Part.{Part, needs}
 use Rattle.tk_app.specs.Seen.{Meaning}
 use Rattle.tk_app.specs.Spec.{Spec}
-use Rattle.tk_host.specs.Alone.{after_event, weight}
+use Rattle.tk_host.specs.Alone.{after_event}
+use Rattle.tk_host.specs.Dues.{weight}
 
 -- The stages of what a line gives: one for the events of different applications; a second event of the same application is a stage of its own.
 abbrev pub joined : Delivery → List (List Delivery) → List (List Delivery)

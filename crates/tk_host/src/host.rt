@@ -1,23 +1,22 @@
-ghost use Rattle.std.specs.Prelude.{◌≡◌, ◌≤◌, ◌↔◌, ℕ, true, List, [], ◌∷◌, length, IsTrue, Any, IfOk, OnErr, OnOk, MatchResult};
+ghost use Rattle.std.specs.Prelude.{◌≡◌, ◌≤◌, ◌↔◌, ℕ, true, List, [], length, IsTrue, Any, MatchResult};
 ghost use Rattle.tk_base.specs.Rect.{SharePixel};
-ghost use Rattle.tk_base.specs.declared.rect.Rect.{Rect as RectOf};
-ghost use Rattle.tk_route.specs.Lines.{Line, at, values};
-ghost use Rattle.tk_route.specs.Routes.{deliveries, routes};
+ghost use Rattle.tk_route.specs.Lines.{values};
 ghost use Rattle.tk_route.specs.Screen.{are_apart};
-ghost use Rattle.tk_host.specs.Refusals.{IsFirst, IsRefusal, NoneApplies, PartsRefuse, RefusesRoute, app_faults, route_faults};
+ghost use Rattle.tk_route.specs.Limits.{most_applications};
+ghost use Rattle.tk_route.specs.Refusals.{IsFirst, NoneApplies};
+ghost use Rattle.tk_host.specs.Refusals.{PartsRefuse, app_faults};
 ghost use Rattle.tk_host.specs.Spec.{given, have_one_name, is_served};
 
 use crate::events::deliver_all;
-use crate::fault::HostFault;
 use crate::phase::Phase;
 use crate::spec::may_be_given;
 use crate::stages::{advance, stage};
 use std::alloc::{AllocError, Global};
 use std::marker::Model;
 use tcl_text::Text;
-use tk_app::{Alias, AliasService, Aliases, Budget, MAX_APPLICATIONS, Shared, Size, Turn};
+use tk_app::{Alias, AliasService, Aliases, Budget, Shared, Size, Turn};
 use tk_base::{MAX_MOMENT, Rect};
-use tk_route::{HostLine, LineFault, Routed, Router};
+use tk_route::{HostFault, HostLine, LineFault, MAX_APPLICATIONS, Router, test_line};
 
 /// Applications side by side with one clock, in milliseconds from 0. What becomes of each rests on itself alone; those that have something to
 /// do at a moment take turns, in the order of their slots, each at most a slice of steps.
@@ -55,7 +54,8 @@ impl<M: AliasService> Host<M> {
     ghost use Rattle.tk_host.specs.Ready.{IsAt};
     ghost use Rattle.tk_host.specs.Sections.{sections_after};
     ghost use Rattle.tk_host.specs.Spec.{given};
-    ghost use Rattle.tk_host.specs.Refusals.{IsRefusal, LeftBy, NoneApplies, PhaseRefuses, RefusesApp, RefusesLine, RefusesMoment, RefusesSection, add_faults, line_faults, moment_faults, section_faults, start_faults, time_faults};
+    ghost use Rattle.tk_route.specs.Refusals.{IsFirst, NoneApplies};
+    ghost use Rattle.tk_host.specs.Refusals.{IsRefusal, LeftBy, PhaseRefuses, RefusesApp, RefusesLine, RefusesMoment, RefusesSection, add_faults, line_faults, moment_faults, section_faults, start_faults};
 
     /// A host without applications. Each takes at most `slice` steps in a turn; what comes of it doesn't depend on that.
     pub fn new(alloc: Global, slice: u64) -> Result<Host<M>, AllocError>
@@ -74,7 +74,7 @@ impl<M: AliasService> Host<M> {
 
     /// Adds an application in the next slot, from 0 on: its rectangle on the screen in pixels, the steps that its scripts may take: how
     /// many at first, and how many each event grants that is routed to it, up to that number again; and its aliases, each of which replaces a
-    /// command of its name (interp(n)). Refused are, in this order: `Broken` (42), `Ended` (41), `Started` (40), `BadValue` (36; also more than
+    /// command of its name (interp(n)). Refused are, in this order: `Broken` (42), `Ended` (41), `Started` (40), `BadLine` (36; also more than
     /// 64 aliases, or one by a name that `is_command_name` refuses), `TooManyApps` (38), `NameTaken` (39; also where two of the aliases have one
     /// name) and `Overlap` (34).
     pub fn add_app(
@@ -119,9 +119,9 @@ impl<M: AliasService> Host<M> {
     {
         match self.phase {
             Phase::Adding => {}
-            Phase::Reached(_) => return Err(HostFault::Started),
-            Phase::Finished(_) => return Err(HostFault::Ended),
-            Phase::Lost => return Err(HostFault::Broken),
+            Phase::Reached(_) => return Err(HostFault::Refused(LineFault::Started)),
+            Phase::Finished(_) => return Err(HostFault::Refused(LineFault::Ended)),
+            Phase::Lost => return Err(HostFault::Refused(LineFault::Broken)),
         }
         self.router = router_of(self.rects.as_slice());
         self.phase = Phase::Lost;
@@ -133,7 +133,7 @@ impl<M: AliasService> Host<M> {
 
     /// A line of the pointer, of a key, of who has the keys, or of a rectangle, at a moment, in milliseconds: the applications come to the
     /// moment, each doing what is due of its own on the way, and then those that the line gives an event do what comes of it, in turns. Refused
-    /// are, in this order: `Broken` (42), `Ended` (41), `BadValue` (36) outside the ranges of a session, `TimeBack` (35), `NoApp` (37) and
+    /// are, in this order: `Broken` (42), `Ended` (41), `BadLine` (36) outside the ranges of a session, `TimeBack` (35), `NoApp` (37) and
     /// `RectOverlap` (43). After a want of memory the host is broken.
     pub fn line(&mut self, moment: u64, line: HostLine) -> Result<(), HostFault>
         requires { self.old.held.phase ≢ Phase.Adding }
@@ -149,7 +149,25 @@ impl<M: AliasService> Host<M> {
             OnOk result (self.new.turns ≡ turns_after M.answer self.old.slice calls (LineAt moment line)) }
     {
         self.may_take(moment, &line)?;
-        let routed = route(&mut self.router, moment, line)?;
+        self.tested_line(moment, line)?;
+        Ok(())
+    }
+
+    /// Takes a line as `line` does, where it was tested already that `line` isn't refused it. After a want of memory, which alone is answered, the
+    /// host is broken.
+    pub fn tested_line(&mut self, moment: u64, line: HostLine) -> Result<(), AllocError>
+        requires begun { self.old.held.phase ≢ Phase.Adding }
+        requires tested { NoneApplies (RefusesLine self.old.held moment line) line_faults }
+        ensures lined { (first : List Rect) (earlier : List Line) → self.old.held.known ≡ values first earlier
+            → OnOk result (self.new ≡ after_line M.answer first earlier (at moment line) self.old) }
+        ensures reached { OnOk result (self.new.held.phase ≡ Phase.Reached moment) }
+        ensures lost { OnErr result (self.new.held.phase ≡ Phase.Lost) }
+        ensures history { (calls : List (Call M)) → self.old.held ≡ held_after M.answer calls →
+            OnOk result (self.new.held ≡ held_after M.answer (calls ++ LineAt moment line ∷ [])) }
+        ensures turns { (calls : List (Call M)) → self.old.held ≡ held_after M.answer calls →
+            OnOk result (self.new.turns ≡ turns_after M.answer self.old.slice calls (LineAt moment line)) }
+    {
+        let routed = self.router.tested_line(moment, line);
         self.phase = Phase::Lost;
         let shared = &mut self.shared;
         shared.clear_turns();
@@ -161,7 +179,7 @@ impl<M: AliasService> Host<M> {
     }
 
     /// Goes on to a moment, in milliseconds: what is due by then is done, each at its moment: timers, and the idle scripts that come of
-    /// them (after(n)). Refused are, in this order: `Broken` (42), `Ended` (41), `BadValue` (36) past 10^12 and `TimeBack` (35). After a
+    /// them (after(n)). Refused are, in this order: `Broken` (42), `Ended` (41), `BadLine` (36) past 10^12 and `TimeBack` (35). After a
     /// want of memory the host is broken.
     pub fn advance_to(&mut self, moment: u64) -> Result<(), HostFault>
         requires { self.old.held.phase ≢ Phase.Adding }
@@ -203,10 +221,10 @@ impl<M: AliasService> Host<M> {
             IfOk result (λ bytes. slice_get (sections_after M.answer calls) slot ≡ Some bytes.items) }
     {
         if let Phase::Lost = self.phase {
-            return Err(HostFault::Broken);
+            return Err(HostFault::Refused(LineFault::Broken));
         }
         if slot >= self.shared.len() {
-            return Err(HostFault::NoApp);
+            return Err(HostFault::Refused(LineFault::NoApp));
         }
         Ok(self.shared.section(self.alloc, slot)?)
     }
@@ -239,47 +257,39 @@ impl<M: AliasService> Host<M> {
     }
 
     /// Why the host can't go on to a moment, if it can't.
-    fn may_go_to(&self, moment: u64) -> Result<(), HostFault>
+    fn may_go_to(&self, moment: u64) -> Result<(), LineFault>
         requires { self.now.held.phase ≢ Phase.Adding }
         ensures answer { MatchResult result (λ _. NoneApplies (RefusesMoment self.now.held moment) moment_faults)
-            (IsRefusal (RefusesMoment self.now.held moment) moment_faults) }
-        ensures left { IfErr result (λ fault. LeftBy fault self.now self.now) }
+            (IsFirst (RefusesMoment self.now.held moment) moment_faults) }
     {
         let reached = match self.phase {
             Phase::Adding => unreachable!(),
             Phase::Reached(reached) => reached,
-            Phase::Finished(_) => return Err(HostFault::Ended),
-            Phase::Lost => return Err(HostFault::Broken),
+            Phase::Finished(_) => return Err(LineFault::Ended),
+            Phase::Lost => return Err(LineFault::Broken),
         };
         if moment > MAX_MOMENT {
-            return Err(HostFault::BadValue);
+            return Err(LineFault::BadLine);
         }
         if moment < reached {
-            return Err(HostFault::TimeBack);
+            return Err(LineFault::TimeBack);
         }
         Ok(())
     }
 
-    /// Why a line can't be taken, if it can't, but for what it names.
-    fn may_take(&self, moment: u64, line: &HostLine) -> Result<(), HostFault>
+    /// Why a line can't be taken, if it can't.
+    fn may_take(&self, moment: u64, line: &HostLine) -> Result<(), LineFault>
         requires { self.now.held.phase ≢ Phase.Adding }
-        ensures answer { MatchResult result (λ _. NoneApplies (RefusesLine self.now.held moment line.now) time_faults)
-            (IsRefusal (RefusesLine self.now.held moment line.now) line_faults) }
-        ensures left { IfErr result (λ fault. LeftBy fault self.now self.now) }
+        ensures answer { MatchResult result (λ _. NoneApplies (RefusesLine self.now.held moment line.now) line_faults)
+            (IsFirst (RefusesLine self.now.held moment line.now) line_faults) }
     {
         let reached = match self.phase {
             Phase::Adding => unreachable!(),
             Phase::Reached(reached) => reached,
-            Phase::Finished(_) => return Err(HostFault::Ended),
-            Phase::Lost => return Err(HostFault::Broken),
+            Phase::Finished(_) => return Err(LineFault::Ended),
+            Phase::Lost => return Err(LineFault::Broken),
         };
-        if moment > MAX_MOMENT || !line.is_in_range() {
-            return Err(HostFault::BadValue);
-        }
-        if moment < reached {
-            return Err(HostFault::TimeBack);
-        }
-        Ok(())
+        test_line(self.router.rects(), reached, moment, line)
     }
 
     /// Why an application can't be added, if it can't.
@@ -289,10 +299,10 @@ impl<M: AliasService> Host<M> {
         rect: Rect,
         budget: Budget,
         aliases: &Aliases<M>,
-    ) -> Result<(), HostFault>
+    ) -> Result<(), LineFault>
         ensures { (script : List ℕ) → MatchResult result
             (λ _. NoneApplies (RefusesApp self.now.held (given name.now rect script budget aliases.now)) add_faults)
-            (IsRefusal (RefusesApp self.now.held (given name.now rect script budget aliases.now)) add_faults) }
+            (IsFirst (RefusesApp self.now.held (given name.now rect script budget aliases.now)) add_faults) }
     {
         match self.phase {
             Phase::Adding => test_app(
@@ -303,9 +313,9 @@ impl<M: AliasService> Host<M> {
                 budget,
                 aliases,
             ),
-            Phase::Reached(_) => Err(HostFault::Started),
-            Phase::Finished(_) => Err(HostFault::Ended),
-            Phase::Lost => Err(HostFault::Broken),
+            Phase::Reached(_) => Err(LineFault::Started),
+            Phase::Finished(_) => Err(LineFault::Ended),
+            Phase::Lost => Err(LineFault::Broken),
         }
     }
 }
@@ -318,22 +328,22 @@ fn test_app<M: AliasService>(
     rect: Rect,
     budget: Budget,
     aliases: &Aliases<M>,
-) -> Result<(), HostFault>
+) -> Result<(), LineFault>
     ensures { (script : List ℕ) → MatchResult result
         (λ _. NoneApplies (PartsRefuse rects.now shared.now.parts (given name.now rect script budget aliases.now)) app_faults)
-        (IsRefusal (PartsRefuse rects.now shared.now.parts (given name.now rect script budget aliases.now)) app_faults) }
+        (IsFirst (PartsRefuse rects.now shared.now.parts (given name.now rect script budget aliases.now)) app_faults) }
 {
     if !may_be_given(name, rect, budget, aliases) {
-        return Err(HostFault::BadValue);
+        return Err(LineFault::BadLine);
     }
     if shared.len() >= MAX_APPLICATIONS {
-        return Err(HostFault::TooManyApps);
+        return Err(LineFault::TooManyApps);
     }
     if shared.has_name(name) || have_one_name(aliases.as_slice()) {
-        return Err(HostFault::NameTaken);
+        return Err(LineFault::NameTaken);
     }
     if is_place_taken(rects, rect) {
-        return Err(HostFault::Overlap);
+        return Err(LineFault::Overlap);
     }
     Ok(())
 }
@@ -376,32 +386,12 @@ fn is_served<M: AliasService>(name: &Text, aliases: &[Alias<M>]) -> bool
 /// A router before the first line, for rectangles that are apart.
 fn router_of(rects: &[Rect]) -> Router
     requires apart { are_apart rects.now ≡ true }
-    requires few { length rects.now ≤ 16 }
+    requires few { length rects.now ≤ most_applications }
     ensures { result ≡ values rects.now [] }
 {
     match Router::new(rects) {
         Ok(router) => router,
         Err(_) => unreachable!(),
-    }
-}
-
-/// Leads a line whose numbers are in their ranges and which doesn't go back in time. It is refused for what it names alone.
-fn route(router: &mut Router, moment: u64, line: HostLine) -> Result<Routed, HostFault>
-    ensures routed { (first : List RectOf) (earlier : List Line) → router.old ≡ values first earlier
-        → IfOk result (λ routed. deliveries routed ≡ routes first earlier (at moment line)) }
-    ensures known { (first : List RectOf) (earlier : List Line) → router.old ≡ values first earlier →
-        OnOk result (router.new ≡ values first (at moment line ∷ earlier)) }
-    ensures refused { MatchResult result
-        (λ _. NoneApplies (RefusesRoute router.old moment line) route_faults)
-        (IsFirst (RefusesRoute router.old moment line) route_faults) }
-    ensures unchanged { OnErr result (router.new ≡ router.old) }
-{
-    match router.line(moment, line) {
-        Ok(routed) => Ok(routed),
-        Err(LineFault::BadLine) => Err(HostFault::BadValue),
-        Err(LineFault::TimeBack) => Err(HostFault::TimeBack),
-        Err(LineFault::NoApp) => Err(HostFault::NoApp),
-        Err(LineFault::RectOverlap) => Err(HostFault::RectOverlap),
     }
 }
 

@@ -1,6 +1,8 @@
 ghost use Rattle.tk_host.specs.Bounds.{BoundedStages};
+ghost use Rattle.tk_host.specs.Dues.{PassesByDues};
 ghost use Rattle.tk_host.specs.Refusals.{OneRefusal};
 ghost use Rattle.tk_host.specs.Sections.{EachByItself};
+ghost use Rattle.tk_host.specs.Used.{AllWithin, UsedAndLeft};
 
 use tk_app::AliasMeaning;
 
@@ -18,4 +20,21 @@ pub fn one_refusal()
 /// In a stage at most the steps are taken that the applications had left at its start, and those that its events grant.
 pub fn bounded_stages<M: AliasMeaning>()
     ensures { BoundedStages M.answer }
+{}
+
+/// What is due of an application's own up to a moment is done from due moment to due moment, the earliest first: in the moments between
+/// nothing is to be done.
+pub fn passes_by_dues<M: AliasMeaning>()
+    ensures { PassesByDues M.answer }
+{}
+
+/// An application by itself: the steps that it has taken and those that are left are its total and those that its events granted, which are at
+/// most its refill for each of them.
+pub fn used_and_left<M: AliasMeaning>()
+    ensures { UsedAndLeft M.answer }
+{}
+
+/// Applications side by side take at most the sum of their totals and of what their events granted.
+pub fn all_within<M: AliasMeaning>()
+    ensures { AllWithin M.answer }
 {}

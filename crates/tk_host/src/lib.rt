@@ -2,21 +2,21 @@
 #![tactic(auto)]
 
 mod events;
-mod fault;
 mod host;
 mod laws;
 mod phase;
 mod spec;
 mod stages;
 
-pub use fault::HostFault;
 pub use host::Host;
-pub use laws::{bounded_stages, each_by_itself, one_refusal};
+pub use laws::{
+    all_within, bounded_stages, each_by_itself, one_refusal, passes_by_dues, used_and_left,
+};
 pub use phase::Phase;
-pub use spec::{MAX_ALIASES, MAX_BUDGET, is_command_name, is_name};
+pub use tk_alias::{MAX_ALIASES, is_command_name};
 pub use tk_app::{
-    Alias, AliasCode, AliasMeaning, AliasReply, AliasService, Aliases, Budget, Closure,
-    MAX_APPLICATIONS, NoAlias, Turn,
+    Alias, AliasCode, AliasMeaning, AliasReply, AliasService, Aliases, Budget, Closure, NoAlias,
+    Turn,
 };
 pub use tk_base::{MAX_MOMENT, MAX_PIXELS, Rect};
-pub use tk_route::{HostLine, Keysym};
+pub use tk_route::{HostFault, HostLine, Keysym, LineFault, MAX_APPLICATIONS, MAX_BUDGET, is_name};

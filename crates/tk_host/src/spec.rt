@@ -1,96 +1,14 @@
-ghost use Rattle.std.specs.Prelude.{◌≡◌, ◌↔◌, IsTrue, All};
+ghost use Rattle.std.specs.Prelude.{◌≡◌, ◌↔◌, IsTrue};
 ghost use Rattle.std.specs.List.{list_all};
-ghost use Rattle.tk_host.specs.Spec.{IsName, IsNameByte, IsLength, IsInRange, are_aliases, begins_apart, is_command_name, is_printing};
+ghost use Rattle.tk_alias.specs.Names.{is_command_name};
+ghost use Rattle.tk_route.specs.Names.{IsAppInRange};
+ghost use Rattle.tk_host.specs.Spec.{are_aliases};
 
 use tcl_text::Text;
+use tk_alias::{MAX_ALIASES, is_command_name};
 use tk_app::{Alias, AliasService, Aliases, Budget};
-use tk_base::{MAX_PIXELS, Rect};
-
-/// How many steps an application is given at most, be it at first or with an event.
-pub const MAX_BUDGET: u64 = 10_000_000;
-
-/// How many aliases an application has at most.
-pub const MAX_ALIASES: usize = 64;
-
-/// How many bytes the name of an application has at most.
-const MAX_NAME: usize = 32;
-
-/// How many bytes the name of an alias has at most.
-const MAX_COMMAND_NAME: usize = 64;
-
-/// Whether a text may name an application: a letter, then letters, digits and underscores, all ASCII, 32 bytes at most.
-pub fn is_name(text: &[u8]) -> bool
-    ensures { IsTrue result ↔ IsName text.now }
-{
-    match text {
-        [first, rest @ ..] => {
-            rest.len() < MAX_NAME && first.is_ascii_alphabetic() && are_name_bytes(rest)
-        }
-        [] => false,
-    }
-}
-
-/// Whether all of the bytes may stand in a name behind its first.
-fn are_name_bytes(bytes: &[u8]) -> bool
-    ensures { IsTrue result ↔ All IsNameByte bytes.now }
-{
-    bytes.iter().all(|byte| is_name_byte(*byte))
-}
-
-fn is_name_byte(byte: u8) -> bool
-    ensures { IsTrue result ↔ IsNameByte byte }
-{
-    byte.is_ascii_alphanumeric() || byte == b'_'
-}
-
-/// Whether the values of an application are in the ranges that a session allows.
-fn is_in_range(name: &Text, rect: Rect, budget: Budget) -> bool
-    ensures { IsTrue result ↔ IsInRange name.now rect budget }
-{
-    is_name(name.as_str().as_bytes())
-        && rect.x <= MAX_PIXELS
-        && rect.y <= MAX_PIXELS
-        && is_length(rect.width)
-        && is_length(rect.height)
-        && budget.total <= MAX_BUDGET
-        && budget.refill <= MAX_BUDGET
-}
-
-fn is_length(length: u32) -> bool
-    ensures { IsTrue result ↔ IsLength length }
-{
-    1 <= length && length <= MAX_PIXELS
-}
-
-fn is_printing(byte: u8) -> bool
-    ensures { result ≡ is_printing byte }
-{
-    33 <= byte && byte <= 126
-}
-
-fn are_printing(text: &[u8]) -> bool
-    ensures { result ≡ list_all is_printing text.now }
-{
-    text.iter().all(|byte| is_printing(*byte))
-}
-
-/// Whether a text begins as the path of a window or the name of a namespace.
-fn begins_apart(text: &[u8]) -> bool
-    ensures { result ≡ begins_apart text.now }
-{
-    match text {
-        [] => false,
-        [only] => *only == b'.',
-        [first, second, ..] => *first == b'.' || (*first == b':' && *second == b':'),
-    }
-}
-
-/// Whether a text may name an alias: 1 to 64 printing ASCII characters, which don't begin as the path of a window or the name of a namespace.
-pub fn is_command_name(text: &[u8]) -> bool
-    ensures { result ≡ is_command_name text.now }
-{
-    1 <= text.len() && text.len() <= MAX_COMMAND_NAME && are_printing(text) && !begins_apart(text)
-}
+use tk_base::Rect;
+use tk_route::is_app_in_range;
 
 /// Whether each of the aliases has a name that a command may have.
 fn are_command_names<M: AliasService>(aliases: &[Alias<M>]) -> bool
@@ -116,7 +34,7 @@ pub fn may_be_given<M: AliasService>(
     budget: Budget,
     aliases: &Aliases<M>,
 ) -> bool
-    ensures { IsTrue result ↔ IsInRange name.now rect budget × IsTrue (are_aliases aliases.now) }
+    ensures { IsTrue result ↔ IsAppInRange name.now rect budget × IsTrue (are_aliases aliases.now) }
 {
-    is_in_range(name, rect, budget) && are_aliases(aliases)
+    is_app_in_range(name.as_str().as_bytes(), rect, budget) && are_aliases(aliases)
 }

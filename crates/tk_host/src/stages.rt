@@ -4,7 +4,8 @@ ghost use Rattle.std.specs.Prelude.{◌≡◌, ◌-◌, ◌≤◌, ◌<◌, ◌+
 ghost use Rattle.tk_app.specs.Rounds.{round, turns_of};
 ghost use Rattle.tk_app.specs.Stages.{IsPast, first_due};
 ghost use Rattle.tk_app.specs.Application.{next_due};
-ghost use Rattle.tk_app.specs.Part.{needs, settled, stage_done};
+ghost use Rattle.tk_app.specs.Moments.{settled};
+ghost use Rattle.tk_app.specs.Part.{needs, stage_done};
 ghost use Rattle.tk_app.specs.Turns.{BeginsIn};
 ghost use Rattle.tk_host.specs.Alone.{passed};
 ghost use Rattle.tk_host.specs.Ready.{AllRest};

@@ -1,5 +1,5 @@
--- Which windows the pointer crosses. A window is given by its path: the numbers of its ancestors from the main window on, and then its own. Outside of
--- the application's rectangle the path is empty, so that outside counts as the parent of the main window.
+-- Meaning. Which windows the pointer crosses. A window is given by its path: the numbers of its ancestors from the main window on, and then its own.
+-- Outside of the application's rectangle the path is empty, so that outside counts as the parent of the main window.
 use Rattle.std.specs.Prelude.{◌≢◌, ℕ, ◌==◌, if◌then◌else◌, ◌-◌, List, [], ◌∷◌, ◌++◌, drop, length, map, reverse, take, codes}
 use Rattle.tk_inputs.specs.declared.pointer_event.PointerEvent.{PointerEvent}
 use Rattle.tk_inputs.specs.declared.pointer_event.PointerKind.TheVariants.{Crossing}

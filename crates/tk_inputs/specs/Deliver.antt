@@ -1,7 +1,7 @@
--- What lines of a session give an application: what becomes of what it keeps of its input, and the events that are queued.
+-- Meaning. What lines of a session give an application: what becomes of what it keeps of its input, and the events that are queued.
 use Rattle.std.specs.Prelude.{ℕ, ℤ, pos, Bool, true, false, List, [], ◌∷◌, ◌++◌, Option, Some, None, if◌then◌else◌}
 use Rattle.std.specs.List.{flat_map}
-use Rattle.tk_events.specs.declared.event.Event.{Event}
+use Rattle.tk_sequences.specs.declared.event.Event.{Event}
 use Rattle.tk_keys.specs.declared.local_event.LocalEvent.{LocalEvent}
 use Rattle.tk_keys.specs.declared.local_event.LocalKind.{LocalKind}
 use Rattle.tk_keys.specs.declared.local_event.LocalKind.TheVariants as kinds

@@ -1,8 +1,8 @@
--- The events that lines make for windows.
+-- Meaning. The events that lines make for windows.
 use Rattle.std.specs.Prelude.{ℕ, ℤ, pos, negsuc, ◌-ℤ◌, nat_le, List, Option, Some, None, if◌then◌else◌}
-use Rattle.tk_events.specs.declared.event.Event.{Event}
-use Rattle.tk_events.specs.declared.event.EventKind.TheVariants.{Physical}
-use Rattle.tk_events.specs.Event.{bare_event}
+use Rattle.tk_sequences.specs.declared.event.Event.{Event}
+use Rattle.tk_sequences.specs.declared.event.EventKind.TheVariants.{Physical}
+use Rattle.tk_sequences.specs.Event.{bare_event}
 use Rattle.tk_inputs.specs.declared.events.PointerLine.{PointerLine}
 use Rattle.tk_inputs.specs.declared.pointer_event.CrossingKind.{CrossingKind}
 use Rattle.tk_inputs.specs.declared.pointer_event.CrossingKind.TheVariants.{Enter, Leave}

@@ -1,10 +1,10 @@
--- Which window has the keys: what `focus` does.
+-- Meaning. Which window has the keys: what `focus` does.
 use Rattle.std.specs.Prelude.{◌≡◌, ℕ, Bool, false, ◌==◌, ◌&&◌, not, List, [], ◌∷◌, ◌++◌, Option, Some, None, Result, Ok, codes, if◌then◌else◌}
 use Rattle.std.specs.Option.{option_map_or}
 use Rattle.std.specs.Str.{bytes_eq}
 use Rattle.tcl_text.specs.declared.commands.answers.Refusal.{Refusal}
 use Rattle.tcl_text.specs.Answers.{Answer, Gives, bad_option, fails, quoted, wrong_args}
-use Rattle.tk_events.specs.declared.event.Event.{Event}
+use Rattle.tk_sequences.specs.declared.event.Event.{Event}
 use Rattle.tk_inputs.specs.declared.inputs.Input.{Input}
 use Rattle.tk_inputs.specs.Deliver.{Arrivals, plain_events}
 use Rattle.tk_sequences.specs.declared.event_type.EventType.TheVariants as types

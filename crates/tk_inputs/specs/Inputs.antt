@@ -1,4 +1,4 @@
--- What applications keep of their input.
+-- Meaning. What applications keep of their input.
 use Rattle.std.specs.Prelude.{◌≡◌, ◌≢◌, ℕ, false, ◌==◌, nat_eq, List, Option, Some, None, if◌then◌else◌}
 use Rattle.std.specs.Map.{lookup}
 use Rattle.std.specs.Option.{option_map_or}

@@ -1,8 +1,8 @@
--- What the windows of an application are told of the pointer. A window is given by its way: the numbers of its ancestors from the main window on, and then
--- its own. The way of a window that is gone, and that of no window, is empty.
+-- Meaning. What the windows of an application are told of the pointer. A window is given by its way: the numbers of its ancestors from the main
+-- window on, and then its own. The way of a window that is gone, and that of no window, is empty.
 use Rattle.std.specs.Prelude.{ℕ, Bool, true, false, not, ◌==◌, if◌then◌else◌, List, [], ◌∷◌, ◌++◌, filter, Option, Some, None}
 use Rattle.std.specs.Option.{option_eq}
-use Rattle.tk_route.specs.Values.{is_any_held, with_pressed, with_released}
+use Rattle.tk_route.specs.Buttons.{is_any_held, with_pressed, with_released}
 use Rattle.tk_inputs.specs.declared.pointer_event.PointerEvent.{PointerEvent}
 use Rattle.tk_inputs.specs.declared.pointer_event.PointerKind.{PointerKind}
 use Rattle.tk_inputs.specs.declared.pointer_event.PointerKind.TheVariants.{Crossing, Motion, Press, Release}

@@ -12,8 +12,8 @@ use crate::inputs::Inputs;
 use std::alloc::{AllocError, Global};
 use tk_base::Win;
 use tk_dispatch::EventQueue;
-use tk_events::EventType;
 use tk_keys::{Keysym, LocalEvent, LocalKind};
+use tk_sequences::EventType;
 use tk_tree::Windows;
 
 /// What a line of the session gives an application: the events that it queues, at once, with the windows as they are then. The keys go to the

@@ -14,7 +14,7 @@ use tcl_text::Text;
 use tcl_text::answers::{Refusal, answered, bad_option, quoting_error, wrong_args};
 use tk_base::Win;
 use tk_dispatch::EventQueue;
-use tk_events::EventType;
+use tk_sequences::EventType;
 use tk_tree::{Windows, bad_path};
 
 const USAGE: &str = "focus ?path?";

@@ -1,4 +1,4 @@
--- Keys by their names and by the characters that they type. A key is its number in the table of names.
+-- Meaning. Keys by their names and by the characters that they type. A key is its number in the table of names.
 use Rattle.std.specs.Prelude.{ℕ, ◌+◌, ◌-◌, ◌&&◌, nat_le, if◌then◌else◌, List, [], ◌∷◌, Option, Some, None, position, slice_get, unwrap_or}
 use Rattle.std.specs.Str.{bytes_eq}
 use Rattle.std.specs.Str.Lines.{lines}

@@ -1,4 +1,4 @@
--- Indices of listbox(n): an integer, `active` or `end`. They are cut to what there is.
+-- Meaning. Indices of listbox(n): an integer, `active` or `end`. They are cut to what there is.
 use Rattle.std.specs.Prelude.{ℕ, ◌+◌, ◌-◌, min, ℤ, pos, negsuc, if◌then◌else◌, List, Option, Some, None, option_map, codes}
 use Rattle.std.specs.Str.{bytes_eq}
 use Rattle.tcl_text.specs.Readings.{integer_of}

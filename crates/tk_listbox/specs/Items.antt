@@ -1,4 +1,4 @@
--- The items of a listbox.
+-- Meaning. The items of a listbox.
 use Rattle.std.specs.Prelude.{ℕ, suc, Bool, false, List, [], ◌∷◌, ◌++◌, map, if◌then◌else◌}
 use Rattle.tk_listbox.specs.declared.items.Item.{Item}
 

@@ -1,4 +1,4 @@
--- The list of all items that is kept beside them.
+-- Steps. The list of all items that is kept beside them.
 use Rattle.std.specs.Prelude.{◌≡◌, ℕ, ◌-◌, ◌<◌, ◌≤◌, List, ◌++◌, length}
 use Rattle.tcl_text.specs.Readings.{list_form}
 use Rattle.tk_listbox.specs.Items.{texts}

@@ -1,4 +1,4 @@
--- A listbox of listbox(n): its items, and what its commands make of them. Places count from 0.
+-- Meaning. A listbox of listbox(n): its items, and what its commands make of them. Places count from 0.
 use Rattle.std.specs.Prelude.{ℕ, suc, ◌+◌, ◌-◌, ◌/◌, min, max, ℤ, Bool, true, false, not, ◌&&◌, ◌||◌, ◌==◌, nat_le, nat_lt, if◌then◌else◌, List, [], ◌∷◌, ◌++◌, length, take, drop, map}
 use Rattle.std.specs.List.{list_any}
 use Rattle.tk_listbox.specs.Indices.{from_zero}

@@ -2,7 +2,7 @@
 use Rattle.std.proofs.Common.{◌≡◌, ℕ, ◌+◌, List, [], ◌∷◌, get_or, drop, Option, Some, None, Ok, Err, Bool, true, false, refl, sym, ap, ◌∙◌}
 use Rattle.std.specs.Prelude.{filter, position}
 use Rattle.std.specs.Option.{is_some}
-use Rattle.tk_options.specs.declared.fault.OptionFault.TheVariants.{UnknownOption, AmbiguousOption}
+use Rattle.tk_options.specs.declared.fault.OptionFault.TheVariants.{UnknownOption, Ambiguous}
 use Rattle.tk_options.specs.declared.option.OptionEntry.{OptionEntry}
 use Rattle.tk_options.specs.declared.form.Form.TheVariants.{AnyText}
 use Rattle.tk_options.specs.declared.option.OptionName.TheVariants.{Text}
@@ -33,10 +33,10 @@ some_entry = row Text AnyText []
 
 pub only_many : (word : List ℕ) (p : OptionEntry → Bool) (entries others : List OptionEntry) (place : ℕ)
     → position p entries ≡ Some place → others ≡ drop (place + 1) entries
-    → is_some (position p others) ≡ true → only word (filter p entries) ≡ Err (AmbiguousOption word)
+    → is_some (position p others) ≡ true → only word (filter p entries) ≡ Err (Ambiguous word)
 only_many word p entries others place at behind some = by (position p others) refl some
   where
-    by : (o : Option ℕ) → position p others ≡ o → is_some o ≡ true → only word (filter p entries) ≡ Err (AmbiguousOption word)
+    by : (o : Option ℕ) → position p others ≡ o → is_some o ≡ true → only word (filter p entries) ≡ Err (Ambiguous word)
     by None second some = absurd (cc)
     by (Some k) second some =
         ap (only word) (filter_at p entries place some_entry at)

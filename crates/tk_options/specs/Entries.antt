@@ -1,4 +1,4 @@
--- The options of a widget as the map of a table has them, each under its name.
+-- Steps. The options of a widget as the map of a table has them, each under its name.
 use Rattle.std.specs.Prelude.{◌≡◌, ℕ, if◌then◌else◌, List, [], ◌∷◌}
 use Rattle.std.specs.Borrow.{Bor}
 use Rattle.std.specs.Map.{values_of}

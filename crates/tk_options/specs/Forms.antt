@@ -1,4 +1,4 @@
--- What values options take, and how they are kept.
+-- Meaning. What values options take, and how they are kept.
 use Rattle.std.specs.Prelude.{ℕ, ℤ, pos, negsuc, Bool, nat_le, if◌then◌else◌, List, [], ◌∷◌, Option, Some, None, option_map, codes}
 use Rattle.std.specs.Fmt.{decimal}
 use Rattle.std.specs.List.{list_any}

@@ -1,4 +1,4 @@
--- What the options are called.
+-- Meaning. What the options are called.
 use Rattle.std.specs.Prelude.{ℕ, List, codes, if◌then◌else◌}
 use Rattle.std.specs.Str.{bytes_eq}
 use Rattle.tk_options.specs.declared.option.OptionName.{OptionName}

@@ -1,4 +1,4 @@
--- The options of one widget: which one a word means, and how they are set and told.
+-- Meaning. The options of one widget: which one a word means, and how they are set and told.
 use Rattle.std.specs.Prelude.{ℕ, ◌<◌, Bool, if◌then◌else◌, List, [], ◌∷◌, length, take, filter, find, fold, Option, Some, None, option_map, Result, Ok, Err}
 use Rattle.std.specs.Option.{option_map_or, option_or}
 use Rattle.std.specs.Str.{bytes_eq}
@@ -6,7 +6,7 @@ use Rattle.tcl_text.specs.Readings.{list_form}
 use Rattle.tk_options.specs.Forms.{amount_in, value_in}
 use Rattle.tk_options.specs.Names.{name_of, long_name}
 use Rattle.tk_options.specs.declared.fault.OptionFault.{OptionFault}
-use Rattle.tk_options.specs.declared.fault.OptionFault.TheVariants.{UnknownOption, AmbiguousOption, BadValue, NoValue}
+use Rattle.tk_options.specs.declared.fault.OptionFault.TheVariants.{UnknownOption, Ambiguous, BadValue, NoValue}
 use Rattle.tk_options.specs.declared.option.OptionName.{OptionName}
 use Rattle.tk_options.specs.declared.option.OptionEntry.{OptionEntry}
 use Rattle.tk_options.specs.declared.settings.Setting.{Setting}
@@ -36,7 +36,7 @@ is_begun word entry = bytes_eq word (take (length word) (name_of entry.option))
 abbrev pub only : List ℕ → List OptionEntry → Outcome OptionEntry
 only word [] = Err (UnknownOption word)
 only word (entry ∷ []) = Ok entry
-only word (entry ∷ other ∷ entries) = Err (AmbiguousOption word)
+only word (entry ∷ other ∷ entries) = Err (Ambiguous word)
 
 -- what was found, or else the only option whose name begins with the word
 abbrev pub or_only : List ℕ → List OptionEntry → Option OptionEntry → Outcome OptionEntry

@@ -1,7 +1,7 @@
 //! Why options are refused, and the texts that say so.
 ghost use Rattle.std.specs.Prelude.{◌≡◌, IfOk, string_bytes};
 ghost use Rattle.tcl_text.specs.Answers.{bounded};
-ghost use Rattle.tk_options.specs.FaultTexts.{bad_value_text, fault_text};
+ghost use Rattle.tk_options.specs.FaultTexts.{bad_value_text, fault_number, fault_text};
 
 use std::alloc::{AllocError, AllocFailed, Global};
 use std::fmt::{self, Debug, Formatter, Write};
@@ -17,7 +17,7 @@ pub enum OptionFault {
     UnknownOption(Text),
     /// Several options begin with these characters (21).
     #[error("ambiguous option")]
-    AmbiguousOption(Text),
+    Ambiguous(Text),
     /// The option doesn't take the value (22).
     #[error("bad value for option")]
     BadValue { value: Text, option: Text },
@@ -30,6 +30,22 @@ pub enum OptionFault {
 }
 
 impl OptionFault {
+    /// Its number; none where memory was refused.
+    pub fn number(&self) -> Option<u32>
+        ensures { result ≡ fault_number self.now }
+    {
+        match self {
+            OptionFault::UnknownOption(_) => Some(20),
+            OptionFault::Ambiguous(_) => Some(21),
+            OptionFault::BadValue {
+                value: _,
+                option: _,
+            } => Some(22),
+            OptionFault::NoValue(_) => Some(23),
+            OptionFault::NoMemory => None,
+        }
+    }
+
     /// The text of the error, or the limit's (4) where it would pass 65,536 bytes.
     pub fn message(&self, alloc: Global) -> Result<Text, AllocError>
         ensures { IfOk result (λ text. text ≡ bounded (fault_text self.now)) }
@@ -49,11 +65,7 @@ impl OptionFault {
                 "unknown option ",
                 word.as_str(),
             ),
-            OptionFault::AmbiguousOption(word) => with_quoted(
-                alloc,
-                "ambiguous option ",
-                word.as_str(),
-            ),
+            OptionFault::Ambiguous(word) => with_quoted(alloc, "ambiguous option ", word.as_str()),
             OptionFault::BadValue { value, option } => bad_value(alloc, value, option),
             OptionFault::NoValue(word) => quoting(alloc, VALUE_FOR, word.as_str(), MISSING),
             OptionFault::NoMemory => String::from_str(alloc, "out of memory"),

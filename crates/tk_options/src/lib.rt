@@ -1,4 +1,4 @@
-//! The options of Tk's widgets: which each kind of widget has, what values they take, and the values that one widget has.
+//! What each kind of Tk's widgets is, and the options of one: what values they take, and those that it has.
 #![tactic(auto)]
 
 mod fault;
@@ -11,5 +11,6 @@ mod table;
 pub use fault::OptionFault;
 pub use form::Form;
 pub use option::{OptionEntry, OptionName};
+pub use rows::{BindingRow, KINDS, KindRow, OptionRow, kind_named, row_of};
 pub use settings::{Setting, Settings};
 pub use table::OptionTable;

@@ -1,6 +1,6 @@
 ghost use Rattle.std.specs.Prelude.{◌≡◌, ◌≢◌, ◌≤◌, Any, [], ◌∷◌, IfOk, IfErr, OnOk, OnErr, Ok, Err, Some, None, find, filter, position, map};
 ghost use Rattle.std.specs.Option.{option_copied};
-ghost use Rattle.tk_options.specs.Rows.{options_of, row as row_of};
+ghost use Rattle.tk_options.specs.Rows.{options_of, row as option_of};
 ghost use Rattle.tk_options.specs.Names.{long_name};
 ghost use Rattle.tk_options.specs.Options.{is_named, is_begun, only, meant, tested, settings, with_value, with_settings, configured, value_meant, value_of, amount_of, description, IsTooLong};
 ghost use Rattle.tk_options.specs.Entries.{with_option};
@@ -9,7 +9,7 @@ ghost use Rattle.tk_options.specs.Forms.{most_amount};
 use crate::fault::OptionFault;
 use crate::form::amount_in;
 use crate::option::{OptionEntry, OptionName};
-use crate::rows::{OptionRow, rows_of};
+use crate::rows::{OptionRow, row_of};
 use crate::settings::{Setting, Settings};
 use indexmap::IndexMap;
 use std::alloc::{AllocError, Global};
@@ -41,7 +41,7 @@ impl OptionTable {
     pub fn new(alloc: Global, kind: Kind) -> Result<OptionTable, AllocError>
         ensures { IfOk result (λ table. table ≡ options_of kind) }
     {
-        let rows = rows_of(kind);
+        let rows = row_of(kind).options;
         let mut table = OptionTable::with_capacity(alloc, rows.len())?;
         for row in rows {
             table.add(new_entry(alloc, *row)?)?;
@@ -69,7 +69,7 @@ impl OptionTable {
     }
 
     /// The option that a word means: by its name, by one of the short names `-bd`, `-bg` and `-fg`, or by the beginning of its name
-    /// alone. `UnknownOption` (20) where none is meant, `AmbiguousOption` (21) where the word is the beginning of several.
+    /// alone. `UnknownOption` (20) where none is meant, `Ambiguous` (21) where the word is the beginning of several.
     #[tactic(auto, unfolding(crate::specs::Options::meant))]
     pub fn entry(&self, word: &Text) -> Result<&OptionEntry, OptionFault>
         ensures ok { IfOk result (λ entry. meant word.now self.now ≡ Ok entry.now) }
@@ -95,7 +95,7 @@ impl OptionTable {
         self.entries.values().as_slice()
     }
 
-    /// The value of an option (`cget` of options(n)), which is not copied. `UnknownOption` (20) or `AmbiguousOption` (21) where the
+    /// The value of an option (`cget` of options(n)), which is not copied. `UnknownOption` (20) or `Ambiguous` (21) where the
     /// word means no option.
     pub fn cget(&self, word: &Text) -> Result<&Text, OptionFault>
         ensures ok { IfOk result (λ value. value_meant word.now self.now ≡ Ok value.now) }
@@ -106,7 +106,7 @@ impl OptionTable {
     }
 
     /// Sets options, by words in pairs (`configure` of options(n)). All are tested from the left before one is set: `UnknownOption`
-    /// (20), `AmbiguousOption` (21), `NoValue` (23) where the last has no value, `BadValue` (22). Refused, it sets nothing.
+    /// (20), `Ambiguous` (21), `NoValue` (23) where the last has no value, `BadValue` (22). Refused, it sets nothing.
     #[tactic(auto, unfolding(crate::specs::Options::configured))]
     pub fn configure(&mut self, alloc: Global, words: &[Text]) -> Result<(), OptionFault>
         ensures ok { OnOk result (configured words.now self.old ≡ Ok self.new) }
@@ -182,7 +182,7 @@ impl OptionTable {
 
 /// The option of a row, with its default.
 fn new_entry(alloc: Global, row: OptionRow) -> Result<OptionEntry, AllocError>
-    ensures { IfOk result (λ entry. entry ≡ row_of row.0 row.1 row.2.now) }
+    ensures { IfOk result (λ entry. entry ≡ option_of row.0 row.1 row.2.now) }
 {
     let OptionRow(option, form, default) = row;
     Ok(OptionEntry {
@@ -215,7 +215,7 @@ fn only_begun<'a>(entries: &'a [OptionEntry], word: &Text) -> Result<&'a OptionE
     };
     let (_, others) = entries.split_at(place + 1);
     if place_begun(others, word.as_str()).is_some() {
-        return Err(OptionFault::AmbiguousOption(word.copy()?));
+        return Err(OptionFault::Ambiguous(word.copy()?));
     }
     Ok(&entries[place])
 }

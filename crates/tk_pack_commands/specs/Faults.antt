@@ -1,4 +1,4 @@
--- The errors of `pack`.
+-- Meaning. The errors of `pack`.
 use Rattle.std.specs.Prelude.{ℕ, List, ◌++◌, Result, codes}
 use Rattle.tcl_text.specs.Answers.{fails, missing_value, quoted}
 use Rattle.tcl_text.specs.FaultTexts.{boolean_text}

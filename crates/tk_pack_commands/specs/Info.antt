@@ -1,4 +1,4 @@
--- What `pack info`, `pack propagate` and `pack slaves` tell.
+-- Meaning. What `pack info`, `pack propagate` and `pack slaves` tell.
 use Rattle.std.specs.Prelude.{ℕ, Bool, ◌==◌, if◌then◌else◌, List, [], ◌∷◌, ◌++◌, Option, None, Some, codes}
 use Rattle.std.specs.Fmt.{decimal}
 use Rattle.std.specs.List.{flat_map}

@@ -1,4 +1,4 @@
--- The options of `pack configure`: which one a word is, and what its value asks for.
+-- Meaning. The options of `pack configure`: which one a word is, and what its value asks for.
 use Rattle.std.specs.Prelude.{ℕ, Bool, true, false, ◌==◌, if◌then◌else◌, List, [], ◌∷◌, Option, None, Some, option_map, unwrap_or, is_some, Result, Ok, codes}
 use Rattle.std.specs.List.{list_all}
 use Rattle.std.specs.Str.{bytes_eq}

@@ -1,4 +1,4 @@
--- The command `pack` (pack(n)): what it answers, and what its application has packed then.
+-- Meaning. The command `pack` (pack(n)): what it answers, and what its application has packed then.
 use Rattle.std.specs.Prelude.{ℕ, Bool, if◌then◌else◌, List, [], ◌∷◌, take, drop, Option, None, Some, option_map, Result, Ok, Err, codes}
 use Rattle.std.specs.Str.{bytes_eq}
 use Rattle.tcl_text.specs.Answers.{Answer, ◌>>=◌, answers, truth, wrong_args, bad_option}
@@ -6,6 +6,8 @@ use Rattle.tcl_text.specs.Readings.{boolean_of, list_form}
 use Rattle.tk_packer.specs.Packs.{Own as Packs, slaves_of, request_in, propagates_in, with_propagation, without_packed}
 use Rattle.tk_tree.specs.Own.{Own as Tree, at_path}
 use Rattle.tk_pack_commands.specs.declared.asked.PackRequest.{PackRequest}
+use Rattle.tk_pack_commands.specs.declared.pack.PackQuestion.{PackQuestion}
+use Rattle.tk_pack_commands.specs.declared.pack.PackQuestion.TheVariants.{Info, Slaves}
 use Rattle.tk_pack_commands.specs.declared.targets.Found.{Found}
 use Rattle.tk_pack_commands.specs.declared.targets.Target.{Target}
 use Rattle.tk_pack_commands.specs.Faults.{not_boolean}
@@ -56,21 +58,22 @@ all_forgotten (path ∷ paths) tree packs = all_forgotten paths tree (forgotten_
 abbrev pub forget_words : List (List ℕ) → Tree → Packs → Told
 forget_words paths tree packs = (all_forgotten paths tree packs, Ok [])
 
--- ---- pack info path
+-- ---- pack info path, pack slaves path
 
-abbrev pub info_words : List (List ℕ) → Tree → Packs → Answer
-info_words (path ∷ []) tree packs = do
+abbrev pub usage_of : PackQuestion → List ℕ
+usage_of Info = codes "pack info path"
+usage_of Slaves = codes "pack slaves path"
+
+-- what is told of the window with this path and number
+abbrev pub told_of : PackQuestion → List ℕ → ℕ → Tree → Packs → Answer
+told_of Info path number tree packs = info_of path (request_in number packs.packs)
+told_of Slaves path number tree packs = answers (list_form (paths_of tree (slaves_of number packs.packs)))
+
+abbrev pub question_words : PackQuestion → List (List ℕ) → Tree → Packs → Answer
+question_words question (path ∷ []) tree packs = do
   found ← window_in path tree
-  info_of path (request_in found.number packs.packs)
-info_words _ tree packs = wrong_args (codes "pack info path")
-
--- ---- pack slaves path
-
-abbrev pub slaves_words : List (List ℕ) → Tree → Packs → Answer
-slaves_words (path ∷ []) tree packs = do
-  found ← window_in path tree
-  answers (list_form (paths_of tree (slaves_of found.number packs.packs)))
-slaves_words _ tree packs = wrong_args (codes "pack slaves path")
+  told_of question path found.number tree packs
+question_words question _ tree packs = wrong_args (usage_of question)
 
 -- ---- pack propagate path ?boolean?
 
@@ -105,11 +108,11 @@ propagate_words _ tree packs = (packs, wrong_args (codes "pack propagate path ?b
 unfoldable pub named_words : List ℕ → List (List ℕ) → Tree → Packs → Told
 named_words name words tree packs =
     if bytes_eq name (codes "configure") then configure_words words tree packs
-    else (if bytes_eq name (codes "forget") then forget_words words tree packs
-    else (if bytes_eq name (codes "info") then (packs, info_words words tree packs)
-    else (if bytes_eq name (codes "propagate") then propagate_words words tree packs
-    else (if bytes_eq name (codes "slaves") then (packs, slaves_words words tree packs)
-    else (packs, bad_option name)))))
+    else if bytes_eq name (codes "forget") then forget_words words tree packs
+    else if bytes_eq name (codes "info") then (packs, question_words Info words tree packs)
+    else if bytes_eq name (codes "propagate") then propagate_words words tree packs
+    else if bytes_eq name (codes "slaves") then (packs, question_words Slaves words tree packs)
+    else (packs, bad_option name)
 
 -- the words behind the command's name: a path comes first, or the name of a form
 unfoldable pub pack_words : List (List ℕ) → Tree → Packs → Told

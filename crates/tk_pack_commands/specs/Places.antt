@@ -1,4 +1,4 @@
--- Where windows come to stand among the slaves of their master.
+-- Meaning. Where windows come to stand among the slaves of their master.
 use Rattle.std.specs.Prelude.{ℕ, ◌+◌, true, ◌==◌, if◌then◌else◌, List, [], ◌∷◌, Option, None, Some, option_map, unwrap_or}
 use Rattle.std.specs.List.{position_or_len}
 use Rattle.tk_packer.specs.Packs.{Own as Packs, slaves_of, without, request_in, with_packed}

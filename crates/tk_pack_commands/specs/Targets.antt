@@ -1,4 +1,4 @@
--- The windows that `pack` is to pack: the first of its words, and those after it that begin with a dot.
+-- Meaning. The windows that `pack` is to pack: the first of its words, and those after it that begin with a dot.
 use Rattle.std.specs.Prelude.{◌≡◌, ℕ, ◌+◌, Bool, false, ◌==◌, not, List, [], ◌∷◌, Option, None, Some, option_map, Result, Ok, Err, Vec, ⊤}
 use Rattle.std.specs.List.{position_or_len}
 use Rattle.tcl_text.specs.Answers.{◌>>=◌}

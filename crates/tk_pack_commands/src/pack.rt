@@ -62,9 +62,16 @@ fn named(
     match name.as_str() {
         "configure" => configure(alloc, windows, packs, owner, words),
         "forget" => forget(alloc, windows, packs, owner, words),
-        "info" => answered(info(alloc, windows, packs, owner, words)),
+        "info" => answered(question_words(alloc, windows, packs, owner, PackQuestion::Info, words)),
         "propagate" => propagate(alloc, windows, packs, owner, words),
-        "slaves" => answered(slaves(alloc, windows, packs, owner, words)),
+        "slaves" => answered(question_words(
+            alloc,
+            windows,
+            packs,
+            owner,
+            PackQuestion::Slaves,
+            words,
+        )),
         _ => answered(bad_option(alloc, name)),
     }
 }
@@ -109,15 +116,34 @@ fn forget_one(windows: &Windows, packs: &mut PackTable, owner: usize, path: &Tex
     }
 }
 
-/// `pack info path`: the options of a packed window, with their values.
-fn info(
+/// What is asked of the packing of a window.
+#[derive(Clone, Copy)]
+pub enum PackQuestion {
+    /// `pack info path`: its options, with their values.
+    Info,
+    /// `pack slaves path`: the paths of the windows that are packed in it, in order.
+    Slaves,
+}
+
+fn usage_of(question: PackQuestion) -> &'static str
+    ensures { result.now ≡ spec.usage_of question }
+{
+    match question {
+        PackQuestion::Info => "pack info path",
+        PackQuestion::Slaves => "pack slaves path",
+    }
+}
+
+/// A question by the path of a window.
+fn question_words(
     alloc: Global,
     windows: &Windows,
     packs: &PackTable,
     owner: usize,
+    question: PackQuestion,
     words: &[Text],
 ) -> Result<Text, Refusal>
-    ensures { Gives result (spec.info_words words.now (own_of owner windows.now) (packs_of owner packs.now)) }
+    ensures { Gives result (spec.question_words question words.now (own_of owner windows.now) (packs_of owner packs.now)) }
 {
     match words {
         [path] => {
@@ -126,33 +152,29 @@ fn info(
                 owner,
                 number: found.number,
             };
-            info_of(alloc, path, packs.request(win))
+            told(alloc, windows, packs, win, question, path)
         }
-        _ => wrong_args(alloc, "pack info path"),
+        _ => wrong_args(alloc, usage_of(question)),
     }
 }
 
-/// `pack slaves path`: the paths of the windows that are packed in one, in order.
-fn slaves(
+/// What it is told of a window with this path.
+fn told(
     alloc: Global,
     windows: &Windows,
     packs: &PackTable,
-    owner: usize,
-    words: &[Text],
+    win: Win,
+    question: PackQuestion,
+    path: &Text,
 ) -> Result<Text, Refusal>
-    ensures { Gives result (spec.slaves_words words.now (own_of owner windows.now) (packs_of owner packs.now)) }
+    ensures { Gives result (spec.told_of question path.now win.number (own_of win.owner windows.now) (packs_of win.owner packs.now)) }
 {
-    match words {
-        [path] => {
-            let found = window_in(alloc, windows, owner, path)?;
-            let master = Win {
-                owner,
-                number: found.number,
-            };
-            let paths = paths_of(alloc, windows, owner, packs.packed_in(master))?;
+    match question {
+        PackQuestion::Info => info_of(alloc, path, packs.request(win)),
+        PackQuestion::Slaves => {
+            let paths = paths_of(alloc, windows, win.owner, packs.packed_in(win))?;
             list_answer(alloc, paths.as_slice())
         }
-        _ => wrong_args(alloc, "pack slaves path"),
     }
 }
 

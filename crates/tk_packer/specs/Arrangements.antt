@@ -1,4 +1,4 @@
--- The arrangements that are kept, by the numbers of masters.
+-- Steps. The arrangements that are kept, by the numbers of masters.
 use Rattle.std.specs.Prelude.{ℕ, ◌+◌, ◌^◌, ◌<◌, nat_eq, Option, IfSome}
 use Rattle.std.specs.HashMap.{get}
 use Rattle.tk_base.specs.declared.rect.Rect.{Rect}

@@ -1,4 +1,4 @@
--- What a request asks for along one axis.
+-- Meaning. What a request asks for along one axis.
 use Rattle.std.specs.Prelude.{ℕ, ◌+◌, ◌*◌, Bool, true, false, Option, Some, None}
 use Rattle.tk_packer.specs.declared.ask.Axis.{Axis}
 use Rattle.tk_packer.specs.declared.ask.Axis.TheVariants.{Horizontal, Vertical}

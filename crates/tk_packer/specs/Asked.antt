@@ -1,4 +1,4 @@
--- What each window asks for (pack(n), "GEOMETRY PROPAGATION").
+-- Meaning. What each window asks for (pack(n), "GEOMETRY PROPAGATION").
 use Rattle.std.specs.Prelude.{ℕ, ◌+◌, ◌*◌, min, max, nat_eq, if◌then◌else◌, List, [], ◌∷◌, map, Option, None, Some}
 use Rattle.std.specs.Map.{lookup}
 use Rattle.tk_packer.specs.declared.shape.Shape.{Shape}

@@ -1,4 +1,4 @@
--- What a layout changes, in the order of the windows.
+-- Meaning. What a layout changes, in the order of the windows.
 use Rattle.std.specs.Prelude.{Bool, true, false, ◌==◌, ◌&&◌, if◌then◌else◌, List, [], ◌∷◌, ◌++◌, Option, None, Some}
 use Rattle.tk_base.specs.declared.rect.Rect.{Rect}
 use Rattle.tk_packer.specs.declared.shape.Shape.{Shape}

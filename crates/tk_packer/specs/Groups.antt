@@ -1,4 +1,4 @@
--- Packed windows by their masters.
+-- Steps. Packed windows by their masters.
 use Rattle.std.specs.Prelude.{ℕ, List}
 use Rattle.tk_packer.specs.declared.packed.Packed.{Packed}
 use Rattle.tk_packer.specs.Packs.{Held, own_of, slaves_of}

@@ -1,4 +1,4 @@
--- What an arrangement is made from.
+-- Steps. What an arrangement is made from.
 use Rattle.std.specs.Prelude.{ℕ, List, []}
 use Rattle.tk_packer.specs.declared.request.Request.{Request}
 

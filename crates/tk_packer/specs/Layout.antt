@@ -1,5 +1,5 @@
--- Where the windows of one application lie, from nothing (pack(n)): the main window fills the application's rectangle, and the slaves of each
--- window that is mapped are arranged inside its border.
+-- Meaning. Where the windows of one application lie, from nothing (pack(n)): the main window fills the application's rectangle, and the slaves of
+-- each window that is mapped are arranged inside its border.
 use Rattle.std.specs.Prelude.{ℕ, ◌+◌, ◌-◌, nat_eq, List, [], ◌∷◌, Option, None, Some}
 use Rattle.std.specs.Map.{lookup}
 use Rattle.tk_base.specs.declared.rect.Rect.{Rect}

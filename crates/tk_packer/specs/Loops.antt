@@ -1,4 +1,4 @@
--- What a walk over a list has found, with what the rest of the list gives.
+-- Steps. What a walk over a list has found, with what the rest of the list gives.
 use Rattle.std.specs.Prelude.{ℕ, ◌+◌, min, max, List}
 use Rattle.tk_packer.specs.declared.ask.Ask.{Ask}
 use Rattle.tk_packer.specs.declared.parcel.Walk.{Walk}

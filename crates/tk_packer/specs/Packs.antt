@@ -1,5 +1,5 @@
--- The packed windows: those of one application in one list, master by master in the rising order of the masters' numbers, the slaves of each in
--- their order.
+-- Meaning. The packed windows: those of one application in one list, master by master in the rising order of the masters' numbers, the slaves of each
+-- in their order.
 use Rattle.std.specs.Prelude.{◌≡◌, ◌≢◌, ℕ, Bool, ◌==◌, nat_eq, nat_lt, not, if◌then◌else◌, List, [], ◌∷◌, ◌++◌, map, filter, find, insert, Option, option_map}
 use Rattle.std.specs.List.{list_any}
 use Rattle.std.specs.Map.{lookup}

@@ -1,6 +1,6 @@
--- Where the packer places windows (pack(n)). Each window in turn takes a parcel from an edge of the cavity, which is what those before it
--- left of the master. A window at the left or the right takes a piece of the cavity's width and leaves its height as it is, one at the top
--- or the bottom the other way round: so each axis is laid out by itself.
+-- Meaning. Where the packer places windows (pack(n)). Each window in turn takes a parcel from an edge of the cavity, which is what those before it
+-- left of the master. A window at the left or the right takes a piece of the cavity's width and leaves its height as it is, one at the top or the
+-- bottom the other way round: so each axis is laid out by itself.
 use Rattle.std.specs.Prelude.{ℕ, ◌+◌, ◌-◌, ◌/◌, ◌<◌, ◌≤◌, min, max, ◌==◌, if◌then◌else◌, List, [], ◌∷◌, map, Option, Some, None, is_some, IfSome}
 use Rattle.tk_base.specs.declared.rect.Rect.{Rect}
 use Rattle.tk_packer.specs.declared.ask.Axis.{Axis}

@@ -1,4 +1,4 @@
--- Packed windows as tables keep them: each by its number, and the slaves of each master in a list of their own.
+-- Steps. Packed windows as tables keep them: each by its number, and the slaves of each master in a list of their own.
 use Rattle.std.specs.Prelude.{◌≡◌, ℕ, ◌<◌, ◌==◌, nat_eq, if◌then◌else◌, List, [], ◌∷◌, find, insert, Option, None, Some}
 use Rattle.std.specs.Map.{lookup}
 use Rattle.std.specs.Option.{option_map_or, IsSomeAnd}

@@ -1,6 +1,6 @@
 -- Queued events, one after another.
 use Rattle.std.proofs.Common.{◌≡◌, ℕ, List, [], ◌∷◌, ap, ◌∙◌, sym}
-use Rattle.tk_events.specs.declared.event.Event.{Event}
+use Rattle.tk_sequences.specs.declared.event.Event.{Event}
 use Rattle.tk_panel.specs.Choice.{chosen}
 use Rattle.tk_panel.specs.Panel.{Panel}
 use Rattle.tk_panel.specs.Settle.{drained, or_later, with_queue}

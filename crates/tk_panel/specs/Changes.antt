@@ -1,10 +1,10 @@
--- Layout, and the events that it queues (pack(n), bind(n)).
+-- Meaning. Layout, and the events that it queues (pack(n), bind(n)).
 use Rattle.std.specs.Prelude.{ℕ, ℤ, pos, ◌^◌, nat_lt, List, [], ◌∷◌, ◌++◌, Option, Some, None, if◌then◌else◌}
 use Rattle.tcl_vars.specs.Store.{Store}
 use Rattle.tk_base.specs.declared.rect.Rect.{Rect}
-use Rattle.tk_events.specs.declared.event.Event.{Event}
-use Rattle.tk_events.specs.declared.event.EventKind.TheVariants.{Physical}
-use Rattle.tk_events.specs.Event.{bare_event}
+use Rattle.tk_sequences.specs.declared.event.Event.{Event}
+use Rattle.tk_sequences.specs.declared.event.EventKind.TheVariants.{Physical}
+use Rattle.tk_sequences.specs.Event.{bare_event}
 use Rattle.tk_packer.specs.declared.changes.PlaceChange.{PlaceChange}
 use Rattle.tk_packer.specs.declared.changes.PlaceChange.TheVariants.{Unmap, Configure, Map}
 use Rattle.tk_sequences.specs.declared.event_type.EventType.{EventType}

@@ -1,4 +1,4 @@
--- `puts`, `clock` and `after`: what they answer, and what is left of the application.
+-- Meaning. `puts`, `clock` and `after`: what they answer, and what is left of the application.
 use Rattle.std.specs.Prelude.{ℕ, List, [], ◌∷◌, Ok, codes, if◌then◌else◌}
 use Rattle.std.specs.Fmt.{decimal}
 use Rattle.std.specs.Str.{bytes_eq}

@@ -1,4 +1,4 @@
--- What a line of the session gives an application.
+-- Meaning. What a line of the session gives an application.
 use Rattle.tk_keys.specs.declared.local_event.LocalEvent.{LocalEvent}
 use Rattle.tk_keys.specs.declared.local_event.LocalKind.{LocalKind}
 use Rattle.tk_keys.specs.declared.local_event.LocalKind.TheVariants.{Size}

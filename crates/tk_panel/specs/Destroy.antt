@@ -1,9 +1,9 @@
--- The windows that `destroy` names, one after another (destroy(n)): each with all below it, in post-order; each that is still there has its Destroy event
--- dispatched, and is removed then, if it is there still.
+-- Meaning. The windows that `destroy` names, one after another (destroy(n)): each with all below it, in post-order; each that is still there
+-- has its Destroy event dispatched, and is removed then, if it is there still.
 use Rattle.std.specs.Prelude.{ℕ, List, [], ◌∷◌, Option, Some, None, length, ◌==◌, if◌then◌else◌}
-use Rattle.tk_events.specs.declared.event.Event.{Event}
-use Rattle.tk_events.specs.declared.event.EventKind.TheVariants.{Physical}
-use Rattle.tk_events.specs.Event.{bare_event}
+use Rattle.tk_sequences.specs.declared.event.Event.{Event}
+use Rattle.tk_sequences.specs.declared.event.EventKind.TheVariants.{Physical}
+use Rattle.tk_sequences.specs.Event.{bare_event}
 use Rattle.tk_inputs.specs.Inputs.{without_window}
 use Rattle.tk_patterns.specs.Own.{without_tag}
 use Rattle.tk_sequences.specs.declared.event_type.EventType.TheVariants.{Destroy}

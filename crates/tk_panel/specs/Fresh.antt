@@ -1,4 +1,4 @@
--- What an application has before it is added, and when it was.
+-- Meaning. What an application has before it is added, and when it was.
 use Rattle.std.specs.Prelude.{ℕ, List, []}
 use Rattle.tk_after.specs.Timers as timers
 use Rattle.tk_panel.specs.ClassBindings.{with_class_bindings}

@@ -1,10 +1,10 @@
--- What one application has in the tables of all.
+-- Meaning. What one application has in the tables of all.
 use Rattle.std.specs.Prelude.{◌≡◌, ℕ, List, ◌==◌, filter, map, not}
 use Rattle.std.specs.Borrow.{GName}
 use Rattle.std.specs.List.{range_with_len}
 use Rattle.tk_after.specs.Timers as timers
 use Rattle.tk_dispatch.specs.Histories as histories
-use Rattle.tk_events.specs.declared.event.Event.{Event}
+use Rattle.tk_sequences.specs.declared.event.Event.{Event}
 use Rattle.tk_inputs.specs.declared.inputs.Input.{Input}
 use Rattle.tk_inputs.specs.Inputs as inputs
 use Rattle.tk_patterns.specs.declared.binding.Binding.{Binding}

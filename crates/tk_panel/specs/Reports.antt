@@ -1,4 +1,4 @@
--- Lines of a transcript.
+-- Meaning. Lines of a transcript.
 use Rattle.std.specs.Prelude.{ℕ, List, [], ◌∷◌, ◌++◌}
 use Rattle.tk_panel.specs.declared.transcript.Stream.{Stream}
 use Rattle.tk_panel.specs.Panel.{Panel}

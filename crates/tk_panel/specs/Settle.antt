@@ -1,11 +1,11 @@
--- What comes next at a moment (after(n), update(n)): the first that exists of a queued event, a due timer, a layout that changes something, and a round
--- of the idle scripts that wait.
+-- Meaning. What comes next at a moment (after(n), update(n)): the first that exists of a queued event, a due timer, a layout that changes something, and
+-- a round of the idle scripts that wait.
 use Rattle.std.specs.Prelude.{ℕ, Bool, false, List, [], ◌∷◌, Option, Some, None, is_some, is_none, nat_le, codes, if◌then◌else◌}
 use Rattle.std.specs.Option.{option_map_or}
 use Rattle.tcl_vars.specs.Store.{Store}
 use Rattle.tk_after.specs.declared.entry.Entry.{Entry}
 use Rattle.tk_after.specs.Timers.{due_moments, entry_with, idle_ids, least}
-use Rattle.tk_events.specs.declared.event.Event.{Event}
+use Rattle.tk_sequences.specs.declared.event.Event.{Event}
 use Rattle.tk_tree.specs.Own.{at_path}
 use Rattle.tk_panel.specs.declared.job.Job.{Job}
 use Rattle.tk_panel.specs.declared.job.Home.{Home}

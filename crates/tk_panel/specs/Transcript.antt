@@ -1,4 +1,4 @@
--- What applications wrote, in one log.
+-- Meaning. What applications wrote, in one log.
 use Rattle.std.specs.Prelude.{◌≡◌, ◌≢◌, ℕ, List, ◌==◌, filter, map, codes}
 use Rattle.tk_panel.specs.declared.transcript.Line.{Line}
 use Rattle.tk_panel.specs.declared.transcript.Stream.{Stream}

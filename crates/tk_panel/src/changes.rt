@@ -7,8 +7,8 @@ use crate::tables::Tables;
 use std::alloc::AllocError;
 use tcl_vars::Scopes;
 use tk_base::{Rect, Win};
-use tk_events::{Event, EventKind, EventType};
 use tk_packer::PlaceChange;
+use tk_sequences::{Event, EventKind, EventType};
 use tk_tree::Window;
 
 /// An event of a window, without fields.

@@ -11,7 +11,7 @@ use std::alloc::AllocError;
 use tcl_text::{Text, TextList};
 use tk_base::Win;
 use tk_dispatch::scripts_for;
-use tk_events::Event;
+use tk_sequences::Event;
 
 /// The scripts of an event of a window that is there, or the text of a refused substitution.
 fn scripts_of(

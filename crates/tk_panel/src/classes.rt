@@ -1,13 +1,14 @@
 //! An application's bindings of the widgets' classes.
 ghost use Rattle.std.specs.Prelude.{◌≡◌, Ok, OnErr, OnOk, map};
-ghost use Rattle.tk_panel.specs.ClassBindings.{row as row_of, with_class, with_class_bindings, with_row, with_rows, with_sequence, without_class, without_class_bindings};
+ghost use Rattle.tk_options.specs.Rows.{binding as binding_of};
+ghost use Rattle.tk_panel.specs.ClassBindings.{with_class, with_class_bindings, with_row, with_rows, with_sequence, without_class, without_class_bindings};
 ghost use Rattle.tk_patterns.specs.Own.{LeavesOthers, own_of, without_tag};
 
-use crate::rows::{BindingRow, rows_of};
 use std::alloc::{AllocError, Global};
 use tcl_text::Text;
 use tcl_text::message::short_text;
 use tk_base::Kind;
+use tk_options::{BindingRow, row_of};
 use tk_patterns::{BindFault, BindTable};
 use tk_sequences::{Sequence, SequenceFault};
 
@@ -59,7 +60,7 @@ fn bind_class(
     ensures others { LeavesOthers slot bindings.old bindings.new }
     ensures kept { without_class kind (own_of slot bindings.new) ≡ without_class kind (own_of slot bindings.old) }
 {
-    bind_rows(alloc, bindings, slot, kind.class(), rows_of(kind))
+    bind_rows(alloc, bindings, slot, kind.class(), row_of(kind).bindings)
 }
 
 /// Binds rows for a tag, one after another.
@@ -72,7 +73,7 @@ fn bind_rows(
     rows: &[BindingRow],
 ) -> Result<(), AllocError>
     ensures own { OnOk result (own_of slot bindings.new
-        ≡ with_rows class.now (map (λ row. row_of row.0.now row.1.now) rows.now) (own_of slot bindings.old)) }
+        ≡ with_rows class.now (map (λ row. binding_of row.0.now row.1.now) rows.now) (own_of slot bindings.old)) }
     ensures others { LeavesOthers slot bindings.old bindings.new }
     ensures kept { without_tag class.now (own_of slot bindings.new) ≡ without_tag class.now (own_of slot bindings.old) }
 {
@@ -94,7 +95,7 @@ fn bind_row(
     row: BindingRow,
 ) -> Result<(), AllocError>
     ensures own { OnOk result (own_of slot bindings.new
-        ≡ with_row class.now (row_of row.0.now row.1.now) (own_of slot bindings.old)) }
+        ≡ with_row class.now (binding_of row.0.now row.1.now) (own_of slot bindings.old)) }
     ensures others { LeavesOthers slot bindings.old bindings.new }
     ensures kept { without_tag class.now (own_of slot bindings.new) ≡ without_tag class.now (own_of slot bindings.old) }
 {

@@ -13,8 +13,8 @@ use crate::{Numbers, Scripts};
 use std::alloc::AllocError;
 use tcl_text::Text;
 use tk_base::Win;
-use tk_events::{Event, EventKind, EventType};
 use tk_screen::MarkedScreen;
+use tk_sequences::{Event, EventKind, EventType};
 use tk_tree::{Window, Windows};
 
 /// A window is being destroyed from now on, if it is there.

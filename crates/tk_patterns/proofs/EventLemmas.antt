@@ -1,10 +1,10 @@
 -- A window's earlier events, the newest first, and the nearest that a pattern fits.
-use Rattle.std.proofs.Common.{◌≡◌, ℕ, zero, suc, ◌+◌, ◌-◌, ◌<◌, Bool, true, false, cond, List, [], ◌∷◌, ◌++◌, length, take, Option, Some, None, slice_get, get_or, refl, sym, ap, ◌∙◌, subst, arith}
+use Rattle.std.proofs.Common.{◌≡◌, ℕ, ◌+◌, ◌-◌, ◌<◌, Bool, true, false, cond, List, [], ◌∷◌, ◌++◌, take, Some, None, slice_get, get_or, refl, sym, ap, ◌∙◌, arith}
 use Rattle.std.specs.Prelude.{◌==◌, filter, reverse}
 use Rattle.std.proofs.lemmas.List.{reverse-append}
 use Rattle.std.proofs.lemmas.List.Elements.{filter_more}
 use Rattle.std.proofs.lemmas.Option.{slice_get_within, get_or_from_slice_get}
-use Rattle.tk_events.specs.declared.event.Event.{Event}
+use Rattle.tk_sequences.specs.declared.event.Event.{Event}
 use Rattle.tk_patterns.specs.Fits.{fits, may_stand_between}
 use Rattle.tk_patterns.specs.Matches.{earlier_at}
 use Rattle.tk_patterns.specs.Walk.{nearest}

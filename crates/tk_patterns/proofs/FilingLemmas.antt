@@ -6,13 +6,13 @@ use Rattle.std.specs.Option.{option_map_or}
 use Rattle.tk_patterns.proofs.RestLemmas.{NoneSought}
 use Rattle.tk_patterns.specs.declared.filed.Filed.{Filed}
 use Rattle.tk_patterns.specs.Filed.{stamps_of}
-use Rattle.tk_events.specs.declared.event.Event.{Event}
-use Rattle.tk_events.specs.declared.event.EventKind.TheVariants as kinds
+use Rattle.tk_sequences.specs.declared.event.Event.{Event}
+use Rattle.tk_sequences.specs.declared.event.EventKind.TheVariants as kinds
 use Rattle.tk_patterns.specs.declared.step.PatternStep.{PatternStep}
 use Rattle.tk_patterns.specs.Fits.{fits, has_type, has_detail, has_modifiers}
 use Rattle.tk_patterns.specs.Matches.{earlier_at}
 use Rattle.tk_patterns.specs.Steps.{steps_of, newest_copy, earlier_copies, copies_of}
-use Rattle.tk_patterns.specs.Walk.{matches, ends_at, walk}
+use Rattle.tk_patterns.specs.Matches.{matches, ends_at, have_places}
 use Rattle.tk_patterns.specs.declared.binding.Binding.{Binding}
 use Rattle.tk_patterns.specs.Filing.{filing_number, detail_number, class_number, sequence_class, number_of, is_number, is_number_of_key, is_number_of_button, is_number_of_virtuals, is_sought}
 use Rattle.tk_patterns.specs.Own.{has_tag}
@@ -64,7 +64,7 @@ three_second false b c h = absurd (cc)
 last_fits : (event : Event) (history : List Event) (pattern : Pattern) (patterns : List Pattern) → matches (Physical (pattern ∷ patterns)) event history ≡ true → fits (last_of pattern patterns) event ≡ true
 last_fits event history pattern patterns h =
     let found = newest pattern patterns in
-    both_first (fits (last_of pattern patterns) event) (walk found.rest (earlier_at event.number history) event)
+    both_first (fits (last_of pattern patterns) event) (have_places found.rest (earlier_at event.number history) event)
     (ap (λ steps. ends_at steps (earlier_at event.number history) event) (sym found.is) ∙ h)
 
 -- ── nothing is sought ──

@@ -1,13 +1,14 @@
 -- The walk back finds places exactly where places can be chosen.
-use Rattle.std.proofs.Common.{◌≡◌, ℕ, Bool, true, false, List, [], ◌∷◌, ◌++◌, Option, Some, None, unwrap_or, refl, sym, ap, ◌∙◌, subst}
-use Rattle.std.specs.Prelude.{not, ◌&&◌, ◌||◌, ◌↔◌}
-use Rattle.tk_events.specs.declared.event.Event.{Event}
+use Rattle.std.proofs.Common.{◌≡◌, Bool, true, false, List, [], ◌∷◌, ◌++◌, Option, Some, None, unwrap_or, refl, sym, ap, ◌∙◌, subst}
+use Rattle.std.specs.List.{list_all, list_any}
+use Rattle.std.specs.Prelude.{map, not, ◌&&◌, ◌||◌, ◌↔◌}
+use Rattle.tk_sequences.specs.declared.event.Event.{Event}
 use Rattle.tk_patterns.specs.declared.step.PatternStep.{PatternStep}
 use Rattle.tk_patterns.specs.Fits.{fits, may_stand_between, are_near}
-use Rattle.tk_patterns.specs.Matches.{MayStandBetween, HasPlace, HavePlaces, EndsAt, Matches, earlier_at}
+use Rattle.tk_patterns.specs.Matches.{MayStandBetween, HavePlaces, EndsAt, Matches, earlier_at, Cut, below, cuts, is_skipped, is_near_enough, is_place, have_places, ends_at, matches}
 use Rattle.tk_patterns.specs.Steps.{steps_of}
-use Rattle.tk_patterns.specs.Walk.{nearest, is_near_enough, walk_from, walk, ends_at, matches}
-use Rattle.tk_patterns.proofs.EventLemmas.{nearest_here, nearest_past}
+use Rattle.tk_patterns.specs.Walk.{nearest, walk_from, walk, walk_ends_at, walk_matches}
+use Rattle.tk_patterns.proofs.EventLemmas.{nearest_here, nearest_none, nearest_past}
 use Rattle.tk_sequences.specs.declared.pattern.Pattern.{Pattern}
 use Rattle.tk_sequences.specs.declared.sequence.Sequence.{Sequence}
 use Rattle.tk_sequences.specs.declared.sequence.Sequence.TheVariants.{Physical, Virtual}
@@ -85,27 +86,76 @@ walk_complete (step ∷ steps) events later h =
     ap (walk_from step (walk steps) later) found
     ∙ and_true (is_near_enough step h.here later) (walk steps h.older h.here) (near_back step.again (are_near step.pattern.kind h.here later) h.near) (walk_complete steps h.older h.here h.rest)
 
-ends_sound : (steps : List PatternStep) (events : List Event) (event : Event) → ends_at steps events event ≡ true → EndsAt steps events event
+ends_sound : (steps : List PatternStep) (events : List Event) (event : Event) → walk_ends_at steps events event ≡ true → EndsAt steps events event
 ends_sound [] events event h = absurd (cc)
 ends_sound (step ∷ steps) events event h =
     let parts = both_true (fits step.pattern event) (walk steps events event) h in
     (parts.0, walk_sound steps events event parts.1)
 
-ends_complete : (steps : List PatternStep) (events : List Event) (event : Event) → EndsAt steps events event → ends_at steps events event ≡ true
+ends_complete : (steps : List PatternStep) (events : List Event) (event : Event) → EndsAt steps events event → walk_ends_at steps events event ≡ true
 ends_complete [] events event h = absurd h
 ends_complete (step ∷ steps) events event h = and_true (fits step.pattern event) (walk steps events event) h.0 (walk_complete steps events event h.1)
 
-matches_sound : (sequence : Sequence) (event : Event) (history : List Event) → matches sequence event history ≡ true → Matches sequence event history
+matches_sound : (sequence : Sequence) (event : Event) (history : List Event) → walk_matches sequence event history ≡ true → Matches sequence event history
 matches_sound (Physical patterns) event history h = ends_sound (steps_of patterns) (earlier_at event.number history) event h
 matches_sound (Virtual name) event history h = absurd (cc)
 
-matches_complete : (sequence : Sequence) (event : Event) (history : List Event) → Matches sequence event history → matches sequence event history ≡ true
+matches_complete : (sequence : Sequence) (event : Event) (history : List Event) → Matches sequence event history → walk_matches sequence event history ≡ true
 matches_complete (Physical patterns) event history h = ends_complete (steps_of patterns) (earlier_at event.number history) event h
 matches_complete (Virtual name) event history h = absurd h
 
 -- the walk is the relation
-pub walk_is_relation : (sequence : Sequence) (event : Event) (history : List Event) → matches sequence event history ≡ true ↔ Matches sequence event history
+pub walk_is_relation : (sequence : Sequence) (event : Event) (history : List Event) → walk_matches sequence event history ≡ true ↔ Matches sequence event history
 walk_is_relation sequence event history = (matches_sound sequence event history, matches_complete sequence event history)
+
+-- ── a test of every choice finds what the walk finds ──
+any_of_map : {X Y : Type 0} (p : Y → Bool) (f : X → Y) (xs : List X) → list_any p (map f xs) ≡ list_any (λ x. p (f x)) xs
+any_of_map p f [] = refl
+any_of_map p f (x ∷ xs) = ap (λ b. p (f x) || b) (any_of_map p f xs)
+
+any_behind : (b : Bool) (all rest : Cut → Bool) (list : List Cut) → list_any (λ cut. (b && all cut) && rest cut) list ≡ (b && list_any (λ cut. all cut && rest cut) list)
+any_behind true all rest list = refl
+any_behind false all rest [] = refl
+any_behind false all rest (cut ∷ list) = any_behind false all rest list
+
+or_false : (a : Bool) → (a || false) ≡ a
+or_false true = refl
+or_false false = refl
+
+places_below : (step : PatternStep) (before : List Event → Event → Bool) (later event : Event) (events : List Event) → list_any (is_place step before later) (map (below event) (cuts events))
+    ≡ (is_skipped step.pattern event && list_any (is_place step before later) (cuts events))
+places_below step before later event events =
+    any_of_map (is_place step before later) (below event) (cuts events)
+    ∙ any_behind (is_skipped step.pattern event) (λ cut. list_all (is_skipped step.pattern) cut.between) (λ cut. fits step.pattern cut.here && (is_near_enough step cut.here later && before cut.older cut.here)) (cuts events)
+
+place_by : (step : PatternStep) (f g : List Event → Event → Bool) (later event : Event) (events : List Event) (b m : Bool) → fits step.pattern event ≡ b → may_stand_between event ≡ m → f events event ≡ g events event
+    → list_any (is_place step f later) (cuts events) ≡ walk_from step g later (nearest step.pattern events)
+    → ((b && (is_near_enough step event later && f events event)) || ((not b && m) && list_any (is_place step f later) (cuts events))) ≡ walk_from step g later (nearest step.pattern (event ∷ events))
+place_by step f g later event events true m is between same rest =
+    or_false (is_near_enough step event later && f events event)
+    ∙ ap (λ x. is_near_enough step event later && x) same
+    ∙ sym (ap (walk_from step g later) (nearest_here step.pattern event events is))
+place_by step f g later event events false true is between same rest = rest ∙ sym (ap (walk_from step g later) (nearest_past step.pattern event events is between))
+place_by step f g later event events false false is between same rest = sym (ap (walk_from step g later) (nearest_none step.pattern event events is between))
+
+places_by : (step : PatternStep) (f g : List Event → Event → Bool) (later : Event) → ((older : List Event) (here : Event) → f older here ≡ g older here) → (events : List Event)
+    → list_any (is_place step f later) (cuts events) ≡ walk_from step g later (nearest step.pattern events)
+places_by step f g later same [] = refl
+places_by step f g later same (event ∷ events) =
+    ap (λ x. (fits step.pattern event && (is_near_enough step event later && f events event)) || x) (places_below step f later event events)
+    ∙ place_by step f g later event events (fits step.pattern event) (may_stand_between event) refl refl (same events event) (places_by step f g later same events)
+
+places_walk : (steps : List PatternStep) (events : List Event) (later : Event) → have_places steps events later ≡ walk steps events later
+places_walk [] events later = refl
+places_walk (step ∷ steps) events later = places_by step (have_places steps) (walk steps) later (λ older here. places_walk steps older here) events
+
+ends_walk : (steps : List PatternStep) (events : List Event) (event : Event) → ends_at steps events event ≡ walk_ends_at steps events event
+ends_walk [] events event = refl
+ends_walk (step ∷ steps) events event = ap (λ b. fits step.pattern event && b) (places_walk steps events event)
+
+pub choice_is_walk : (sequence : Sequence) (event : Event) (history : List Event) → walk_matches sequence event history ≡ matches sequence event history
+choice_is_walk (Physical patterns) event history = sym (ends_walk (steps_of patterns) (earlier_at event.number history) event)
+choice_is_walk (Virtual name) event history = refl
 
 -- ── one step of the walk ──
 pub walk_none : (step : PatternStep) (steps : List PatternStep) (events : List Event) (later : Event) → nearest step.pattern events ≡ None → walk (step ∷ steps) events later ≡ false

@@ -5,8 +5,8 @@ use Rattle.tk_patterns.proofs.RestLemmas.{NoneSought, step, earlier_is, none_lef
 use Rattle.tk_patterns.specs.declared.filed.Filed.{Filed}
 use Rattle.tk_patterns.specs.Filed.{numbers_of, stamps_of, HasStampAt, IsRising}
 use Rattle.tk_patterns.specs.Rests.{first_of, past, earlier}
-use Rattle.tk_events.specs.declared.event.Event.{Event}
-use Rattle.tk_events.specs.declared.event.EventKind.TheVariants as kinds
+use Rattle.tk_sequences.specs.declared.event.Event.{Event}
+use Rattle.tk_sequences.specs.declared.event.EventKind.TheVariants as kinds
 use Rattle.tk_patterns.proofs.FilingLemmas.{passed_over, none_at_all}
 use Rattle.tk_patterns.specs.declared.binding.Binding.{Binding}
 use Rattle.tk_patterns.specs.Filing.{number_of, is_number, is_number_of_key, is_number_of_button, is_number_of_virtuals, is_sought}

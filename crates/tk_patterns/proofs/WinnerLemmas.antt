@@ -2,9 +2,9 @@
 use Rattle.std.proofs.Common.{◌≡◌, ℕ, ◌+◌, ◌<◌, Bool, true, false, cond, List, [], ◌∷◌, ◌++◌, length, drop, get_or, filter, Option, None, refl, sym, ap, ◌∙◌}
 use Rattle.std.proofs.lemmas.List.{at_drop_more}
 use Rattle.std.proofs.lemmas.List.Sums.{fold-append}
-use Rattle.tk_events.specs.declared.event.Event.{Event}
-use Rattle.tk_events.specs.declared.event.EventKind.{EventKind}
-use Rattle.tk_events.specs.declared.event.EventKind.TheVariants as kinds
+use Rattle.tk_sequences.specs.declared.event.Event.{Event}
+use Rattle.tk_sequences.specs.declared.event.EventKind.{EventKind}
+use Rattle.tk_sequences.specs.declared.event.EventKind.TheVariants as kinds
 use Rattle.tk_patterns.specs.Named.{of_matching, of_pairs}
 use Rattle.tk_patterns.specs.Specific.{Candidate}
 use Rattle.tk_patterns.specs.Winner.{Pairs, through, replaced, held_at_last, winner_of, winner}

@@ -1,4 +1,4 @@
--- The texts and numbers of refusals.
+-- Meaning. The texts and numbers of refusals.
 use Rattle.std.specs.Prelude.{ℕ, List, Option, Some, None, codes}
 use Rattle.tk_patterns.specs.declared.fault.BindFault.{BindFault}
 use Rattle.tk_patterns.specs.declared.fault.BindFault.TheVariants.{Full, NoMemory}

@@ -1,4 +1,4 @@
--- A list of numbers, each with a stamp, and the stamps of each number by hashing.
+-- Steps. A list of numbers, each with a stamp, and the stamps of each number by hashing.
 use Rattle.std.specs.Prelude.{◌≡◌, ◌<◌, ℕ, zero, suc, Bool, ◌==◌, nat_eq, if◌then◌else◌, List, [], ◌∷◌, map, filter, not}
 use Rattle.std.specs.Option.{option_map_or}
 use Rattle.std.specs.HashMap.{get}

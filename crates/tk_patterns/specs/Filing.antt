@@ -1,7 +1,7 @@
--- Under which number a binding is filed, and under which numbers the candidates of an event are.
+-- Steps. Under which number a binding is filed, and under which numbers the candidates of an event are.
 use Rattle.std.specs.Prelude.{ℕ, ◌+◌, ◌*◌, ◌-◌, ◌%◌, ◌^◌, Bool, false, ◌||◌, ◌==◌, List, length, fold, slice_get, Option, Some, None}
 use Rattle.std.specs.Option.{option_map_or}
-use Rattle.tk_events.specs.declared.event.Event.{Event}
+use Rattle.tk_sequences.specs.declared.event.Event.{Event}
 use Rattle.tk_keys.specs.Names.{character_of}
 use Rattle.tk_patterns.specs.declared.binding.Binding.{Binding}
 use Rattle.tk_sequences.specs.declared.detail.Detail.{Detail}

@@ -1,4 +1,4 @@
--- Which events a pattern is for, one by one (bind(n)).
+-- Meaning. Which events a pattern is for, one by one (bind(n)).
 use Rattle.std.specs.Prelude.{ℕ, Bool, true, false, ◌&&◌, ◌||◌, ◌==◌, nat_le, not, ℤ, ◌-ℤ◌, unsigned_abs, Option, Some, None, unwrap_or}
 use Rattle.std.specs.Int.{abs_diff}
 use Rattle.std.specs.Option.{option_map_or}
@@ -8,9 +8,9 @@ use Rattle.tk_sequences.specs.declared.event_type.EventType.{EventType}
 use Rattle.tk_sequences.specs.declared.pattern.Pattern.{Pattern}
 use Rattle.tk_sequences.specs.Modifiers.{all_held}
 use Rattle.tk_sequences.specs.Types.{type_number, is_button_type}
-use Rattle.tk_events.specs.declared.event.Event.{Event}
-use Rattle.tk_events.specs.declared.event.EventKind.{EventKind}
-use Rattle.tk_events.specs.declared.event.EventKind.TheVariants.{Physical, Virtual}
+use Rattle.tk_sequences.specs.declared.event.Event.{Event}
+use Rattle.tk_sequences.specs.declared.event.EventKind.{EventKind}
+use Rattle.tk_sequences.specs.declared.event.EventKind.TheVariants.{Physical, Virtual}
 use Rattle.tk_patterns.specs.Inputs.{is_release_type, is_press_of_key}
 
 -- no two types have one number

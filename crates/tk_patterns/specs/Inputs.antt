@@ -1,4 +1,4 @@
--- Presses and releases among the types of events.
+-- Meaning. Presses and releases among the types of events.
 use Rattle.std.specs.Prelude.{Bool, true, false}
 use Rattle.tk_sequences.specs.declared.event_type.EventType.{EventType}
 use Rattle.tk_sequences.specs.declared.event_type.EventType.TheVariants.{Key, KeyRelease, ButtonRelease}

@@ -1,7 +1,7 @@
--- The candidates that the pairs of one virtual event give.
+-- Steps. The candidates that the pairs of one virtual event give.
 use Rattle.std.specs.Prelude.{ℕ, List, [], ◌∷◌, ◌++◌, if◌then◌else◌}
-use Rattle.tk_events.specs.declared.event.Event.{Event}
-use Rattle.tk_patterns.specs.Walk.{matches}
+use Rattle.tk_sequences.specs.declared.event.Event.{Event}
+use Rattle.tk_patterns.specs.Matches.{matches}
 use Rattle.tk_patterns.specs.Specific.{Candidate}
 use Rattle.tk_patterns.specs.Winner.{as_candidates}
 use Rattle.tk_virtual.specs.declared.pair.Pair.{Pair}

@@ -1,4 +1,4 @@
--- One application's bindings, in the order of registration, and what calls do to them (bind(n)).
+-- Meaning. One application's bindings, in the order of registration, and what calls do to them (bind(n)).
 use Rattle.std.specs.Prelude.{◌≡◌, ◌≢◌, ℕ, zero, suc, Bool, ◌&&◌, not, nat_le, nat_eq, List, [], ◌∷◌, ◌++◌, length, find, filter, map, Option, is_some, is_none, option_map, if◌then◌else◌}
 use Rattle.std.specs.Option.{option_map_or}
 use Rattle.std.specs.Map.{lookup}

@@ -1,4 +1,4 @@
--- Several rising lists of stamps, gone through together.
+-- Steps. Several rising lists of stamps, gone through together.
 use Rattle.std.specs.Prelude.{ℕ, ◌==◌, nat_le, if◌then◌else◌, List, [], ◌∷◌, Option, Some, None}
 
 abbrev pub first_of : List ℕ → Option ℕ

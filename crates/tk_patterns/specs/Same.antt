@@ -1,4 +1,4 @@
--- Whether two sequences are the same: one canonical form, so pattern by pattern the same modifiers, repetition, type and detail.
+-- Meaning. Whether two sequences are the same: one canonical form, so pattern by pattern the same modifiers, repetition, type and detail.
 use Rattle.std.specs.Prelude.{Bool, true, false, ◌&&◌, ◌==◌, List, [], ◌∷◌, Option, Some, None}
 use Rattle.std.specs.Str.{bytes_eq}
 use Rattle.tk_sequences.specs.declared.detail.Detail.{Detail}

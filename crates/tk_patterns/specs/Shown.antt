@@ -1,4 +1,4 @@
--- What a candidate in the code is.
+-- Steps. What a candidate in the code is.
 use Rattle.std.specs.Option.{option_copied}
 use Rattle.tk_patterns.specs.declared.candidate.Contender.{Contender}
 use Rattle.tk_patterns.specs.Specific.{Candidate}

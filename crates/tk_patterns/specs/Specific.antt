@@ -1,4 +1,4 @@
--- Which of two matching sequences is more specific (bind(n), MULTIPLE MATCHES). The first of (a) to (e) that tells them apart decides.
+-- Meaning. Which of two matching sequences is more specific (bind(n), MULTIPLE MATCHES). The first of (a) to (e) that tells them apart decides.
 use Rattle.std.specs.Prelude.{ℕ, Bool, true, false, ◌-◌, nat_lt, List, [], ◌∷◌, length, Option, Some, None, is_some, slice_get, if◌then◌else◌}
 use Rattle.std.specs.Option.{option_map_or}
 use Rattle.std.specs.Ordering.{is_lt, nat_cmp}

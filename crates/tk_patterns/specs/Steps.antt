@@ -1,5 +1,5 @@
--- The single events that patterns ask for, the newest first.
-use Rattle.std.specs.Prelude.{Bool, true, false, List, [], ◌∷◌, ◌++◌}
+-- Meaning. The single events that patterns ask for, the newest first.
+use Rattle.std.specs.Prelude.{true, false, List, [], ◌∷◌, ◌++◌}
 use Rattle.tk_patterns.specs.declared.step.PatternStep.{PatternStep}
 use Rattle.tk_sequences.specs.declared.pattern.Pattern.{Pattern}
 use Rattle.tk_sequences.specs.declared.pattern.Repetition.{Repetition}

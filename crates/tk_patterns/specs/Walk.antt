@@ -1,9 +1,9 @@
--- The same by a walk back over the events. No place is chosen: the nearest event that fits is the only one that can be.
-use Rattle.std.specs.Prelude.{ℕ, Bool, true, false, ◌&&◌, ◌||◌, not, List, [], ◌∷◌, Option, Some, None, if◌then◌else◌}
-use Rattle.tk_events.specs.declared.event.Event.{Event}
+-- Steps. The same by a walk back over the events. No place is chosen: the nearest event that fits is the only one that can be.
+use Rattle.std.specs.Prelude.{Bool, true, false, ◌&&◌, List, [], ◌∷◌, Option, Some, None, if◌then◌else◌}
+use Rattle.tk_sequences.specs.declared.event.Event.{Event}
 use Rattle.tk_patterns.specs.declared.step.PatternStep.{PatternStep}
-use Rattle.tk_patterns.specs.Fits.{fits, may_stand_between, are_near}
-use Rattle.tk_patterns.specs.Matches.{earlier_at}
+use Rattle.tk_patterns.specs.Fits.{fits, may_stand_between}
+use Rattle.tk_patterns.specs.Matches.{earlier_at, is_near_enough}
 use Rattle.tk_patterns.specs.Steps.{steps_of}
 use Rattle.tk_sequences.specs.declared.pattern.Pattern.{Pattern}
 use Rattle.tk_sequences.specs.declared.sequence.Sequence.{Sequence}
@@ -16,10 +16,6 @@ nearest pattern (event ∷ events) =
     if fits pattern event then Some (event, events) else
     if may_stand_between event then nearest pattern events else None
 
--- whether a copy of a pattern is near the later one
-abbrev pub is_near_enough : PatternStep → Event → Event → Bool
-is_near_enough step here later = not step.again || are_near step.pattern.kind here later
-
 abbrev pub walk_from : PatternStep → (List Event → Event → Bool) → Event → Option (Event × List Event) → Bool
 walk_from step rest later None = false
 walk_from step rest later (Some found) = is_near_enough step found.0 later && rest found.1 found.0
@@ -28,10 +24,10 @@ abbrev pub walk : List PatternStep → List Event → Event → Bool
 walk [] = λ events later. true
 walk (step ∷ steps) = λ events later. walk_from step (walk steps) later (nearest step.pattern events)
 
-abbrev pub ends_at : List PatternStep → List Event → Event → Bool
-ends_at [] events event = false
-ends_at (step ∷ steps) events event = fits step.pattern event && walk steps events event
+abbrev pub walk_ends_at : List PatternStep → List Event → Event → Bool
+walk_ends_at [] events event = false
+walk_ends_at (step ∷ steps) events event = fits step.pattern event && walk steps events event
 
-abbrev pub matches : Sequence → Event → List Event → Bool
-matches (Physical patterns) event history = ends_at (steps_of patterns) (earlier_at event.number history) event
-matches (Virtual name) event history = false
+abbrev pub walk_matches : Sequence → Event → List Event → Bool
+walk_matches (Physical patterns) event history = walk_ends_at (steps_of patterns) (earlier_at event.number history) event
+walk_matches (Virtual name) event history = false

@@ -1,10 +1,10 @@
--- Whose script runs for an event of a window with a tag (bind(n)).
+-- Meaning. Whose script runs for an event of a window with a tag (bind(n)).
 use Rattle.std.specs.Prelude.{ℕ, List, [], ◌∷◌, ◌++◌, fold, Option, Some, None, option_map, if◌then◌else◌}
 use Rattle.std.specs.Str.{bytes_eq}
-use Rattle.tk_events.specs.declared.event.Event.{Event}
-use Rattle.tk_events.specs.declared.event.EventKind.{EventKind}
-use Rattle.tk_events.specs.declared.event.EventKind.TheVariants as kinds
-use Rattle.tk_patterns.specs.Walk.{matches}
+use Rattle.tk_sequences.specs.declared.event.Event.{Event}
+use Rattle.tk_sequences.specs.declared.event.EventKind.{EventKind}
+use Rattle.tk_sequences.specs.declared.event.EventKind.TheVariants as kinds
+use Rattle.tk_patterns.specs.Matches.{matches}
 use Rattle.tk_patterns.specs.declared.binding.Binding.{Binding}
 use Rattle.tk_patterns.specs.Own.{has_tag, script_of}
 use Rattle.tk_patterns.specs.Specific.{Candidate, beats}

@@ -1,9 +1,9 @@
 ghost use Rattle.std.specs.Prelude.{◌≡◌, ◌≤◌, ◌<◌, ◌↔◌, [], ◌∷◌, ◌++◌, length, take, drop, option_map, IfSome, IfOk, IsTrue, if◌then◌else◌};
 ghost use Rattle.circular_buffer.specs.Buffer.{keep_last};
-ghost use Rattle.tk_events.specs.Event.{is_input};
-ghost use Rattle.tk_patterns.specs.Matches.{Matches, earlier_at};
+ghost use Rattle.tk_sequences.specs.Event.{is_input};
+ghost use Rattle.tk_patterns.specs.Matches.{Matches, earlier_at, is_near_enough, matches};
 ghost use Rattle.tk_patterns.specs.Steps.{steps_of};
-ghost use Rattle.tk_patterns.specs.Walk.{matches, ends_at, walk, is_near_enough, nearest};
+ghost use Rattle.tk_patterns.specs.Walk.{walk_matches, walk_ends_at, walk, nearest};
 ghost use Rattle.tk_sequences.specs.Patterns.{ArePatterns};
 
 use crate::fitting::{are_near, fits, may_stand_between};
@@ -11,8 +11,7 @@ use crate::step::{PatternStep, count_of, step_at};
 use circular_buffer::HeapCircularBuffer;
 use std::alloc::{AllocError, Global};
 use std::marker::Model;
-use tk_events::Event;
-use tk_sequences::{Pattern, Sequence};
+use tk_sequences::{Event, Pattern, Sequence};
 
 /// How many events a history keeps.
 const MAX_EVENTS: usize = 32;
@@ -24,7 +23,7 @@ pub struct History {
 
 impl Model for History {
     ghost use Rattle.std.specs.Prelude.{◌≡◌, List};
-    ghost use Rattle.tk_events.specs.declared.event.Event.{Event};
+    ghost use Rattle.tk_sequences.specs.declared.event.Event.{Event};
 
     ghost Value = { List Event };
 
@@ -58,14 +57,14 @@ impl History {
     /// nothing here. It takes no memory.
     pub fn matches(&self, sequence: &Sequence, event: &Event) -> bool
         ensures relation { IsTrue result ↔ Matches sequence.now event.now self.now }
-        ensures walk { result ≡ matches sequence.now event.now self.now }
+        ensures test { result ≡ matches sequence.now event.now self.now }
     {
         self.walk_back(sequence, event)
     }
 
     /// The same, told by a walk back from the event.
     fn walk_back(&self, sequence: &Sequence, event: &Event) -> bool
-        ensures { result ≡ matches sequence.now event.now self.now }
+        ensures { result ≡ walk_matches sequence.now event.now self.now }
     {
         match sequence {
             Sequence::Physical(patterns) => ends_at(&self.events, patterns.as_slice(), event),
@@ -77,7 +76,7 @@ impl History {
 /// Whether the newest event that the patterns ask for is this one, and the others come before it.
 fn ends_at(events: &HeapCircularBuffer<Event>, patterns: &[Pattern], event: &Event) -> bool
     requires { ArePatterns patterns.now }
-    ensures { result ≡ ends_at (steps_of patterns.now) (earlier_at event.now.number events.now.items) event.now }
+    ensures { result ≡ walk_ends_at (steps_of patterns.now) (earlier_at event.now.number events.now.items) event.now }
 {
     match step_at(patterns, 0) {
         Some(step) => fits(&step.pattern, event) && have_places(events, patterns, event),

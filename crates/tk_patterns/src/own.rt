@@ -15,8 +15,7 @@ use crate::{Buckets, History};
 use std::alloc::{AllocError, Global};
 use std::marker::Model;
 use tcl_text::Text;
-use tk_events::Event;
-use tk_sequences::Sequence;
+use tk_sequences::{Event, Sequence};
 use tk_virtual::VirtualPairs;
 
 /// How many bindings an application has at most.

@@ -11,8 +11,7 @@ use std::alloc::{AllocError, Global};
 use std::collections::HashMap;
 use std::marker::Model;
 use tcl_text::Text;
-use tk_events::Event;
-use tk_sequences::Sequence;
+use tk_sequences::{Event, Sequence};
 use tk_virtual::VirtualPairs;
 
 /// The bindings of applications, each application's apart from the others' (bind(n)).

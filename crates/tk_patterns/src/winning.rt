@@ -16,8 +16,7 @@ use crate::candidate::{Contender, beats};
 use crate::filing::{stamps_of_any, stamps_of_button, stamps_of_key, stamps_of_virtuals};
 use crate::{Buckets, History, earlier, first_of, past};
 use tcl_text::Text;
-use tk_events::{Event, EventKind, EventType};
-use tk_sequences::{Sequence, VirtualName};
+use tk_sequences::{Event, EventKind, EventType, Sequence, VirtualName};
 use tk_virtual::{Pair, VirtualPairs};
 
 /// The script of the binding that wins.

@@ -11,7 +11,8 @@ use Rattle.tk_route.specs.Added.{AllPassBy, PassesBy}
 use Rattle.tk_route.specs.Lines.{Line, holder_after, is_any_held_after, pointer_after, pointer_by, rects_after, rects_by, under_after, values}
 use Rattle.tk_route.specs.Routes.{events_of, is_same, routed, routes, stamp_of, to_place, told, told_size, under_in}
 use Rattle.tk_route.specs.Screen.{holds, slot_at}
-use Rattle.tk_route.specs.Values.{Values, has, is_any_held, local, local_in, under}
+use Rattle.tk_route.specs.Buttons.{has, is_any_held}
+use Rattle.tk_route.specs.Values.{Values, local, local_in, under}
 use Rattle.tk_route.specs.declared.delivery.Delivery.{Delivery}
 use Rattle.tk_route.specs.declared.delivery.Stamp.{Stamp}
 use Rattle.tk_route.specs.declared.line.HostLine.{HostLine}

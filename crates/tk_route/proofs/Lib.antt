@@ -1,4 +1,5 @@
 pub mod AddedLemmas
 pub mod LineLemmas
+pub mod Ranges
 pub mod ScreenLemmas
 pub mod SlotLemmas

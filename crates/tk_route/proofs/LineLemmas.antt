@@ -3,7 +3,8 @@ use Rattle.std.proofs.Common.{◌≡◌, ℕ, Bool, true, false, not, if◌then�
 use Rattle.tk_base.specs.declared.rect.Rect.{Rect}
 use Rattle.tk_route.specs.Lines.{Line, at, holder_after, is_any_held_after, under_after, values}
 use Rattle.tk_route.specs.Routes.{routes, stamp_of, told}
-use Rattle.tk_route.specs.Values.{Values, changed}
+use Rattle.tk_route.specs.Changes.{changed}
+use Rattle.tk_route.specs.Values.{Values}
 use Rattle.tk_route.specs.declared.delivery.Delivery.{Delivery}
 use Rattle.tk_route.specs.declared.delivery.Stamp.{Stamp}
 use Rattle.tk_route.specs.declared.line.HostLine.{HostLine}

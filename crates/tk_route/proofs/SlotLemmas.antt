@@ -13,7 +13,8 @@ use Rattle.tk_route.specs.Added.{AllMiss, Misses, line_up, lines_up, up}
 use Rattle.tk_route.specs.Lines.{Line, focus_after, focus_by, holder_after, is_any_held_after, is_down, is_down_by, is_held, is_held_by, is_locked, is_locked_by, moment_after, pointer_after, pointer_by, rects_after, rects_by, under_after, values}
 use Rattle.tk_route.specs.Routes.{delivery, events_of, is_same, routed, routes, stamp_of, to, to_place, told, told_focus, told_size, under_in}
 use Rattle.tk_route.specs.Screen.{holds, slot_at}
-use Rattle.tk_route.specs.Values.{Values, has, is_any_held, local, local_in, under}
+use Rattle.tk_route.specs.Buttons.{has, is_any_held}
+use Rattle.tk_route.specs.Values.{Values, local, local_in, under}
 use Rattle.tk_route.specs.declared.buttons.Buttons.{Buttons}
 use Rattle.tk_route.specs.declared.delivery.Delivery.{Delivery}
 use Rattle.tk_route.specs.declared.delivery.Stamp.{Stamp}

@@ -1,4 +1,4 @@
--- What an application adds to a screen that nobody leads anything to.
+-- Meaning. What an application adds to a screen that nobody leads anything to.
 use Rattle.std.specs.Prelude.{◌≡◌, ◌≢◌, ℕ, zero, suc, false, List, [], ◌∷◌, map, Some}
 use Rattle.tk_base.specs.declared.rect.Rect.{Rect}
 use Rattle.tk_route.specs.Lines.{Line, at}

@@ -1,7 +1,11 @@
 -- What the contracts cite.
 pub mod Added
+pub mod Buttons
+pub mod Changes
 pub mod Fault
+pub mod Limits
 pub mod Lines
+pub mod Names
 pub mod Refusals
 pub mod Routes
 pub mod Screen

@@ -1,4 +1,4 @@
--- What the lines of a session say. Each list of lines stands with the newest line first.
+-- Meaning. What the lines of a session say. Each list of lines stands with the newest line first.
 use Rattle.std.specs.Prelude.{ℕ, Bool, false, not, ◌&&◌, ◌||◌, ◌==◌, if◌then◌else◌, List, [], ◌∷◌, Option, Some, None, slice_set}
 use Rattle.tk_base.specs.declared.rect.Rect.{Rect}
 use Rattle.tk_keys.specs.Names as names

@@ -1,4 +1,4 @@
--- To whom a line goes, and as what.
+-- Meaning. To whom a line goes, and as what.
 use Rattle.std.specs.Prelude.{ℕ, ℤ, Bool, not, ◌&&◌, ◌||◌, ◌==◌, if◌then◌else◌, List, [], ◌∷◌, ◌++◌, map, filter, reverse, Option, Some, None, slice_get}
 use Rattle.std.specs.Option.{option_eq}
 use Rattle.tk_base.specs.declared.rect.Rect.{Rect}
@@ -6,7 +6,8 @@ use Rattle.tk_keys.specs.declared.local_event.LocalEvent.{LocalEvent}
 use Rattle.tk_keys.specs.declared.local_event.LocalKind.{LocalKind}
 use Rattle.tk_keys.specs.declared.local_event.LocalKind.TheVariants.{Position, FocusIn, FocusOut, Size, Press as PressAt, Release as ReleaseAt, Keydown as KeydownOf, Keyup as KeyupOf}
 use Rattle.tk_route.specs.Lines.{Line, values}
-use Rattle.tk_route.specs.Values.{Values, has, is_any_held, local, state_of, under}
+use Rattle.tk_route.specs.Buttons.{has, is_any_held}
+use Rattle.tk_route.specs.Values.{Values, local, state_of, under}
 use Rattle.tk_route.specs.declared.delivery.Delivery.{Delivery}
 use Rattle.tk_route.specs.declared.delivery.Routed.{Routed}
 use Rattle.tk_route.specs.declared.delivery.Routed.TheVariants.{Nobody, One, Two}

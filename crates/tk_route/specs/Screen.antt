@@ -1,4 +1,4 @@
--- Rectangles on the screen, and points in them.
+-- Meaning. Rectangles on the screen, and points in them.
 use Rattle.std.specs.Prelude.{◌≡◌, ℕ, ◌+◌, ◌≤◌, max, min, Bool, true, not, ◌&&◌, ◌==◌, nat_le, nat_lt, List, [], ◌∷◌, Option, Some, position, slice_get}
 use Rattle.std.specs.List.{enumerate_from, list_any}
 use Rattle.tk_base.specs.Rect.{last_place, most_pixels}

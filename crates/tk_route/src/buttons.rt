@@ -11,7 +11,7 @@ pub struct Buttons {
 }
 
 impl Buttons {
-    ghost use Rattle.tk_route.specs.Values.{has, is_any_held, with_pressed, with_released};
+    ghost use Rattle.tk_route.specs.Buttons.{has, is_any_held, with_pressed, with_released};
 
     /// Whether this button, from 1 to 5, is held.
     pub fn has(self, button: u32) -> bool

@@ -1,53 +1,120 @@
-ghost use Rattle.std.specs.Prelude.{◌≡◌};
+//! Why lines, and the calls that do what lines say, are refused.
+use std::alloc::{AllocError, AllocFailed};
+use thiserror::Error;
 
-/// Why rectangles were refused.
-#[derive(Clone, Copy, Debug, PartialEq, Eq)]
-pub enum RectsFault {
-    /// Two of them share a pixel (34).
-    Overlap,
-    /// There are more than sixteen (38).
-    TooManyApps,
-}
-
-impl RectsFault {
-    ghost use Rattle.tk_route.specs.Fault.{number_of_rects};
-
-    /// Its number.
-    pub fn number(self) -> u32
-        ensures { result ≡ number_of_rects self }
-    {
-        match self {
-            RectsFault::Overlap => 34,
-            RectsFault::TooManyApps => 38,
-        }
-    }
-}
-
-/// Why a line was refused.
-#[derive(Clone, Copy, Debug, PartialEq, Eq)]
+/// Why a line of a session, or the call of a host that does what such a line says, was refused.
+#[derive(Clone, Copy, Debug, PartialEq, Eq, Drop, Error)]
 pub enum LineFault {
-    /// A number outside the ranges of a session (36).
-    BadLine,
+    /// The rectangle of an application shares a pixel with that of one before (34).
+    #[error("rectangle overlaps another")]
+    Overlap,
     /// The moment is before the one that was reached (35).
+    #[error("moment before the last")]
     TimeBack,
-    /// No application has this slot (37).
+    /// The line hasn't the form that is wanted in its place, or a value lies outside its range (36).
+    #[error("bad line")]
+    BadLine,
+    /// No application has this name, or this slot (37).
+    #[error("no such application")]
     NoApp,
-    /// The new rectangle shares a pixel with another application's (43).
+    /// Sixteen applications are there already (38).
+    #[error("too many applications")]
+    TooManyApps,
+    /// An application before has this name, or an alias of the same application (39).
+    #[error("name is taken")]
+    NameTaken,
+    /// The applications have been started (40).
+    #[error("already started")]
+    Started,
+    /// The end has been reached (41).
+    #[error("already ended")]
+    Ended,
+    /// Memory was refused to a call that ran applications (42).
+    #[error("broken by want of memory")]
+    Broken,
+    /// The new rectangle shares a pixel with that which another application has then (43).
+    #[error("rectangle overlaps that of another application")]
     RectOverlap,
 }
 
 impl LineFault {
-    ghost use Rattle.tk_route.specs.Fault.{number_of_line};
+    ghost use Rattle.std.specs.Prelude.{◌≡◌};
+    ghost use Rattle.tk_route.specs.Fault.{number_of};
 
-    /// Its number.
-    pub fn number(self) -> u32
-        ensures { result ≡ number_of_line self }
+    /// Its number, which the program tells of a session's first fault.
+    pub fn number(self) -> u8
+        ensures { result ≡ number_of self }
     {
         match self {
-            LineFault::BadLine => 36,
+            LineFault::Overlap => 34,
             LineFault::TimeBack => 35,
+            LineFault::BadLine => 36,
             LineFault::NoApp => 37,
+            LineFault::TooManyApps => 38,
+            LineFault::NameTaken => 39,
+            LineFault::Started => 40,
+            LineFault::Ended => 41,
+            LineFault::Broken => 42,
             LineFault::RectOverlap => 43,
         }
+    }
+}
+
+/// Why a call failed that may be refused and that takes memory.
+#[derive(Clone, Copy, Debug, PartialEq, Eq, Drop, Error)]
+pub enum HostFault {
+    /// What it asks for is refused.
+    #[error("{0}")]
+    Refused(LineFault),
+    /// Memory was refused.
+    #[error("out of memory")]
+    NoMemory,
+}
+
+impl HostFault {
+    ghost use Rattle.std.specs.Prelude.{◌≡◌};
+    ghost use Rattle.tk_route.specs.Fault.{number_if_refused};
+
+    /// Its number; want of memory has none.
+    pub fn number(self) -> Option<u8>
+        ensures { result ≡ number_if_refused self }
+    {
+        match self {
+            HostFault::Refused(fault) => Some(fault.number()),
+            HostFault::NoMemory => None,
+        }
+    }
+}
+
+impl From<LineFault> for HostFault {
+    ghost use Rattle.std.specs.Prelude.{◌≡◌};
+    ghost use Rattle.tk_route.specs.declared.fault.HostFault.TheVariants.{Refused};
+
+    ghost from_gives = { λ fault e. e ≡ Refused fault };
+
+    fn from(fault: LineFault) -> HostFault {
+        HostFault::Refused(fault)
+    }
+}
+
+impl From<AllocError> for HostFault {
+    ghost use Rattle.std.specs.Prelude.{◌≡◌};
+    ghost use Rattle.tk_route.specs.declared.fault.HostFault.TheVariants.{NoMemory};
+
+    ghost from_gives = { λ _ e. e ≡ NoMemory };
+
+    fn from(_refused: AllocError) -> HostFault {
+        HostFault::NoMemory
+    }
+}
+
+impl<T: Drop> From<AllocFailed<T>> for HostFault {
+    ghost use Rattle.std.specs.Prelude.{◌≡◌};
+    ghost use Rattle.tk_route.specs.declared.fault.HostFault.TheVariants.{NoMemory};
+
+    ghost from_gives = { λ _ e. e ≡ NoMemory };
+
+    fn from(_refused: AllocFailed<T>) -> HostFault {
+        HostFault::NoMemory
     }
 }

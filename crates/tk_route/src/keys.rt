@@ -17,7 +17,7 @@ pub struct ModifierKeys {
 }
 
 impl ModifierKeys {
-    ghost use Rattle.tk_route.specs.Values.{with_key_down, with_key_up};
+    ghost use Rattle.tk_route.specs.Changes.{with_key_down, with_key_up};
 
     /// The same with a key down. `Caps_Lock` locks capitals or frees them.
     pub fn with_key_down(self, key: Keysym) -> ModifierKeys

@@ -6,9 +6,6 @@ ghost use Rattle.tk_route.specs.Screen.{are_apart, shares_pixel, shares_with_ano
 use std::marker::Model;
 use tk_base::Rect;
 
-/// How many applications there are at most.
-pub(crate) const MAX_APPLICATIONS: usize = 16;
-
 const NOWHERE: Rect = Rect {
     x: 0,
     y: 0,
@@ -64,8 +61,8 @@ impl Rects {
     }
 }
 
-/// Whether some pixel lies in both.
-fn shares_pixel(rect: Rect, other: Rect) -> bool
+/// Whether some pixel lies in both rectangles.
+pub fn shares_pixel(rect: Rect, other: Rect) -> bool
     ensures { result ≡ shares_pixel rect other }
 {
     rect.overlaps(other)
@@ -91,7 +88,7 @@ fn shares_with_any(rect: Rect, others: &[Rect]) -> bool
 }
 
 /// Whether a rectangle shares a pixel with that of another slot.
-pub fn shares_with_another(rects: &[Rect], slot: usize, rect: Rect) -> bool
+pub(crate) fn shares_with_another(rects: &[Rect], slot: usize, rect: Rect) -> bool
     ensures { result ≡ shares_with_another rects.now slot rect }
 {
     rects.iter().enumerate().any(|(other, other_rect)| other != slot

@@ -1,17 +1,17 @@
-ghost use Rattle.std.specs.Prelude.{◌≡◌, ◌↔◌, IsTrue, slice_get};
+ghost use Rattle.std.specs.Prelude.{◌≡◌, slice_get};
 ghost use Rattle.std.specs.Option.{option_to_list};
-ghost use Rattle.tk_route.specs.Refusals.{Covers, NamesNobody};
 ghost use Rattle.tk_route.specs.Routes.{deliveries, told_focus, told_size};
 
 use crate::buttons::Buttons;
 use crate::delivery::{Delivery, Routed, Stamp, both, position, press, release, to};
-use crate::fault::{LineFault, RectsFault};
+use crate::fault::LineFault;
 use crate::keys::{ModifierKeys, state_of};
-use crate::line::HostLine;
+use crate::limits::MAX_APPLICATIONS;
+use crate::line::{HostLine, test_line};
 use crate::place::{Point, local, under};
-use crate::rects::{MAX_APPLICATIONS, Rects, are_apart, shares_with_another};
+use crate::rects::{Rects, are_apart};
 use std::marker::Model;
-use tk_base::{MAX_MOMENT, Rect};
+use tk_base::Rect;
 use tk_keys::{Keysym, LocalKind};
 
 const NO_BUTTONS: Buttons = Buttons {
@@ -61,23 +61,26 @@ impl Router {
     ghost use Rattle.tk_base.specs.declared.rect.Rect.{Rect};
     ghost use Rattle.tk_keys.specs.declared.local_event.LocalKind.TheVariants.{Keydown, Keyup};
     ghost use Rattle.tk_route.specs.Lines.{Line, at, values};
+    ghost use Rattle.tk_route.specs.Limits.{most_applications};
     ghost use Rattle.tk_route.specs.Refusals.{IsFirst, IsInRange, NamesNobody, NoneApplies, Refuses, RefusesRects, line_faults};
     ghost use Rattle.tk_route.specs.Routes.{deliveries, routes, to, told, told_focus, told_move, told_press, told_rect, told_release};
     ghost use Rattle.tk_route.specs.Screen.{IsOnScreen, are_apart};
-    ghost use Rattle.tk_route.specs.Values.{changed, state_of, with_buttons, with_key_down, with_key_up, with_pressed, with_released};
+    ghost use Rattle.tk_route.specs.Values.{state_of};
+    ghost use Rattle.tk_route.specs.Changes.{changed, with_buttons, with_key_down, with_key_up};
+    ghost use Rattle.tk_route.specs.Buttons.{with_pressed, with_released};
 
     /// A router before the first line, for applications with these rectangles, by slot. Rectangles that share a pixel are refused with
     /// `Overlap` (34), and then more than sixteen with `TooManyApps` (38). It takes no memory.
-    pub fn new(rects: &[Rect]) -> Result<Router, RectsFault>
+    pub fn new(rects: &[Rect]) -> Result<Router, LineFault>
         ensures { MatchResult result
-            (λ router. (router ≡ values rects.now []) × (are_apart rects.now ≡ true) × (length rects.now ≤ 16))
+            (λ router. (router ≡ values rects.now []) × (are_apart rects.now ≡ true) × (length rects.now ≤ most_applications))
             (RefusesRects rects.now) }
     {
         if !are_apart(rects) {
-            return Err(RectsFault::Overlap);
+            return Err(LineFault::Overlap);
         }
         if rects.len() > MAX_APPLICATIONS {
-            return Err(RectsFault::TooManyApps);
+            return Err(LineFault::TooManyApps);
         }
         Ok(Router {
             rects: Rects::new(rects),
@@ -90,6 +93,13 @@ impl Router {
         })
     }
 
+    /// The rectangles of the applications, by slot.
+    pub fn rects(&self) -> &[Rect]
+        ensures { result.now ≡ self.now.rects }
+    {
+        self.rects.as_slice()
+    }
+
     /// Leads a line at a moment, in milliseconds. Refused are, in this order: `BadLine` (36) outside the ranges of a session, a moment past
     /// 10^12 too; `TimeBack` (35), `NoApp` (37) and `RectOverlap` (43). It takes no memory.
     pub fn line(&mut self, moment: u64, line: HostLine) -> Result<Routed, LineFault>
@@ -98,41 +108,29 @@ impl Router {
         ensures routes { (first : List Rect) (earlier : List Line) → self.old ≡ values first earlier →
             IfOk result (λ routed. deliveries routed ≡ routes first earlier (at moment line)) }
         ensures refused { MatchResult result
-            (λ _. NoneApplies (Refuses self.old moment line) line_faults)
-            (IsFirst (Refuses self.old moment line) line_faults) }
+            (λ _. NoneApplies (Refuses self.old.rects self.old.moment moment line) line_faults)
+            (IsFirst (Refuses self.old.rects self.old.moment moment line) line_faults) }
         ensures unchanged { OnErr result (self.new ≡ self.old) }
     {
-        self.may_lead(moment, &line)?;
+        test_line(self.rects.as_slice(), self.moment, moment, &line)?;
+        Ok(self.tested_line(moment, line))
+    }
+
+    /// Leads a line as `line` does, where it was tested already that `line` takes it. It takes no memory.
+    pub fn tested_line(&mut self, moment: u64, line: HostLine) -> Routed
+        requires { NoneApplies (Refuses self.old.rects self.old.moment moment line) line_faults }
+        ensures values { (first : List Rect) (earlier : List Line) → self.old ≡ values first earlier →
+            self.new ≡ values first (at moment line ∷ earlier) }
+        ensures routes { (first : List Rect) (earlier : List Line) → self.old ≡ values first earlier →
+            deliveries result ≡ routes first earlier (at moment line) }
+    {
         let stamp = Stamp {
             moment,
             state: self.state(),
         };
-        let routed = self.lead(stamp, line);
+        let routed = self.follow(stamp, line);
         self.moment = moment;
-        Ok(routed)
-    }
-
-    /// Why a line can't be led, if it can't.
-    fn may_lead(&self, moment: u64, line: &HostLine) -> Result<(), LineFault>
-        ensures refused { MatchResult result
-            (λ _. NoneApplies (Refuses self.now moment line.now) line_faults)
-            (IsFirst (Refuses self.now moment line.now) line_faults) }
-        ensures in_range { OnOk result (IsInRange line.now) }
-    {
-        if moment > MAX_MOMENT || !line.is_in_range() {
-            return Err(LineFault::BadLine);
-        }
-        if moment < self.moment {
-            return Err(LineFault::TimeBack);
-        }
-        let rects = self.rects.as_slice();
-        if names_nobody(rects, line) {
-            return Err(LineFault::NoApp);
-        }
-        if covers(rects, line) {
-            return Err(LineFault::RectOverlap);
-        }
-        Ok(())
+        routed
     }
 
     /// The state of events.
@@ -142,8 +140,8 @@ impl Router {
         state_of(self.keys, self.buttons)
     }
 
-    /// Leads a line that isn't refused.
-    fn lead(&mut self, stamp: Stamp, line: HostLine) -> Routed
+    /// Does what a line says.
+    fn follow(&mut self, stamp: Stamp, line: HostLine) -> Routed
         requires in_range { IsInRange line }
         requires named { ¬ NamesNobody self.old.rects line }
         ensures changed { self.new ≡ changed line self.old }
@@ -317,24 +315,4 @@ fn resized(stamp: Stamp, rects: &[Rect], slot: usize, rect: Rect) -> Option<Deli
         height: rect.height,
     };
     to(stamp, Some(slot), size)
-}
-
-/// Whether the line names a slot that has no application.
-fn names_nobody(rects: &[Rect], line: &HostLine) -> bool
-    ensures { IsTrue result ↔ NamesNobody rects.now line.now }
-{
-    match *line {
-        HostLine::Focus(Some(slot)) | HostLine::Rect { slot, rect: _ } => slot >= rects.len(),
-        _ => false,
-    }
-}
-
-/// Whether the line's rectangle shares a pixel with another's.
-fn covers(rects: &[Rect], line: &HostLine) -> bool
-    ensures { IsTrue result ↔ Covers rects.now line.now }
-{
-    match *line {
-        HostLine::Rect { slot, rect } => shares_with_another(rects, slot, rect),
-        _ => false,
-    }
 }

@@ -1,4 +1,4 @@
--- A change of a widget, with the variable that it asks for.
+-- Meaning. A change of a widget, with the variable that it asks for.
 use Rattle.std.specs.Prelude.{ℕ, Bool, true, false, ◌&&◌, not, if◌then◌else◌, List, Option, None, Some, Result, Ok, Err}
 use Rattle.tcl_commands.specs.Texts.{cannot_set}
 use Rattle.tcl_vars.specs.Store.{Store, variable_in, with_variable}

@@ -1,4 +1,4 @@
--- Texts and numbers in the lines of a section.
+-- Meaning. Texts and numbers in the lines of a section.
 use Rattle.std.specs.Prelude.{ℕ, Bool, true, false, List, [], ◌∷◌, ◌++◌, ◌==◌, if◌then◌else◌, codes, decimal, flat_map}
 
 -- a byte of a text in a line: a backslash, a line feed and a carriage return are written with a backslash

@@ -1,4 +1,4 @@
--- What the windows of an application ask for, and what laying them out changes.
+-- Meaning. What the windows of an application ask for, and what laying them out changes.
 use Rattle.std.specs.Prelude.{ℕ, nat_eq, List, [], Option}
 use Rattle.std.specs.Map.{lookup}
 use Rattle.std.specs.Option.{option_map_or}

@@ -1,4 +1,4 @@
--- The marks of applications by their slots.
+-- Steps. The marks of applications by their slots.
 use Rattle.std.specs.Prelude.{◌≡◌, ◌≢◌, ℕ, nat_eq, Option}
 use Rattle.std.specs.HashMap.{get}
 use Rattle.tk_screen.specs.declared.marks.Mark.{Mark}

@@ -1,4 +1,4 @@
--- What one application has on the screen, and what all applications have.
+-- Meaning. What one application has on the screen, and what all applications have.
 use Rattle.std.specs.Prelude.{◌≡◌, ◌≢◌, ℕ, nat_eq, List, [], ◌∷◌, Option, None, Some, option_map, codes}
 use Rattle.std.specs.HashMap.{get}
 use Rattle.tk_base.specs.declared.kind.Kind.{Kind}

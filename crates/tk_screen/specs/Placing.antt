@@ -1,4 +1,4 @@
--- An application's windows after what a layout changes.
+-- Meaning. An application's windows after what a layout changes.
 use Rattle.std.specs.Prelude.{ℕ, Bool, true, false, List, [], ◌∷◌, Option, None, Some, IsSome}
 use Rattle.tk_base.specs.declared.rect.Rect.{Rect}
 use Rattle.tk_packer.specs.declared.changes.PlaceChange.{PlaceChange}

@@ -1,4 +1,4 @@
--- Shapes that were read from an application's windows.
+-- Steps. Shapes that were read from an application's windows.
 use Rattle.std.specs.Prelude.{◌≡◌, ◌≢◌, ℕ, List, [], ◌∷◌, Some}
 use Rattle.tk_packer.specs.declared.shape.Shape.{Shape}
 use Rattle.tk_tree.specs.Own.{Own, window_at}

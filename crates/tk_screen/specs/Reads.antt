@@ -1,4 +1,4 @@
--- The variables that windows show, with the texts that they had.
+-- Steps. The variables that windows show, with the texts that they had.
 use Rattle.std.specs.Prelude.{ℕ, Bool, true, false, List, Option, None, Some, option_map, option_and_then}
 use Rattle.std.specs.List.{filter_map, list_all}
 use Rattle.std.specs.Result.{result_ok}

@@ -1,4 +1,4 @@
--- What a mark says of an application.
+-- Steps. What a mark says of an application.
 use Rattle.std.specs.Prelude.{◌≡◌, ℕ, true, [], Some}
 use Rattle.tcl_vars.specs.Store.{Store}
 use Rattle.tk_screen.specs.declared.screen.Screen.{Screen}

@@ -1,4 +1,4 @@
--- What the layout has to know of an application's windows, and what they show.
+-- Meaning. What the layout has to know of an application's windows, and what they show.
 use Rattle.std.specs.Prelude.{ℕ, Bool, true, false, ◌&&◌, List, [], codes, Option, None, Some, option_and_then}
 use Rattle.std.specs.List.{filter_map}
 use Rattle.std.specs.Option.{option_map_or}
@@ -14,7 +14,7 @@ use Rattle.tk_tree.specs.declared.window.Window.{Window}
 use Rattle.tk_tree.specs.Orders.{subtree}
 use Rattle.tk_tree.specs.Own.{Own as Tree, at_path, window_at}
 use Rattle.tk_widgets.specs.Classes.{value_told}
-use Rattle.tk_widgets.specs.Commands.{options_in, variable_of}
+use Rattle.tk_widgets.specs.Commands.{variable_of}
 use Rattle.tk_widgets.specs.declared.widget.Widget.{Widget}
 use Rattle.tk_widgets.specs.Sizes.{requested}
 use Rattle.tk_screen.specs.Own.{Own}
@@ -38,7 +38,7 @@ shape_of packs store window widget = record {
   number = window.number;
   width = (requested widget (variable_text widget store)).0;
   height = (requested widget (variable_text widget store)).1;
-  border = amount_of BorderWidth (options_in widget);
+  border = amount_of BorderWidth widget.options;
   propagates = is_frame window.kind && propagates_in window.number packs;
   place = window.place;
   mapped = window.mapped;

@@ -1,4 +1,4 @@
--- The lines of what an application has waiting.
+-- Meaning. The lines of what an application has waiting.
 use Rattle.std.specs.Prelude.{ℕ, List, ◌++◌, Option, Some, None, codes, decimal, flat_map}
 use Rattle.tk_after.specs.declared.entry.Entry.{Entry}
 use Rattle.tk_screen.specs.Fields.{escaped, field}

@@ -1,4 +1,4 @@
--- The widgets of one application's windows, by their numbers, in the order in which they were made.
+-- Meaning. The widgets of one application's windows, by their numbers, in the order in which they were made.
 use Rattle.std.specs.Prelude.{◌≡◌, ◌≢◌, ◌<◌, ℕ, nat_eq, List, [], Option, None, Some}
 use Rattle.std.specs.HashMap.{get, spare}
 use Rattle.std.specs.Map.{lookup, remove_entry, set_value}

@@ -95,7 +95,7 @@ fn shape_of(
         number,
         width,
         height,
-        border: widget.options().amount(OptionName::BorderWidth),
+        border: widget.options.amount(OptionName::BorderWidth),
         propagates: is_frame(window.kind)
             && packs.propagates(Win {
                 owner: slot,

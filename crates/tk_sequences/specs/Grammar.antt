@@ -1,5 +1,6 @@
--- The grammar of event sequences (bind(n), EVENT PATTERNS), as a relation between a whole text and the sequence that it is, or its fault. It cuts texts
--- into white space, patterns and fields, and says nothing of how a text is read. The words are those of the tables of `tk_sequences` and `tk_keys`.
+-- Meaning. The grammar of event sequences (bind(n), EVENT PATTERNS), as a relation between a whole text and the sequence that it is, or its fault. It
+-- cuts texts into white space, patterns and fields, and says nothing of how a text is read. The words are those of the tables of `tk_sequences` and
+-- `tk_keys`.
 use Rattle.std.specs.Prelude.{◌≡◌, ◌≢◌, ◌⊎◌, ℕ, ◌<◌, ◌≤◌, true, false, bit_or, List, [], ◌∷◌, ◌++◌, Option, Some, None, codes}
 use Rattle.tcl_text.specs.Backslash.{is_white}
 use Rattle.tcl_text.specs.Bytes.{greater_sign, less_sign, minus_sign, space}

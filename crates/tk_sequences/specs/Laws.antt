@@ -1,4 +1,4 @@
--- What the laws of the grammar say.
+-- Meaning. What the laws of the grammar say.
 use Rattle.std.specs.Prelude.{◌≡◌, ◌↔◌, ◌⊎◌, ℕ, List, Ok, Err}
 use Rattle.tk_sequences.specs.Grammar.{IsSequence, HasFault}
 use Rattle.tk_sequences.specs.Reading.{parsed}

@@ -1,4 +1,5 @@
 -- What the contracts cite.
+pub mod Event
 pub mod FaultTexts
 pub mod Grammar
 pub mod Laws

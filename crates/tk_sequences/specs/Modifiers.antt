@@ -1,4 +1,4 @@
--- Modifiers: their names, their bits in an event's state, and sets of them.
+-- Meaning. Modifiers: their names, their bits in an event's state, and sets of them.
 use Rattle.std.specs.Prelude.{ℕ, Bool, ◌==◌, ◌&&◌, not, bit_and, List, [], ◌∷◌, Option, codes}
 use Rattle.tk_sequences.specs.Lookup.{looked_up}
 use Rattle.tk_sequences.specs.declared.modifier.Modifier.{Modifier}

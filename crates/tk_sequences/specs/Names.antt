@@ -1,4 +1,4 @@
--- Names of virtual events, as they stand between `<<` and `>>`.
+-- Meaning. Names of virtual events, as they stand between `<<` and `>>`.
 use Rattle.std.specs.Prelude.{ℕ, ◌<◌, ◌≤◌, ◌≢◌, List, length, All}
 
 -- not empty, without `>`, and short enough that a text holds it with its brackets

@@ -1,4 +1,4 @@
--- Patterns, and lists of them.
+-- Meaning. Patterns, and lists of them.
 use Rattle.std.specs.Prelude.{◌≡◌, ℕ, ◌+◌, ◌<◌, ◌≤◌, List, [], ◌∷◌, length, sum_by, Option, Some, None, codes}
 use Rattle.tk_sequences.specs.Lookup.{looked_up}
 use Rattle.tk_sequences.specs.declared.pattern.Pattern.{Pattern}

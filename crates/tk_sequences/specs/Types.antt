@@ -1,4 +1,4 @@
--- The types of events: their names, and their numbers.
+-- Meaning. The types of events: their names, and their numbers.
 use Rattle.std.specs.Prelude.{ℕ, Bool, true, false, List, [], ◌∷◌, Option, codes}
 use Rattle.tk_sequences.specs.Lookup.{looked_up}
 use Rattle.tk_sequences.specs.declared.event_type.EventType.{EventType}

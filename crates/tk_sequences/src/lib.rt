@@ -1,7 +1,8 @@
-//! The event sequences that bindings are made for (bind(n)): their types of events, modifiers and details.
+//! Events as scripts see them (event(n)), and the event sequences that bindings are made for (bind(n)): their types, modifiers and details.
 #![tactic(auto)]
 
 mod detail;
+mod event;
 mod event_type;
 mod fault;
 mod fields;
@@ -14,6 +15,7 @@ mod virtual_name;
 mod written;
 
 pub use detail::Detail;
+pub use event::{Event, EventKind};
 pub use event_type::EventType;
 pub use fault::SequenceFault;
 pub use laws::{

@@ -10,11 +10,12 @@ use Rattle.std.proofs.lemmas.Slice.Eq.{bytes_eq-Decides}
 use Rattle.std.proofs.lemmas.Str.{is_utf8-from_IsUtf8, IsUtf8-from_is_utf8, IsUtf8-from_ascii}
 use Rattle.tk_alias.specs.declared.service.ServiceKind.{ServiceKind}
 use Rattle.tk_alias.specs.declared.service.ServiceKind.TheVariants.{Const, Upper, Table, Sum, Fail}
-use Rattle.tk_session.specs.declared.fault.LineFault.{LineFault}
-use Rattle.tk_session.specs.declared.fault.LineFault.TheVariants.{BadLine, TooManyApps, NameTaken, TimeBack, NoApp, RectOverlap}
-use Rattle.tk_session.specs.declared.fault.LineFault.TheVariants as faults
+use Rattle.tk_route.specs.declared.fault.LineFault.{LineFault}
+use Rattle.tk_route.specs.declared.fault.LineFault.TheVariants.{BadLine, TooManyApps, NameTaken, TimeBack, NoApp, Started, Ended, Broken, RectOverlap}
+use Rattle.tk_route.specs.declared.fault.LineFault.TheVariants as faults
 use Rattle.tk_session.specs.declared.session.AliasLine.{AliasLine}
-use Rattle.tk_session.specs.Names.{is_command_name, is_printing, kind_word}
+use Rattle.tk_alias.specs.Names.{is_command_name, is_printing}
+use Rattle.tk_session.specs.Names.{kind_word}
 use Rattle.tk_session.specs.Session.{spelled, SpellsAlias, IsAliasInRange, IsAliasLine, IsServed, HindersAlias, MayJoin}
 use Rattle.tk_session.specs.Reading.{alias_hindrance, alias_line_of, alias_of, behind, command_name_of, config_of, cut_at, cut_service, is_served, service_kind, service_of, utf8_of}
 use Rattle.tk_session.proofs.LineLaws.{Lacks, behind-some, bind_some, cut_at-append, cut_at-lacks, cut_at-parts, lacks_from_test, same_bytes}
@@ -194,6 +195,9 @@ alias_hindrance-hinders TooManyApps aliases name h = absurd h
 alias_hindrance-hinders TimeBack aliases name h = absurd h
 alias_hindrance-hinders NoApp aliases name h = absurd h
 alias_hindrance-hinders RectOverlap aliases name h = absurd h
+alias_hindrance-hinders Started aliases name h = absurd h
+alias_hindrance-hinders Ended aliases name h = absurd h
+alias_hindrance-hinders Broken aliases name h = absurd h
 alias_hindrance-hinders faults.Overlap aliases name h = absurd h
 
 -- what the test answers holds

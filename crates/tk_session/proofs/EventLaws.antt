@@ -11,25 +11,23 @@ use Rattle.std.proofs.lemmas.Str.{is_utf8-from_IsUtf8, IsUtf8-from_is_utf8}
 use Rattle.tk_base.specs.declared.rect.Rect.{Rect}
 use Rattle.tk_keys.specs.Names.{key_named}
 use Rattle.tk_route.specs.Lines.{Line, moment_after, rects_after}
-use Rattle.tk_route.specs.Refusals.{Covers, IsInRange as IsLineInRange, NamesNobody}
-use Rattle.tk_route.specs.Screen.{shares_with_another}
+use Rattle.tk_route.specs.Names.{IsName, is_name}
+use Rattle.tk_route.specs.Refusals.{Covers, IsFirst, IsInRange as IsLineInRange, NamesNobody, NoneApplies, Refuses, covers, faults_beside, names_nobody}
 use Rattle.tk_route.specs.declared.line.HostLine.{HostLine}
 use Rattle.tk_route.specs.declared.line.HostLine.TheVariants.{Move, Press, Release, Keydown, Keyup, Focus, Rect as Placed}
-use Rattle.tk_session.specs.declared.fault.LineFault.{LineFault}
-use Rattle.tk_session.specs.declared.fault.LineFault.TheVariants.{BadLine, TooManyApps, NameTaken, TimeBack, NoApp, RectOverlap}
-use Rattle.tk_session.specs.declared.fault.LineFault.TheVariants as faults
+use Rattle.tk_route.specs.declared.fault.LineFault.{LineFault}
+use Rattle.tk_route.specs.declared.fault.LineFault.TheVariants.{BadLine, TooManyApps, NameTaken, TimeBack, NoApp, Started, Ended, Broken, RectOverlap}
+use Rattle.tk_route.specs.declared.fault.LineFault.TheVariants as faults
 use Rattle.tk_session.specs.declared.screen.Screen.{Screen}
 use Rattle.tk_session.specs.declared.session.AppBlock.{AppBlock}
 use Rattle.tk_session.specs.declared.session.EventLine.{EventLine}
 use Rattle.tk_session.specs.declared.stage.Format.{Format}
 use Rattle.tk_session.specs.declared.stage.Format.TheVariants.{First, Second}
-use Rattle.tk_session.specs.Names.{IsName, slot_of}
+use Rattle.tk_session.specs.Names.{slot_of}
 use Rattle.tk_session.specs.Session.{spelled, rect_fields, SayEvent, IsEventLine, IsEndLine, line_of, newest_first, moment_at, rects_at, rects_of, HindersEvent, MayCome}
-use Rattle.tk_session.specs.Reading.{app_of, button_of, covers, cut_at, event_hindrance, event_line_of, event_of, focus_of, is_name, key_of, move_of, moved, name_of, names_nobody, number_field, number_of, placed_of, rect_of, utf8_of}
+use Rattle.tk_session.specs.Reading.{app_of, button_of, cut_at, event_hindrance, event_line_of, event_of, focus_of, key_of, move_of, moved, name_of, number_field, number_of, placed_of, rect_of, utf8_of}
 use Rattle.tk_session.proofs.AliasLaws.{chosen}
-use Rattle.tk_session.proofs.Hindrances.{test_false}
 use Rattle.tk_session.proofs.LineLaws.{Lacks, Lacks-name, Lacks-decimal, bind_some, cut_at-append, cut_at-parts, mapped, name_of-named, name_of-some, number_field-decimal, number_field-some, number_of-decimal, number_of-some, rect_of-some, rect_of-spelled, same_bytes}
-use Rattle.tk_session.proofs.Names.{is_name-Decides}
 
 -- ---- what the word and the fields of an event say
 
@@ -197,8 +195,7 @@ dash_is_no_name : (name : List ℕ) → IsName name → bytes_eq name (codes "-"
 dash_is_no_name name named =
     false_from_ne_true (bytes_eq name (codes "-")) (λ same.
     let P : List ℕ → Type 0 = λ n. IsName n in
-    let dash = subst P (same_bytes name (codes "-") same) named in
-    elim dash.1 [ inl upper ↦ omega (arith, upper.0) | inr lower ↦ omega (arith, lower.0) ])
+    absurd (false≢true (subst P (same_bytes name (codes "-") same) named)))
 
 -- the line that such fields make
 abbrev FoundIn : Format → List AppBlock → ℕ → List (List ℕ) → HostLine → Type 0
@@ -251,11 +248,11 @@ event_line_of-fields format apps moment (Focus (Some slot)) fields fits says ran
     (rw (
       number_field-decimal 0 1000000000000 moment (codes "focus" ++ 32 ∷ says.0) (lit< tt) (omega arith) fits,
       dash_is_no_name says.0 says.2,
-      (is_name-Decides says.0).1 says.2,
+      says.2,
     ) (ap (λ (s : ℕ). Some (record { moment = moment; line = Focus (Some s) })) (sym says.3)))
 event_line_of-fields First apps moment (Placed slot rect) fields fits says range = absurd says
 event_line_of-fields Second apps moment (Placed slot rect) fields fits says range =
-    let named : is_name says.0 ≡ true = (is_name-Decides says.0).1 says.2 in
+    let named : is_name says.0 ≡ true = says.2 in
     let corner : List ℕ = decimal rect.x ++ 32 ∷ (decimal rect.y ++ 32 ∷ (decimal rect.width ++ 32 ∷ decimal rect.height)) in
     found_in Second apps moment (Placed slot rect) (codes "rect" ∷ says.0 ∷ rect_fields rect) fields says.1
     (rw (
@@ -288,28 +285,6 @@ pub screen_at-push : (apps : List AppBlock) (told : List EventLine) (event : Eve
 screen_at-push apps told event =
     ap (λ (lines : List Line). record { moment = moment_after lines; rects = rects_after (rects_of apps) lines }) (newest_first-push told event)
 
-is_test : (b : Bool) → Decides b (IsTrue b)
-is_test b = (λ e. e, λ t. t)
-
-names_nobody-Decides : (rects : List Rect) (line : HostLine) → Decides (names_nobody rects line) (NamesNobody rects line)
-names_nobody-Decides rects (Move x y) = (λ e. absurd (false≢true e), λ t. absurd t)
-names_nobody-Decides rects (Press button) = (λ e. absurd (false≢true e), λ t. absurd t)
-names_nobody-Decides rects (Release button) = (λ e. absurd (false≢true e), λ t. absurd t)
-names_nobody-Decides rects (Keydown key) = (λ e. absurd (false≢true e), λ t. absurd t)
-names_nobody-Decides rects (Keyup key) = (λ e. absurd (false≢true e), λ t. absurd t)
-names_nobody-Decides rects (Focus None) = (λ e. absurd (false≢true e), λ t. absurd t)
-names_nobody-Decides rects (Focus (Some slot)) = (leb-true (length rects) slot, le-leb (length rects) slot)
-names_nobody-Decides rects (Placed slot rect) = (leb-true (length rects) slot, le-leb (length rects) slot)
-
-covers-Decides : (rects : List Rect) (line : HostLine) → Decides (covers rects line) (Covers rects line)
-covers-Decides rects (Move x y) = (λ e. absurd (false≢true e), λ t. absurd t)
-covers-Decides rects (Press button) = (λ e. absurd (false≢true e), λ t. absurd t)
-covers-Decides rects (Release button) = (λ e. absurd (false≢true e), λ t. absurd t)
-covers-Decides rects (Keydown key) = (λ e. absurd (false≢true e), λ t. absurd t)
-covers-Decides rects (Keyup key) = (λ e. absurd (false≢true e), λ t. absurd t)
-covers-Decides rects (Focus slot) = (λ e. absurd (false≢true e), λ t. absurd t)
-covers-Decides rects (Placed slot rect) = is_test (shares_with_another rects slot rect)
-
 not_before : (a b : ℕ) → b ≤ a → nat_lt a b ≡ false
 not_before a b h = false_from_ne_true (nat_lt a b) (λ is. let less : a < b = ltb-true a b is in omega arith)
 
@@ -317,33 +292,36 @@ pub event_hindrance-may : (apps : List AppBlock) (told : List EventLine) (event 
 event_hindrance-may apps told event may =
     rw (
       not_before event.moment (moment_at told) may.in_order,
-      test_false (names_nobody (rects_at apps told) event.line) (names_nobody-Decides (rects_at apps told) event.line) may.somebody,
-      test_false (covers (rects_at apps told) event.line) (covers-Decides (rects_at apps told) event.line) may.apart,
+      false_from_ne_true (names_nobody (rects_at apps told) event.line) may.somebody,
+      false_from_ne_true (covers (rects_at apps told) event.line) may.apart,
     ) refl
 
 pub event_hindrance-hinders : (fault : LineFault) (apps : List AppBlock) (told : List EventLine) (event : EventLine) → HindersEvent fault apps told event
     → event_hindrance (screen_at apps told) event ≡ Some fault
 event_hindrance-hinders TimeBack apps told event h = rw (lt-ltb event.moment (moment_at told) h) refl
 event_hindrance-hinders NoApp apps told event h =
-    rw (not_before event.moment (moment_at told) h.0, (names_nobody-Decides (rects_at apps told) event.line).1 h.1) refl
+    rw (not_before event.moment (moment_at told) h.0, h.1) refl
 event_hindrance-hinders RectOverlap apps told event h =
     rw (
       not_before event.moment (moment_at told) h.0,
-      test_false (names_nobody (rects_at apps told) event.line) (names_nobody-Decides (rects_at apps told) event.line) h.1,
-      (covers-Decides (rects_at apps told) event.line).1 h.2,
+      false_from_ne_true (names_nobody (rects_at apps told) event.line) h.1,
+      h.2,
     ) refl
 event_hindrance-hinders BadLine apps told event h = absurd h
 event_hindrance-hinders TooManyApps apps told event h = absurd h
 event_hindrance-hinders NameTaken apps told event h = absurd h
 event_hindrance-hinders faults.Overlap apps told event h = absurd h
+event_hindrance-hinders Started apps told event h = absurd h
+event_hindrance-hinders Ended apps told event h = absurd h
+event_hindrance-hinders Broken apps told event h = absurd h
 
 -- what the test answers holds
 abbrev pub JudgedEvent : List AppBlock → List EventLine → EventLine → Option LineFault → Type 0
 JudgedEvent apps told event None = MayCome apps told event
 JudgedEvent apps told event (Some fault) = HindersEvent fault apps told event
 
-refuted : {P : Type 0} (b : Bool) → Decides b P → b ≡ false → ¬ P
-refuted b decides is p = false≢true (sym is ∙ decides.1 p)
+refuted : (b : Bool) → b ≡ false → ¬ IsTrue b
+refuted b is holds = false≢true (sym is ∙ holds)
 
 pub judged_event : (apps : List AppBlock) (told : List EventLine) (event : EventLine) → JudgedEvent apps told event (event_hindrance (screen_at apps told) event)
 judged_event apps told event =
@@ -353,12 +331,37 @@ judged_event apps told event =
       | inr forth ↦
           let order : moment_at told ≤ event.moment = ltb-false event.moment (moment_at told) forth in
           elim (cases_Bool (names_nobody rects event.line)) [
-            | inl nobody ↦ rw (forth, nobody) (order, (names_nobody-Decides rects event.line).0 nobody)
+            | inl nobody ↦ rw (forth, nobody) (order, nobody)
             | inr somebody ↦
-                let is_somebody = refuted (names_nobody rects event.line) (names_nobody-Decides rects event.line) somebody in
+                let is_somebody = refuted (names_nobody rects event.line) somebody in
                 elim (cases_Bool (covers rects event.line)) [
-                  | inl covered ↦ rw (forth, somebody, covered) (order, is_somebody, (covers-Decides rects event.line).0 covered)
-                  | inr apart ↦ rw (forth, somebody, apart) record { in_order = order; somebody = is_somebody; apart = refuted (covers rects event.line) (covers-Decides rects event.line) apart }
+                  | inl covered ↦ rw (forth, somebody, covered) (order, is_somebody, covered)
+                  | inr apart ↦ rw (forth, somebody, apart) record { in_order = order; somebody = is_somebody; apart = refuted (covers rects event.line) apart }
                 ]
           ]
     ]
+
+-- ---- a test of a line beside those before it
+
+pub no_hindrance : (screen : Screen) (event : EventLine) → NoneApplies (Refuses screen.rects screen.moment event.moment event.line) faults_beside
+    → event_hindrance screen event ≡ None
+no_hindrance screen event none =
+    rw (
+      false_from_ne_true (nat_lt event.moment screen.moment) (λ is. none.0 (ltb-true event.moment screen.moment is)),
+      false_from_ne_true (names_nobody screen.rects event.line) none.1.0,
+      false_from_ne_true (covers screen.rects event.line) none.1.1.0,
+    ) refl
+
+pub first_hindrance : (screen : Screen) (event : EventLine) (fault : LineFault)
+    → IsFirst (Refuses screen.rects screen.moment event.moment event.line) faults_beside fault → event_hindrance screen event ≡ Some fault
+first_hindrance screen event fault (inl back) = rw (back.1, lt-ltb event.moment screen.moment back.0) refl
+first_hindrance screen event fault (inr (forth, inl nobody)) =
+    rw (nobody.1, false_from_ne_true (nat_lt event.moment screen.moment) (λ is. forth (ltb-true event.moment screen.moment is)), nobody.0) refl
+first_hindrance screen event fault (inr (forth, inr (somebody, inl covered))) =
+    rw (
+      covered.1,
+      false_from_ne_true (nat_lt event.moment screen.moment) (λ is. forth (ltb-true event.moment screen.moment is)),
+      false_from_ne_true (names_nobody screen.rects event.line) somebody,
+      covered.0,
+    ) refl
+first_hindrance screen event fault (inr (forth, inr (somebody, inr (apart, none)))) = absurd none

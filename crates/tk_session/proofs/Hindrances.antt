@@ -5,13 +5,14 @@ use Rattle.std.proofs.lemmas.Bool.{false≢true, cases_Bool, leb-true, leb-false
 use Rattle.std.proofs.lemmas.Bool.Decides.{Decides-or, not_from_Decides}
 use Rattle.std.proofs.lemmas.Slice.Eq.{bytes_eq-Decides}
 use Rattle.tk_base.specs.declared.rect.Rect.{Rect}
+use Rattle.tk_route.specs.Screen.{shares_pixel}
 use Rattle.tk_session.specs.declared.session.AppBlock.{AppBlock}
-use Rattle.tk_session.specs.declared.fault.LineFault.{LineFault}
-use Rattle.tk_session.specs.declared.fault.LineFault.TheVariants.{BadLine, TooManyApps, NameTaken, TimeBack, NoApp, RectOverlap}
-use Rattle.tk_session.specs.declared.fault.LineFault.TheVariants as faults
+use Rattle.tk_route.specs.declared.fault.LineFault.{LineFault}
+use Rattle.tk_route.specs.declared.fault.LineFault.TheVariants.{BadLine, TooManyApps, NameTaken, TimeBack, NoApp, Started, Ended, Broken, RectOverlap}
+use Rattle.tk_route.specs.declared.fault.LineFault.TheVariants as faults
 use Rattle.tk_session.specs.Session.{IsTaken, IsCovered, Hinders, MayFollow}
-use Rattle.tk_session.specs.Reading.{overlap, is_taken, is_covered, hindrance}
-use Rattle.tk_session.proofs.StepLemmas.{overlap-Decides}
+use Rattle.tk_session.specs.Reading.{is_taken, is_covered, hindrance}
+use Rattle.tk_session.proofs.StepLemmas.{shares_pixel-Decides}
 
 pub is_taken-Decides : (name : List ℕ) (apps : List AppBlock) → Decides (is_taken name apps) (IsTaken name apps)
 is_taken-Decides name [] = (λ e. absurd (false≢true e), λ taken. absurd taken)
@@ -19,7 +20,7 @@ is_taken-Decides name (app ∷ apps) = Decides-or (bytes_eq app.name name) (is_t
 
 pub is_covered-Decides : (rect : Rect) (apps : List AppBlock) → Decides (is_covered rect apps) (IsCovered rect apps)
 is_covered-Decides rect [] = (λ e. absurd (false≢true e), λ covered. absurd covered)
-is_covered-Decides rect (app ∷ apps) = Decides-or (overlap app.rect rect) (is_covered rect apps) (overlap-Decides app.rect rect) (is_covered-Decides rect apps)
+is_covered-Decides rect (app ∷ apps) = Decides-or (shares_pixel app.rect rect) (is_covered rect apps) (shares_pixel-Decides app.rect rect) (is_covered-Decides rect apps)
 
 pub test_false : {P : Type 0} (b : Bool) → Decides b P → ¬ P → b ≡ false
 test_false b decides never = false_from_ne_true b (λ is. never (decides.0 is))
@@ -42,6 +43,9 @@ hindrance-hinders BadLine apps name rect h = absurd h
 hindrance-hinders TimeBack apps name rect h = absurd h
 hindrance-hinders NoApp apps name rect h = absurd h
 hindrance-hinders RectOverlap apps name rect h = absurd h
+hindrance-hinders Started apps name rect h = absurd h
+hindrance-hinders Ended apps name rect h = absurd h
+hindrance-hinders Broken apps name rect h = absurd h
 
 -- what the test answers holds
 abbrev pub Judged : List AppBlock → List ℕ → Rect → Option LineFault → Type 0

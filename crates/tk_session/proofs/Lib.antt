@@ -1,4 +1,3 @@
-pub mod Names
 pub mod Lines
 pub mod LineLaws
 pub mod StepLemmas
@@ -8,3 +7,4 @@ pub mod AliasLaws
 pub mod EventLaws
 pub mod Complete
 pub mod Sound
+pub mod Single

@@ -16,10 +16,9 @@ use Rattle.tk_route.specs.Screen.{IsOnScreen}
 use Rattle.tk_base.specs.declared.budget.Budget.{Budget}
 use Rattle.tk_session.specs.declared.stage.Format.{Format}
 use Rattle.tk_session.specs.declared.stage.Format.TheVariants.{First, Second}
-use Rattle.tk_session.specs.Names.{IsName}
-use Rattle.tk_session.specs.Session.{lines_of, spelled, SpellsBudget, IsInRange, IsAppLine, IsScriptLine, IsEndLine}
-use Rattle.tk_session.specs.Reading.{◌>>=◌, is_name, is_name_part, cut_at, is_numeral, has_plain_front, number_of, number_field, rect_field, rect_of, name_of, behind, fixed_budget, budget_of, fixed_of, refilled_of, cut_budget, app_line_of, script_line_of, end_line_of}
-use Rattle.tk_session.proofs.Names.{is_name-Decides}
+use Rattle.tk_route.specs.Names.{IsName, is_name, is_name_byte}
+use Rattle.tk_session.specs.Session.{lines_of, spelled, SpellsBudget, IsAppLine, IsScriptLine, IsEndLine}
+use Rattle.tk_session.specs.Reading.{◌>>=◌, cut_at, is_numeral, has_plain_front, number_of, number_field, rect_field, rect_of, name_of, behind, fixed_budget, budget_of, fixed_of, refilled_of, cut_budget, app_line_of, script_line_of, end_line_of}
 use Rattle.tk_session.proofs.Lines.{digits_model, list_all-digits, digits_from_numeral, numeral_nonempty}
 
 -- a chain that gives something goes on from something
@@ -70,8 +69,8 @@ alphabetic_above_blank c h e =
       | inr lower ↦ omega (arith, at_least 97 122 c lower)
     ]
 
-name_part_above_blank : (c : ℕ) → is_name_part c ≡ true → c ≢ 32
-name_part_above_blank c h e =
+name_byte_above_blank : (c : ℕ) → is_name_byte c ≡ true → c ≢ 32
+name_byte_above_blank c h e =
     elim (or_cases _ _ h) [
       | inl alphanumeric ↦ elim (or_cases _ _ alphanumeric) [
         | inl front ↦ elim (or_cases _ _ front) [
@@ -92,7 +91,7 @@ pub Lacks-name : (name : List ℕ) → is_name name ≡ true → Lacks 32 name
 Lacks-name [] h = absurd (false≢true h)
 Lacks-name (c ∷ cs) h =
     let front = and_parts _ _ (and_parts _ _ h).0 in
-    (alphabetic_above_blank c front.0, lacks_from_test 32 is_name_part name_part_above_blank cs front.1)
+    (alphabetic_above_blank c front.0, lacks_from_test 32 is_name_byte name_byte_above_blank cs front.1)
 
 pub Lacks-numeral : (text : List ℕ) → is_numeral text ≡ true → Lacks 32 text
 Lacks-numeral text h = lacks_from_test 32 is_ascii_digit digit_above_blank text (and_parts _ _ h).0
@@ -232,10 +231,10 @@ pub name_of-some : (field name : List ℕ) → name_of field ≡ Some name → (
 name_of-some field name h =
     let chosen = cond_some _ _ _ h in
     let P : List ℕ → Type 0 = λ n. IsName n in
-    (chosen.1, subst P chosen.1 ((is_name-Decides field).0 chosen.0))
+    (chosen.1, subst P chosen.1 chosen.0)
 
 pub name_of-named : (name : List ℕ) → IsName name → name_of name ≡ Some name
-name_of-named name named = rw ((is_name-Decides name).1 named) refl
+name_of-named name named = rw named refl
 
 -- ---- budgets
 
@@ -351,7 +350,7 @@ pub app_line_of-spelled : (format : Format) (line name : List ℕ) (rect : Rect)
 unfolding app_line_of
 app_line_of-spelled format line name rect budget is =
     let values = is.values in
-    let named : is_name name ≡ true = (is_name-Decides name).1 values.named in
+    let named : is_name name ≡ true = values.named in
     ap (app_line_of format) is.spelling
     ∙ rw (
       cut_at-append 32 name (decimal rect.x ++ 32 ∷ (decimal rect.y ++ 32 ∷ (decimal rect.width ++ 32 ∷ (decimal rect.height ++ 32 ∷ is.steps)))) (Lacks-name name named),

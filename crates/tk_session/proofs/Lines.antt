@@ -12,7 +12,8 @@ use Rattle.std.proofs.lemmas.Fmt.{IsAscii-from_digits}
 use Rattle.std.proofs.lemmas.Bool.{false≢true, eq-eqb, ne_eqb, eqb-true, and_parts, lt-leb, leb-true, or_cases}
 use Rattle.std.proofs.Math.Bool.{and-false}
 use Rattle.memchr.specs.Find.{IsFirstByte, is_byte}
-use Rattle.tk_session.specs.Reading.{is_name, is_name_part, cut_at, is_numeral, has_plain_front, number_of}
+use Rattle.tk_route.specs.Names.{is_name, is_name_byte}
+use Rattle.tk_session.specs.Reading.{cut_at, is_numeral, has_plain_front, number_of}
 
 pub cut_at-none : (byte : ℕ) (text : List ℕ) → ((k : ℕ) → k < length text → get_or text k 0 ≢ byte) → cut_at byte text ≡ None
 cut_at-none byte [] away = refl
@@ -77,8 +78,8 @@ ascii_alphabetic c h =
       | inr lower ↦ omega (arith, below_range 97 122 c lower)
     ]
 
-ascii_name_part : (c : ℕ) → is_name_part c ≡ true → c < 128
-ascii_name_part c h =
+ascii_name_byte : (c : ℕ) → is_name_byte c ≡ true → c < 128
+ascii_name_byte c h =
     elim (or_cases _ _ h) [
       | inl alphanumeric ↦ elim (or_cases _ _ alphanumeric) [
         | inl front ↦ elim (or_cases _ _ front) [
@@ -90,10 +91,10 @@ ascii_name_part c h =
       | inr underscore ↦ omega (arith, eqb-true c 95 underscore)
     ]
 
-pub IsAscii-name_parts : (text : List ℕ) → list_all is_name_part text ≡ true → IsAscii text
-IsAscii-name_parts [] h i = omega arith
-IsAscii-name_parts (c ∷ cs) h zero = ascii_name_part c (and_parts _ _ h).0
-IsAscii-name_parts (c ∷ cs) h (suc i) = IsAscii-name_parts cs (and_parts _ _ h).1 i
+pub IsAscii-name_bytes : (text : List ℕ) → list_all is_name_byte text ≡ true → IsAscii text
+IsAscii-name_bytes [] h i = omega arith
+IsAscii-name_bytes (c ∷ cs) h zero = ascii_name_byte c (and_parts _ _ h).0
+IsAscii-name_bytes (c ∷ cs) h (suc i) = IsAscii-name_bytes cs (and_parts _ _ h).1 i
 
 ascii_cons : (c : ℕ) (cs : List ℕ) → c < 128 → IsAscii cs → IsAscii (c ∷ cs)
 ascii_cons c cs first others zero = first
@@ -103,7 +104,7 @@ pub IsAscii-name : (name : List ℕ) → is_name name ≡ true → IsAscii name
 IsAscii-name [] h = absurd (false≢true h)
 IsAscii-name (c ∷ cs) h =
     let front = and_parts _ _ (and_parts _ _ h).0 in
-    ascii_cons c cs (ascii_alphabetic c front.0) (IsAscii-name_parts cs front.1)
+    ascii_cons c cs (ascii_alphabetic c front.0) (IsAscii-name_bytes cs front.1)
 
 pub IsUtf8-name : (name : List ℕ) → is_name name ≡ true → IsUtf8 name
 IsUtf8-name name h = IsUtf8-from_ascii name (IsAscii-name name h)

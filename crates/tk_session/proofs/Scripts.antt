@@ -5,7 +5,7 @@ use Rattle.std.specs.Str.{IsUtf8, is_utf8}
 use Rattle.std.proofs.lemmas.Str.{is_utf8-from_IsUtf8, IsUtf8-from_is_utf8}
 use Rattle.std.proofs.lemmas.Bool.{le-leb, leb-true, and_parts, and_from, cond-false, false_from_ne_true}
 use Rattle.tk_session.specs.declared.session.AppBlock.{AppBlock}
-use Rattle.tk_session.specs.declared.fault.LineFault.TheVariants.{BadLine}
+use Rattle.tk_route.specs.declared.fault.LineFault.TheVariants.{BadLine}
 use Rattle.tk_session.specs.declared.session.Head.{Head}
 use Rattle.tk_session.specs.declared.stage.Format.{Format}
 use Rattle.tk_session.specs.Session.{IsScript}

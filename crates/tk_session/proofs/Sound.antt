@@ -10,8 +10,8 @@ use Rattle.std.proofs.lemmas.Option.{none-some}
 use Rattle.std.proofs.lemmas.Slice.Eq.{bytes_eq-Decides}
 use Rattle.tk_base.specs.declared.rect.Rect.{Rect}
 use Rattle.tk_alias.specs.declared.service.ServiceKind.{ServiceKind}
-use Rattle.tk_session.specs.declared.fault.LineFault.{LineFault}
-use Rattle.tk_session.specs.declared.fault.LineFault.TheVariants.{TimeBack}
+use Rattle.tk_route.specs.declared.fault.LineFault.{LineFault}
+use Rattle.tk_route.specs.declared.fault.LineFault.TheVariants.{TimeBack}
 use Rattle.tk_session.specs.declared.fault.SessionFault.{SessionFault}
 use Rattle.tk_session.specs.declared.fault.SessionFault.TheVariants as refusals
 use Rattle.tk_session.specs.declared.session.AliasLine.{AliasLine}
@@ -355,16 +355,16 @@ IsAnswer-from_reads bytes (Err (refusals.Refused fault line)) reads =
     subst P reads (run-tells_all (lines_of bytes))
 IsAnswer-from_reads bytes (Err refusals.NoMemory) reads = tt
 
-abbrev Told : Type 0
+abbrev pub Told : Type 0
 Told = Result Plan (LineFault × ℕ)
 
-ok_is_err : (plan : Plan) (fault : LineFault × ℕ) → (let told : Told = Ok plan in told ≡ Err fault) → ⊥
+pub ok_is_err : (plan : Plan) (fault : LineFault × ℕ) → (let told : Told = Ok plan in told ≡ Err fault) → ⊥
 ok_is_err plan fault same = cc
 
-same_plan : (a b : Plan) → (let told : Told = Ok a in told ≡ Ok b) → a ≡ b
+pub same_plan : (a b : Plan) → (let told : Told = Ok a in told ≡ Ok b) → a ≡ b
 same_plan a b same = cc
 
-same_fault : (a b : LineFault × ℕ) → (let told : Told = Err a in told ≡ Err b) → a ≡ b
+pub same_fault : (a b : LineFault × ℕ) → (let told : Told = Err a in told ≡ Err b) → a ≡ b
 same_fault a b same = cc
 
 -- a session is found, unless memory was refused

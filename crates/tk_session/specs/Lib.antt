@@ -1,5 +1,5 @@
 -- What the contracts cite.
-pub mod Fault
 pub mod Names
 pub mod Session
 pub mod Reading
+pub mod Writing

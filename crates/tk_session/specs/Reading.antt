@@ -1,23 +1,26 @@
--- How a session is read, line by line. What a session is stands in `Session`.
+-- Steps. How a session is read, line by line: what the private contracts cite. What a session is stands in `Session`.
 use Rattle.std.specs.Prelude.{◌≡◌, ℕ, ◌+◌, ◌-◌, Bool, true, false, ◌&&◌, ◌||◌, ◌==◌, nat_le, nat_lt, min, max, if◌then◌else◌, List, [], ◌∷◌, ◌++◌, length, map, codes, Option, Some, None, option_map, Result, Ok, Err, not}
 use Rattle.std.specs.List.{list_any, list_all}
 use Rattle.std.specs.Str.{is_utf8, bytes_eq}
-use Rattle.std.specs.Char.{is_ascii_digit, is_ascii_alphabetic, is_ascii_alphanumeric}
+use Rattle.std.specs.Char.{is_ascii_digit}
 use Rattle.std.specs.Str.Parse.{digits_value}
 use Rattle.tk_base.specs.Rect.{last_place, most_pixels}
 use Rattle.tk_base.specs.declared.rect.Rect.{Rect}
 use Rattle.tk_keys.specs.Names.{key_named}
 use Rattle.tk_route.specs.Lines.{rects_by}
-use Rattle.tk_route.specs.Screen.{shares_with_another}
+use Rattle.tk_route.specs.Limits.{most_applications, most_steps}
+use Rattle.tk_route.specs.Names.{is_name}
+use Rattle.tk_route.specs.Refusals.{covers, names_nobody}
+use Rattle.tk_route.specs.Screen.{shares_pixel}
 use Rattle.tk_route.specs.declared.line.HostLine.{HostLine}
 use Rattle.tk_route.specs.declared.line.HostLine.TheVariants.{Move, Press, Release, Keydown, Keyup, Focus, Rect as Placed}
 use Rattle.tk_alias.specs.declared.service.ServiceKind.{ServiceKind}
 use Rattle.tk_alias.specs.declared.service.ServiceKind.TheVariants.{Const, Upper, Table, Sum, Fail}
-use Rattle.tk_session.specs.declared.fault.LineError.{LineError}
-use Rattle.tk_session.specs.declared.fault.LineError.TheVariants.{Faulty, NoMemory}
-use Rattle.tk_session.specs.declared.fault.LineFault.{LineFault}
-use Rattle.tk_session.specs.declared.fault.LineFault.TheVariants.{BadLine, TooManyApps, NameTaken, TimeBack, NoApp, RectOverlap}
-use Rattle.tk_session.specs.declared.fault.LineFault.TheVariants as faults
+use Rattle.tk_route.specs.declared.fault.HostFault.{HostFault}
+use Rattle.tk_route.specs.declared.fault.HostFault.TheVariants.{Refused, NoMemory}
+use Rattle.tk_route.specs.declared.fault.LineFault.{LineFault}
+use Rattle.tk_route.specs.declared.fault.LineFault.TheVariants.{BadLine, TooManyApps, NameTaken, TimeBack, NoApp, RectOverlap}
+use Rattle.tk_route.specs.declared.fault.LineFault.TheVariants as faults
 use Rattle.tk_session.specs.declared.fault.SessionFault.{SessionFault}
 use Rattle.tk_session.specs.declared.fault.SessionFault.TheVariants as refusals
 use Rattle.tk_session.specs.declared.screen.Screen.{Screen}
@@ -30,7 +33,8 @@ use Rattle.tk_session.specs.declared.stage.Format.{Format}
 use Rattle.tk_session.specs.declared.stage.Format.TheVariants.{First, Second}
 use Rattle.tk_session.specs.declared.stage.Stage.{Stage}
 use Rattle.tk_session.specs.declared.stage.Stage.TheVariants as stages
-use Rattle.tk_session.specs.Names.{is_command_name, slot_of}
+use Rattle.tk_alias.specs.Names.{is_command_name, most_aliases}
+use Rattle.tk_session.specs.Names.{slot_of}
 use Rattle.tk_session.specs.Session.{heading, events, most_lines, Plan, rects_of}
 use Rattle.tcl_text.specs.Limits.{most_bytes}
 use Rattle.tk_base.specs.Limits.{last_moment}
@@ -85,14 +89,6 @@ rect_of text = do
   height ← number_of 1 most_pixels width.1
   Some (record { x = x.0; y = y.0; width = width.0; height = height })
 
-abbrev pub is_name_part : ℕ → Bool
-is_name_part c = is_ascii_alphanumeric c || c == 95
-
--- a letter, and then letters, digits and underscores, 32 in all at most
-abbrev pub is_name : List ℕ → Bool
-is_name [] = false
-is_name (c ∷ cs) = is_ascii_alphabetic c && list_all is_name_part cs && nat_lt (length cs) 32
-
 abbrev pub name_of : List ℕ → Option (List ℕ)
 name_of field = if is_name field then Some field else None
 
@@ -109,12 +105,12 @@ abbrev pub fixed_budget : ℕ → Budget
 fixed_budget total = record { total = total; refill = 0 }
 
 abbrev pub fixed_of : List ℕ → Option Budget
-fixed_of field = option_map fixed_budget (number_of 0 10000000 field)
+fixed_of field = option_map fixed_budget (number_of 0 most_steps field)
 
 abbrev pub refilled_of : List ℕ × List ℕ → Option Budget
 refilled_of parts = do
-  total ← number_of 0 10000000 parts.0
-  refill ← number_of 0 10000000 parts.1
+  total ← number_of 0 most_steps parts.0
+  refill ← number_of 0 most_steps parts.1
   Some (record { total = total; refill = refill })
 
 -- the budget of a field that was cut at its slash, if it has one
@@ -238,23 +234,16 @@ end_line_of line = do
   moment ← number_of 0 last_moment parts.0
   if bytes_eq parts.1 (codes "end") then Some moment else None
 
--- some place lies in both spans
-abbrev pub meet : ℕ → ℕ → ℕ → ℕ → Bool
-meet start len other_start other_len = nat_lt (max start other_start) (min (start + len) (other_start + other_len))
-
-abbrev pub overlap : Rect → Rect → Bool
-overlap a b = meet a.x a.width b.x b.width && meet a.y a.height b.y b.height
-
 abbrev pub is_taken : List ℕ → List AppBlock → Bool
 is_taken name apps = list_any (λ app. bytes_eq app.name name) apps
 
 abbrev pub is_covered : Rect → List AppBlock → Bool
-is_covered rect apps = list_any (λ app. overlap app.rect rect) apps
+is_covered rect apps = list_any (λ app. shares_pixel app.rect rect) apps
 
 -- what keeps an application from coming after apps
 abbrev pub hindrance : List AppBlock → List ℕ → Rect → Option LineFault
 hindrance apps name rect =
-    if nat_le 16 (length apps) then Some TooManyApps else
+    if nat_le most_applications (length apps) then Some TooManyApps else
     if is_taken name apps then Some NameTaken else
     if is_covered rect apps then Some faults.Overlap else None
 
@@ -265,18 +254,9 @@ is_served name aliases = list_any (λ alias. bytes_eq alias.name name) aliases
 
 -- what keeps an alias from coming after aliases
 abbrev pub alias_hindrance : List AliasLine → List ℕ → Option LineFault
-alias_hindrance aliases name = if nat_le 64 (length aliases) then Some BadLine else (if is_served name aliases then Some NameTaken else None)
+alias_hindrance aliases name = if nat_le most_aliases (length aliases) then Some BadLine else (if is_served name aliases then Some NameTaken else None)
 
 -- ---- events beside events
-
-abbrev pub names_nobody : List Rect → HostLine → Bool
-names_nobody rects (Focus (Some slot)) = nat_le (length rects) slot
-names_nobody rects (Placed slot rect) = nat_le (length rects) slot
-names_nobody rects line = false
-
-abbrev pub covers : List Rect → HostLine → Bool
-covers rects (Placed slot rect) = shares_with_another rects slot rect
-covers rects line = false
 
 -- what keeps an event from coming after those that led to a moment and to these rectangles
 abbrev pub event_hindrance : Screen → EventLine → Option LineFault
@@ -380,10 +360,10 @@ step (stages.Event format apps screen told) line = event_step format apps screen
 step (stages.Whole apps told end) line = Err BadLine
 
 -- what a step returned is what the definition tells, unless memory was refused
-abbrev pub StepGives : Result Stage LineError → Result Stage LineFault → Type 0
+abbrev pub StepGives : Result Stage HostFault → Result Stage LineFault → Type 0
 StepGives (Ok stage) told = told ≡ Ok stage
 StepGives (Err NoMemory) told = Unit {0}
-StepGives (Err (Faulty fault)) told = told ≡ Err fault
+StepGives (Err (Refused fault)) told = told ≡ Err fault
 
 -- the end of the text at a stage, as the line of this number
 abbrev pub finished : Stage → ℕ → Result Plan (LineFault × ℕ)

@@ -1,4 +1,4 @@
--- Sessions of both formats: the text of each, and the first faulty line of a text that is none.
+-- Meaning. Sessions of both formats: the text of each, and the first faulty line of a text that is none.
 use Rattle.std.specs.Prelude.{◌≡◌, ◌≢◌, ℕ, ◌+◌, ◌<◌, ◌≤◌, ◌==◌, true, if◌then◌else◌, List, [], ◌∷◌, ◌++◌, length, map, reverse, codes, ◌⊎◌, Option, Some, None, Result, Ok, Err}
 use Rattle.std.specs.List.{AllByRecursion, join_with_byte, onto_first}
 use Rattle.std.specs.Fmt.{decimal}
@@ -8,10 +8,12 @@ use Rattle.tk_base.specs.declared.rect.Rect.{Rect}
 use Rattle.tk_keys.specs.Names.{key_named}
 use Rattle.tk_route.specs.Lines.{Line, at, moment_after, rects_after}
 use Rattle.tk_route.specs.Refusals.{Covers, IsInRange as IsLineInRange, NamesNobody}
-use Rattle.tk_route.specs.Screen.{IsOnScreen}
 use Rattle.tk_route.specs.declared.line.HostLine.{HostLine}
 use Rattle.tk_route.specs.declared.line.HostLine.TheVariants.{Move, Press, Release, Keydown, Keyup, Focus, Rect as Placed}
-use Rattle.tk_session.specs.Names.{IsName, is_command_name, kind_word, slot_of}
+use Rattle.tk_alias.specs.Names.{is_command_name, most_aliases}
+use Rattle.tk_route.specs.Limits.{most_applications}
+use Rattle.tk_route.specs.Names.{IsAppInRange, IsName}
+use Rattle.tk_session.specs.Names.{kind_word, slot_of}
 use Rattle.tk_session.specs.declared.session.AliasLine.{AliasLine}
 use Rattle.tk_session.specs.declared.session.AppBlock.{AppBlock}
 use Rattle.tk_base.specs.declared.budget.Budget.{Budget}
@@ -19,9 +21,9 @@ use Rattle.tk_session.specs.declared.session.EventLine.{EventLine}
 use Rattle.tk_session.specs.declared.session.Head.{Head}
 use Rattle.tk_session.specs.declared.stage.Format.{Format}
 use Rattle.tk_session.specs.declared.stage.Format.TheVariants.{First, Second}
-use Rattle.tk_session.specs.declared.fault.LineFault.{LineFault}
-use Rattle.tk_session.specs.declared.fault.LineFault.TheVariants.{BadLine, TooManyApps, NameTaken, TimeBack, NoApp, RectOverlap}
-use Rattle.tk_session.specs.declared.fault.LineFault.TheVariants as faults
+use Rattle.tk_route.specs.declared.fault.LineFault.{LineFault}
+use Rattle.tk_route.specs.declared.fault.LineFault.TheVariants.{BadLine, TooManyApps, NameTaken, TimeBack, NoApp, RectOverlap}
+use Rattle.tk_route.specs.declared.fault.LineFault.TheVariants as faults
 use Rattle.tk_session.specs.declared.fault.SessionFault.{SessionFault}
 use Rattle.tk_session.specs.declared.fault.SessionFault.TheVariants.{Refused, NoMemory}
 use Rattle.tcl_text.specs.Limits.{most_bytes}
@@ -55,19 +57,12 @@ abbrev pub SpellsBudget : Format → List ℕ → Budget → Type 0
 SpellsBudget First field budget = (field ≡ decimal budget.total) × (budget.refill ≡ 0)
 SpellsBudget Second field budget = (field ≡ decimal budget.total) × (budget.refill ≡ 0) ⊎ (field ≡ decimal budget.total ++ (47 ∷ decimal budget.refill))
 
--- the ranges of an application's first line
-pub record IsInRange (name : List ℕ) (rect : Rect) (budget : Budget) : Type 0 where
-  pub named : IsName name
-  pub placed : IsOnScreen rect
-  pub total_fits : budget.total ≤ 10000000
-  pub refill_fits : budget.refill ≤ 10000000
-
 -- `app NAME X Y WIDTH HEIGHT BUDGET`
 pub record IsAppLine (format : Format) (line name : List ℕ) (rect : Rect) (budget : Budget) : Type 0 where
   pub steps : List ℕ
   pub spelling : line ≡ spelled (codes "app" ∷ name ∷ decimal rect.x ∷ decimal rect.y ∷ decimal rect.width ∷ decimal rect.height ∷ steps ∷ [])
   pub spells : SpellsBudget format steps budget
-  pub values : IsInRange name rect budget
+  pub values : IsAppInRange name rect budget
 
 -- `alias NAME KIND CONFIGURATION`; where the configuration is empty the blank before it may be missing
 abbrev pub SpellsAlias : List ℕ → AliasLine → Type 0
@@ -114,13 +109,13 @@ IsServed name (alias ∷ aliases) = (alias.name ≡ name) ⊎ IsServed name alia
 
 -- what keeps an alias of this name from coming after aliases, the first in this order
 abbrev pub HindersAlias : LineFault → List AliasLine → List ℕ → Type 0
-HindersAlias BadLine aliases name = 64 ≤ length aliases
-HindersAlias NameTaken aliases name = (length aliases < 64) × IsServed name aliases
+HindersAlias BadLine aliases name = most_aliases ≤ length aliases
+HindersAlias NameTaken aliases name = (length aliases < most_aliases) × IsServed name aliases
 HindersAlias fault aliases name = ⊥
 
 -- an alias of this name may come after aliases
 pub record MayJoin (aliases : List AliasLine) (name : List ℕ) : Type 0 where
-  pub room : length aliases < 64
+  pub room : length aliases < most_aliases
   pub new : ¬ IsServed name aliases
 
 -- the line says that this alias comes after those before
@@ -160,14 +155,14 @@ IsCovered rect (app ∷ apps) = SharePixel app.rect rect ⊎ IsCovered rect apps
 
 -- what keeps an application with this name and rectangle from coming after apps, the first in this order
 abbrev pub Hinders : LineFault → List AppBlock → List ℕ → Rect → Type 0
-Hinders TooManyApps apps name rect = 16 ≤ length apps
-Hinders NameTaken apps name rect = (length apps < 16) × IsTaken name apps
-Hinders faults.Overlap apps name rect = (length apps < 16) × ¬ IsTaken name apps × IsCovered rect apps
+Hinders TooManyApps apps name rect = most_applications ≤ length apps
+Hinders NameTaken apps name rect = (length apps < most_applications) × IsTaken name apps
+Hinders faults.Overlap apps name rect = (length apps < most_applications) × ¬ IsTaken name apps × IsCovered rect apps
 Hinders fault apps name rect = ⊥
 
 -- an application with this name and rectangle may come after apps
 pub record MayFollow (apps : List AppBlock) (name : List ℕ) (rect : Rect) : Type 0 where
-  pub room : length apps < 16
+  pub room : length apps < most_applications
   pub new : ¬ IsTaken name apps
   pub apart : ¬ IsCovered rect apps
 
@@ -319,7 +314,7 @@ MayServe before (alias ∷ aliases) = IsAliasInRange alias × MayJoin before ali
 abbrev pub AreAllowed : List AppBlock → List AppBlock → Type 0
 AreAllowed before [] = Unit {0}
 AreAllowed before (app ∷ apps) =
-    IsInRange app.name app.rect app.budget × MayServe [] app.aliases × MayFollow before app.name app.rect × AreAllowed (before ++ app ∷ []) apps
+    IsAppInRange app.name app.rect app.budget × MayServe [] app.aliases × MayFollow before app.name app.rect × AreAllowed (before ++ app ∷ []) apps
 
 -- the events may come one after another behind those before
 abbrev pub MayHappen : List AppBlock → List EventLine → List EventLine → Type 0

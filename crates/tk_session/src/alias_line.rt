@@ -1,16 +1,12 @@
 //! What the line of an alias says.
 ghost use Rattle.std.specs.Prelude.{◌≡◌, ◌≤◌, length, option_map, IfSome};
-ghost use Rattle.std.specs.List.{list_all};
-ghost use Rattle.tk_session.specs.Names.{begins_apart, is_command_name, is_printing};
 ghost use Rattle.tk_session.specs.Reading.{alias_line_of, command_name_of, config_of, cut_service, service_kind, service_of};
 ghost use Rattle.tcl_text.specs.Limits.{most_bytes};
+ghost use Rattle.tk_alias.specs.Names.{most_command_name};
 
 use crate::line::{as_text, cut, fields_behind, utf8};
 use tcl_text::MAX_BYTES;
-use tk_alias::ServiceKind;
-
-/// How many bytes the name of a command has at most.
-const MAX_NAME: usize = 64;
+use tk_alias::{ServiceKind, is_command_name};
 
 /// How many bytes a configuration has at most, as any text.
 const MAX_CONFIG: usize = MAX_BYTES;
@@ -23,37 +19,8 @@ pub(crate) struct AliasFields<'a> {
     pub config: &'a str,
 }
 
-fn is_printing(byte: u8) -> bool
-    ensures { result ≡ is_printing byte }
-{
-    33 <= byte && byte <= 126
-}
-
-fn are_printing(text: &[u8]) -> bool
-    ensures { result ≡ list_all is_printing text.now }
-{
-    text.iter().all(|byte| is_printing(*byte))
-}
-
-/// Whether a text begins as the path of a window or the name of a namespace.
-fn begins_apart(text: &[u8]) -> bool
-    ensures { result ≡ begins_apart text.now }
-{
-    match text {
-        [] => false,
-        [only] => *only == b'.',
-        [first, second, ..] => *first == b'.' || (*first == b':' && *second == b':'),
-    }
-}
-
-fn is_command_name(text: &[u8]) -> bool
-    ensures { result ≡ is_command_name text.now }
-{
-    1 <= text.len() && text.len() <= MAX_NAME && are_printing(text) && !begins_apart(text)
-}
-
 fn command_name(field: &[u8]) -> Option<&str>
-    ensures short { IfSome result (λ name. length name.now ≤ 64) }
+    ensures short { IfSome result (λ name. length name.now ≤ most_command_name) }
     ensures name { option_map (λ name. name.now) result ≡ command_name_of field.now }
 {
     if !is_command_name(field) {
@@ -111,7 +78,7 @@ fn service(text: &[u8]) -> Option<(ServiceKind, &str)>
 /// Reads `alias NAME KIND CONFIGURATION`.
 #[tactic(auto, unfolding(crate::specs::Reading::alias_line_of))]
 pub(crate) fn alias_line(line: &[u8]) -> Option<AliasFields<'_>>
-    ensures name_fits { IfSome result (λ alias. length alias.name.now ≤ 64) }
+    ensures name_fits { IfSome result (λ alias. length alias.name.now ≤ most_command_name) }
     ensures config_fits { IfSome result (λ alias. length alias.config.now ≤ most_bytes) }
     ensures alias { option_map (λ alias. (alias.name.now, alias.kind, alias.config.now)) result ≡ alias_line_of line.now }
 {

@@ -6,12 +6,12 @@ ghost use Rattle.tk_session.specs.Reading.{app_of, button_of, event_line_of, eve
 use crate::line::{cut, last_rect, leading_number, name, number, utf8};
 use crate::session::{AppBlock, EventLine};
 use crate::stage::Format;
-use tk_base::MAX_MOMENT;
+use tk_base::{MAX_MOMENT, MAX_PLACE};
 use tk_keys::Keysym;
 use tk_route::HostLine;
 
 /// The largest coordinate of the pointer.
-const MAX_POINT: u64 = 65_535;
+const MAX_POINT: u64 = MAX_PLACE as u64;
 
 /// The place of the application of this name.
 fn place_of(name: &str, apps: &[AppBlock]) -> Option<usize>

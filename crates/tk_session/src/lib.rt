@@ -4,6 +4,7 @@
 mod alias_line;
 mod event_line;
 mod fault;
+mod laws;
 mod line;
 mod listing;
 mod reading;
@@ -11,11 +12,14 @@ mod screen;
 mod script;
 mod session;
 mod stage;
+mod writing;
 
-pub use fault::{LineFault, SessionFault};
+pub use fault::SessionFault;
+pub use laws::{never_both, one_fault, one_session, session_or_fault};
 pub use listing::Listing;
 pub use reading::read_session;
 pub use session::{AliasLine, AppBlock, EventLine, Session};
 pub use tk_alias::{Service, ServiceKind};
 pub use tk_base::Rect;
-pub use tk_route::HostLine;
+pub use tk_route::{HostLine, LineFault};
+pub use writing::{WritingFault, write_session};

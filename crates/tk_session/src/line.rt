@@ -4,21 +4,20 @@ ghost use Rattle.std.specs.Prelude.{◌≡◌, ◌≤◌, length, option_map, If
 ghost use Rattle.std.specs.List.{list_all};
 ghost use Rattle.std.specs.Char.{is_ascii_digit};
 ghost use Rattle.std.specs.Str.{IsUtf8};
-ghost use Rattle.tk_session.specs.Reading.{cut_at, behind, has_plain_front, is_name, is_name_part, is_numeral, number_of, number_field, rect_field, rect_of, name_of, utf8_of, fixed_of, refilled_of, budget_of, app_line_of, script_line_of, end_line_of};
+ghost use Rattle.tk_route.specs.Limits.{most_name};
+ghost use Rattle.tk_session.specs.Reading.{cut_at, behind, has_plain_front, is_numeral, number_of, number_field, rect_field, rect_of, name_of, utf8_of, fixed_of, refilled_of, budget_of, app_line_of, script_line_of, end_line_of};
 
 use crate::stage::Format;
 use memchr::memchr;
-use tk_base::{Budget, MAX_MOMENT, Rect};
+use tcl_text::MAX_BYTES;
+use tk_base::{Budget, MAX_MOMENT, MAX_PIXELS, Rect};
+use tk_route::{MAX_BUDGET, is_name};
 
 /// The largest coordinate, width and height of a rectangle.
-const MAX_PIXELS: u64 = 32_767;
+const MAX_SIDE: u64 = MAX_PIXELS as u64;
 
-const MAX_BUDGET: u64 = 10_000_000;
-
-const MAX_SCRIPT_LINES: u64 = 65_537;
-
-/// How many bytes a name has at most.
-const MAX_NAME: usize = 32;
+/// As many lines of a script may be empty, with an LF between neighbours.
+const MAX_SCRIPT_LINES: u64 = MAX_BYTES as u64 + 1;
 
 /// The values of an `app` line.
 #[derive(Drop)]
@@ -110,10 +109,10 @@ pub(crate) fn leading_number(text: &[u8], least: u64, most: u64) -> Option<(u64,
 fn leading_rect(text: &[u8]) -> Option<(Rect, &[u8])>
     ensures { option_map (λ parts. (parts.0, parts.1.now)) result ≡ rect_field text.now }
 {
-    let (x, rest) = leading_number(text, 0, MAX_PIXELS)?;
-    let (y, rest) = leading_number(rest, 0, MAX_PIXELS)?;
-    let (width, rest) = leading_number(rest, 1, MAX_PIXELS)?;
-    let (height, rest) = leading_number(rest, 1, MAX_PIXELS)?;
+    let (x, rest) = leading_number(text, 0, MAX_SIDE)?;
+    let (y, rest) = leading_number(rest, 0, MAX_SIDE)?;
+    let (width, rest) = leading_number(rest, 1, MAX_SIDE)?;
+    let (height, rest) = leading_number(rest, 1, MAX_SIDE)?;
     let rect = Rect {
         x: x as u32,
         y: y as u32,
@@ -128,10 +127,10 @@ fn leading_rect(text: &[u8]) -> Option<(Rect, &[u8])>
 pub(crate) fn last_rect(text: &[u8]) -> Option<Rect>
     ensures { result ≡ rect_of text.now }
 {
-    let (x, rest) = leading_number(text, 0, MAX_PIXELS)?;
-    let (y, rest) = leading_number(rest, 0, MAX_PIXELS)?;
-    let (width, rest) = leading_number(rest, 1, MAX_PIXELS)?;
-    let height = number(rest, 1, MAX_PIXELS)?;
+    let (x, rest) = leading_number(text, 0, MAX_SIDE)?;
+    let (y, rest) = leading_number(rest, 0, MAX_SIDE)?;
+    let (width, rest) = leading_number(rest, 1, MAX_SIDE)?;
+    let height = number(rest, 1, MAX_SIDE)?;
     Some(Rect {
         x: x as u32,
         y: y as u32,
@@ -140,32 +139,8 @@ pub(crate) fn last_rect(text: &[u8]) -> Option<Rect>
     })
 }
 
-fn is_name_part(byte: u8) -> bool
-    ensures { result ≡ is_name_part byte }
-{
-    byte.is_ascii_alphanumeric() || byte == b'_'
-}
-
-fn are_name_parts(text: &[u8]) -> bool
-    ensures { result ≡ list_all is_name_part text.now }
-{
-    text.iter().all(|byte| is_name_part(*byte))
-}
-
-/// Whether a text is a letter, then letters, digits and underscores, all ASCII, 32 in all at most.
-fn is_name(text: &[u8]) -> bool
-    ensures { result ≡ is_name text.now }
-{
-    match text {
-        [first, rest @ ..] => {
-            first.is_ascii_alphabetic() && are_name_parts(rest) && rest.len() < MAX_NAME
-        }
-        [] => false,
-    }
-}
-
 pub(crate) fn name(field: &[u8]) -> Option<&str>
-    ensures short { IfSome result (λ name. length name.now ≤ 32) }
+    ensures short { IfSome result (λ name. length name.now ≤ most_name) }
     ensures name { option_map (λ name. name.now) result ≡ name_of field.now }
 {
     if !is_name(field) {
@@ -206,7 +181,7 @@ fn budget(format: Format, field: &[u8]) -> Option<Budget>
 /// Reads `app NAME X Y WIDTH HEIGHT BUDGET`.
 #[tactic(auto, unfolding(crate::specs::Reading::app_line_of))]
 pub(crate) fn app_line(format: Format, line: &[u8]) -> Option<AppLine<'_>>
-    ensures short { IfSome result (λ app. length app.name.now ≤ 32) }
+    ensures short { IfSome result (λ app. length app.name.now ≤ most_name) }
     ensures app { option_map (λ app. (app.name.now, app.rect, app.budget)) result ≡ app_line_of format line.now }
 {
     let fields = fields_behind(b"app", line)?;

@@ -1,14 +1,15 @@
 ghost use Rattle.std.specs.Prelude.{◌≡◌, ℕ, ◌<◌, ◌∷◌, ◌⊎◌, length};
-ghost use Rattle.tk_session.specs.declared.fault.LineFault.{LineFault};
+ghost use Rattle.tk_route.specs.declared.fault.LineFault.{LineFault};
 ghost use Rattle.tk_session.specs.Session.{lines_of, Plan, IsSession, HasFault, IsAnswer};
 ghost use Rattle.tk_session.specs.Reading.{Reads, finished, run};
 
-use crate::fault::{LineError, LineFault, SessionFault};
+use crate::fault::SessionFault;
 use crate::line::cut;
 use crate::listing::Listing;
 use crate::session::{AppBlock, EventLine, Session};
 use crate::stage::Stage;
 use std::alloc::Global;
+use tk_route::{HostFault, LineFault};
 
 /// The applications of a session, what happens, and the moment of the end.
 type Parts = (Listing<AppBlock>, Listing<EventLine>, u64);
@@ -50,13 +51,13 @@ fn read_lines(alloc: Global, bytes: &[u8]) -> Result<Parts, SessionFault>
         number += 1;
         stage = match stage.step(alloc, line) {
             Ok(next) => next,
-            Err(LineError::Faulty(fault)) => {
+            Err(HostFault::Refused(fault)) => {
                 return Err(SessionFault::Refused {
                     fault,
                     line: number,
                 });
             }
-            Err(LineError::NoMemory) => return Err(SessionFault::NoMemory),
+            Err(HostFault::NoMemory) => return Err(SessionFault::NoMemory),
         };
     }
     finish(stage, number + 1)

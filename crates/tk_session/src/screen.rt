@@ -1,15 +1,14 @@
 //! What the events so far have made of the moment and of the screen.
 ghost use Rattle.std.specs.Prelude.{◌≡◌, ◌∷◌, ◌++◌, IfOk, map, take};
 ghost use Rattle.tk_route.specs.Lines.{rects_by};
-ghost use Rattle.tk_session.specs.Reading.{covers, event_hindrance, moved, names_nobody};
+ghost use Rattle.tk_session.specs.Reading.{event_hindrance, moved};
 ghost use Rattle.tk_session.specs.Session.{rects_of};
 
-use crate::fault::LineFault;
 use crate::listing::Listing;
 use crate::session::{AppBlock, EventLine};
 use std::alloc::{AllocError, Global};
 use tk_base::Rect;
-use tk_route::{HostLine, shares_with_another};
+use tk_route::{HostLine, LineFault, test_beside};
 
 /// The moment reached, and the rectangles of the applications then, by slot.
 #[derive(Drop)]
@@ -29,26 +28,6 @@ fn rects_of(alloc: Global, apps: &[AppBlock]) -> Result<Listing<Rect>, AllocErro
     Ok(rects)
 }
 
-/// Whether a line names a slot that has no application.
-fn names_nobody(rects: &[Rect], line: &HostLine) -> bool
-    ensures { result ≡ names_nobody rects.now line.now }
-{
-    match *line {
-        HostLine::Focus(Some(slot)) | HostLine::Rect { slot, .. } => rects.len() <= slot,
-        _ => false,
-    }
-}
-
-/// Whether a line's rectangle shares a pixel with that of another application.
-fn covers(rects: &[Rect], line: &HostLine) -> bool
-    ensures { result ≡ covers rects.now line.now }
-{
-    match *line {
-        HostLine::Rect { slot, rect } => shares_with_another(rects, slot, rect),
-        _ => false,
-    }
-}
-
 impl Screen {
     /// The screen before the first event.
     pub(crate) fn new(alloc: Global, apps: &[AppBlock]) -> Result<Screen, AllocError>
@@ -62,14 +41,10 @@ impl Screen {
     pub(crate) fn hindrance_of(&self, event: &EventLine) -> Option<LineFault>
         ensures { result ≡ event_hindrance self.now event.now }
     {
-        if event.moment < self.moment {
-            Some(LineFault::TimeBack)
-        } else if names_nobody(self.rects.as_slice(), &event.line) {
-            Some(LineFault::NoApp)
-        } else if covers(self.rects.as_slice(), &event.line) {
-            Some(LineFault::RectOverlap)
-        } else {
-            None
+        let rects = self.rects.as_slice();
+        match test_beside(rects, self.moment, event.moment, &event.line) {
+            Ok(()) => None,
+            Err(fault) => Some(fault),
         }
     }
 

@@ -1,12 +1,12 @@
 //! The reading of a session, one line at a time.
 
 ghost use Rattle.std.specs.Prelude.{◌≡◌, ◌≤◌, length, IfOk, IfErr, Ok};
-ghost use Rattle.tk_session.specs.Reading.{StepGives, overlap, is_taken, is_covered, hindrance, is_served, alias_hindrance, alias_of, app_line_of, closed, count_step, end_line_of, event_hindrance, joined, script_line_of, heading_step, app_step, block_step, script_step, text_step, moment_step, event_admitted, event_step, step};
+ghost use Rattle.tk_session.specs.Reading.{StepGives, is_taken, is_covered, hindrance, is_served, alias_hindrance, alias_of, app_line_of, closed, count_step, end_line_of, event_hindrance, joined, script_line_of, heading_step, app_step, block_step, script_step, text_step, moment_step, event_admitted, event_step, step};
 ghost use Rattle.tcl_text.specs.Limits.{most_bytes};
+ghost use Rattle.tk_alias.specs.Names.{most_command_name};
 
 use crate::alias_line::{AliasFields, alias_line};
 use crate::event_line::event_line;
-use crate::fault::{LineError, LineFault};
 use crate::line::{app_line, end_line, script_line, utf8};
 use crate::listing::Listing;
 use crate::screen::Screen;
@@ -14,14 +14,9 @@ use crate::script::ScriptText;
 use crate::session::{AliasLine, AppBlock, EventLine, Head};
 use std::alloc::Global;
 use tcl_text::Text;
-use tk_alias::Service;
+use tk_alias::{MAX_ALIASES, Service};
 use tk_base::Rect;
-
-/// How many applications a session has at most.
-const MAX_APPS: usize = 16;
-
-/// How many aliases an application has at most.
-const MAX_ALIASES: usize = 64;
+use tk_route::{HostFault, LineFault, MAX_APPLICATIONS, shares_pixel};
 
 /// The formats of a session, by the number of its heading.
 #[derive(Clone, Copy, Debug, PartialEq, Eq)]
@@ -81,17 +76,11 @@ fn is_name_taken(name: &str, apps: &[AppBlock]) -> bool
     false
 }
 
-fn share_pixel(a: Rect, b: Rect) -> bool
-    ensures { result ≡ overlap a b }
-{
-    a.overlaps(b)
-}
-
 fn is_rect_covered(rect: Rect, apps: &[AppBlock]) -> bool
     ensures { result ≡ is_covered rect apps.now }
 {
     for app in apps {
-        if share_pixel(app.rect, rect) {
+        if shares_pixel(app.rect, rect) {
             return true;
         }
     }
@@ -102,7 +91,7 @@ fn is_rect_covered(rect: Rect, apps: &[AppBlock]) -> bool
 fn hindrance_of(apps: &[AppBlock], name: &str, rect: Rect) -> Option<LineFault>
     ensures { result ≡ hindrance apps.now name.now rect }
 {
-    if apps.len() >= MAX_APPS {
+    if apps.len() >= MAX_APPLICATIONS {
         Some(LineFault::TooManyApps)
     } else if is_name_taken(name, apps) {
         Some(LineFault::NameTaken)
@@ -137,7 +126,7 @@ fn alias_hindrance_of(aliases: &[AliasLine], name: &str) -> Option<LineFault>
     }
 }
 
-fn read_heading(alloc: Global, line: &[u8]) -> Result<Stage, LineError>
+fn read_heading(alloc: Global, line: &[u8]) -> Result<Stage, HostFault>
     ensures { StepGives result (heading_step line.now) }
 {
     let apps = Listing::new(alloc);
@@ -152,7 +141,7 @@ fn read_heading(alloc: Global, line: &[u8]) -> Result<Stage, LineError>
             apps,
         })
     } else {
-        Err(LineError::Faulty(LineFault::BadLine))
+        Err(HostFault::Refused(LineFault::BadLine))
     }
 }
 
@@ -161,7 +150,7 @@ fn read_block(
     format: Format,
     apps: Listing<AppBlock>,
     line: &[u8],
-) -> Result<Stage, LineError>
+) -> Result<Stage, HostFault>
     ensures { StepGives result (block_step format apps line.now) }
 {
     if line == b"events".as_slice() {
@@ -181,14 +170,14 @@ fn read_app(
     format: Format,
     apps: Listing<AppBlock>,
     line: &[u8],
-) -> Result<Stage, LineError>
+) -> Result<Stage, HostFault>
     ensures { StepGives result (app_step format apps (app_line_of format line.now)) }
 {
     let Some(app) = app_line(format, line) else {
-        return Err(LineError::Faulty(LineFault::BadLine));
+        return Err(HostFault::Refused(LineFault::BadLine));
     };
     if let Some(fault) = hindrance_of(apps.as_slice(), app.name, app.rect) {
-        return Err(LineError::Faulty(fault));
+        return Err(HostFault::Refused(fault));
     }
     let head = Head {
         name: Text::of_short(alloc, app.name)?,
@@ -205,7 +194,7 @@ fn close(
     mut apps: Listing<AppBlock>,
     head: Head,
     script: Text,
-) -> Result<Stage, LineError>
+) -> Result<Stage, HostFault>
     ensures { StepGives result (Ok (closed format apps head script)) }
 {
     let Head {
@@ -225,11 +214,11 @@ fn close(
 }
 
 /// The alias of these fields.
-fn alias_of(alloc: Global, fields: &AliasFields<'_>) -> Result<AliasLine, LineError>
-    requires name { length fields.now.name.now ≤ 64 }
+fn alias_of(alloc: Global, fields: &AliasFields<'_>) -> Result<AliasLine, HostFault>
+    requires name { length fields.now.name.now ≤ most_command_name }
     requires config { length fields.now.config.now ≤ most_bytes }
     ensures ok { IfOk result (λ alias. alias ≡ alias_of (fields.now.name.now, fields.now.kind, fields.now.config.now)) }
-    ensures err { IfErr result (λ error. error ≡ LineError.NoMemory) }
+    ensures err { IfErr result (λ error. error ≡ HostFault.NoMemory) }
 {
     let name = Text::of_short(alloc, fields.name)?;
     let config = Text::of_short(alloc, fields.config)?;
@@ -248,7 +237,7 @@ fn join(
     apps: Listing<AppBlock>,
     mut head: Head,
     alias: AliasLine,
-) -> Result<Stage, LineError>
+) -> Result<Stage, HostFault>
     ensures { StepGives result (Ok (Stage.Script format apps (joined head alias))) }
 {
     head.aliases.push(alias)?;
@@ -261,14 +250,14 @@ fn read_script_line(
     apps: Listing<AppBlock>,
     head: Head,
     line: &[u8],
-) -> Result<Stage, LineError>
+) -> Result<Stage, HostFault>
     ensures { StepGives result (script_step format apps head line.now) }
 {
     match alias_line(line) {
         None => read_count(alloc, format, apps, head, line),
         Some(fields) => {
             if let Some(fault) = alias_hindrance_of(head.aliases.as_slice(), fields.name) {
-                return Err(LineError::Faulty(fault));
+                return Err(HostFault::Refused(fault));
             }
             let alias = alias_of(alloc, &fields)?;
             join(format, apps, head, alias)
@@ -282,11 +271,11 @@ fn read_count(
     apps: Listing<AppBlock>,
     head: Head,
     line: &[u8],
-) -> Result<Stage, LineError>
+) -> Result<Stage, HostFault>
     ensures { StepGives result (count_step format apps head (script_line_of line.now)) }
 {
     match script_line(line) {
-        None => Err(LineError::Faulty(LineFault::BadLine)),
+        None => Err(HostFault::Refused(LineFault::BadLine)),
         Some(0) => close(format, apps, head, Text::empty()),
         Some(left) => Ok(Stage::Text {
             format,
@@ -307,14 +296,14 @@ fn read_text(
     left: u64,
     script: ScriptText,
     line: &[u8],
-) -> Result<Stage, LineError>
+) -> Result<Stage, HostFault>
     ensures { StepGives result (text_step format apps head left script line.now) }
 {
     let Some(text) = utf8(line) else {
-        return Err(LineError::Faulty(LineFault::BadLine));
+        return Err(HostFault::Refused(LineFault::BadLine));
     };
     if !script.has_room(text) {
-        return Err(LineError::Faulty(LineFault::BadLine));
+        return Err(HostFault::Refused(LineFault::BadLine));
     }
     let script = script.with_line(alloc, text)?;
     if left > 1 {
@@ -335,7 +324,7 @@ fn read_event(
     screen: Screen,
     told: Listing<EventLine>,
     line: &[u8],
-) -> Result<Stage, LineError>
+) -> Result<Stage, HostFault>
     ensures { StepGives result (event_step format apps screen told line.now) }
 {
     match event_line(format, apps.as_slice(), line) {
@@ -351,11 +340,11 @@ fn admit(
     screen: Screen,
     mut told: Listing<EventLine>,
     event: &EventLine,
-) -> Result<Stage, LineError>
+) -> Result<Stage, HostFault>
     ensures { StepGives result (event_admitted format apps screen told event.now (event_hindrance screen event.now)) }
 {
     if let Some(fault) = screen.hindrance_of(event) {
-        return Err(LineError::Faulty(fault));
+        return Err(HostFault::Refused(fault));
     }
     let EventLine { moment, line } = *event;
     told.push(EventLine { moment, line })?;
@@ -372,19 +361,19 @@ fn read_end(
     screen: Screen,
     told: Listing<EventLine>,
     line: &[u8],
-) -> Result<Stage, LineError>
+) -> Result<Stage, HostFault>
     ensures { StepGives result (moment_step apps screen told (end_line_of line.now)) }
 {
     match end_line(line) {
-        None => Err(LineError::Faulty(LineFault::BadLine)),
-        Some(end) if end < screen.moment => Err(LineError::Faulty(LineFault::TimeBack)),
+        None => Err(HostFault::Refused(LineFault::BadLine)),
+        Some(end) if end < screen.moment => Err(HostFault::Refused(LineFault::TimeBack)),
         Some(end) => Ok(Stage::Whole { apps, told, end }),
     }
 }
 
 impl Stage {
     /// Takes the next line.
-    pub(crate) fn step(self, alloc: Global, line: &[u8]) -> Result<Stage, LineError>
+    pub(crate) fn step(self, alloc: Global, line: &[u8]) -> Result<Stage, HostFault>
         ensures { StepGives result (step self line.now) }
     {
         match self {
@@ -406,7 +395,7 @@ impl Stage {
                 screen,
                 told,
             } => read_event(format, apps, screen, told, line),
-            Stage::Whole { .. } => Err(LineError::Faulty(LineFault::BadLine)),
+            Stage::Whole { .. } => Err(HostFault::Refused(LineFault::BadLine)),
         }
     }
 }

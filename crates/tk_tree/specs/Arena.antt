@@ -1,4 +1,4 @@
--- The arena's places as a bag, and what the index says of them.
+-- Steps. The arena's places as a bag, and what the index says of them.
 use Rattle.std.specs.Prelude.{◌≡◌, ℕ, List, [], ◌∷◌, length, Option, None, Some, slice_index_or}
 use Rattle.tk_base.specs.Bag.{Item, listed}
 use Rattle.tk_base.specs.declared.counter.Counter.{Counter}

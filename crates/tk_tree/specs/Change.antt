@@ -1,4 +1,4 @@
--- What a window becomes.
+-- Meaning. What a window becomes.
 use Rattle.std.specs.Prelude.{Bool, true, List, [], ◌∷◌, ℕ}
 use Rattle.tk_base.specs.declared.rect.Rect.{Rect}
 use Rattle.tk_tree.specs.declared.change.WindowChange.{WindowChange}

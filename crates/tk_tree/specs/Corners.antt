@@ -1,4 +1,4 @@
--- Where the corner of a window lies, from that of the application's rectangle: a window's place is told from its parent's corner.
+-- Meaning. Where the corner of a window lies, from that of the application's rectangle: a window's place is told from its parent's corner.
 use Rattle.std.specs.Prelude.{ℕ, sum_by}
 use Rattle.std.specs.Option.{option_map_or}
 use Rattle.tk_tree.specs.declared.corner.Corner.{Corner}

@@ -1,4 +1,4 @@
--- What `create` answers and does.
+-- Meaning. What `create` answers and does.
 use Rattle.std.specs.Prelude.{ℕ, ◌+◌, List, [], ◌∷◌, ◌++◌, Option, None, Some, is_some, option_map, option_and_then, if◌then◌else◌, codes}
 use Rattle.std.specs.Str.{bytes_eq}
 use Rattle.tk_base.specs.declared.kind.Kind.{Kind}

@@ -1,4 +1,4 @@
--- The index: the arena's key at an application and a number, and the number at an application and a path.
+-- Steps. The index: the arena's key at an application and a number, and the number at an application and a path.
 use Rattle.std.specs.Prelude.{◌≡◌, ◌≢◌, ℕ, List, [], ◌∷◌, ◌++◌, ◌==◌, not, filter, Option, None, Some, nat_eq, option_and_then, if◌then◌else◌}
 use Rattle.std.specs.Option.{option_map_or}
 use Rattle.std.specs.HashMap.{get, get_by_text}

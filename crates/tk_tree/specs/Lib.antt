@@ -3,6 +3,7 @@ pub mod Arena
 pub mod Change
 pub mod Corners
 pub mod Create
+pub mod FaultNumbers
 pub mod Index
 pub mod Orders
 pub mod Own

@@ -1,5 +1,5 @@
--- A window and all below it, in two orders. In the list of an application's windows a child stands behind its parent, since it was made later:
--- so what is below a window is found in the list behind it.
+-- Meaning. A window and all below it, in two orders. In the list of an application's windows a child stands behind its parent, since it was made
+-- later: so what is below a window is found in the list behind it.
 use Rattle.std.specs.Prelude.{ℕ, List, [], ◌∷◌, ◌++◌, if◌then◌else◌}
 use Rattle.tk_tree.specs.declared.window.Window.{Window}
 use Rattle.tk_tree.specs.Own.{Own, is_child_of}

@@ -1,4 +1,4 @@
--- The windows of one application, and those of all.
+-- Meaning. The windows of one application, and those of all.
 use Rattle.std.specs.Prelude.{◌≡◌, ◌≢◌, ◌<◌, ◌≤◌, ℕ, Bool, false, ◌==◌, ◌||◌, nat_le, nat_eq, List, [], ◌∷◌, length, find, filter, map, Option, MatchOption}
 use Rattle.std.specs.Option.{option_map_or}
 use Rattle.std.specs.Map.{lookup}

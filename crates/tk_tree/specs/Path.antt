@@ -1,4 +1,4 @@
--- Path names of windows: `.` is the main window, and a child's is its parent's, a dot and its name, with one dot alone below `.`.
+-- Meaning. Path names of windows: `.` is the main window, and a child's is its parent's, a dot and its name, with one dot alone below `.`.
 use Rattle.std.specs.Prelude.{ℕ, Bool, true, false, ◌==◌, ◌&&◌, nat_le, List, [], ◌∷◌, ◌++◌, Option, None, Some, option_and_then, Result, if◌then◌else◌, codes}
 use Rattle.std.specs.Str.{bytes_eq}
 use Rattle.tcl_text.specs.Answers.{fails, quoted}

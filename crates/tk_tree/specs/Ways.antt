@@ -1,4 +1,4 @@
--- The way from the main window to a window, and to the window at a point.
+-- Meaning. The way from the main window to a window, and to the window at a point.
 use Rattle.std.specs.Prelude.{ℕ, ◌+◌, ◌-◌, Bool, ◌==◌, ◌&&◌, nat_le, nat_lt, List, [], ◌∷◌, Option, Some, None, if◌then◌else◌, codes, reverse}
 use Rattle.tk_tree.specs.declared.window.Window.{Window}
 use Rattle.tk_tree.specs.Own.{Own, at_path, is_child_of}

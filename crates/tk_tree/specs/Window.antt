@@ -1,4 +1,4 @@
--- One window, and what a new one is.
+-- Meaning. One window, and what a new one is.
 use Rattle.std.specs.Prelude.{ℕ, false, List, [], ◌∷◌, Option, if◌then◌else◌, codes}
 use Rattle.std.specs.Str.{bytes_eq}
 use Rattle.tk_base.specs.Kind.{class_of}

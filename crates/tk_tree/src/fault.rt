@@ -1,3 +1,6 @@
+ghost use Rattle.std.specs.Prelude.{◌≡◌};
+ghost use Rattle.tk_tree.specs.FaultNumbers.{fault_number};
+
 use std::alloc::AllocError;
 use thiserror::Error;
 
@@ -22,6 +25,22 @@ pub enum WindowFault {
     /// Memory was refused.
     #[error("out of memory")]
     NoMemory,
+}
+
+impl WindowFault {
+    /// Its number; none where memory was refused.
+    pub fn number(self) -> Option<u32>
+        ensures { result ≡ fault_number self }
+    {
+        match self {
+            WindowFault::BadPath => Some(24),
+            WindowFault::Exists => Some(25),
+            WindowFault::BadName => Some(26),
+            WindowFault::Dying => Some(27),
+            WindowFault::Full => Some(28),
+            WindowFault::NoMemory => None,
+        }
+    }
 }
 
 impl From<AllocError> for WindowFault {

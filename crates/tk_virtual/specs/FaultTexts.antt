@@ -1,4 +1,4 @@
--- The texts and numbers of refusals.
+-- Meaning. The texts and numbers of refusals.
 use Rattle.std.specs.Prelude.{ℕ, List, ◌++◌, Option, Some, None, codes}
 use Rattle.tcl_text.specs.Answers.{quoted}
 use Rattle.tk_virtual.specs.declared.fault.VirtualFault.{VirtualFault}

@@ -1,4 +1,4 @@
--- Pairs by their names, in a map by hashing.
+-- Steps. Pairs by their names, in a map by hashing.
 use Rattle.std.specs.Prelude.{ℕ, List, [], Vec, String}
 use Rattle.std.specs.Option.{option_map_or}
 use Rattle.std.specs.HashMap.{HashMap, get_by_text}

@@ -183,7 +183,7 @@ impl VirtualTable {
     }
 
     /// The names that an application has pairs of, in their brackets, each where it first stands (`event info` of event(n)).
-    pub fn names(&self, alloc: Global, owner: usize) -> Result<TextList, AllocError>
+    pub fn info(&self, alloc: Global, owner: usize) -> Result<TextList, AllocError>
         ensures { IfOk result (λ list. list ≡ written_names (own_of owner self.now)) }
     {
         self.of(owner).names(alloc)

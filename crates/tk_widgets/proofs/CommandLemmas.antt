@@ -11,10 +11,9 @@ use Rattle.tk_entry.specs.declared.entry.Entry.{Entry}
 use Rattle.tk_options.specs.declared.option.OptionEntry.{OptionEntry}
 use Rattle.tk_options.specs.Options.{description, IsTooLong}
 use Rattle.tk_widgets.specs.declared.outcome.WidgetChange.TheVariants.{Edit}
-use Rattle.tk_widgets.specs.declared.widget.ListboxWidget.{ListboxWidget}
-use Rattle.tk_widgets.specs.declared.widget.Widget.TheVariants.{Listbox}
 use Rattle.tk_listbox.specs.Items.{texts}
-use Rattle.tk_widgets.specs.Commands.{if_listed}
+use Rattle.tk_listbox.specs.Listboxes.{Held}
+use Rattle.tk_widgets.specs.Commands.{is_within}
 use Rattle.tk_widgets.specs.Outcomes.{change, edit}
 
 -- ---- limits
@@ -29,13 +28,13 @@ edit_beyond edited h = let e : leb (length edited.text) 65536 ≡ false = grind 
 
 pub ruleset edits = (edit_within, edit_beyond)
 
-pub listed_within : (widget : ListboxWidget) → length (list_form (texts widget.listbox.items)) ≤ 65536 → if_listed widget ≡ Ok (Listbox widget)
-unfolding if_listed
-listed_within widget h = let e : leb (length (list_form (texts widget.listbox.items))) 65536 ≡ true = grind (arith, nat_tests) in rw e refl
+pub listed_within : (listbox : Held) → length (list_form (texts listbox.items)) ≤ 65536 → is_within listbox ≡ true
+unfolding is_within
+listed_within listbox h = grind (arith, nat_tests)
 
-pub listed_beyond : (widget : ListboxWidget) → 65536 < length (list_form (texts widget.listbox.items)) → if_listed widget ≡ Err limit_text
-unfolding if_listed
-listed_beyond widget h = let e : leb (length (list_form (texts widget.listbox.items))) 65536 ≡ false = grind (arith, nat_tests) in rw e refl
+pub listed_beyond : (listbox : Held) → 65536 < length (list_form (texts listbox.items)) → is_within listbox ≡ false
+unfolding is_within
+listed_beyond listbox h = grind (arith, nat_tests)
 
 pub ruleset lists_within = (listed_within, listed_beyond)
 

@@ -1,4 +1,4 @@
--- A widget's command, from the words behind its name. `text` is that of the variable that the widget shows, where it can be read.
+-- Meaning. A widget's command, from the words behind its name. `text` is that of the variable that the widget shows, where it can be read.
 use Rattle.std.specs.Prelude.{ℕ, Bool, true, false, nat_le, if◌then◌else◌, List, [], ◌∷◌, length, map, Option, Some, None, Result, Ok, Err, codes}
 use Rattle.std.specs.Option.{option_or}
 use Rattle.std.specs.Str.{bytes_eq}
@@ -19,25 +19,18 @@ use Rattle.tk_widgets.specs.declared.outcome.WidgetChange.TheVariants.{Configure
 use Rattle.tk_widgets.specs.declared.outcome.VariableWrite.{VariableWrite}
 use Rattle.tk_widgets.specs.declared.outcome.WidgetAct.{WidgetAct}
 use Rattle.tk_widgets.specs.declared.outcome.WidgetAct.TheVariants as act
-use Rattle.tk_widgets.specs.declared.widget.ListboxWidget.{ListboxWidget}
+use Rattle.tk_widgets.specs.declared.entry_commands.EntryEdit.{EntryEdit}
+use Rattle.tk_widgets.specs.declared.widget.Parts.{Parts}
+use Rattle.tk_widgets.specs.declared.widget.Parts.TheVariants.{Frame, Label, Button, Entry, Listbox}
 use Rattle.tk_widgets.specs.declared.widget.Widget.{Widget}
-use Rattle.tk_widgets.specs.declared.widget.Widget.TheVariants.{Frame, Label, Button, Entry, Listbox}
 use Rattle.tk_widgets.specs.Classes.{invoked}
-use Rattle.tk_widgets.specs.EntryCommands.{entry_words}
+use Rattle.tk_widgets.specs.EntryCommands.{edit_wanted, entry_words}
 use Rattle.tk_widgets.specs.ListboxCommands.{listbox_words}
-use Rattle.tk_widgets.specs.Outcomes.{Wanted, asked_by, change, or_fault, script, told}
+use Rattle.tk_widgets.specs.Outcomes.{Wanted, asked_by, change, nothing, or_fault, script, told}
 use Rattle.tk_widgets.specs.Sizes.{or_empty}
 use Rattle.tcl_text.specs.Limits.{most_bytes}
 
 -- ---- what the words ask for
-
--- the options of a widget
-abbrev pub options_in : Widget → List OptionEntry
-options_in (Frame widget) = widget.options
-options_in (Label widget) = widget.options
-options_in (Button widget) = widget.options
-options_in (Entry widget) = widget.options
-options_in (Listbox widget) = widget.options
 
 -- path cget option
 abbrev pub cget : List (List ℕ) → List OptionEntry → Wanted
@@ -66,49 +59,62 @@ unfoldable pub button_words : List ℕ → List (List ℕ) → List OptionEntry 
 button_words name words options = if bytes_eq name (codes "invoke") then button_invoke words options else bad_option name
 
 -- the sub-commands that widgets of one kind alone have
-abbrev pub own_words : List ℕ → List (List ℕ) → Option (List ℕ) → Widget → Wanted
-own_words name words text (Frame widget) = bad_option name
-own_words name words text (Label widget) = bad_option name
-own_words name words text (Button widget) = button_words name words widget.options
-own_words name words text (Entry widget) = entry_words name words text widget
-own_words name words text (Listbox widget) = listbox_words name words widget.listbox
+abbrev pub own_words : List ℕ → List (List ℕ) → Option (List ℕ) → List OptionEntry → Parts → Wanted
+own_words name words text options Frame = bad_option name
+own_words name words text options Label = bad_option name
+own_words name words text options Button = button_words name words options
+own_words name words text options (Entry entry) = entry_words name words text options entry
+own_words name words text options (Listbox listbox) = listbox_words name words listbox
 
 unfoldable pub sub_command : List ℕ → List (List ℕ) → Option (List ℕ) → Widget → Wanted
 sub_command name words text widget =
-    if bytes_eq name (codes "cget") then cget words (options_in widget)
-    else (if bytes_eq name (codes "configure") then configure words (options_in widget)
-    else own_words name words text widget)
+    if bytes_eq name (codes "cget") then cget words widget.options
+    else if bytes_eq name (codes "configure") then configure words widget.options
+    else own_words name words text widget.options widget.parts
 
 -- path option ?arg ..?
 abbrev pub wanted : List (List ℕ) → Option (List ℕ) → Widget → Wanted
 wanted [] text widget = wrong_args (codes "path option ?arg ..?")
 wanted (name ∷ words) text widget = sub_command name words text widget
 
+-- what a key asks of a widget: nothing of one that is no entry
+abbrev pub edit_of : EntryEdit → Option (List ℕ) → List OptionEntry → Parts → Wanted
+edit_of how text options (Entry entry) = edit_wanted how text options entry
+edit_of how text options _ = nothing
+
+abbrev pub edit_asked : EntryEdit → Option (List ℕ) → Widget → Wanted
+edit_asked how text widget = edit_of how text widget.options widget.parts
+
 -- ---- what a change makes of a widget
 
 abbrev pub with_options : (List OptionEntry → List OptionEntry) → Widget → Widget
-with_options set (Frame widget) = Frame (record widget { options = set widget.options })
-with_options set (Label widget) = Label (record widget { options = set widget.options })
-with_options set (Button widget) = Button (record widget { options = set widget.options })
-with_options set (Entry widget) = Entry (record widget { options = set widget.options })
-with_options set (Listbox widget) = Listbox (record widget { options = set widget.options })
+with_options set widget = record widget { options = set widget.options }
 
 -- a change of an entry's text or a listbox's items changes no other widget
+abbrev pub entry_edited : (EntryText → EntryText) → Parts → Parts
+entry_edited edit (Entry entry) = Entry (edit entry)
+entry_edited edit parts = parts
+
 abbrev pub with_entry : (EntryText → EntryText) → Widget → Widget
-with_entry edit (Entry widget) = Entry (record widget { entry = edit widget.entry })
-with_entry edit widget = widget
+with_entry edit widget = record widget { parts = entry_edited edit widget.parts }
+
+abbrev pub listbox_edited : (Held → Held) → Parts → Parts
+listbox_edited edit (Listbox listbox) = Listbox (edit listbox)
+listbox_edited edit parts = parts
 
 abbrev pub with_listbox : (Held → Held) → Widget → Widget
-with_listbox edit (Listbox widget) = Listbox (record widget { listbox = edit widget.listbox })
-with_listbox edit widget = widget
+with_listbox edit widget = record widget { parts = listbox_edited edit widget.parts }
 
 -- `insert` of a listbox is refused where the list of all items would be past the limit
-unfoldable pub if_listed : ListboxWidget → Result Widget (List ℕ)
-if_listed widget = if nat_le (length (list_form (texts widget.listbox.items))) most_bytes then Ok (Listbox widget) else Err limit_text
+unfoldable pub is_within : Held → Bool
+is_within listbox = nat_le (length (list_form (texts listbox.items))) most_bytes
+
+abbrev pub is_listed : Parts → Bool
+is_listed (Listbox listbox) = is_within listbox
+is_listed parts = true
 
 abbrev pub within_list : Widget → Result Widget (List ℕ)
-within_list (Listbox widget) = if_listed widget
-within_list widget = Ok widget
+within_list widget = if is_listed widget.parts then Ok widget else Err limit_text
 
 abbrev pub with_change : WidgetChange → Widget → Result Widget (List ℕ)
 with_change (Configure all) widget = Ok (with_options (with_settings all) widget)
@@ -150,16 +156,19 @@ linked (Some (c ∷ cs)) = Some (c ∷ cs)
 
 -- the variable that a widget shows
 abbrev pub variable_of : Widget → Option (List ℕ)
-variable_of widget = linked (value_of TextVariable (options_in widget))
+variable_of widget = linked (value_of TextVariable widget.options)
 
 abbrev pub write : List ℕ → Bool → Option (List ℕ) → Option VariableWrite
 write text absent_only (Some name) = Some (record { name = name; text = text; absent_only = absent_only })
 write text absent_only None = None
 
 -- the own text of a widget once options are set
+abbrev pub own_text_of : List Setting → List OptionEntry → Parts → List ℕ
+own_text_of all options (Entry entry) = entry.text
+own_text_of all options _ = or_empty (option_or (last_setting Text all) (value_of Text options))
+
 abbrev pub own_text_after : List Setting → Widget → List ℕ
-own_text_after all (Entry widget) = widget.entry.text
-own_text_after all widget = or_empty (option_or (last_setting Text all) (value_of Text (options_in widget)))
+own_text_after all widget = own_text_of all widget.options widget.parts
 
 -- an edit sets the variable; setting `-textvariable` sets one that is absent to the own text
 abbrev pub variable_write : WidgetChange → Widget → Option VariableWrite

@@ -1,16 +1,18 @@
--- The sub-commands of an entry (entry(n)), each from the words behind its name. `text` is the variable's, where it can be read.
-use Rattle.std.specs.Prelude.{ℕ, ◌+◌, Bool, if◌then◌else◌, List, [], ◌∷◌, Option, Some, None, Result, Ok, Err, codes}
+-- Meaning. The sub-commands of an entry (entry(n)), each from the words behind its name. `text` is the variable's, where it can be read.
+use Rattle.std.specs.Prelude.{ℕ, ◌+◌, if◌then◌else◌, List, [], ◌∷◌, Option, Some, None, Result, Ok, Err, codes}
 use Rattle.std.specs.Fmt.{decimal}
 use Rattle.std.specs.Str.{bytes_eq}
 use Rattle.tcl_text.specs.Answers.{◌>>=◌, answers, bad_index, bad_option, wrong_args}
 use Rattle.tk_entry.specs.declared.entry.Entry.{Entry}
 use Rattle.tcl_text.specs.Characters.{size}
 use Rattle.tk_entry.specs.Entries.{shown, cursor_in, index_in, inserted, deleted, edited, by_text, by_backspace, by_delete}
+use Rattle.tk_options.specs.declared.option.OptionEntry.{OptionEntry}
 use Rattle.tk_options.specs.declared.option.OptionName.TheVariants.{State}
+use Rattle.tk_widgets.specs.declared.entry_commands.EntryEdit.{EntryEdit}
+use Rattle.tk_widgets.specs.declared.entry_commands.EntryEdit.TheVariants.{Insert, Delete, Typed, Backspace, DeleteBehind}
 use Rattle.tk_widgets.specs.declared.outcome.WidgetChange.TheVariants.{PutCursor}
-use Rattle.tk_widgets.specs.declared.widget.EntryWidget.{EntryWidget}
 use Rattle.tk_widgets.specs.Classes.{has_value}
-use Rattle.tk_widgets.specs.Outcomes.{Wanted, told, nothing, change, edit, edit_if}
+use Rattle.tk_widgets.specs.Outcomes.{Wanted, told, nothing, change, edit_if}
 
 -- how many characters stand before an index
 abbrev pub place_or_error : List ℕ → Option ℕ → Result ℕ (List ℕ)
@@ -20,65 +22,60 @@ place_or_error word None = bad_index word
 unfoldable pub place_in : List ℕ → Option (List ℕ) → Entry → Result ℕ (List ℕ)
 place_in word text entry = place_or_error word (index_in word (size (shown text entry)) (cursor_in (shown text entry) entry))
 
--- an edit takes place in the state `normal` alone
-abbrev pub if_editable : EntryWidget → Wanted → Wanted
-if_editable widget wanted = if has_value State (codes "normal") widget.options then wanted else nothing
+-- what an edit makes of an entry that shows this text of a variable, if it edits it
+abbrev pub edited_by : EntryEdit → Option (List ℕ) → Entry → Option Entry
+edited_by (Insert at new) text entry = Some (edited (inserted at new) text entry)
+edited_by (Delete from to) text entry = Some (edited (deleted from to) text entry)
+edited_by (Typed new) text entry = by_text new text entry
+edited_by Backspace text entry = by_backspace text entry
+edited_by DeleteBehind text entry = by_delete text entry
+
+-- it takes place in the state `normal` alone
+abbrev pub edit_wanted : EntryEdit → Option (List ℕ) → List OptionEntry → Entry → Wanted
+edit_wanted how text options entry = if has_value State (codes "normal") options then edit_if (edited_by how text entry) else nothing
 
 -- path get
-abbrev pub entry_get : List (List ℕ) → Option (List ℕ) → EntryWidget → Wanted
-entry_get [] text widget = told (Ok (shown text widget.entry))
-entry_get _ text widget = wrong_args (codes "path get")
+abbrev pub entry_get : List (List ℕ) → Option (List ℕ) → Entry → Wanted
+entry_get [] text entry = told (Ok (shown text entry))
+entry_get _ text entry = wrong_args (codes "path get")
 
 -- path insert index text
-abbrev pub entry_insert : List (List ℕ) → Option (List ℕ) → EntryWidget → Wanted
-entry_insert (index ∷ new ∷ []) text widget = do
-  at ← place_in index text widget.entry
-  if_editable widget (edit (edited (inserted at new) text widget.entry))
-entry_insert _ text widget = wrong_args (codes "path insert index text")
+abbrev pub entry_insert : List (List ℕ) → Option (List ℕ) → List OptionEntry → Entry → Wanted
+entry_insert (index ∷ new ∷ []) text options entry = do
+  at ← place_in index text entry
+  edit_wanted (Insert at new) text options entry
+entry_insert _ text options entry = wrong_args (codes "path insert index text")
 
 -- path delete first ?last?
-abbrev pub entry_delete : List (List ℕ) → Option (List ℕ) → EntryWidget → Wanted
-entry_delete (first ∷ []) text widget = do
-  from ← place_in first text widget.entry
-  if_editable widget (edit (edited (deleted from (from + 1)) text widget.entry))
-entry_delete (first ∷ last ∷ []) text widget = do
-  from ← place_in first text widget.entry
-  to ← place_in last text widget.entry
-  if_editable widget (edit (edited (deleted from to) text widget.entry))
-entry_delete _ text widget = wrong_args (codes "path delete first ?last?")
+abbrev pub entry_delete : List (List ℕ) → Option (List ℕ) → List OptionEntry → Entry → Wanted
+entry_delete (first ∷ []) text options entry = do
+  from ← place_in first text entry
+  edit_wanted (Delete from (from + 1)) text options entry
+entry_delete (first ∷ last ∷ []) text options entry = do
+  from ← place_in first text entry
+  to ← place_in last text entry
+  edit_wanted (Delete from to) text options entry
+entry_delete _ text options entry = wrong_args (codes "path delete first ?last?")
 
 -- path icursor index
-abbrev pub entry_icursor : List (List ℕ) → Option (List ℕ) → EntryWidget → Wanted
-entry_icursor (index ∷ []) text widget = do
-  at ← place_in index text widget.entry
+abbrev pub entry_icursor : List (List ℕ) → Option (List ℕ) → Entry → Wanted
+entry_icursor (index ∷ []) text entry = do
+  at ← place_in index text entry
   change (PutCursor at)
-entry_icursor _ text widget = wrong_args (codes "path icursor index")
+entry_icursor _ text entry = wrong_args (codes "path icursor index")
 
 -- path index index
-abbrev pub entry_index : List (List ℕ) → Option (List ℕ) → EntryWidget → Wanted
-entry_index (index ∷ []) text widget = do
-  at ← place_in index text widget.entry
+abbrev pub entry_index : List (List ℕ) → Option (List ℕ) → Entry → Wanted
+entry_index (index ∷ []) text entry = do
+  at ← place_in index text entry
   told (answers (decimal at))
-entry_index _ text widget = wrong_args (codes "path index index")
+entry_index _ text entry = wrong_args (codes "path index index")
 
-unfoldable pub entry_words : List ℕ → List (List ℕ) → Option (List ℕ) → EntryWidget → Wanted
-entry_words name words text widget =
-    if bytes_eq name (codes "get") then entry_get words text widget
-    else (if bytes_eq name (codes "insert") then entry_insert words text widget
-    else (if bytes_eq name (codes "delete") then entry_delete words text widget
-    else (if bytes_eq name (codes "icursor") then entry_icursor words text widget
-    else (if bytes_eq name (codes "index") then entry_index words text widget
-    else bad_option name))))
-
--- ---- keys
-
--- the text of a key, at the cursor
-abbrev pub typed : List ℕ → Option (List ℕ) → EntryWidget → Wanted
-typed new text widget = if_editable widget (edit_if (by_text new text widget.entry))
-
--- the character before the cursor, and the one behind it
-abbrev pub backspaced : Option (List ℕ) → EntryWidget → Wanted
-backspaced text widget = if_editable widget (edit_if (by_backspace text widget.entry))
-
-abbrev pub deleted_behind : Option (List ℕ) → EntryWidget → Wanted
-deleted_behind text widget = if_editable widget (edit_if (by_delete text widget.entry))
+unfoldable pub entry_words : List ℕ → List (List ℕ) → Option (List ℕ) → List OptionEntry → Entry → Wanted
+entry_words name words text options entry =
+    if bytes_eq name (codes "get") then entry_get words text entry
+    else if bytes_eq name (codes "insert") then entry_insert words text options entry
+    else if bytes_eq name (codes "delete") then entry_delete words text options entry
+    else if bytes_eq name (codes "icursor") then entry_icursor words text entry
+    else if bytes_eq name (codes "index") then entry_index words text entry
+    else bad_option name

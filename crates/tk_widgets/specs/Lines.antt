@@ -1,4 +1,4 @@
--- The lines of a text, and their columns.
+-- Meaning. The lines of a text, and their columns.
 use Rattle.std.specs.Prelude.{ℕ, max, false, ◌==◌, List, [], ◌∷◌}
 use Rattle.std.specs.List.{slice_split}
 use Rattle.std.specs.Str.{chars}

@@ -1,4 +1,4 @@
--- The sub-commands of a listbox (listbox(n)), each from the words behind its name.
+-- Meaning. The sub-commands of a listbox (listbox(n)), each from the words behind its name.
 use Rattle.std.specs.Prelude.{ℕ, Bool, if◌then◌else◌, List, [], ◌∷◌, length, map, Option, Some, None, Result, Ok, Err, codes}
 use Rattle.std.specs.Fmt.{decimal, signed_decimal}
 use Rattle.std.specs.Str.{bytes_eq}
@@ -8,7 +8,7 @@ use Rattle.tk_listbox.specs.declared.choice.Choice.{Choice}
 use Rattle.tk_listbox.specs.declared.choice.Choice.TheVariants.{Set, Clear}
 use Rattle.tk_listbox.specs.declared.index.ItemIndex.{ItemIndex}
 use Rattle.tk_listbox.specs.declared.index.ItemIndex.TheVariants.{Number, Active, End}
-use Rattle.tk_listbox.specs.Indices.{index_in, before, through, before_inserted}
+use Rattle.tk_listbox.specs.Indices.{index_in as index_read, before, through, before_inserted}
 use Rattle.tk_listbox.specs.Items.{texts, chosen_from}
 use Rattle.tk_listbox.specs.Listboxes.{Held, part, has_chosen}
 use Rattle.tk_widgets.specs.declared.listbox_commands.ItemRange.{ItemRange}
@@ -22,7 +22,7 @@ index_or_error word (Some index) = Ok index
 index_or_error word None = bad_index word
 
 unfoldable pub index_of : List ℕ → Result ItemIndex (List ℕ)
-index_of word = index_or_error word (index_in word)
+index_of word = index_or_error word (index_read word)
 
 -- the items from one index to another, with both
 abbrev pub span : ItemIndex → ItemIndex → Held → ItemRange
@@ -37,6 +37,17 @@ span_of first last box = do
   to ← index_of last
   Ok (span from to box)
 
+-- the items that one index names, or two with those between them
+abbrev pub range_in : List (List ℕ) → List ℕ → Held → Result ItemRange (List ℕ)
+range_in (first ∷ []) usage box = span_of first first box
+range_in (first ∷ last ∷ []) usage box = span_of first last box
+range_in _ usage box = wrong_args usage
+
+-- the one index that the words are
+abbrev pub index_in : List (List ℕ) → List ℕ → Result ItemIndex (List ℕ)
+index_in (index ∷ []) usage = index_of index
+index_in _ usage = wrong_args usage
+
 -- path insert index ?text ..?
 abbrev pub list_insert : List (List ℕ) → Held → Wanted
 list_insert (index ∷ items) box = do
@@ -46,13 +57,9 @@ list_insert [] box = wrong_args (codes "path insert index ?text ..?")
 
 -- path delete first ?last?
 abbrev pub list_delete : List (List ℕ) → Held → Wanted
-list_delete (first ∷ []) box = do
-  gone ← span_of first first box
+list_delete words box = do
+  gone ← range_in words (codes "path delete first ?last?") box
   change (DeleteItems gone.from gone.to)
-list_delete (first ∷ last ∷ []) box = do
-  gone ← span_of first last box
-  change (DeleteItems gone.from gone.to)
-list_delete _ box = wrong_args (codes "path delete first ?last?")
 
 -- path get first ?last?: one item, or a list of items
 abbrev pub first_of : List (List ℕ) → List ℕ
@@ -80,10 +87,9 @@ number_of Active box = decimal box.active
 number_of End box = decimal (length box.items)
 
 abbrev pub list_index : List (List ℕ) → Held → Wanted
-list_index (index ∷ []) box = do
-  at ← index_of index
+list_index words box = do
+  at ← index_in words (codes "path index index")
   told (answers (number_of at box))
-list_index _ box = wrong_args (codes "path index index")
 
 -- path curselection
 abbrev pub list_curselection : List (List ℕ) → Held → Wanted
@@ -92,22 +98,14 @@ list_curselection _ box = wrong_args (codes "path curselection")
 
 -- path selection set first ?last?, path selection clear first ?last?
 abbrev pub selection_set : List (List ℕ) → Held → Wanted
-selection_set (first ∷ []) box = do
-  more ← span_of first first box
+selection_set words box = do
+  more ← range_in words (codes "path selection set first ?last?") box
   change (Select (Set more.from more.to))
-selection_set (first ∷ last ∷ []) box = do
-  more ← span_of first last box
-  change (Select (Set more.from more.to))
-selection_set _ box = wrong_args (codes "path selection set first ?last?")
 
 abbrev pub selection_clear : List (List ℕ) → Held → Wanted
-selection_clear (first ∷ []) box = do
-  less ← span_of first first box
+selection_clear words box = do
+  less ← range_in words (codes "path selection clear first ?last?") box
   change (Select (Clear less.from less.to))
-selection_clear (first ∷ last ∷ []) box = do
-  less ← span_of first last box
-  change (Select (Clear less.from less.to))
-selection_clear _ box = wrong_args (codes "path selection clear first ?last?")
 
 -- path selection includes index
 abbrev pub selection_includes : List (List ℕ) → Held → Wanted
@@ -129,10 +127,9 @@ list_selection (name ∷ words) box = selection_words name words box
 
 -- path activate index
 abbrev pub list_activate : List (List ℕ) → Held → Wanted
-list_activate (index ∷ []) box = do
-  at ← index_of index
+list_activate words box = do
+  at ← index_in words (codes "path activate index")
   change (Activate (before at (length box.items) box.active))
-list_activate _ box = wrong_args (codes "path activate index")
 
 unfoldable pub listbox_words : List ℕ → List (List ℕ) → Held → Wanted
 listbox_words name words box =

@@ -1,4 +1,4 @@
--- What the words of a widget's command ask for, and what is told.
+-- Meaning. What the words of a widget's command ask for, and what is told.
 use Rattle.std.specs.Prelude.{◌≡◌, ℕ, nat_le, if◌then◌else◌, List, [], length, Option, Some, None, Result, Ok, Err}
 use Rattle.tcl_text.specs.Answers.{Answer, Gives, bounded, limit_text}
 use Rattle.tcl_text.specs.declared.commands.answers.Refusal.{Refusal}

@@ -1,4 +1,4 @@
--- The size that a widget requests, in pixels.
+-- Meaning. The size that a widget requests, in pixels.
 use Rattle.std.specs.Prelude.{ℕ, ◌+◌, ◌*◌, max, Bool, nat_lt, if◌then◌else◌, List, [], length, Option, Some, None}
 use Rattle.tk_base.specs.declared.kind.Kind.{Kind}
 use Rattle.tk_base.specs.declared.kind.Kind.TheVariants as kind
@@ -7,16 +7,20 @@ use Rattle.tk_options.specs.declared.option.OptionEntry.{OptionEntry}
 use Rattle.tk_options.specs.declared.option.OptionName.TheVariants.{BorderWidth, Height, PadX, PadY, Text, Width}
 use Rattle.tk_options.specs.Options.{amount_of, value_of}
 use Rattle.tk_widgets.specs.Lines.{lines_in, widest}
+use Rattle.tk_widgets.specs.declared.widget.Parts.{Parts}
+use Rattle.tk_widgets.specs.declared.widget.Parts.TheVariants.{Frame, Label, Button, Entry, Listbox}
 use Rattle.tk_widgets.specs.declared.widget.Widget.{Widget}
-use Rattle.tk_widgets.specs.declared.widget.Widget.TheVariants.{Frame, Label, Button, Entry, Listbox}
 
 -- a new widget of a kind
+abbrev pub new_parts : Kind → Parts
+new_parts kind.Frame = Frame
+new_parts kind.Label = Label
+new_parts kind.Button = Button
+new_parts kind.Entry = Entry (record { text = []; cursor = 0 })
+new_parts kind.Listbox = Listbox (record { items = []; active = 0 })
+
 abbrev pub new_widget : Kind → Widget
-new_widget kind.Frame = Frame (record { options = options_of kind.Frame })
-new_widget kind.Label = Label (record { options = options_of kind.Label })
-new_widget kind.Button = Button (record { options = options_of kind.Button })
-new_widget kind.Entry = Entry (record { options = options_of kind.Entry; entry = record { text = []; cursor = 0 } })
-new_widget kind.Listbox = Listbox (record { options = options_of kind.Listbox; listbox = record { items = []; active = 0 } })
+new_widget kind = record { options = options_of kind; parts = new_parts kind }
 
 -- what a label or a button shows: the variable's text, where there is one that can be read, or else its own
 abbrev pub or_empty : Option (List ℕ) → List ℕ
@@ -54,9 +58,12 @@ listbox_size options = (
 )
 
 -- the size that a widget requests, where a variable's text may stand for its own
+abbrev pub requested_by : Parts → List OptionEntry → Option (List ℕ) → ℕ × ℕ
+requested_by Frame options text = frame_size options
+requested_by Label options text = text_size options (text_shown text options)
+requested_by Button options text = text_size options (text_shown text options)
+requested_by (Entry entry) options text = entry_size options
+requested_by (Listbox listbox) options text = listbox_size options
+
 abbrev pub requested : Widget → Option (List ℕ) → ℕ × ℕ
-requested (Frame frame) text = frame_size frame.options
-requested (Label label) text = text_size label.options (text_shown text label.options)
-requested (Button button) text = text_size button.options (text_shown text button.options)
-requested (Entry entry) text = entry_size entry.options
-requested (Listbox listbox) text = listbox_size listbox.options
+requested widget text = requested_by widget.parts widget.options text

@@ -8,7 +8,7 @@ ghost use Rattle.tk_widgets.specs.Commands as spec;
 ghost use Rattle.tk_widgets.specs.declared.widget.Widget.{Widget};
 
 use crate::outcome::{VariableWrite, WidgetAct, WidgetChange};
-use crate::widget::Widget;
+use crate::widget::{Parts, Widget};
 use std::alloc::{AllocError, Global};
 use tcl_text::answers::{Refusal, limit_reached};
 use tcl_text::{Text, TextFault};
@@ -35,7 +35,7 @@ impl Widget {
     pub fn variable(&self) -> Option<&Text>
         ensures { option_copied result ≡ spec.variable_of self.now }
     {
-        linked(self.options().value(OptionName::TextVariable)?)
+        linked(self.options.value(OptionName::TextVariable)?)
     }
 
     /// The variable that is to be set before a change is made, and to what; the caller sets it, and makes the change only if that could be done.
@@ -75,12 +75,12 @@ impl Widget {
     fn own_text_after(&self, alloc: Global, all: &Settings) -> Result<Text, AllocError>
         ensures { IfOk result (λ text. text ≡ spec.own_text_after all.now self.now) }
     {
-        if let Widget::Entry(widget) = self {
-            return widget.entry.text.copy();
+        if let Parts::Entry(entry) = &self.parts {
+            return entry.text.copy();
         }
         match all
             .value(OptionName::Text)
-            .or(self.options().value(OptionName::Text))
+            .or(self.options.value(OptionName::Text))
         {
             Some(text) => text.copy(),
             None => Ok(Text::empty()),
@@ -124,7 +124,7 @@ fn make_change(alloc: Global, widget: &mut Widget, change: WidgetChange) -> Resu
     ensures err { OnErr result (widget.new ≡ widget.old) }
 {
     match change {
-        WidgetChange::Configure(all) => widget.set_all(all),
+        WidgetChange::Configure(all) => widget.options.set_all(all),
         WidgetChange::Edit(edited) => widget.put_entry(edited),
         WidgetChange::PutCursor(at) => widget.put_cursor(at),
         WidgetChange::InsertItems { at, items } => insert_items(
@@ -153,8 +153,8 @@ fn insert_items(
         (spec.within_list (spec.with_listbox (inserted at items.now) widget.old))) }
     ensures err { OnErr result (widget.new ≡ widget.old) }
 {
-    if let Widget::Listbox(listbox) = widget {
-        match listbox.listbox.insert(alloc, at, items) {
+    if let Parts::Listbox(listbox) = &mut widget.parts {
+        match listbox.insert(alloc, at, items) {
             Ok(()) => {}
             Err(TextFault::TooLong) => return Err(limit_reached(alloc)),
             Err(TextFault::NoMemory) => return Err(Refusal::NoMemory),
@@ -164,25 +164,12 @@ fn insert_items(
 }
 
 impl Widget {
-    /// Sets options.
-    fn set_all(&mut self, all: Settings)
-        ensures { self.new ≡ spec.with_options (with_settings all) self.old }
-    {
-        match self {
-            Widget::Frame(widget) => widget.options.set_all(all),
-            Widget::Label(widget) => widget.options.set_all(all),
-            Widget::Button(widget) => widget.options.set_all(all),
-            Widget::Entry(widget) => widget.options.set_all(all),
-            Widget::Listbox(widget) => widget.options.set_all(all),
-        }
-    }
-
     /// Puts an edited text with its cursor in the place of an entry's.
     fn put_entry(&mut self, edited: Entry)
         ensures { self.new ≡ spec.with_entry (λ _. edited) self.old }
     {
-        if let Widget::Entry(widget) = self {
-            widget.entry = edited;
+        if let Parts::Entry(entry) = &mut self.parts {
+            *entry = edited;
         }
     }
 
@@ -190,8 +177,8 @@ impl Widget {
     fn put_cursor(&mut self, at: usize)
         ensures { self.new ≡ spec.with_entry (λ entry. record entry { cursor = at }) self.old }
     {
-        if let Widget::Entry(widget) = self {
-            widget.entry.put_cursor(at);
+        if let Parts::Entry(entry) = &mut self.parts {
+            entry.put_cursor(at);
         }
     }
 
@@ -200,8 +187,8 @@ impl Widget {
         ensures ok { OnOk result (self.new ≡ spec.with_listbox (deleted from to) self.old) }
         ensures err { OnErr result (self.new ≡ self.old) }
     {
-        if let Widget::Listbox(widget) = self {
-            widget.listbox.delete(alloc, from, to)?;
+        if let Parts::Listbox(listbox) = &mut self.parts {
+            listbox.delete(alloc, from, to)?;
         }
         Ok(())
     }
@@ -210,8 +197,8 @@ impl Widget {
     fn activate(&mut self, place: usize)
         ensures { self.new ≡ spec.with_listbox (activated place) self.old }
     {
-        if let Widget::Listbox(widget) = self {
-            widget.listbox.activate(place);
+        if let Parts::Listbox(listbox) = &mut self.parts {
+            listbox.activate(place);
         }
     }
 
@@ -219,8 +206,8 @@ impl Widget {
     fn select(&mut self, how: Choice)
         ensures { self.new ≡ spec.with_listbox (selected how) self.old }
     {
-        if let Widget::Listbox(widget) = self {
-            widget.listbox.select(how);
+        if let Parts::Listbox(listbox) = &mut self.parts {
+            listbox.select(how);
         }
     }
 }

@@ -1,17 +1,15 @@
 //! What keys and the pointer ask of widgets, as the class bindings of button(n), entry(n) and listbox(n) do.
-ghost use Rattle.std.specs.Prelude.{◌≡◌, length, IfOk, codes};
+ghost use Rattle.std.specs.Prelude.{◌≡◌, IfOk, codes};
 ghost use Rattle.std.specs.Option.{option_copied};
-ghost use Rattle.tk_listbox.specs.Listboxes.{row_at};
-ghost use Rattle.tk_options.specs.Options.{amount_of};
 ghost use Rattle.tk_widgets.specs.Classes.{has_value, invoked, relief_of};
 
-use crate::widget::{Button, EntryWidget, ListboxWidget};
+use crate::widget::Widget;
 use std::alloc::{AllocError, Global};
 use tcl_text::Text;
 use tk_options::{OptionName, OptionTable};
 
 /// Whether an option has this very value.
-fn has_value(options: &OptionTable, option: OptionName, word: &str) -> bool
+pub fn has_value(options: &OptionTable, option: OptionName, word: &str) -> bool
     ensures { result ≡ has_value option word.now options.now }
 {
     match options.value(option) {
@@ -20,16 +18,17 @@ fn has_value(options: &OptionTable, option: OptionName, word: &str) -> bool
     }
 }
 
-impl Button {
-    /// Whether the button can't be pressed.
+impl Widget {
+    /// Whether a button can't be pressed, and an entry takes no part in anything: its state is `disabled`.
     pub fn is_disabled(&self) -> bool
         ensures { result ≡ has_value OptionName.State (codes "disabled") self.now.options }
     {
         has_value(&self.options, OptionName::State, "disabled")
     }
 
-    /// The script that the button runs (`invoke` of button(n)), which is not copied; none where it is disabled. It takes no memory.
-    pub fn invoke(&self) -> Option<&Text>
+    /// The script that a button runs (`invoke` of button(n)), which is not copied; none where it is disabled, and of a widget without `-command`.
+    /// It takes no memory.
+    pub fn invoked(&self) -> Option<&Text>
         ensures { option_copied result ≡ invoked self.now.options }
     {
         if self.is_disabled() {
@@ -47,44 +46,18 @@ impl Button {
             None => Ok(Text::empty()),
         }
     }
-}
 
-impl EntryWidget {
-    /// Whether the text can be edited: its state is `normal`.
-    pub fn is_editable(&self) -> bool
-        ensures { result ≡ has_value OptionName.State (codes "normal") self.now.options }
-    {
-        has_value(&self.options, OptionName::State, "normal")
-    }
-
-    /// Whether the entry takes no part in anything: its state is `disabled`.
-    pub fn is_disabled(&self) -> bool
-        ensures { result ≡ has_value OptionName.State (codes "disabled") self.now.options }
-    {
-        has_value(&self.options, OptionName::State, "disabled")
-    }
-}
-
-impl ListboxWidget {
-    /// Whether several items can be selected by the pointer.
+    /// Whether several items of a listbox can be selected by the pointer.
     pub fn is_multiple(&self) -> bool
         ensures { result ≡ has_value OptionName.SelectMode (codes "multiple") self.now.options }
     {
         has_value(&self.options, OptionName::SelectMode, "multiple")
     }
 
-    /// Whether the selection goes with the pointer.
+    /// Whether the selection of a listbox goes with the pointer.
     pub fn is_browse(&self) -> bool
         ensures { result ≡ has_value OptionName.SelectMode (codes "browse") self.now.options }
     {
         has_value(&self.options, OptionName::SelectMode, "browse")
-    }
-
-    /// The place of the item at a height, so many pixels from the upper edge. It takes no memory.
-    pub fn row(&self, y: i64) -> usize
-        ensures { result ≡ row_at y (amount_of OptionName.BorderWidth self.now.options) (length self.now.listbox.items) }
-    {
-        self.listbox
-            .row(y, self.options.amount(OptionName::BorderWidth))
     }
 }

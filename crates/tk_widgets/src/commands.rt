@@ -5,12 +5,12 @@ ghost use Rattle.tcl_text.specs.Answers.{Gives, Refuses, answers, bounded};
 ghost use Rattle.tk_options.specs.Options.{description};
 ghost use Rattle.tk_options.specs.FaultTexts.{fault_text};
 ghost use Rattle.tk_widgets.specs.Commands as spec;
-ghost use Rattle.tk_widgets.specs.Outcomes.{asked_by};
+ghost use Rattle.tk_widgets.specs.Outcomes.{IsAskedBy, asked_by};
 
-use crate::entry_commands::{asked, entry_words, nothing};
+use crate::entry_commands::{EntryEdit, edit_wanted, entry_words};
 use crate::listbox_commands::listbox_words;
-use crate::outcome::{WidgetAct, WidgetChange, WidgetRequest};
-use crate::widget::{Button, Widget};
+use crate::outcome::{WidgetAct, WidgetChange, WidgetRequest, nothing, told};
+use crate::widget::{Parts, Widget};
 use std::alloc::{AllocError, Global};
 use tcl_text::answers::{Refusal, bad_option, copy_answer, limit_reached, wrong_args};
 use tcl_text::items::list_answer;
@@ -50,17 +50,31 @@ impl Widget {
         asked(wanted(alloc, self, variable, words))
     }
 
-    /// The options of the widget.
-    pub fn options(&self) -> &OptionTable
-        ensures { result.now ≡ spec.options_in self.now }
+    /// What a key asks of an entry, tested: its edit, where the entry can be edited and the key edits it. The error's text is the limit's (4) where
+    /// the entry's text would pass 65,536 bytes. Nothing is asked of another widget, and nothing is changed yet.
+    pub fn ask_edit(
+        &self,
+        alloc: Global,
+        variable: Option<&Text>,
+        edit: &EntryEdit,
+    ) -> Result<WidgetRequest, AllocError>
+        ensures { IfOk result (λ asked. asked ≡ asked_by (spec.edit_asked edit.now (option_copied variable.entry) self.now)) }
     {
-        match self {
-            Widget::Frame(widget) => &widget.options,
-            Widget::Label(widget) => &widget.options,
-            Widget::Button(widget) => &widget.options,
-            Widget::Entry(widget) => &widget.options,
-            Widget::Listbox(widget) => &widget.options,
+        match &self.parts {
+            Parts::Entry(entry) => asked(edit_wanted(alloc, &self.options, entry, variable, edit)),
+            _ => Ok(nothing()),
         }
+    }
+}
+
+/// What is asked for, an error too.
+fn asked(wanted: Result<WidgetRequest, Refusal>) -> Result<WidgetRequest, AllocError>
+    ensures { IfOk result (λ asked. IsAskedBy wanted asked) }
+{
+    match wanted {
+        Ok(asked) => Ok(asked),
+        Err(Refusal::Error(text)) => Ok(WidgetRequest::Done(WidgetAct::Fault(text))),
+        Err(Refusal::NoMemory) => Err(AllocError),
     }
 }
 
@@ -78,8 +92,8 @@ fn wanted(
         return wrong_args(alloc, "path option ?arg ..?");
     };
     match name.as_str() {
-        "cget" => cget(alloc, widget.options(), words),
-        "configure" => configure(alloc, widget.options(), words),
+        "cget" => cget(alloc, &widget.options, words),
+        "configure" => configure(alloc, &widget.options, words),
         _ => own_words(alloc, widget, variable, name, words),
     }
 }
@@ -92,14 +106,14 @@ fn own_words(
     name: &Text,
     words: &[Text],
 ) -> Result<WidgetRequest, Refusal>
-    ensures { Gives result (spec.own_words name.now words.now (option_copied variable.entry) widget.now) }
+    ensures { Gives result (spec.own_words name.now words.now (option_copied variable.entry) widget.now.options widget.now.parts) }
 {
-    match widget {
-        Widget::Frame(_) => bad_option(alloc, name),
-        Widget::Label(_) => bad_option(alloc, name),
-        Widget::Button(button) => button_words(alloc, button, name, words),
-        Widget::Entry(entry) => entry_words(alloc, entry, variable, name, words),
-        Widget::Listbox(listbox) => listbox_words(alloc, &listbox.listbox, name, words),
+    match &widget.parts {
+        Parts::Frame => bad_option(alloc, name),
+        Parts::Label => bad_option(alloc, name),
+        Parts::Button => button_words(alloc, widget, name, words),
+        Parts::Entry(entry) => entry_words(alloc, &widget.options, entry, variable, name, words),
+        Parts::Listbox(listbox) => listbox_words(alloc, listbox, name, words),
     }
 }
 
@@ -107,7 +121,7 @@ fn own_words(
 #[tactic(auto, unfolding(crate::specs::Commands::button_words))]
 fn button_words(
     alloc: Global,
-    button: &Button,
+    button: &Widget,
     name: &Text,
     words: &[Text],
 ) -> Result<WidgetRequest, Refusal>
@@ -119,11 +133,11 @@ fn button_words(
     }
 }
 
-fn button_invoke(alloc: Global, button: &Button, words: &[Text]) -> Result<WidgetRequest, Refusal>
+fn button_invoke(alloc: Global, button: &Widget, words: &[Text]) -> Result<WidgetRequest, Refusal>
     ensures { Gives result (spec.button_invoke words.now button.now.options) }
 {
     match words {
-        [] => match button.invoke() {
+        [] => match button.invoked() {
             Some(script) => Ok(WidgetRequest::Done(WidgetAct::Script(script.copy()?))),
             None => Ok(nothing()),
         },
@@ -136,7 +150,7 @@ fn cget(alloc: Global, options: &OptionTable, words: &[Text]) -> Result<WidgetRe
 {
     match words {
         [option] => match options.cget(option) {
-            Ok(value) => Ok(WidgetRequest::Done(WidgetAct::Answer(value.copy()?))),
+            Ok(value) => Ok(told(value.copy()?)),
             Err(OptionFault::NoMemory) => Err(Refusal::NoMemory),
             Err(fault) => Err(option_refusal(alloc, &fault)),
         },
@@ -177,7 +191,7 @@ fn describe_all(alloc: Global, options: &OptionTable) -> Result<WidgetRequest, R
     match options.describe(alloc) {
         Ok(all) => {
             let text = list_answer(alloc, all.as_slice())?;
-            Ok(WidgetRequest::Done(WidgetAct::Answer(text)))
+            Ok(told(text))
         }
         Err(TextFault::TooLong) => Err(limit_reached(alloc)),
         Err(TextFault::NoMemory) => Err(Refusal::NoMemory),
@@ -191,7 +205,7 @@ fn describe(alloc: Global, options: &OptionTable, option: &Text) -> Result<Widge
     match options.entry(option) {
         Ok(entry) => {
             let text = description_of(alloc, entry)?;
-            Ok(WidgetRequest::Done(WidgetAct::Answer(text)))
+            Ok(told(text))
         }
         Err(OptionFault::NoMemory) => Err(Refusal::NoMemory),
         Err(fault) => Err(option_refusal(alloc, &fault)),

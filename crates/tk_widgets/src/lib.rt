@@ -12,6 +12,7 @@ mod outcome;
 mod size;
 mod widget;
 
+pub use entry_commands::EntryEdit;
 pub use listbox_keys::RowStep;
 pub use outcome::{VariableWrite, WidgetAct, WidgetChange, WidgetRequest};
-pub use widget::{Button, EntryWidget, Frame, Label, ListboxWidget, Widget};
+pub use widget::{Parts, Widget};

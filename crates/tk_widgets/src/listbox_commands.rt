@@ -3,9 +3,8 @@ ghost use Rattle.std.specs.Prelude.{◌≡◌, map, IfOk};
 ghost use Rattle.std.specs.Fmt.{decimal};
 ghost use Rattle.tcl_text.specs.Answers.{Gives, answers};
 ghost use Rattle.tk_widgets.specs.ListboxCommands as spec;
-ghost use Rattle.tk_widgets.specs.Outcomes.{told};
 
-use crate::outcome::{WidgetAct, WidgetChange, WidgetRequest};
+use crate::outcome::{WidgetChange, WidgetRequest, told};
 use itoa::Buffer;
 use std::alloc::{AllocError, Global};
 use tcl_text::answers::{
@@ -74,6 +73,32 @@ fn span_of(
     })
 }
 
+/// The items that one index names, or two with those between them; else the usage is told.
+fn range_in(
+    alloc: Global,
+    listbox: &Listbox,
+    words: &[Text],
+    usage: &str,
+) -> Result<ItemRange, Refusal>
+    ensures { Gives result (spec.range_in words.now usage.now listbox.now) }
+{
+    match words {
+        [first] => span_of(alloc, listbox, first, first),
+        [first, last] => span_of(alloc, listbox, first, last),
+        _ => wrong_args(alloc, usage),
+    }
+}
+
+/// The one index that the words are; else the usage is told.
+fn index_in(alloc: Global, words: &[Text], usage: &str) -> Result<ItemIndex, Refusal>
+    ensures { Gives result (spec.index_in words.now usage.now) }
+{
+    match words {
+        [index] => index_of(alloc, index),
+        _ => wrong_args(alloc, usage),
+    }
+}
+
 fn list_insert(alloc: Global, listbox: &Listbox, words: &[Text]) -> Result<WidgetRequest, Refusal>
     ensures { Gives result (spec.list_insert words.now listbox.now) }
 {
@@ -102,17 +127,8 @@ fn copies(alloc: Global, texts: &[Text]) -> Result<TextList, AllocError>
 fn list_delete(alloc: Global, listbox: &Listbox, words: &[Text]) -> Result<WidgetRequest, Refusal>
     ensures { Gives result (spec.list_delete words.now listbox.now) }
 {
-    match words {
-        [first] => {
-            let ItemRange { from, to } = span_of(alloc, listbox, first, first)?;
-            Ok(WidgetRequest::Wants(WidgetChange::DeleteItems { from, to }))
-        }
-        [first, last] => {
-            let ItemRange { from, to } = span_of(alloc, listbox, first, last)?;
-            Ok(WidgetRequest::Wants(WidgetChange::DeleteItems { from, to }))
-        }
-        _ => wrong_args(alloc, "path delete first ?last?"),
-    }
+    let ItemRange { from, to } = range_in(alloc, listbox, words, "path delete first ?last?")?;
+    Ok(WidgetRequest::Wants(WidgetChange::DeleteItems { from, to }))
 }
 
 fn list_get(alloc: Global, listbox: &Listbox, words: &[Text]) -> Result<WidgetRequest, Refusal>
@@ -123,13 +139,13 @@ fn list_get(alloc: Global, listbox: &Listbox, words: &[Text]) -> Result<WidgetRe
             let ItemRange { from, to } = span_of(alloc, listbox, index, index)?;
             let texts = listbox.get(alloc, from, to)?;
             let text = first_of(alloc, texts.as_slice())?;
-            Ok(WidgetRequest::Done(WidgetAct::Answer(text)))
+            Ok(told(text))
         }
         [first, last] => {
             let ItemRange { from, to } = span_of(alloc, listbox, first, last)?;
             let texts = listbox.get(alloc, from, to)?;
             let text = list_answer(alloc, texts.as_slice())?;
-            Ok(WidgetRequest::Done(WidgetAct::Answer(text)))
+            Ok(told(text))
         }
         _ => wrong_args(alloc, "path get first ?last?"),
     }
@@ -151,7 +167,7 @@ fn list_size(alloc: Global, listbox: &Listbox, words: &[Text]) -> Result<WidgetR
     match words {
         [] => {
             let text = decimal_answer(alloc, listbox.size())?;
-            Ok(WidgetRequest::Done(WidgetAct::Answer(text)))
+            Ok(told(text))
         }
         _ => wrong_args(alloc, "path size"),
     }
@@ -160,14 +176,8 @@ fn list_size(alloc: Global, listbox: &Listbox, words: &[Text]) -> Result<WidgetR
 fn list_index(alloc: Global, listbox: &Listbox, words: &[Text]) -> Result<WidgetRequest, Refusal>
     ensures { Gives result (spec.list_index words.now listbox.now) }
 {
-    match words {
-        [index] => {
-            let index = index_of(alloc, index)?;
-            let text = number_of(alloc, listbox, index)?;
-            Ok(WidgetRequest::Done(WidgetAct::Answer(text)))
-        }
-        _ => wrong_args(alloc, "path index index"),
-    }
+    let index = index_in(alloc, words, "path index index")?;
+    Ok(told(number_of(alloc, listbox, index)?))
 }
 
 /// The number of an index, which isn't cut to the items.
@@ -193,7 +203,7 @@ fn list_curselection(
             let places = listbox.selection(alloc)?;
             let numbers = decimals(alloc, &places)?;
             let text = list_answer(alloc, numbers.as_slice())?;
-            Ok(WidgetRequest::Done(WidgetAct::Answer(text)))
+            Ok(told(text))
         }
         _ => wrong_args(alloc, "path curselection"),
     }
@@ -255,17 +265,13 @@ fn selection_words(
 fn selection_set(alloc: Global, listbox: &Listbox, words: &[Text]) -> Result<WidgetRequest, Refusal>
     ensures { Gives result (spec.selection_set words.now listbox.now) }
 {
-    match words {
-        [first] => {
-            let ItemRange { from, to } = span_of(alloc, listbox, first, first)?;
-            Ok(WidgetRequest::Wants(WidgetChange::Select(Choice::Set { from, to })))
-        }
-        [first, last] => {
-            let ItemRange { from, to } = span_of(alloc, listbox, first, last)?;
-            Ok(WidgetRequest::Wants(WidgetChange::Select(Choice::Set { from, to })))
-        }
-        _ => wrong_args(alloc, "path selection set first ?last?"),
-    }
+    let ItemRange { from, to } = range_in(
+        alloc,
+        listbox,
+        words,
+        "path selection set first ?last?",
+    )?;
+    Ok(WidgetRequest::Wants(WidgetChange::Select(Choice::Set { from, to })))
 }
 
 fn selection_clear(
@@ -275,17 +281,13 @@ fn selection_clear(
 ) -> Result<WidgetRequest, Refusal>
     ensures { Gives result (spec.selection_clear words.now listbox.now) }
 {
-    match words {
-        [first] => {
-            let ItemRange { from, to } = span_of(alloc, listbox, first, first)?;
-            Ok(WidgetRequest::Wants(WidgetChange::Select(Choice::Clear { from, to })))
-        }
-        [first, last] => {
-            let ItemRange { from, to } = span_of(alloc, listbox, first, last)?;
-            Ok(WidgetRequest::Wants(WidgetChange::Select(Choice::Clear { from, to })))
-        }
-        _ => wrong_args(alloc, "path selection clear first ?last?"),
-    }
+    let ItemRange { from, to } = range_in(
+        alloc,
+        listbox,
+        words,
+        "path selection clear first ?last?",
+    )?;
+    Ok(WidgetRequest::Wants(WidgetChange::Select(Choice::Clear { from, to })))
 }
 
 fn selection_includes(
@@ -299,7 +301,7 @@ fn selection_includes(
         [index] => {
             let ItemRange { from, to } = span_of(alloc, listbox, index, index)?;
             let text = truth_answer(alloc, listbox.includes(from, to))?;
-            Ok(WidgetRequest::Done(WidgetAct::Answer(text)))
+            Ok(told(text))
         }
         _ => wrong_args(alloc, "path selection includes index"),
     }
@@ -308,12 +310,7 @@ fn selection_includes(
 fn list_activate(alloc: Global, listbox: &Listbox, words: &[Text]) -> Result<WidgetRequest, Refusal>
     ensures { Gives result (spec.list_activate words.now listbox.now) }
 {
-    match words {
-        [index] => {
-            let index = index_of(alloc, index)?;
-            let place = index.before(listbox.size(), listbox.active());
-            Ok(WidgetRequest::Wants(WidgetChange::Activate(place)))
-        }
-        _ => wrong_args(alloc, "path activate index"),
-    }
+    let index = index_in(alloc, words, "path activate index")?;
+    let place = index.before(listbox.size(), listbox.active());
+    Ok(WidgetRequest::Wants(WidgetChange::Activate(place)))
 }

@@ -1,4 +1,7 @@
 //! What the words of a widget's command ask for, and what is told.
+ghost use Rattle.std.specs.Prelude.{◌≡◌, Ok};
+ghost use Rattle.tk_widgets.specs.Outcomes.{nothing, told};
+
 use tcl_text::{Text, TextList};
 use tk_entry::Entry;
 use tk_listbox::Choice;
@@ -41,6 +44,20 @@ pub enum WidgetChange {
     Activate(usize),
     /// The selection of a listbox is changed.
     Select(Choice),
+}
+
+/// Nothing is changed, and this is the result.
+pub fn told(text: Text) -> WidgetRequest
+    ensures { Ok result ≡ told (Ok text) }
+{
+    WidgetRequest::Done(WidgetAct::Answer(text))
+}
+
+/// Nothing is changed, and the result is empty.
+pub fn nothing() -> WidgetRequest
+    ensures { Ok result ≡ nothing }
+{
+    told(Text::empty())
 }
 
 /// A variable that is to be set before a widget is changed.

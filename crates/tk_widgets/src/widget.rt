@@ -1,7 +1,7 @@
 ghost use Rattle.std.specs.Prelude.{◌≡◌, [], Some, IfOk};
 ghost use Rattle.tk_widgets.specs.Classes.{value_told};
 ghost use Rattle.std.specs.Option.{option_copied};
-ghost use Rattle.tk_widgets.specs.Sizes.{requested, new_widget, text_size, text_shown};
+ghost use Rattle.tk_widgets.specs.Sizes.{requested, new_parts, new_widget, text_size, text_shown};
 
 use crate::size::{entry_size, frame_size, listbox_size, text_shown, text_size};
 use std::alloc::{AllocError, Global};
@@ -11,44 +11,41 @@ use tk_entry::Entry;
 use tk_listbox::Listbox;
 use tk_options::OptionTable;
 
-/// A frame (frame(n)), which the main window is too.
+/// A widget (options(n)): its options, and what its kind has beside them. The calls take the text of the variable that `-textvariable` names, where
+/// it can be read, as `variable`.
+pub struct Widget {
+    pub options: OptionTable,
+    pub parts: Parts,
+}
+
+/// What a widget of a kind has beside its options.
 #[derive(Drop)]
-pub struct Frame {
-    pub options: OptionTable,
+pub enum Parts {
+    /// A frame (frame(n)), which the main window is too.
+    Frame,
+    /// A label (label(n)).
+    Label,
+    /// A button (button(n)).
+    Button,
+    /// The text of an entry, with its cursor (entry(n)).
+    Entry(Entry),
+    /// The items of a listbox, and which are chosen (listbox(n)).
+    Listbox(Listbox),
 }
 
-/// A label (label(n)).
-#[derive(Drop)]
-pub struct Label {
-    pub options: OptionTable,
-}
-
-/// A button (button(n)).
-#[derive(Drop)]
-pub struct Button {
-    pub options: OptionTable,
-}
-
-/// An entry (entry(n)).
-pub struct EntryWidget {
-    pub options: OptionTable,
-    pub entry: Entry,
-}
-
-/// A listbox (listbox(n)).
-pub struct ListboxWidget {
-    pub options: OptionTable,
-    pub listbox: Listbox,
-}
-
-/// A widget of one of the five kinds. The calls take the text of the variable that `-textvariable` names, where it can be read, as `variable`.
-#[derive(Drop)]
-pub enum Widget {
-    Frame(Frame),
-    Label(Label),
-    Button(Button),
-    Entry(EntryWidget),
-    Listbox(ListboxWidget),
+impl Parts {
+    /// Those of a new widget.
+    fn new(alloc: Global, kind: Kind) -> Result<Parts, AllocError>
+        ensures { IfOk result (λ parts. parts ≡ new_parts kind) }
+    {
+        match kind {
+            Kind::Frame => Ok(Parts::Frame),
+            Kind::Label => Ok(Parts::Label),
+            Kind::Button => Ok(Parts::Button),
+            Kind::Entry => Ok(Parts::Entry(Entry::new())),
+            Kind::Listbox => Ok(Parts::Listbox(Listbox::new(alloc)?)),
+        }
+    }
 }
 
 impl Widget {
@@ -56,20 +53,9 @@ impl Widget {
     pub fn new(alloc: Global, kind: Kind) -> Result<Widget, AllocError>
         ensures { IfOk result (λ widget. widget ≡ new_widget kind) }
     {
+        let parts = Parts::new(alloc, kind)?;
         let options = OptionTable::new(alloc, kind)?;
-        match kind {
-            Kind::Frame => Ok(Widget::Frame(Frame { options })),
-            Kind::Label => Ok(Widget::Label(Label { options })),
-            Kind::Button => Ok(Widget::Button(Button { options })),
-            Kind::Entry => Ok(Widget::Entry(EntryWidget {
-                options,
-                entry: Entry::new(),
-            })),
-            Kind::Listbox => Ok(Widget::Listbox(ListboxWidget {
-                options,
-                listbox: Listbox::new(alloc)?,
-            })),
-        }
+        Ok(Widget { options, parts })
     }
 
     /// What the widget tells as its value: the text that it shows, or the list of all items (`get` of entry(n) and listbox(n)); a frame has
@@ -77,12 +63,12 @@ impl Widget {
     pub fn value(&self, alloc: Global, variable: Option<&Text>) -> Result<Option<Text>, AllocError>
         ensures { IfOk result (λ value. value ≡ value_told self.now (option_copied variable.entry)) }
     {
-        match self {
-            Widget::Frame(_) => Ok(None),
-            Widget::Label(label) => shown_value(alloc, variable, &label.options),
-            Widget::Button(button) => shown_value(alloc, variable, &button.options),
-            Widget::Entry(entry) => Ok(Some(entry.entry.shown(variable).copy()?)),
-            Widget::Listbox(listbox) => Ok(Some(listbox.listbox.list().copy()?)),
+        match &self.parts {
+            Parts::Frame => Ok(None),
+            Parts::Label => shown_value(alloc, variable, &self.options),
+            Parts::Button => shown_value(alloc, variable, &self.options),
+            Parts::Entry(entry) => Ok(Some(entry.shown(variable).copy()?)),
+            Parts::Listbox(listbox) => Ok(Some(listbox.list().copy()?)),
         }
     }
 
@@ -90,12 +76,12 @@ impl Widget {
     pub fn requested_size(&self, variable: Option<&Text>) -> (u32, u32)
         ensures { result ≡ requested self.now (option_copied variable.entry) }
     {
-        match self {
-            Widget::Frame(frame) => frame_size(&frame.options),
-            Widget::Label(label) => shown_size(variable, &label.options),
-            Widget::Button(button) => shown_size(variable, &button.options),
-            Widget::Entry(entry) => entry_size(&entry.options),
-            Widget::Listbox(listbox) => listbox_size(&listbox.options),
+        match self.parts {
+            Parts::Frame => frame_size(&self.options),
+            Parts::Label => shown_size(variable, &self.options),
+            Parts::Button => shown_size(variable, &self.options),
+            Parts::Entry(_) => entry_size(&self.options),
+            Parts::Listbox(_) => listbox_size(&self.options),
         }
     }
 }
@@ -120,21 +106,11 @@ fn shown_value(
 }
 
 /// By hand: a proof sees one call where it is dropped, and not its parts.
-impl Drop for EntryWidget {
+impl Drop for Widget {
     fn drop(self) {
-        let EntryWidget {
+        let Widget {
             options: _,
-            entry: _,
-        } = self;
-    }
-}
-
-/// By hand: a proof sees one call where it is dropped, and not its parts.
-impl Drop for ListboxWidget {
-    fn drop(self) {
-        let ListboxWidget {
-            options: _,
-            listbox: _,
+            parts: _,
         } = self;
     }
 }

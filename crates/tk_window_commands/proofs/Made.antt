@@ -6,7 +6,6 @@ use Rattle.tcl_text.specs.declared.commands.answers.Refusal.{Refusal}
 use Rattle.tcl_text.specs.declared.commands.answers.Refusal.TheVariants.{Error, NoMemory}
 use Rattle.tcl_vars.specs.Store.{Store}
 use Rattle.tk_base.specs.declared.kind.Kind.{Kind}
-use Rattle.tk_base.specs.declared.kind.Kind.TheVariants.{Frame, Label, Button, Entry, Listbox}
 use Rattle.tk_options.specs.FaultTexts.{fault_text}
 use Rattle.tk_options.specs.declared.fault.OptionFault.{OptionFault}
 use Rattle.tk_options.specs.declared.settings.Setting.{Setting}
@@ -14,7 +13,7 @@ use Rattle.tk_options.specs.Options.{settings, with_settings}
 use Rattle.tk_options.specs.Rows.{options_of}
 use Rattle.tk_screen.specs.Changes.{wrote}
 use Rattle.tk_screen.specs.Own.{Own, with_made}
-use Rattle.tk_widgets.specs.Commands.{Told, made, options_in, with_options}
+use Rattle.tk_widgets.specs.Commands.{Told, made, with_options}
 use Rattle.tk_widgets.specs.declared.outcome.WidgetChange.TheVariants.{Configure}
 use Rattle.tk_widgets.specs.declared.outcome.WidgetAct.{WidgetAct}
 use Rattle.tk_widgets.specs.declared.widget.Widget.{Widget}
@@ -23,20 +22,13 @@ use Rattle.tk_widgets.specs.Sizes.{new_widget}
 use Rattle.tk_window_commands.specs.Create.{made_after, made_with, configured, configured_new}
 use Rattle.tk_window_commands.specs.declared.create.Ready.{Ready}
 
-options_new : (kind : Kind) → options_in (new_widget kind) ≡ options_of kind
-options_new Frame = refl
-options_new Label = refl
-options_new Button = refl
-options_new Entry = refl
-options_new Listbox = refl
-
 ok_settings : (given : Result (List Setting) OptionFault) (all : List Setting) → or_fault given ≡ Ok all → given ≡ Ok all
 ok_settings (Ok some) all is = cc
 ok_settings (Err fault) all is = absurd (cc)
 
-pub given_ok : (kind : Kind) (widget : Widget) (options : List (List ℕ)) (all : List Setting) → widget ≡ new_widget kind → or_fault (settings options (options_in widget)) ≡ Ok all → settings options (options_of kind) ≡ Ok all
+pub given_ok : (kind : Kind) (widget : Widget) (options : List (List ℕ)) (all : List Setting) → widget ≡ new_widget kind → or_fault (settings options widget.options) ≡ Ok all → settings options (options_of kind) ≡ Ok all
 given_ok kind widget options all new is =
-    ap (settings options) (sym (options_new kind) ∙ ap options_in (sym new)) ∙ ok_settings (settings options (options_in widget)) all is
+    ap (settings options) (ap (λ (w : Widget). w.options) (sym new)) ∙ ok_settings (settings options widget.options) all is
 
 fault_told : (refusal : Refusal) (kind : Kind) (given : Result (List Setting) OptionFault)
     → Gives {T = List Setting} (Err refusal) (or_fault given) → Gives {T = Ready} (Err refusal) (configured_new kind given)
@@ -48,13 +40,13 @@ fault_told (Error message) kind (Err fault) gives =
 
 -- options that are refused
 pub given_refused : (refusal : Refusal) (kind : Kind) (widget : Widget) (options : List (List ℕ)) → widget ≡ new_widget kind
-    → Gives {T = List Setting} (Err refusal) (or_fault (settings options (options_in widget))) → Gives {T = Ready} (Err refusal) (configured_new kind (settings options (options_of kind)))
+    → Gives {T = List Setting} (Err refusal) (or_fault (settings options widget.options)) → Gives {T = Ready} (Err refusal) (configured_new kind (settings options (options_of kind)))
 given_refused refusal kind widget options new gives =
-    let same : settings options (options_in widget) ≡ settings options (options_of kind) = ap (settings options) (ap options_in new ∙ options_new kind) in
+    let same : settings options widget.options ≡ settings options (options_of kind) = ap (settings options) (ap (λ (w : Widget). w.options) new) in
     fault_told refusal kind (settings options (options_of kind)) (subst (λ given. Gives {T = List Setting} (Err refusal) (or_fault given)) same gives)
 
 -- options that are set
-pub given_set : (kind : Kind) (widget : Widget) (options : List (List ℕ)) (all : List Setting) (done : Ready) → widget ≡ new_widget kind → or_fault (settings options (options_in widget)) ≡ Ok all
+pub given_set : (kind : Kind) (widget : Widget) (options : List (List ℕ)) (all : List Setting) (done : Ready) → widget ≡ new_widget kind → or_fault (settings options widget.options) ≡ Ok all
     → done ≡ configured all widget → configured_new kind (settings options (options_of kind)) ≡ Ok done
 given_set kind widget options all done new is set =
     ap (configured_new kind) (given_ok kind widget options all new is) ∙ ap Ok (ap (configured all) (sym new) ∙ sym set)

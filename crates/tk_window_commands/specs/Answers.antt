@@ -1,4 +1,4 @@
--- What commands on windows leave and answer.
+-- Meaning. What commands on windows leave and answer.
 use Rattle.std.specs.Prelude.{◌≡◌, ℕ, List, ◌++◌, Result, Ok, Err, ⊤, codes}
 use Rattle.tcl_text.specs.Answers.{Answer, Gives, fails, quoted}
 use Rattle.tcl_text.specs.declared.commands.answers.Refusal.{Refusal}

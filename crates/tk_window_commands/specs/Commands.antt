@@ -1,8 +1,8 @@
--- The commands on windows by their names.
-use Rattle.std.specs.Prelude.{ℕ, if◌then◌else◌, List, Option, None, Some, codes}
+-- Meaning. The commands on windows by their names.
+use Rattle.std.specs.Prelude.{ℕ, if◌then◌else◌, List, Option, Some, option_map, codes}
 use Rattle.std.specs.Str.{bytes_eq}
 use Rattle.tcl_vars.specs.Store.{Store}
-use Rattle.tk_base.specs.declared.kind.Kind.TheVariants.{Frame, Label, Button, Entry, Listbox}
+use Rattle.tk_options.specs.Rows.{kind_named}
 use Rattle.tk_screen.specs.Own.{Own}
 use Rattle.tk_window_commands.specs.Answers.{Done, Told, keeps}
 use Rattle.tk_window_commands.specs.Create.{create_words}
@@ -13,14 +13,9 @@ use Rattle.tk_window_commands.specs.Wm.{wm_words}
 
 unfoldable pub window_command_named : List ℕ → Option WindowCommand
 window_command_named name =
-    if bytes_eq name (codes "frame") then Some (Make Frame)
-    else (if bytes_eq name (codes "label") then Some (Make Label)
-    else (if bytes_eq name (codes "button") then Some (Make Button)
-    else (if bytes_eq name (codes "entry") then Some (Make Entry)
-    else (if bytes_eq name (codes "listbox") then Some (Make Listbox)
-    else (if bytes_eq name (codes "winfo") then Some Winfo
-    else (if bytes_eq name (codes "wm") then Some Wm
-    else None))))))
+    if bytes_eq name (codes "winfo") then Some Winfo
+    else if bytes_eq name (codes "wm") then Some Wm
+    else option_map Make (kind_named name)
 
 -- a command that leaves the variables
 abbrev pub with_store : Store → Told → Done

@@ -1,16 +1,15 @@
--- The commands of frame(n), label(n), button(n), entry(n) and listbox(n) that make a window.
+-- Meaning. The commands of frame(n), label(n), button(n), entry(n) and listbox(n) that make a window.
 use Rattle.std.specs.Prelude.{ℕ, if◌then◌else◌, List, [], ◌∷◌, ◌++◌, Option, None, Some, Result, Ok, Err, codes}
 use Rattle.std.specs.Option.{option_map_or}
 use Rattle.std.specs.Str.{bytes_eq}
 use Rattle.tcl_text.specs.Answers.{fails, quoted, wrong_args}
 use Rattle.tcl_vars.specs.Store.{Store}
 use Rattle.tk_base.specs.declared.kind.Kind.{Kind}
-use Rattle.tk_base.specs.declared.kind.Kind.TheVariants.{Frame, Label, Button, Entry, Listbox}
 use Rattle.tk_options.specs.declared.fault.OptionFault.{OptionFault}
 use Rattle.tk_options.specs.declared.settings.Setting.{Setting}
 use Rattle.tk_options.specs.FaultTexts.{fault_text as option_text}
 use Rattle.tk_options.specs.Options.{settings, with_settings}
-use Rattle.tk_options.specs.Rows.{options_of}
+use Rattle.tk_options.specs.Rows.{options_of, row_of}
 use Rattle.tk_screen.specs.Changes.{wrote}
 use Rattle.tk_screen.specs.Own.{Own, with_made}
 use Rattle.tk_tree.specs.Create.{refusal}
@@ -24,14 +23,6 @@ use Rattle.tk_widgets.specs.declared.widget.Widget.{Widget}
 use Rattle.tk_widgets.specs.Sizes.{new_widget}
 use Rattle.tk_window_commands.specs.Answers.{Done, keeps}
 use Rattle.tk_window_commands.specs.declared.create.Ready.{Ready}
-
--- the usage of the command that makes widgets of a kind
-abbrev pub usage_of : Kind → List ℕ
-usage_of Frame = codes "frame path ?option value ..?"
-usage_of Label = codes "label path ?option value ..?"
-usage_of Button = codes "button path ?option value ..?"
-usage_of Entry = codes "entry path ?option value ..?"
-usage_of Listbox = codes "listbox path ?option value ..?"
 
 -- ---- the path
 
@@ -78,5 +69,5 @@ made_unless kind path options own store None = made_with kind path own store (co
 
 -- KIND path ?option value ..?: the answer is the path; a refused command changes nothing
 unfoldable pub create_words : Kind → List (List ℕ) → Own → Store → Done
-create_words kind [] own store = keeps own store (wrong_args (usage_of kind))
+create_words kind [] own store = keeps own store (wrong_args (row_of kind).usage)
 create_words kind (path ∷ options) own store = made_unless kind path options own store (path_refusal path own.tree)

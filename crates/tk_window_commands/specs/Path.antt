@@ -1,4 +1,4 @@
--- A window's own command, `path ..`, whose first word is the window's path.
+-- Meaning. A window's own command, `path ..`, whose first word is the window's path.
 use Rattle.std.specs.Prelude.{ℕ, List, Option, None, Some}
 use Rattle.tcl_vars.specs.Store.{Store}
 use Rattle.tk_screen.specs.Changes.{Changed, stays, changed}

@@ -1,4 +1,4 @@
--- winfo(n): what can be asked of a window.
+-- Meaning. winfo(n): what can be asked of a window.
 use Rattle.std.specs.Prelude.{ℕ, if◌then◌else◌, List, [], ◌∷◌, ◌++◌, map, Option, None, Some, true, false, unwrap_or, Ok, codes}
 use Rattle.std.specs.Fmt.{decimal}
 use Rattle.std.specs.Option.{option_map_or}

@@ -1,4 +1,4 @@
--- wm(n): the title.
+-- Meaning. wm(n): the title.
 use Rattle.std.specs.Prelude.{ℕ, Bool, ◌&&◌, is_some, if◌then◌else◌, List, [], ◌∷◌, Ok, codes}
 use Rattle.std.specs.Option.{option_map_or}
 use Rattle.std.specs.Str.{bytes_eq}

@@ -11,6 +11,7 @@ use tcl_text::Text;
 use tcl_text::message::Answer;
 use tcl_vars::Scopes;
 use tk_base::Kind;
+use tk_options::kind_named;
 use tk_screen::Screen;
 
 /// A command on windows.
@@ -30,14 +31,9 @@ pub fn window_command_named(name: &str) -> Option<WindowCommand>
     ensures { result ≡ spec.window_command_named name.now }
 {
     match name {
-        "frame" => Some(WindowCommand::Make(Kind::Frame)),
-        "label" => Some(WindowCommand::Make(Kind::Label)),
-        "button" => Some(WindowCommand::Make(Kind::Button)),
-        "entry" => Some(WindowCommand::Make(Kind::Entry)),
-        "listbox" => Some(WindowCommand::Make(Kind::Listbox)),
         "winfo" => Some(WindowCommand::Winfo),
         "wm" => Some(WindowCommand::Wm),
-        _ => None,
+        _ => kind_named(name).map(WindowCommand::Make),
     }
 }
 

@@ -5,7 +5,6 @@ ghost use Rattle.tk_options.specs.Options.{settings};
 ghost use Rattle.tk_options.specs.Rows.{options_of};
 ghost use Rattle.tk_screen.specs.Own.{own_of, LeavesOthers};
 ghost use Rattle.tk_tree.specs.Own.{own_of as tree_of};
-ghost use Rattle.tk_widgets.specs.Commands.{options_in};
 ghost use Rattle.tk_widgets.specs.Outcomes.{or_fault};
 ghost use Rattle.tk_window_commands.specs.Answers.{Does};
 ghost use Rattle.tk_window_commands.specs.Create as spec;
@@ -17,7 +16,7 @@ use tcl_text::answers::{Refusal, answered, wrong_args};
 use tcl_text::message::Answer;
 use tcl_vars::Scopes;
 use tk_base::Kind;
-use tk_options::{OptionFault, Settings};
+use tk_options::{OptionFault, Settings, row_of};
 use tk_screen::{Screen, write_variable};
 use tk_tree::{WindowFault, Windows};
 use tk_widgets::{VariableWrite, Widget, WidgetChange};
@@ -53,25 +52,12 @@ fn create_words(
     ensures others { LeavesOthers slot screen.old screen.new }
 {
     let Some((path, options)) = words.split_first() else {
-        return wrong_args(alloc, usage_of(kind));
+        return wrong_args(alloc, row_of(kind).usage);
     };
     if let Some(fault) = path_refusal(&screen.windows, slot, path) {
         return Err(path_refused(alloc, path, fault));
     }
     make(alloc, screen, scopes, slot, kind, path, options)
-}
-
-/// The usage of the command that makes widgets of a kind.
-fn usage_of(kind: Kind) -> &'static str
-    ensures { result.now ≡ spec.usage_of kind }
-{
-    match kind {
-        Kind::Frame => "frame path ?option value ..?",
-        Kind::Label => "label path ?option value ..?",
-        Kind::Button => "button path ?option value ..?",
-        Kind::Entry => "entry path ?option value ..?",
-        Kind::Listbox => "listbox path ?option value ..?",
-    }
 }
 
 /// Why no command makes a window of a path; none where it may be made.
@@ -137,9 +123,9 @@ fn configured(alloc: Global, mut widget: Widget, all: Settings) -> Result<Ready,
 
 /// What options and values set of a new widget, or the error of one that is refused (20 to 23).
 fn settings_of(alloc: Global, widget: &Widget, options: &[Text]) -> Result<Settings, Refusal>
-    ensures { Gives result (or_fault (settings options.now (options_in widget.now))) }
+    ensures { Gives result (or_fault (settings options.now widget.now.options)) }
 {
-    match widget.options().settings(alloc, options) {
+    match widget.options.settings(alloc, options) {
         Ok(all) => Ok(all),
         Err(OptionFault::NoMemory) => Err(Refusal::NoMemory),
         Err(fault) => Err(Refusal::Error(fault.message(alloc)?)),

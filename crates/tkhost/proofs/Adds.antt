@@ -8,38 +8,31 @@ use Rattle.tk_base.specs.Rect.{SharePixel}
 use Rattle.tk_route.specs.Lines.{Line}
 use Rattle.tk_app.specs.Part.{Part}
 use Rattle.tk_app.specs.Seen.{Meaning}
-use Rattle.tk_host.specs.declared.fault.HostFault.{HostFault}
-use Rattle.tk_host.specs.declared.fault.HostFault.TheVariants.{TimeBack, BadValue, NoApp, TooManyApps, NameTaken, RectOverlap, Started, Ended, Broken, NoMemory}
-use Rattle.tk_host.specs.declared.fault.HostFault.TheVariants as faults
+use Rattle.tk_route.specs.Names.{IsAppInRange}
+use Rattle.tk_route.specs.Refusals.{IsFirst, NoneApplies}
+use Rattle.tk_route.specs.declared.fault.HostFault.{HostFault}
+use Rattle.tk_route.specs.declared.fault.HostFault.TheVariants.{Refused, NoMemory}
+use Rattle.tk_route.specs.declared.fault.LineFault.{LineFault}
 use Rattle.tk_host.specs.declared.phase.Phase.{Phase}
 use Rattle.tk_host.specs.declared.phase.Phase.TheVariants.{Adding}
 use Rattle.tk_host.specs.Held.{Call, AddApp, Held, given_by, held_after, held_in, lines_after, lines_of, part_in, parts_in, phase_after}
-use Rattle.tk_host.specs.Refusals.{IsFirst, IsRefusal, NoneApplies, RefusesApp, add_faults}
-use Rattle.tk_host.specs.Spec.{Given, IsInRange, rect_of}
+use Rattle.tk_host.specs.Refusals.{IsRefusal, RefusesApp, add_faults}
+use Rattle.tk_host.specs.Spec.{Given, rect_of}
 use Rattle.tk_session.specs.Session.{AreAllowed, IsCovered, IsTaken, MayFollow, MayServe, rects_of}
-use Rattle.tk_session.specs.Session.{IsInRange as IsInRangeOfLine}
 use Rattle.tk_session.specs.declared.session.AppBlock.{AppBlock}
-use Rattle.tkhost.specs.Play.{Serve, adding, given_of}
+use Rattle.tkhost.specs.Calls.{adding, given_of}
+use Rattle.tkhost.specs.Play.{Serve}
 use Rattle.tkhost.proofs.Names.{may_be_aliases, no_name_twice}
 
-no_first : (Applies : HostFault → Type 0) (list : List HostFault) (found : HostFault) → NoneApplies Applies list → IsFirst Applies list found → ⊥
+no_first : (Applies : LineFault → Type 0) (list : List LineFault) (found : LineFault) → NoneApplies Applies list → IsFirst Applies list found → ⊥
 no_first Applies [] found none first = first
 no_first Applies (fault ∷ list) found none (inl here) = none.0 here.0
 no_first Applies (fault ∷ list) found none (inr later) = no_first Applies list found none.1 later.1
 
 -- where no fault applies, a refusal is for want of memory
-pub only_memory : (Applies : HostFault → Type 0) (list : List HostFault) (found : HostFault) → NoneApplies Applies list → IsRefusal Applies list found → found ≡ NoMemory
+pub only_memory : (Applies : LineFault → Type 0) (list : List LineFault) (found : HostFault) → NoneApplies Applies list → IsRefusal Applies list found → found ≡ NoMemory
 only_memory Applies list NoMemory none is = refl
-only_memory Applies list faults.Overlap none is = absurd (no_first Applies list faults.Overlap none is)
-only_memory Applies list TimeBack none is = absurd (no_first Applies list TimeBack none is)
-only_memory Applies list BadValue none is = absurd (no_first Applies list BadValue none is)
-only_memory Applies list NoApp none is = absurd (no_first Applies list NoApp none is)
-only_memory Applies list TooManyApps none is = absurd (no_first Applies list TooManyApps none is)
-only_memory Applies list NameTaken none is = absurd (no_first Applies list NameTaken none is)
-only_memory Applies list RectOverlap none is = absurd (no_first Applies list RectOverlap none is)
-only_memory Applies list Started none is = absurd (no_first Applies list Started none is)
-only_memory Applies list Ended none is = absurd (no_first Applies list Ended none is)
-only_memory Applies list Broken none is = absurd (no_first Applies list Broken none is)
+only_memory Applies list (Refused found) none is = absurd (no_first Applies list found none is)
 
 module _ {M : Type 0} where
   -- ── the calls that add applications ──
@@ -131,20 +124,9 @@ module _ {M : Type 0} (answer : M → Meaning) where
         | inr later ↦ inr (covered_from_rects rect apps later)
       ]
 
-  in_range : (app : AppBlock) (aliases : List (List ℕ × M)) → IsInRangeOfLine app.name app.rect app.budget → IsInRange app.name (rect_of (given_of app aliases)) (given_of app aliases).spec.budget
-  in_range app aliases fits = record {
-    named = fits.named;
-    x_fits = fits.placed.0;
-    y_fits = fits.placed.1;
-    width_fits = (fits.placed.2, fits.placed.3);
-    height_fits = (fits.placed.4, fits.placed.5);
-    total_fits = fits.total_fits;
-    refill_fits = fits.refill_fits;
-  }
-
   -- a host takes an application that may follow those that were added
   none_refuses : (apps : List AppBlock) (lists : List (List (List ℕ × M))) (app : AppBlock) (aliases : List (List ℕ × M)) → Serve apps lists → Serve (app ∷ []) (aliases ∷ [])
-      → IsInRangeOfLine app.name app.rect app.budget → MayServe [] app.aliases → MayFollow apps app.name app.rect
+      → IsAppInRange app.name app.rect app.budget → MayServe [] app.aliases → MayFollow apps app.name app.rect
       → NoneApplies (RefusesApp (held_in answer Adding (givens apps lists) []) (given_of app aliases)) add_faults
   none_refuses apps lists app aliases serve one fits serves may =
       let first : List Rect = map rect_of (givens apps lists) in
@@ -155,7 +137,7 @@ module _ {M : Type 0} (answer : M → Meaning) where
           (
             λ refuses. refuses,
             (
-              λ refuses. refuses (in_range app aliases fits, may_be_aliases app.aliases aliases one.0 serves),
+              λ refuses. refuses (fits, may_be_aliases app.aliases aliases one.0 serves),
               (
                 λ refuses. omega (arith, count, refuses, may.room),
                 (

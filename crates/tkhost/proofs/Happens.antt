@@ -3,19 +3,20 @@ use Rattle.std.proofs.Common.{◌≡◌, ◌≢◌, ℕ, suc, ◌+◌, ◌<◌, 
 use Rattle.std.proofs.lemmas.List.{reverse-append, take_more}
 use Rattle.std.proofs.Math.Seq.{drop-cons, take-length}
 use Rattle.tk_route.specs.Lines.{Line, at, moment_after, values}
-use Rattle.tk_route.specs.Refusals.{Covers, NamesNobody}
+use Rattle.tk_route.specs.Refusals.{Covers, NamesNobody, NoneApplies}
 use Rattle.tk_route.specs.Values.{Values}
 use Rattle.tk_app.specs.Seen.{Meaning}
-use Rattle.tk_host.specs.declared.fault.HostFault.TheVariants.{Ended, Broken}
+use Rattle.tk_route.specs.declared.fault.LineFault.TheVariants.{Ended, Broken}
 use Rattle.tk_host.specs.declared.phase.Phase.{Phase}
 use Rattle.tk_host.specs.declared.phase.Phase.TheVariants.{Adding, Reached, Finished}
 use Rattle.tk_host.specs.Held.{Call, End, LineAt, Start, Held, Hosted, after_line, given_by, held_after, held_in, lines_after, phase_after, reached}
-use Rattle.tk_host.specs.Refusals.{NoneApplies, PhaseRefuses, RefusesLine, RefusesMoment, line_faults, moment_faults, start_faults}
+use Rattle.tk_host.specs.Refusals.{PhaseRefuses, RefusesLine, RefusesMoment, line_faults, moment_faults, start_faults}
 use Rattle.tk_session.specs.Session.{MayHappen, line_of, moment_at, newest_first, rects_of}
 use Rattle.tk_session.specs.declared.session.AppBlock.{AppBlock}
 use Rattle.tk_session.specs.declared.session.EventLine.{EventLine}
 use Rattle.tk_session.proofs.EventLaws.{newest_first-push}
-use Rattle.tkhost.specs.Play.{Serve, adding, lining}
+use Rattle.tkhost.specs.Calls.{adding, lining}
+use Rattle.tkhost.specs.Play.{Serve}
 use Rattle.tkhost.proofs.Adds.{adding-given, adding-lines, adding-phase, givens, givens-rects, held-adding, held_by}
 
 -- the first line comes last where the newest comes first

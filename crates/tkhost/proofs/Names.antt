@@ -9,7 +9,8 @@ use Rattle.std.proofs.lemmas.Slice.Eq.{bytes_eq-Decides}
 use Rattle.tk_app.specs.Seen.{names_of}
 use Rattle.tk_session.specs.Session.{IsServed, MayServe}
 use Rattle.tk_session.specs.declared.session.AliasLine.{AliasLine}
-use Rattle.tk_host.specs.Spec.{are_aliases, have_one_name, is_command_name, is_served}
+use Rattle.tk_alias.specs.Names.{is_command_name}
+use Rattle.tk_host.specs.Spec.{are_aliases, have_one_name, is_served}
 
 -- the same of names alone
 abbrev is_one_of : List ℕ → List (List ℕ) → Bool

@@ -3,9 +3,9 @@ use Rattle.std.proofs.Common.{◌≡◌, ℕ, List, ◌++◌, Option, Some, None
 use Rattle.std.specs.Prelude.{IfSome}
 use Rattle.std.specs.Io.KnownBytes.{Consumes, IsAtEnd}
 use Rattle.std.proofs.lemmas.List.{append-nil}
-use Rattle.tk_session.specs.Fault.{number_of}
+use Rattle.tk_route.specs.Fault.{number_of}
 use Rattle.tk_session.specs.Session.{HasFault}
-use Rattle.tk_session.specs.declared.fault.LineFault.{LineFault}
+use Rattle.tk_route.specs.declared.fault.LineFault.{LineFault}
 use Rattle.tkhost.specs.declared.outcome.Outcome.{Outcome}
 use Rattle.tkhost.specs.declared.outcome.Outcome.TheVariants.{Refused}
 

@@ -10,16 +10,18 @@ use Rattle.tk_app.specs.Part.{Part}
 use Rattle.tk_app.specs.Section.{section}
 use Rattle.tk_app.specs.Seen.{Meaning}
 use Rattle.tk_app.specs.Spec.{Spec}
-use Rattle.tk_host.specs.declared.fault.HostFault.TheVariants.{Broken}
+use Rattle.tk_route.specs.declared.fault.LineFault.TheVariants.{Broken}
 use Rattle.tk_host.specs.declared.phase.Phase.{Phase}
 use Rattle.tk_host.specs.declared.phase.Phase.TheVariants.{Adding, Reached, Finished, Lost}
 use Rattle.tk_host.specs.Alone.{alone}
 use Rattle.tk_host.specs.Held.{Held, held_after, parts_in}
-use Rattle.tk_host.specs.Refusals.{NoneApplies, RefusesSection, PhaseRefuses, section_faults}
+use Rattle.tk_route.specs.Refusals.{NoneApplies}
+use Rattle.tk_host.specs.Refusals.{RefusesSection, PhaseRefuses, section_faults}
 use Rattle.tk_host.specs.Spec.{rect_of}
 use Rattle.tk_session.specs.Session.{Plan, newest_first, rects_of}
 use Rattle.tk_session.specs.declared.session.AppBlock.{AppBlock}
-use Rattle.tkhost.specs.Play.{SameBytes, Serve, calls_of, sections_from, sections_of, spec_of, specs_of}
+use Rattle.tkhost.specs.Calls.{calls_of, sections_from}
+use Rattle.tkhost.specs.Play.{SameBytes, Serve, sections_of, spec_of, specs_of}
 use Rattle.tkhost.proofs.Adds.{givens, givens-rects}
 use Rattle.tkhost.proofs.Happens.{held-played}
 

@@ -1,3 +1,5 @@
 -- What the contracts cite.
+pub mod Bounds
+pub mod Calls
 pub mod Output
 pub mod Play

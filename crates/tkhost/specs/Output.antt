@@ -1,4 +1,4 @@
--- What is written, and the text and the status of each outcome.
+-- Meaning. What is written, and the text and the status of each outcome.
 use Rattle.std.specs.Prelude.{◌≡◌, ℕ, List, [], ◌++◌, Option, codes}
 use Rattle.std.specs.Fmt.{decimal}
 use Rattle.std.specs.Io.KnownBytes.{Appends}

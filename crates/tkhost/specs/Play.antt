@@ -1,23 +1,18 @@
--- What a session comes to.
-use Rattle.std.specs.Prelude.{◌≡◌, ℕ, ◌+◌, List, [], ◌∷◌, ◌++◌, map, flat_map, slice_get, Some}
-use Rattle.tk_base.specs.declared.rect.Rect.{Rect}
-use Rattle.tk_route.specs.Lines.{Line}
+-- Meaning. What is written of a session: the theorem of the project stands on `sections_of`.
+use Rattle.std.specs.Prelude.{◌≡◌, ℕ, List, [], ◌∷◌, map, flat_map, slice_get, Some}
+use Rattle.std.specs.List.{enumerate_from}
 use Rattle.tk_route.specs.Routes.{routed}
 use Rattle.tk_alias.specs.Replies.{IsReply}
 use Rattle.tk_alias.specs.declared.reply.AliasReply.{AliasReply}
-use Rattle.tk_base.specs.declared.budget.Budget.{Budget}
 use Rattle.tk_app.specs.Section.{section}
 use Rattle.tk_app.specs.Seen.{Meaning, names_of}
 use Rattle.tk_app.specs.Spec.{Spec}
 use Rattle.tk_host.specs.Alone.{alone}
-use Rattle.tk_host.specs.Held.{Call, AddApp, End, LineAt, Start}
-use Rattle.tk_host.specs.Spec.{Given, given}
 use Rattle.tk_alias.specs.Services.{answer_of}
 use Rattle.tk_alias.specs.declared.service.Service.{Service}
 use Rattle.tk_alias.specs.declared.service.ServiceKind.{ServiceKind}
 use Rattle.tk_session.specs.declared.session.AliasLine.{AliasLine}
 use Rattle.tk_session.specs.declared.session.AppBlock.{AppBlock}
-use Rattle.tk_session.specs.declared.session.EventLine.{EventLine}
 use Rattle.tk_session.specs.Session.{Plan, newest_first, rects_of}
 
 -- an alias that a service of the program answers
@@ -34,11 +29,6 @@ pub record MakesServices {F : Type 0} (made : ServiceKind → List ℕ → F →
       (kind : ServiceKind) (config : List ℕ) (code : F) → made kind config code
       → (args : List (List ℕ)) (reply : AliasReply) → may_reply code args reply → IsReply (answer_of kind config args) reply
 
--- the calls that hand the events to a host
-abbrev pub lining : {M : Type 0} → List EventLine → List (Call M)
-lining [] = []
-lining (event ∷ events) = LineAt event.moment event.line ∷ lining events
-
 module _ {M : Type 0} where
   -- the lists of aliases are those of the applications: each has the names of its lines, in their order
   abbrev pub Serve : List AppBlock → List (List (List ℕ × M)) → Type 0
@@ -52,21 +42,6 @@ module _ {M : Type 0} where
   spec_of app aliases =
       record { name = app.name; width = app.rect.width; height = app.rect.height; script = app.script; budget = app.budget; aliases = aliases }
 
-  -- an application as a host is given it
-  abbrev pub given_of : AppBlock → List (List ℕ × M) → Given M
-  given_of app aliases = given app.name app.rect app.script app.budget aliases
-
-  -- the calls that add applications
-  abbrev pub adding : List AppBlock → List (List (List ℕ × M)) → List (Call M)
-  adding [] lists = []
-  adding (app ∷ apps) [] = []
-  adding (app ∷ apps) (aliases ∷ lists) = AddApp (given_of app aliases) ∷ adding apps lists
-
-  -- the calls by which a session is played
-  abbrev pub calls_of : Plan → List (List (List ℕ × M)) → List (Call M)
-  calls_of plan lists = adding plan.apps lists ++ Start ∷ (lining plan.events ++ End plan.end ∷ [])
-
-module _ {M : Type 0} where
   -- what the applications are begun with, by their slots
   abbrev pub specs_of : List AppBlock → List (List (List ℕ × M)) → List (Spec M)
   specs_of [] lists = []
@@ -74,15 +49,12 @@ module _ {M : Type 0} where
   specs_of (app ∷ apps) (aliases ∷ lists) = spec_of app aliases ∷ specs_of apps lists
 
 module _ {M : Type 0} (answer : M → Meaning) where
-  -- the sections of applications from a slot on, up to a last moment, with the events that these lines route to each
-  abbrev pub sections_from : ℕ → List Rect → List Line → ℕ → List (Spec M) → List (List ℕ)
-  sections_from end first lines slot [] = []
-  sections_from end first lines slot (spec ∷ specs) = section (alone answer spec (routed first lines slot) end) ∷ sections_from end first lines (slot + 1) specs
-
   -- The section of each application of a session, in their order: that of the application by itself, with its own aliases and the events that are routed
-  -- to it, up to the session's end.
+  -- to its slot, up to the session's end.
   abbrev pub sections_in : Plan → List (List (List ℕ × M)) → List (List ℕ)
-  sections_in plan lists = sections_from plan.end (rects_of plan.apps) (newest_first plan.events) 0 (specs_of plan.apps lists)
+  sections_in plan lists =
+      map (λ (numbered : ℕ × Spec M). section (alone answer numbered.1 (routed (rects_of plan.apps) (newest_first plan.events) numbered.0) plan.end))
+      (enumerate_from 0 (specs_of plan.apps lists))
 
   -- and what is written of them: these one after another, and nothing else
   abbrev pub sections_of : Plan → List (List (List ℕ × M)) → List ℕ

@@ -1,4 +1,5 @@
-//! What a session comes to. The function does nothing: its contract is the law.
+//! What a session comes to. The functions do nothing: their contracts are the laws.
+ghost use Rattle.tkhost.specs.Bounds.{SessionWithin};
 ghost use Rattle.tkhost.specs.Play.{SameBytes};
 
 use tk_host::AliasMeaning;
@@ -7,4 +8,9 @@ use tk_host::AliasMeaning;
 /// the moment of the end: two sessions that agree on these give it the same bytes.
 pub fn same_bytes<M: AliasMeaning>()
     ensures { SameBytes M.answer }
+{}
+
+/// A session takes at most the sum of the totals of its applications and of the steps that events grant them.
+pub fn session_within<M: AliasMeaning>()
+    ensures { SessionWithin M.answer }
 {}

@@ -4,10 +4,12 @@ ghost use Rattle.tk_app.specs.Section.{section};
 ghost use Rattle.tk_route.specs.Lines.{values};
 ghost use Rattle.tk_host.specs.declared.phase.Phase.TheVariants.{Reached as reached_at, Lost as lost};
 ghost use Rattle.tk_host.specs.Held.{Call, AddApp, Start, End, held_after};
-ghost use Rattle.tk_host.specs.Refusals.{NoneApplies, RefusesApp, add_faults};
+ghost use Rattle.tk_route.specs.Refusals.{NoneApplies};
+ghost use Rattle.tk_host.specs.Refusals.{RefusesApp, add_faults};
 ghost use Rattle.tk_session.specs.Session.{AreAllowed, rects_of};
 ghost use Rattle.tkhost.specs.Output.{AppendsFront};
-ghost use Rattle.tkhost.specs.Play.{Serve, adding, given_of, lining, sections_of};
+ghost use Rattle.tkhost.specs.Calls.{adding, given_of, lining};
+ghost use Rattle.tkhost.specs.Play.{Serve, sections_of};
 
 use crate::output::write_whole;
 use std::alloc::{AllocError, AllocFailed, Global};
@@ -101,7 +103,8 @@ fn add_all<M: AliasService>(
     Ok(())
 }
 
-/// Hands the events of a session to a host whose applications have these rectangles and have just been started.
+/// Hands the events of a session to a host whose applications have these rectangles and have just been started. They were tested where the
+/// session was read.
 fn line_all<M: AliasService>(host: &mut Host<M>, session: &Session) -> Result<(), PlayFault>
     requires phase { host.old.held.phase ≡ reached_at 0 }
     requires known { host.old.held.known ≡ values (rects_of session.now.apps) [] }
@@ -110,7 +113,7 @@ fn line_all<M: AliasService>(host: &mut Host<M>, session: &Session) -> Result<()
     ensures memory { IfErr result (λ fault. fault ≡ PlayFault.NoMemory) }
 {
     for event in session.events() {
-        unless_memory(host.line(event.moment, event.line))?;
+        host.tested_line(event.moment, event.line)?;
     }
     Ok(())
 }

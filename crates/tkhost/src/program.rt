@@ -1,9 +1,9 @@
 ghost use Rattle.std.specs.Prelude.{◌≡◌, ℕ, IfSome};
 ghost use Rattle.std.specs.Io.KnownBytes.{Appends};
 ghost use Rattle.tk_alias.specs.Services.{answer_of};
-ghost use Rattle.tk_session.specs.Fault.{number_of as number_of_fault};
+ghost use Rattle.tk_route.specs.Fault.{number_of as number_of_fault};
 ghost use Rattle.tk_session.specs.Session.{Plan, IsSession, HasFault};
-ghost use Rattle.tk_session.specs.declared.fault.LineFault.{LineFault};
+ghost use Rattle.tk_route.specs.declared.fault.LineFault.{LineFault};
 ghost use Rattle.tkhost.specs.Output.{AppendsFront};
 ghost use Rattle.tkhost.specs.Play.{MakesServices, program_sections};
 

@@ -1,5 +1,5 @@
 use Rattle.std.proofs.Common.{◌≡◌, ◌++◌, false, length, IsUtf8}
-use Rattle.tk_dispatch.specs.Percent.{substituted_from}
+use Rattle.tk_dispatch.specs.Substitution.{substituted_from}
 use Rattle.tk_dispatch.proofs.substitution.substitute.Given as goal
 
 -- what is written, with what the rest stands for

@@ -1,4 +1,4 @@
-use Rattle.std.proofs.Common.{◌≡◌, Bool, true, false, ◌&&◌, [], ◌∷◌, append-nil, sym, ap, ◌∙◌}
+use Rattle.std.proofs.Common.{Bool, true, false, ◌&&◌, [], ◌∷◌, append-nil, sym, ap, ◌∙◌}
 use Rattle.std.specs.Str.{chars}
 use Rattle.std.specs.Char.{encode_utf8}
 use Rattle.std.proofs.lemmas.Str.{chars-encodes}

@@ -1,6 +1,7 @@
 use Rattle.std.proofs.Common.{List, length, length-set, ap, sym, arith}
 use Rattle.std.proofs.lemmas.Result.{on_ok_weaker}
-use Rattle.tk_app.specs.Part.{Part, delivered}
+use Rattle.tk_app.specs.Moments.{delivered}
+use Rattle.tk_app.specs.Part.{Part}
 use Rattle.tk_app.specs.Turns.{Applications}
 use Rattle.tk_host.proofs.Deliveries.{given_is, given_nobody}
 use Rattle.tk_host.proofs.events.give.Goals as goal

@@ -1,7 +1,7 @@
 use Rattle.std.proofs.Common.{refl, sym, subst}
 use Rattle.tk_app.specs.Stages.{IsPast, first_due}
 use Rattle.tk_app.specs.Application.{next_due}
-use Rattle.tk_app.specs.Part.{settled}
+use Rattle.tk_app.specs.Moments.{settled}
 use Rattle.tk_host.specs.Turns.{applications}
 use Rattle.tk_host.proofs.Ways.{way_brought, way_lighter, way_on, way_told}
 use Rattle.tk_host.proofs.stages.advance.Goals as goal

@@ -1,5 +1,5 @@
 use Rattle.std.specs.Prelude.{sum_by}
-use Rattle.tk_host.specs.Alone.{weight}
+use Rattle.tk_host.specs.Dues.{weight}
 use Rattle.tk_host.specs.Turns.{applications}
 use Rattle.tk_host.proofs.Ways.{Way}
 use Rattle.tk_host.proofs.stages.advance.Given as goal

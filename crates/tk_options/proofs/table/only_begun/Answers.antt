@@ -1,7 +1,7 @@
 use Rattle.std.proofs.Common.{◌≡◌, ℕ, List, Some, None, Err, true, false, sym, ap, ◌∙◌}
 use Rattle.std.specs.Prelude.{position}
 use Rattle.std.specs.Option.{is_some}
-use Rattle.tk_options.specs.declared.fault.OptionFault.TheVariants.{UnknownOption, AmbiguousOption}
+use Rattle.tk_options.specs.declared.fault.OptionFault.TheVariants.{UnknownOption, Ambiguous}
 use Rattle.tk_options.specs.Options.{is_begun}
 use Rattle.tk_options.proofs.Only.{only_none, only_one, only_many}
 use Rattle.tk_options.proofs.table.only_begun.Goals as goal
@@ -24,7 +24,7 @@ returns-then-is_some-clause-refused c =
     ap (λ (w : List ℕ). is_some (position (is_begun w) c.split_at.result.1.now)) (sym word_again)
     ∙ ap is_some (sym c.place_begun-2.ensures) ∙ sym c.is_some.ensures ∙ c.if-is_some.true in
     λ _. only_many c.args.word.now (is_begun c.args.word.now) c.args.entries.now c.split_at.result.1.now c.in-Some.place at c.split_at.ensures.back some
-    ∙ ap (λ (w : List ℕ). Err (AmbiguousOption w)) (sym c.in_ok-copy-2.ensures.ok)
+    ∙ ap (λ (w : List ℕ). Err (Ambiguous w)) (sym c.in_ok-copy-2.ensures.ok)
 
 pub returns-clause-ok : goal.returns-clause-ok
 returns-clause-ok c =

@@ -1,4 +1,4 @@
-use Rattle.std.proofs.Common.{◌≡◌, ◌≤◌, ◌+◌, ◌∷◌, length, take, drop, sym, ap, ◌∙◌, arith}
+use Rattle.std.proofs.Common.{◌+◌, take, drop, sym, ap, ◌∙◌, arith}
 use Rattle.tk_patterns.proofs.MatchLemmas.{walk_none, walk_far, walk_on}
 use Rattle.tk_patterns.proofs.StepLemmas.{rest_at}
 use Rattle.tk_patterns.specs.Matches.{earlier_at}

@@ -1,4 +1,4 @@
-use Rattle.std.proofs.Common.{◌≡◌, Some, sym, ◌∙◌, arith}
+use Rattle.std.proofs.Common.{sym, ◌∙◌, arith}
 use Rattle.std.proofs.lemmas.Bool.{eq-eqb, ne_eqb}
 use Rattle.tk_patterns.proofs.EventLemmas.{found_at, none_at, past_at, other_at}
 use Rattle.tk_patterns.proofs.history.nearest.Goals as goal

@@ -1,4 +1,4 @@
-use Rattle.std.proofs.Common.{◌≡◌, ◌<◌, ◌≤◌, ◌-◌, sym, ap, ◌∙◌, slice_get, arith}
+use Rattle.std.proofs.Common.{◌<◌, ◌≤◌, ◌-◌, sym, ap, ◌∙◌, slice_get, arith}
 use Rattle.tk_patterns.proofs.StepLemmas.{copy_there, copies_past}
 use Rattle.tk_patterns.specs.Steps.{steps_of}
 use Rattle.tk_sequences.specs.Patterns.{times_of}

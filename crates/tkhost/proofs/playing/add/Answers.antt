@@ -1,6 +1,6 @@
 use Rattle.std.proofs.lemmas.Result.{IfErr-weaker}
 use Rattle.tk_host.specs.Refusals.{RefusesApp, add_faults}
-use Rattle.tkhost.specs.Play.{given_of}
+use Rattle.tkhost.specs.Calls.{given_of}
 use Rattle.tkhost.proofs.Adds.{only_memory}
 use Rattle.tkhost.proofs.playing.add.Goals as goal
 

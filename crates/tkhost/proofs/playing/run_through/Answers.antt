@@ -2,7 +2,7 @@ use Rattle.std.proofs.Common.{◌++◌, ◌∷◌, [], arith}
 use Rattle.std.proofs.lemmas.Result.{IfErr-weaker}
 use Rattle.tk_host.specs.Held.{Start}
 use Rattle.tk_host.specs.Refusals.{PhaseRefuses, RefusesMoment, moment_faults, start_faults}
-use Rattle.tkhost.specs.Play.{adding}
+use Rattle.tkhost.specs.Calls.{adding}
 use Rattle.tkhost.proofs.Adds.{only_memory}
 use Rattle.tkhost.proofs.Happens.{may_end, none_refuses_end, none_refuses_start, started_known}
 use Rattle.tkhost.proofs.playing.run_through.Goals as goal

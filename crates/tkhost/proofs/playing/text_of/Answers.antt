@@ -1,7 +1,7 @@
 use Rattle.std.proofs.Common.{◌∙◌, List, length, ap, arith}
 use Rattle.std.proofs.lemmas.Result.{IfOk-weaker}
 use Rattle.tk_session.specs.declared.session.AppBlock.{AppBlock}
-use Rattle.tkhost.specs.Play.{adding}
+use Rattle.tkhost.specs.Calls.{adding}
 use Rattle.tkhost.proofs.Told.{played_count, played_sections, played_whole}
 use Rattle.tkhost.proofs.playing.text_of.Goals as goal
 

@@ -2,7 +2,7 @@ use Rattle.std.proofs.Common.{◌≡◌, ◌≤◌, arith, sym, ap, ◌∙◌, s
 use Rattle.std.proofs.lemmas.Result.{err_from_is_err_and}
 use Rattle.tk_app.specs.Stages.{IsPast, first_due}
 use Rattle.tk_app.specs.Application.{next_due}
-use Rattle.tk_app.specs.Part.{settled}
+use Rattle.tk_app.specs.Moments.{settled}
 use Rattle.tk_app.specs.Turns.{Applications}
 use Rattle.tk_host.specs.declared.phase.Phase.TheVariants.{Reached}
 use Rattle.tk_host.specs.Held.{Hosted}
@@ -12,9 +12,9 @@ use Rattle.tk_host.proofs.History.{not_back, reached_if_not_refused}
 use Rattle.tk_host.proofs.Kept.{gone_is, ready_gone, routed_gone}
 use Rattle.tk_host.proofs.host.Host.go_to.Goals as goal
 
-pub returns-in_err-may_go_to-clause-left : goal.returns-in_err-may_go_to-clause-left
-returns-in_err-may_go_to-clause-left g c =
-    let p = err_from_is_err_and c.from_residual.result c.from_residual.ensures.1 in rw (p.1, p.2) c.in_err-may_go_to.ensures.left
+pub returns-in_err-may_go_to-clause-refused : goal.returns-in_err-may_go_to-clause-refused
+returns-in_err-may_go_to-clause-refused g c =
+    let p = err_from_is_err_and c.from_residual.result c.from_residual.ensures.1 in rw (p.1, p.2) c.in_err-may_go_to.ensures.answer
 
 pub advance-requires : goal.advance-requires
 advance-requires g c =

@@ -1,17 +1,14 @@
-use Rattle.std.proofs.Common.{ℕ, ap, ◌∙◌}
-use Rattle.tk_route.proofs.LineLemmas.{holds-more, routes-told}
-use Rattle.tk_route.specs.Routes.{told}
+use Rattle.std.proofs.Common.{subst}
+use Rattle.std.proofs.lemmas.Result.{err_from_is_err_and}
+use Rattle.tk_route.specs.Refusals.{IsFirst, Refuses, line_faults}
 use Rattle.tk_route.specs.Values.{Values}
 use Rattle.tk_route.proofs.router.Router.line.Goals as goal
 
-pub returns-clause-values : goal.returns-clause-values
-returns-clause-values c first earlier held =
-    ap (λ (v : Values). record v { moment = c.args.moment }) c.self.view_is
-    ∙ holds-more first earlier c.args.moment c.args.line c.args.self.now c.lead-routed.new.self held c.lead-routed.ensures.changed
-
--- the stamp has the state before the line
-pub returns-clause-routes : goal.returns-clause-routes
-returns-clause-routes c first earlier held =
-    routes-told first earlier c.args.moment c.args.line c.args.self.now c.lead-routed.new.self _ held c.lead-routed.ensures.changed
-    (c.lead-routed.ensures.told
-    ∙ ap (λ (state : ℕ). told c.args.line (record { moment = c.args.moment; state = state }) c.args.self.now c.lead-routed.new.self) c.state.ensures)
+pub returns-in_err-test_line-clause-refused : goal.returns-in_err-test_line-clause-refused
+returns-in_err-test_line-clause-refused c =
+    let p = err_from_is_err_and c.from_residual.result c.from_residual.ensures.1 in
+    let fault = c.in_err-test_line.field-0.0 in
+    let inside = c.self.inside in
+    rw (p.1, p.2)
+    (subst (λ (v : Values). IsFirst (Refuses v.rects v.moment c.args.moment c.args.line) line_faults fault) c.self.view_is
+    (subst (λ rects. IsFirst (Refuses rects inside.moment c.args.moment c.args.line) line_faults fault) c.as_slice.ensures c.in_err-test_line.ensures))

@@ -1,8 +1,9 @@
 #!/usr/bin/env python3
-"""build.py: proves all crates of the host, side by side on all processors, and builds it: what ./play --build does.
+"""build.py [PROGRAM]: proves all crates of the host, or of another program, side by side on all processors, and builds it: what ./play --build and
+./panels --build do.
 
 It runs `rt ci` on a copy of these crates, so that the sources may be changed meanwhile, and what it proves counts for the gate too. The program then lies in
-crates/tkhost_main/out; its time is that at which the copy was begun, so that a source changed since then is newer. The log is out/build.log."""
+crates/PROGRAM/out; its time is that at which the copy was begun, so that a source changed since then is newer. The log is out/build.log."""
 import os, pathlib, shutil, sys, tempfile, time
 from programs import CRATES, HOST, TOP, below, built, crates_lines
 from progress import Progress
@@ -18,20 +19,21 @@ def copy_to(room, lines):
 
 
 def main():
-    if sys.argv[1:]:
-        sys.exit(__doc__)
     every, began = crates_lines(), time.time()
-    lines = {name: every[name] for name in every if name in [*below(HOST, every), HOST]}
+    wanted = sys.argv[1] if len(sys.argv) == 2 else HOST
+    if sys.argv[2:] or wanted not in every:
+        sys.exit(__doc__)
+    lines = {name: every[name] for name in every if name in [*below(wanted, every), wanted]}
     with tempfile.TemporaryDirectory(prefix="tkhost-build-") as folder:
         room = pathlib.Path(folder)
         copy_to(room, lines)
         progress = Progress("build", lines, TOP / "out" / "build.log")
         progress.begin_with_lowest(room)
-        made = room / "crates" / HOST / "out" / HOST
+        made = room / "crates" / wanted / "out" / wanted
         if progress.follow(["rt", "ci"], room) or not made.exists():
             print(f"build: not built; {os.path.relpath(TOP / 'out' / 'build.log')} says why")
             return 1
-        program = built(HOST)
+        program = built(wanted)
         program.parent.mkdir(exist_ok=True)
         shutil.copy(made, f"{program}.new")
         os.utime(f"{program}.new", (began, began))

@@ -6,8 +6,9 @@ TOP = pathlib.Path(__file__).resolve().parent.parent
 CRATES = TOP / "crates"
 EXAMPLES = TOP / "examples"
 
-# The crates that are programs: the host itself, and those that ask the questions of tables, the dearest first.
+# The crates that are programs: the host itself, the program that explains sessions, and those that ask the questions of tables, the dearest first.
 HOST = "tkhost_main"
+BENCHES = "panels_main"
 TABLES_OF_HOSTS, TABLES_OF_TK, TABLES_OF_TCL = "test_host", "test_tk", "test_tcl"
 # The crate that shows how a program embeds a host.
 EMBEDDING = "embedding"

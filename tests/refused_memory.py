@@ -6,7 +6,9 @@ all kinds of calls and of all tables, which takes a quarter of an hour of four p
 The programs are those that the gate left in crates/NAME/out. A session whose run is refused memory must end with status 4, its line on standard error, and nothing written, or else
 write what is stored (the standard library's `collect` asks first for room that it can do without); one that isn't refused memory must
 write what is stored. A program of tables asks a question that failed once more: what a call that was refused memory was put to is as it was, so the
-answer and all behind it are those of the table. Where the program itself wanted the memory, for a question or an answer, it tells so and ends."""
+answer and all behind it are those of the table. Where a question changes something and is then refused the memory for its answer (LATE), asking again does
+it twice: there other answers may come, but only behind such a question, or that tell of want of memory. Where the program itself wanted the memory, it tells
+so and ends."""
 import concurrent.futures, os, re, signal, subprocess, sys, tempfile
 from programs import CRATES, EXAMPLES, HOST, TABLES_OF_HOSTS, TABLES_OF_TCL, TABLES_OF_TK, TOP, built
 
@@ -21,6 +23,8 @@ TABLES = {
     **dict.fromkeys(("bindings/few", "dispatch/few", "options", "services/few", "timers", "virtuals", "windows/packings/few", "windows/trees/few"), TABLES_OF_TK),
     "calls": TABLES_OF_HOSTS,
 }
+# Those of them that may be refused memory for an answer once the call has done its work, with what such a call then says the second time, if it fails.
+LATE = dict.fromkeys(("commands/few", "expressions/few", "timers", "windows/packings/few", "windows/trees/few")) | {"dispatch/few": "a window that was refused"}
 # How a program of tables counts the answers of one, where none is wrong.
 COUNTED = re.compile(r"\S+: \d+ answers, 0 wrong(, 1 asked again)?\n")
 
@@ -71,6 +75,14 @@ def tells_of_memory(said):
     return any(word in said for word in ("out of memory", "memory was refused", "NoMemory", "AllocError", "AllocFailed", "allocation"))
 
 
+def may_end(table, out, said):
+    """Whether a program of tables that was refused memory may fail so."""
+    if not out:
+        return tells_of_memory(said) or bool(LATE.get(table)) and LATE[table] in said
+    wrong = [line for line in out.splitlines() if " and not " in line]
+    return table in LATE and (", 1 asked again\n" in out or bool(wrong) and all(tells_of_memory(line) for line in wrong))
+
+
 def table_faults(program, library, whole, table):
     """What is wrong with the runs of a table, and how many met a refusal."""
     for number in requests(whole):
@@ -78,7 +90,7 @@ def table_faults(program, library, whole, table):
         said = (out + err).decode(errors="replace")
         if not met:
             return ([f"{table}: without a refusal {said}"] if status or not COUNTED.fullmatch(said) or "again" in said else []), number - 1
-        if not COUNTED.fullmatch(said) if status == 0 else out or not tells_of_memory(said):
+        if not COUNTED.fullmatch(said) if status == 0 else not may_end(table, out.decode(errors="replace"), said):
             return [f"{table}: with request {number} refused: {said}"], number
     return [f"{table}: no end"], number
 

@@ -1,7 +1,7 @@
 #!/usr/bin/env python3
 """refused_memory.py [--whole]: refuses requests for memory, one in each run, until a run meets no refusal: each of the first 250, and of those behind
 them fewer and fewer, so that a session that asks ten thousand times is run some eleven hundred times. --whole refuses each in turn, of ten sessions with
-all kinds of calls and of all tables, which takes a quarter of an hour of four processors.
+all kinds of calls and of all tables, which takes a minute of four processors.
 
 The programs are those that the gate left in crates/NAME/out. A session whose run is refused memory must end with status 4, its line on standard error, and nothing written, or else
 write what is stored (the standard library's `collect` asks first for room that it can do without); one that isn't refused memory must
@@ -24,7 +24,8 @@ TABLES = {
     "calls": TABLES_OF_HOSTS,
 }
 # Those of them that may be refused memory for an answer once the call has done its work, with what such a call then says the second time, if it fails.
-LATE = dict.fromkeys(("commands/few", "expressions/few", "timers", "windows/packings/few", "windows/trees/few")) | {"dispatch/few": "a window that was refused"}
+LATE = dict.fromkeys(("commands/few", "expressions/few", "timers", "windows/packings/few", "windows/trees/few"), ())
+LATE["dispatch/few"] = ("a window that was refused", "no window without children")
 # How a program of tables counts the answers of one, where none is wrong.
 COUNTED = re.compile(r"\S+: \d+ answers, 0 wrong(, 1 asked again)?\n")
 
@@ -78,7 +79,7 @@ def tells_of_memory(said):
 def may_end(table, out, said):
     """Whether a program of tables that was refused memory may fail so."""
     if not out:
-        return tells_of_memory(said) or bool(LATE.get(table)) and LATE[table] in said
+        return tells_of_memory(said) or any(words in said for words in LATE.get(table, ()))
     wrong = [line for line in out.splitlines() if " and not " in line]
     return table in LATE and (", 1 asked again\n" in out or bool(wrong) and all(tells_of_memory(line) for line in wrong))
 

@@ -1,9 +1,7 @@
 //! What is wrong with a session, in words.
 
-use crate::entry::is_known;
 use crate::keys::serving_key;
-use crate::nearest::nearest;
-use crate::section::next;
+use crate::words::{is_known, nearest, next};
 use std::alloc::{AllocError, Global};
 use tk_keys::Keysym;
 use tk_session::{LineFault, SessionFault, read_session};

@@ -1,4 +1,4 @@
-//! The word that may have been meant.
+//! Words, and those that may have been meant.
 
 use std::alloc::{AllocError, Global};
 use strsim::levenshtein;
@@ -41,5 +41,23 @@ pub(crate) fn serving(alloc: Global, word: &str, known: &[&str]) -> Result<Strin
             let list = listed(alloc, known)?;
             format!(in alloc; "there are {list}")
         }
+    }
+}
+
+/// Whether a word is in a list.
+pub(crate) fn is_known(word: &str, known: &[&str]) -> bool {
+    for other in known {
+        if *other == word {
+            return true;
+        }
+    }
+    false
+}
+
+/// A word and the words behind its blank.
+pub(crate) fn next<'a>(words: &'a str) -> (&'a str, &'a str) {
+    match words.split_once(' ') {
+        Some(parts) => parts,
+        None => (words, ""),
     }
 }

@@ -2,6 +2,7 @@
 pub mod ArithmeticLemmas
 pub mod ShiftLemmas
 pub mod StepLemmas
+pub mod StraightLemmas
 pub mod CompileLemmas
 pub mod BraceLemmas
 pub mod BracesOfScripts

@@ -21,13 +21,13 @@ execute_skip zero steps stack = refl
 execute_skip (suc n) [] stack = refl
 execute_skip (suc n) (step ∷ steps) stack = execute_skip n steps stack
 
-drop_all : {A : Type 0} (n : ℕ) (xs : List A) → length xs ≤ n → drop n xs ≡ []
+pub drop_all : {A : Type 0} (n : ℕ) (xs : List A) → length xs ≤ n → drop n xs ≡ []
 drop_all zero [] h = refl
 drop_all zero (x ∷ xs) h = absurd (omega arith)
 drop_all (suc n) [] h = refl
 drop_all (suc n) (x ∷ xs) h = drop_all n xs (omega arith)
 
-drop_capped : (place count : ℕ) (steps : List Step) → place < length steps → (count ≤ length steps - place - 1) ⊎ (length steps - place - 1 < count) →
+pub drop_capped : (place count : ℕ) (steps : List Step) → place < length steps → (count ≤ length steps - place - 1) ⊎ (length steps - place - 1 < count) →
     drop (suc place + count) steps ≡ drop (place + 1 + min count (length steps - place - 1)) steps
 drop_capped place count steps h (inl l) = let e : suc place + count ≡ place + 1 + min count (length steps - place - 1) = omega arith in ap (λ n. drop n steps) e
 drop_capped place count steps h (inr l) =
@@ -35,7 +35,7 @@ drop_capped place count steps h (inr l) =
     let q : length steps ≤ place + 1 + min count (length steps - place - 1) = omega arith in
     drop_all (suc place + count) steps p ∙ sym (drop_all (place + 1 + min count (length steps - place - 1)) steps q)
 
-swap_sides : {A B : Type 0} → A ⊎ B → B ⊎ A
+pub swap_sides : {A B : Type 0} → A ⊎ B → B ⊎ A
 swap_sides (inl a) = inr a
 swap_sides (inr b) = inl b
 

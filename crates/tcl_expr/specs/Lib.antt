@@ -14,6 +14,7 @@ pub mod Resuming
 pub mod Run
 pub mod Standing
 pub mod Steps
+pub mod Straight
 pub mod Substitution
 pub mod Tokens
 pub mod Trees

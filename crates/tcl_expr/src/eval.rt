@@ -9,6 +9,7 @@ use crate::fault::EvalFault;
 use crate::machine::{Halt, run};
 use crate::operands::Operands;
 use crate::state::State;
+use crate::straight::{Numbers, integer_by};
 use crate::value::Value;
 use std::alloc::{AllocError, Global};
 use std::marker::Model;
@@ -76,11 +77,12 @@ fn repeated(state: &State) -> Option<Result<Ask, EvalFault>>
 }
 
 impl Eval {
-    ghost use Rattle.std.specs.Prelude.{◌≡◌, ◌⊎◌, [], Option, is_some, Ok, IfOk};
+    ghost use Rattle.std.specs.Prelude.{◌≡◌, ◌⊎◌, [], Option, is_some, Ok, IfOk, IfSome};
     ghost use Rattle.tcl_expr.specs.declared.state.State.TheVariants.{Failed, Ready};
     ghost use Rattle.tcl_expr.specs.declared.fault.EvalFault.TheVariants.{NoMemory};
     ghost use Rattle.tcl_expr.specs.Resuming.{Tells, evaluation_at, evaluation_told, is_waiting, to_come, with_given};
     ghost use Rattle.tcl_expr.specs.Machine.{AsksBy};
+    ghost use Rattle.tcl_expr.specs.Straight.{ComesTo};
     ghost use Rattle.tcl_expr.specs.Grammar.{IsTreeOf};
     ghost use Rattle.tcl_expr.specs.Reading.{compiled};
     ghost use Rattle.tcl_expr.specs.Trees.{Tree, evaluation};
@@ -99,6 +101,23 @@ impl Eval {
             place: 0,
             stack: Operands::new(alloc),
             state: State::Ready,
+        }
+    }
+
+    /// The integer that it comes to, where nothing was asked yet, and it needs nothing but integers and variables that are some. It says
+    /// nothing of a sum that 64 bits don't hold, of a division by 0, or where many operands wait. It takes no memory, and the evaluation
+    /// stays where it is.
+    pub fn integer<N: Numbers>(&self, numbers: &N) -> Option<i64>
+        ensures { IfSome result (ComesTo (N.number numbers.now) self.now) }
+    {
+        if self.place == 0
+            && self.expr.is_straight()
+            && self.stack.is_empty()
+            && matches!(self.state, State::Ready)
+        {
+            integer_by(numbers, self.expr.steps())
+        } else {
+            None
         }
     }
 

@@ -1,4 +1,5 @@
 use crate::step::Step;
+use crate::straight::is_straight;
 use std::alloc::{AllocError, Global};
 use std::marker::Model;
 use std::rc::Rc;
@@ -13,6 +14,7 @@ pub struct Expr {
 struct ParsedExpr {
     text: Text,
     steps: Vec<Step>,
+    is_straight: bool,
 }
 
 impl Model for Expr {
@@ -38,8 +40,14 @@ impl Expr {
         requires { compiled text ≡ Ok steps.items }
         ensures { IfOk result (λ expr. expr ≡ text) }
     {
+        let is_straight = steps.iter().all(is_straight);
+        let parsed = ParsedExpr {
+            text,
+            steps,
+            is_straight,
+        };
         Ok(Expr {
-            parsed: Rc::new(alloc, ParsedExpr { text, steps })?,
+            parsed: Rc::new(alloc, parsed)?,
         })
     }
 
@@ -57,6 +65,11 @@ impl Expr {
         ensures { compiled self.now ≡ Ok result.now }
     {
         self.parsed.steps.as_slice()
+    }
+
+    /// Whether straight code has all the steps.
+    pub(crate) fn is_straight(&self) -> bool {
+        self.parsed.is_straight
     }
 
     /// The same expression, shared. It takes no memory; it is refused only where the count of its copies is full.

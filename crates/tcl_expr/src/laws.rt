@@ -8,6 +8,7 @@ ghost use Rattle.tcl_expr.specs.Faults.{missing_brace};
 ghost use Rattle.tcl_expr.specs.Grammar.{IsTreeOf, IsExprFault, OneTreeOrFault};
 ghost use Rattle.tcl_expr.specs.Machine.{WeighsLess};
 ghost use Rattle.tcl_expr.specs.Reading.{tree_of};
+ghost use Rattle.tcl_expr.specs.Straight.{StraightGives};
 ghost use Rattle.tcl_expr.specs.Trees.{Tree};
 ghost use Rattle.tcl_expr.specs.declared.braces.BracePlace.TheVariants.{Plain};
 ghost use Rattle.tcl_expr.specs.declared.fault.ExprFault.{ExprFault as Fault};
@@ -25,6 +26,11 @@ pub fn quotients_round_down()
 #[tactic(auto, using(crate::proofs::StepLemmas::weighs_less))]
 pub fn questions_use_steps_up()
     ensures { WeighsLess }
+{}
+
+/// Where straight code says an integer, the value of the evaluation is that, in decimal.
+pub fn straight_code_gives_values()
+    ensures { StraightGives }
 {}
 
 /// `tree_of` gives a tree exactly where the grammar relates it to the text.

@@ -154,7 +154,7 @@ fn perform(alloc: Global, stack: &mut Operands, step: &Step) -> Result<Turn, Eva
         Step::TooLarge => Err(EvalFault::Overflow),
         Step::Plain(text) => plain(stack, text),
         Step::Variable(name) => {
-            let name = name.copy()?;
+            let name = name.text().copy()?;
             Ok(Turn::Stop(Ask::Variable(name)))
         }
         Step::Element(array) => element(alloc, stack, array),

@@ -18,7 +18,7 @@ impl Model for Operands {
 }
 
 impl Operands {
-    ghost use Rattle.std.specs.Prelude.{◌≡◌, [], ◌∷◌, OnOk};
+    ghost use Rattle.std.specs.Prelude.{◌≡◌, true, [], ◌∷◌, OnOk};
     ghost use Rattle.tcl_expr.specs.Steps.{top_of, without_top};
 
     /// No values. It takes no memory.
@@ -28,6 +28,13 @@ impl Operands {
         Operands {
             values: Vec::new(alloc),
         }
+    }
+
+    /// Whether there are no values.
+    pub fn is_empty(&self) -> bool
+        ensures { result ≡ true → self.now ≡ [] }
+    {
+        self.values.is_empty()
     }
 
     /// Adds a value.

@@ -36,13 +36,25 @@ fn text_of(alloc: Global, bytes: &[u8]) -> Result<Text, AllocError>
     Text::of_short(alloc, str::from_utf8(bytes).unwrap())
 }
 
+/// A text that spells an integer, kept with that where it is its decimal form.
+fn with_number(alloc: Global, spelling: Text, number: i64) -> Result<Text, AllocError>
+    ensures { IfOk result (λ text. text ≡ spelling) }
+{
+    let decimal = Text::from_integer(alloc, number)?;
+    if decimal.as_str() == spelling.as_str() {
+        Ok(decimal)
+    } else {
+        Ok(spelling)
+    }
+}
+
 /// The step of an integer that is spelled so.
-fn literal(spelling: Text) -> Step
-    ensures { result ≡ literal_step spelling (integer_of spelling) }
+fn literal(alloc: Global, spelling: Text) -> Result<Step, AllocError>
+    ensures { IfOk result (λ step. step ≡ literal_step spelling (integer_of spelling)) }
 {
     match spelling.integer() {
-        Ok(_) => Step::Plain(spelling),
-        Err(_) => Step::TooLarge,
+        Ok(number) => Ok(Step::Plain(with_number(alloc, spelling, number)?)),
+        Err(_) => Ok(Step::TooLarge),
     }
 }
 
@@ -86,7 +98,7 @@ fn take_number(alloc: Global, parser: &mut Parser, text: &[u8]) -> Result<usize,
         return Err(ExprFault::Syntax);
     }
     let spelling = text_of(alloc, &text[..count])?;
-    push_operand(parser, literal(spelling))?;
+    push_operand(parser, literal(alloc, spelling)?)?;
     Ok(count.saturating_sub(1))
 }
 

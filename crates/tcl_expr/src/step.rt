@@ -1,4 +1,5 @@
 use crate::operators::{BinaryOperator, UnaryOperator};
+use crate::variable::VariableName;
 use tcl_text::Text;
 use tcl_words::Script;
 
@@ -11,7 +12,7 @@ pub enum Step {
     /// A text that is written in the expression.
     Plain(Text),
     /// The value of a variable is asked.
-    Variable(Text),
+    Variable(VariableName),
     /// The value of an element is asked, whose index is on the stack.
     Element(Text),
     /// The result of a script is asked.

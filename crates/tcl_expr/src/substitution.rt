@@ -6,6 +6,7 @@ ghost use Rattle.tcl_expr.specs.Dues.{written_before, due_steps, dues_steps, pie
 
 use crate::fault::ExprFault;
 use crate::step::Step;
+use crate::variable::VariableName;
 use std::alloc::Global;
 use tcl_text::Text;
 use tcl_words::{ParseFault, Piece};
@@ -62,7 +63,7 @@ fn write_piece<'a>(
 {
     match piece {
         Piece::Literal(text) => steps.push(Step::Plain(text.copy()?))?,
-        Piece::Variable(name) => steps.push(Step::Variable(name.copy()?))?,
+        Piece::Variable(name) => steps.push(Step::Variable(VariableName::new(name.copy()?)))?,
         Piece::Bracket(script) => steps.push(Step::Command(script.copy()?))?,
         Piece::Element(array, index) => {
             if room == 0 {

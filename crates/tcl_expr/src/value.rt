@@ -116,7 +116,8 @@ fn remainder(left: i64, right: i64) -> Result<i64, EvalFault>
     Ok(floor_remainder(left, right))
 }
 
-fn arithmetic(operator: ArithmeticOperator, left: i64, right: i64) -> Result<i64, EvalFault>
+/// What an operator makes of integers.
+pub fn arithmetic(operator: ArithmeticOperator, left: i64, right: i64) -> Result<i64, EvalFault>
     ensures { result ≡ values.arithmetic operator left right }
 {
     match operator {
@@ -146,7 +147,7 @@ fn order(alloc: Global, left: Value, right: Value) -> Result<Ordering, AllocErro
 }
 
 /// Whether a comparison holds of values that stand so to one another.
-fn holds(comparison: Comparison, order: Ordering) -> bool
+pub fn holds(comparison: Comparison, order: Ordering) -> bool
     ensures { result ≡ values.holds comparison order }
 {
     match comparison {

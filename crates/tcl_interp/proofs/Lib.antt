@@ -10,6 +10,7 @@ pub mod LeavesSame
 pub mod Same
 pub mod Settled
 pub mod Stepping
+pub mod Straight
 pub mod Unrolled
 pub mod Weights
 pub mod WordLemmas

@@ -1,7 +1,9 @@
 //! Evaluations of expressions, and the conditions of `if` and of loops.
-ghost use Rattle.std.specs.Prelude.{◌≡◌, ◌≢◌, ◌<◌, List, drop, length, IfOk};
+ghost use Rattle.std.specs.Prelude.{◌≡◌, ◌≢◌, ◌<◌, List, drop, length, IfOk, IfSome};
 ghost use Rattle.tcl_expr.specs.declared.fault.EvalFault.TheVariants.{NoMemory};
 ghost use Rattle.tcl_expr.specs.Messages.{eval_message};
+ghost use Rattle.tcl_expr.specs.Straight.{ComesTo};
+ghost use Rattle.tcl_vars.specs.Store.{number_in};
 ghost use Rattle.tcl_control.specs.declared.code.Code.TheVariants.{Error};
 ghost use Rattle.tcl_control.specs.Expressions.{truth_of_text};
 ghost use Rattle.tcl_interp.specs.Moves.{moved, standing, expression_begins, otherwise_move, choice_move, turn_move, chosen_move};
@@ -11,10 +13,11 @@ ghost use Rattle.tcl_interp.specs.Replies.{reply_to};
 ghost use Rattle.tcl_interp.specs.Rests.{doing_of, moved_of, standing_of, waits_of};
 
 use crate::machine::{Answered, Asking, Choosing, Frame, Next, Now};
+use crate::seen::Seen;
 use crate::words::{begin_for, wait};
 use std::alloc::{AllocError, Global};
 use tcl_control::{Code, Context, Expression, Looping, truth};
-use tcl_expr::{Ask, EvalFault};
+use tcl_expr::{Ask, Eval, EvalFault};
 use tcl_shapes::Choices;
 use tcl_table::texts::cannot_read_element;
 use tcl_table::{CommandTable, Source};
@@ -84,8 +87,42 @@ fn failed<K: Drop>(alloc: Global, fault: &EvalFault) -> Next<K>
     }
 }
 
-/// An evaluation goes on, up to where it asks for the result of a script or ends. What it asks of variables is answered here.
+/// The value of an evaluation, where straight code says what it is. Variables are those of a level.
+fn straight_value(scopes: &Scopes, level: usize, eval: &Eval) -> Option<i64>
+    requires { level < length scopes.now }
+    ensures { IfSome result (ComesTo (number_in scopes.now level) eval.now) }
+{
+    eval.integer(&Seen { scopes, level })
+}
+
+/// An evaluation goes on, up to where it asks for the result of a script or ends. Straight code is asked first.
 pub fn evaluate<K: Drop>(
+    alloc: Global,
+    scopes: &Scopes,
+    context: &Context,
+    frames: &mut Vec<Frame<K>>,
+    room: u64,
+    answered: Box<Answered>,
+) -> Next<K>
+    ensures { IfOk result (λ now. MovesOn (standing
+        (moved (Evaluates room answered.value.eval answered.value.given) (waits_of frames.old.items)) scopes.now context.now)
+        (standing_of now frames.new.items scopes.now context.now)) }
+{
+    let level = context.levels.here(scopes);
+    match straight_value(scopes, level, &answered.eval) {
+        Some(number) => {
+            let text = Text::from_integer(alloc, number)?;
+            Ok(Now::Ends {
+                code: Code::Normal,
+                text,
+            })
+        }
+        None => ask_on(alloc, scopes, context, frames, room, answered),
+    }
+}
+
+/// An evaluation goes on step by step. What it asks of variables is answered here.
+fn ask_on<K: Drop>(
     alloc: Global,
     scopes: &Scopes,
     context: &Context,

@@ -1,5 +1,5 @@
 -- Meaning. The variables of an application: a list of frames, the global one first, each a list of (name, content).
-use Rattle.std.specs.Prelude.{Bool, true, false, not, ◌&&◌, is_none, nat_eq, codes, ℕ, zero, suc, ◌+◌, nat_le, List, [], ◌∷◌, Option, None, Some, Result, Ok, Err, length, sum_by, is_some, ok_or, option_and_then, slice_index_or, slice_set, if◌then◌else◌}
+use Rattle.std.specs.Prelude.{Bool, true, false, not, ◌&&◌, is_none, nat_eq, codes, ℕ, zero, suc, ◌+◌, ℤ, nat_le, List, [], ◌∷◌, Option, None, Some, Result, Ok, Err, length, sum_by, is_some, ok_or, option_and_then, slice_index_or, slice_set, if◌then◌else◌}
 use Rattle.std.specs.List.{starts_with}
 use Rattle.tcl_vars.specs.declared.content.Content.{Content}
 use Rattle.tcl_vars.specs.declared.content.Content.TheVariants.{Scalar, Array, Link}
@@ -14,6 +14,7 @@ use Rattle.tcl_text.specs.declared.fault.UnsetFault.TheVariants as unsets
 use Rattle.tcl_vars.specs.Name.{Place, element_of, place_of}
 use Rattle.tcl_vars.specs.Table.{Table, value_at, with_value, without}
 use Rattle.tcl_text.specs.Limits.{most_variables}
+use Rattle.tcl_text.specs.Readings.{integer_of}
 
 -- what the names of one procedure's call, or the global ones, stand for
 abbrev pub Frame : Type 0
@@ -88,6 +89,15 @@ text_at store (Some place) = text_of (content_at store place) place.element
 -- the value of the variable or element that a name means in the frame at a level
 unfoldable pub variable_in : Store → ℕ → List ℕ → Result (List ℕ) ReadFault
 variable_in store level name = text_at store (place_in store level name)
+
+-- the integer that a text is which was read, if it is one
+abbrev pub number_read : Result (List ℕ) ReadFault → Option ℤ
+number_read (Ok text) = integer_of text
+number_read (Err fault) = None
+
+-- the integer that the variable or element is that a name means in the frame at a level, if it is one
+abbrev pub number_in : Store → ℕ → List ℕ → Option ℤ
+number_in store level name = number_read (variable_in store level name)
 
 -- the value of the element that an index gives of the array that a name means
 unfoldable pub element_in : Store → ℕ → List ℕ → List ℕ → Result (List ℕ) ReadFault

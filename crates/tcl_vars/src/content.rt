@@ -1,5 +1,6 @@
 ghost use Rattle.std.specs.Prelude.{◌≡◌, ◌≢◌, ◌+◌, ◌<◌, ◌≤◌, length, List, ℕ, ok_or, option_map, MatchBool, ◌↔◌, MatchResult, Ok, Err, Some, None, false, IsOk, IsSome, IfOk, IfErr, IfSome, OnOk, OnErr};
 ghost use Rattle.std.specs.Option.{option_copied};
+ghost use Rattle.tcl_text.specs.Readings.{integer_of};
 ghost use Rattle.tcl_vars.specs.Change.{edited_by};
 ghost use Rattle.tcl_vars.specs.Changing.{ChangesContent, KeepsContent};
 ghost use Rattle.tcl_vars.specs.Put.{AfterContent, RefusesContent};
@@ -42,6 +43,13 @@ pub(crate) fn text_of<'a>(
         }
         (Some(Content::Link(_, _)), _) => Err(ReadFault::NoVariable),
     }
+}
+
+/// The integer that a text is, if it is one.
+pub(crate) fn integer_in(text: &Text) -> Option<i64>
+    ensures { result ≡ integer_of text.now }
+{
+    text.integer().ok()
 }
 
 /// Whether there is a content, or its element.

@@ -9,12 +9,12 @@ ghost use Rattle.tcl_vars.specs.Shown.{shown};
 ghost use Rattle.tcl_vars.specs.Sound.{IsBelow};
 ghost use Rattle.tcl_vars.specs.Table.{weight_of};
 ghost use Rattle.tcl_vars.specs.Unset.{IsGone, Unsets, UnsetsThere};
-ghost use Rattle.tcl_vars.specs.Store.{content_at, link_of, end_of, text_at, variable_in, element_in, with_variable, with_element, without_variable, without_element, content_count, variable_count, with_content, with_link, with_array, has_variable, is_element_in, elements_in, pairs_of};
+ghost use Rattle.tcl_vars.specs.Store.{content_at, link_of, end_of, text_at, variable_in, number_in, element_in, with_variable, with_element, without_variable, without_element, content_count, variable_count, with_content, with_link, with_array, has_variable, is_element_in, elements_in, pairs_of};
 ghost use Rattle.tcl_text.specs.Limits.{most_variables};
 
 use crate::arrays::{names_of, pairs_of};
 use crate::content::{
-    Content, Outcome, array_state, elements_of, holds_value, is_there, link_of, text_of,
+    Content, Outcome, array_state, elements_of, holds_value, integer_in, is_there, link_of, text_of,
 };
 use crate::frame::{Frame, change, give, put, unset, variable_count};
 use crate::name::{
@@ -22,6 +22,7 @@ use crate::name::{
 };
 use crate::table::Table;
 use std::alloc::{AllocError, Global};
+use std::cell::Cell;
 use std::marker::Model;
 use tcl_text::{ChangeFault, Edit, LinkFault, ReadFault, SetFault, Text, TextList, UnsetFault};
 
@@ -105,6 +106,19 @@ impl Scopes {
             (λ fault. variable_in self.now level name.now ≡ Err fault) }
     {
         self.read(place_of_text(level, name))
+    }
+
+    /// The integer that the text of the variable or element is which a name means in the frame at a level (Tcl(n), expr(n)); none where it
+    /// can't be read or is none. The hint is where in its frame the name stood when it was last read by this hint: a wrong one costs a
+    /// look-up. It takes no memory.
+    pub fn number_at(&self, level: usize, name: &Text, hint: &Cell<u32>) -> Option<i64>
+        requires { level < length self.now }
+        ensures { result ≡ number_in self.now level name.now }
+    {
+        match self.read_near(place_of_text(level, name), hint) {
+            Ok(text) => integer_in(text),
+            Err(_) => None,
+        }
     }
 
     /// The text of the element that an index gives of the array that a name means in the frame at a level (Tcl(n), set(n)).
@@ -380,6 +394,14 @@ impl Scopes {
         self.frames[place.level].get(place.variable)
     }
 
+    // The same, where its place in the frame is hinted.
+    fn content_near(&self, place: Place<'_>, hint: &Cell<u32>) -> Option<&Content>
+        requires { place.level < length self.now }
+        ensures { option_copied result ≡ content_at self.now (shown place.entry) }
+    {
+        self.frames[place.level].near(hint, place.variable)
+    }
+
     // Follows links, each to an earlier frame, and gives where they end; none where an element is used as an array.
     fn lead<'s: 'n, 'n>(&'s self, mut place: Place<'n>) -> Option<Found<'s, 'n>>
         requires level { place.level < length self.now }
@@ -411,6 +433,21 @@ impl Scopes {
             return Err(ReadFault::NotArray);
         };
         text_of(found.content, found.place.element)
+    }
+
+    // The same, where the place of its variable in the frame is hinted.
+    fn read_near(&self, place: Place<'_>, hint: &Cell<u32>) -> Result<&Text, ReadFault>
+        requires level { place.level < length self.now }
+        requires short { IsShortPlace (shown place) }
+        ensures { MatchResult result
+            (λ text. text_at self.now (end_of self.now (shown place.entry)) ≡ Ok text.now)
+            (λ fault. text_at self.now (end_of self.now (shown place.entry)) ≡ Err fault) }
+    {
+        let content = self.content_near(place, hint);
+        match link_of(content) {
+            None => text_of(content, place.element),
+            Some(_) => self.read(place),
+        }
     }
 
     // Sets the text to which a place leads.

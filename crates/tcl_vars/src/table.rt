@@ -1,4 +1,4 @@
-ghost use Rattle.std.specs.Prelude.{◌≡◌, ◌<◌, ◌^◌, [], length, slice_get, None, Some, OnOk, OnErr};
+ghost use Rattle.std.specs.Prelude.{◌≡◌, ◌<◌, ◌^◌, [], length, slice_get, None, Some, IfSome, OnOk, OnErr};
 ghost use Rattle.std.specs.Option.{option_copied};
 ghost use Rattle.std.specs.Borrow.{LendsIf, sem};
 ghost use Rattle.std.specs.Option.{option_copied_mut};
@@ -8,6 +8,7 @@ ghost use Rattle.tcl_vars.specs.Table.{value_at, with_value, without};
 
 use indexmap::IndexMap;
 use std::alloc::{AllocError, Global};
+use std::cell::Cell;
 use std::marker::Model;
 
 /// Values by name, in the order in which the names came.
@@ -64,6 +65,40 @@ impl<V> Table<V> {
         ensures { option_copied result ≡ value_at self.now name.now }
     {
         self.entries.get(name)
+    }
+
+    /// The value at a name, if that stands at a place of the order.
+    fn held_at(&self, place: usize, name: &str) -> Option<&V>
+        ensures { IfSome result (λ value. value_at self.now name.now ≡ Some value.now) }
+    {
+        if place < self.entries.len() {
+            let (held, value) = self.entries.get_index(place).unwrap();
+            if held.as_str() == name {
+                return Some(value);
+            }
+        }
+        None
+    }
+
+    /// The value at a name, which may stand at the place of the order that is hinted: where it doesn't, it is looked up, and its place is
+    /// hinted from then on.
+    pub(crate) fn near(&self, hint: &Cell<u32>, name: &str) -> Option<&V>
+        ensures { option_copied result ≡ value_at self.now name.now }
+    {
+        if let Some(value) = self.held_at(hint.get() as usize, name) {
+            return Some(value);
+        }
+        self.hint(hint, name);
+        self.get(name)
+    }
+
+    /// Hints the place of a name, if it is there.
+    fn hint(&self, hint: &Cell<u32>, name: &str) {
+        if let Some(place) = self.entries.get_index_of(name)
+            && let Ok(place) = u32::try_from(place)
+        {
+            hint.set(place);
+        }
     }
 }
 

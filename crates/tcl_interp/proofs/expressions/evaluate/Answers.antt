@@ -1,27 +1,22 @@
-use Rattle.std.proofs.Common.{Some, sym}
-use Rattle.tcl_interp.specs.declared.expressions.Reply.TheVariants.{Given}
-use Rattle.tcl_interp.specs.Finish.{Evaluates}
-use Rattle.tcl_interp.specs.Moves.{moved, standing}
+use Rattle.std.proofs.Common.{◌≡◌, ℕ, List, Option, sym, arith, rules}
+use Rattle.std.proofs.lemmas.Grind.{common_steps}
+use Rattle.std.specs.Fmt.{signed_decimal}
+use Rattle.std.specs.Prelude.{ℤ}
+use Rattle.tcl_vars.specs.Store.{number_in}
+use Rattle.tcl_expr.specs.Straight.{ComesTo}
+use Rattle.tcl_interp.specs.declared.machine.Answered.{Answered}
 use Rattle.tcl_interp.specs.Rests.{waits_of}
-use Rattle.tcl_interp.proofs.Answering.{RepliesBy, replies_by}
-use Rattle.tcl_interp.proofs.Weights.{quiet_lighter, leads_on}
-use Rattle.tcl_interp.proofs.expressions.evaluate.Given.{Over}
+use Rattle.tcl_interp.proofs.Straight.{straight_moves}
 use Rattle.tcl_interp.proofs.expressions.evaluate.Goals as goal
 
--- the move that an answer makes
-given_move : (g : Over) (c : goal.In-Given g) → RepliesBy c.args.scopes.now c.args.context.now c.args.room (waits_of c.answers.frames.items) c.answers.eval c.answers.given c.resume.new.self (Given c.in-Given.text)
-given_move g c = replies_by c.args.scopes.now c.args.context.now c.args.room (waits_of c.answers.frames.items) c.answers.eval c.answers.given c.resume.new.self c.here-level.result c.in-Ok.ask (Given c.in-Given.text)
-    c.here-level.ensures.value c.in-Ok.ensures.tells c.in-Ok.ensures.asks (rw c.in-Given.is at c.in_ok-text.ensures)
+in_box : (number : List ℕ → Option ℤ) (n : ℤ) (a b : Answered) → a ≡ b → ComesTo number a.eval n → ComesTo number b.eval n
+in_box number n a b e h = rw (sym e) h
 
-pub answers-smaller : goal.answers-smaller
-answers-smaller g c =
-    let waits = waits_of c.answers.frames.items in
-    quiet_lighter (standing (moved (Evaluates c.args.room c.answers.eval c.answers.given) waits) c.args.scopes.now c.args.context.now) (standing (moved (Evaluates c.args.room c.resume.new.self (Some c.in-Given.text)) waits) c.args.scopes.now c.args.context.now) tt (given_move g c).0
-
-pub answers-preserved : goal.answers-preserved
-answers-preserved g c =
-    let waits = waits_of c.answers.frames.items in
-    record {
-      leads = leads_on _ (standing (moved (Evaluates c.args.room c.answers.eval c.answers.given) waits) c.args.scopes.now c.args.context.now) (standing (moved (Evaluates c.args.room c.resume.new.self (Some c.in-Given.text)) waits) c.args.scopes.now c.args.context.now) c.answers.invariant.leads (given_move g c).0;
-      waiting = sym (given_move g c).1;
-    }
+pub returns-in_ok-text-in-Some : goal.returns-in_ok-text-in-Some
+returns-in_ok-text-in-Some g c =
+    let text : c.in_ok-text-in-Some.text ≡ signed_decimal c.in-Some.number =
+    first_of (grind (arith, c.in_ok-text-in-Some.ensures), search (rules, c.in_ok-text-in-Some.ensures), grind (arith, common_steps, c.in_ok-text-in-Some.ensures)) in
+    rw text
+    (straight_moves c.args.scopes.now c.args.context.now c.args.room (waits_of c.args.frames.now.items) c.args.answered.value.eval c.args.answered.value.given c.here-level.result
+    c.in-Some.number c.args.answered.value.answered c.here-level.ensures.value
+    (in_box (number_in c.args.scopes.now c.here-level.result) c.in-Some.number c.deref.result.now c.args.answered.value c.deref.ensures c.in-Some.ensures))

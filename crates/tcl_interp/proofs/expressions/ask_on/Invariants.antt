@@ -5,7 +5,7 @@ use Rattle.tcl_interp.specs.Moves.{moved, standing}
 use Rattle.tcl_interp.specs.Quiet.{Leads}
 use Rattle.tcl_interp.specs.Rests.{waits_of}
 use Rattle.tcl_interp.proofs.Weights.{weight}
-use Rattle.tcl_interp.proofs.expressions.evaluate.Given as goal
+use Rattle.tcl_interp.proofs.expressions.ask_on.Given as goal
 
 -- the moves so far led to the evaluation with its next answer
 abbrev pub invariant-answers : goal.invariant-answers

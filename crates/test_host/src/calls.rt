@@ -114,7 +114,7 @@ fn line(alloc: Global, host: &mut Host<NoAlias>, words: &str) -> Result<String>
 }
 
 /// A call of a host that was started.
-fn late(alloc: Global, host: &mut Host<NoAlias>, call: &str) -> Result<String>
+pub(crate) fn late(alloc: Global, host: &mut Host<NoAlias>, call: &str) -> Result<String>
     requires { host.old.held.phase ≢ Adding }
     ensures { OnOk result (host.new.held.phase ≢ Adding) }
 {
@@ -178,7 +178,7 @@ fn run(alloc: Global, host: &mut Host<NoAlias>, calls: &[&str], all: &mut String
 }
 
 /// A host that takes so many steps in a turn.
-fn host_of(alloc: Global, slice: &str) -> Result<Host<NoAlias>> {
+pub(crate) fn host_of(alloc: Global, slice: &str) -> Result<Host<NoAlias>> {
     let slice: u64 = number(slice)?;
     if slice == 0 {
         bail!("a turn of no step");

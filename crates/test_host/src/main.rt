@@ -8,6 +8,7 @@ mod calls;
 mod example;
 mod lines;
 mod plays;
+mod refusing;
 mod routes;
 mod stream;
 mod streams;
@@ -24,6 +25,7 @@ use std::alloc::Global;
 enum Part {
     Calls,
     Embedding,
+    Refusing,
     Routes(Routes),
     Streams(Streams),
 }
@@ -33,6 +35,7 @@ impl Fixture for Part {
         match table {
             "calls" => Ok(Part::Calls),
             "embedding" => Ok(Part::Embedding),
+            "refusing" => Ok(Part::Refusing),
             "routes" => Ok(Part::Routes(Routes::new())),
             "streams" => Ok(Part::Streams(Streams::new(alloc))),
             _ => bail!("no such table"),
@@ -43,6 +46,7 @@ impl Fixture for Part {
         match self {
             Part::Calls => calls::answer(alloc, question),
             Part::Embedding => example::answer(alloc, question),
+            Part::Refusing => refusing::answer(alloc, question),
             Part::Routes(routes) => routes.answer(alloc, question),
             Part::Streams(streams) => streams.answer(alloc, question),
         }

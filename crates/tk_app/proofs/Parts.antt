@@ -20,7 +20,9 @@ use Rattle.tk_app.specs.Outside.{calls, course, outside}
 use Rattle.tk_app.specs.Moments.{after_outcome, settled, settled_as, started, state_at}
 use Rattle.tk_app.specs.Part.{Rests, BeginsWithScript, SettlesFromRest, done_as, settling_as, stage_done}
 use Rattle.tk_app.specs.Seen.{Meaning, Seen}
-use Rattle.tk_app.specs.Settle.{GoesByNext, in_panel, meaning, on_next, settle_meaning, settling, start_meaning}
+use Rattle.tk_app.specs.Dispatch.{in_panel}
+use Rattle.tk_app.specs.Jobs.{GoesByNext, meaning, on_next}
+use Rattle.tk_app.specs.Settle.{settle_meaning, settling, start_meaning}
 
 -- nothing comes behind the end
 ended_alone : (outcome : Outcome Seen) → and_then outcome (waits_meaning outside []) ≡ outcome
@@ -36,14 +38,14 @@ pub starts : (script : List ℕ) (state : State Seen) → task_meaning outside (
 starts script state = (jobs.goes_on course calls 200 settling state Normal [] script).1
 
 -- what is next of a job, where it ends or takes a step
-by_next : (job : Option Job) (state : State Seen) → looked course (runs course calls 200) meaning (looked_of job) state ≡ on_next state job
-by_next None state = refl
-by_next (Some job) state = refl
+by_next : (room : ℕ) (job : Option Job) (state : State Seen) → looked course (runs course calls room) (meaning room) (looked_of job) state ≡ on_next room state job
+by_next room None state = refl
+by_next room (Some job) state = refl
 
 pub goes_by_next : GoesByNext
-goes_by_next job state =
+goes_by_next room job state =
     let there : Next = next job state.store state.shows.panel in
-    jobs.unrolls course calls 200 job state ∙ by_next there.1 (in_panel there.0 state)
+    jobs.unrolls course calls room job state ∙ by_next room there.1 (in_panel there.0 state)
 
 module _ {M : Type 0} (answer : M → Meaning) where
   from_rest : (s : AppState) (moment : ℕ) (application : Application M) → application.state ≡ s

@@ -35,7 +35,9 @@ use Rattle.tk_app.specs.Dues.{DueTakesAStep, SettledIsPast, StartedIsPast}
 use Rattle.tk_app.specs.Outside.{calls, called_as, alias_act, course, outside}
 use Rattle.tk_app.specs.Moments.{after_outcome, settled, settled_as, started, state_after, state_at}
 use Rattle.tk_app.specs.Seen.{Meaning, Seen}
-use Rattle.tk_app.specs.Settle.{after_script, at_global, comes_next, in_panel, settle_meaning, settling, start_meaning}
+use Rattle.tk_app.specs.Dispatch.{at_global, in_panel}
+use Rattle.tk_app.specs.Jobs.{comes_next}
+use Rattle.tk_app.specs.Settle.{after_script, settle_meaning, settling, start_meaning}
 use Rattle.tk_app.proofs.Homes.{keeps, look_stays, looked_last}
 use Rattle.tk_app.proofs.Parts.{goes_by_next, settles, starts}
 
@@ -72,7 +74,7 @@ start_stays script state =
 
 -- ── nothing is left ──
 
-abbrev Quiet : Outcome Seen → Type 0
+abbrev pub Quiet : Outcome Seen → Type 0
 Quiet (Ended state code text) = has_settled state.shows.panel ≡ true
 Quiet (OutOfSteps state) = Unit {0}
 
@@ -87,7 +89,7 @@ quiet_last code text after last =
     ∙ ap (λ m. has_settled (record there.0 { moment = m })) (sym (look_stays last.last after.store before last.is_kind))
     ∙ looked_last last.last after.store before there.0 code text last.is_kind (ap (λ (l : Looked Job). (there.0, l)) ends)
 
-quiet_settle : (state : State Seen) → Quiet (settle_meaning state)
+pub quiet_settle : (state : State Seen) → Quiet (settle_meaning state)
 quiet_settle state = by (settle_meaning state) refl
   where
     by : (o : Outcome Seen) → settle_meaning state ≡ o → Quiet o
@@ -95,7 +97,7 @@ quiet_settle state = by (settle_meaning state) refl
     by (OutOfSteps after) is = tt
 
 quiet_start : (script : List ℕ) (state : State Seen) → Quiet (start_meaning script state)
-quiet_start script state = by (at_global script state)
+quiet_start script state = by (at_global 200 script state)
   where
     by : (o : Outcome Seen) → Quiet (and_then o after_script)
     by (Ended left code text) = quiet_settle (in_panel (with_end (out_of_global code) text left.shows.panel) left)
@@ -148,7 +150,7 @@ unfolding still_waiting
 closed_next panel store closed = rw closed refl
 
 closed_ends : (state : State Seen) → is_closed state.shows.panel ≡ true → settle_meaning state ≡ Ended state Normal []
-closed_ends state closed = goes_by_next settling state ∙ ap (comes_next state) (closed_next state.shows.panel state.store closed)
+closed_ends state closed = goes_by_next 200 settling state ∙ ap (comes_next 200 state) (closed_next state.shows.panel state.store closed)
 
 module _ {M : Type 0} (answer : M → Meaning) where
   due_now : (moment due : ℕ) (entries : List Entry) → least (due_moments entries) ≡ Some due → due ≤ moment → is_due moment entries ≡ true

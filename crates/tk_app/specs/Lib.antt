@@ -1,6 +1,10 @@
 -- What the contracts cite.
 pub mod Application
+pub mod Destroy
+pub mod Dispatch
 pub mod Dues
+pub mod Items
+pub mod Jobs
 pub mod Moments
 pub mod Names
 pub mod Outside

@@ -1,44 +1,39 @@
--- Meaning. What is done at a moment, and how an application begins.
-use Rattle.std.specs.Prelude.{◌≡◌, ℕ, List, [], Option, Some, None}
+-- Meaning. *Settle*, and how an application begins.
+use Rattle.std.specs.Prelude.{◌≡◌, ℕ, false, List, []}
 use Rattle.tcl_control.specs.declared.code.Code.{Code}
 use Rattle.tcl_control.specs.declared.code.Code.TheVariants.{Normal}
-use Rattle.tcl_interp.specs.Evaluation.{State, Outcome, Ended, and_then, with_step}
-use Rattle.tcl_interp.specs.Plans.{run_at}
-use Rattle.tcl_interp.specs.Scripts.{out_of_global, script_meaning}
-use Rattle.tcl_interp.specs.Meaning.{job_meaning}
-use Rattle.tk_panel.specs.declared.job.Home.TheVariants.{Settle}
+use Rattle.tcl_interp.specs.Evaluation.{State, Outcome, Ended, and_then}
+use Rattle.tcl_interp.specs.Scripts.{out_of_global}
+use Rattle.tk_after.specs.Timers.{idle_ids}
+use Rattle.tk_screen.specs.Layout.{changes_due}
+use Rattle.tk_sequences.specs.declared.event.Event.{Event}
+use Rattle.tk_tree.specs.Own.{IsSound}
+use Rattle.tk_panel.specs.declared.job.Home.TheVariants.{IdleTasks, Settle, Update}
 use Rattle.tk_panel.specs.declared.job.Job.{Job}
-use Rattle.tk_panel.specs.declared.job.Rest.TheVariants.{Rounds}
-use Rattle.tk_panel.specs.Next.{next}
+use Rattle.tk_panel.specs.declared.job.Rest.{Rest}
+use Rattle.tk_panel.specs.Changes.{laid_out}
+use Rattle.tk_panel.specs.Choice.{chosen}
 use Rattle.tk_panel.specs.Panel.{Panel}
-use Rattle.tk_panel.specs.Settle.{Next}
-use Rattle.tk_panel.specs.Start.{alone, start}
-use Rattle.tk_commands.specs.Course.{ended, with_end}
-use Rattle.tk_app.specs.Outside.{calls, course, outside}
-use Rattle.tk_app.specs.Seen.{Seen, with_panel}
+use Rattle.tk_panel.specs.Settle.{is_closed}
+use Rattle.tk_panel.specs.Start.{alone}
+use Rattle.tk_commands.specs.Course.{event_job, with_end}
+use Rattle.tk_commands.specs.Moment.{destroying, settling as settling_to}
+use Rattle.tk_app.specs.Destroy.{destroy_meaning}
+use Rattle.tk_app.specs.Dispatch.{Behind, at_global, dispatch_meaning, in_panel, shown}
+use Rattle.tk_app.specs.Items.{item_meaning, round_meaning, settle_item}
+use Rattle.tk_app.specs.Jobs.{meaning}
+use Rattle.tk_app.specs.Seen.{Seen}
 use Rattle.tcl_text.specs.Limits.{most_running}
-
--- a script at global level, where the first of the levels is alone, with room for 200 scripts one in another
-abbrev pub at_global : List ℕ → State Seen → Outcome Seen
-at_global script state = run_at (script_meaning outside most_running) 1 script state
-
--- a state in which the panel is another
-abbrev pub in_panel : Panel → State Seen → State Seen
-in_panel panel state = record state { shows = with_panel panel state.shows }
-
--- what a job comes to
-abbrev pub meaning : Job → State Seen → Outcome Seen
-meaning job state = job_meaning course calls most_running job state
 
 -- ── a moment ──
 
 -- what is to be done at a moment, where nothing is under way
 abbrev pub settling : Job
-settling = alone (Rounds [] Settle)
+settling = settling_to Settle
 
--- all that is to be done at a moment
+-- *Settle*: all that is to be done at a moment, as what its job comes to. It meets the equation `Settles`.
 abbrev pub settle_meaning : State Seen → Outcome Seen
-settle_meaning state = meaning settling state
+settle_meaning state = meaning most_running settling state
 
 -- ── the beginning ──
 
@@ -47,27 +42,50 @@ abbrev pub after_script : State Seen → Code → List ℕ → Outcome Seen
 after_script state code text = settle_meaning (in_panel (with_end (out_of_global code) text state.shows.panel) state)
 
 abbrev pub start_meaning : List ℕ → State Seen → Outcome Seen
-start_meaning script state = and_then (at_global script state) after_script
+start_meaning script state = and_then (at_global most_running script state) after_script
 
--- ── what comes next, again and again ──
+-- ── the equations ──
 
--- a script of a job has ended, and then the job goes on
-abbrev pub goes_on : Job → State Seen → Code → List ℕ → Outcome Seen
-goes_on job state code text =
-    (let there : Panel × Job = ended (out_of_global code) text state.shows.panel job in meaning there.1 (in_panel there.0 state))
+-- The windows of the state are numbered as they were made, each behind its parent. Those of each application in the tables are: it is the invariant of
+-- `Windows` in tk_tree, which the clause `sound` of `Windows::count` tells.
+abbrev pub IsSoundIn : State Seen → Type 0
+IsSoundIn state = IsSound state.shows.panel.screen.tree
 
--- the step of what is next is taken, it starts, and its script runs
-abbrev pub starts : Job → State Seen → Outcome Seen
-starts job state =
-    (let there : Panel × (List ℕ × Job) = start job state.shows.panel in and_then (at_global there.1.0 (in_panel there.0 state)) (goes_on there.1.1))
+-- *Settle* is the first item that exists, and *Settle* again.
+abbrev pub Settles : Type 0
+Settles = (state : State Seen) → IsSoundIn state → settle_meaning state ≡ settle_item most_running settle_meaning state
 
-abbrev pub on_next : State Seen → Option Job → Outcome Seen
-on_next state None = Ended state Normal []
-on_next state (Some job) = with_step state (starts job)
+-- So is the job that `update` begins, without the test for the main window. With `idletasks` it is a layout, a round of the idle scripts that wait
+-- then, and a layout more.
+abbrev pub Updates : Type 0
+Updates = (room : ℕ) (state : State Seen) → IsSoundIn state
+    → meaning room (settling_to Update) state ≡ item_meaning room (meaning room (settling_to Update)) state
 
-abbrev pub comes_next : State Seen → Next → Outcome Seen
-comes_next state there = on_next (in_panel there.0 state) there.1
+-- a layout, and the empty answer
+abbrev pub laid : Behind
+laid state = Ended (shown (laid_out state.store state.shows.panel) state) Normal []
 
--- what a job comes to, and with it what is done at a moment, is what comes next of it, again and again
-abbrev pub GoesByNext : Type 0
-GoesByNext = (job : Job) (state : State Seen) → meaning job state ≡ comes_next state (next job state.store state.shows.panel)
+abbrev pub UpdatesIdleTasks : Type 0
+UpdatesIdleTasks = (room : ℕ) (state : State Seen)
+    → meaning room (settling_to IdleTasks) state
+    ≡ (let first : Panel = laid_out state.store state.shows.panel in round_meaning room (idle_ids first.timers.entries) laid (shown first state))
+
+-- *Dispatch*: once the scripts of an event are chosen, the job of running them, with what is behind it.
+abbrev pub Dispatches : Type 0
+Dispatches = (room : ℕ) (event : Event) (rest : Rest) (state : State Seen)
+    → (let there : Panel × List (List ℕ) = chosen event state.shows.panel in meaning room (event_job there.1 rest) (shown there.0 state))
+    ≡ dispatch_meaning room event (meaning room (alone rest)) state
+
+-- The job that `destroy` begins with these paths is *Destroy* of them.
+abbrev pub Destroys : Type 0
+Destroys = (room : ℕ) (paths : List (List ℕ)) (state : State Seen) → meaning room (destroying paths) state ≡ destroy_meaning room paths state
+
+-- Once all that is to be done has been done and there is a main window, the windows lie where a layout from nothing puts them.
+abbrev pub EndsLaidOut : Type 0
+EndsLaidOut = (state after : State Seen) (code : Code) (text : List ℕ) → settle_meaning state ≡ Ended after code text
+    → IsSoundIn after → is_closed after.shows.panel ≡ false → changes_due after.shows.panel.screen after.store ≡ []
+
+-- Then *Settle* again does nothing: there is no main window, or nothing waits and no layout changes anything.
+abbrev pub SettlesTwice : Type 0
+SettlesTwice = (state after : State Seen) (code : Code) (text : List ℕ) → settle_meaning state ≡ Ended after code text
+    → IsSoundIn after → settle_meaning after ≡ Ended after Normal []

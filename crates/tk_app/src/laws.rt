@@ -1,7 +1,16 @@
 //! What a part comes to, by what is done at a moment. The functions do nothing: their contracts are the laws.
 ghost use Rattle.tk_app.specs.Dues.{DueTakesAStep, SettledIsPast, StartedIsPast};
 ghost use Rattle.tk_app.specs.Part.{BeginsWithScript, SettlesFromRest};
-ghost use Rattle.tk_app.specs.Settle.{GoesByNext};
+ghost use Rattle.tk_app.specs.Jobs.{GoesByNext};
+ghost use Rattle.tk_app.specs.Settle.{
+  Destroys,
+  Dispatches,
+  EndsLaidOut,
+  Settles,
+  SettlesTwice,
+  Updates,
+  UpdatesIdleTasks,
+};
 
 use tk_alias::AliasMeaning;
 
@@ -15,8 +24,45 @@ pub fn begins_with_script<M: AliasMeaning>()
     ensures { BeginsWithScript M.answer }
 {}
 
-/// What is done at a moment is what comes next, again and again: a step is taken, what is next starts, and its script runs at global level
-/// (after(n), update(n)).
+/// *Settle* is the first item that exists of a queued event, a due timer, a layout that changes something and a round of the idle scripts that
+/// wait, and *Settle* again; nothing more is done where the main window is gone (after(n); the order is this host's own).
+pub fn settles()
+    ensures { Settles }
+{}
+
+/// The job that `update` begins is the same, without the test for the main window (update(n)).
+pub fn updates()
+    ensures { Updates }
+{}
+
+/// `update idletasks` is a layout, a round of the idle scripts that wait then, and a layout (update(n)).
+pub fn updates_idle_tasks()
+    ensures { UpdatesIdleTasks }
+{}
+
+/// *Dispatch*: once the scripts of an event are chosen, they run in order, a step before each. A break ends the event, and so does an error,
+/// which is told (bind(n)).
+pub fn dispatches()
+    ensures { Dispatches }
+{}
+
+/// *Destroy*: of each path the window and all below it, in post-order. Each that is still there has its Destroy event dispatched, and then goes
+/// with its bindings, if it is there still (destroy(n)).
+pub fn destroys()
+    ensures { Destroys }
+{}
+
+/// Where *Settle* has ended and there is a main window, the windows lie where a layout from nothing puts them (pack(n)).
+pub fn ends_laid_out()
+    ensures { EndsLaidOut }
+{}
+
+/// Where *Settle* has ended, *Settle* at the same moment does nothing: there is no main window, or nothing waits and no layout changes anything.
+pub fn settles_twice()
+    ensures { SettlesTwice }
+{}
+
+/// What a job comes to is what comes next of it: a step is taken, what is next starts, and its script runs at global level.
 pub fn goes_by_next()
     ensures { GoesByNext }
 {}

@@ -17,8 +17,9 @@ mod turns;
 mod view;
 
 pub use laws::{
-    begins_with_script, due_takes_a_step, goes_by_next, settled_is_past, settles_from_rest,
-    started_is_past,
+    begins_with_script, destroys, dispatches, due_takes_a_step, ends_laid_out, goes_by_next,
+    settled_is_past, settles, settles_from_rest, settles_twice, started_is_past, updates,
+    updates_idle_tasks,
 };
 pub use shared::Shared;
 pub use size::Size;

@@ -1,6 +1,7 @@
 mod Apart
 mod Bounded
 mod Deliveries
+mod FirstFormat
 mod History
 mod Kept
 mod Order

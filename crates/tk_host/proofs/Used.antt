@@ -24,7 +24,7 @@ record Keeps {M : Type 0} (before after : Application M) : Type 0 where
   pub steps : after.steps ≤ before.steps
 
 -- an application begun with this has its budget, and at most the total left
-record Fits {M : Type 0} (spec : Spec M) (application : Application M) : Type 0 where
+pub record Fits {M : Type 0} (spec : Spec M) (application : Application M) : Type 0 where
   pub budget : application.budget ≡ spec.budget
   pub steps : application.steps ≤ spec.budget.total
 
@@ -113,14 +113,17 @@ module _ {M : Type 0} (answer : M → Meaning) where
       let there = kept_fits spec (after_events answer spec earlier) before (passed_keeps event.moment (after_events answer spec earlier)) (fits_alone spec earlier) in
       kept_fits spec (delivered event before) _ (settled_keeps event.moment (delivered event before)) (grants spec event before there).fits
 
+  pub fits_before : (spec : Spec M) (event : LocalEvent) (earlier : List LocalEvent) → Fits spec (before_event answer spec event earlier)
+  fits_before spec event earlier =
+      kept_fits spec (after_events answer spec earlier) (before_event answer spec event earlier) (passed_keeps event.moment (after_events answer spec earlier)) (fits_alone spec earlier)
+
   left_for : (spec : Spec M) (routed : List LocalEvent)
       → used_for answer spec routed + (after_events answer spec routed).steps ≡ spec.budget.total + granted_to answer spec routed
   left_for spec [] = let keeps = (started_keeps spec).steps in omega (arith, keeps)
   left_for spec (event ∷ earlier) =
       let before = before_event answer spec event earlier in
       let way = passed_keeps event.moment (after_events answer spec earlier) in
-      let there = kept_fits spec (after_events answer spec earlier) before way (fits_alone spec earlier) in
-      let given = grants spec event before there in
+      let given = grants spec event before (fits_before spec event earlier) in
       let keeps = settled_keeps event.moment (delivered event before) in
       omega (arith, left_for spec earlier, way.steps, given.more, keeps.steps)
 
@@ -128,8 +131,7 @@ module _ {M : Type 0} (answer : M → Meaning) where
   granted_most spec [] = omega arith
   granted_most spec (event ∷ earlier) =
       let before = before_event answer spec event earlier in
-      let there = kept_fits spec (after_events answer spec earlier) before (passed_keeps event.moment (after_events answer spec earlier)) (fits_alone spec earlier) in
-      let given = grants spec event before there in
+      let given = grants spec event before (fits_before spec event earlier) in
       let refill = spec.budget.refill in
       let more : suc (length earlier) * refill ≡ length earlier * refill + refill = suc-mul (length earlier) refill in
       omega (arith, granted_most spec earlier, given.most, given.more, more)

@@ -2,6 +2,7 @@
 pub mod Alone
 pub mod Bounds
 pub mod Dues
+pub mod FirstFormat
 pub mod Held
 pub mod Ready
 pub mod Refusals

@@ -1,5 +1,6 @@
 ghost use Rattle.tk_host.specs.Bounds.{BoundedStages};
 ghost use Rattle.tk_host.specs.Dues.{PassesByDues};
+ghost use Rattle.tk_host.specs.FirstFormat.{AloneWithoutRefills};
 ghost use Rattle.tk_host.specs.Refusals.{OneRefusal};
 ghost use Rattle.tk_host.specs.Sections.{EachByItself};
 ghost use Rattle.tk_host.specs.Used.{AllWithin, UsedAndLeft};
@@ -37,4 +38,10 @@ pub fn used_and_left<M: AliasMeaning>()
 /// Applications side by side take at most the sum of their totals and of what their events granted.
 pub fn all_within<M: AliasMeaning>()
     ensures { AllWithin M.answer }
+{}
+
+/// An application that nothing refills, as each of a session of the first format is, is by itself what it was before there were refills: an
+/// event grants it nothing.
+pub fn alone_without_refills<M: AliasMeaning>()
+    ensures { AloneWithoutRefills M.answer }
 {}

@@ -10,7 +10,8 @@ mod stages;
 
 pub use host::Host;
 pub use laws::{
-    all_within, bounded_stages, each_by_itself, one_refusal, passes_by_dues, used_and_left,
+    all_within, alone_without_refills, bounded_stages, each_by_itself, one_refusal, passes_by_dues,
+    used_and_left,
 };
 pub use phase::Phase;
 pub use tk_alias::{MAX_ALIASES, is_command_name};

@@ -1,0 +1,5 @@
+use Rattle.tk_app.proofs.Equations.{dispatches}
+use Rattle.tk_app.proofs.laws.dispatches.Goals as goal
+
+pub returns : goal.returns
+returns c = dispatches

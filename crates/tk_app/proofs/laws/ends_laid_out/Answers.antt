@@ -1,0 +1,5 @@
+use Rattle.tk_app.proofs.LaidOut.{ends_laid_out}
+use Rattle.tk_app.proofs.laws.ends_laid_out.Goals as goal
+
+pub returns : goal.returns
+returns c = ends_laid_out

@@ -1,0 +1,5 @@
+use Rattle.tk_app.proofs.Equations.{settles_all}
+use Rattle.tk_app.proofs.laws.settles.Goals as goal
+
+pub returns : goal.returns
+returns c = settles_all

@@ -1,0 +1,5 @@
+use Rattle.tk_app.proofs.Equations.{updates}
+use Rattle.tk_app.proofs.laws.updates.Goals as goal
+
+pub returns : goal.returns
+returns c = updates

@@ -1,5 +1,6 @@
 //! Laws over the definitions of sessions. Each is the contract of a function that does nothing.
 ghost use Rattle.std.specs.Prelude.{◌≡◌, ℕ, ◌⊎◌, List};
+ghost use Rattle.tk_session.specs.FirstFormat.{SessionOfTheFirst};
 ghost use Rattle.tk_session.specs.Session.{HasFault, IsSession, Plan};
 ghost use Rattle.tk_route.specs.declared.fault.LineFault.{LineFault};
 
@@ -22,4 +23,9 @@ pub fn one_fault()
 /// A text that is a session has no fault.
 pub fn never_both()
     ensures { (bytes : List ℕ) (plan : Plan) (fault : LineFault) (line : ℕ) → IsSession bytes plan → ¬ HasFault bytes fault line }
+{}
+
+/// A session of the first format refills no application and moves no rectangle.
+pub fn first_format()
+    ensures { SessionOfTheFirst }
 {}

@@ -7,6 +7,7 @@ mod fault;
 mod laws;
 mod line;
 mod listing;
+mod one_line;
 mod reading;
 mod screen;
 mod script;
@@ -15,8 +16,9 @@ mod stage;
 mod writing;
 
 pub use fault::SessionFault;
-pub use laws::{never_both, one_fault, one_session, session_or_fault};
+pub use laws::{first_format, never_both, one_fault, one_session, session_or_fault};
 pub use listing::Listing;
+pub use one_line::{read_end, read_event};
 pub use reading::read_session;
 pub use session::{AliasLine, AppBlock, EventLine, Session};
 pub use tk_alias::{Service, ServiceKind};

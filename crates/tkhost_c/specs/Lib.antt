@@ -1,0 +1,6 @@
+-- What the contracts cite.
+pub mod Calls
+pub mod Keeping
+pub mod Keeps
+pub mod Numbers
+pub mod Refused

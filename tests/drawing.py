@@ -17,7 +17,7 @@ PAGE = TOP / "docs" / "architecture.md"
 def crates():
     """The crates of crates.txt, each with the crates of this tree that its line names."""
     lines = [line.partition("#")[0].partition(":") for line in (TOP / "crates.txt").read_text().splitlines()]
-    named = {name.strip(): deps.split() for name, colon, deps in lines if colon}
+    named = {name.split()[0]: deps.split() for name, colon, deps in lines if colon}
     return {name: [dep for dep in deps if dep in named] for name, deps in named.items()}
 
 

@@ -4,17 +4,18 @@ exit status and the line on standard error of a session that isn't accepted. Wit
 
 The programs are those that the gate left in crates/NAME/out, each as two compilers built it: the host plays every session, and the program of tables of
 hosts plays it in slices of 1, 2, 3, 7, 64 and 1,000,000 steps. A session that lacks its second file, or has both, and a file that belongs to no
-session are told too, and count as failed."""
+session are told too, and count as failed; those of benches (benches.py) are left out."""
 import concurrent.futures, os, subprocess, sys
 from programs import BUILDS, EXAMPLES, HOST, TABLES_OF_HOSTS, built
 
 ANSWERS = (".expected", ".fault")
+OF_BENCHES = (".toml", ".tcl", ".shown")
 SECONDS = 600
 
 
 def stored():
     """The names of the stored sessions, and what is wrong with the files among them."""
-    files = {it.relative_to(EXAMPLES) for it in EXAMPLES.rglob("*") if not it.is_dir() and it.name != "README.md"}
+    files = {it.relative_to(EXAMPLES) for it in EXAMPLES.rglob("*") if not it.is_dir() and it.name != "README.md" and it.suffix not in OF_BENCHES}
     names, faults = [], []
     for file in sorted(files):
         answers = [ending for ending in ANSWERS if file.with_suffix(ending) in files]

@@ -1,10 +1,10 @@
-use std::alloc::{AllocError, AllocFailed};
+use std::alloc::{AllocError, AllocFailed, Global};
 use std::io;
 
 /// Why a command isn't done.
 #[derive(Drop)]
 pub(crate) enum Failure {
-    /// In words.
+    /// What is wrong, in words.
     Said(String),
     /// Memory was refused.
     NoMemory,
@@ -25,7 +25,20 @@ impl<T: Drop> From<AllocFailed<T>> for Failure {
 }
 
 impl From<io::Error> for Failure {
-    fn from(_error: io::Error) -> Failure {
+    fn from(_refused: io::Error) -> Failure {
         Failure::Stream
+    }
+}
+
+/// What is wrong in a line of a file, counted from 1; 0 where no line says it.
+pub(crate) fn fault(alloc: Global, file: &str, line: usize, words: &str) -> Failure {
+    let text = if line == 0 {
+        format!(in alloc; "{file}: {words}")
+    } else {
+        format!(in alloc; "{file}:{line}: {words}")
+    };
+    match text {
+        Ok(text) => Failure::Said(text),
+        Err(_) => Failure::NoMemory,
     }
 }

@@ -1,55 +1,48 @@
-//! The command `panels`: sessions are explained.
+//! The command `panels`: benches are checked, run and accepted, and sessions explained.
 #![tactic(auto)]
 
+mod commands;
+mod difference;
+mod doing;
+mod explaining;
 mod failure;
+mod files;
+mod keys;
+mod messages;
+mod nearest;
+mod options;
+mod place;
+mod reading;
+mod report;
+mod seeing;
+mod sides;
+mod table;
+mod typing;
 
+use commands::obeyed;
 use failure::Failure;
-use panels::explained;
+use options::options_of;
+use std::env;
 use std::process::ExitCode;
-use std::rt::Files;
-use std::{env, fs};
 
 const USAGE: &str = "\
-usage: panels explain SESSION  tells a session's fault in words
+usage: panels check BENCH..    says whether benches show and do what they have to
+       panels run BENCH        prints the sections of its panels
+       panels session BENCH    prints the session that it is
+       panels accept BENCH..   writes the expected files, and tells what changes in them
+       panels new FOLDER       writes a bench that passes
+       panels explain SESSION  tells a session's fault in words
 ";
 
-/// The session that is to be explained.
-fn asked(rt: &HostRuntime) -> Result<Option<String>, Failure> {
+/// Does what the words of the command line ask for, and answers the exit status.
+fn done(rt: &HostRuntime) -> Result<u8, Failure> {
     let alloc = rt.alloc();
     let mut words = Vec::new(alloc);
     for word in env::args(rt)? {
         words.push(word)?;
     }
-    match words.as_slice() {
-        [_, command, file] if command.as_str() == "explain" => {
-            Ok(Some(String::from_str(alloc, file.as_str())?))
-        }
-        _ => Ok(None),
-    }
-}
-
-/// Tells what is wrong with a session, and answers the exit status.
-fn explain<R: Files + AllocGlobal + Print>(rt: &R, file: &str) -> Result<u8, Failure> {
-    let alloc = rt.alloc();
-    let Ok(bytes) = fs::read(rt, file) else {
-        return Err(Failure::Said(format!(in alloc; "panels: {file} can't be read")?));
-    };
-    match explained(alloc, bytes.as_slice())? {
-        None => {
-            rt.println("this is a session: nothing is wrong with it")?;
-            Ok(0)
-        }
-        Some(text) => {
-            let text = format!(in alloc; "{file}: {}", text.as_str())?;
-            rt.print(text.as_str())?;
-            Ok(1)
-        }
-    }
-}
-
-fn done(rt: &HostRuntime) -> Result<u8, Failure> {
-    match asked(rt)? {
-        Some(file) => explain(rt, file.as_str()),
+    match options_of(alloc, words.as_slice())? {
+        Some(options) => obeyed(rt, &options),
         None => {
             rt.eprint(USAGE)?;
             Ok(2)
@@ -60,8 +53,8 @@ fn done(rt: &HostRuntime) -> Result<u8, Failure> {
 fn main(rt: HostRuntime) -> ExitCode {
     let status = match done(&rt) {
         Ok(status) => status,
-        // where standard error takes nothing, the status alone tells
         Err(Failure::Said(text)) => {
+            // where standard error takes nothing, the status alone tells
             let _ = rt.eprintln(text.as_str());
             2
         }

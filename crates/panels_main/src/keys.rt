@@ -1,6 +1,6 @@
 //! Keys by their names, and by those that other systems give them.
 
-use crate::words::serving;
+use crate::nearest::serving;
 use std::alloc::{AllocError, Global};
 use tk_keys::Keysym;
 

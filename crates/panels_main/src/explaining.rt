@@ -1,7 +1,11 @@
 //! What is wrong with a session, in words.
 
+ghost use Rattle.std.specs.Prelude.{ℕ, IfOk, IfNone, OnSome, MatchOption};
+ghost use Rattle.tk_route.specs.declared.fault.LineFault.{LineFault as FaultOf};
+ghost use Rattle.tk_session.specs.Session.{HasFault, IsSession, Plan};
+
 use crate::keys::serving_key;
-use crate::words::{is_known, nearest, next};
+use crate::nearest::{is_known, nearest, next};
 use std::alloc::{AllocError, Global};
 use tk_keys::Keysym;
 use tk_session::{LineFault, SessionFault, read_session};
@@ -234,24 +238,41 @@ fn told(alloc: Global, text: &str, fault: LineFault, line: usize) -> Result<Stri
     format!(in alloc; "line {line} is: {}\n{words}.\n", found.line.unwrap_or(""))
 }
 
-/// What is wrong with a session, in words, with its number and its line; nothing where it is one.
-pub fn explained(alloc: Global, bytes: &[u8]) -> Result<Option<String>, AllocError> {
+/// The first fault of a text, with its line, counted from 1; nothing where the text is a session.
+fn fault_of(alloc: Global, bytes: &[u8]) -> Result<Option<(LineFault, usize)>, AllocError>
+    ensures { IfOk result (λ found. MatchOption found ((plan : Plan) × IsSession bytes.now plan) (λ fault. HasFault bytes.now fault.0 fault.1)) }
+{
     match read_session(alloc, bytes) {
         Ok(_) => Ok(None),
         Err(SessionFault::NoMemory) => Err(AllocError),
-        Err(SessionFault::Refused { fault, line }) => {
-            let text = match std::str::from_utf8(bytes) {
-                Ok(text) => text,
-                Err(_) => {
-                    let text = format!(in alloc;
-                        "fault {}, line {line}: the text isn't UTF-8\n",
-                        fault.number()
-                    )?;
-                    return Ok(Some(text));
-                }
-            };
+        Err(SessionFault::Refused { fault, line }) => Ok(Some((fault, line))),
+    }
+}
+
+/// What is wrong in a line of a text, in words.
+fn words_of(
+    alloc: Global,
+    bytes: &[u8],
+    fault: LineFault,
+    line: usize,
+) -> Result<String, AllocError> {
+    let number = fault.number();
+    match std::str::from_utf8(bytes) {
+        Ok(text) => {
             let words = told(alloc, text, fault, line)?;
-            Ok(Some(format!(in alloc; "fault {}, {}", fault.number(), words.as_str())?))
+            format!(in alloc; "fault {number}, {}", words.as_str())
         }
+        Err(_) => format!(in alloc; "fault {number}, line {line}: the text isn't UTF-8\n"),
+    }
+}
+
+/// What is wrong with a session, in words, with its number and its line; nothing where it is one. An error where memory is refused.
+pub(crate) fn explained(alloc: Global, bytes: &[u8]) -> Result<Option<String>, AllocError>
+    ensures session { IfOk result (λ words. IfNone words ((plan : Plan) × IsSession bytes.now plan)) }
+    ensures faulty { IfOk result (λ words. OnSome words ((fault : FaultOf) × (line : ℕ) × HasFault bytes.now fault line)) }
+{
+    match fault_of(alloc, bytes)? {
+        None => Ok(None),
+        Some((fault, line)) => Ok(Some(words_of(alloc, bytes, fault, line)?)),
     }
 }

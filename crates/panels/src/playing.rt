@@ -1,0 +1,355 @@
+//! A bench becomes a session, which is played.
+
+ghost use Rattle.std.specs.Prelude.{◌≡◌, ◌≢◌, ◌≤◌, map, IfOk, OnOk};
+ghost use Rattle.tk_host.specs.declared.phase.Phase.{Phase};
+ghost use Rattle.tk_session.specs.Session.{IsSession};
+ghost use Rattle.tkhost.specs.Play.{MakesServices, program_sections};
+ghost use Rattle.panels.specs.Played.{plan_of};
+ghost use Rattle.panels.specs.Verdict.{sections_in};
+
+use crate::bench::{Act, Bench, Entry, Gesture};
+use crate::finding::{Finding, Found};
+use crate::gesture::{Outcome, Screen, outcome_of};
+use crate::look::push_unseen;
+use crate::verdict::sections_of;
+use std::alloc::{AllocError, AllocFailed, Global};
+use tcl_text::Text;
+use tk_base::Rect;
+use tk_host::{AliasCode, AliasService, Aliases, Host, HostFault};
+use tk_session::{
+    AppBlock, EventLine, HostLine, LineFault, ServiceKind, Session, WritingFault, write_session,
+};
+use tkhost::{PlayFault, services_of};
+
+/// Why a bench isn't played to its end.
+#[derive(Drop)]
+pub enum BenchFault {
+    /// Its panels and its lines are no session.
+    NoSession(WritingFault),
+    /// The host refuses what this entry does, from 0 on.
+    Refused { entry: usize, fault: LineFault },
+    /// Memory was refused.
+    NoMemory,
+}
+
+impl From<AllocError> for BenchFault {
+    ghost use Rattle.std.specs.Prelude.{◌≡◌};
+    ghost use Rattle.panels.specs.declared.playing.BenchFault.TheVariants.{NoMemory};
+
+    ghost from_gives = { λ _ e. e ≡ NoMemory };
+
+    fn from(_refused: AllocError) -> BenchFault {
+        BenchFault::NoMemory
+    }
+}
+
+impl<T: Drop> From<AllocFailed<T>> for BenchFault {
+    ghost use Rattle.std.specs.Prelude.{◌≡◌};
+    ghost use Rattle.panels.specs.declared.playing.BenchFault.TheVariants.{NoMemory};
+
+    ghost from_gives = { λ _ e. e ≡ NoMemory };
+
+    fn from(_refused: AllocFailed<T>) -> BenchFault {
+        BenchFault::NoMemory
+    }
+}
+
+/// What came of a bench.
+#[derive(Drop)]
+pub struct Played {
+    /// The lines that its gestures became.
+    pub events: Vec<EventLine>,
+    /// What wasn't as it had to be, in the order of the entries.
+    pub findings: Vec<Finding>,
+    /// The session that it is.
+    pub session: Vec<u8>,
+    /// All that this session writes.
+    pub output: Vec<u8>,
+    /// The section of each panel at the end, cut out of that.
+    pub sections: Vec<Vec<u8>>,
+}
+
+/// What has happened so far.
+#[derive(Drop)]
+struct Course {
+    screen: Screen,
+    events: Vec<EventLine>,
+    findings: Vec<Finding>,
+}
+
+/// What the host refuses in an entry.
+fn refused(entry: usize, fault: HostFault) -> BenchFault {
+    match fault {
+        HostFault::NoMemory => BenchFault::NoMemory,
+        HostFault::Refused(fault) => BenchFault::Refused { entry, fault },
+    }
+}
+
+/// The section of the panel in a slot; nothing where the slot has none.
+fn section_at<M: AliasService>(
+    alloc: Global,
+    host: &Host<M>,
+    entry: usize,
+    slot: usize,
+) -> Result<Vec<u8>, BenchFault> {
+    match host.section(slot) {
+        Ok(section) => Ok(section),
+        Err(HostFault::Refused(LineFault::NoApp)) => Ok(Vec::new(alloc)),
+        Err(fault) => Err(refused(entry, fault)),
+    }
+}
+
+/// Hands the host a line of an entry.
+fn hand<M: AliasService>(
+    host: &mut Host<M>,
+    course: &mut Course,
+    entry: usize,
+    event: EventLine,
+) -> Result<(), BenchFault>
+    requires begun { host.old.held.phase ≢ Phase.Adding }
+    ensures begun { OnOk result (host.new.held.phase ≢ Phase.Adding) }
+{
+    if let Err(fault) = host.line(event.moment, event.line) {
+        return Err(refused(entry, fault));
+    }
+    course.screen.take(event.line);
+    Ok(course.events.push(event)?)
+}
+
+/// Hands the host the lines of an entry, one after another.
+fn hand_all<M: AliasService>(
+    host: &mut Host<M>,
+    course: &mut Course,
+    entry: usize,
+    moment: u64,
+    lines: &[HostLine],
+) -> Result<(), BenchFault>
+    requires begun { host.old.held.phase ≢ Phase.Adding }
+    ensures begun { OnOk result (host.new.held.phase ≢ Phase.Adding) }
+{
+    for line in lines {
+        let event = EventLine {
+            moment,
+            line: *line,
+        };
+        hand(host, course, entry, event)?;
+    }
+    Ok(())
+}
+
+/// The slot of the panel that a gesture is for; the first where it is for none.
+fn slot_of(gesture: &Gesture) -> usize {
+    match gesture {
+        Gesture::Pointer(pointing) => pointing.target.slot,
+        Gesture::Keys(_) | Gesture::Lines(_) => 0,
+    }
+}
+
+/// Does a gesture.
+fn perform<M: AliasService>(
+    alloc: Global,
+    host: &mut Host<M>,
+    course: &mut Course,
+    entry: usize,
+    moment: u64,
+    gesture: &Gesture,
+) -> Result<(), BenchFault>
+    requires begun { host.old.held.phase ≢ Phase.Adding }
+    ensures begun { OnOk result (host.new.held.phase ≢ Phase.Adding) }
+{
+    let section = section_at(alloc, host, entry, slot_of(gesture))?;
+    match outcome_of(alloc, gesture, &course.screen, section.as_slice())? {
+        Outcome::Lines(lines) => hand_all(host, course, entry, moment, lines.as_slice()),
+        Outcome::Missed(miss) => Ok(
+            course.findings.push(Finding {
+                entry,
+                found: Found::Missed(miss),
+                section,
+            })?,
+        ),
+    }
+}
+
+/// Comes to the moment of an entry, and does what it says.
+fn enter<M: AliasService>(
+    alloc: Global,
+    host: &mut Host<M>,
+    course: &mut Course,
+    number: usize,
+    entry: &Entry,
+) -> Result<(), BenchFault>
+    requires begun { host.old.held.phase ≢ Phase.Adding }
+    ensures begun { OnOk result (host.new.held.phase ≢ Phase.Adding) }
+{
+    if let Err(fault) = host.advance_to(entry.moment) {
+        return Err(refused(number, fault));
+    }
+    match &entry.act {
+        Act::Do(gesture) => perform(alloc, host, course, number, entry.moment, gesture),
+        Act::See { slot, looks } => {
+            let section = section_at(alloc, host, number, *slot)?;
+            let findings = &mut course.findings;
+            Ok(push_unseen(
+                alloc,
+                number,
+                looks.as_slice(),
+                section.as_slice(),
+                findings,
+            )?)
+        }
+    }
+}
+
+/// Goes through the entries of a bench.
+fn go_through<M: AliasService>(
+    alloc: Global,
+    host: &mut Host<M>,
+    course: &mut Course,
+    entries: &[Entry],
+) -> Result<(), BenchFault>
+    requires begun { host.old.held.phase ≢ Phase.Adding }
+    ensures begun { OnOk result (host.new.held.phase ≢ Phase.Adding) }
+{
+    for (number, entry) in entries.iter().enumerate() {
+        enter(alloc, host, course, number, entry)?;
+    }
+    Ok(())
+}
+
+/// Adds a panel.
+fn add<M: AliasService>(
+    host: &mut Host<M>,
+    panel: &AppBlock,
+    aliases: Aliases<M>,
+) -> Result<(), BenchFault> {
+    let name = panel.name.copy()?;
+    let script = panel.script.copy()?;
+    match host.add_app(name, panel.rect, script, panel.budget, aliases) {
+        Ok(()) => Ok(()),
+        Err(fault) => Err(refused(0, fault)),
+    }
+}
+
+/// A host that has run the scripts of the panels of a session.
+fn started<M: AliasService>(
+    alloc: Global,
+    panels: &[AppBlock],
+    aliases: Vec<Aliases<M>>,
+    slice: u64,
+) -> Result<Host<M>, BenchFault>
+    requires slice { 1 ≤ slice }
+    ensures begun { IfOk result (λ host. host.held.phase ≢ Phase.Adding) }
+{
+    let mut host = Host::new(alloc, slice)?;
+    let mut lists = aliases.into_iter();
+    for panel in panels {
+        let list = match lists.next() {
+            Some(list) => list,
+            None => Aliases::new(alloc),
+        };
+        add(&mut host, panel, list)?;
+    }
+    match host.start() {
+        Ok(()) => Ok(host),
+        Err(fault) => Err(refused(0, fault)),
+    }
+}
+
+/// The rectangles of panels.
+fn rects_of(alloc: Global, panels: &[AppBlock]) -> Result<Vec<Rect>, AllocError> {
+    let mut rects = Vec::new(alloc);
+    for panel in panels {
+        rects.push(panel.rect)?;
+    }
+    Ok(rects)
+}
+
+/// What happens on a bench.
+fn course_of<M: AliasService>(
+    alloc: Global,
+    bench: &Bench,
+    aliases: Vec<Aliases<M>>,
+    slice: u64,
+) -> Result<Course, BenchFault>
+    requires slice { 1 ≤ slice }
+{
+    let panels = bench.panels.as_slice();
+    let mut course = Course {
+        screen: Screen {
+            rects: rects_of(alloc, panels)?,
+            keys: None,
+        },
+        events: Vec::new(alloc),
+        findings: Vec::new(alloc),
+    };
+    let mut host = started(alloc, panels, aliases, slice)?;
+    go_through(alloc, &mut host, &mut course, bench.entries.as_slice())?;
+    Ok(course)
+}
+
+/// The session of a bench whose gestures became these lines, with its text.
+fn written(
+    alloc: Global,
+    bench: &Bench,
+    events: &[EventLine],
+) -> Result<(Vec<u8>, Session), BenchFault>
+    ensures said { IfOk result (λ written. IsSession written.0.items (plan_of bench.now events.now)) }
+    ensures read { IfOk result (λ written. written.1 ≡ plan_of bench.now events.now) }
+{
+    match write_session(alloc, bench.panels.as_slice(), events, bench.end) {
+        Ok(written) => Ok(written),
+        Err(fault) => Err(BenchFault::NoSession(fault)),
+    }
+}
+
+/// All that a session writes.
+fn output_of<F: AliasCode, K: Fn(ServiceKind, Text) -> F>(
+    alloc: Global,
+    session: &Session,
+    slice: u64,
+    make: &K,
+) -> Result<Vec<u8>, BenchFault>
+    requires make { K.IsAlwaysCallable make.now }
+    requires services { MakesServices (K.post make.now) F.may_call F.may_reply }
+    requires slice { 1 ≤ slice }
+    ensures { IfOk result (λ output. output.items ≡ program_sections session.now) }
+{
+    let aliases = services_of(alloc, session, make)?;
+    let mut output = Vec::new(alloc);
+    match tkhost::play(alloc, session, aliases, slice, &mut output) {
+        Ok(()) => Ok(output),
+        Err(PlayFault::NoMemory) | Err(PlayFault::Write) => Err(BenchFault::NoMemory),
+    }
+}
+
+/// Plays a bench, each panel at most `slice` steps at a time, with the closures that are made for its aliases: entry by entry, where a gesture becomes the
+/// lines of a session that lead to where its window lies at that moment. These lines and the panels are a session, which is written, read again and played.
+///
+/// Refused are, in this order: panels that can't stand side by side in a session, the first entry that the host refuses, and an end before the last of them.
+pub fn play<F: AliasCode, K: Fn(ServiceKind, Text) -> F>(
+    alloc: Global,
+    bench: &Bench,
+    slice: u64,
+    make: &K,
+) -> Result<Played, BenchFault>
+    requires make { K.IsAlwaysCallable make.now }
+    requires services { MakesServices (K.post make.now) F.may_call F.may_reply }
+    requires slice { 1 ≤ slice }
+    ensures session { IfOk result (λ played. IsSession played.session.items (plan_of bench.now played.events.items)) }
+    ensures output { IfOk result (λ played. played.output.items ≡ program_sections (plan_of bench.now played.events.items)) }
+    ensures sections { IfOk result (λ played. map (λ section. section.items) played.sections.items ≡ sections_in played.output.items) }
+{
+    let (_, begun) = written(alloc, bench, &[])?;
+    let aliases = services_of(alloc, &begun, make)?;
+    let course = course_of(alloc, bench, aliases, slice)?;
+    let (text, session) = written(alloc, bench, course.events.as_slice())?;
+    let output = output_of(alloc, &session, slice, make)?;
+    let sections = sections_of(alloc, output.as_slice())?;
+    Ok(Played {
+        events: course.events,
+        findings: course.findings,
+        session: text,
+        output,
+        sections,
+    })
+}

@@ -1,0 +1,152 @@
+//! What has to be seen.
+
+use crate::failure::Failure;
+use crate::sides::{numbers, slot_named};
+use crate::table::Part;
+use panels::{Act, Fact, Look};
+use std::alloc::{AllocError, Global};
+use tk_base::Rect;
+use tk_session::AppBlock;
+
+const KEYS: [&str; 14] = [
+    "time",
+    "after",
+    "panel",
+    "window",
+    "there",
+    "text",
+    "class",
+    "place",
+    "mapped",
+    "says",
+    "errors",
+    "state",
+    "least-steps",
+    "timers",
+];
+
+/// The largest place and size of a window, in pixels.
+const MAX_PLACE: u64 = 65_535;
+
+/// The largest number of steps and of timers.
+const MAX_COUNT: u64 = 10_000_000;
+
+/// A text as a section writes it: a backslash, a line feed and a carriage return by two characters.
+fn escaped(alloc: Global, text: &str) -> Result<String, AllocError> {
+    let mut written = String::new(alloc);
+    for character in text.chars() {
+        match character {
+            '\\' => written.push_str("\\\\")?,
+            '\n' => written.push_str("\\n")?,
+            '\r' => written.push_str("\\r")?,
+            other => written.push(other)?,
+        }
+    }
+    Ok(written)
+}
+
+/// A text of the bench as a section writes it.
+fn text_at(alloc: Global, part: &Part<'_>, key: &str) -> Result<Option<String>, Failure> {
+    match part.text(alloc, key)? {
+        None => Ok(None),
+        Some(text) => Ok(Some(escaped(alloc, text)?)),
+    }
+}
+
+/// The place of a window: left, top, width and height.
+fn place(alloc: Global, part: &Part<'_>) -> Result<Option<Rect>, Failure> {
+    if !part.has("place") {
+        return Ok(None);
+    }
+    let wanted = "left, top, width and height, as [56, 16, 68, 28]";
+    let [x, y, width, height] = numbers::<4>(alloc, part, "place", MAX_PLACE, wanted)?;
+    Ok(Some(Rect {
+        x,
+        y,
+        width,
+        height,
+    }))
+}
+
+/// Adds what a window is to show.
+fn push_fact(
+    alloc: Global,
+    part: &Part<'_>,
+    looks: &mut Vec<Look>,
+    key: &str,
+    fact: Option<Fact>,
+) -> Result<(), Failure> {
+    let Some(fact) = fact else {
+        return Ok(());
+    };
+    let Some(path) = part.text(alloc, "window")? else {
+        let words = format!(in alloc; "{key} is of a window: window = \".switch\" is missing")?;
+        return Err(part.fault(alloc, key, words.as_str()));
+    };
+    let path = String::from_str(alloc, path)?;
+    Ok(looks.push(Look::Window { path, fact })?)
+}
+
+/// Adds what windows are to show.
+fn push_facts(alloc: Global, part: &Part<'_>, looks: &mut Vec<Look>) -> Result<(), Failure> {
+    let there = part
+        .boolean(alloc, "there")?
+        .map(|wanted| Fact::There(wanted));
+    push_fact(alloc, part, looks, "there", there)?;
+    let text = text_at(alloc, part, "text")?.map(|text| Fact::Text(text));
+    push_fact(alloc, part, looks, "text", text)?;
+    let class = text_at(alloc, part, "class")?.map(|class| Fact::Class(class));
+    push_fact(alloc, part, looks, "class", class)?;
+    let place = place(alloc, part)?.map(|place| Fact::Place(place));
+    push_fact(alloc, part, looks, "place", place)?;
+    let mapped = part
+        .boolean(alloc, "mapped")?
+        .map(|wanted| Fact::Mapped(wanted));
+    push_fact(alloc, part, looks, "mapped", mapped)
+}
+
+/// The state that is wanted.
+fn state(alloc: Global, part: &Part<'_>) -> Result<Option<String>, Failure> {
+    match part.text(alloc, "state")? {
+        None => Ok(None),
+        Some(word) => match word {
+            "running" | "exhausted" | "closed" => Ok(Some(String::from_str(alloc, word)?)),
+            _ => Err(part.refused(alloc, "state", "running, exhausted or closed")),
+        },
+    }
+}
+
+/// Adds what the panel as a whole is to tell.
+fn push_looks(alloc: Global, part: &Part<'_>, looks: &mut Vec<Look>) -> Result<(), Failure> {
+    if let Some(text) = text_at(alloc, part, "says")? {
+        looks.push(Look::Says(text))?;
+    }
+    if let Some(wanted) = part.boolean(alloc, "errors")? {
+        looks.push(Look::HasError(wanted))?;
+    }
+    if let Some(state) = state(alloc, part)? {
+        looks.push(Look::State(state))?;
+    }
+    if let Some(least) = part.number(alloc, "least-steps", MAX_COUNT)? {
+        looks.push(Look::LeastSteps(least))?;
+    }
+    if let Some(count) = part.number(alloc, "timers", MAX_COUNT)? {
+        looks.push(Look::Waiting(count))?;
+    }
+    Ok(())
+}
+
+/// What has to be seen, by an entry.
+pub(crate) fn act(alloc: Global, part: &Part<'_>, panels: &[AppBlock]) -> Result<Act, Failure> {
+    part.check_keys(alloc, KEYS.as_slice())?;
+    let slot = slot_named(alloc, part, "panel", panels)?;
+    let mut looks = Vec::new(alloc);
+    push_facts(alloc, part, &mut looks)?;
+    push_looks(alloc, part, &mut looks)?;
+    if looks.is_empty() {
+        let words =
+            "a [[see]] has one of there, text, class, place, mapped, says, errors, state, least-steps and timers";
+        return Err(part.fault(alloc, "", words));
+    }
+    Ok(Act::See { slot, looks })
+}

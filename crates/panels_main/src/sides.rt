@@ -1,0 +1,280 @@
+//! The panels of a bench.
+
+use crate::failure::Failure;
+use crate::files::{beside, plain_script};
+use crate::nearest::serving;
+use crate::table::{Part, in_range};
+use std::alloc::{AllocError, Global};
+use std::fs;
+use std::rt::Files;
+use tcl_text::{Text, TextFault};
+use tk_base::{Budget, Rect};
+use tk_session::{AliasLine, AppBlock, Listing, Service, ServiceKind};
+use toml::Value;
+
+/// The largest place and size of a rectangle, in pixels.
+const MAX_PIXELS: u64 = 32_767;
+
+const MAX_BUDGET: u64 = 10_000_000;
+
+const KEYS: [&str; 11] = [
+    "name",
+    "script",
+    "text",
+    "at",
+    "size",
+    "steps",
+    "aliases",
+    "expect",
+    "expect-steps",
+    "errors",
+    "exhausted",
+];
+
+const ALIAS_KEYS: [&str; 3] = ["name", "kind", "config"];
+
+const KINDS: [&str; 5] = ["const", "upper", "sum", "table", "fail"];
+
+/// What is said of a panel beside its application.
+#[derive(Drop)]
+pub(crate) struct Side {
+    /// Its line in the bench.
+    pub line: usize,
+    /// The file of the section that it has to end with.
+    pub expect: Option<String>,
+    /// Whether the steps left have to be those of that file too.
+    pub counts_steps: bool,
+    /// Whether scripts may end with errors.
+    pub may_fail: bool,
+    /// Whether it may spend all its steps.
+    pub may_run_out: bool,
+}
+
+/// The slot of the panel that a key names.
+pub(crate) fn slot_named(
+    alloc: Global,
+    part: &Part<'_>,
+    key: &str,
+    panels: &[AppBlock],
+) -> Result<usize, Failure> {
+    let Some(name) = part.text(alloc, key)? else {
+        return Err(part.refused(alloc, key, "the name of a panel"));
+    };
+    let mut names = Vec::new(alloc);
+    for (slot, panel) in panels.iter().enumerate() {
+        if panel.name.as_str() == name {
+            return Ok(slot);
+        }
+        names.push(panel.name.as_str())?;
+    }
+    let serves = serving(alloc, name, names.as_slice())?;
+    let words = format!(in alloc; "there is no panel {name}: {serves}")?;
+    Err(part.fault(alloc, key, words.as_str()))
+}
+
+/// So many numbers in an array, none larger than `most`.
+pub(crate) fn numbers<const N: usize>(
+    alloc: Global,
+    part: &Part<'_>,
+    key: &str,
+    most: u64,
+    wanted: &str,
+) -> Result<[u32; N], Failure> {
+    let values = part.array(alloc, key, wanted)?;
+    let mut numbers = [0; N];
+    if values.len() != N {
+        return Err(part.refused(alloc, key, wanted));
+    }
+    for (place, value) in numbers.iter_mut().zip(values) {
+        match in_range(value, most) {
+            Some(number) => *place = u32::try_from(number).unwrap_or(0),
+            None => return Err(part.refused(alloc, key, wanted)),
+        }
+    }
+    Ok(numbers)
+}
+
+/// The rectangle of `at` and `size`.
+pub(crate) fn rect(alloc: Global, part: &Part<'_>) -> Result<Rect, Failure> {
+    let wanted = "two numbers of pixels up to 32767, as [100, 60]";
+    let [x, y] = numbers::<2>(alloc, part, "at", MAX_PIXELS, wanted)?;
+    let [width, height] = numbers::<2>(alloc, part, "size", MAX_PIXELS, wanted)?;
+    Ok(Rect {
+        x,
+        y,
+        width,
+        height,
+    })
+}
+
+/// The number that a text spells, up to the greatest budget.
+fn steps_of(text: &str) -> Option<u64> {
+    let steps = text.parse::<u64>().ok()?;
+    if steps <= MAX_BUDGET {
+        Some(steps)
+    } else {
+        None
+    }
+}
+
+/// The budget of `60` or `60/5`.
+fn budget_of(value: &Value) -> Option<Budget> {
+    let Value::String(text) = value else {
+        let total = in_range(value, MAX_BUDGET)?;
+        return Some(Budget { total, refill: 0 });
+    };
+    let (total, refill) = text.as_str().split_once('/')?;
+    Some(Budget {
+        total: steps_of(total)?,
+        refill: steps_of(refill)?,
+    })
+}
+
+fn budget(alloc: Global, part: &Part<'_>) -> Result<Budget, Failure> {
+    let found = match part.table.get("steps") {
+        Some(value) => budget_of(value),
+        None => None,
+    };
+    match found {
+        Some(budget) => Ok(budget),
+        None => {
+            let wanted = "steps up to 10000000, as 60, or \"60/5\" where each event gives 5 back";
+            Err(part.refused(alloc, "steps", wanted))
+        }
+    }
+}
+
+/// A text of a session; `key` says where it is too long.
+fn text_of(alloc: Global, part: &Part<'_>, key: &str, text: &str) -> Result<Text, Failure> {
+    match Text::new(alloc, text) {
+        Ok(text) => Ok(text),
+        Err(TextFault::TooLong) => Err(part.fault(alloc, key, "this has more than 65536 bytes")),
+        Err(TextFault::NoMemory) => Err(Failure::NoMemory),
+    }
+}
+
+/// A text that has to be there.
+fn needed<'a>(alloc: Global, part: &Part<'a>, key: &str) -> Result<&'a str, Failure> {
+    match part.text(alloc, key)? {
+        Some(text) => Ok(text),
+        None => Err(part.refused(alloc, key, "a text between quotes")),
+    }
+}
+
+fn kind_of(word: &str) -> Option<ServiceKind> {
+    match word {
+        "const" => Some(ServiceKind::Const),
+        "upper" => Some(ServiceKind::Upper),
+        "sum" => Some(ServiceKind::Sum),
+        "table" => Some(ServiceKind::Table),
+        "fail" => Some(ServiceKind::Fail),
+        _ => None,
+    }
+}
+
+fn alias(alloc: Global, part: &Part<'_>) -> Result<AliasLine, Failure> {
+    part.check_keys(alloc, ALIAS_KEYS.as_slice())?;
+    let word = needed(alloc, part, "kind")?;
+    let Some(kind) = kind_of(word) else {
+        let serves = serving(alloc, word, KINDS.as_slice())?;
+        let words = format!(in alloc; "there is no kind of alias {word}: {serves}")?;
+        return Err(part.fault(alloc, "kind", words.as_str()));
+    };
+    let name = text_of(alloc, part, "name", needed(alloc, part, "name")?)?;
+    let config = part.text(alloc, "config")?.unwrap_or("");
+    let config = text_of(alloc, part, "config", config)?;
+    Ok(AliasLine {
+        name,
+        service: Service { kind, config },
+    })
+}
+
+fn aliases(alloc: Global, part: &Part<'_>) -> Result<Listing<AliasLine>, Failure> {
+    let wanted = "tables, as [{ name = \"place\", kind = \"const\", config = \"Hall 7\" }]";
+    let mut lines = Listing::new(alloc);
+    for value in part.array(alloc, "aliases", wanted)? {
+        let Value::Table(table) = value else {
+            return Err(part.refused(alloc, "aliases", wanted));
+        };
+        lines.push(alias(alloc, &part.inner("aliases", table))?)?;
+    }
+    Ok(lines)
+}
+
+/// The script of a panel, of a file or of the bench itself.
+fn script<R: Files + AllocGlobal>(rt: &R, part: &Part<'_>) -> Result<Text, Failure> {
+    let alloc = rt.alloc();
+    let script = match (part.text(alloc, "script")?, part.text(alloc, "text")?) {
+        (None, Some(text)) => plain_script(alloc, text)?,
+        (Some(name), None) => {
+            let path = beside(alloc, part.file, name)?;
+            let Ok(text) = fs::read_to_string(rt, path.as_str()) else {
+                let words = format!(in alloc;
+                    "script {name} can't be read, or isn't UTF-8: a script's name is that of a file from the bench's folder on"
+                )?;
+                return Err(part.fault(alloc, "script", words.as_str()));
+            };
+            plain_script(alloc, text.as_str())?
+        }
+        _ => {
+            let words =
+                "a panel has one of script, the name of a file beside the bench, and text, the script itself";
+            return Err(part.fault(alloc, "script", words));
+        }
+    };
+    text_of(alloc, part, "script", script.as_str())
+}
+
+/// Whether a key is true; it isn't where it isn't there.
+fn is_said(alloc: Global, part: &Part<'_>, key: &str) -> Result<bool, Failure> {
+    Ok(part.boolean(alloc, key)?.unwrap_or(false))
+}
+
+fn copied(alloc: Global, text: Option<&str>) -> Result<Option<String>, AllocError> {
+    match text {
+        None => Ok(None),
+        Some(text) => Ok(Some(String::from_str(alloc, text)?)),
+    }
+}
+
+fn side_of(alloc: Global, part: &Part<'_>) -> Result<Side, Failure> {
+    Ok(Side {
+        line: part.line("name"),
+        expect: copied(alloc, part.text(alloc, "expect")?)?,
+        counts_steps: is_said(alloc, part, "expect-steps")?,
+        may_fail: is_said(alloc, part, "errors")?,
+        may_run_out: is_said(alloc, part, "exhausted")?,
+    })
+}
+
+fn panel<R: Files + AllocGlobal>(rt: &R, part: &Part<'_>) -> Result<AppBlock, Failure> {
+    let alloc = rt.alloc();
+    part.check_keys(alloc, KEYS.as_slice())?;
+    let name = text_of(alloc, part, "name", needed(alloc, part, "name")?)?;
+    let script = script(rt, part)?;
+    let rect = rect(alloc, part)?;
+    let budget = budget(alloc, part)?;
+    let aliases = aliases(alloc, part)?;
+    Ok(AppBlock {
+        name,
+        rect,
+        budget,
+        aliases,
+        script,
+    })
+}
+
+/// The panels of a bench, and what is said of them beside.
+pub(crate) fn sides<R: Files + AllocGlobal>(
+    rt: &R,
+    parts: &[Part<'_>],
+) -> Result<(Vec<AppBlock>, Vec<Side>), Failure> {
+    let alloc = rt.alloc();
+    let mut panels = Vec::new(alloc);
+    let mut sides = Vec::new(alloc);
+    for part in parts {
+        panels.push(panel(rt, part)?)?;
+        sides.push(side_of(alloc, part)?)?;
+    }
+    Ok((panels, sides))
+}

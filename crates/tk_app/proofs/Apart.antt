@@ -1,6 +1,5 @@
 -- No window stands twice in the order of the windows.
 use Rattle.std.proofs.Common.{◌≡◌, ◌≢◌, ℕ, ◌<◌, Bool, true, false, cond, List, [], ◌∷◌, ◌++◌, MatchOption, Option, Some, None, refl, sym, ap, ◌∙◌, subst, arith}
-use Rattle.std.specs.Prelude.{◌==◌}
 use Rattle.std.proofs.lemmas.Bool.{eqb-true}
 use Rattle.tk_base.specs.Bag.{AllAbove, IsRising}
 use Rattle.tk_tree.specs.declared.window.Window.{Window}

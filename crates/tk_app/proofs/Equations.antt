@@ -1,7 +1,7 @@
 -- Jobs are *Settle*, *Dispatch* and *Destroy*.
-use Rattle.std.proofs.Common.{◌≡◌, ℕ, zero, suc, ◌≤◌, Bool, true, false, cond, List, [], ◌∷◌, Option, Some, None, refl, sym, ap, ◌∙◌, subst}
-use Rattle.std.specs.Prelude.{◌==◌, find, is_none, is_some, nat_le, MatchOption}
-use Rattle.std.specs.Option.{option_and_then, option_map_or}
+use Rattle.std.proofs.Common.{◌≡◌, ℕ, zero, suc, Bool, true, false, cond, List, [], ◌∷◌, Option, Some, None, refl, sym, ap, ◌∙◌}
+use Rattle.std.specs.Prelude.{◌==◌, is_none, is_some, nat_le}
+use Rattle.std.specs.Option.{option_map_or}
 use Rattle.std.proofs.lemmas.Bool.{eq-eqb, false≢true, leb-true}
 use Rattle.tcl_vars.specs.Store.{Store}
 use Rattle.tcl_control.specs.declared.code.Code.{Code}
@@ -9,7 +9,7 @@ use Rattle.tcl_control.specs.declared.code.Code.TheVariants.{Normal, Error, Retu
 use Rattle.tcl_interp.specs.Evaluation.{State, Outcome, Ended, OutOfSteps, and_then, stepped, with_step}
 use Rattle.tcl_interp.specs.Scripts.{out_of_global}
 use Rattle.tk_after.specs.declared.entry.Entry.{Entry}
-use Rattle.tk_after.specs.Timers.{due_moments, entry_with, first_due, idle_ids, is_due_at, least}
+use Rattle.tk_after.specs.Timers.{due_moments, entry_with, first_due, idle_ids, least}
 use Rattle.tk_after.proofs.Dues.{first_due-at, least_found}
 use Rattle.tk_packer.specs.declared.changes.PlaceChange.{PlaceChange}
 use Rattle.tk_sequences.specs.declared.event.Event.{Event}
@@ -24,23 +24,22 @@ use Rattle.tk_panel.specs.declared.job.Rest.TheVariants.{Destroys as DestroysRes
 use Rattle.tk_panel.specs.declared.transcript.Stream.TheVariants.{Err as Errors}
 use Rattle.tk_panel.specs.Changes.{laid_out}
 use Rattle.tk_panel.specs.Choice.{chosen}
-use Rattle.tk_panel.specs.Destroy.{Doomed, destroy_chosen, destroy_event, destroys, doomed_by, doomed_next, marked, next_doomed, on_doomed, or_removed, removed}
+use Rattle.tk_panel.specs.Destroy.{Doomed, destroy_chosen, destroys, doomed_by, doomed_next, marked, next_doomed, on_doomed, or_removed, removed}
 use Rattle.tk_panel.specs.Next.{next}
 use Rattle.tk_panel.specs.Panel.{Panel}
 use Rattle.tk_panel.specs.Reports.{with_line}
-use Rattle.tk_panel.specs.Settle.{Next, after_layout, after_round, at_home, drained, idle_round, is_closed, is_due, on_event, on_queue as queue_next, on_round, on_timer as timer_next, or_later, queue_or_round, still_waiting, tasks_round, turn, with_queue}
-use Rattle.tk_panel.specs.Start.{alone, timer_taken}
+use Rattle.tk_panel.specs.Settle.{Next, after_layout, at_home, drained, idle_round, is_closed, is_due, on_event, on_round, on_timer as timer_next, or_later, queue_or_round, still_waiting, tasks_round, turn, with_queue}
+use Rattle.tk_panel.specs.Start.{alone}
 use Rattle.tk_panel.proofs.Choices.{chosen_queue}
 use Rattle.tk_commands.specs.Course.{bound_ended, event_job, with_end}
 use Rattle.tk_commands.proofs.Drained.{LeavesTimers, drained_leaves, drained_out, layout_leaves, then}
 use Rattle.tk_app.specs.Destroy.{destroy_dispatched, destroy_meaning, windows_destroyed}
 use Rattle.tk_app.specs.Dispatch.{Behind, after_bound, at_global, bound_meaning, dispatch_meaning, in_panel, shown}
 use Rattle.tk_app.specs.Items.{entry_meaning, entry_taken, idle_meaning, item_meaning, on_idle, on_layout, on_queue, on_timer, round_meaning}
-use Rattle.tk_app.specs.Jobs.{comes_next, goes_on, meaning, on_next, starts}
-use Rattle.tk_app.specs.Outside.{outside}
+use Rattle.tk_app.specs.Jobs.{goes_on, meaning, on_next, starts}
 use Rattle.tk_app.specs.Seen.{Seen}
 use Rattle.tk_app.specs.Settle.{Destroys, Dispatches, Settles, Updates, UpdatesIdleTasks, laid}
-use Rattle.tk_app.proofs.Panels.{chosen_screen, drained_screen, laid_closed, next_moment, nothing_again, nothing_to_lay, same_closed}
+use Rattle.tk_app.proofs.Panels.{chosen_screen, laid_closed, next_moment, nothing_again, nothing_to_lay, same_closed}
 use Rattle.tk_app.proofs.Parts.{goes_by_next}
 
 -- ── what is the same behind the same ──
@@ -121,7 +120,7 @@ module _ (room : ℕ) where
       (λ left code text. bound_end scripts rest others (bound scripts rest) (none_bound rest) left (out_of_global code) text))
 
   -- scripts behind which comes the same
-  bound_same : (scripts : List (List ℕ)) (f g : Behind) → ((state : State Seen) → f state ≡ g state) → (state : State Seen) → bound_meaning room scripts f state ≡ bound_meaning room scripts g state
+  pub bound_same : (scripts : List (List ℕ)) (f g : Behind) → ((state : State Seen) → f state ≡ g state) → (state : State Seen) → bound_meaning room scripts f state ≡ bound_meaning room scripts g state
   bound_same [] f g same state = same state
   bound_same (script ∷ scripts) f g same state =
       step_same state (λ begun. and_then (at_global room script begun) (λ left code text. after_bound room (bound_meaning room scripts f) f left (out_of_global code) text))
@@ -191,7 +190,7 @@ module _ (room : ℕ) where
   -- ── a round ──
 
   -- an idle script that is among those that wait is there
-  idle_there : (id : ℕ) (ids : List ℕ) (entries : List Entry) → idle_ids entries ≡ id ∷ ids → is_some (entry_with id entries) ≡ true
+  pub idle_there : (id : ℕ) (ids : List ℕ) (entries : List Entry) → idle_ids entries ≡ id ∷ ids → is_some (entry_with id entries) ≡ true
   idle_there id ids [] is = absurd (cc)
   idle_there id ids (entry ∷ entries) is = by (entry.id == id) refl (is_none entry.due) refl (λ rest. idle_there id ids entries rest)
     where

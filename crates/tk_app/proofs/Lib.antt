@@ -3,14 +3,20 @@ mod Adding
 mod Alone
 mod Apart
 mod Beginnings
+mod Begun
+mod CommandTrees
 mod Equations
 mod Events
+mod Gone
+mod Grows
 mod Homes
 mod LaidOut
 mod Lines
+mod Only
 mod Panels
 pub mod Parts
 pub mod Passing
+mod PostOrder
 mod Pushes
 pub mod Reached
 pub mod Rounds
@@ -19,7 +25,10 @@ pub mod Shares
 mod Shows
 pub mod Slices
 pub mod Slots
+mod Sound
+mod SoundParts
 pub mod Stages
+mod Trees
 mod Twice
 pub mod Views
 pub mod Waits

@@ -1,5 +1,5 @@
 -- What events without scripts, layouts and removals leave of a panel: its moment, and what is on the screen.
-use Rattle.std.proofs.Common.{◌≡◌, ℕ, Bool, true, false, cond, List, [], ◌∷◌, Option, Some, None, refl, sym, ap, ◌∙◌, subst}
+use Rattle.std.proofs.Common.{◌≡◌, ℕ, Bool, true, false, cond, List, [], ◌∷◌, Option, Some, None, refl, ap, ◌∙◌}
 use Rattle.std.specs.Prelude.{Ok, Err, length, ◌==◌, is_none, codes}
 use Rattle.tcl_vars.specs.Store.{Store}
 use Rattle.tk_dispatch.specs.Dispatch.{Chosen}
@@ -8,7 +8,7 @@ use Rattle.tk_sequences.specs.declared.event.Event.{Event}
 use Rattle.tk_screen.specs.Layout.{changes_due, laid_out as laid_out_screen}
 use Rattle.tk_screen.specs.Own.{Own as Screen}
 use Rattle.tk_screen.proofs.Settled.{nothing_laid}
-use Rattle.tk_app.proofs.Twice.{laid_path, laid_sound, laid_twice}
+use Rattle.tk_app.proofs.Twice.{laid_path, laid_twice}
 use Rattle.tk_tree.specs.declared.window.Window.{Window}
 use Rattle.tk_tree.specs.Own.{IsSound, at_path, child_numbers, window_at}
 use Rattle.tk_panel.specs.declared.job.Home.{Home}
@@ -18,10 +18,10 @@ use Rattle.tk_panel.specs.declared.job.Rest.{Rest}
 use Rattle.tk_panel.specs.declared.job.Rest.TheVariants.{Ends as NoRest, Destroys, Rounds}
 use Rattle.tk_panel.specs.Changes.{laid_out, number_of, queued_at, with_changes}
 use Rattle.tk_panel.specs.Choice.{chosen, chosen_at, on_scripts, scripts_of}
-use Rattle.tk_panel.specs.Destroy.{Doomed, destroy_at, destroy_chosen, destroy_event, destroy_next, destroys, doomed_by, doomed_next, marked, next_doomed, on_doomed, or_removed, removed, removed_at, without_last, without_path}
+use Rattle.tk_panel.specs.Destroy.{Doomed, destroy_at, destroy_chosen, destroy_event, destroys, doomed_by, doomed_next, marked, next_doomed, on_doomed, or_removed, removed, removed_at, without_last, without_path}
 use Rattle.tk_panel.specs.Next.{next, next_event, next_rest}
 use Rattle.tk_panel.specs.Panel.{Panel}
-use Rattle.tk_panel.specs.Settle.{Next, after_layout, after_round, at_home, drained, idle_round, is_closed, is_due, on_event, on_round, on_timer, or_later, queue_or_round, rounds_next, still_waiting, tasks, tasks_round, turn, with_queue}
+use Rattle.tk_panel.specs.Settle.{Next, after_layout, after_round, at_home, drained, idle_round, is_closed, is_due, on_event, on_round, on_timer, or_later, queue_or_round, still_waiting, tasks_round, turn, with_queue}
 use Rattle.tk_commands.proofs.Drained.{drained_leaves, layout_leaves}
 use Rattle.tk_after.specs.Timers.{idle_ids}
 
@@ -46,6 +46,9 @@ chosen_leaves event panel = by_window event panel (window_at event.number panel.
 
 pub chosen_screen : (event : Event) (panel : Panel) → (chosen event panel).0.screen ≡ panel.screen
 chosen_screen event panel = (chosen_leaves event panel).screen
+
+pub chosen_moment : (event : Event) (panel : Panel) → (chosen event panel).0.moment ≡ panel.moment
+chosen_moment event panel = (chosen_leaves event panel).moment
 
 pub drained_screen : (events : List Event) (panel : Panel) → (drained events panel).0.screen ≡ panel.screen
 unfolding drained

@@ -1,5 +1,5 @@
 -- To lay out the windows of an application that are laid out changes nothing.
-use Rattle.std.proofs.Common.{◌≡◌, ◌≢◌, ℕ, suc, ◌<◌, ◌≤◌, Bool, true, false, cond, List, [], ◌∷◌, ◌++◌, length, Option, Some, None, refl, sym, ap, ◌∙◌, subst}
+use Rattle.std.proofs.Common.{◌≡◌, ℕ, suc, ◌<◌, ◌≤◌, Bool, true, false, List, [], ◌∷◌, ◌++◌, length, Option, Some, None, refl, sym, ap, ◌∙◌, subst}
 use Rattle.std.specs.Prelude.{◌==◌, codes, find, is_none, map, option_map}
 use Rattle.std.specs.List.{filter_map, cons_option}
 use Rattle.std.specs.Option.{option_map_or}
@@ -8,7 +8,7 @@ use Rattle.std.proofs.lemmas.Bool.{eqb-true}
 use Rattle.tcl_vars.specs.Store.{Store}
 use Rattle.tk_base.specs.Bag.{AllAbove, AllBelow, IsRising, changed_at, numbered}
 use Rattle.tk_base.specs.declared.rect.Rect.{Rect}
-use Rattle.tk_packer.specs.Changes.{changes_of, laid, laid_out as laid_out_shapes, unlaid}
+use Rattle.tk_packer.specs.Changes.{changes_of, laid_out as laid_out_shapes, unlaid}
 use Rattle.tk_packer.specs.Layout.{layout}
 use Rattle.tk_packer.specs.Packs.{Own as Packs}
 use Rattle.tk_packer.specs.declared.changes.PlaceChange.{PlaceChange}

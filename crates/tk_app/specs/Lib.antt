@@ -1,8 +1,10 @@
 -- What the contracts cite.
 pub mod Application
+pub mod Begun
 pub mod Destroy
 pub mod Dispatch
 pub mod Dues
+pub mod Gone
 pub mod Items
 pub mod Jobs
 pub mod Moments
@@ -15,6 +17,7 @@ pub mod Section
 pub mod Seen
 pub mod Settle
 pub mod Shares
+pub mod Sound
 pub mod Spec
 pub mod Stages
 pub mod Turns

@@ -55,11 +55,21 @@ IsSoundIn state = IsSound state.shows.panel.screen.tree
 abbrev pub Settles : Type 0
 Settles = (state : State Seen) → IsSoundIn state → settle_meaning state ≡ settle_item most_running settle_meaning state
 
+-- Nothing else meets that equation: what meets it wherever windows are numbered so is *Settle* there.
+abbrev pub OnlySettle : Type 0
+OnlySettle = (other : Behind) → ((state : State Seen) → IsSoundIn state → other state ≡ settle_item most_running other state)
+    → (state : State Seen) → IsSoundIn state → other state ≡ settle_meaning state
+
 -- So is the job that `update` begins, without the test for the main window. With `idletasks` it is a layout, a round of the idle scripts that wait
 -- then, and a layout more.
 abbrev pub Updates : Type 0
 Updates = (room : ℕ) (state : State Seen) → IsSoundIn state
     → meaning room (settling_to Update) state ≡ item_meaning room (meaning room (settling_to Update)) state
+
+-- Nor does anything else meet this one.
+abbrev pub OnlyUpdate : Type 0
+OnlyUpdate = (room : ℕ) (other : Behind) → ((state : State Seen) → IsSoundIn state → other state ≡ item_meaning room other state)
+    → (state : State Seen) → IsSoundIn state → other state ≡ meaning room (settling_to Update) state
 
 -- a layout, and the empty answer
 abbrev pub laid : Behind

@@ -1,16 +1,21 @@
 //! What a part comes to, by what is done at a moment. The functions do nothing: their contracts are the laws.
+ghost use Rattle.tk_app.specs.Begun.{DestroyBegins, GenerateBegins, UpdateBegins};
 ghost use Rattle.tk_app.specs.Dues.{DueTakesAStep, SettledIsPast, StartedIsPast};
+ghost use Rattle.tk_app.specs.Gone.{DestroysAll};
 ghost use Rattle.tk_app.specs.Part.{BeginsWithScript, SettlesFromRest};
 ghost use Rattle.tk_app.specs.Jobs.{GoesByNext};
 ghost use Rattle.tk_app.specs.Settle.{
   Destroys,
   Dispatches,
   EndsLaidOut,
+  OnlySettle,
+  OnlyUpdate,
   Settles,
   SettlesTwice,
   Updates,
   UpdatesIdleTasks,
 };
+ghost use Rattle.tk_app.specs.Sound.{KeepsSound, StaysSound};
 
 use tk_alias::AliasMeaning;
 
@@ -25,14 +30,17 @@ pub fn begins_with_script<M: AliasMeaning>()
 {}
 
 /// *Settle* is the first item that exists of a queued event, a due timer, a layout that changes something and a round of the idle scripts that
-/// wait, and *Settle* again; nothing more is done where the main window is gone (after(n); the order is this host's own).
+/// wait, and *Settle* again; nothing more is done where the main window is gone (after(n); the order is this host's own). Nothing else meets that
+/// equation.
 pub fn settles()
-    ensures { Settles }
+    ensures equation { Settles }
+    ensures only { OnlySettle }
 {}
 
-/// The job that `update` begins is the same, without the test for the main window (update(n)).
+/// The job that `update` begins is the same, without the test for the main window (update(n)). Nothing else meets that equation.
 pub fn updates()
-    ensures { Updates }
+    ensures equation { Updates }
+    ensures only { OnlyUpdate }
 {}
 
 /// `update idletasks` is a layout, a round of the idle scripts that wait then, and a layout (update(n)).
@@ -47,9 +55,28 @@ pub fn dispatches()
 {}
 
 /// *Destroy*: of each path the window and all below it, in post-order. Each that is still there has its Destroy event dispatched, and then goes
-/// with its bindings, if it is there still (destroy(n)).
+/// with its bindings, if it is there still (destroy(n)). Once that has ended none of them is there: each had no children left when its turn came,
+/// whatever the scripts did.
 pub fn destroys()
-    ensures { Destroys }
+    ensures job { Destroys }
+    ensures gone { DestroysAll }
+{}
+
+/// Whatever scripts and jobs do, the windows stay numbered as they were made, each behind its parent, as these equations want it.
+pub fn keeps_sound()
+    ensures { KeepsSound }
+{}
+
+/// So they are in an application from its beginning on, as long as it runs.
+pub fn stays_sound<M: AliasMeaning>()
+    ensures { StaysSound M.answer }
+{}
+
+/// `update`, `destroy` and an `event generate` that comes at once do what these equations say of their jobs, where no alias serves their names.
+pub fn commands_begin_jobs()
+    ensures update { UpdateBegins }
+    ensures destroy { DestroyBegins }
+    ensures generate { GenerateBegins }
 {}
 
 /// Where *Settle* has ended and there is a main window, the windows lie where a layout from nothing puts them (pack(n)).

@@ -1,5 +1,6 @@
 use Rattle.tk_app.proofs.Equations.{destroys_all}
+use Rattle.tk_app.proofs.Gone.{destroys_all as all_gone}
 use Rattle.tk_app.proofs.laws.destroys.Goals as goal
 
 pub returns : goal.returns
-returns c = destroys_all
+returns c = record { job = destroys_all; gone = all_gone }

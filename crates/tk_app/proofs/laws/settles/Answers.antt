@@ -1,5 +1,6 @@
 use Rattle.tk_app.proofs.Equations.{settles_all}
+use Rattle.tk_app.proofs.Only.{only_settle}
 use Rattle.tk_app.proofs.laws.settles.Goals as goal
 
 pub returns : goal.returns
-returns c = settles_all
+returns c = record { equation = settles_all; only = only_settle }

@@ -1,0 +1,396 @@
+-- What the commands of an application do to its windows.
+use Rattle.std.proofs.Common.{◌≡◌, ℕ, Bool, true, false, cond, List, [], ◌∷◌, Option, Some, None, refl, sym, subst}
+use Rattle.std.specs.Prelude.{Result, Ok, Err, codes, length}
+use Rattle.std.specs.Str.{bytes_eq}
+use Rattle.tcl_text.specs.Answers.{items_in}
+use Rattle.tcl_vars.specs.Store.{Store}
+use Rattle.tk_base.specs.declared.kind.Kind.{Kind}
+use Rattle.tk_class_commands.specs.Buttons as buttons
+use Rattle.tk_class_commands.specs.Buttons.{act, configured, is_it, let_go, pressed_with, relief_settings, relief_to_keep, restored, with_relief, with_relief_of}
+use Rattle.tk_class_commands.specs.Commands.{asked, class_command_done, requested}
+use Rattle.tk_class_commands.specs.declared.buttons.ButtonRequest.{ButtonRequest}
+use Rattle.tk_class_commands.specs.declared.buttons.ButtonRequest.TheVariants.{Enter, Leave, Press, Release, Invoke}
+use Rattle.tk_class_commands.specs.declared.entries.CursorMove.{CursorMove}
+use Rattle.tk_class_commands.specs.declared.entries.CursorMove.TheVariants.{By, To}
+use Rattle.tk_class_commands.specs.declared.entries.EntryRequest.{EntryRequest}
+use Rattle.tk_class_commands.specs.declared.entries.EntryRequest.TheVariants as entry_request
+use Rattle.tk_class_commands.specs.declared.listboxes.Effect.{Effect}
+use Rattle.tk_class_commands.specs.declared.listboxes.ListboxRequest.{ListboxRequest}
+use Rattle.tk_class_commands.specs.declared.outcome.ClassOutcome.{ClassOutcome}
+use Rattle.tk_class_commands.specs.declared.outcome.ClassOutcome.TheVariants as class
+use Rattle.tk_class_commands.specs.declared.requests.ClassRequest.{ClassRequest}
+use Rattle.tk_class_commands.specs.declared.requests.ClassRequest.TheVariants.{Button, Entry, Listbox}
+use Rattle.tk_class_commands.specs.declared.requests.ClassTarget.{ClassTarget}
+use Rattle.tk_class_commands.specs.Entries.{edited, edited_as, edited_by, entry_asked, is_disabled_at, moved_at, moved_by, place_of, pointed, with_cursor}
+use Rattle.tk_class_commands.specs.Listboxes.{asked_with, effect_at, listbox_asked, with_effect}
+use Rattle.tk_class_commands.specs.Outcomes.{nothing}
+use Rattle.tk_class_commands.specs.Requests.{target_in}
+use Rattle.tk_class_commands.specs.Table.{ClassCommand}
+use Rattle.tk_bind_commands.specs.Bindtags.{bindtags_words, with_items, with_list}
+use Rattle.tk_generate.specs.declared.generate.Generated.{Generated}
+use Rattle.tk_generate.specs.declared.given.When.{When}
+use Rattle.tk_generate.specs.declared.given.When.TheVariants.{Now, Tail, Head}
+use Rattle.tk_generate.specs.Generate.{generate_words}
+use Rattle.tk_inputs.specs.declared.inputs.Input.{Input}
+use Rattle.tk_inputs.specs.Deliver.{Arrivals}
+use Rattle.tk_listbox.specs.declared.choice.Choice.{Choice}
+use Rattle.tk_options.specs.declared.settings.Setting.{Setting}
+use Rattle.tk_options.specs.Options.{settings}
+use Rattle.tk_options.specs.Rows.{options_of}
+use Rattle.tk_pack_commands.specs.Targets.{begins_path}
+use Rattle.tk_panel.specs.Choice.{chosen}
+use Rattle.tk_panel.specs.Commands.{put_to, puts_words}
+use Rattle.tk_panel.specs.Panel.{Panel}
+use Rattle.tk_screen.specs.Changes.{changed, changed_after, changed_by, wrote}
+use Rattle.tk_screen.specs.Own.{Own as Screen}
+use Rattle.tk_screen.specs.Shapes.{variable_text}
+use Rattle.tk_screen.specs.Widgets.{widget_at}
+use Rattle.tk_sequences.specs.declared.event.Event.{Event}
+use Rattle.tk_tree.specs.Change.{with_tags}
+use Rattle.tk_tree.specs.Create.{refusal}
+use Rattle.tk_tree.specs.declared.fault.WindowFault.{WindowFault}
+use Rattle.tk_tree.specs.declared.fault.WindowFault.TheVariants.{BadPath}
+use Rattle.tk_tree.specs.declared.window.Window.{Window}
+use Rattle.tk_tree.specs.Own.{Own as Tree, at_path, window_at}
+use Rattle.tk_widgets.specs.Commands.{edit_asked, variable_write, wanted}
+use Rattle.tk_widgets.specs.declared.entry_commands.EntryEdit.{EntryEdit}
+use Rattle.tk_widgets.specs.declared.outcome.WidgetChange.{WidgetChange}
+use Rattle.tk_widgets.specs.declared.outcome.WidgetRequest.{WidgetRequest}
+use Rattle.tk_widgets.specs.declared.outcome.WidgetRequest.TheVariants.{Done as Told, Wants}
+use Rattle.tk_widgets.specs.declared.widget.Widget.{Widget}
+use Rattle.tk_widgets.specs.Outcomes.{asked_by}
+use Rattle.tk_window_commands.specs.Commands.{window_command_done}
+use Rattle.tk_window_commands.specs.Create.{configured_new, create_words, made_after, made_unless, made_with, path_refusal}
+use Rattle.tk_window_commands.specs.declared.commands.WindowCommand.{WindowCommand}
+use Rattle.tk_window_commands.specs.declared.commands.WindowCommand.TheVariants.{Make, Winfo, Wm}
+use Rattle.tk_window_commands.specs.declared.create.Ready.{Ready}
+use Rattle.tk_window_commands.specs.Path.{asked_of, path_words, widget_words, window_words}
+use Rattle.tk_window_commands.specs.Wm.{is_main, title_set, title_words, wm_words}
+use Rattle.tk_commands.specs.Binding.{arrivals_in, binding_command_done, event_told}
+use Rattle.tk_commands.specs.Class.{ClassDone, class_command, class_told, outcome_for}
+use Rattle.tk_commands.specs.Commands.{command_done, command_named, done_by, panel_command}
+use Rattle.tk_commands.specs.declared.binding.BindingCommand.{BindingCommand}
+use Rattle.tk_commands.specs.declared.binding.BindingCommand.TheVariants as binding
+use Rattle.tk_commands.specs.declared.commands.TkCommand.{TkCommand}
+use Rattle.tk_commands.specs.declared.commands.TkCommand.TheVariants as command
+use Rattle.tk_commands.specs.declared.moment.MomentCommand.{MomentCommand}
+use Rattle.tk_commands.specs.declared.moment.MomentCommand.TheVariants as moment_command
+use Rattle.tk_commands.specs.declared.screen.ScreenCommand.{ScreenCommand}
+use Rattle.tk_commands.specs.declared.screen.ScreenCommand.TheVariants.{Window as OnWindow, Pack}
+use Rattle.tk_commands.specs.Dispatch.{arrived, dispatched_if, generate_told, generated_told, selection_of, selection_told}
+use Rattle.tk_commands.specs.Moment.{moment_command_done}
+use Rattle.tk_commands.specs.Path.{path_told}
+use Rattle.tk_commands.specs.Screen.{screen_command_done}
+use Rattle.tk_app.proofs.Panels.{chosen_screen}
+use Rattle.tk_app.proofs.Trees.{Acts, HoldsOfActs, by_screen}
+
+-- ── what leaves the windows ──
+
+-- a change of a widget
+changed_tree : (number : ℕ) (change : WidgetChange) (own : Screen) (store : Store) → (changed number change own store).own.tree ≡ own.tree
+unfolding changed
+changed_tree number change own store = by (widget_at number own.widgets)
+  where
+    written : (set : Result Store (List ℕ)) → (changed_after number change own store set).own.tree ≡ own.tree
+    written (Ok new) = refl
+    written (Err text) = refl
+
+    by : (widget : Option Widget) → (changed_by number change own store widget).own.tree ≡ own.tree
+    by None = refl
+    by (Some widget) = written (wrote (variable_write change widget) store)
+
+-- a window's own command
+path_tree : (path : List ℕ) (words : List (List ℕ)) (own : Screen) (store : Store) → (path_words path words own store).own.tree ≡ own.tree
+unfolding path_words
+path_tree path words own store = by (at_path path own.tree)
+  where
+    request : (number : ℕ) (asked : WidgetRequest) → (asked_of number asked own store).own.tree ≡ own.tree
+    request number (Told act) = refl
+    request number (Wants change) = changed_tree number change own store
+
+    widget_is : (number : ℕ) (widget : Option Widget) → (widget_words number words own store widget).own.tree ≡ own.tree
+    widget_is number None = refl
+    widget_is number (Some widget) = request number (asked_by (wanted words (variable_text widget store) widget))
+
+    by : (window : Option Window) → (window_words words own store window).own.tree ≡ own.tree
+    by None = refl
+    by (Some window) = widget_is window.number (widget_at window.number own.widgets)
+
+-- `puts`
+puts_screen : (words : List (List ℕ)) (panel : Panel) → (puts_words words panel).0.screen ≡ panel.screen
+unfolding puts_words
+puts_screen [] panel = refl
+puts_screen (text ∷ []) panel = refl
+puts_screen (channel ∷ text ∷ []) panel = by (bytes_eq channel (codes "stdout")) refl
+  where
+    by : (b : Bool) → bytes_eq channel (codes "stdout") ≡ b → (put_to channel text panel).0.screen ≡ panel.screen
+    by true is = rw is refl
+    by false is = rw is refl
+puts_screen (channel ∷ text ∷ word ∷ words) panel = refl
+
+-- `wm`
+title_tree : (path title : List ℕ) (own : Screen) → (title_set path title own).own.tree ≡ own.tree
+title_tree path title own = by (is_main path own) refl
+  where
+    by : (b : Bool) → is_main path own ≡ b → (title_set path title own).own.tree ≡ own.tree
+    by true is = rw is refl
+    by false is = rw is refl
+
+titles_tree : (words : List (List ℕ)) (own : Screen) → (title_words words own).own.tree ≡ own.tree
+titles_tree [] own = refl
+titles_tree (path ∷ []) own = refl
+titles_tree (path ∷ title ∷ []) own = title_tree path title own
+titles_tree (path ∷ title ∷ word ∷ words) own = refl
+
+wm_tree : (words : List (List ℕ)) (own : Screen) → (wm_words words own).own.tree ≡ own.tree
+unfolding wm_words
+wm_tree [] own = refl
+wm_tree (name ∷ words) own = by (bytes_eq name (codes "title")) refl
+  where
+    by : (b : Bool) → bytes_eq name (codes "title") ≡ b → (wm_words (name ∷ words) own).own.tree ≡ own.tree
+    by true is = rw is (titles_tree words own)
+    by false is = rw is refl
+
+-- ── what the pointer and keys do to widgets ──
+
+settings_tree : (number : ℕ) (own : Screen) (all : Option (List Setting)) → (configured number own all).tree ≡ own.tree
+settings_tree number own None = refl
+settings_tree number own (Some all) = refl
+
+relief_tree : (number : ℕ) (relief : List ℕ) (own : Screen) → (with_relief number relief own).tree ≡ own.tree
+relief_tree number relief own = by (widget_at number own.widgets)
+  where
+    by : (widget : Option Widget) → (with_relief_of number relief own widget).tree ≡ own.tree
+    by None = refl
+    by (Some widget) = settings_tree number own (relief_settings relief widget)
+
+restored_tree : (number : ℕ) (relief : Option (List ℕ)) (own : Screen) → (restored number relief own).tree ≡ own.tree
+restored_tree number None own = refl
+restored_tree number (Some relief) own = relief_tree number relief own
+
+either_tree : (b : Bool) (new own : Screen) → new.tree ≡ own.tree → (cond b new own).tree ≡ own.tree
+either_tree true new own same = same
+either_tree false new own same = refl
+
+press_tree : (number : ℕ) (own : Screen) (input : Input) (relief : Option (List ℕ)) → (pressed_with number own input relief).own.tree ≡ own.tree
+press_tree number own input None = refl
+press_tree number own input (Some relief) = relief_tree number (codes "sunken") own
+
+release_tree : (number : ℕ) (own : Screen) (input : Input) → (let_go number own input).own.tree ≡ own.tree
+release_tree number own input = by (is_it number input.pressed)
+  where
+    by : (b : Bool)
+        → (cond b (buttons.told (restored number input.relief own) (record input { pressed = None }) (buttons.invoked_over number input (restored number input.relief own))) (buttons.told own input nothing)).own.tree
+        ≡ own.tree
+    by true = restored_tree number input.relief own
+    by false = refl
+
+button_tree : (request : ButtonRequest) (number : ℕ) (own : Screen) (input : Input) → (act request number own input).own.tree ≡ own.tree
+unfolding act
+button_tree Enter number own input = either_tree (is_it number input.pressed) (with_relief number (codes "sunken") own) own (relief_tree number (codes "sunken") own)
+button_tree Leave number own input = either_tree (is_it number input.pressed) (restored number input.relief own) own (restored_tree number input.relief own)
+button_tree Press number own input = press_tree number own input (relief_to_keep number own)
+button_tree Release number own input = release_tree number own input
+button_tree Invoke number own input = refl
+
+edit_tree : (number : ℕ) (key : EntryEdit) (own : Screen) (store : Store) → (edited number key own store).own.tree ≡ own.tree
+edit_tree number key own store = by (widget_at number own.widgets)
+  where
+    request : (asked : WidgetRequest) → (edited_as number own store asked).own.tree ≡ own.tree
+    request (Told act) = refl
+    request (Wants change) = changed_tree number change own store
+
+    by : (widget : Option Widget) → (edited_by number key own store widget).own.tree ≡ own.tree
+    by None = refl
+    by (Some widget) = request (asked_by (edit_asked key (variable_text widget store) widget))
+
+cursor_tree : (number : ℕ) (how : CursorMove) (own : Screen) (store : Store) → (moved_at number how own store).tree ≡ own.tree
+cursor_tree number how own store = by (widget_at number own.widgets)
+  where
+    placed : (at : Option ℕ) → (with_cursor number at own).tree ≡ own.tree
+    placed None = refl
+    placed (Some at) = refl
+
+    by : (widget : Option Widget) → (moved_by number how own store widget).tree ≡ own.tree
+    by None = refl
+    by (Some widget) = placed (place_of how store widget)
+
+entry_tree : (number moment : ℕ) (request : EntryRequest) (own : Screen) (arrivals : Arrivals) (store : Store) → (entry_asked number moment request own arrivals store).own.tree ≡ own.tree
+entry_tree number moment (entry_request.Edit key) own arrivals store = edit_tree number key own store
+entry_tree number moment (entry_request.Move way) own arrivals store = cursor_tree number (By way) own store
+entry_tree number moment (entry_request.Point x) own arrivals store = by (is_disabled_at number own) refl
+  where
+    by : (b : Bool) → is_disabled_at number own ≡ b → (pointed number moment x own arrivals store).own.tree ≡ own.tree
+    by true is = rw is refl
+    by false is = rw is (cursor_tree number (To x) own store)
+
+effect_tree : (number : ℕ) (effect : Effect) (own : Screen) → (with_effect number effect own).tree ≡ own.tree
+effect_tree number effect own = by effect.choice
+  where
+    by : (choice : Option Choice) → (with_effect number (record effect { choice = choice }) own).tree ≡ own.tree
+    by None = refl
+    by (Some choice) = refl
+
+listbox_tree : (number moment : ℕ) (request : ListboxRequest) (own : Screen) (arrivals : Arrivals) → (listbox_asked number moment request own arrivals).own.tree ≡ own.tree
+unfolding listbox_asked
+listbox_tree number moment request own arrivals = by (effect_at number request own)
+  where
+    by : (effect : Option Effect) → (asked_with number moment request own arrivals effect).own.tree ≡ own.tree
+    by None = refl
+    by (Some effect) = effect_tree number effect own
+
+class_tree : (command : ClassCommand) (words : List (List ℕ)) (moment : ℕ) (own : Screen) (arrivals : Arrivals) (store : Store)
+    → (class_command_done command words moment own arrivals store).own.tree ≡ own.tree
+unfolding class_command_done
+class_tree command words moment own arrivals store = by (target_in command words own)
+  where
+    request : (number : ℕ) (asks : ClassRequest) → (asked number moment asks own arrivals store).own.tree ≡ own.tree
+    request number (Button asks) = button_tree asks number own arrivals.input
+    request number (Entry asks) = entry_tree number moment asks own arrivals store
+    request number (Listbox asks) = listbox_tree number moment asks own arrivals
+
+    by : (target : Result ClassTarget (List ℕ)) → (requested moment target own arrivals store).own.tree ≡ own.tree
+    by (Ok target) = request target.number target.request
+    by (Err text) = refl
+
+module _ (Q : Tree → Tree → Type 0) (acts : HoldsOfActs Q) where
+  same_tree : (old new : Tree) → new ≡ old → Q old new
+  same_tree old new same = subst (Q old) (sym same) (acts.same old)
+
+  abbrev Does : Panel → Panel → Type 0
+  Does old new = Acts Q acts old new
+
+  -- ── `puts`, `after`, `clock`, `update`, `destroy` ──
+
+  moment_does : (command : MomentCommand) (words : List (List ℕ)) (panel : Panel) → Does panel (moment_command_done command words panel).panel
+  unfolding moment_command_done
+  moment_does moment_command.Puts words panel = by_screen Q acts panel (puts_words words panel).0 (puts_screen words panel)
+  moment_does moment_command.After words panel = acts.same panel.screen.tree
+  moment_does moment_command.Clock words panel = acts.same panel.screen.tree
+  moment_does moment_command.Update words panel = acts.same panel.screen.tree
+  moment_does moment_command.Destroy words panel = acts.same panel.screen.tree
+
+  -- ── `bind`, `bindtags`, `event`, `focus` ──
+
+  bindtags_does : (words : List (List ℕ)) (tree : Tree) → Q tree (bindtags_words words tree).0
+  unfolding bindtags_words
+  bindtags_does [] tree = acts.same tree
+  bindtags_does (path ∷ []) tree = acts.same tree
+  bindtags_does (path ∷ list ∷ []) tree = by (at_path path tree)
+    where
+      items : (number : ℕ) (given : Result (List (List ℕ)) (List ℕ)) → Q tree (with_items number given tree).0
+      items number (Ok tags) = acts.changed number (with_tags tags) tree (record { number = λ w. refl; parent = λ w. refl; dying = λ w is. is })
+      items number (Err text) = acts.same tree
+
+      by : (window : Option Window) → Q tree (with_list path list window tree).0
+      by (Some window) = items window.number (items_in list)
+      by None = acts.same tree
+  bindtags_does (path ∷ list ∷ word ∷ words) tree = acts.same tree
+
+  chosen_does : (event : Event) (panel : Panel) → Does panel (chosen event panel).0
+  chosen_does event panel = by_screen Q acts panel (chosen event panel).0 (chosen_screen event panel)
+
+  generate_does : (words : List (List ℕ)) (panel : Panel) → Does panel (generate_told words panel).panel
+  unfolding generate_told
+  generate_does words panel = by (generate_words words panel.input.focus (length panel.queue) panel.moment panel.screen.tree)
+    where
+      arrives : (when : When) (event : Event) → Does panel (arrived when event panel).panel
+      arrives Now event = chosen_does event panel
+      arrives Tail event = acts.same panel.screen.tree
+      arrives Head event = acts.same panel.screen.tree
+
+      by : (generated : Result Generated (List ℕ)) → Does panel (generated_told generated panel).panel
+      by (Ok generated) = arrives generated.when generated.event
+      by (Err text) = acts.same panel.screen.tree
+
+  event_does : (words : List (List ℕ)) (panel : Panel) → Does panel (event_told words panel).panel
+  unfolding event_told
+  event_does [] panel = acts.same panel.screen.tree
+  event_does (name ∷ words) panel = by (bytes_eq name (codes "generate")) refl
+    where
+      by : (b : Bool) → bytes_eq name (codes "generate") ≡ b → Does panel (event_told (name ∷ words) panel).panel
+      by true is = rw is (generate_does words panel)
+      by false is = rw is (acts.same panel.screen.tree)
+
+  binding_does : (command : BindingCommand) (words : List (List ℕ)) (panel : Panel) → Does panel (binding_command_done command words panel).panel
+  unfolding binding_command_done
+  binding_does binding.Bind words panel = acts.same panel.screen.tree
+  binding_does binding.Bindtags words panel = bindtags_does words panel.screen.tree
+  binding_does binding.Event words panel = event_does words panel
+  binding_does binding.Focus words panel = acts.same panel.screen.tree
+
+  -- ── windows ──
+
+  not_main : (b : Bool) (fault : WindowFault) (rest : Option WindowFault) → cond b (Some fault) rest ≡ None → (b ≡ false) × (rest ≡ None)
+  not_main true fault rest is = absurd (cc)
+  not_main false fault rest is = (refl, is)
+
+  create_does : (kind : Kind) (words : List (List ℕ)) (own : Screen) (store : Store) → Q own.tree (create_words kind words own store).own.tree
+  unfolding create_words
+  create_does kind [] own store = acts.same own.tree
+  create_does kind (path ∷ options) own store = by (path_refusal path own.tree) refl
+    where
+      written : (bytes_eq path (codes ".") ≡ false) × (refusal path own.tree ≡ None) → (widget : Widget) (set : Result Store (List ℕ)) → Q own.tree (made_after kind path widget own store set).own.tree
+      written may widget (Ok new) = acts.made path kind own.tree may.0 may.1
+      written may widget (Err text) = acts.same own.tree
+
+      ready : (bytes_eq path (codes ".") ≡ false) × (refusal path own.tree ≡ None) → (given : Result Ready (List ℕ)) → Q own.tree (made_with kind path own store given).own.tree
+      ready may (Ok given) = written may given.widget (wrote given.write store)
+      ready may (Err text) = acts.same own.tree
+
+      by : (refused : Option WindowFault) → path_refusal path own.tree ≡ refused → Q own.tree (made_unless kind path options own store refused).own.tree
+      by None is = ready (not_main (bytes_eq path (codes ".")) BadPath (refusal path own.tree) is) (configured_new kind (settings options (options_of kind)))
+      by (Some fault) is = acts.same own.tree
+
+  window_does : (command : WindowCommand) (words : List (List ℕ)) (own : Screen) (store : Store) → Q own.tree (window_command_done command words own store).own.tree
+  unfolding window_command_done
+  window_does (Make kind) words own store = create_does kind words own store
+  window_does Winfo words own store = acts.same own.tree
+  window_does Wm words own store = same_tree own.tree (wm_words words own).own.tree (wm_tree words own)
+
+  screen_does : (command : ScreenCommand) (words : List (List ℕ)) (panel : Panel) (store : Store) → Does panel (screen_command_done command words panel store).panel
+  unfolding screen_command_done
+  screen_does (OnWindow command) words panel store = window_does command words panel.screen store
+  screen_does Pack words panel store = acts.same panel.screen.tree
+
+  -- ── what class bindings run ──
+
+  selection_does : (number : ℕ) (panel : Panel) → Does panel (selection_told number panel).panel
+  selection_does number panel = by (selection_of panel.moment (window_at number panel.screen.tree))
+    where
+      by : (event : Option Event) → Does panel (dispatched_if event panel).panel
+      by (Some event) = chosen_does event panel
+      by None = acts.same panel.screen.tree
+
+  class_does : (command : ClassCommand) (words : List (List ℕ)) (panel : Panel) (store : Store) → Does panel (class_told command words panel store).panel
+  unfolding class_told
+  class_does command words panel store =
+      let there : ClassDone = class_command command words panel store in
+      acts.after panel.screen.tree there.panel.screen.tree (outcome_for there.outcome there.panel).panel.screen.tree
+      (same_tree panel.screen.tree there.panel.screen.tree (class_tree command words panel.moment panel.screen (arrivals_in panel) store))
+      (by there.outcome there.panel)
+    where
+      by : (outcome : ClassOutcome) (panel : Panel) → Does panel (outcome_for outcome panel).panel
+      by (class.Acts act) panel = acts.same panel.screen.tree
+      by (class.Selects number) panel = selection_does number panel
+
+  -- ── all commands ──
+
+  command_does : (named : TkCommand) (words : List (List ℕ)) (panel : Panel) (store : Store) → Does panel (command_done named words panel store).panel
+  unfolding command_done
+  command_does (command.Moment named) words panel store = moment_does named words panel
+  command_does (command.Binding named) words panel store = binding_does named words panel
+  command_does (command.Screen named) words panel store = screen_does named words panel store
+  command_does (command.Class named) words panel store = class_does named words panel store
+
+  done_does : (named : Option TkCommand) (words : List (List ℕ)) (panel : Panel) (store : Store) → Does panel (done_by named words panel store).panel
+  done_does None words panel store = acts.same panel.screen.tree
+  done_does (Some named) words panel store = command_does named words panel store
+
+  pub command_acts : (words : List (List ℕ)) (panel : Panel) (store : Store) → Does panel (panel_command words panel store).panel
+  command_acts [] panel store = acts.same panel.screen.tree
+  command_acts (name ∷ words) panel store = by (begins_path name)
+    where
+      by : (b : Bool) → Does panel (cond b (path_told name words panel store) (done_by (command_named name) words panel store)).panel
+      by true = same_tree panel.screen.tree (path_words name words panel.screen store).own.tree (path_tree name words panel.screen store)
+      by false = done_does (command_named name) words panel store

@@ -1,0 +1,232 @@
+-- Only one function meets the equation of *Settle*, and only one that of `update`: each item takes a step, or an event out of the queue, or is a layout,
+-- behind which nothing is to be laid out.
+use Rattle.std.proofs.Common.{◌≡◌, ℕ, zero, suc, ◌≤◌, Bool, true, false, cond, List, [], ◌∷◌, Option, Some, None, refl, sym, ap, ◌∙◌, subst, arith}
+use Rattle.std.specs.Prelude.{is_some}
+use Rattle.tcl_control.specs.declared.code.Code.{Code}
+use Rattle.tcl_control.specs.declared.code.Code.TheVariants.{Normal, Error, Return, Break, Continue}
+use Rattle.tcl_interp.specs.Evaluation.{State, Outcome, Ended, OutOfSteps, and_then, stepped}
+use Rattle.tcl_interp.specs.Scripts.{out_of_global, script_meaning}
+use Rattle.tcl_interp.proofs.Bounds.{Within, within_run_at, within_script}
+use Rattle.tk_after.specs.declared.entry.Entry.{Entry}
+use Rattle.tk_after.specs.Timers.{entry_with, first_due, idle_ids}
+use Rattle.tk_packer.specs.declared.changes.PlaceChange.{PlaceChange}
+use Rattle.tk_sequences.specs.declared.event.Event.{Event}
+use Rattle.tk_screen.specs.Layout.{changes_due}
+use Rattle.tk_screen.specs.Own.{Own as Screen}
+use Rattle.tk_tree.specs.Own.{IsSound}
+use Rattle.tk_panel.specs.declared.job.Home.TheVariants.{Update}
+use Rattle.tk_panel.specs.declared.transcript.Stream.TheVariants.{Err as Errors}
+use Rattle.tk_panel.specs.Changes.{laid_out}
+use Rattle.tk_panel.specs.Choice.{chosen}
+use Rattle.tk_panel.specs.Panel.{Panel}
+use Rattle.tk_panel.specs.Reports.{with_line}
+use Rattle.tk_panel.specs.Settle.{is_closed, with_queue}
+use Rattle.tk_panel.proofs.Choices.{chosen_queue}
+use Rattle.tk_commands.specs.Course.{with_end}
+use Rattle.tk_commands.specs.Moment.{settling as settling_to}
+use Rattle.tk_app.specs.Dispatch.{Behind, after_bound, at_global, bound_meaning, shown}
+use Rattle.tk_app.specs.Items.{entry_meaning, entry_taken, idle_meaning, item_meaning, on_idle, on_layout, on_queue, on_timer, round_meaning}
+use Rattle.tk_app.specs.Jobs.{meaning}
+use Rattle.tk_app.specs.Outside.{outside}
+use Rattle.tk_app.specs.Seen.{Seen}
+use Rattle.tk_app.specs.Settle.{IsSoundIn, OnlySettle, OnlyUpdate, settle_meaning}
+use Rattle.tk_app.specs.Sound.{EndsSound}
+use Rattle.tk_app.proofs.Equations.{idle_there, settles_all, updates}
+use Rattle.tk_app.proofs.Panels.{chosen_screen, laid_screen}
+use Rattle.tk_app.proofs.Sound.{StaysSound, keeps_sound, sound_acts}
+use Rattle.tk_app.proofs.Trees.{end_screen, laid}
+use Rattle.tk_app.proofs.Twice.{laid_twice}
+
+-- the same where windows are sound and at most so many steps are left
+abbrev Agree : ℕ → Behind → Behind → Type 0
+Agree n f g = (state : State Seen) → IsSoundIn state → state.steps ≤ n → f state ≡ g state
+
+-- the same once a step is taken
+abbrev Less : Behind → Behind → State Seen → Type 0
+Less f g state = (left : ℕ) → state.steps ≡ suc left → Agree left f g
+
+step_then : (steps : ℕ) (state : State Seen) (f g : Behind) → ((left : ℕ) → steps ≡ suc left → f (record state { steps = left }) ≡ g (record state { steps = left })) → stepped steps state f ≡ stepped steps state g
+step_then zero state f g same = refl
+step_then (suc left) state f g same = same left refl
+
+sound_screen : (old new : Panel) → new.screen ≡ old.screen → IsSound old.screen.tree → IsSound new.screen.tree
+sound_screen old new same sound = subst (λ (screen : Screen). IsSound screen.tree) (sym same) sound
+
+module _ (room : ℕ) where
+  -- what comes behind a script at global level, which leaves windows sound and no more steps
+  ran_same : (script : List ℕ) (state : State Seen) (f g : State Seen → Code → List ℕ → Outcome Seen) → IsSoundIn state
+      → ((left : State Seen) (code : Code) (text : List ℕ) → IsSoundIn left → left.steps ≤ state.steps → f left code text ≡ g left code text)
+      → and_then (at_global room script state) f ≡ and_then (at_global room script state) g
+  ran_same script state f g sound same =
+      by (at_global room script state) ((keeps_sound room state sound).0 script)
+      (within_run_at (script_meaning outside room) (within_script outside room) state.steps 1 script state (omega arith))
+    where
+      by : (o : Outcome Seen) → EndsSound o → Within state.steps o → and_then o f ≡ and_then o g
+      by (Ended left code text) kept within = same left code text kept within
+      by (OutOfSteps left) kept within = refl
+
+  bound_ends : (n : ℕ) (others more f g : Behind) → Agree n others more → Agree n f g → (left : State Seen) (code : Code) (text : List ℕ) → IsSoundIn left → left.steps ≤ n
+      → after_bound room others f left code text ≡ after_bound room more g left code text
+  bound_ends n others more f g rest same left Normal text sound few = rest left sound few
+  bound_ends n others more f g rest same left Error text sound few = same (shown (with_line Errors text left.shows.panel) left) sound few
+  bound_ends n others more f g rest same left (Return code) text sound few = rest left sound few
+  bound_ends n others more f g rest same left Break text sound few = same left sound few
+  bound_ends n others more f g rest same left Continue text sound few = rest left sound few
+
+  bound_step : (n : ℕ) (f g : Behind) → Agree n f g → (script : List ℕ) (scripts : List (List ℕ)) → Agree n (bound_meaning room scripts f) (bound_meaning room scripts g)
+      → (state : State Seen) → IsSoundIn state → state.steps ≤ suc n → bound_meaning room (script ∷ scripts) f state ≡ bound_meaning room (script ∷ scripts) g state
+  bound_step n f g same script scripts rest state sound few =
+      step_then state.steps state
+      (λ begun. and_then (at_global room script begun) (λ left code text. after_bound room (bound_meaning room scripts f) f left (out_of_global code) text))
+      (λ begun. and_then (at_global room script begun) (λ left code text. after_bound room (bound_meaning room scripts g) g left (out_of_global code) text))
+      (λ steps is. ran_same script (record state { steps = steps })
+      (λ left code text. after_bound room (bound_meaning room scripts f) f left (out_of_global code) text)
+      (λ left code text. after_bound room (bound_meaning room scripts g) g left (out_of_global code) text) sound
+      (λ left code text kept fewer.
+      bound_ends n (bound_meaning room scripts f) (bound_meaning room scripts g) f g rest same left (out_of_global code) text kept (omega (arith, fewer, is, few))))
+
+  bound_same : (n : ℕ) (f g : Behind) → Agree n f g → (scripts : List (List ℕ)) → Agree n (bound_meaning room scripts f) (bound_meaning room scripts g)
+  bound_same n f g same [] state sound few = same state sound few
+  bound_same n f g same (script ∷ scripts) state sound few = bound_step n f g same script scripts (bound_same n f g same scripts) state sound (omega (arith, few))
+
+  entry_same : (n : ℕ) (f g : Behind) → Agree n f g → (id : ℕ) (script : List ℕ) → Agree n (entry_meaning room id script f) (entry_meaning room id script g)
+  entry_same n f g same id script state sound few =
+      ran_same script (shown (entry_taken id state.shows.panel) state)
+      (λ left code text. f (shown (with_end (out_of_global code) text left.shows.panel) left))
+      (λ left code text. g (shown (with_end (out_of_global code) text left.shows.panel) left)) sound
+      (λ left code text kept fewer.
+      same (shown (with_end (out_of_global code) text left.shows.panel) left)
+      (sound_screen left.shows.panel (with_end (out_of_global code) text left.shows.panel) (end_screen (out_of_global code) text left.shows.panel) kept) (omega (arith, fewer, few)))
+
+  -- an entry, once its step is taken
+  entry_step : (n : ℕ) (f g : Behind) → Agree n f g → (id : ℕ) (script : List ℕ) (state : State Seen) → IsSoundIn state → state.steps ≤ suc n
+      → stepped state.steps state (entry_meaning room id script f) ≡ stepped state.steps state (entry_meaning room id script g)
+  entry_step n f g same id script state sound few =
+      step_then state.steps state (entry_meaning room id script f) (entry_meaning room id script g)
+      (λ steps is. entry_same n f g same id script (record state { steps = steps }) sound (omega (arith, is, few)))
+
+  round_same : (n : ℕ) (f g : Behind) → Agree n f g → (ids : List ℕ) → Agree n (round_meaning room ids f) (round_meaning room ids g)
+  round_same n f g same [] state sound few = same state sound few
+  round_same n f g same (id ∷ ids) state sound few = by (entry_with id state.shows.panel.timers.entries) (round_same n f g same ids)
+    where
+      by : (entry : Option Entry) → Agree n (round_meaning room ids f) (round_meaning room ids g)
+          → idle_meaning room id entry (round_meaning room ids f) state ≡ idle_meaning room id entry (round_meaning room ids g) state
+      by None rest = rest state sound few
+      by (Some entry) rest = entry_step n (round_meaning room ids f) (round_meaning room ids g) rest id entry.script state sound (omega (arith, few))
+
+  -- two functions that meet the same equation: what is to be done first, where this test holds nothing
+  module _ (is_over : State Seen → Bool) (f g : Behind)
+      (f_meets : (state : State Seen) → IsSoundIn state → f state ≡ cond (is_over state) (Ended state Normal []) (item_meaning room f state))
+      (g_meets : (state : State Seen) → IsSoundIn state → g state ≡ cond (is_over state) (Ended state Normal []) (item_meaning room g state)) where
+    meets : (state : State Seen) → IsSoundIn state → item_meaning room f state ≡ item_meaning room g state → f state ≡ g state
+    meets state sound same = f_meets state sound ∙ by (is_over state) ∙ sym (g_meets state sound)
+      where
+        by : (b : Bool) → cond b (Ended state Normal []) (item_meaning room f state) ≡ cond b (Ended state Normal []) (item_meaning room g state)
+        by true = refl
+        by false = same
+
+    -- where no step is left, a step ends it
+    with_less : (state : State Seen) (one other : Behind) → ((left : ℕ) → state.steps ≡ suc left → one (record state { steps = left }) ≡ other (record state { steps = left }))
+        → stepped state.steps state one ≡ stepped state.steps state other
+    with_less state one other same = step_then state.steps state one other same
+
+    entry_less : (id : ℕ) (script : List ℕ) (state : State Seen) (one other : Behind) → ((left : ℕ) → state.steps ≡ suc left → Agree left one other) → IsSoundIn state
+        → stepped state.steps state (entry_meaning room id script one) ≡ stepped state.steps state (entry_meaning room id script other)
+    entry_less id script state one other less sound =
+        with_less state (entry_meaning room id script one) (entry_meaning room id script other)
+        (λ left is. entry_same left one other (less left is) id script (record state { steps = left }) sound (omega arith))
+
+    bound_less : (script : List ℕ) (scripts : List (List ℕ)) (state : State Seen) → Less f g state → IsSoundIn state
+        → bound_meaning room (script ∷ scripts) f state ≡ bound_meaning room (script ∷ scripts) g state
+    bound_less script scripts state less sound =
+        step_then state.steps state
+        (λ begun. and_then (at_global room script begun) (λ left code text. after_bound room (bound_meaning room scripts f) f left (out_of_global code) text))
+        (λ begun. and_then (at_global room script begun) (λ left code text. after_bound room (bound_meaning room scripts g) g left (out_of_global code) text))
+        (λ steps is. ran_same script (record state { steps = steps })
+        (λ left code text. after_bound room (bound_meaning room scripts f) f left (out_of_global code) text)
+        (λ left code text. after_bound room (bound_meaning room scripts g) g left (out_of_global code) text) sound
+        (λ left code text kept fewer.
+        bound_ends steps (bound_meaning room scripts f) (bound_meaning room scripts g) f g (bound_same steps f g (less steps is) scripts) (less steps is) left (out_of_global code) text kept fewer))
+
+    idle_less : (ids : List ℕ) (state : State Seen) → idle_ids state.shows.panel.timers.entries ≡ ids → IsSoundIn state → Less f g state → on_idle room ids f state ≡ on_idle room ids g state
+    idle_less [] state is sound less = refl
+    idle_less (id ∷ ids) state is sound less = by (entry_with id state.shows.panel.timers.entries) (idle_there room id ids state.shows.panel.timers.entries is)
+      where
+        by : (entry : Option Entry) → is_some entry ≡ true → idle_meaning room id entry (round_meaning room ids f) state ≡ idle_meaning room id entry (round_meaning room ids g) state
+        by None there = absurd (cc)
+        by (Some entry) there =
+            entry_less id entry.script state (round_meaning room ids f) (round_meaning room ids g) (λ left is. round_same left f g (less left is) ids) sound
+
+    timer_less : (first : Option Entry) (state : State Seen) → IsSoundIn state → Less f g state
+        → on_layout room (changes_due state.shows.panel.screen state.store) f state ≡ on_layout room (changes_due state.shows.panel.screen state.store) g state
+        → on_timer room first f state ≡ on_timer room first g state
+    timer_less None state sound less layout = layout
+    timer_less (Some entry) state sound less layout = entry_less entry.id entry.script state f g less sound
+
+    -- what a layout finds hangs on the screen alone
+    module _ (Ready : State Seen → Type 0) (stays : (state : State Seen) (panel : Panel) → panel.screen ≡ state.shows.panel.screen → Ready state → Ready (shown panel state))
+        (lays : (state : State Seen) → Ready state → IsSoundIn state → Less f g state
+        → on_layout room (changes_due state.shows.panel.screen state.store) f state ≡ on_layout room (changes_due state.shows.panel.screen state.store) g state) where
+      solved : (queue : List Event) (state : State Seen) → state.shows.panel.queue ≡ queue → Ready state → IsSoundIn state → Less f g state → f state ≡ g state
+      solved [] state is ready sound less =
+          meets state sound
+          (ap (λ queue. on_queue room queue f state) is
+          ∙ timer_less (first_due state.shows.panel.moment state.shows.panel.timers.entries) state sound less (lays state ready sound less)
+          ∙ sym (ap (λ queue. on_queue room queue g state) is))
+      solved (event ∷ events) state is ready sound less =
+          let taken : Panel = with_queue events state.shows.panel in
+          let there : Panel × List (List ℕ) = chosen event taken in
+          meets state sound
+          (ap (λ queue. on_queue room queue f state) is
+          ∙ by there.1 there.0 (chosen_screen event taken) (solved events (shown there.0 state) (chosen_queue event taken))
+          ∙ sym (ap (λ queue. on_queue room queue g state) is))
+        where
+          by : (scripts : List (List ℕ)) (after : Panel) → after.screen ≡ state.shows.panel.screen
+              → (Ready (shown after state) → IsSoundIn (shown after state) → Less f g (shown after state) → f (shown after state) ≡ g (shown after state))
+              → bound_meaning room scripts f (shown after state) ≡ bound_meaning room scripts g (shown after state)
+          by [] after same rest = rest (stays state after same ready) (sound_screen state.shows.panel after same sound) less
+          by (script ∷ scripts) after same rest = bound_less script scripts (shown after state) less (sound_screen state.shows.panel after same sound)
+
+    -- nothing is to be laid out
+    abbrev IsLaid : State Seen → Type 0
+    IsLaid state = changes_due state.shows.panel.screen state.store ≡ []
+
+    laid_stays : (state : State Seen) (panel : Panel) → panel.screen ≡ state.shows.panel.screen → IsLaid state → IsLaid (shown panel state)
+    laid_stays state panel same is = ap (λ (screen : Screen). changes_due screen state.store) same ∙ is
+
+    laid_lays : (state : State Seen) → IsLaid state → IsSoundIn state → Less f g state
+        → on_layout room (changes_due state.shows.panel.screen state.store) f state ≡ on_layout room (changes_due state.shows.panel.screen state.store) g state
+    laid_lays state is sound less =
+        ap (λ changes. on_layout room changes f state) is
+        ∙ idle_less (idle_ids state.shows.panel.timers.entries) state refl sound less
+        ∙ sym (ap (λ changes. on_layout room changes g state) is)
+
+    any_lays : (state : State Seen) → Unit {0} → IsSoundIn state → Less f g state
+        → on_layout room (changes_due state.shows.panel.screen state.store) f state ≡ on_layout room (changes_due state.shows.panel.screen state.store) g state
+    any_lays state ready sound less = by (changes_due state.shows.panel.screen state.store)
+      where
+        by : (changes : List PlaceChange) → on_layout room changes f state ≡ on_layout room changes g state
+        by [] = idle_less (idle_ids state.shows.panel.timers.entries) state refl sound less
+        by (change ∷ changes) =
+            let panel : Panel = laid_out state.store state.shows.panel in
+            solved IsLaid laid_stays laid_lays panel.queue (shown panel state) refl
+            (ap (λ (screen : Screen). changes_due screen state.store) (laid_screen state.store state.shows.panel) ∙ laid_twice state.shows.panel.screen state.store sound)
+            (laid StaysSound sound_acts state.store state.shows.panel sound) less
+
+    agrees : (n : ℕ) → Agree n f g
+    agrees zero state sound few =
+        solved (λ state. Unit {0}) (λ state panel same ready. tt) any_lays state.shows.panel.queue state refl tt sound (λ left is. absurd (omega (arith, is, few)))
+    agrees (suc n) state sound few =
+        solved (λ state. Unit {0}) (λ state panel same ready. tt) any_lays state.shows.panel.queue state refl tt sound
+        (λ left is other kept fewer. agrees n other kept (omega (arith, fewer, is, few)))
+
+    pub only_one : (state : State Seen) → IsSoundIn state → f state ≡ g state
+    only_one state sound = agrees state.steps state sound (omega arith)
+
+-- ── the laws ──
+
+pub only_settle : OnlySettle
+only_settle other meets state sound = only_one 200 (λ s. is_closed s.shows.panel) other settle_meaning meets settles_all state sound
+
+pub only_update : OnlyUpdate
+only_update room other meets state sound = only_one room (λ s. false) other (meaning room (settling_to Update)) meets (updates room) state sound

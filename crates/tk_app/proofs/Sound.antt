@@ -1,0 +1,271 @@
+-- Windows stay numbered as they were made, whatever an application does.
+use Rattle.std.proofs.Common.{◌≡◌, ℕ, suc, ◌<◌, ◌≤◌, Bool, true, false, cond, List, [], ◌∷◌, length, Option, Some, None, MatchOption, refl, sym, ap, ◌∙◌, subst, arith}
+use Rattle.std.specs.Prelude.{◌==◌, ◌||◌, not, filter, is_some, map, nat_le}
+use Rattle.std.specs.Option.{option_map, option_and_then}
+use Rattle.std.specs.Str.{bytes_eq}
+use Rattle.std.proofs.lemmas.Bool.{leb-false}
+use Rattle.std.proofs.lemmas.List.{length-append}
+use Rattle.tcl_vars.specs.Store.{Store}
+use Rattle.tcl_control.specs.declared.code.Code.{Code}
+use Rattle.tcl_control.specs.declared.code.Code.TheVariants.{Normal}
+use Rattle.tcl_interp.specs.declared.job.Task.{Task}
+use Rattle.tcl_interp.specs.declared.job.Task.TheVariants.{Begins, Waits, Runs, Invoked}
+use Rattle.tcl_interp.specs.declared.tasks.Act.{Act}
+use Rattle.tcl_interp.specs.Evaluation.{State, Outcome, Ended, OutOfSteps}
+use Rattle.tcl_interp.specs.Scripts.{script_meaning}
+use Rattle.tcl_interp.proofs.Kept.{Keeps, Kept, kept_run_at, kept_script, kept_task}
+use Rattle.tcl_interp.proofs.Unrolled as jobs
+use Rattle.tk_base.specs.Bag.{AllAbove, AllBelow, IsRising}
+use Rattle.tk_panel.specs.declared.job.Job.{Job}
+use Rattle.tk_panel.specs.declared.job.Rest.{Rest}
+use Rattle.tk_panel.specs.Next.{next}
+use Rattle.tk_panel.specs.Panel.{Panel}
+use Rattle.tk_panel.specs.Start.{start}
+use Rattle.tk_commands.specs.Calls.{calls as panel_calls, outcome_told}
+use Rattle.tk_commands.specs.Commands.{panel_command}
+use Rattle.tk_commands.specs.Course.{ended as panel_ended}
+use Rattle.tk_commands.specs.declared.outcome.CommandOutcome.{CommandOutcome}
+use Rattle.tk_commands.specs.declared.outcome.CommandOutcome.TheVariants as outcome
+use Rattle.tk_commands.specs.Outcomes.{Done}
+use Rattle.tk_tree.specs.Create.{first_of_two, parent_number, place_refusal, refusal, taken_refusal}
+use Rattle.tk_tree.specs.declared.fault.WindowFault.{WindowFault}
+use Rattle.tk_tree.specs.declared.fault.WindowFault.TheVariants.{Exists, Full}
+use Rattle.tk_tree.specs.declared.window.Window.{Window}
+use Rattle.tk_tree.specs.Own.{HasOlderParent, HaveOlderParents, IsSound, Own as Tree, at_path, is_full, most_windows}
+use Rattle.tk_tree.specs.Path.{parent_and_name}
+use Rattle.tk_tree.specs.Window.{new_window, number_of}
+use Rattle.tk_tree.proofs.Lists.{below_more, find_below, parents_more, rising_more}
+use Rattle.tk_app.specs.Dispatch.{at_global}
+use Rattle.tk_app.specs.Jobs.{meaning}
+use Rattle.tk_app.specs.Outside.{alias_act, called_as, calls, course, outside}
+use Rattle.tk_app.specs.Seen.{Seen}
+use Rattle.tk_app.specs.Sound.{EndsSound, KeepsSound}
+use Rattle.tk_app.proofs.CommandTrees.{command_acts}
+use Rattle.tk_app.proofs.Trees.{Acts, HoldsOfActs, KeepsPlace, both, ended_acts, next_acts, start_acts}
+
+-- ── scripts and jobs do what holds of their acts ──
+
+module _ (Q : Tree → Tree → Type 0) (acts : HoldsOfActs Q) (first : Tree) where
+  -- what has been done since the windows were these
+  abbrev pub Since : Seen → Type 0
+  Since seen = Q first seen.panel.screen.tree
+
+  on : (old new : Panel) → Q first old.screen.tree → Acts Q acts old new → Q first new.screen.tree
+  on old new since done = acts.after first old.screen.tree new.screen.tree since done
+
+  told_acts : (came : CommandOutcome) (panel : Panel) (store : Store) → Acts Q acts panel (outcome_told came panel store).shows
+  told_acts (outcome.Acts act) panel store = acts.same panel.screen.tree
+  told_acts (outcome.Begins job) panel store = next_acts Q acts job store panel
+  told_acts outcome.Unknown panel store = acts.same panel.screen.tree
+
+  called_acts : (panel : Panel) (store : Store) (words : List (List ℕ)) → Acts Q acts panel (panel_calls panel store words).shows
+  unfolding panel_calls
+  called_acts panel store words =
+      let came : Done = panel_command words panel store in
+      both Q acts panel came.panel (outcome_told came.outcome came.panel came.store).shows (command_acts Q acts words panel store) (told_acts came.outcome came.panel came.store)
+
+  call_since : (seen : Seen) (store : Store) (words : List (List ℕ)) → Since seen → Since (calls seen store words).shows
+  call_since seen store words since = by (alias_act seen.serves words)
+    where
+      by : (served : Option (Act (Task Job))) → Since (called_as served words seen store).shows
+      by (Some act) = since
+      by None = on seen.panel (panel_calls seen.panel store words).shows since (called_acts seen.panel store words)
+
+  task_since : (seen : Seen) (store : Store) (task : Task Job) (code : Code) (text : List ℕ) → Since seen → Since (outside.resumes seen store task code text).shows
+  task_since seen store (Begins script job) code text since = since
+  task_since seen store (Waits job) code text since =
+      on seen.panel (start job seen.panel).0 since (start_acts Q acts job seen.panel)
+  task_since seen store (Runs job) code text since =
+      let there : Panel × Job = panel_ended code text seen.panel job in
+      let left : Panel = record there.0 { moment = seen.panel.moment } in
+      on left (next there.1 store left).0 (on seen.panel there.0 since (ended_acts Q acts code text seen.panel job)) (next_acts Q acts there.1 store left)
+  task_since seen store Invoked code text since = since
+
+  keeps : Keeps Since outside
+  keeps = (call_since, task_since)
+
+  pub script_since : (room : ℕ) (script : List ℕ) (state : State Seen) → Since state.shows → Kept Since (script_meaning outside room script state)
+  script_since room script state since = kept_script Since outside keeps room script state since
+
+  pub global_since : (room : ℕ) (script : List ℕ) (state : State Seen) → Since state.shows → Kept Since (at_global room script state)
+  global_since room script state since = kept_run_at Since (script_meaning outside room) (script_since room) 1 script state since
+
+  -- a job is where a task is that goes on with it
+  job_ends : (event : Option (List (List ℕ))) (rest : Rest) (seen : Seen) → course.ended Normal [] seen (record { event = event; rest = rest }) ≡ (seen, record { event = event; rest = rest })
+  job_ends (Some scripts) rest seen = refl
+  job_ends None rest seen = refl
+
+  pub job_since : (room : ℕ) (job : Job) (state : State Seen) → Since state.shows → Kept Since (meaning room job state)
+  job_since room job state since =
+      let done = λ (there : Seen × Job). meaning room there.1 (record state { shows = there.0 }) in
+      subst (Kept Since) ((jobs.goes_on course calls room job state Normal [] []).0 ∙ ap done (job_ends job.event job.rest state.shows))
+      (kept_task Since outside keeps (script_meaning outside room) (script_since room) (Runs job) state Normal [] since)
+
+-- ── numbers, and older parents ──
+
+module _ (change : Window → Window) (keeps_place : KeepsPlace change) (n : ℕ) where
+  abbrev pub at : Window → Window
+  at window = cond (window.number == n) (change window) window
+
+  pub same_number : (window : Window) → (at window).number ≡ window.number
+  same_number window = by (window.number == n)
+    where
+      by : (b : Bool) → (cond b (change window) window).number ≡ window.number
+      by true = keeps_place.number window
+      by false = refl
+
+  pub same_parent : (window : Window) → (at window).parent ≡ window.parent
+  same_parent window = by (window.number == n)
+    where
+      by : (b : Bool) → (cond b (change window) window).parent ≡ window.parent
+      by true = keeps_place.parent window
+      by false = refl
+
+  above_changed : (m : ℕ) (windows : List Window) → AllAbove number_of m windows → AllAbove number_of m (map at windows)
+  above_changed m [] above = tt
+  above_changed m (window ∷ windows) above = (subst (λ k. m < k) (sym (same_number window)) above.0, above_changed m windows above.1)
+
+  rising_changed : (windows : List Window) → IsRising number_of windows → IsRising number_of (map at windows)
+  rising_changed [] rising = tt
+  rising_changed (window ∷ windows) rising =
+      (subst (λ k. AllAbove number_of k (map at windows)) (sym (same_number window)) (above_changed window.number windows rising.0), rising_changed windows rising.1)
+
+  below_changed : (m : ℕ) (windows : List Window) → AllBelow number_of m windows → AllBelow number_of m (map at windows)
+  below_changed m [] below = tt
+  below_changed m (window ∷ windows) below = (subst (λ k. k < m) (sym (same_number window)) below.0, below_changed m windows below.1)
+
+  older_changed : (window : Window) → HasOlderParent window → HasOlderParent (at window)
+  older_changed window older =
+      subst (λ k. MatchOption (at window).parent (Unit {0}) (λ parent. parent < k)) (sym (same_number window))
+      (subst (λ (o : Option ℕ). MatchOption o (Unit {0}) (λ parent. parent < window.number)) (sym (same_parent window)) older)
+
+  parents_changed : (windows : List Window) → HaveOlderParents windows → HaveOlderParents (map at windows)
+  parents_changed [] older = tt
+  parents_changed (window ∷ windows) older = (older_changed window older.0, parents_changed windows older.1)
+
+  length_changed : (windows : List Window) → length (map at windows) ≡ length windows
+  length_changed [] = refl
+  length_changed (window ∷ windows) = ap suc (length_changed windows)
+
+module _ (n : ℕ) where
+  abbrev pub others : List Window → List Window
+  others windows = filter (λ (window : Window). not (window.number == n)) windows
+
+  above_gone : (m : ℕ) (windows : List Window) → AllAbove number_of m windows → AllAbove number_of m (others windows)
+  above_gone m [] above = tt
+  above_gone m (window ∷ windows) above = by (window.number == n) (above_gone m windows above.1)
+    where
+      by : (b : Bool) → AllAbove number_of m (others windows) → AllAbove number_of m (cond (not b) (window ∷ others windows) (others windows))
+      by true rest = rest
+      by false rest = (above.0, rest)
+
+  rising_gone : (windows : List Window) → IsRising number_of windows → IsRising number_of (others windows)
+  rising_gone [] rising = tt
+  rising_gone (window ∷ windows) rising = by (window.number == n) (rising_gone windows rising.1)
+    where
+      by : (b : Bool) → IsRising number_of (others windows) → IsRising number_of (cond (not b) (window ∷ others windows) (others windows))
+      by true rest = rest
+      by false rest = (above_gone window.number windows rising.0, rest)
+
+  below_gone : (m : ℕ) (windows : List Window) → AllBelow number_of m windows → AllBelow number_of m (others windows)
+  below_gone m [] below = tt
+  below_gone m (window ∷ windows) below = by (window.number == n) (below_gone m windows below.1)
+    where
+      by : (b : Bool) → AllBelow number_of m (others windows) → AllBelow number_of m (cond (not b) (window ∷ others windows) (others windows))
+      by true rest = rest
+      by false rest = (below.0, rest)
+
+  parents_gone : (windows : List Window) → HaveOlderParents windows → HaveOlderParents (others windows)
+  parents_gone [] older = tt
+  parents_gone (window ∷ windows) older = by (window.number == n) (parents_gone windows older.1)
+    where
+      by : (b : Bool) → HaveOlderParents (others windows) → HaveOlderParents (cond (not b) (window ∷ others windows) (others windows))
+      by true rest = rest
+      by false rest = (older.0, rest)
+
+  length_gone : (windows : List Window) → length (others windows) ≤ length windows
+  length_gone [] = omega arith
+  length_gone (window ∷ windows) = by (window.number == n) (length_gone windows)
+    where
+      by : (b : Bool) → length (others windows) ≤ length windows → length (cond (not b) (window ∷ others windows) (others windows)) ≤ suc (length windows)
+      by true rest = omega (arith, rest)
+      by false rest = omega (arith, rest)
+
+-- ── a window more ──
+
+module _ (path : List ℕ) (tree : Tree) (sound : IsSound tree) where
+  abbrev IsOlder : Option ℕ → Type 0
+  IsOlder parent = MatchOption parent (Unit {0}) (λ parent. parent < tree.next_number)
+
+  found_older : (found : Option Window) → ((window : Window) → found ≡ Some window → window.number < tree.next_number) → IsOlder (option_map (λ (parent : Window). parent.number) found)
+  found_older None lt = tt
+  found_older (Some window) lt = lt window refl
+
+  names_older : (names : Option (List ℕ × List ℕ)) → IsOlder (option_map (λ (parent : Window). parent.number) (option_and_then (λ (parts : List ℕ × List ℕ). at_path parts.0 tree) names))
+  names_older None = tt
+  names_older (Some parts) =
+      found_older (at_path parts.0 tree) (λ window is. find_below number_of tree.next_number (λ w. bytes_eq parts.0 w.path) window tree.windows sound.below is)
+
+  parent_older : IsOlder (parent_number path tree)
+  parent_older = names_older (parent_and_name path)
+
+-- there is room for one more where none of the tests refuses
+no_first : (one other : Option WindowFault) → first_of_two one other ≡ None → other ≡ None
+no_first None other is = is
+no_first (Some fault) other is = absurd (cc)
+
+not_full : (taken full : Bool) → cond taken (Some Exists) (cond full (Some Full) None) ≡ None → full ≡ false
+not_full true full is = absurd (cc)
+not_full false true is = absurd (cc)
+not_full false false is = refl
+
+one_false : (a b : Bool) → a || b ≡ false → a ≡ false
+one_false true b is = absurd (cc)
+one_false false b is = refl
+
+has_room : (path : List ℕ) (tree : Tree) → refusal path tree ≡ None → length tree.windows < 512
+has_room path tree may =
+    leb-false 512 (length tree.windows)
+    (one_false (nat_le 512 (length tree.windows)) (tree.next_number == 18446744073709551615) (not_full (is_some (at_path path tree)) (is_full tree) (no_first (place_refusal path tree) (taken_refusal path tree) may)))
+
+-- ── sound stays sound ──
+
+abbrev pub StaysSound : Tree → Tree → Type 0
+StaysSound old new = IsSound old → IsSound new
+
+pub sound_acts : HoldsOfActs StaysSound
+sound_acts = record {
+  same = λ tree sound. sound;
+  after = λ first mid last one other sound. other (one sound);
+  changed = λ number change tree keeps_place sound. record {
+    rising = rising_changed change keeps_place number tree.windows sound.rising;
+    below = below_changed change keeps_place number tree.next_number tree.windows sound.below;
+    parents = parents_changed change keeps_place number tree.windows sound.parents;
+    few = subst (λ k. k ≤ most_windows) (sym (length_changed change keeps_place number tree.windows)) sound.few;
+  };
+  gone = λ number tree sound. record {
+    rising = rising_gone number tree.windows sound.rising;
+    below = below_gone number tree.next_number tree.windows sound.below;
+    parents = parents_gone number tree.windows sound.parents;
+    few = omega (arith, length_gone number tree.windows, sound.few);
+  };
+  made = λ path kind tree named may sound. (let window : Window = new_window tree.next_number path kind (parent_number path tree) in record {
+    rising = rising_more number_of tree.windows window sound.rising sound.below;
+    below = below_more number_of tree.next_number tree.windows window sound.below refl;
+    parents = parents_more tree.windows window sound.parents (parent_older path tree sound);
+    few = omega (arith, length-append tree.windows (window ∷ []), has_room path tree may);
+  });
+}
+
+-- ── the law ──
+
+ends_sound : (first : Tree) (outcome : Outcome Seen) → IsSound first → Kept (Since StaysSound sound_acts first) outcome → EndsSound outcome
+ends_sound first (Ended state code text) sound kept = kept sound
+ends_sound first (OutOfSteps state) sound kept = tt
+
+pub keeps_sound : KeepsSound
+keeps_sound room state sound =
+    let first : Tree = state.shows.panel.screen.tree in (
+      (λ script. ends_sound first (at_global room script state) sound (global_since StaysSound sound_acts first room script state (λ same. same))),
+      (λ job. ends_sound first (meaning room job state) sound (job_since StaysSound sound_acts first room job state (λ same. same))),
+    )

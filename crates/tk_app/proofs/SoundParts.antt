@@ -1,0 +1,92 @@
+-- An application's windows are numbered as they were made as long as it runs.
+use Rattle.std.proofs.Common.{◌≡◌, ℕ, List, refl, sym, subst, arith}
+use Rattle.tcl_control.specs.declared.code.Code.{Code}
+use Rattle.tcl_interp.specs.Evaluation.{State, Outcome, Ended, OutOfSteps, and_then}
+use Rattle.tcl_interp.specs.Scripts.{out_of_global}
+use Rattle.tk_keys.specs.declared.local_event.LocalEvent.{LocalEvent}
+use Rattle.tk_keys.specs.declared.local_event.LocalKind.{LocalKind}
+use Rattle.tk_keys.specs.declared.local_event.LocalKind.TheVariants as kinds
+use Rattle.tk_inputs.specs.Deliver.{delivered as arrived}
+use Rattle.tk_screen.specs.Own.{Own as Screen}
+use Rattle.tk_tree.specs.Own.{IsSound}
+use Rattle.tk_panel.specs.Deliver.{arrivals_in, delivered as delivered_panel, with_arrivals, with_rectangle}
+use Rattle.tk_panel.specs.Fresh.{fresh as fresh_panel}
+use Rattle.tk_panel.specs.Panel.{Panel}
+use Rattle.tk_commands.specs.Course.{with_end}
+use Rattle.tk_app.specs.declared.state.AppState.{AppState}
+use Rattle.tk_app.specs.declared.state.AppState.TheVariants.{Running, Exhausted, Closed}
+use Rattle.tk_app.specs.Application.{Application, panel_at}
+use Rattle.tk_app.specs.Dispatch.{at_global, in_panel}
+use Rattle.tk_app.specs.Moments.{after_outcome, delivered, delivered_as, settled, settled_as, started, state_at}
+use Rattle.tk_app.specs.Seen.{Meaning, Seen}
+use Rattle.tk_app.specs.Settle.{IsSoundIn, after_script, settle_meaning, settling, start_meaning}
+use Rattle.tk_app.specs.Sound.{EndsSound, RunsSound, StaysSound}
+use Rattle.tk_app.proofs.Sound.{keeps_sound}
+use Rattle.tk_app.proofs.Trees.{end_screen}
+
+-- what comes behind something that ends so, where it ends so in each such state
+then_sound : (o : Outcome Seen) (f : State Seen → Code → List ℕ → Outcome Seen) → EndsSound o → ((state : State Seen) (code : Code) (text : List ℕ) → IsSoundIn state → EndsSound (f state code text))
+    → EndsSound (and_then o f)
+then_sound (Ended state code text) f kept rest = rest state code text kept
+then_sound (OutOfSteps state) f kept rest = tt
+
+start_sound : (script : List ℕ) (state : State Seen) → IsSoundIn state → EndsSound (start_meaning script state)
+start_sound script state sound =
+    then_sound (at_global 200 script state) after_script ((keeps_sound 200 state sound).0 script)
+    (λ left code text kept.
+    (keeps_sound 200 (in_panel (with_end (out_of_global code) text left.shows.panel) left)
+    (subst (λ (screen : Screen). IsSound screen.tree) (sym (end_screen (out_of_global code) text left.shows.panel)) kept)).1 settling)
+
+rectangle_tree : (kind : LocalKind) (panel : Panel) → (with_rectangle kind panel).screen.tree ≡ panel.screen.tree
+rectangle_tree (kinds.Size width height) panel = refl
+rectangle_tree (kinds.Position x y) panel = refl
+rectangle_tree (kinds.Press button x y) panel = refl
+rectangle_tree (kinds.Release button x y) panel = refl
+rectangle_tree (kinds.Keydown key) panel = refl
+rectangle_tree (kinds.Keyup key) panel = refl
+rectangle_tree kinds.FocusIn panel = refl
+rectangle_tree kinds.FocusOut panel = refl
+
+first_sound : (name : List ℕ) (size : ℕ × ℕ) → IsSound (fresh_panel name size 0).screen.tree
+unfolding fresh_panel
+first_sound name size = record { rising = (tt, tt); below = (omega arith, tt); parents = (tt, tt); few = omega arith }
+
+given_tree : (event : LocalEvent) (panel : Panel) → (delivered_panel event panel).screen.tree ≡ panel.screen.tree
+unfolding delivered_panel
+given_tree event panel = rectangle_tree event.kind (with_arrivals (arrived event panel.screen.tree (arrivals_in panel)) panel)
+
+module _ {M : Type 0} (answer : M → Meaning) where
+  outcome_sound : (o : Outcome Seen) (application : Application M) → EndsSound o → RunsSound (after_outcome o application)
+  outcome_sound (Ended left code text) application kept = λ runs. kept
+  outcome_sound (OutOfSteps left) application kept = λ runs. absurd (cc)
+
+  started_sound : (moment : ℕ) (script : List ℕ) (application : Application M) → IsSound application.screen.tree → RunsSound (started answer moment script application)
+  unfolding started
+  started_sound moment script application sound =
+      outcome_sound (start_meaning script (state_at answer moment application)) application (start_sound script (state_at answer moment application) sound)
+
+  settled_sound : (moment : ℕ) (application : Application M) → RunsSound application → RunsSound (settled answer moment application)
+  unfolding settled
+  settled_sound moment application sound = by application.state refl
+    where
+      by : (s : AppState) → application.state ≡ s → RunsSound (settled_as answer s moment application)
+      by Running is = outcome_sound (settle_meaning (state_at answer moment application)) application ((keeps_sound 200 (state_at answer moment application) (sound is)).1 settling)
+      by Exhausted is = sound
+      by Closed is = sound
+
+  delivered_sound : (event : LocalEvent) (application : Application M) → RunsSound application → RunsSound (delivered event application)
+  unfolding delivered
+  delivered_sound event application sound = by application.state refl
+    where
+      by : (s : AppState) → application.state ≡ s → RunsSound (delivered_as s event application)
+      by Running is = λ runs. subst IsSound (sym (given_tree event (panel_at event.moment application))) (sound is)
+      by Exhausted is = sound
+      by Closed is = sound
+
+  pub stays_sound : StaysSound answer
+  stays_sound = record {
+    fresh = λ spec runs. first_sound spec.name (spec.width, spec.height);
+    started = started_sound;
+    delivered = delivered_sound;
+    settled = settled_sound;
+  }

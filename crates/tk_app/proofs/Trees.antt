@@ -1,0 +1,268 @@
+-- What commands and jobs do to the windows of an application: a few acts, one after another.
+use Rattle.std.proofs.Common.{◌≡◌, ℕ, Bool, true, false, cond, List, [], ◌∷◌, Option, Some, None, refl, sym, subst}
+use Rattle.std.specs.Prelude.{codes, length, ◌==◌}
+use Rattle.std.specs.Str.{bytes_eq}
+use Rattle.tcl_vars.specs.Store.{Store}
+use Rattle.tcl_control.specs.declared.code.Code.{Code}
+use Rattle.tcl_control.specs.declared.code.Code.TheVariants.{Normal, Error, Return, Break, Continue}
+use Rattle.tk_after.specs.declared.entry.Entry.{Entry}
+use Rattle.tk_after.specs.Timers.{first_due, idle_ids}
+use Rattle.tk_base.specs.declared.kind.Kind.{Kind}
+use Rattle.tk_base.specs.declared.rect.Rect.{Rect}
+use Rattle.tk_packer.specs.declared.changes.PlaceChange.{PlaceChange}
+use Rattle.tk_packer.specs.declared.changes.PlaceChange.TheVariants.{Unmap, Configure, Map}
+use Rattle.tk_screen.specs.Layout.{changes_due, laid_out}
+use Rattle.tk_screen.specs.Own.{Own as Screen}
+use Rattle.tk_screen.specs.Placing.{mapped_as, placed_at, with_changed, with_changes}
+use Rattle.tk_tree.specs.Change.{dying, with_place}
+use Rattle.tk_tree.specs.Create.{parent_number, refusal, with_window}
+use Rattle.tk_tree.specs.declared.window.Window.{Window}
+use Rattle.tk_tree.specs.Own.{Own as Tree, child_numbers, window_at, with_change, without_window}
+use Rattle.tk_panel.specs.declared.job.Home.{Home}
+use Rattle.tk_panel.specs.declared.job.Home.TheVariants.{Settle, Update, IdleTasks, LastLayout}
+use Rattle.tk_panel.specs.declared.job.Job.{Job}
+use Rattle.tk_panel.specs.declared.job.Rest.{Rest}
+use Rattle.tk_panel.specs.declared.job.Rest.TheVariants.{Ends as NoRest, Destroys, Rounds}
+use Rattle.tk_panel.specs.Changes.{laid_out as laid_out_panel}
+use Rattle.tk_panel.specs.Destroy.{Doomed, all_dying, destroy_at, destroy_chosen, destroy_event, destroys, doomed_by, doomed_next, marked, next_doomed, on_doomed, or_removed, removed, removed_at, without_last, without_path}
+use Rattle.tk_panel.specs.Next.{next, next_event, next_rest}
+use Rattle.tk_panel.specs.Panel.{Panel}
+use Rattle.tk_panel.specs.Settle.{Next, after_layout, after_round, at_home, drained, idle_round, is_closed, is_due, on_event, on_round, on_timer, queue_or_round, still_waiting, tasks_round, turn}
+use Rattle.tk_panel.specs.Start.{start, start_event, start_rest, timer_taken}
+use Rattle.tk_commands.specs.Course.{bound_ended, ended, ended_by, with_end}
+use Rattle.tk_app.proofs.Panels.{chosen_screen, drained_screen, laid_screen}
+
+-- a change that leaves a window its number and its parent, and doesn't let it live again
+pub record KeepsPlace (change : Window → Window) : Type 0 where
+  pub number : (window : Window) → (change window).number ≡ window.number
+  pub parent : (window : Window) → (change window).parent ≡ window.parent
+  pub dying : (window : Window) → window.dying ≡ true → (change window).dying ≡ true
+
+-- what holds of each of these acts, and of one after another
+pub record HoldsOfActs (Q : Tree → Tree → Type 0) : Type 0 where
+  pub same : (tree : Tree) → Q tree tree
+  pub after : (first mid last : Tree) → Q first mid → Q mid last → Q first last
+  pub changed : (number : ℕ) (change : Window → Window) (tree : Tree) → KeepsPlace change → Q tree (with_change number change tree)
+  pub gone : (number : ℕ) (tree : Tree) → Q tree (without_window number tree)
+  pub made : (path : List ℕ) (kind : Kind) (tree : Tree) → bytes_eq path (codes ".") ≡ false → refusal path tree ≡ None → Q tree (with_window path kind (parent_number path tree) tree)
+
+-- ── what leaves the screen ──
+
+timer_screen : (rest : Rest) (panel : Panel) (entry : Option Entry) → (timer_taken rest panel entry).0.screen ≡ panel.screen
+timer_screen rest panel None = refl
+timer_screen rest panel (Some entry) = refl
+
+rest_screen : (rest : Rest) (panel : Panel) → (start_rest rest panel).0.screen ≡ panel.screen
+rest_screen NoRest panel = refl
+rest_screen (Destroys window doomed paths) panel = refl
+rest_screen (Rounds [] home) panel = timer_screen (Rounds [] home) panel (first_due panel.moment panel.timers.entries)
+rest_screen (Rounds (id ∷ ids) home) panel = refl
+
+event_screen : (event : Option (List (List ℕ))) (rest : Rest) (panel : Panel) → (start_event event rest panel).0.screen ≡ panel.screen
+event_screen (Some (script ∷ scripts)) rest panel = refl
+event_screen (Some []) rest panel = rest_screen rest panel
+event_screen None rest panel = rest_screen rest panel
+
+pub start_screen : (job : Job) (panel : Panel) → (start job panel).0.screen ≡ panel.screen
+start_screen job panel = event_screen job.event job.rest panel
+
+pub end_screen : (code : Code) (text : List ℕ) (panel : Panel) → (with_end code text panel).screen ≡ panel.screen
+end_screen Normal text panel = refl
+end_screen Error text panel = refl
+end_screen (Return code) text panel = refl
+end_screen Break text panel = refl
+end_screen Continue text panel = refl
+
+bound_screen : (code : Code) (text : List ℕ) (scripts : List (List ℕ)) (rest : Rest) (panel : Panel) → (bound_ended code text scripts rest panel).0.screen ≡ panel.screen
+bound_screen Normal text scripts rest panel = refl
+bound_screen Error text scripts rest panel = refl
+bound_screen (Return code) text scripts rest panel = refl
+bound_screen Break text scripts rest panel = refl
+bound_screen Continue text scripts rest panel = refl
+
+by_event : (event : Option (List (List ℕ))) (rest : Rest) (code : Code) (text : List ℕ) (panel : Panel) → (ended_by event rest code text panel).0.screen ≡ panel.screen
+by_event (Some scripts) rest code text panel = bound_screen code text scripts rest panel
+by_event None rest code text panel = end_screen code text panel
+
+pub ended_screen : (code : Code) (text : List ℕ) (panel : Panel) (job : Job) → (ended code text panel job).0.screen ≡ panel.screen
+ended_screen code text panel job = by_event job.event job.rest code text panel
+
+destroy_screen : (panel : Panel) (window : Option Window) → (destroy_at panel window).0.screen ≡ panel.screen
+destroy_screen panel None = refl
+destroy_screen panel (Some window) = chosen_screen (destroy_event window panel.moment) panel
+
+module _ (Q : Tree → Tree → Type 0) (acts : HoldsOfActs Q) where
+  -- ── layout ──
+
+  mapped : (number : ℕ) (is_mapped : Bool) (found : Option Window) (tree : Tree) → Q tree (mapped_as number is_mapped found tree)
+  mapped number is_mapped None tree = acts.same tree
+  mapped number is_mapped (Some window) tree =
+      acts.changed number (with_place window.place is_mapped) tree (record { number = λ w. refl; parent = λ w. refl; dying = λ w is. is })
+
+  placed : (number : ℕ) (place : Rect) (found : Option Window) (tree : Tree) → Q tree (placed_at number place found tree)
+  placed number place None tree = acts.same tree
+  placed number place (Some window) tree =
+      acts.changed number (with_place place window.mapped) tree (record { number = λ w. refl; parent = λ w. refl; dying = λ w is. is })
+
+  one_changed : (change : PlaceChange) (tree : Tree) → Q tree (with_changed change tree)
+  one_changed (Unmap number) tree = mapped number false (window_at number tree) tree
+  one_changed (Configure number place) tree = placed number place (window_at number tree) tree
+  one_changed (Map number) tree = mapped number true (window_at number tree) tree
+
+  all_changed : (changes : List PlaceChange) (tree : Tree) → Q tree (with_changes changes tree)
+  unfolding with_changes
+  all_changed [] tree = acts.same tree
+  all_changed (change ∷ changes) tree =
+      acts.after tree (with_changed change tree) (with_changes changes (with_changed change tree)) (one_changed change tree) (all_changed changes (with_changed change tree))
+
+  laid_tree : (own : Screen) (store : Store) → Q own.tree (laid_out own store).tree
+  unfolding laid_out
+  laid_tree own store = all_changed (changes_due own store) own.tree
+
+  -- from one panel to another
+  abbrev pub Acts : Panel → Panel → Type 0
+  Acts old new = Q old.screen.tree new.screen.tree
+
+  pub by_screen : (old new : Panel) → new.screen ≡ old.screen → Acts old new
+  by_screen old new same = subst (λ (screen : Screen). Q old.screen.tree screen.tree) (sym same) (acts.same old.screen.tree)
+
+  pub both : (first mid last : Panel) → Acts first mid → Acts mid last → Acts first last
+  both first mid last one other = acts.after first.screen.tree mid.screen.tree last.screen.tree one other
+
+  pub laid : (store : Store) (panel : Panel) → Acts panel (laid_out_panel store panel)
+  laid store panel = subst (λ (screen : Screen). Q panel.screen.tree screen.tree) (sym (laid_screen store panel)) (laid_tree panel.screen store)
+
+  -- ── *Destroy* ──
+
+  pub removed_acts : (number : ℕ) (panel : Panel) → Acts panel (removed number panel)
+  unfolding removed
+  removed_acts number panel = by (window_at number panel.screen.tree)
+    where
+      leaf : (window : Window) (b : Bool) → Acts panel (cond b (without_path number window.path panel) panel)
+      leaf window true = acts.gone number panel.screen.tree
+      leaf window false = acts.same panel.screen.tree
+
+      by : (window : Option Window) → Acts panel (removed_at number panel window)
+      by None = acts.same panel.screen.tree
+      by (Some window) = leaf window (length (child_numbers number panel.screen.tree.windows) == 0)
+
+  pub dying_acts : (numbers : List ℕ) (tree : Tree) → Q tree (all_dying numbers tree)
+  unfolding all_dying
+  dying_acts [] tree = acts.same tree
+  dying_acts (number ∷ numbers) tree =
+      acts.after tree (with_change number dying tree) (all_dying numbers (with_change number dying tree))
+      (acts.changed number dying tree (record { number = λ w. refl; parent = λ w. refl; dying = λ w is. refl }))
+      (dying_acts numbers (with_change number dying tree))
+
+  pub marked_acts : (numbers : List ℕ) (panel : Panel) → Acts panel (marked numbers panel)
+  marked_acts numbers panel = dying_acts numbers panel.screen.tree
+
+  doomed_acts : (numbers : List ℕ) (panel : Panel) → Acts panel (next_doomed numbers panel).panel
+  unfolding next_doomed
+  doomed_acts [] panel = acts.same panel.screen.tree
+  doomed_acts (number ∷ numbers) panel =
+      let there : Panel × List (List ℕ) = destroy_chosen number panel in
+      by there.1 there.0 (destroy_screen panel (window_at number panel.screen.tree)) (doomed_acts numbers (removed number there.0))
+    where
+      by : (scripts : List (List ℕ)) (after : Panel) → after.screen ≡ panel.screen → Acts (removed number after) (next_doomed numbers (removed number after)).panel
+          → Acts panel (or_removed number numbers (next_doomed numbers) after scripts).panel
+      by [] after one later =
+          both panel after (next_doomed numbers (removed number after)).panel (by_screen panel after one)
+          (both after (removed number after) (next_doomed numbers (removed number after)).panel (removed_acts number after) later)
+      by (script ∷ scripts) after one later = by_screen panel after one
+
+  -- ── what comes next of a job ──
+
+  abbrev Comes : Panel → Next → Type 0
+  Comes panel there = Acts panel there.0
+
+  doomed_comes : (paths : List (List ℕ)) (later : Panel → Next) → ((panel : Panel) → Comes panel (later panel)) → (numbers : List ℕ) (panel : Panel) → Comes panel (doomed_next paths later numbers panel)
+  doomed_comes paths later rest numbers panel = let doomed : Doomed = next_doomed numbers panel in by doomed.panel doomed.rest doomed.found (doomed_acts numbers panel)
+    where
+      by : (after : Panel) (left : List ℕ) (found : Option (ℕ × List (List ℕ))) → Acts panel after → Comes panel (on_doomed paths later after left found)
+      by after left None one = both panel after (later after).0 one (rest after)
+      by after left (Some found) one = one
+
+  destroys_come : (paths : List (List ℕ)) (panel : Panel) → Comes panel (destroys paths panel)
+  unfolding destroys
+  destroys_come [] panel = acts.same panel.screen.tree
+  destroys_come (path ∷ paths) panel =
+      let numbers : List ℕ = doomed_by path panel in
+      both panel (marked numbers panel) (doomed_next paths (destroys paths) numbers (marked numbers panel)).0 (marked_acts numbers panel)
+      (doomed_comes paths (destroys paths) (destroys_come paths) numbers (marked numbers panel))
+
+  last_acts : (window : Option ℕ) (panel : Panel) → Acts panel (without_last window panel)
+  last_acts None panel = acts.same panel.screen.tree
+  last_acts (Some number) panel = removed_acts number panel
+
+  round_comes : (home : Home) (ids : List ℕ) (panel : Panel) → Comes panel (on_round home ids panel)
+  round_comes home [] panel = acts.same panel.screen.tree
+  round_comes home (id ∷ ids) panel = acts.same panel.screen.tree
+
+  event_comes : (home : Home) (otherwise : Panel → Next) → ((panel : Panel) → Comes panel (otherwise panel)) → (panel : Panel) (scripts : List (List ℕ)) → Comes panel (on_event home otherwise panel scripts)
+  event_comes home otherwise later panel [] = later panel
+  event_comes home otherwise later panel (script ∷ scripts) = acts.same panel.screen.tree
+
+  layout_comes : (home : Home) (store : Store) (panel : Panel) → Comes panel (after_layout home store panel)
+  unfolding queue_or_round
+  layout_comes home store panel =
+      let l : Panel = laid_out_panel store panel in
+      let there : Panel × List (List ℕ) = drained l.queue l in
+      both panel l (on_event home (idle_round home) there.0 there.1).0 (laid store panel)
+      (both l there.0 (on_event home (idle_round home) there.0 there.1).0 (by_screen l there.0 (drained_screen l.queue l))
+      (event_comes home (idle_round home) (λ panel. round_comes home (idle_ids panel.timers.entries) panel) there.0 there.1))
+
+  timer_comes : (home : Home) (store : Store) (panel : Panel) → Comes panel (on_timer home (after_layout home store) panel)
+  timer_comes home store panel = by (is_due panel.moment panel.timers.entries)
+    where
+      by : (b : Bool) → Comes panel (cond b (panel, Some (record { event = None; rest = Rounds [] home })) (after_layout home store panel))
+      by true = acts.same panel.screen.tree
+      by false = layout_comes home store panel
+
+  turn_comes : (home : Home) (store : Store) (panel : Panel) → Comes panel (turn home store panel)
+  unfolding turn
+  turn_comes home store panel =
+      let there : Panel × List (List ℕ) = drained panel.queue panel in
+      both panel there.0 (on_event home (on_timer home (after_layout home store)) there.0 there.1).0 (by_screen panel there.0 (drained_screen panel.queue panel))
+      (event_comes home (on_timer home (after_layout home store)) (timer_comes home store) there.0 there.1)
+
+  tasks_come : (store : Store) (ids : List ℕ) (panel : Panel) → Comes panel (tasks_round store ids panel)
+  tasks_come store [] panel = laid store panel
+  tasks_come store (id ∷ ids) panel = acts.same panel.screen.tree
+
+  home_comes : (home : Home) (store : Store) (panel : Panel) → Comes panel (at_home home store panel)
+  home_comes Settle store panel = by (is_closed panel)
+    where
+      by : (b : Bool) → Comes panel (cond b (panel, None) (turn Settle store panel))
+      by true = acts.same panel.screen.tree
+      by false = turn_comes Settle store panel
+  home_comes Update store panel = turn_comes Update store panel
+  home_comes IdleTasks store panel =
+      let l : Panel = laid_out_panel store panel in
+      both panel l (tasks_round store (idle_ids l.timers.entries) l).0 (laid store panel) (tasks_come store (idle_ids l.timers.entries) l)
+  home_comes LastLayout store panel = laid store panel
+
+  left_comes : (home : Home) (store : Store) (ids : List ℕ) (panel : Panel) → Comes panel (after_round home store ids panel)
+  left_comes home store [] panel = home_comes home store panel
+  left_comes home store (id ∷ ids) panel = acts.same panel.screen.tree
+
+  rest_comes : (rest : Rest) (store : Store) (panel : Panel) → Comes panel (next_rest rest store panel)
+  rest_comes NoRest store panel = acts.same panel.screen.tree
+  rest_comes (Destroys window doomed paths) store panel =
+      both panel (without_last window panel) (doomed_next paths (destroys paths) doomed (without_last window panel)).0 (last_acts window panel)
+      (doomed_comes paths (destroys paths) (destroys_come paths) doomed (without_last window panel))
+  rest_comes (Rounds ids home) store panel = left_comes home store (still_waiting ids panel.timers.entries) panel
+
+  by_next : (event : Option (List (List ℕ))) (rest : Rest) (store : Store) (panel : Panel) → Comes panel (next_event event rest store panel)
+  by_next (Some (script ∷ scripts)) rest store panel = acts.same panel.screen.tree
+  by_next (Some []) rest store panel = rest_comes rest store panel
+  by_next None rest store panel = rest_comes rest store panel
+
+  pub next_acts : (job : Job) (store : Store) (panel : Panel) → Acts panel (next job store panel).0
+  next_acts job store panel = by_next job.event job.rest store panel
+
+  pub start_acts : (job : Job) (panel : Panel) → Acts panel (start job panel).0
+  start_acts job panel = by_screen panel (start job panel).0 (start_screen job panel)
+
+  pub ended_acts : (code : Code) (text : List ℕ) (panel : Panel) (job : Job) → Acts panel (ended code text panel job).0
+  ended_acts code text panel job = by_screen panel (ended code text panel job).0 (ended_screen code text panel job)

@@ -1,44 +1,16 @@
 -- Meaning. What `pack info`, `pack propagate` and `pack slaves` tell.
-use Rattle.std.specs.Prelude.{ℕ, Bool, ◌==◌, if◌then◌else◌, List, [], ◌∷◌, ◌++◌, Option, None, Some, codes}
+use Rattle.std.specs.Prelude.{ℕ, Bool, ◌==◌, if◌then◌else◌, List, [], ◌∷◌, ◌++◌, Option, None, Some, option_map, codes}
 use Rattle.std.specs.Fmt.{decimal}
 use Rattle.std.specs.List.{flat_map}
+use Rattle.std.specs.Option.{option_to_list}
 use Rattle.tcl_text.specs.Answers.{Answer, answers}
 use Rattle.tcl_text.specs.Readings.{list_form}
 use Rattle.tk_packer.specs.declared.packed.Packed.{Packed}
-use Rattle.tk_packer.specs.declared.request.Anchor.{Anchor}
-use Rattle.tk_packer.specs.declared.request.Anchor.TheVariants.{Center, N, Ne, E, Se, S, Sw, W, Nw}
-use Rattle.tk_packer.specs.declared.request.Fill.{Fill}
-use Rattle.tk_packer.specs.declared.request.Fill.TheVariants.{None as Neither, X, Y, Both}
 use Rattle.tk_packer.specs.declared.request.Pads.{Pads}
 use Rattle.tk_packer.specs.declared.request.Request.{Request}
-use Rattle.tk_packer.specs.declared.request.Side.{Side}
-use Rattle.tk_packer.specs.declared.request.Side.TheVariants.{Top, Bottom, Left, Right}
 use Rattle.tk_tree.specs.Own.{Own as Tree, window_at}
-use Rattle.tk_tree.specs.declared.window.Window.{Window}
 use Rattle.tk_pack_commands.specs.Faults.{not_packed}
-
-abbrev pub side_word : Side → List ℕ
-side_word Top = codes "top"
-side_word Bottom = codes "bottom"
-side_word Left = codes "left"
-side_word Right = codes "right"
-
-abbrev pub anchor_word : Anchor → List ℕ
-anchor_word Center = codes "center"
-anchor_word N = codes "n"
-anchor_word Ne = codes "ne"
-anchor_word E = codes "e"
-anchor_word Se = codes "se"
-anchor_word S = codes "s"
-anchor_word Sw = codes "sw"
-anchor_word W = codes "w"
-anchor_word Nw = codes "nw"
-
-abbrev pub fill_word : Fill → List ℕ
-fill_word Neither = codes "none"
-fill_word X = codes "x"
-fill_word Y = codes "y"
-fill_word Both = codes "both"
+use Rattle.tk_pack_commands.specs.Values.{anchor_word, fill_word, side_word}
 
 abbrev pub truth_word : Bool → List ℕ
 truth_word truth = if truth then codes "1" else codes "0"
@@ -65,13 +37,9 @@ abbrev pub info_of : List ℕ → Option Request → Answer
 info_of path None = not_packed path
 info_of path (Some request) = answers (list_form (request_words request))
 
--- the paths of packed windows, in order
-abbrev pub path_or_none : Option Window → List (List ℕ)
-path_or_none (Some window) = window.path ∷ []
-path_or_none None = []
-
+-- the paths of packed windows that are there, in order
 abbrev pub path_at : Tree → ℕ → List (List ℕ)
-path_at tree number = path_or_none (window_at number tree)
+path_at tree number = option_to_list (option_map (λ window. window.path) (window_at number tree))
 
 abbrev pub paths_of : Tree → List Packed → List (List ℕ)
 paths_of tree packs = flat_map (λ packed. path_at tree packed.number) packs

@@ -1,65 +1,63 @@
--- Meaning. The options of `pack configure`: which one a word is, and what its value asks for.
-use Rattle.std.specs.Prelude.{ℕ, Bool, true, false, ◌==◌, if◌then◌else◌, List, [], ◌∷◌, Option, None, Some, option_map, unwrap_or, is_some, Result, Ok, codes}
+-- Meaning. The options of `pack configure`: which one a word is, what it sets with its value, and what a request is with the settings made.
+use Rattle.std.specs.Prelude.{ℕ, Bool, true, false, ◌==◌, if◌then◌else◌, List, [], ◌∷◌, find, fold, Option, None, Some, option_map, is_some, Result, Ok, codes}
 use Rattle.std.specs.List.{list_all}
+use Rattle.std.specs.Option.{option_or}
 use Rattle.std.specs.Str.{bytes_eq}
 use Rattle.tcl_text.specs.Answers.{◌>>=◌}
 use Rattle.tcl_text.specs.Readings.{boolean_of}
 use Rattle.tk_options.specs.Forms.{amount_in}
 use Rattle.tk_packer.specs.Packs.{Own as Packs, request_in}
-use Rattle.tk_packer.specs.declared.request.Pads.{Pads}
 use Rattle.tk_packer.specs.declared.request.Request.{Request}
 use Rattle.tk_tree.specs.Own.{Own as Tree}
-use Rattle.tk_pack_commands.specs.declared.asked.PackRequest.{PackRequest}
-use Rattle.tk_pack_commands.specs.declared.asked.PackOption.{PackOption}
-use Rattle.tk_pack_commands.specs.declared.asked.PackOption.TheVariants.{Side, Anchor, Fill, Expand, Padx, Pady, Ipadx, Ipady, After, Before}
+use Rattle.tk_pack_commands.specs.declared.settings.Beside.{Beside}
+use Rattle.tk_pack_commands.specs.declared.settings.PackOption.{PackOption}
+use Rattle.tk_pack_commands.specs.declared.settings.PackOption.TheVariants.{Side, Anchor, Fill, Expand, Padx, Pady, Ipadx, Ipady, After, Before}
+use Rattle.tk_pack_commands.specs.declared.settings.PackSetting.{PackSetting}
+use Rattle.tk_pack_commands.specs.declared.settings.PackSetting.TheVariants as set
 use Rattle.tk_pack_commands.specs.declared.targets.Found.{Found}
 use Rattle.tk_pack_commands.specs.declared.targets.Target.{Target}
 use Rattle.tk_pack_commands.specs.Faults.{not_packed, not_sibling, unknown_option, bad_value, no_value}
 use Rattle.tk_pack_commands.specs.Targets.{window_in}
 use Rattle.tk_pack_commands.specs.Values.{side_in, anchor_in, fill_in, pads_in}
 
+-- ---- the options
+
+abbrev pub option_name : PackOption → List ℕ
+option_name Side = codes "-side"
+option_name Anchor = codes "-anchor"
+option_name Fill = codes "-fill"
+option_name Expand = codes "-expand"
+option_name Padx = codes "-padx"
+option_name Pady = codes "-pady"
+option_name Ipadx = codes "-ipadx"
+option_name Ipady = codes "-ipady"
+option_name After = codes "-after"
+option_name Before = codes "-before"
+
+abbrev pub options : List PackOption
+options = Side ∷ Anchor ∷ Fill ∷ Expand ∷ Padx ∷ Pady ∷ Ipadx ∷ Ipady ∷ After ∷ Before ∷ []
+
 -- names are not abbreviated
 unfoldable pub option_named : List ℕ → Option PackOption
-option_named name =
-    if bytes_eq name (codes "-side") then Some Side
-    else (if bytes_eq name (codes "-anchor") then Some Anchor
-    else (if bytes_eq name (codes "-fill") then Some Fill
-    else (if bytes_eq name (codes "-expand") then Some Expand
-    else (if bytes_eq name (codes "-padx") then Some Padx
-    else (if bytes_eq name (codes "-pady") then Some Pady
-    else (if bytes_eq name (codes "-ipadx") then Some Ipadx
-    else (if bytes_eq name (codes "-ipady") then Some Ipady
-    else (if bytes_eq name (codes "-after") then Some After
-    else (if bytes_eq name (codes "-before") then Some Before
-    else None)))))))))
-
--- nothing is asked for yet
-abbrev pub nothing_asked : PackRequest
-nothing_asked = record { side = None; anchor = None; fill = None; expand = None; padx = None; pady = None; ipadx = None; ipady = None; beside = None }
+option_named name = find (λ option. bytes_eq name (option_name option)) options
 
 -- ---- how a window is packed
 
-abbrev pub with_padx : Option Pads → PackRequest → Option PackRequest
-with_padx pads asked = option_map (λ padx. record asked { padx = Some padx }) pads
+-- what an option sets with a value, if it takes the value; those that name a window are read by themselves
+abbrev pub setting_of : PackOption → List ℕ → Option PackSetting
+setting_of Side value = option_map set.Side (side_in value)
+setting_of Anchor value = option_map set.Anchor (anchor_in value)
+setting_of Fill value = option_map set.Fill (fill_in value)
+setting_of Expand value = option_map set.Expand (boolean_of value)
+setting_of Padx value = option_map set.Padx (pads_in value)
+setting_of Pady value = option_map set.Pady (pads_in value)
+setting_of Ipadx value = option_map set.Ipadx (amount_in value)
+setting_of Ipady value = option_map set.Ipady (amount_in value)
+setting_of After value = None
+setting_of Before value = None
 
-abbrev pub with_pady : Option Pads → PackRequest → Option PackRequest
-with_pady pads asked = option_map (λ pady. record asked { pady = Some pady }) pads
-
--- what is asked for with this value for an option, if it takes it
-abbrev pub with_value : PackOption → List ℕ → PackRequest → Option PackRequest
-with_value Side value asked = option_map (λ side. record asked { side = Some side }) (side_in value)
-with_value Anchor value asked = option_map (λ anchor. record asked { anchor = Some anchor }) (anchor_in value)
-with_value Fill value asked = option_map (λ fill. record asked { fill = Some fill }) (fill_in value)
-with_value Expand value asked = option_map (λ expand. record asked { expand = Some expand }) (boolean_of value)
-with_value Padx value asked = with_padx (pads_in value) asked
-with_value Pady value asked = with_pady (pads_in value) asked
-with_value Ipadx value asked = option_map (λ ipadx. record asked { ipadx = Some ipadx }) (amount_in value)
-with_value Ipady value asked = option_map (λ ipady. record asked { ipady = Some ipady }) (amount_in value)
-with_value After value asked = None
-with_value Before value asked = None
-
-abbrev pub or_bad : List ℕ → List ℕ → Option PackRequest → Result PackRequest (List ℕ)
-or_bad name value (Some asked) = Ok asked
+abbrev pub or_bad : List ℕ → List ℕ → Option PackSetting → Result PackSetting (List ℕ)
+or_bad name value (Some setting) = Ok setting
 or_bad name value None = bad_value value name
 
 -- ---- beside which window it is packed
@@ -81,53 +79,65 @@ sibling_in path targets tree packs = do
   found ← window_in path tree
   if_sibling path targets packs found
 
-abbrev pub with_beside : Bool → List ℕ → List Target → Tree → Packs → PackRequest → Result PackRequest (List ℕ)
-with_beside after path targets tree packs asked = do
+abbrev pub beside_in : Bool → List ℕ → List Target → Tree → Packs → Result PackSetting (List ℕ)
+beside_in after path targets tree packs = do
   number ← sibling_in path targets tree packs
-  Ok (record asked { beside = Some (record { number = number; after = after }) })
+  Ok (set.Beside (record { number = number; after = after }))
 
--- ---- options and their values, from left to right; of one that is named twice the last counts
+-- ---- options and their values, from left to right
 
-abbrev pub with_option : PackOption → List ℕ → List ℕ → List Target → Tree → Packs → PackRequest → Result PackRequest (List ℕ)
-with_option After name value targets tree packs asked = with_beside true value targets tree packs asked
-with_option Before name value targets tree packs asked = with_beside false value targets tree packs asked
-with_option option name value targets tree packs asked = or_bad name value (with_value option value asked)
+abbrev pub setting_for : PackOption → List ℕ → List ℕ → List Target → Tree → Packs → Result PackSetting (List ℕ)
+setting_for After name value targets tree packs = beside_in true value targets tree packs
+setting_for Before name value targets tree packs = beside_in false value targets tree packs
+setting_for option name value targets tree packs = or_bad name value (setting_of option value)
 
 abbrev pub known : List ℕ → Option PackOption → Result PackOption (List ℕ)
 known name (Some option) = Ok option
 known name None = unknown_option name
 
-unfoldable pub with_named : List ℕ → List ℕ → List Target → Tree → Packs → PackRequest → Result PackRequest (List ℕ)
-with_named name value targets tree packs asked = do
+unfoldable pub setting_in : List ℕ → List ℕ → List Target → Tree → Packs → Result PackSetting (List ℕ)
+setting_in name value targets tree packs = do
   option ← known name (option_named name)
-  with_option option name value targets tree packs asked
+  setting_for option name value targets tree packs
 
 -- the last may lack its value
-unfoldable pub without_value : List ℕ → Result PackRequest (List ℕ)
+unfoldable pub without_value : {T : Type 0} → List ℕ → Result T (List ℕ)
 without_value name = do
   _ ← known name (option_named name)
   no_value name
 
-abbrev pub options_in : List (List ℕ) → List Target → Tree → Packs → PackRequest → Result PackRequest (List ℕ)
-options_in [] targets tree packs asked = Ok asked
-options_in (name ∷ []) targets tree packs asked = without_value name
-options_in (name ∷ value ∷ words) targets tree packs asked = do
-  more ← with_named name value targets tree packs asked
-  options_in words targets tree packs more
+-- one setting for each option and its value, tested in their order
+abbrev pub settings_in : List (List ℕ) → List Target → Tree → Packs → Result (List PackSetting) (List ℕ)
+settings_in [] targets tree packs = Ok []
+settings_in (name ∷ []) targets tree packs = without_value name
+settings_in (name ∷ value ∷ words) targets tree packs = do
+  first ← setting_in name value targets tree packs
+  others ← settings_in words targets tree packs
+  Ok (first ∷ others)
 
--- ---- the request
+-- ---- the settings made
 
--- a request with what is asked for, the rest as it was
-unfoldable pub asked_request : PackRequest → Request → Request
-asked_request asked request = record {
-  width = request.width;
-  height = request.height;
-  side = unwrap_or asked.side request.side;
-  anchor = unwrap_or asked.anchor request.anchor;
-  fill = unwrap_or asked.fill request.fill;
-  expand = unwrap_or asked.expand request.expand;
-  padx = unwrap_or asked.padx request.padx;
-  pady = unwrap_or asked.pady request.pady;
-  ipadx = unwrap_or asked.ipadx request.ipadx;
-  ipady = unwrap_or asked.ipady request.ipady;
-}
+-- a request with a setting made
+abbrev pub with_setting : Request → PackSetting → Request
+with_setting request (set.Side side) = record request { side = side }
+with_setting request (set.Anchor anchor) = record request { anchor = anchor }
+with_setting request (set.Fill fill) = record request { fill = fill }
+with_setting request (set.Expand expand) = record request { expand = expand }
+with_setting request (set.Padx pads) = record request { padx = pads }
+with_setting request (set.Pady pads) = record request { pady = pads }
+with_setting request (set.Ipadx amount) = record request { ipadx = amount }
+with_setting request (set.Ipady amount) = record request { ipady = amount }
+with_setting request (set.Beside beside) = request
+
+-- one after another, so that of an option that is named twice the last counts, and one that isn't named stays as it was
+abbrev pub with_settings : List PackSetting → Request → Request
+with_settings settings request = fold with_setting request settings
+
+-- the window that a setting names to stand beside
+abbrev pub sibling_of : PackSetting → Option Beside
+sibling_of (set.Beside beside) = Some beside
+sibling_of _ = None
+
+-- the last that one of the settings names, or else the one that was named before
+abbrev pub last_sibling : Option Beside → List PackSetting → Option Beside
+last_sibling named settings = fold (λ named setting. option_or (sibling_of setting) named) named settings

@@ -5,14 +5,14 @@ use Rattle.tcl_text.specs.Answers.{Answer, ◌>>=◌, answers, truth, wrong_args
 use Rattle.tcl_text.specs.Readings.{boolean_of, list_form}
 use Rattle.tk_packer.specs.Packs.{Own as Packs, slaves_of, request_in, propagates_in, with_propagation, without_packed}
 use Rattle.tk_tree.specs.Own.{Own as Tree, at_path}
-use Rattle.tk_pack_commands.specs.declared.asked.PackRequest.{PackRequest}
 use Rattle.tk_pack_commands.specs.declared.pack.PackQuestion.{PackQuestion}
 use Rattle.tk_pack_commands.specs.declared.pack.PackQuestion.TheVariants.{Info, Slaves}
+use Rattle.tk_pack_commands.specs.declared.settings.PackSetting.{PackSetting}
 use Rattle.tk_pack_commands.specs.declared.targets.Found.{Found}
 use Rattle.tk_pack_commands.specs.declared.targets.Target.{Target}
 use Rattle.tk_pack_commands.specs.Faults.{not_boolean}
 use Rattle.tk_pack_commands.specs.Info.{info_of, paths_of}
-use Rattle.tk_pack_commands.specs.Options.{nothing_asked, options_in}
+use Rattle.tk_pack_commands.specs.Options.{last_sibling, settings_in}
 use Rattle.tk_pack_commands.specs.Places.{packed_all}
 use Rattle.tk_pack_commands.specs.Targets.{begins_path, found_of, path_count, window_in, targets_in}
 
@@ -22,21 +22,21 @@ Told = Packs × Answer
 
 -- ---- pack ?configure? path ?path ..? ?option value ..?
 
--- the windows that are to be packed, and what is asked for
+-- the windows that are to be packed, and what the options set
 pub record Planned : Type 0 where
   pub targets : List Target
-  pub asked : PackRequest
+  pub settings : List PackSetting
 
 -- all words tested, before anything is packed
 unfoldable pub plan_in : List (List ℕ) → Tree → Packs → Result Planned (List ℕ)
 plan_in words tree packs = do
   targets ← targets_in (take (path_count words) words) tree
-  asked ← options_in (drop (path_count words) words) targets tree packs nothing_asked
-  Ok (record { targets = targets; asked = asked })
+  settings ← settings_in (drop (path_count words) words) targets tree packs
+  Ok (record { targets = targets; settings = settings })
 
 abbrev pub packed_by : Result Planned (List ℕ) → Packs → Told
 packed_by (Err text) packs = (packs, Err text)
-packed_by (Ok plan) packs = (packed_all plan.asked plan.asked.beside plan.targets packs, Ok [])
+packed_by (Ok plan) packs = (packed_all plan.settings (last_sibling None plan.settings) plan.targets packs, Ok [])
 
 abbrev pub configure_words : List (List ℕ) → Tree → Packs → Told
 configure_words [] tree packs = (packs, wrong_args (codes "pack ?configure? path ?path ..? ?option value ..?"))

@@ -5,10 +5,10 @@ use Rattle.tk_packer.specs.Packs.{Own as Packs, slaves_of, without, request_in, 
 use Rattle.tk_packer.specs.declared.packed.Packed.{Packed}
 use Rattle.tk_packer.specs.Ask.{default_request}
 use Rattle.tk_packer.specs.declared.request.Request.{Request}
-use Rattle.tk_pack_commands.specs.declared.asked.PackRequest.{PackRequest}
-use Rattle.tk_pack_commands.specs.declared.asked.Beside.{Beside}
+use Rattle.tk_pack_commands.specs.declared.settings.Beside.{Beside}
+use Rattle.tk_pack_commands.specs.declared.settings.PackSetting.{PackSetting}
 use Rattle.tk_pack_commands.specs.declared.targets.Target.{Target}
-use Rattle.tk_pack_commands.specs.Options.{asked_request}
+use Rattle.tk_pack_commands.specs.Options.{with_settings}
 
 -- the place of a window among slaves; the end where it is none of them
 abbrev pub place_of : ℕ → List Packed → ℕ
@@ -27,15 +27,15 @@ abbrev pub request_or_default : ℕ → List Packed → Request
 request_or_default number packs = unwrap_or (request_in number packs) (default_request 1 1)
 
 -- one window packed
-unfoldable pub packed_one : PackRequest → Option Beside → Target → Packs → Packs
-packed_one asked beside target own =
+unfoldable pub packed_one : List PackSetting → Option Beside → Target → Packs → Packs
+packed_one settings beside target own =
     with_packed (place_beside beside target.number (slaves_of target.master own.packs))
-    (record { master = target.master; number = target.number; request = asked_request asked (request_or_default target.number own.packs) }) own
+    (record { master = target.master; number = target.number; request = with_settings settings (request_or_default target.number own.packs) }) own
 
 -- those after the first stand each behind the one before it
 abbrev pub next_beside : Target → Option Beside → Option Beside
 next_beside target beside = option_map (λ _. record { number = target.number; after = true }) beside
 
-abbrev pub packed_all : PackRequest → Option Beside → List Target → Packs → Packs
-packed_all asked beside [] own = own
-packed_all asked beside (target ∷ targets) own = packed_all asked (next_beside target beside) targets (packed_one asked beside target own)
+abbrev pub packed_all : List PackSetting → Option Beside → List Target → Packs → Packs
+packed_all settings beside [] own = own
+packed_all settings beside (target ∷ targets) own = packed_all settings (next_beside target beside) targets (packed_one settings beside target own)

@@ -1,5 +1,5 @@
--- Meaning. What values the options of `pack` take.
-use Rattle.std.specs.Prelude.{ℕ, if◌then◌else◌, List, [], ◌∷◌, Option, Some, None, option_map, Result, Ok, Err, codes}
+-- Meaning. What values the options of `pack` take, and how they are told.
+use Rattle.std.specs.Prelude.{ℕ, List, [], ◌∷◌, find, Option, None, option_map, Result, Ok, Err, codes}
 use Rattle.std.specs.Option.{option_and_then}
 use Rattle.std.specs.Str.{bytes_eq}
 use Rattle.tcl_text.specs.Readings.{list_of}
@@ -13,34 +13,41 @@ use Rattle.tk_packer.specs.declared.request.Fill.{Fill}
 use Rattle.tk_packer.specs.declared.request.Fill.TheVariants.{None as Neither, X, Y, Both}
 use Rattle.tk_packer.specs.declared.request.Pads.{Pads}
 
+-- ---- the words of a side, an anchor and a fill, and what a word means
+
+abbrev pub side_word : Side → List ℕ
+side_word Top = codes "top"
+side_word Bottom = codes "bottom"
+side_word Left = codes "left"
+side_word Right = codes "right"
+
 unfoldable pub side_in : List ℕ → Option Side
-side_in text =
-    if bytes_eq text (codes "top") then Some Top
-    else (if bytes_eq text (codes "left") then Some Left
-    else (if bytes_eq text (codes "bottom") then Some Bottom
-    else (if bytes_eq text (codes "right") then Some Right
-    else None)))
+side_in text = find (λ side. bytes_eq text (side_word side)) (Top ∷ Left ∷ Bottom ∷ Right ∷ [])
+
+abbrev pub anchor_word : Anchor → List ℕ
+anchor_word Center = codes "center"
+anchor_word N = codes "n"
+anchor_word Ne = codes "ne"
+anchor_word E = codes "e"
+anchor_word Se = codes "se"
+anchor_word S = codes "s"
+anchor_word Sw = codes "sw"
+anchor_word W = codes "w"
+anchor_word Nw = codes "nw"
 
 unfoldable pub anchor_in : List ℕ → Option Anchor
-anchor_in text =
-    if bytes_eq text (codes "center") then Some Center
-    else (if bytes_eq text (codes "n") then Some N
-    else (if bytes_eq text (codes "ne") then Some Ne
-    else (if bytes_eq text (codes "e") then Some E
-    else (if bytes_eq text (codes "se") then Some Se
-    else (if bytes_eq text (codes "s") then Some S
-    else (if bytes_eq text (codes "sw") then Some Sw
-    else (if bytes_eq text (codes "w") then Some W
-    else (if bytes_eq text (codes "nw") then Some Nw
-    else None))))))))
+anchor_in text = find (λ anchor. bytes_eq text (anchor_word anchor)) (Center ∷ N ∷ Ne ∷ E ∷ Se ∷ S ∷ Sw ∷ W ∷ Nw ∷ [])
+
+abbrev pub fill_word : Fill → List ℕ
+fill_word Neither = codes "none"
+fill_word X = codes "x"
+fill_word Y = codes "y"
+fill_word Both = codes "both"
 
 unfoldable pub fill_in : List ℕ → Option Fill
-fill_in text =
-    if bytes_eq text (codes "none") then Some Neither
-    else (if bytes_eq text (codes "x") then Some X
-    else (if bytes_eq text (codes "y") then Some Y
-    else (if bytes_eq text (codes "both") then Some Both
-    else None)))
+fill_in text = find (λ fill. bytes_eq text (fill_word fill)) (Neither ∷ X ∷ Y ∷ Both ∷ [])
+
+-- ---- pads
 
 -- one amount for both sides, or a list of two
 abbrev pub pads_of : ℕ → ℕ → Pads

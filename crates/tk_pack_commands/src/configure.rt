@@ -5,11 +5,11 @@ ghost use Rattle.tk_pack_commands.specs.Pack as spec;
 ghost use Rattle.tk_packer.specs.Packs.{own_of as packs_of, LeavesOthers};
 ghost use Rattle.tk_tree.specs.Own.{own_of};
 
-use crate::asked::PackRequest;
-use crate::options::options_in;
+use crate::options::settings_in;
 use crate::pack::PACK_USAGE;
 use crate::places::pack_all;
 use crate::scene::Scene;
+use crate::settings::PackSetting;
 use crate::targets::{Target, path_count, targets_in};
 use std::alloc::{AllocError, Global};
 use std::marker::Model;
@@ -19,11 +19,11 @@ use tcl_text::message::Answer;
 use tk_packer::PackTable;
 use tk_tree::Windows;
 
-/// Windows that are to be packed, and what is asked for.
+/// Windows that are to be packed, and what the options set.
 #[derive(Drop)]
 pub struct PackPlan {
     targets: Vec<Target>,
-    asked: PackRequest,
+    settings: Vec<PackSetting>,
 }
 
 impl Model for PackPlan {
@@ -31,7 +31,7 @@ impl Model for PackPlan {
 
     ghost Value = { Planned };
 
-    ghost view = { λ p. record { targets = p.targets.items; asked = p.asked } };
+    ghost view = { λ p. record { targets = p.targets.items; settings = p.settings.items } };
 }
 
 /// All words tested, before anything is packed.
@@ -41,8 +41,8 @@ fn plan_in(scene: Scene, words: &[Text]) -> Result<PackPlan, Refusal>
 {
     let (paths, options) = words.split_at(path_count(words));
     let targets = targets_in(scene.alloc, scene.windows, scene.owner, paths)?;
-    let asked = options_in(scene, targets.as_slice(), options)?;
-    Ok(PackPlan { targets, asked })
+    let settings = settings_in(scene, targets.as_slice(), options)?;
+    Ok(PackPlan { targets, settings })
 }
 
 /// What is to be packed, or the text of the error.
@@ -95,7 +95,12 @@ fn configure_tested(
     match planned(scene, words)? {
         Ok(plan) => {
             let nothing = Text::empty();
-            pack_all(packs, owner, &plan.asked, plan.targets.as_slice())?;
+            pack_all(
+                packs,
+                owner,
+                plan.settings.as_slice(),
+                plan.targets.as_slice(),
+            )?;
             Ok(Ok(nothing))
         }
         Err(text) => Ok(Err(text)),

@@ -3,6 +3,7 @@ ghost use Rattle.std.specs.Prelude.{◌≡◌, ◌++◌, ◌∷◌, [], IfOk, On
 ghost use Rattle.std.specs.Fmt.{decimal};
 ghost use Rattle.tcl_text.specs.Answers.{Gives};
 ghost use Rattle.tk_pack_commands.specs.Info as spec;
+ghost use Rattle.tk_pack_commands.specs.Values.{side_word, anchor_word, fill_word};
 ghost use Rattle.tk_tree.specs.Own.{own_of};
 
 use crate::errors::not_packed;
@@ -17,7 +18,7 @@ use tk_packer::{Anchor, Fill, Packed, Pads, Request, Side};
 use tk_tree::Windows;
 
 fn side_word(side: Side) -> &'static str
-    ensures { result.now ≡ spec.side_word side }
+    ensures { result.now ≡ side_word side }
 {
     match side {
         Side::Top => "top",
@@ -28,7 +29,7 @@ fn side_word(side: Side) -> &'static str
 }
 
 fn anchor_word(anchor: Anchor) -> &'static str
-    ensures { result.now ≡ spec.anchor_word anchor }
+    ensures { result.now ≡ anchor_word anchor }
 {
     match anchor {
         Anchor::Center => "center",
@@ -44,7 +45,7 @@ fn anchor_word(anchor: Anchor) -> &'static str
 }
 
 fn fill_word(fill: Fill) -> &'static str
-    ensures { result.now ≡ spec.fill_word fill }
+    ensures { result.now ≡ fill_word fill }
 {
     match fill {
         Fill::None => "none",

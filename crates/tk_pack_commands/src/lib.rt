@@ -1,7 +1,6 @@
 //! The command `pack` (pack(n)): how windows are packed in their parents, in what order, and what is told of that.
 #![tactic(auto)]
 
-mod asked;
 mod configure;
 mod errors;
 mod info;
@@ -9,6 +8,7 @@ mod options;
 mod pack;
 mod places;
 mod scene;
+mod settings;
 mod targets;
 mod values;
 

@@ -1,9 +1,10 @@
 //! Where windows come to stand among the slaves of their masters.
-ghost use Rattle.std.specs.Prelude.{◌≡◌, ◌≤◌, length, OnOk, IsOk};
+ghost use Rattle.std.specs.Prelude.{◌≡◌, ◌≤◌, length, OnOk, IsOk, None};
+ghost use Rattle.tk_pack_commands.specs.Options.{last_sibling};
 ghost use Rattle.tk_pack_commands.specs.Places as spec;
 ghost use Rattle.tk_packer.specs.Packs.{own_of, without, LeavesOthers};
 
-use crate::asked::{Beside, PackRequest};
+use crate::settings::{Beside, PackSetting, last_sibling, with_settings};
 use crate::targets::Target;
 use std::alloc::AllocError;
 use tk_base::Win;
@@ -60,11 +61,11 @@ fn place_beside(slaves: &[Packed], beside: Option<Beside>, number: u64) -> usize
 fn pack_one(
     packs: &mut PackTable,
     owner: usize,
-    asked: &PackRequest,
+    settings: &[PackSetting],
     beside: Option<Beside>,
     target: Target,
 ) -> Result<(), AllocError>
-    ensures own { OnOk result (own_of owner packs.new ≡ spec.packed_one asked.now beside target (own_of owner packs.old)) }
+    ensures own { OnOk result (own_of owner packs.new ≡ spec.packed_one settings.now beside target (own_of owner packs.old)) }
     ensures others { LeavesOthers owner packs.old packs.new }
 {
     let win = Win {
@@ -77,24 +78,24 @@ fn pack_one(
     };
     let place = place_beside(packs.packed_in(master), beside, target.number);
     let request = packs.request(win).unwrap_or(Request::new(1, 1));
-    packs.put(target.master, win, place, asked.request(request))
+    packs.put(target.master, win, place, with_settings(settings, request))
 }
 
 /// Packs windows, each after the first behind the one before it where a sibling is named.
 pub fn pack_all(
     packs: &mut PackTable,
     owner: usize,
-    asked: &PackRequest,
+    settings: &[PackSetting],
     targets: &[Target],
 ) -> Result<(), AllocError>
     ensures own { OnOk result (own_of owner packs.new
-        ≡ spec.packed_all asked.now asked.now.beside targets.now (own_of owner packs.old)) }
+        ≡ spec.packed_all settings.now (last_sibling None settings.now) targets.now (own_of owner packs.old)) }
     ensures others { LeavesOthers owner packs.old packs.new }
 {
-    let mut beside = asked.beside;
+    let mut beside = last_sibling(settings);
     let mut rest = targets;
     while let Some((target, others)) = rest.split_first() {
-        pack_one(packs, owner, asked, beside, *target)?;
+        pack_one(packs, owner, settings, beside, *target)?;
         beside = next_beside(*target, beside);
         rest = others;
     }

@@ -1,12 +1,14 @@
 use Rattle.std.proofs.Common.{◌≡◌, length}
 use Rattle.tk_packer.specs.Packs.{own_of, LeavesOthers}
+use Rattle.std.specs.Prelude.{None}
+use Rattle.tk_pack_commands.specs.Options.{last_sibling}
 use Rattle.tk_pack_commands.specs.Places.{packed_all}
 use Rattle.tk_pack_commands.proofs.places.pack_all.Given as goal
 
 -- packing those that are left leads to what packing all leads to
 abbrev pub invariant-loop-target : goal.invariant-loop-target
 invariant-loop-target l = record {
-  same : packed_all l.asked l.beside l.rest (own_of l.owner l.packs) ≡ packed_all l.asked l.asked.beside l.targets (own_of l.owner l.fn.packs);
+  same : packed_all l.settings l.beside l.rest (own_of l.owner l.packs) ≡ packed_all l.settings (last_sibling None l.settings) l.targets (own_of l.owner l.fn.packs);
   others : LeavesOthers l.owner l.fn.packs l.packs;
 }
 

@@ -1,5 +1,5 @@
--- Meaning. The windows that `destroy` names, one after another (destroy(n)): each with all below it, in post-order; each that is still there
--- has its Destroy event dispatched, and is removed then, if it is there still.
+-- Meaning, of which windows a path means, of their marks, of the event Destroy and of removal; and behind that steps: the windows that `destroy` names, one
+-- after another (destroy(n)). What they come to, `destroy_meaning` of tk_app says.
 use Rattle.std.specs.Prelude.{ℕ, List, [], ◌∷◌, Option, Some, None, length, ◌==◌, if◌then◌else◌}
 use Rattle.tk_sequences.specs.declared.event.Event.{Event}
 use Rattle.tk_sequences.specs.declared.event.EventKind.TheVariants.{Physical}
@@ -51,7 +51,7 @@ abbrev pub without_path : ℕ → List ℕ → Panel → Panel
 without_path number path panel =
     record panel { screen = without number panel.screen; bindings = without_tag path panel.bindings; input = without_window number panel.input }
 
--- Children go before their parents, so none is left.
+-- Children go before their parents, so none is left then, as law `destroys` of tk_app says (clause `gone`).
 abbrev pub removed_at : ℕ → Panel → Option Window → Panel
 removed_at number panel None = panel
 removed_at number panel (Some window) = if length (child_numbers number panel.screen.tree.windows) == 0 then without_path number window.path panel else panel
@@ -60,10 +60,12 @@ removed_at number panel (Some window) = if length (child_numbers number panel.sc
 unfoldable pub removed : ℕ → Panel → Panel
 removed number panel = removed_at number panel (window_at number panel.screen.tree)
 
--- ── Destroy is dispatched ──
+-- ── the event Destroy ──
 
 abbrev pub destroy_event : Window → ℕ → Event
 destroy_event window moment = bare_event (Physical Destroy) window.number window.path moment
+
+-- ── steps: the event is dispatched ──
 
 abbrev pub destroy_at : Panel → Option Window → Panel × List (List ℕ)
 destroy_at panel None = (panel, [])

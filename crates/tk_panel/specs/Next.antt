@@ -1,4 +1,4 @@
--- Meaning. What comes next of a job.
+-- Steps. What comes next of a job.
 use Rattle.std.specs.Prelude.{ℕ, List, [], ◌∷◌, Option, Some, None}
 use Rattle.tcl_vars.specs.Store.{Store}
 use Rattle.tk_panel.specs.declared.job.Job.{Job}

@@ -1,5 +1,6 @@
--- Meaning. What comes next at a moment (after(n), update(n)): the first that exists of a queued event, a due timer, a layout that changes something, and
--- a round of the idle scripts that wait.
+-- Steps. What comes next at a moment (after(n), update(n)): the first that exists of a queued event, a due timer, a layout that changes something, and
+-- a round of the idle scripts that wait. What all of it comes to, `Settles` of tk_app says as an equation; of what stands here it has *with_queue* and
+-- *is_closed* alone.
 use Rattle.std.specs.Prelude.{ℕ, Bool, false, List, [], ◌∷◌, Option, Some, None, is_some, is_none, nat_le, codes, if◌then◌else◌}
 use Rattle.std.specs.Option.{option_map_or}
 use Rattle.tcl_vars.specs.Store.{Store}

@@ -1,4 +1,4 @@
--- Meaning. What starts once its step is taken.
+-- Steps. What starts once its step is taken.
 use Rattle.std.specs.Prelude.{ℕ, List, [], ◌∷◌, Option, Some, None}
 use Rattle.std.specs.Option.{option_map_or}
 use Rattle.tk_after.specs.declared.entry.Entry.{Entry}

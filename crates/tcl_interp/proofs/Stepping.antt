@@ -4,7 +4,6 @@ use Rattle.tcl_vars.specs.Store.{Store}
 use Rattle.tcl_control.specs.declared.code.Code.{Code}
 use Rattle.tcl_control.specs.declared.code.Code.TheVariants.{Normal}
 use Rattle.tcl_control.specs.declared.context.Context.{Context}
-use Rattle.tcl_control.specs.declared.control.Call.{Call}
 use Rattle.tcl_control.specs.declared.control.Call.TheVariants as call
 use Rattle.tcl_control.specs.declared.plan.Plan.{Plan}
 use Rattle.tcl_control.specs.declared.plan.Plan.TheVariants as plan
@@ -22,7 +21,7 @@ use Rattle.tcl_interp.specs.Plans.{cut, others, levels_back, procedure_ended, ca
 use Rattle.tcl_interp.specs.Expressions.{on_value, if_holds, expression_meaning}
 use Rattle.tcl_interp.specs.Scripts.{out_of_global, told_state, resumed, after_step, task_meaning, act_meaning, called_meaning}
 use Rattle.tcl_interp.specs.Finish.{Calls, Tests, Steps, Resumes, Waiting, ForTest, loop_rest, turn_rest, waits_meaning}
-use Rattle.tcl_interp.specs.Moves.{Moved, Standing, moved, standing, plan_move, items_move, test_move, act_move}
+use Rattle.tcl_interp.specs.Moves.{Standing, moved, standing, plan_move, items_move, test_move, act_move}
 use Rattle.tcl_interp.specs.Steps.{finish_from, TakesStep, TakesNone, Resumed}
 use Rattle.tcl_interp.specs.Quiet.{Leads}
 use Rattle.tcl_interp.proofs.Bounds.{and_then_same, on_value_same, if_same, turn_same, turns_same, within_expression, resumed_same, after_step_same, on_act_same, within_script}
@@ -33,6 +32,10 @@ abbrev pub state_with : {S : Type 0} → S → Store → Context → ℕ → Sta
 state_with shows store context steps = record { shows = shows; store = store; context = context; steps = steps }
 
 module _ {S K : Type 0} (outside : Outside S K) where
+  -- moves without a step keep the outcome
+  pub leads_none : (m n : Standing K) (shows : S) → Leads m n → TakesNone outside m shows n shows
+  leads_none m n shows leads left = leads_same outside m n (state_with shows m.store m.context left) leads
+
   run_at_same : (room count : ℕ) (script : List ℕ) (state : State S) (after : State S → Code → List ℕ → Outcome S)
       → and_then (run_at (run_in outside room) count script state) after
       ≡ and_then (run_in outside room script (record state { context = cut count state.context })) (λ state' code text. and_then (levels_back (others count state.context) state' code text) after)
@@ -111,9 +114,10 @@ module _ {S K : Type 0} (outside : Outside S K) where
       → TakesStep outside (standing (moved (Tests room turning) waits) store context) shows (test_move room turning store context waits turning.test) shows
   test_same room turning waits shows store context left = test_cases room turning waits left (state_with shows store context left) turning.test (omega arith) refl
 
-  pub test_given : (room : ℕ) (turning : Turning) (waits : List (Waiting K)) (shows : S) (store : Store) (context : Context) (after : Standing K) → after ≡ test_move room turning store context waits turning.test
+  pub test_given : (room : ℕ) (turning : Turning) (waits : List (Waiting K)) (shows : S) (store : Store) (context : Context) (after : Standing K) → Leads (test_move room turning store context waits turning.test) after
       → TakesStep outside (standing (moved (Tests room turning) waits) store context) shows after shows
-  test_given room turning waits shows store context after e left = test_same room turning waits shows store context left ∙ ap (λ m. finish_from outside m shows left) (sym e)
+  test_given room turning waits shows store context after leads left =
+      test_same room turning waits shows store context left ∙ leads_none (test_move room turning store context waits turning.test) after shows leads left
 
   -- a command is called, and what is to be done is this
   calls_as : (room : ℕ) (name : List ℕ) (arguments : List (List ℕ)) (waits : List (Waiting K)) (shows : S) (store : Store) (context : Context) (called : Called) (left : ℕ) → called ≡ call_of name arguments store context
@@ -123,12 +127,12 @@ module _ {S K : Type 0} (outside : Outside S K) where
       ap (λ c. and_then (called_meaning outside (run_in outside room) name arguments (state_with shows store context left) c) (waits_meaning outside waits)) (sym e)
 
   pub call_plan : (room : ℕ) (name : List ℕ) (arguments : List (List ℕ)) (waits : List (Waiting K)) (shows : S) (store : Store) (context : Context) (store' : Store) (context' : Context) (p : Plan) (after : Standing K)
-      → record { store = store'; context = context'; call = call.Plans p } ≡ call_of name arguments store context → after ≡ plan_move room store' context' waits p
+      → record { store = store'; context = context'; call = call.Plans p } ≡ call_of name arguments store context → Leads (plan_move room store' context' waits p) after
       → TakesStep outside (standing (moved (Calls room (name ∷ arguments)) waits) store context) shows after shows
-  call_plan room name arguments waits shows store context store' context' p after called e left =
+  call_plan room name arguments waits shows store context store' context' p after called leads left =
       calls_as room name arguments waits shows store context (record { store = store'; context = context'; call = call.Plans p }) left called
       ∙ plan_same room waits (state_with shows store' context' left) p
-      ∙ ap (λ m. finish_from outside m shows left) (sym e)
+      ∙ leads_none (plan_move room store' context' waits p) after shows leads left
 
   pub call_outside : (room : ℕ) (name : List ℕ) (arguments : List (List ℕ)) (waits : List (Waiting K)) (shows : S) (store : Store) (context : Context) (store' : Store) (context' : Context) (first : List ℕ) (shows'' : S) (store'' : Store) (act : Act K) (after : Standing K)
       → record { store = store'; context = context'; call = call.Outside first } ≡ call_of name arguments store context
@@ -183,9 +187,6 @@ module _ {S K : Type 0} (outside : Outside S K) where
         leads_same outside m (standing (moved (Resumes room task code text) waits) store context) (state_with shows m.store m.context left) leads
         ∙ subst (λ (t : Told S K). TakesNone outside (standing (moved (Resumes room task code text) waits) store context) shows (act_move room [] t.store context waits t.act) t.shows) (sym told) (resume_same room task code text waits shows store context) left
         ∙ ap (λ x. finish_from outside x shows' left) (sym e)
-
-  pub leads_none : (m n : Standing K) (shows : S) → Leads m n → TakesNone outside m shows n shows
-  leads_none m n shows leads left = leads_same outside m n (state_with shows m.store m.context left) leads
 
 -- a task that was resumed leaves less for tasks to do
 act_falls : {K : Type 0} (size : K → ℕ) (room bound : ℕ) (store : Store) (context : Context) (waits : List (Waiting K)) (act : Act K) → RunsBelow size bound act → tasks size (act_move room [] store context waits act).moved < suc bound + waits_tasks size waits

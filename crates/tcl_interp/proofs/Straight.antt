@@ -1,8 +1,10 @@
 -- Where straight code says a value, the evaluation comes to it by moves that take no step.
-use Rattle.std.proofs.Common.{◌≡◌, ℕ, List, [], ◌∷◌, ◌++◌, Option, Some, is_some, Result, Ok, Err, refl, ap, sym, ◌∙◌, append_assoc}
-use Rattle.std.specs.Prelude.{ℤ}
+use Rattle.std.proofs.Common.{◌≡◌, ◌<◌, ℕ, Bool, length, get_or, arith, List, [], ◌∷◌, ◌++◌, Option, Some, None, is_some, Result, Ok, Err, refl, ap, sym, ◌∙◌, subst, append_assoc}
+use Rattle.std.specs.Int.{w64}
+use Rattle.std.specs.Prelude.{ℤ, FitsSigned}
 use Rattle.std.specs.Fmt.{signed_decimal}
-use Rattle.tcl_text.specs.Readings.{integer_of}
+use Rattle.tcl_text.specs.Readings.{integer_of, is_nonzero, boolean_by, boolean_of}
+use Rattle.tcl_text.proofs.WrittenIntegers.{written_integer}
 use Rattle.tcl_text.specs.declared.fault.ReadFault.{ReadFault}
 use Rattle.tcl_vars.specs.Store.{Store, variable_in, number_read, number_in}
 use Rattle.tcl_expr.specs.declared.ask.Ask.TheVariants as ask
@@ -18,9 +20,14 @@ use Rattle.tcl_expr.specs.Resuming.{Resumption, evaluation_told, is_waiting}
 use Rattle.tcl_expr.proofs.StraightLemmas.{goes, begins_ready}
 use Rattle.tcl_control.specs.declared.code.Code.TheVariants.{Normal}
 use Rattle.tcl_control.specs.declared.context.Context.{Context}
+use Rattle.tcl_control.specs.declared.turns.Turning.{Turning}
+use Rattle.tcl_control.specs.declared.turns.Test.TheVariants.{Holds}
+use Rattle.tcl_control.specs.Expressions.{truth_of_text, truth_or_text}
 use Rattle.tcl_control.specs.Levels.{here}
-use Rattle.tcl_interp.specs.Finish.{Evaluates, Ends, Waiting}
-use Rattle.tcl_interp.specs.Moves.{Standing, moved, standing, value_given}
+use Rattle.tcl_shapes.specs.declared.branches.Branch.{Branch}
+use Rattle.tcl_interp.specs.Finish.{Evaluates, Ends, Waiting, ForTest, ForChoice}
+use Rattle.tcl_interp.specs.Moves.{Standing, moved, standing, value_given, begun_as, expression_begins, choice_move, chosen_move, turn_move, test_move, end_move}
+use Rattle.tcl_interp.specs.Openings.{IsInteger, Knows}
 use Rattle.tcl_interp.specs.Quiet.{Moves, Leads, MovesOn}
 use Rattle.tcl_interp.proofs.Weights.{leads_on}
 
@@ -73,3 +80,53 @@ straight_moves store context room waits evaluation given level n answered at_lev
     ends store context room waits from (signed_decimal n)
     (goes (number_in store (here context.levels store)) n (At store context room waits from) (past store context room waits from) (asked store context room waits from)
     evaluation.steps 0 [] [] tt same (evaluation, given, (0, refl), ([], refl), told))
+
+leads_of : {K : Type 0} (m n : Standing K) → MovesOn m n → Leads m n
+leads_of m n (between, leads, quiet, last) = leads_on m between n leads last
+
+-- an expression that begins, and of which straight code says the value, has ended by such moves
+pub opened_leads : {K : Type 0} (store : Store) (context : Context) (room : ℕ) (waits : List (Waiting K)) (text : List ℕ) (level : ℕ) (n : ℤ)
+    → level ≡ here context.levels store → IsInteger store level text n
+    → Leads (standing (moved (expression_begins room text) waits) store context) (standing (moved (Ends Normal (signed_decimal n)) waits) store context)
+opened_leads store context room waits text level n at_level (evaluation, begun, comes) =
+    let from = standing (moved (Evaluates room evaluation None) waits) store context in
+    let to = standing (moved (Ends Normal (signed_decimal n)) waits) store context in
+    subst (λ r. Leads (standing (moved (begun_as room r) waits) store context) to) (sym begun)
+    (leads_of from to (straight_moves store context room waits evaluation None level n (sym (ap is_waiting comes.0)) at_level comes))
+
+-- and what waits for it has gone on
+condition_leads : {K : Type 0} (store : Store) (context : Context) (room : ℕ) (waiting : Waiting K) (waits : List (Waiting K)) (text : List ℕ) (level : ℕ) (n : ℤ)
+    → level ≡ here context.levels store → IsInteger store level text n
+    → Leads (standing (moved (expression_begins room text) (waiting ∷ waits)) store context) (end_move store context Normal (signed_decimal n) waiting waits)
+condition_leads store context room waiting waits text level n at_level is =
+    leads_on _ (standing (moved (Ends Normal (signed_decimal n)) (waiting ∷ waits)) store context) _ (opened_leads store context room (waiting ∷ waits) text level n at_level is) refl
+
+-- the condition of a loop
+pub test_leads : {K : Type 0} (store : Store) (context : Context) (room : ℕ) (turning : Turning) (waits : List (Waiting K)) (text : List ℕ) (level : ℕ) (holds : Bool)
+    → level ≡ here context.levels store → turning.test ≡ Holds text → Knows store level text holds
+    → Leads (test_move room turning store context waits turning.test) (standing (turn_move room turning waits (Ok holds)) store context)
+test_leads store context room turning waits text level holds at_level is (n, integer, truth) =
+    subst (λ test. Leads (test_move room turning store context waits test) (standing (turn_move room turning waits (Ok holds)) store context)) (sym is)
+    (subst (λ value. Leads (test_move room turning store context waits (Holds text)) (standing (turn_move room turning waits value) store context)) truth
+    (condition_leads store context room (ForTest room turning) waits text level n at_level integer))
+
+-- the first condition of `if`
+first_choice_leads : {K : Type 0} (store : Store) (context : Context) (room : ℕ) (branch : Branch) (branches : List Branch) (otherwise : Option (List ℕ)) (waits : List (Waiting K)) (level : ℕ) (holds : Bool)
+    → level ≡ here context.levels store → Knows store level branch.test holds
+    → Leads (standing (choice_move room (branch ∷ branches) otherwise waits) store context) (standing (chosen_move room (branch ∷ branches) otherwise waits (Ok holds)) store context)
+first_choice_leads store context room branch branches otherwise waits level holds at_level (n, integer, truth) =
+    subst (λ value. Leads (standing (choice_move room (branch ∷ branches) otherwise waits) store context) (standing (chosen_move room (branch ∷ branches) otherwise waits value) store context)) truth
+    (condition_leads store context room (ForChoice room (branch ∷ branches) otherwise) waits branch.test level n at_level integer)
+
+-- and of branches of which it is the first
+pub choice_leads : {K : Type 0} (store : Store) (context : Context) (room : ℕ) (branches : List Branch) (branch : Branch) (otherwise : Option (List ℕ)) (waits : List (Waiting K)) (level : ℕ) (holds : Bool)
+    → 0 < length branches → branch ≡ get_or branches 0 branch → level ≡ here context.levels store → Knows store level branch.test holds
+    → Leads (standing (choice_move room branches otherwise waits) store context) (standing (chosen_move room branches otherwise waits (Ok holds)) store context)
+choice_leads store context room [] branch otherwise waits level holds some is at_level opens = absurd (omega (arith, some))
+choice_leads store context room (first ∷ branches) branch otherwise waits level holds some is at_level opens =
+    first_choice_leads store context room first branches otherwise waits level holds at_level (subst (λ (b : Branch). Knows store level b.test holds) is opens)
+
+-- an integer is true where it isn't 0
+pub integer_truth : (n : ℤ) → FitsSigned w64 n → truth_of_text (signed_decimal n) ≡ Ok (is_nonzero n)
+unfolding boolean_of
+integer_truth n fits = ap (λ number. truth_or_text (signed_decimal n) (boolean_by number (signed_decimal n))) (written_integer (signed_decimal n) n refl fits)

@@ -10,6 +10,7 @@ pub mod JobLaws
 pub mod Leaves
 pub mod Meaning
 pub mod Moves
+pub mod Openings
 pub mod Outside
 pub mod Plans
 pub mod Quiet

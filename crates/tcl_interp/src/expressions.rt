@@ -1,9 +1,7 @@
 //! Evaluations of expressions, and the conditions of `if` and of loops.
-ghost use Rattle.std.specs.Prelude.{◌≡◌, ◌≢◌, ◌<◌, List, drop, length, IfOk, IfSome};
+ghost use Rattle.std.specs.Prelude.{◌≡◌, ◌≢◌, ◌<◌, List, drop, length, Ok, IfOk};
 ghost use Rattle.tcl_expr.specs.declared.fault.EvalFault.TheVariants.{NoMemory};
 ghost use Rattle.tcl_expr.specs.Messages.{eval_message};
-ghost use Rattle.tcl_expr.specs.Straight.{ComesTo};
-ghost use Rattle.tcl_vars.specs.Store.{number_in};
 ghost use Rattle.tcl_control.specs.declared.code.Code.TheVariants.{Error};
 ghost use Rattle.tcl_control.specs.Expressions.{truth_of_text};
 ghost use Rattle.tcl_interp.specs.Moves.{moved, standing, expression_begins, otherwise_move, choice_move, turn_move, chosen_move};
@@ -13,7 +11,7 @@ ghost use Rattle.tcl_interp.specs.Replies.{reply_to};
 ghost use Rattle.tcl_interp.specs.Rests.{doing_of, moved_of, standing_of, waits_of};
 
 use crate::machine::{Answered, Asking, Choosing, Frame, Next, Now};
-use crate::seen::Seen;
+use crate::openings::straight_value;
 use crate::words::{begin_for, wait};
 use std::alloc::{AllocError, Global};
 use tcl_control::{Code, Context, Expression, Looping, truth};
@@ -85,14 +83,6 @@ fn failed<K: Drop>(alloc: Global, fault: &EvalFault) -> Next<K>
             text: fault.text(alloc)?,
         }),
     }
-}
-
-/// The value of an evaluation, where straight code says what it is. Variables are those of a level.
-fn straight_value(scopes: &Scopes, level: usize, eval: &Eval) -> Option<i64>
-    requires { level < length scopes.now }
-    ensures { IfSome result (ComesTo (number_in scopes.now level) eval.now) }
-{
-    eval.integer(&Seen { scopes, level })
 }
 
 /// An evaluation goes on, up to where it asks for the result of a script or ends. Straight code is asked first.
@@ -167,6 +157,26 @@ fn ask_on<K: Drop>(
     }
 }
 
+/// The condition of a loop holds, or doesn't.
+pub fn turn_by<K: Drop>(
+    frames: &mut Vec<Frame<K>>,
+    room: u64,
+    turning: Looping,
+    holds: bool,
+) -> Next<K>
+    ensures { IfOk result (λ now. moved_of now frames.new.items ≡ turn_move room turning (waits_of frames.old.items) (Ok holds)) }
+{
+    if holds {
+        let script = turning.get().body.copy()?;
+        begin_for(frames, Frame::ForBody { room, turning }, room, script)
+    } else {
+        Ok(Now::Ends {
+            code: Code::Normal,
+            text: Text::empty(),
+        })
+    }
+}
+
 /// The condition of a loop has this value.
 pub fn turn<K: Drop>(
     alloc: Global,
@@ -178,14 +188,7 @@ pub fn turn<K: Drop>(
     ensures { IfOk result (λ now. moved_of now frames.new.items ≡ turn_move room turning (waits_of frames.old.items) (truth_of_text value.now)) }
 {
     match truth(alloc, value)? {
-        Ok(true) => {
-            let script = turning.get().body.copy()?;
-            begin_for(frames, Frame::ForBody { room, turning }, room, script)
-        }
-        Ok(false) => Ok(Now::Ends {
-            code: Code::Normal,
-            text: Text::empty(),
-        }),
+        Ok(holds) => turn_by(frames, room, turning, holds),
         Err(text) => Ok(Now::Ends {
             code: Code::Error,
             text,

@@ -9,6 +9,7 @@ mod jobs;
 mod leaving_laws;
 mod machine;
 mod moves;
+mod openings;
 mod seen;
 mod slices;
 mod steps;

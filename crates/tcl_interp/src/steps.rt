@@ -5,11 +5,13 @@ ghost use Rattle.tcl_control.specs.Turns.{items_tested};
 ghost use Rattle.tcl_interp.specs.Plans.{cut, others};
 ghost use Rattle.tcl_interp.specs.Finish.{Calls, ForLevels};
 ghost use Rattle.tcl_interp.specs.Moves.{moved, standing, plan_move, items_move, test_move, act_move};
-ghost use Rattle.tcl_interp.specs.Rests.{moved_of, standing_of, waits_of};
+ghost use Rattle.tcl_interp.specs.Quiet.{Leads};
+ghost use Rattle.tcl_interp.specs.Rests.{standing_of, waits_of};
 ghost use Rattle.tcl_interp.specs.Steps.{TakesStep, Resumed};
 
-use crate::expressions::{begins, choose};
+use crate::expressions::turn_by;
 use crate::machine::{Frame, Next, Now};
+use crate::openings::{Condition, choose_first, open_condition, valued};
 use crate::tasks::{Act, Tasks};
 use crate::words::{begin_for, wait};
 use std::alloc::{AllocError, Global};
@@ -40,13 +42,14 @@ fn run_at<K: Drop>(
 /// A command does what its plan says.
 fn follow<K: Drop>(
     alloc: Global,
+    scopes: &Scopes,
     context: &mut Context,
     frames: &mut Vec<Frame<K>>,
     plan: Plan,
     room: u64,
 ) -> Next<K>
-    ensures { IfOk result (λ now. (store : Store) → standing_of now frames.new.items store context.new
-        ≡ plan_move room store context.old (waits_of frames.old.items) plan) }
+    ensures { IfOk result (λ now. Leads (plan_move room scopes.now context.old (waits_of frames.old.items) plan)
+        (standing_of now frames.new.items scopes.now context.new)) }
 {
     match plan {
         Plan::Ends(code, text) => Ok(Now::Ends { code, text }),
@@ -57,8 +60,8 @@ fn follow<K: Drop>(
             Ok(Now::Begins { room, script })
         }
         Plan::Enters(script) => begin_for(frames, Frame::ForProcedure, room, script),
-        Plan::Evaluates(expression) => begins(alloc, &expression, room),
-        Plan::Chooses(choices) => choose(alloc, &mut context.commands, frames, room, choices, 0),
+        Plan::Evaluates(expression) => valued(alloc, scopes, context, &expression, room),
+        Plan::Chooses(choices) => choose_first(alloc, scopes, context, frames, room, choices),
         Plan::Turns(turning) => Ok(Now::Tests { room, turning }),
         Plan::Starts(script, turning) => {
             begin_for(frames, Frame::ForStart { room, turning }, room, script)
@@ -143,14 +146,19 @@ pub fn test<K: Drop>(
     turning: Looping,
     room: u64,
 ) -> Next<K>
-    ensures { IfOk result (λ now. standing_of now frames.new.items scopes.new context.now
-        ≡ test_move room turning scopes.old context.now (waits_of frames.old.items) turning.test) }
+    ensures { IfOk result (λ now. Leads (test_move room turning scopes.old context.now (waits_of frames.old.items) turning.test)
+        (standing_of now frames.new.items scopes.new context.now)) }
 {
     match &turning.get().test {
-        Test::Holds(condition) => {
-            let now = begins(alloc, condition, room)?;
-            wait(frames, Frame::ForTest { room, turning })?;
-            Ok(now)
+        Test::Holds(expression) => {
+            let level = context.levels.here(scopes);
+            match open_condition(alloc, scopes, level, expression, room)? {
+                Condition::Known(holds) => turn_by(frames, room, turning, holds),
+                Condition::Begins(now) => {
+                    wait(frames, Frame::ForTest { room, turning })?;
+                    Ok(now)
+                }
+            }
         }
         Test::Items(_) => {
             let Turning { test, body, next } = turning.into_inner();
@@ -209,7 +217,7 @@ fn call_named<T: Tasks>(
     ensures left { T.left_alone tasks.new ≡ T.left_alone tasks.old }
 {
     match call_command(alloc, scopes, context, name, arguments)? {
-        Call::Plans(plan) => follow(alloc, context, frames, plan, room),
+        Call::Plans(plan) => follow(alloc, scopes, context, frames, plan, room),
         Call::Outside(first) => {
             let act = call_outside(alloc, tasks, scopes, first, arguments)?;
             act_on(alloc, context, frames, act, name.as_str(), room)

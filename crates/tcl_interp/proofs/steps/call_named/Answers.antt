@@ -11,7 +11,7 @@ returns-in-Plans-clause-ok g c =
     IfOk-weaker c.follow.result _ _ (λ now followed.
     let after = standing_of now c.follow.new.frames.items scopes c.follow.new.context in
     call_plan g.T.Tasks.outside c.args.room c.args.name.now c.args.arguments.now (waits_of c.args.frames.now.items) (g.T.Tasks.shows c.args.tasks.now) c.args.scopes.now c.args.context.now
-    scopes c.call_command.new.context c.in-Plans.plan after (rw c.in-Plans.is at c.in_ok-plan.ensures) (followed scopes)) c.follow.ensures
+    scopes c.call_command.new.context c.in-Plans.plan after (rw c.in-Plans.is at c.in_ok-plan.ensures) followed) c.follow.ensures
 
 pub returns-in_ok-act-in-Outside-clause-ok : goal.returns-in_ok-act-in-Outside-clause-ok
 returns-in_ok-act-in-Outside-clause-ok g c =

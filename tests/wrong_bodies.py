@@ -35,7 +35,7 @@ ANSWER = re.compile(r"^(?:\./)?proofs/(\S+)/[^/\s:]+\.antt:\d+:\d+: error(?!.*(?
 # A text of the crate that the prover can't read, so that it judged no contract.
 UNREAD = re.compile(r"^(?:\./)?(?:src|specs)/\S+:\d+:\d+: error", re.M)
 IMPL = re.compile(r"^impl(<[^>]*>)? (?:(.*) for )?(\w+)(?:<(\w+)>)?")
-FUNCTION = re.compile(r"^( *)(?:pub(?:\([^)]*\))? )?(?:const )?(?:unsafe )?fn (\w+)")
+FUNCTION = re.compile(r'^( *)(?:pub(?:\([^)]*\))? )?(?:const )?(?:unsafe )?(?:extern "C" )?fn (\w+)')
 saying = threading.Lock()
 
 

@@ -1,5 +1,5 @@
 #!/usr/bin/env python3
-"""documents.py [--try] [PAGE ..]: sees that the documents say what is so. Without a PAGE, README.md, CHANGELOG.md and each page of docs/ is read; --help
+"""documents.py [--try] [PAGE ..]: sees that the documents say what is so. Without a PAGE, README.md, CHANGELOG.md, SECURITY.md and each page of docs/ is read; --help
 prints this.
 
 What is tested of a page: each link has to lead to a file of the repository, and to a heading where it names one; where the page says `NAME` in
@@ -167,7 +167,7 @@ def main():
         sys.exit(__doc__)
     pages, linked, misplaced = [pathlib.Path(page) for page in words[tries:]], [], []
     if not pages:
-        pages, linked = [TOP / "README.md", TOP / "CHANGELOG.md", *sorted((TOP / "docs").glob("*.md"))], sorted(CRATES.glob("*/README.md"))
+        pages, linked = [TOP / "README.md", TOP / "CHANGELOG.md", TOP / "SECURITY.md", *sorted((TOP / "docs").glob("*.md"))], sorted(CRATES.glob("*/README.md"))
         linked += [TOP / folder / "README.md" for folder in ("bench", "examples", "tests")]
         misplaced = [*lost_commands(), *unlisted()]
     lost = [fault for page in pages + linked for fault in lost_links(page)]

@@ -1,2 +1,4 @@
+pub mod Joined
 pub mod Lines
 pub mod Maps
+pub mod Ways

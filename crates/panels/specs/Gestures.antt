@@ -1,5 +1,5 @@
 -- Meaning. What a person does, as lines of a session.
-use Rattle.std.specs.Prelude.{ℕ, ◌+◌, min, Bool, true, false, not, ◌&&◌, ◌==◌, if◌then◌else◌, List, [], ◌∷◌, ◌++◌, Option, Some, None, Result, Ok, Err, slice_get}
+use Rattle.std.specs.Prelude.{ℕ, ◌+◌, min, Bool, false, not, ◌&&◌, ◌==◌, if◌then◌else◌, List, [], ◌∷◌, ◌++◌, Option, Some, None, Result, Ok, Err, slice_get}
 use Rattle.std.specs.Option.{unwrap_or}
 use Rattle.tk_base.specs.declared.rect.Rect.{Rect}
 use Rattle.tk_route.specs.declared.line.HostLine.{HostLine}

@@ -1,8 +1,13 @@
 -- What the contracts cite.
+pub mod Beside
+pub mod Course
+pub mod Dues
 pub mod Gestures
 pub mod Looks
 pub mod Panes
+pub mod Picture
 pub mod Played
+pub mod Shapes
 pub mod Typing
 pub mod Verdict
 pub mod Words

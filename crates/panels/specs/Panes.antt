@@ -10,7 +10,6 @@ use Rattle.panels.specs.declared.pane.Pane.{Pane}
 use Rattle.panels.specs.declared.pane.Point.{Point}
 use Rattle.panels.specs.declared.pane.Landing.{Landing}
 use Rattle.panels.specs.declared.pane.Landing.TheVariants.{At, Missed}
-use Rattle.panels.specs.declared.pane.Miss.{Miss}
 use Rattle.panels.specs.declared.pane.Miss.TheVariants.{NoWindow, Hidden, Covered}
 
 -- a sum that stops at the largest number of 64 bits

@@ -2,18 +2,27 @@
 #![tactic(auto)]
 
 mod bench;
+mod course;
+mod drawing;
+mod dues;
 mod finding;
 mod gesture;
+mod isolation;
 mod look;
 mod pane;
 mod playing;
+mod shape;
 mod typing;
 mod verdict;
 mod words;
 
 pub use bench::{Act, Bench, Entry, Fact, Gesture, Look, Pointing, Target, Touch};
+pub use drawing::{DrawnPanel, DrawnWindow, Scene, picture};
+pub use dues::next_due;
 pub use finding::{Finding, Found};
+pub use isolation::{Neighbours, beside};
 pub use pane::Miss;
-pub use playing::{BenchFault, Played, play};
+pub use playing::{BenchFault, Played, play, sections_with};
+pub use shape::{Shape, shapes};
 pub use typing::{chord, typed};
 pub use verdict::{compared, is_same};

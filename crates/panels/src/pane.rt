@@ -50,7 +50,7 @@ pub(crate) enum Landing {
 }
 
 /// All that a panel shows at most.
-const SCREEN: Pane = Pane {
+pub(crate) const SCREEN: Pane = Pane {
     x: 0,
     y: 0,
     left: 0,
@@ -135,7 +135,7 @@ fn parent_pane(lines: &[&[u8]], panes: &[Pane], path: &[u8]) -> Pane
 }
 
 /// The panes of windows, each of which stands behind its parent.
-fn panes_of(alloc: Global, lines: &[&[u8]]) -> Result<Vec<Pane>, AllocError>
+pub(crate) fn panes_of(alloc: Global, lines: &[&[u8]]) -> Result<Vec<Pane>, AllocError>
     ensures { IfOk result (λ panes. panes.items ≡ panes_of (map (λ line. line.now) lines.now)) }
 {
     let mut panes: Vec<Pane> = Vec::new(alloc);

@@ -1,13 +1,23 @@
 //! A bench becomes a session, which is played.
 
-ghost use Rattle.std.specs.Prelude.{◌≡◌, ◌≢◌, ◌≤◌, map, IfOk, OnOk};
+ghost use Rattle.std.specs.Prelude.{◌≡◌, ◌≢◌, ◌≤◌, ◌∷◌, ◌++◌, [], ℕ, List, map, IfOk, OnOk};
 ghost use Rattle.tk_host.specs.declared.phase.Phase.{Phase};
 ghost use Rattle.tk_session.specs.Session.{IsSession};
 ghost use Rattle.tkhost.specs.Play.{MakesServices, program_sections};
+ghost use Rattle.tk_host.specs.Held.{AddApp, Call, Start, held_after};
+ghost use Rattle.tk_session.specs.Session.{AreAllowed, rects_of};
+ghost use Rattle.tk_alias.specs.Services.{answer_of};
+ghost use Rattle.tk_alias.specs.declared.service.Service.{Service};
+ghost use Rattle.tkhost.specs.Calls.{adding, given_of};
+ghost use Rattle.tkhost.specs.Play.{Serve, services_in};
+ghost use Rattle.panels.specs.Course.{Ends, IsAt, Way, acted, advanced, begun, course_of, entered, handed, handed_all, performed, section_at, slot_of, went};
+ghost use Rattle.panels.specs.Gestures.{outcome_of};
+ghost use Rattle.panels.specs.Looks.{told};
 ghost use Rattle.panels.specs.Played.{plan_of};
 ghost use Rattle.panels.specs.Verdict.{sections_in};
 
 use crate::bench::{Act, Bench, Entry, Gesture};
+use crate::course::Course;
 use crate::finding::{Finding, Found};
 use crate::gesture::{Outcome, Screen, outcome_of};
 use crate::look::push_unseen;
@@ -69,14 +79,6 @@ pub struct Played {
     pub sections: Vec<Vec<u8>>,
 }
 
-/// What has happened so far.
-#[derive(Drop)]
-struct Course {
-    screen: Screen,
-    events: Vec<EventLine>,
-    findings: Vec<Finding>,
-}
-
 /// What the host refuses in an entry.
 fn refused(entry: usize, fault: HostFault) -> BenchFault {
     match fault {
@@ -91,7 +93,9 @@ fn section_at<M: AliasService>(
     host: &Host<M>,
     entry: usize,
     slot: usize,
-) -> Result<Vec<u8>, BenchFault> {
+) -> Result<Vec<u8>, BenchFault>
+    ensures { (calls : List (Call M)) → host.now.held ≡ held_after M.answer calls → IfOk result (λ section. section.items ≡ section_at M.answer calls slot) }
+{
     match host.section(slot) {
         Ok(section) => Ok(section),
         Err(HostFault::Refused(LineFault::NoApp)) => Ok(Vec::new(alloc)),
@@ -108,6 +112,7 @@ fn hand<M: AliasService>(
 ) -> Result<(), BenchFault>
     requires begun { host.old.held.phase ≢ Phase.Adding }
     ensures begun { OnOk result (host.new.held.phase ≢ Phase.Adding) }
+    ensures course { (way : Way M) → IsAt M.answer way host.old.held course.old → OnOk result (IsAt M.answer (handed event way) host.new.held course.new) }
 {
     if let Err(fault) = host.line(event.moment, event.line) {
         return Err(refused(entry, fault));
@@ -126,6 +131,7 @@ fn hand_all<M: AliasService>(
 ) -> Result<(), BenchFault>
     requires begun { host.old.held.phase ≢ Phase.Adding }
     ensures begun { OnOk result (host.new.held.phase ≢ Phase.Adding) }
+    ensures course { (way : Way M) → IsAt M.answer way host.old.held course.old → OnOk result (IsAt M.answer (handed_all moment lines.now way) host.new.held course.new) }
 {
     for line in lines {
         let event = EventLine {
@@ -138,7 +144,9 @@ fn hand_all<M: AliasService>(
 }
 
 /// The slot of the panel that a gesture is for; the first where it is for none.
-fn slot_of(gesture: &Gesture) -> usize {
+fn slot_of(gesture: &Gesture) -> usize
+    ensures { result ≡ slot_of gesture.now }
+{
     match gesture {
         Gesture::Pointer(pointing) => pointing.target.slot,
         Gesture::Keys(_) | Gesture::Lines(_) => 0,
@@ -156,6 +164,7 @@ fn perform<M: AliasService>(
 ) -> Result<(), BenchFault>
     requires begun { host.old.held.phase ≢ Phase.Adding }
     ensures begun { OnOk result (host.new.held.phase ≢ Phase.Adding) }
+    ensures course { (way : Way M) → IsAt M.answer way host.old.held course.old → OnOk result (IsAt M.answer (let section = section_at M.answer way.calls (slot_of gesture.now) in performed entry moment section (outcome_of gesture.now way.rects way.keys section) way) host.new.held course.new) }
 {
     let section = section_at(alloc, host, entry, slot_of(gesture))?;
     match outcome_of(alloc, gesture, &course.screen, section.as_slice())? {
@@ -180,6 +189,7 @@ fn enter<M: AliasService>(
 ) -> Result<(), BenchFault>
     requires begun { host.old.held.phase ≢ Phase.Adding }
     ensures begun { OnOk result (host.new.held.phase ≢ Phase.Adding) }
+    ensures course { (way : Way M) → IsAt M.answer way host.old.held course.old → OnOk result (IsAt M.answer (entered M.answer number entry.now way) host.new.held course.new) }
 {
     if let Err(fault) = host.advance_to(entry.moment) {
         return Err(refused(number, fault));
@@ -209,6 +219,7 @@ fn go_through<M: AliasService>(
 ) -> Result<(), BenchFault>
     requires begun { host.old.held.phase ≢ Phase.Adding }
     ensures begun { OnOk result (host.new.held.phase ≢ Phase.Adding) }
+    ensures course { (way : Way M) → IsAt M.answer way host.old.held course.old → OnOk result (IsAt M.answer (went M.answer 0 entries.now way) host.new.held course.new) }
 {
     for (number, entry) in entries.iter().enumerate() {
         enter(alloc, host, course, number, entry)?;
@@ -221,7 +232,10 @@ fn add<M: AliasService>(
     host: &mut Host<M>,
     panel: &AppBlock,
     aliases: Aliases<M>,
-) -> Result<(), BenchFault> {
+) -> Result<(), BenchFault>
+    ensures history { (calls : List (Call M)) → host.old.held ≡ held_after M.answer calls
+        → OnOk result (host.new.held ≡ held_after M.answer (calls ++ AddApp (given_of panel.now aliases) ∷ [])) }
+{
     let name = panel.name.copy()?;
     let script = panel.script.copy()?;
     match host.add_app(name, panel.rect, script, panel.budget, aliases) {
@@ -230,25 +244,41 @@ fn add<M: AliasService>(
     }
 }
 
+/// Adds panels that may stand side by side, each with its aliases.
+fn add_all<M: AliasService>(
+    host: &mut Host<M>,
+    panels: &[AppBlock],
+    aliases: Vec<Aliases<M>>,
+) -> Result<(), BenchFault>
+    requires empty { host.old.held ≡ held_after M.answer [] }
+    requires allowed { AreAllowed [] panels.now }
+    requires serve { Serve panels.now aliases.items }
+    ensures added { OnOk result (host.new.held ≡ held_after M.answer (adding panels.now aliases.items)) }
+{
+    let mut lists = aliases.into_iter();
+    for panel in panels {
+        let Some(list) = lists.next() else {
+            unreachable!();
+        };
+        add(host, panel, list)?;
+    }
+    Ok(())
+}
+
 /// A host that has run the scripts of the panels of a session.
 fn started<M: AliasService>(
     alloc: Global,
-    panels: &[AppBlock],
+    session: &Session,
     aliases: Vec<Aliases<M>>,
     slice: u64,
 ) -> Result<Host<M>, BenchFault>
     requires slice { 1 ≤ slice }
+    requires serve { Serve session.now.apps aliases.items }
     ensures begun { IfOk result (λ host. host.held.phase ≢ Phase.Adding) }
+    ensures host { IfOk result (λ host. host.held ≡ held_after M.answer (adding session.now.apps aliases.items ++ Start ∷ [])) }
 {
     let mut host = Host::new(alloc, slice)?;
-    let mut lists = aliases.into_iter();
-    for panel in panels {
-        let list = match lists.next() {
-            Some(list) => list,
-            None => Aliases::new(alloc),
-        };
-        add(&mut host, panel, list)?;
-    }
+    add_all(&mut host, session.apps(), aliases)?;
     match host.start() {
         Ok(()) => Ok(host),
         Err(fault) => Err(refused(0, fault)),
@@ -256,7 +286,9 @@ fn started<M: AliasService>(
 }
 
 /// The rectangles of panels.
-fn rects_of(alloc: Global, panels: &[AppBlock]) -> Result<Vec<Rect>, AllocError> {
+fn rects_of(alloc: Global, panels: &[AppBlock]) -> Result<Vec<Rect>, AllocError>
+    ensures { IfOk result (λ rects. rects.items ≡ rects_of panels.now) }
+{
     let mut rects = Vec::new(alloc);
     for panel in panels {
         rects.push(panel.rect)?;
@@ -264,25 +296,27 @@ fn rects_of(alloc: Global, panels: &[AppBlock]) -> Result<Vec<Rect>, AllocError>
     Ok(rects)
 }
 
-/// What happens on a bench.
+/// What happens on a bench, whose panels are those of a session.
 fn course_of<M: AliasService>(
     alloc: Global,
     bench: &Bench,
+    session: &Session,
     aliases: Vec<Aliases<M>>,
     slice: u64,
 ) -> Result<Course, BenchFault>
     requires slice { 1 ≤ slice }
+    requires serve { Serve session.now.apps aliases.items }
+    ensures { IfOk result (λ course. Ends (went M.answer 0 bench.now.entries.items (begun session.now.apps aliases.items)) course) }
 {
-    let panels = bench.panels.as_slice();
     let mut course = Course {
         screen: Screen {
-            rects: rects_of(alloc, panels)?,
+            rects: rects_of(alloc, session.apps())?,
             keys: None,
         },
         events: Vec::new(alloc),
         findings: Vec::new(alloc),
     };
-    let mut host = started(alloc, panels, aliases, slice)?;
+    let mut host = started(alloc, session, aliases, slice)?;
     go_through(alloc, &mut host, &mut course, bench.entries.as_slice())?;
     Ok(course)
 }
@@ -322,6 +356,25 @@ fn output_of<F: AliasCode, K: Fn(ServiceKind, Text) -> F>(
     }
 }
 
+/// The section of each panel of a bench at its end, where its gestures became these lines. Refused are, in this order: panels that can't stand side by side
+/// in a session, the first line that may not stand in it, and an end before the last of them.
+pub fn sections_with<F: AliasCode, K: Fn(ServiceKind, Text) -> F>(
+    alloc: Global,
+    bench: &Bench,
+    events: &[EventLine],
+    slice: u64,
+    make: &K,
+) -> Result<Vec<Vec<u8>>, BenchFault>
+    requires make { K.IsAlwaysCallable make.now }
+    requires services { MakesServices (K.post make.now) F.may_call F.may_reply }
+    requires slice { 1 ≤ slice }
+    ensures { IfOk result (λ sections. map (λ section. section.items) sections.items ≡ sections_in (program_sections (plan_of bench.now events.now))) }
+{
+    let (_, plan) = written(alloc, bench, events)?;
+    let output = output_of(alloc, &plan, slice, make)?;
+    Ok(sections_of(alloc, output.as_slice())?)
+}
+
 /// Plays a bench, each panel at most `slice` steps at a time, with the closures that are made for its aliases: entry by entry, where a gesture becomes the
 /// lines of a session that lead to where its window lies at that moment. These lines and the panels are a session, which is written, read again and played.
 ///
@@ -337,11 +390,13 @@ pub fn play<F: AliasCode, K: Fn(ServiceKind, Text) -> F>(
     requires slice { 1 ≤ slice }
     ensures session { IfOk result (λ played. IsSession played.session.items (plan_of bench.now played.events.items)) }
     ensures output { IfOk result (λ played. played.output.items ≡ program_sections (plan_of bench.now played.events.items)) }
+    ensures course { IfOk result (λ played. let way = course_of (λ (service : Service). answer_of service.kind service.config) bench.now (map services_in bench.now.panels.items) in
+        (played.events.items ≡ way.events) × (map told played.findings.items ≡ way.found)) }
     ensures sections { IfOk result (λ played. map (λ section. section.items) played.sections.items ≡ sections_in played.output.items) }
 {
     let (_, begun) = written(alloc, bench, &[])?;
     let aliases = services_of(alloc, &begun, make)?;
-    let course = course_of(alloc, bench, aliases, slice)?;
+    let course = course_of(alloc, bench, &begun, aliases, slice)?;
     let (text, session) = written(alloc, bench, course.events.as_slice())?;
     let output = output_of(alloc, &session, slice, make)?;
     let sections = sections_of(alloc, output.as_slice())?;

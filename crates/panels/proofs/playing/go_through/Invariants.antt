@@ -1,7 +1,11 @@
-use Rattle.std.proofs.Common.{◌≢◌}
+use Rattle.std.proofs.Common.{◌≢◌, take}
 use Rattle.tk_host.specs.declared.phase.Phase.TheVariants.{Adding}
+use Rattle.panels.specs.Course.{IsAt, Way, went}
 use Rattle.panels.proofs.playing.go_through.Given as goal
 
--- the host has begun
+-- the host has begun, and has gone through the entries up to the number
 abbrev pub invariant-loop-number : goal.invariant-loop-number
-invariant-loop-number g l = l.host.held.phase ≢ Adding
+invariant-loop-number g l = record {
+  begun : l.host.held.phase ≢ Adding;
+  gone : (way : Way g.row.M.Denot) → IsAt g.M.AliasMeaning.answer way l.fn.host.held l.fn.course → IsAt g.M.AliasMeaning.answer (went g.M.AliasMeaning.answer 0 (take l.number l.entries) way) l.host.held l.course;
+}

@@ -1,4 +1,4 @@
-use Rattle.std.proofs.Common.{◌+◌, length, sym, add-one}
+use Rattle.std.proofs.Common.{◌+◌, length, add-one}
 use Rattle.std.proofs.lemmas.List.{take_rest}
 use Rattle.std.proofs.Math.Seq.{drop-length}
 use Rattle.panels.proofs.Lines.{away_none, found_first, lines-none, lines-some}

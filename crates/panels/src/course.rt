@@ -1,0 +1,14 @@
+//! What happens on a bench.
+
+use crate::finding::Finding;
+use crate::gesture::Screen;
+use tk_session::EventLine;
+
+/// What has happened so far.
+#[derive(Drop)]
+pub(crate) struct Course {
+    pub screen: Screen,
+    /// The lines that gestures became.
+    pub events: Vec<EventLine>,
+    pub findings: Vec<Finding>,
+}

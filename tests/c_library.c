@@ -472,7 +472,7 @@ static int fuzz(unsigned long count, uint64_t seed) {
             case 3: case 4: case 5:
                 if (pick(3)) one = (struct line){(const uint8_t *)(pick(2) ? "one" : "two"), 3};
                 answer = tkhost_add(host, one.at, one.length, (uint32_t)(pick(20) * 50), (uint32_t)(pick(3) ? 0 : value()), (uint32_t)(pick(4) ? 50 : value()),
-                                    (uint32_t)(pick(4) ? 50 : value()), other.at, other.length, pick(3) ? pick(500) : value(), pick(20)); break;
+                                    (uint32_t)(pick(4) ? 50 : value()), other.at, other.length, pick(3) ? pick(500) : 10000001 + pick(3), pick(20)); break;
             case 6: case 7: answer = tkhost_start(host); break;
             case 8: answer = tkhost_move(host, value(), (uint32_t)pick(1000), (uint32_t)pick(100)); break;
             case 9: answer = tkhost_press(host, value(), (uint32_t)pick(7)); break;

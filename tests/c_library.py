@@ -1,7 +1,8 @@
 #!/usr/bin/env python3
 """c_library.py [--whole]: the host as a library for C, C++, Rust and Python: each call, rightly and wrongly, and sessions line by line.
 
-./install puts the library into a folder of its own, and what stands on it is built and run there:
+./install puts the library into a folder of its own, and what stands on it is built and run there. Where the library isn't built, it is built first over
+what the gate left, of which `rt lib` would prove all again; where the gate left nothing, it says so and tries nothing. So it goes:
 
 - c_library.c, which makes each call and each wrong use; also under valgrind, and with gcc's sanitizers of addresses and undefined behaviour;
 - each stored session by tkhost_play and line by line through tkhost_line, in slices of 1, 7 and 64 steps: the bytes that are stored beside it, or its fault;
@@ -10,13 +11,13 @@
 - the examples of contrib/c in C and C++, which write what README.md shows, the blocks of code of README.md and docs/embedding.md, which stand in contrib/, and the
   tests of contrib/python and contrib/rust.
 
-gcc has to be there. What else isn't at hand (g++, valgrind, cargo, the program) is told, and the last line counts what was tried. The SDL example is built where
-pkg-config finds SDL 2. --whole tries 300 random sessions, 100,000 calls in wrong orders in each run, and counts the instructions of a million lines
+gcc has to be there. What else isn't at hand (g++, valgrind, cargo, the program) is told, and the last line counts what was tried. The SDL example is built and run where
+pkg-config finds SDL 2, with a click on its button where Xvfb and xdotool are there. --whole tries 300 random sessions, 100,000 calls in wrong orders in each run, and counts the instructions of a million lines
 through tkhost_line beside the program's, of which they may take 1.3 times as many at most."""
-import concurrent.futures, os, pathlib, re, shutil, subprocess, sys, tempfile
+import concurrent.futures, os, pathlib, re, shutil, subprocess, sys, tempfile, time
 from documents import blocks
 from panels import Panels, block, session
-from programs import EXAMPLES, HOST, TOP, built
+from programs import CRATES, EXAMPLES, HOST, TOP, below, built, crates_lines
 from sessions import stored, wanted
 
 SLICES = (1, 7, 64)
@@ -62,6 +63,32 @@ def differs(ended, status, stdout, stderr=b""):
     if (ended.returncode, ended.stdout, ended.stderr) == (status, stdout, stderr):
         return None
     return f"{' '.join(map(str, ended.args))} ended with {ended.returncode}: {ended.stdout[-300:]} {ended.stderr[-600:]}"
+
+
+# ---- the library
+
+def changed(name):
+    """When the newest text of a crate was written."""
+    return max(it.stat().st_mtime for part in ("src", "specs", "proofs") for it in (CRATES / name / part).rglob("*") if it.is_file())
+
+
+def build():
+    """Sees that the library is built, or says what is missing. The gate proves it and leaves no archive, and leaves the libraries below without the marks
+    by which `rt lib` knows them; what builds a static library in the kit takes them as they are."""
+    lines = crates_lines()
+    archive, deps = CRATES / "tkhost_c" / "out" / "libtkhost_c.a", below("tkhost_c", lines)
+    # (./install goes by the same)
+    if archive.exists() and max((TOP / "crates.txt").stat().st_mtime, *map(changed, lines)) <= archive.stat().st_mtime:
+        return None
+    for dep in deps:
+        left = CRATES / dep / "out" / "rlib"
+        if not left.exists() or changed(dep) > left.stat().st_mtime:
+            return f"the library {dep}, which the gate leaves"
+    kit = pathlib.Path(must(["rt", "doc"]).decode().strip()).parent
+    archive.parent.mkdir(exist_ok=True)
+    words = f"import sys; sys.path.insert(0, {str(kit / 'bin')!r}); import rtlib; sys.exit(rtlib.Crate({str(CRATES / 'tkhost_c')!r}, {str(TOP)!r}, {{}}).build_static([]))"
+    must([sys.executable, "-c", words], cwd=CRATES / "tkhost_c", timeout=3600)
+    return None
 
 
 # ---- sessions
@@ -170,7 +197,36 @@ def examples(told, flags, libs, folder):
             told.missing.append("SDL 2, so kiosk.c wasn't built")
         else:
             must(["gcc", "-std=c11", CONTRIB / "c" / "kiosk.c", *flags, *libs, *sdl.stdout.decode().split(), "-o", folder / "kiosk"])
-            told.add("examples")
+            told.add("examples", kiosk(told, folder))
+
+
+def kiosk(told, folder):
+    """Runs the kiosk, in a display of its own with a pointer that presses its button where they are at hand, and ends it; what is wrong with that."""
+    panel, shown, environment, server = folder / "panel.tcl", folder / "kiosk.shown", {**os.environ, "SDL_VIDEODRIVER": "dummy"}, None
+    panel.write_text("pack [button .b -text Go -command {puts hit}] -expand 1 -fill both; after 50 {puts soon}")
+    if told.has("Xvfb") and told.has("xdotool"):
+        number, given = os.pipe()
+        server = subprocess.Popen(["Xvfb", "-displayfd", str(given), "-screen", "0", "400x300x24"], pass_fds=[given], stdout=subprocess.DEVNULL, stderr=subprocess.DEVNULL)
+        os.close(given)
+        with os.fdopen(number) as line:
+            environment = {**os.environ, "DISPLAY": ":" + line.readline().strip(), "SDL_VIDEODRIVER": "x11"}
+    wanted = [b"\nout 50 soon\n"] + [b" hit\n"] * bool(server)
+    with open(shown, "wb") as to:
+        process = subprocess.Popen([folder / "kiosk", panel], env=environment, stdout=to, stderr=subprocess.PIPE)
+    for at in range(100):
+        if server:
+            run(["xdotool", "mousemove", str(100 + at % 2), "100", "click", "1"], env=environment)
+        if all(it in shown.read_bytes() for it in wanted):
+            break
+        time.sleep(0.1)
+    # (SDL makes a quit event of it)
+    process.terminate()
+    _, said = process.communicate(timeout=60)
+    if server:
+        server.terminate()
+        server.wait()
+    is_well = process.returncode == 0 and not said and all(it in shown.read_bytes() for it in wanted)
+    return None if is_well else f"kiosk ended with {process.returncode}: {said[-300:]} {shown.read_bytes()[-600:]}"
 
 
 def wrappers(told, prefix, folder):
@@ -217,6 +273,10 @@ def main():
     whole, told = bool(words), Told()
     if not told.has("gcc"):
         sys.exit("c_library: gcc isn't there")
+    missing = build()
+    if missing:
+        print(f"c_library: not at hand: {missing}; nothing tried, 0 faults")
+        return 0
     with tempfile.TemporaryDirectory() as name:
         folder = pathlib.Path(name)
         prefix, plain, sanitized = folder / "prefix", folder / "c_library", folder / "c_library-sanitized"

@@ -98,10 +98,10 @@ uint32_t tkhost_free(tkhost_host **host);
 uint32_t tkhost_alias(tkhost_host **host, const uint8_t *name, size_t name_length, uint32_t kind, const uint8_t *config, size_t config_length);
 
 /*
- * Adds an application in the next slot, from 0 on, with the aliases that wait; whatever is answered, none waits then. Its name is 1 to 32 letters, digits
- * and `_`; x and y are at most 32,767, width and height 1 to 32,767 pixels. `total` is how many steps its scripts may take, `refill` how many each
- * event grants that is routed to it, up to that number again, both at most 10,000,000. TKHOST_BAD_LINE where name or script is no text, and then in this
- * order TKHOST_BROKEN, TKHOST_ENDED, TKHOST_STARTED, TKHOST_BAD_LINE, TKHOST_TOO_MANY_APPS, TKHOST_NAME_TAKEN (also of two aliases), TKHOST_OVERLAP.
+ * Adds an application in the next slot, from 0 on, with the aliases that wait; whatever is answered, none waits then. Its name is an ASCII letter and then
+ * letters, digits and `_`, 32 in all at most; x and y are at most 32,767, width and height 1 to 32,767 pixels. `total` is how many steps its scripts may
+ * take, `refill` how many each event gives back that is routed to it, never to more than `total`; both are at most 10,000,000. One that is exhausted gets
+ * nothing back any more. TKHOST_BAD_LINE where name or script is no text, and then in this order TKHOST_BROKEN, TKHOST_ENDED, TKHOST_STARTED, TKHOST_BAD_LINE, TKHOST_TOO_MANY_APPS, TKHOST_NAME_TAKEN (also of two aliases), TKHOST_OVERLAP.
  * Time: the lengths, a look at up to 16 names and rectangles, and the aliases each with each. Memory: the application and its script.
  */
 uint32_t tkhost_add(tkhost_host **host, const uint8_t *name, size_t name_length, uint32_t x, uint32_t y, uint32_t width, uint32_t height,
@@ -149,8 +149,9 @@ uint32_t tkhost_end(tkhost_host **host, uint64_t moment);
 
 /*
  * Writes the section of the application in a slot, at any time: its state and the steps left, what it wrote and its errors by their moments, its windows
- * with their rectangles and texts, its timers. *told is its length, with TKHOST_TOO_SMALL too: ask with a capacity of 0 for the length alone. Nothing
- * follows the text. TKHOST_BROKEN, TKHOST_NO_APP, TKHOST_NO_MEMORY, which leave the host, the buffer and *told. Time and memory: the section's bytes.
+ * with their rectangles and texts, its timers. Lines end with LF alone, and no text of a panel has one as it is written. *told is the section's length,
+ * with TKHOST_TOO_SMALL too: ask with a capacity of 0 for the length alone. Nothing follows the text. TKHOST_BROKEN, TKHOST_NO_APP, TKHOST_NO_MEMORY,
+ * which leave the host, the buffer and *told. Time and memory: the section's bytes.
  */
 uint32_t tkhost_section(tkhost_host **host, size_t slot, uint8_t *buffer, size_t capacity, size_t *told);
 

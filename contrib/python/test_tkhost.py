@@ -73,6 +73,16 @@ class Calls(unittest.TestCase):
         self.refused(Number.NO_HOST, host.start)
         host.close()
 
+    def test_a_refused_application_leaves_no_alias(self):
+        greet, bad = Alias("greet", Kind.CONST, "hello"), Alias(".bad", Kind.CONST, "")
+        with Host() as host:
+            self.refused(Number.BAD_LINE, host.add, "one", LEFT, "", 9, 0, [greet, bad])
+            self.refused(Number.BAD_LINE, host.add, "one", Rect(-1, 0, 1, 1), "", 9, 0, [greet])
+            self.refused(Number.BAD_LINE, host.add, "", LEFT, "", 9, 0, [greet])
+            host.add("one", LEFT, "greet", 9)
+            host.start()
+            self.assertEqual(host.section(0).lines, [Line(0, True, 'invalid command name "greet"')])
+
     def test_whole_sessions(self):
         self.assertEqual(play(SESSION), GAUGE)
         self.assertEqual(play(SESSION, 1), GAUGE)

@@ -222,11 +222,16 @@ class Host:
 
     def add(self, name: str, rect: Rect, script: Union[str, bytes], total: int, refill: int = 0, aliases: Sequence[Alias] = ()) -> None:
         """Adds an application in the next slot, with aliases of its own."""
-        for alias in aliases:
-            command, config = _bytes(alias.name), _bytes(alias.config)
-            self._call("alias", command, len(command), _within(alias.kind, 32), config, len(config))
-        given, code = _bytes(name), _bytes(script)
-        self._call("add", given, len(given), *(_within(it, 32) for it in rect), code, len(code), _within(total, 64), _within(refill, 64))
+        try:
+            for alias in aliases:
+                command, config = _bytes(alias.name), _bytes(alias.config)
+                self._call("alias", command, len(command), _within(alias.kind, 32), config, len(config))
+            given, code = _bytes(name), _bytes(script)
+            self._call("add", given, len(given), *(_within(it, 32) for it in rect), code, len(code), _within(total, 64), _within(refill, 64))
+        except Fault:
+            # an application without a name is refused, and takes the aliases with it that wait already: the next one isn't to get them
+            _lib.tkhost_add(self._handle, b"", 0, 0, 0, 0, 0, b"", 0, 0, 0)
+            raise
 
     def start(self) -> None:
         self._call("start")

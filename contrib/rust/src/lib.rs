@@ -163,10 +163,20 @@ impl Host {
     pub fn add(&mut self, name: &str, rect: Rect, script: &str, total: u64, refill: u64, aliases: &[Alias<'_>]) -> Result<(), Fault> {
         for alias in aliases {
             // SAFETY: as of all calls below: the handle is this host's, and each slice is passed with its length.
-            answer(unsafe {
+            let answered = answer(unsafe {
                 sys::tkhost_alias(&mut self.handle, alias.name.as_ptr(), alias.name.len(), alias.kind as u32, alias.config.as_ptr(), alias.config.len())
-            })?;
+            });
+            if answered.is_err() {
+                // An application without a name is refused, and takes the aliases with it that wait already: the next one isn't to get them.
+                let _ = self.add_one("", rect, "", 0, 0);
+                return answered;
+            }
         }
+        self.add_one(name, rect, script, total, refill)
+    }
+
+    /// Adds an application with the aliases that wait.
+    fn add_one(&mut self, name: &str, rect: Rect, script: &str, total: u64, refill: u64) -> Result<(), Fault> {
         let Rect { x, y, width, height } = rect;
         answer(unsafe {
             sys::tkhost_add(&mut self.handle, name.as_ptr(), name.len(), x, y, width, height, script.as_ptr(), script.len(), total, refill)

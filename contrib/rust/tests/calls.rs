@@ -58,6 +58,19 @@ fn refusals() -> Result<(), Fault> {
 }
 
 #[test]
+fn a_refused_application_leaves_no_alias() -> Result<(), Fault> {
+    let mut host = Host::new(64)?;
+    let (greet, bad) = (Alias { name: "greet", kind: Kind::Const, config: "hello" }, Alias { name: ".bad", kind: Kind::Const, config: "" });
+    assert_eq!(host.add("one", LEFT, "", 9, 0, &[greet, bad]).unwrap_err().number, 36);
+    assert_eq!(host.add("", LEFT, "", 9, 0, &[greet]).unwrap_err().number, 36);
+    host.add("one", LEFT, "greet", 9, 0, &[])?;
+    host.start()?;
+    let section = String::from_utf8_lossy(&host.section(0)?).into_owned();
+    assert!(section.contains("err 0 invalid command name \"greet\"\n"), "{section}");
+    Ok(())
+}
+
+#[test]
 fn whole_sessions() {
     let session = b"tkhost 1\napp gauge 0 0 100 50 1000\nscript 1\nafter 5 {puts ready}\nevents\n10 end\n";
     assert_eq!(String::from_utf8_lossy(&play(session, 64).unwrap()), GAUGE);

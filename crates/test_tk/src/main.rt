@@ -10,6 +10,7 @@ mod sequences;
 mod services;
 mod timers;
 mod virtuals;
+mod widgets;
 mod windows;
 mod words;
 
@@ -19,6 +20,7 @@ use crate::options::Options;
 use crate::services::Caller;
 use crate::timers::Kept;
 use crate::virtuals::Virtuals;
+use crate::widgets::Widgets;
 use crate::windows::{Screen, first_part};
 use anyhow::{Result, bail};
 use asking::{Fixture, arguments, ask_tables};
@@ -34,6 +36,7 @@ enum Part {
     Services(Caller),
     Timers(Kept),
     Virtuals(Virtuals),
+    Widgets(Widgets),
     Windows(Screen),
 }
 
@@ -48,6 +51,7 @@ impl Fixture for Part {
             "services" => Ok(Part::Services(Caller::new())),
             "timers" => Ok(Part::Timers(Kept::new(alloc))),
             "virtuals" => Ok(Part::Virtuals(Virtuals::new(alloc))),
+            "widgets" => Ok(Part::Widgets(Widgets::new(alloc)?)),
             "windows" => Ok(Part::Windows(Screen::new(alloc, name)?)),
             _ => bail!("no such table"),
         }
@@ -62,6 +66,7 @@ impl Fixture for Part {
             Part::Services(caller) => caller.answer(alloc, question),
             Part::Timers(kept) => kept.answer(alloc, question),
             Part::Virtuals(virtuals) => virtuals.answer(alloc, question),
+            Part::Widgets(widgets) => widgets.answer(alloc, question),
             Part::Windows(screen) => screen.answer(alloc, question),
         }
     }

@@ -16,7 +16,8 @@ pub struct Options {
     table: OptionTable,
 }
 
-fn kind_of(word: &str) -> Result<Kind> {
+/// The kind of a name.
+pub fn kind_of(word: &str) -> Result<Kind> {
     match word {
         "frame" => Ok(Kind::Frame),
         "label" => Ok(Kind::Label),

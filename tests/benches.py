@@ -4,7 +4,8 @@ sources without proof, which leaves out what writes files.
 
 Each bench of examples/panels passes, and is the session that it prints: the host writes of that what the bench shows. What changes in a panel is told with
 its window; and of each of many mistakes, in a script or in a bench, what is told has the words that lead to it."""
-import pathlib, re, shutil, subprocess, sys, tempfile
+import json, os, pathlib, pty, re, shutil, subprocess, sys, tempfile
+import xml.etree.ElementTree as etree
 from programs import BENCHES, CRATES, EXAMPLES, HOST, built
 
 TRYING = sys.argv[1:] == ["--try"]
@@ -62,7 +63,8 @@ class Runs:
             ended = subprocess.run(["rt", "try", *data, "--cases", cases], cwd=CRATES / BENCHES, stdout=subprocess.PIPE, stderr=subprocess.STDOUT, text=True)
         found = [re.search(rf"^== c{number}\n(.*?)^case=c{number} .*?status=(\d+)", ended.stdout, re.M | re.S) for number in range(len(self.runs))]
         if not all(found):
-            sys.exit(ended.stdout[-3000:])
+            lost = "".join(f"no answer: {words}\n" for one, (words, _) in zip(found, self.runs) if not one)
+            sys.exit(lost + ended.stdout[-1000:])
         return [(int(one[2]), one[1]) for one in found]
 
 
@@ -93,7 +95,7 @@ def check_all(runs):
         runs.add(["run", name], shown)
 
 
-def mistake(runs, what, status, bench, file, old, new, *words):
+def mistake(runs, what, status, bench, file, old, new, *words, command=("check",)):
     """A change in a file, after which the check of a bench ends with this status and tells these words."""
     room = runs.copy()
     path = room / file
@@ -105,7 +107,7 @@ def mistake(runs, what, status, bench, file, old, new, *words):
         missing = [word for word in words if word not in text]
         see(ended == status and not missing, f"{what}: status {ended}, and these words are missing: {missing}\n{text}")
 
-    runs.add(["check", f"{room.name}/{bench}"], tells)
+    runs.add([*command, f"{room.name}/{bench}"], tells)
 
 
 def changes(runs):
@@ -177,6 +179,163 @@ def statuses(runs):
     runs.add(["check", "none.toml"], lambda status, text: see(status == 2 and "none.toml can't be read" in text, f"a bench that isn't there: {status} {text}"))
 
 
+def formats(runs):
+    """Each format tells the same panels and the same failures."""
+    room = runs.copy()
+    path = room / "modes.tcl"
+    path.write_text(path.read_text().replace("-text Switch", "-text {A <B> & \"C\" #1}"))
+    names = [f"{room.name}/{name}" for name in ("form.toml", "modes.toml", "moved.toml")]
+    wanted = 'got: win .switch Button 34 20 132 28 1 A <B> & "C" #1'
+
+    def taps(status, text):
+        lines = text.split("\n")
+        see(status == 1 and lines[:2] == ["TAP version 13", "1..4"], f"TAP's head: {status} {text}")
+        see([line[:6] for line in lines if re.match("(not )?ok ", line)] == ["ok 1 -", "not ok", "ok 3 -", "ok 4 -"], f"TAP's tests: {text}")
+        see(all(re.match("(not )?ok [0-9]+ - |# ", line) for line in lines[2:-1]) and any(line.endswith(wanted) for line in lines), f"TAP's lines: {text}")
+
+    def junits(status, text):
+        root = etree.fromstring(text.encode())
+        tests = list(root.iter("testcase"))
+        see(status == 1 and root.attrib == {"tests": "4", "failures": "1", "errors": "0"} and len(tests) == 4, f"JUnit's suites: {status} {text}")
+        failures = [failure for test in tests for failure in test]
+        see({(test.get("classname"), test.get("name")) for test in tests if len(test)} == {(names[1], "modes")} and any(wanted in failure.text for failure in failures), f"JUnit's failures: {text}")
+
+    def jsons(status, text):
+        told = json.loads(text)
+        see(status == 1 and (told["panels"], told["failed"]) == (4, 1), f"JSON's counts: {status} {text}")
+        see([(case["bench"], case["panel"], case["ok"]) for case in told["cases"]] == [(names[0], "form", True), (names[1], "modes", False), (names[2], "left", True), (names[2], "right", True)], f"JSON's cases: {text}")
+        see(any(wanted in problem for problem in told["cases"][1]["problems"]), f"JSON's problems: {text}")
+
+    for word, then in (("tap", taps), ("junit", junits), ("json", jsons)):
+        runs.add(["check", "--format", word, *names], then)
+    runs.add(["check", "--format", "jsn", *names], lambda status, text: see(status == 2 and "there is no format jsn: did you mean json?" in text, f"a format that there isn't: {status} {text}"))
+    runs.add(["check", "--fromat", "json", *names], lambda status, text: see(status == 2 and "there is no option --fromat: did you mean --format?" in text, f"an option that there isn't: {status} {text}"))
+    runs.add(["run", "--format", "json", names[0]], lambda status, text: see(status == 2 and "usage: panels check" in text, f"a format where there is no verdict: {status} {text}"))
+
+
+def shards(runs):
+    """The shares of a check are all of it, and no bench is in two."""
+    room = runs.copy()
+    names = [f"{room.name}/{name}" for name in benches()]
+    played = []
+
+    def plays(status, text):
+        see(status == 0, f"a share of the benches: {status} {text}")
+        played.extend(re.findall(r"^ok    (\S+): ", text, re.M))
+        if len(set(played)) == len(names):
+            see(played.count(names[0]) == 1 and sorted(set(played)) == sorted(names), f"the shares of a check are {played}")
+
+    for number in (1, 2, 3):
+        runs.add(["check", "--shard", f"{number}/3", *names], plays)
+    runs.add(["check", "--shard", "2/2", names[0]], lambda status, text: see((status, text) == (0, "0 panels, 0 of them failed\n"), f"a share with no bench: {status} {text}"))
+    for word in ("0/3", "4/3", "3", "a/b", "1/0"):
+        runs.add(["check", "--shard", word, *names], lambda status, text, word=word: see(status == 2 and "--shard wants" in text, f"share {word}: {status} {text}"))
+
+
+def isolated(runs):
+    """Panels show the same alone and beside endless neighbours; the sections of both runs stand beside each other."""
+    room = runs.copy()
+    names = [f"{room.name}/{name}" for name in (("moved.toml", "runaway.toml", "form.toml") if TRYING else benches())]
+    runs.add(["check", "--isolate", *names], lambda status, text: see(status == 0 and "FAIL" not in text, f"panels beside others: {status} {text}"))
+    mistake(runs, "a text that changed, alone too", 1, "modes.toml", "modes.tcl", "-text Switch", "-text Toggle", "1 panels, 1 of them failed", command=("check", "--isolate"))
+
+
+def traced(runs):
+    """A trace tells the lines of gestures and what comes of them, each with its moment."""
+    room = runs.copy()
+
+    def tells(status, text):
+        lines = text.splitlines()
+        wanted = ["100 focus form", "100 press 1", "100 form: win .says Label 64 40 132 20 1 a name is wanted", "250 keydown A", "250 form: win .name.field Entry 68 0 132 20 1 Ada", "650 form: out 650 sent Ada 12"]
+        places = [lines.index(line) if line in lines else -1 for line in wanted]
+        see(status == 0 and -1 not in places and places == sorted(places), f"the trace of the form: {status} {places}\n{text}")
+        see(all(re.match("[0-9]+ ", line) for line in lines) and [int(line.split()[0]) for line in lines] == sorted(int(line.split()[0]) for line in lines), f"the moments of a trace: {text}")
+
+    runs.add(["run", "--trace", f"{room.name}/form.toml"], tells)
+    runs.add(["session", "--trace", f"{room.name}/form.toml"], lambda status, text: see(status == 2 and "usage: panels check" in text, f"a trace of a session: {status} {text}"))
+
+
+SVG = "{http://www.w3.org/2000/svg}"
+
+
+def boxes(picture):
+    """The windows of a picture's panels: the panel's place, and of each window its path, what is shown of it and its whole place."""
+    def box(element):
+        return tuple(int(element.get(name)) for name in ("x", "y", "width", "height"))
+
+    found = {}
+    for panel in picture.findall(f"{SVG}svg"):
+        if panel.get("class") != "pointer":
+            windows = {one.find(f"{SVG}title").text: (box(one), box(one.find(f"{SVG}rect"))) for one in panel.findall(f"{SVG}svg")}
+            found[panel.find(f"{SVG}title").text.partition(":")[0]] = (box(panel), windows)
+    return found
+
+
+def drawn(top):
+    """Pictures have the places of the sections, at their moments, and a page has a picture for each moment at which something changes."""
+    def run(*words):
+        ended = subprocess.run([built(BENCHES), *words], cwd=FOLDER, capture_output=True, text=True, timeout=120)
+        return ended.returncode, ended.stdout + ended.stderr
+
+    file = str(pathlib.Path(top, "picture.svg"))
+    see(run("draw", "moved.toml", "--at", "150", "--to", file) == (0, ""), "moved.toml isn't drawn")
+    picture = etree.parse(file).getroot()
+    found = boxes(picture)
+    see({name: place for name, (place, _) in found.items()} == {"left": (0, 0, 100, 80), "right": (100, 0, 100, 80)}, f"the panels of moved.toml at 150: {found}")
+    see(found["left"][1] == {".": ((0, 0, 100, 80),) * 2, ".count": ((24, 0, 52, 20),) * 2, ".more": ((24, 20, 52, 28),) * 2}, f"the windows of moved.toml at 150: {found}")
+    run("draw", "moved.toml", "--at", "1000", "--to", file)
+    found = boxes(etree.parse(file).getroot())
+    see(found["left"] == ((0, 200, 160, 100), {".": ((0, 0, 160, 100),) * 2, ".count": ((54, 0, 52, 20),) * 2, ".more": ((54, 20, 52, 28),) * 2}), f"the windows of moved.toml at its end: {found}")
+    for wrong, word in ((["--at", "99999", "--to", file], "behind the end"), (["--at", "x", "--to", file], "--at wants a moment"), (["--to", file], "usage"), (["--at", "5"], "usage"), (["--at", "5", "--to", f"{top}/none/x.svg"], "can't be written")):
+        status, text = run("draw", "moved.toml", *wrong)
+        see(status == 2 and word in text, f"draw {wrong}: {status} {text}")
+    for name in benches():
+        page = pathlib.Path(top, "page.html")
+        status, text = run("show", name, "--to", str(page))
+        html = page.read_text()
+        moments = [int(moment) for moment in re.findall(r'<section class="frame" data-moment="([0-9]+)">', html)]
+        see(status == 0 and text == f"{page}: {len(moments)} moments\n" and moments == sorted(set(moments)) and moments[0] == 0, f"the page of {name}: {status} {text} {moments}")
+        pictures = [etree.fromstring(one) for one in re.findall(r'<div class="screen">\n(<svg .*?</svg>\n)</div>', html, re.S)]
+        see(len(pictures) == len(moments) and "http" not in re.sub(r'xmlns="[^"]*"', "", html), f"the page of {name} has {len(pictures)} pictures, or wants the network")
+        for picture in pictures:
+            width, height = int(picture.get("width")), int(picture.get("height"))
+            for title, ((x, y, across, down), windows) in boxes(picture).items():
+                see(x + across <= width and y + down <= height, f"{name}: {title} is outside of its screen")
+                see(all(left >= 0 and up >= 0 and left + wide <= across and up + high <= down for (left, up, wide, high), _ in windows.values()), f"{name}: a window of {title} is shown outside of it")
+    pathlib.Path(top, "ticking.toml").write_text('end = 1000\n[[panel]]\nname = "ticking"\ntext = "proc tick {} {after 1 tick}; tick"\nat = [0, 0]\nsize = [9, 9]\nsteps = 9999\n')
+    status, text = run("show", f"{top}/ticking.toml", "--to", f"{top}/ticking.html")
+    see(status == 0 and text.endswith(": 500 moments\n") and "goes on after the last of these moments" in pathlib.Path(top, "ticking.html").read_text(), f"a page of too many moments: {status} {text}")
+    see(run("run", "--trace", f"{top}/ticking.toml")[1].endswith("too many moments to tell\n"), "a trace of too many moments")
+    wanted = re.findall(r"^win (\S+) ", (FOLDER / "thermostat.shown").read_text(), re.M)
+    see(list(boxes(pictures[-1])["thermostat"][1]) == wanted, "the last picture of the thermostat has other windows than its section")
+
+
+def around(top):
+    """What the environment says, and what a terminal shows."""
+    def run(names, **more):
+        ended = subprocess.run([built(BENCHES), "check", *names], cwd=FOLDER, capture_output=True, text=True, timeout=120, env={**os.environ, **more})
+        return ended.returncode, ended.stdout, ended.stderr
+
+    names, played = benches(), []
+    for index in range(3):
+        file = pathlib.Path(top, f"status{index}")
+        status, text, said = run(names, TEST_TOTAL_SHARDS="3", TEST_SHARD_INDEX=str(index), TEST_SHARD_STATUS_FILE=str(file))
+        see((status, said) == (0, "") and file.exists(), f"share {index} of Bazel: {status} {text} {said}")
+        played.append(set(re.findall(r"^ok    (\S+): ", text, re.M)))
+    see(set.union(*played) == set(names) and sum(map(len, played)) == len(names), f"the shares of Bazel are {played}")
+    status, text, _ = run(["--shard", "1/1", *names], TEST_TOTAL_SHARDS="3", TEST_SHARD_INDEX="1")
+    see(status == 0 and set(re.findall(r"^ok    (\S+): ", text, re.M)) == set(names), "the command line's share isn't taken before Bazel's")
+    for wrong in ({"TEST_SHARD_INDEX": "3"}, {"TEST_SHARD_INDEX": "x"}, {}):
+        status, _, said = run(names, TEST_TOTAL_SHARDS="3", **wrong)
+        see(status == 2 and "TEST_SHARD_INDEX is no number" in said, f"Bazel's share {wrong}: {status} {said}")
+    ours, theirs = pty.openpty()
+    ended = subprocess.run([built(BENCHES), "check", *names], cwd=FOLDER, stdout=subprocess.PIPE, stderr=theirs, text=True, timeout=120)
+    os.close(theirs)
+    shown = os.read(ours, 65536).decode()
+    os.close(ours)
+    see(ended.returncode == 0 and "\r" not in ended.stdout and f"{len(names)} of {len(names)}: {names[-1]}" in shown and shown.endswith("\r\x1b[K"), f"a terminal shows {shown!r}")
+
+
 def writing(top):
     """What `new` and `accept` write."""
     def run(*words):
@@ -198,11 +357,13 @@ def main():
         sys.exit(__doc__)
     with tempfile.TemporaryDirectory() as top:
         runs = Runs(top)
-        for part in (check_all, changes, mistakes, statuses):
+        for part in (check_all, changes, mistakes, statuses, formats, shards, isolated, traced):
             part(runs)
         runs.run_all()
         if not TRYING:
             writing(top)
+            drawn(top)
+            around(top)
     print("".join(f"{fault}\n" for fault in faults), end="")
     print(f"benches: {count} things seen, {len(faults)} faults")
     return 1 if faults else 0

@@ -4,14 +4,20 @@ use crate::difference::differences;
 use crate::explaining::explained;
 use crate::failure::{Failure, fault};
 use crate::files::{beside, expected, load, write};
+use crate::formats::{json, junit, tap};
+use crate::isolating::push_disturbed;
 use crate::messages::slot_at;
-use crate::options::{Command, Options};
+use crate::options::{Command, Format, Options};
 use crate::reading::Read;
 use crate::report::{Case, count_failed, push_cases, report};
+use crate::shards::shard_of;
+use crate::showing::{draw, show as show_page, tell};
 use crate::sides::Side;
 use panels::{BenchFault, Played, compared, is_same, play};
 use std::alloc::Global;
+use std::env::Env;
 use std::fs;
+use std::io::Eprint;
 use std::rt::Files;
 use tcl_text::Text;
 use tk_session::{LineFault, ServiceKind, WritingFault};
@@ -34,7 +40,7 @@ fn words_of(fault: LineFault) -> &'static str {
 }
 
 /// What is wrong with a bench that isn't played.
-fn not_played(alloc: Global, file: &str, read: &Read, why: BenchFault) -> Failure {
+pub(crate) fn not_played(alloc: Global, file: &str, read: &Read, why: BenchFault) -> Failure {
     match why {
         BenchFault::NoMemory | BenchFault::NoSession(WritingFault::NoMemory) => Failure::NoMemory,
         BenchFault::NoSession(WritingFault::Unlike) => {
@@ -61,7 +67,7 @@ fn not_played(alloc: Global, file: &str, read: &Read, why: BenchFault) -> Failur
 }
 
 /// Plays a bench with the program's own services.
-fn played(alloc: Global, file: &str, read: &Read) -> Result<Played, Failure> {
+pub(crate) fn played(alloc: Global, file: &str, read: &Read) -> Result<Played, Failure> {
     let answer = play(
         alloc,
         &read.bench,
@@ -74,21 +80,72 @@ fn played(alloc: Global, file: &str, read: &Read) -> Result<Played, Failure> {
     }
 }
 
-fn check<R: Files + AllocGlobal + Print>(rt: &R, files: &[String]) -> Result<u8, Failure> {
-    let alloc = rt.alloc();
-    let mut cases: Vec<Case> = Vec::new(alloc);
-    for file in files {
-        let read = load(rt, file.as_str())?;
-        let played = played(alloc, file.as_str(), &read)?;
-        push_cases(rt, &mut cases, file.as_str(), &read, &played)?;
+/// Plays a bench and adds its cases.
+fn push_played<R: Files + AllocGlobal>(
+    rt: &R,
+    cases: &mut Vec<Case>,
+    file: &str,
+    isolates: bool,
+) -> Result<(), Failure> {
+    let read = load(rt, file)?;
+    let played = played(rt.alloc(), file, &read)?;
+    let first = cases.len();
+    push_cases(rt, cases, file, &read, &played)?;
+    if isolates {
+        push_disturbed(rt, cases, first, file, &played)?;
     }
-    let text = report(alloc, cases.as_slice())?;
+    Ok(())
+}
+
+/// The verdicts in a format.
+fn formatted(alloc: Global, format: Format, cases: &[Case]) -> Result<String, Failure> {
+    match format {
+        Format::Text => Ok(report(alloc, cases)?),
+        Format::Tap => Ok(tap(alloc, cases)?),
+        Format::Junit => Ok(junit(alloc, cases)?),
+        Format::Json => json(alloc, cases),
+    }
+}
+
+/// Begins the line of a terminal again.
+const LINE_AGAIN: &str = "\r\u{1b}[K";
+
+/// Says on a terminal which bench is played.
+fn show_progress<R: AllocGlobal + Eprint>(
+    rt: &R,
+    files: &[String],
+    number: usize,
+    file: &str,
+) -> Result<(), Failure> {
+    let number = number.saturating_add(1);
+    let text = format!(in rt.alloc(); "{LINE_AGAIN}{number} of {}: {file}", files.len())?;
+    Ok(rt.eprint(text.as_str())?)
+}
+
+/// Checks the benches of a share. `on_terminal` says that standard error is a terminal, which shows how far the run is.
+fn check<R: Env + Files + AllocGlobal + Print + Eprint>(
+    rt: &R,
+    options: &Options,
+    on_terminal: bool,
+) -> Result<u8, Failure> {
+    let files = options.files.as_slice();
+    let shard = shard_of(rt, options.shard)?;
+    let mut cases: Vec<Case> = Vec::new(rt.alloc());
+    for (number, file) in files.iter().enumerate() {
+        if shard.has(number) {
+            if on_terminal {
+                show_progress(rt, files, number, file.as_str())?;
+            }
+            let played = push_played(rt, &mut cases, file.as_str(), options.isolates);
+            if on_terminal {
+                rt.eprint(LINE_AGAIN)?;
+            }
+            played?;
+        }
+    }
+    let text = formatted(rt.alloc(), options.format, cases.as_slice())?;
     rt.print(text.as_str())?;
-    Ok(if count_failed(cases.as_slice()) == 0 {
-        0
-    } else {
-        1
-    })
+    Ok(u8::from(count_failed(cases.as_slice()) > 0))
 }
 
 fn print<R: Print>(rt: &R, bytes: &[u8]) -> Result<(), Failure> {
@@ -247,19 +304,29 @@ fn explain<R: Files + AllocGlobal + Print>(rt: &R, file: &str) -> Result<u8, Fai
 }
 
 /// Does what is asked for, and answers the exit status.
-pub(crate) fn obeyed<R: Files + AllocGlobal + Print>(
+pub(crate) fn obeyed<R: Env + Files + AllocGlobal + Print + Eprint>(
     rt: &R,
     options: &Options,
+    on_terminal: bool,
 ) -> Result<u8, Failure> {
     let files = options.files.as_slice();
     let [file, ..] = files else {
         return Ok(2);
     };
     match options.command {
-        Command::Check => check(rt, files),
+        Command::Check => check(rt, options, on_terminal),
+        Command::Run if options.traces => tell(rt, file.as_str()),
         Command::Run | Command::Session => show(rt, file.as_str(), options.command),
         Command::Accept => accept(rt, files),
         Command::New => make(rt, file.as_str()),
         Command::Explain => explain(rt, file.as_str()),
+        Command::Draw => match (options.at, &options.to) {
+            (Some(moment), Some(to)) => draw(rt, file.as_str(), moment, to.as_str()),
+            _ => Ok(2),
+        },
+        Command::Show => match &options.to {
+            Some(to) => show_page(rt, file.as_str(), to.as_str()),
+            None => Ok(2),
+        },
     }
 }

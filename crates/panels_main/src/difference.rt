@@ -24,7 +24,11 @@ fn part_of(line: &str) -> (&'static str, &str) {
 }
 
 /// The lines of a text that another hasn't.
-fn without<'a>(alloc: Global, text: &'a str, other: &str) -> Result<Vec<&'a str>, AllocError> {
+pub(crate) fn without<'a>(
+    alloc: Global,
+    text: &'a str,
+    other: &str,
+) -> Result<Vec<&'a str>, AllocError> {
     let mut lines = Vec::new(alloc);
     for line in text.split('\n') {
         if !other.split('\n').any(|own| own == line) {

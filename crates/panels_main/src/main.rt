@@ -7,31 +7,49 @@ mod doing;
 mod explaining;
 mod failure;
 mod files;
+mod film;
+mod formats;
+mod isolating;
 mod keys;
+mod lines;
 mod messages;
 mod nearest;
 mod options;
+mod page;
 mod place;
 mod reading;
 mod report;
+mod rows;
+mod scenes;
+mod screens;
 mod seeing;
+mod shards;
+mod showing;
 mod sides;
 mod table;
+mod trace;
 mod typing;
 
 use commands::obeyed;
 use failure::Failure;
 use options::options_of;
 use std::env;
+use std::io::IsTerminal;
 use std::process::ExitCode;
 
 const USAGE: &str = "\
-usage: panels check BENCH..    says whether benches show and do what they have to
-       panels run BENCH        prints the sections of its panels
+usage: panels check [--format text|tap|junit|json] [--shard K/N] [--isolate] BENCH..
+                               says whether benches show and do what they have to
+       panels run [--trace] BENCH
+                               prints the sections of its panels, or what happens moment by moment
        panels session BENCH    prints the session that it is
        panels accept BENCH..   writes the expected files, and tells what changes in them
        panels new FOLDER       writes a bench that passes
        panels explain SESSION  tells a session's fault in words
+       panels draw BENCH --at TIME --to FILE.svg
+                               writes a picture of its panels at a moment
+       panels show BENCH --to FILE.html
+                               writes a page that shows its panels from moment to moment
 ";
 
 /// Does what the words of the command line ask for, and answers the exit status.
@@ -42,7 +60,7 @@ fn done(rt: &HostRuntime) -> Result<u8, Failure> {
         words.push(word)?;
     }
     match options_of(alloc, words.as_slice())? {
-        Some(options) => obeyed(rt, &options),
+        Some(options) => obeyed(rt, &options, rt.stderr().is_terminal()),
         None => {
             rt.eprint(USAGE)?;
             Ok(2)

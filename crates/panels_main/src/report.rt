@@ -13,7 +13,10 @@ use std::rt::Files;
 /// A panel of a bench that was played, or what is of no panel.
 #[derive(Drop)]
 pub(crate) struct Case {
-    pub title: String,
+    /// The bench's file.
+    pub bench: String,
+    /// The panel's name; empty for what is of none.
+    pub panel: String,
     /// What isn't as it has to be; nothing where all is.
     pub problems: Vec<String>,
 }
@@ -115,7 +118,6 @@ fn case_of<R: Files + AllocGlobal>(
         Some(panel) => panel.name.as_str(),
         None => "",
     };
-    let title = format!(in alloc; "{file}: {name}")?;
     if let Some(section) = played.sections.as_slice().get(slot) {
         let bytes = section.as_slice();
         push_ends(
@@ -126,7 +128,11 @@ fn case_of<R: Files + AllocGlobal>(
         )?;
         push_unexpected(rt, &mut problems, file, side, bytes)?;
     }
-    Ok(Case { title, problems })
+    Ok(Case {
+        bench: String::from_str(alloc, file)?,
+        panel: String::from_str(alloc, name)?,
+        problems,
+    })
 }
 
 /// Adds the cases of a bench that was played: a case for each panel, and one for what is of none, where there is such.
@@ -144,17 +150,29 @@ pub(crate) fn push_cases<R: Files + AllocGlobal>(
     let mut problems = Vec::new(alloc);
     push_findings(alloc, &mut problems, read, played, None)?;
     if !problems.is_empty() {
-        let title = String::from_str(alloc, file)?;
-        cases.push(Case { title, problems })?;
+        cases.push(Case {
+            bench: String::from_str(alloc, file)?,
+            panel: String::new(alloc),
+            problems,
+        })?;
     }
     Ok(())
 }
 
+/// What a case is of.
+pub(crate) fn title(alloc: Global, case: &Case) -> Result<String, AllocError> {
+    if case.panel.is_empty() {
+        String::from_str(alloc, case.bench.as_str())
+    } else {
+        format!(in alloc; "{}: {}", case.bench.as_str(), case.panel.as_str())
+    }
+}
+
 /// Adds the line of a case, and those of what isn't as it has to be.
-fn push_case(text: &mut String, case: &Case) -> Result<(), AllocError> {
+fn push_case(alloc: Global, text: &mut String, case: &Case) -> Result<(), AllocError> {
     let is_fine = case.problems.is_empty();
     text.push_str(if is_fine { "ok    " } else { "FAIL  " })?;
-    text.push_str(case.title.as_str())?;
+    text.push_str(title(alloc, case)?.as_str())?;
     text.push_str("\n")?;
     for problem in &case.problems {
         text.push_str("    ")?;
@@ -176,7 +194,7 @@ pub(crate) fn count_failed(cases: &[Case]) -> usize {
 pub(crate) fn report(alloc: Global, cases: &[Case]) -> Result<String, AllocError> {
     let mut text = String::new(alloc);
     for case in cases {
-        push_case(&mut text, case)?;
+        push_case(alloc, &mut text, case)?;
     }
     let failed = count_failed(cases);
     let line = format!(in alloc; "{} panels, {failed} of them failed\n", cases.len())?;

@@ -1,5 +1,6 @@
 mod Apart
 mod Bounded
+mod Cut
 mod Deliveries
 mod FirstFormat
 mod History

@@ -1,8 +1,9 @@
 //! What a line gives to applications, and what comes of it, in turns of slices.
 
-ghost use Rattle.std.specs.Prelude.{◌≡◌, ◌≢◌, ◌<◌, ◌++◌, [], ◌∷◌, map, length, OnOk};
+ghost use Rattle.std.specs.Prelude.{◌≡◌, ◌≢◌, ◌<◌, ◌++◌, [], ◌∷◌, map, length, OnErr, OnOk};
 ghost use Rattle.tk_app.specs.Turns.{DeliversIn};
 ghost use Rattle.tk_route.specs.Routes.{deliveries};
+ghost use Rattle.tk_host.specs.Cut.{IsCutShort};
 ghost use Rattle.tk_host.specs.Held.{at_rest};
 ghost use Rattle.tk_host.specs.Ready.{AllRest};
 ghost use Rattle.tk_host.specs.Slots.{AreAt, RestsIn, given_from};
@@ -27,6 +28,8 @@ pub fn deliver_all<M: AliasService>(
     ensures parts { OnOk result (shared.new.parts ≡ map at_rest (after_given M.answer 0 (deliveries routed) (applications shared.old.parts))) }
     ensures turns { OnOk result (shared.new.turns
         ≡ shared.old.turns ++ turns_given M.answer slice (stages_of (deliveries routed)) (applications shared.old.parts)) }
+    ensures cut { OnErr result (IsCutShort
+        (shared.old.turns ++ turns_given M.answer slice (stages_of (deliveries routed)) (applications shared.old.parts)) shared.new.turns) }
 {
     match routed {
         Routed::Nobody => Ok(()),
@@ -53,6 +56,8 @@ fn deliver_one<M: AliasService>(
     ensures moment { OnOk result (shared.new.moment ≡ shared.old.moment) }
     ensures parts { OnOk result (shared.new.parts ≡ map at_rest (after_given M.answer 0 (only ∷ []) (applications shared.old.parts))) }
     ensures turns { OnOk result (shared.new.turns ≡ shared.old.turns ++ turns_given M.answer slice (stages_of (only ∷ [])) (applications shared.old.parts)) }
+    ensures cut { OnErr result (IsCutShort
+        (shared.old.turns ++ turns_given M.answer slice (stages_of (only ∷ [])) (applications shared.old.parts)) shared.new.turns) }
 {
     give(shared, only)?;
     stage(shared, slice)
@@ -74,6 +79,8 @@ fn deliver_twice<M: AliasService>(
     ensures parts { OnOk result (shared.new.parts ≡ map at_rest (after_given M.answer 0 (first ∷ second ∷ []) (applications shared.old.parts))) }
     ensures turns { OnOk result (shared.new.turns
         ≡ shared.old.turns ++ turns_given M.answer slice (stages_of (first ∷ second ∷ [])) (applications shared.old.parts)) }
+    ensures cut { OnErr result (IsCutShort
+        (shared.old.turns ++ turns_given M.answer slice (stages_of (first ∷ second ∷ [])) (applications shared.old.parts)) shared.new.turns) }
 {
     deliver_one(shared, first, slice)?;
     deliver_one(shared, second, slice)
@@ -95,6 +102,8 @@ fn deliver_both<M: AliasService>(
     ensures parts { OnOk result (shared.new.parts ≡ map at_rest (after_given M.answer 0 (first ∷ second ∷ []) (applications shared.old.parts))) }
     ensures turns { OnOk result (shared.new.turns
         ≡ shared.old.turns ++ turns_given M.answer slice (stages_of (first ∷ second ∷ [])) (applications shared.old.parts)) }
+    ensures cut { OnErr result (IsCutShort
+        (shared.old.turns ++ turns_given M.answer slice (stages_of (first ∷ second ∷ [])) (applications shared.old.parts)) shared.new.turns) }
 {
     give(shared, first)?;
     give(shared, second)?;
@@ -105,7 +114,8 @@ fn deliver_both<M: AliasService>(
 fn give<M: AliasService>(shared: &mut Shared<M>, delivery: Delivery) -> Result<(), AllocError>
     requires now { delivery.event.moment ≡ shared.old.moment }
     requires rests { RestsIn delivery.slot shared.old.parts }
-    ensures { OnOk result (shared.new ≡ record shared.old { parts = given_from 0 delivery shared.old.parts }) }
+    ensures given { OnOk result (shared.new ≡ record shared.old { parts = given_from 0 delivery shared.old.parts }) }
+    ensures turns { shared.new.turns ≡ shared.old.turns }
 {
     if delivery.slot >= shared.len() {
         return Ok(());
@@ -123,7 +133,8 @@ fn deliver<M: AliasService>(
     requires slot { slot < length shared.old.parts }
     requires now { event.moment ≡ shared.old.moment }
     requires rests { RestsIn slot shared.old.parts }
-    ensures { OnOk result (DeliversIn slot event shared.old shared.new) }
+    ensures delivered { OnOk result (DeliversIn slot event shared.old shared.new) }
+    ensures turns { shared.new.turns ≡ shared.old.turns }
 {
     let mut view = shared.view(slot);
     view.deliver(event)

@@ -49,6 +49,7 @@ impl<M: AliasService> Host<M> {
     ghost use Rattle.std.specs.Prelude.{◌≡◌, ◌≢◌, ◌≤◌, ℕ, List, [], ◌∷◌, ◌++◌, map, slice_get, Some, IfOk, IfErr, OnOk, OnErr, MatchResult};
     ghost use Rattle.tk_app.specs.Section.{section};
     ghost use Rattle.tk_base.specs.declared.rect.Rect.{Rect};
+    ghost use Rattle.tk_host.specs.Cut.{CutBy, IsCutShort};
     ghost use Rattle.tk_route.specs.Lines.{Line, at, values};
     ghost use Rattle.tk_host.specs.Held.{AddApp, AdvanceTo, Call, End, LineAt, Start, after_advance, after_end, after_line, after_start, gone_to, held_after, turns_after, with_app};
     ghost use Rattle.tk_host.specs.Ready.{IsAt};
@@ -116,6 +117,7 @@ impl<M: AliasService> Host<M> {
             OnOk result (self.new.held ≡ held_after M.answer (calls ++ Start ∷ [])) }
         ensures turns { (calls : List (Call M)) → self.old.held ≡ held_after M.answer calls →
             OnOk result (self.new.turns ≡ turns_after M.answer self.old.slice calls Start) }
+        ensures cut { IfErr result (λ fault. CutBy fault (after_start M.answer self.old).turns self.new.turns) }
     {
         match self.phase {
             Phase::Adding => {}
@@ -147,6 +149,8 @@ impl<M: AliasService> Host<M> {
             OnOk result (self.new.held ≡ held_after M.answer (calls ++ LineAt moment line ∷ [])) }
         ensures turns { (calls : List (Call M)) → self.old.held ≡ held_after M.answer calls →
             OnOk result (self.new.turns ≡ turns_after M.answer self.old.slice calls (LineAt moment line)) }
+        ensures cut { (first : List Rect) (earlier : List Line) → self.old.held.known ≡ values first earlier
+            → IfErr result (λ fault. CutBy fault (after_line M.answer first earlier (at moment line) self.old).turns self.new.turns) }
     {
         self.may_take(moment, &line)?;
         self.tested_line(moment, line)?;
@@ -166,6 +170,8 @@ impl<M: AliasService> Host<M> {
             OnOk result (self.new.held ≡ held_after M.answer (calls ++ LineAt moment line ∷ [])) }
         ensures turns { (calls : List (Call M)) → self.old.held ≡ held_after M.answer calls →
             OnOk result (self.new.turns ≡ turns_after M.answer self.old.slice calls (LineAt moment line)) }
+        ensures cut { (first : List Rect) (earlier : List Line) → self.old.held.known ≡ values first earlier
+            → OnErr result (IsCutShort (after_line M.answer first earlier (at moment line) self.old).turns self.new.turns) }
     {
         let routed = self.router.tested_line(moment, line);
         self.phase = Phase::Lost;
@@ -191,6 +197,7 @@ impl<M: AliasService> Host<M> {
             OnOk result (self.new.held ≡ held_after M.answer (calls ++ AdvanceTo moment ∷ [])) }
         ensures turns { (calls : List (Call M)) → self.old.held ≡ held_after M.answer calls →
             OnOk result (self.new.turns ≡ turns_after M.answer self.old.slice calls (AdvanceTo moment)) }
+        ensures cut { IfErr result (λ fault. CutBy fault (after_advance M.answer moment self.old).turns self.new.turns) }
     {
         self.go_to(moment, Phase::Reached(moment))
     }
@@ -207,6 +214,7 @@ impl<M: AliasService> Host<M> {
             OnOk result (self.new.held ≡ held_after M.answer (calls ++ End moment ∷ [])) }
         ensures turns { (calls : List (Call M)) → self.old.held ≡ held_after M.answer calls →
             OnOk result (self.new.turns ≡ turns_after M.answer self.old.slice calls (End moment)) }
+        ensures cut { IfErr result (λ fault. CutBy fault (after_end M.answer moment self.old).turns self.new.turns) }
     {
         self.go_to(moment, Phase::Finished(moment))
     }
@@ -230,8 +238,8 @@ impl<M: AliasService> Host<M> {
     }
 
     /// The turns that took steps in the last `start`, `line`, `advance_to` or `end` that wasn't refused with a number, one after another: whose each
-    /// was, and how many steps it took. Before the first of these calls there are none, and after a want of memory it is those of the call
-    /// that met it. It takes no memory.
+    /// was, and how many steps it took. Before the first of these calls there are none. After a want of memory it is those of the call that met it:
+    /// the first of those that there would have been, and at most one turn more, which the want of memory broke off. It takes no memory.
     pub fn turns(&self) -> &[Turn]
         ensures { result.now ≡ self.now.turns }
     {
@@ -243,6 +251,7 @@ impl<M: AliasService> Host<M> {
         requires begun { self.old.held.phase ≢ Phase.Adding }
         requires there { IsAt moment phase }
         ensures gone { OnOk result (self.new ≡ gone_to M.answer phase moment self.old) }
+        ensures cut { IfErr result (λ fault. CutBy fault (gone_to M.answer phase moment self.old).turns self.new.turns) }
         ensures unless { OnOk result (NoneApplies (RefusesMoment self.old.held moment) moment_faults) }
         ensures refused { IfErr result (IsRefusal (RefusesMoment self.old.held moment) moment_faults) }
         ensures left { IfErr result (λ fault. LeftBy fault self.old self.new) }

@@ -1,6 +1,6 @@
 //! Stages: what all applications do at one moment, in turns of slices, and the way from stage to stage.
 
-ghost use Rattle.std.specs.Prelude.{◌≡◌, ◌-◌, ◌≤◌, ◌<◌, ◌++◌, map, length, true, false, Ok, OnOk, IfOk, sum_by};
+ghost use Rattle.std.specs.Prelude.{◌≡◌, ◌-◌, ◌≤◌, ◌<◌, ◌++◌, map, length, true, false, Ok, OnOk, OnErr, IfOk, sum_by};
 ghost use Rattle.tk_app.specs.Rounds.{round, turns_of};
 ghost use Rattle.tk_app.specs.Stages.{IsPast, first_due};
 ghost use Rattle.tk_app.specs.Application.{next_due};
@@ -8,6 +8,7 @@ ghost use Rattle.tk_app.specs.Moments.{settled};
 ghost use Rattle.tk_app.specs.Part.{needs, stage_done};
 ghost use Rattle.tk_app.specs.Turns.{BeginsIn};
 ghost use Rattle.tk_host.specs.Alone.{passed};
+ghost use Rattle.tk_host.specs.Cut.{IsCutShort};
 ghost use Rattle.tk_host.specs.Ready.{AllRest};
 ghost use Rattle.tk_host.specs.Slots.{BeginsAt, TakesTurn, begun_at};
 ghost use Rattle.tk_host.specs.Turns.{applications, turns_on_the_way};
@@ -33,6 +34,7 @@ pub fn advance<M: AliasService>(
     ensures through { OnOk result (IsPast target (first_due next_due (settled M.answer) (applications shared.new.parts))) }
     ensures ahead { OnOk result (shared.new.moment ≤ target) }
     ensures turns { OnOk result (shared.new.turns ≡ shared.old.turns ++ turns_on_the_way M.answer slice target (applications shared.old.parts)) }
+    ensures cut { OnErr result (IsCutShort (shared.old.turns ++ turns_on_the_way M.answer slice target (applications shared.old.parts)) shared.new.turns) }
 {
     'moments: while let Some(due) = next_due(shared) {
         if due > target {
@@ -59,7 +61,8 @@ fn next_due<M: AliasService>(shared: &Shared<M>) -> Option<u64>
 /// The applications of which something is due at a moment begin to settle.
 fn begin_all<M: AliasService>(shared: &mut Shared<M>, moment: u64) -> Result<(), AllocError>
     requires { shared.old.moment ≡ moment }
-    ensures { OnOk result (shared.new ≡ record shared.old { parts = map (begun_at moment) shared.old.parts }) }
+    ensures begun { OnOk result (shared.new ≡ record shared.old { parts = map (begun_at moment) shared.old.parts }) }
+    ensures turns { shared.new.turns ≡ shared.old.turns }
 {
     for slot in 0..shared.len() {
         begin(shared, slot, moment)?;
@@ -75,7 +78,8 @@ fn begin<M: AliasService>(
 ) -> Result<(), AllocError>
     requires slot { slot < length shared.old.parts }
     requires moment { shared.old.moment ≡ moment }
-    ensures { OnOk result (BeginsAt moment slot shared.old shared.new) }
+    ensures begun { OnOk result (BeginsAt moment slot shared.old shared.new) }
+    ensures turns { shared.new.turns ≡ shared.old.turns }
 {
     let Some(due) = shared.next_due(slot) else {
         return Ok(());
@@ -92,7 +96,8 @@ pub fn begin_settling<M: AliasService>(
     slot: usize,
 ) -> Result<(), AllocError>
     requires { slot < length shared.old.parts }
-    ensures { OnOk result (BeginsIn slot shared.old shared.new) }
+    ensures begun { OnOk result (BeginsIn slot shared.old shared.new) }
+    ensures turns { shared.new.turns ≡ shared.old.turns }
 {
     let mut view = shared.view(slot);
     view.begin_settling()
@@ -104,6 +109,7 @@ pub fn stage<M: AliasService>(shared: &mut Shared<M>, slice: u64) -> Result<(), 
     ensures moment { OnOk result (shared.new.moment ≡ shared.old.moment) }
     ensures done { OnOk result (shared.new.parts ≡ map (stage_done M.answer shared.old.moment) shared.old.parts) }
     ensures turns { OnOk result (shared.new.turns ≡ shared.old.turns ++ turns_of slice (map (needs M.answer shared.old.moment) shared.old.parts)) }
+    ensures cut { OnErr result (IsCutShort (shared.old.turns ++ turns_of slice (map (needs M.answer shared.old.moment) shared.old.parts)) shared.new.turns) }
 {
     let mut more = true;
     'rounds: while more {
@@ -120,6 +126,7 @@ fn run_round<M: AliasService>(shared: &mut Shared<M>, slice: u64) -> Result<bool
     ensures left { OnOk result (map (needs M.answer shared.old.moment) shared.new.parts
         ≡ map (λ need. need - slice) (map (needs M.answer shared.old.moment) shared.old.parts)) }
     ensures turns { OnOk result (shared.new.turns ≡ shared.old.turns ++ round slice (map (needs M.answer shared.old.moment) shared.old.parts) 0) }
+    ensures cut { OnErr result (IsCutShort (shared.old.turns ++ round slice (map (needs M.answer shared.old.moment) shared.old.parts) 0) shared.new.turns) }
     ensures last { result ≡ Ok false → shared.new.parts ≡ map (stage_done M.answer shared.old.moment) shared.old.parts }
     ensures falls { result ≡ Ok true → sum_by (needs M.answer shared.old.moment) shared.new.parts < sum_by (needs M.answer shared.old.moment) shared.old.parts }
 {
@@ -139,7 +146,8 @@ fn take_turn<M: AliasService>(
 ) -> Result<bool, AllocError>
     requires slot { slot < length shared.old.parts }
     requires slice { 0 < slice }
-    ensures { IfOk result (λ again. TakesTurn M.answer slice slot again shared.old shared.new) }
+    ensures taken { IfOk result (λ again. TakesTurn M.answer slice slot again shared.old shared.new) }
+    ensures cut { OnErr result (IsCutShort shared.old.turns shared.new.turns) }
 {
     if !shared.is_under_way(slot) {
         return Ok(false);
@@ -147,6 +155,7 @@ fn take_turn<M: AliasService>(
     let mut view = shared.view(slot);
     match view.settle(slice)? {
         AppEnd::More => Ok(true),
-        AppEnd::Settled | AppEnd::Stopped => Ok(false),
+        AppEnd::Settled => Ok(false),
+        AppEnd::Stopped => Ok(false),
     }
 }

@@ -1,9 +1,11 @@
-use Rattle.std.proofs.Common.{◌++◌, map, sym, ap, ◌∙◌}
-use Rattle.std.proofs.lemmas.Result.{on_ok_weaker}
+use Rattle.std.proofs.Common.{◌++◌, ◌∷◌, [], map, sym, ap, ◌∙◌}
+use Rattle.std.proofs.lemmas.Result.{on_err_weaker, on_ok_weaker}
 use Rattle.tk_app.specs.Rounds.{turns_of}
 use Rattle.tk_app.specs.Part.{needs, stage_done}
 use Rattle.tk_app.specs.Turns.{Applications}
-use Rattle.tk_host.specs.Turns.{applications}
+use Rattle.tk_app.proofs.Views.{on_err}
+use Rattle.tk_host.specs.Turns.{applications, stages_of, turns_given}
+use Rattle.tk_host.proofs.Cut.{cut_as, cut_at_once}
 use Rattle.tk_host.proofs.Deliveries.{done_two, given_twice, needs_two, rests_in, rests_other, turns_apart}
 use Rattle.tk_host.proofs.events.deliver_both.Goals as goal
 
@@ -12,7 +14,7 @@ give-requires g c = record { now = c.requires.now; rests = λ part is. rests_in 
 
 pub give-requires-2 : goal.give-requires-2
 give-requires-2 g c =
-    let mid = c.in_ok-give.ensures in
+    let mid = c.in_ok-give.ensures.given in
     record {
       now = c.requires.also_now ∙ sym (ap (λ (h : Applications _). h.moment) mid);
       rests = λ part is. rests_other c.args.first c.args.second.slot c.args.shared.now c.give.new.shared part c.requires.differ mid c.requires.rest is;
@@ -21,13 +23,13 @@ give-requires-2 g c =
 pub returns-clause-moment : goal.returns-clause-moment
 returns-clause-moment g c =
     on_ok_weaker c.stage.result
-    (λ same. same ∙ ap (λ (h : Applications _). h.moment) (given_twice c.args.first c.args.second c.args.shared.now c.give.new.shared c.give-2.new.shared c.in_ok-give.ensures c.in_ok-give-2.ensures)) c.stage.ensures.moment
+    (λ same. same ∙ ap (λ (h : Applications _). h.moment) (given_twice c.args.first c.args.second c.args.shared.now c.give.new.shared c.give-2.new.shared c.in_ok-give.ensures.given c.in_ok-give-2.ensures.given)) c.stage.ensures.moment
 
 pub returns-clause-parts : goal.returns-clause-parts
 returns-clause-parts g c =
     let answer = g.M.AliasMeaning.answer in
     let old = c.args.shared.now in
-    let both = given_twice c.args.first c.args.second old c.give.new.shared c.give-2.new.shared c.in_ok-give.ensures c.in_ok-give-2.ensures in
+    let both = given_twice c.args.first c.args.second old c.give.new.shared c.give-2.new.shared c.in_ok-give.ensures.given c.in_ok-give-2.ensures.given in
     on_ok_weaker c.stage.result
     (λ done. done ∙ ap (λ (h : Applications _). map (stage_done answer h.moment) h.parts) both
     ∙ done_two answer c.args.first c.args.second old.moment c.requires.differ c.requires.now c.requires.also_now 0 old.parts c.requires.rest)
@@ -37,9 +39,37 @@ pub returns-clause-turns : goal.returns-clause-turns
 returns-clause-turns g c =
     let answer = g.M.AliasMeaning.answer in
     let old = c.args.shared.now in
-    let both = given_twice c.args.first c.args.second old c.give.new.shared c.give-2.new.shared c.in_ok-give.ensures c.in_ok-give-2.ensures in
+    let both = given_twice c.args.first c.args.second old c.give.new.shared c.give-2.new.shared c.in_ok-give.ensures.given c.in_ok-give-2.ensures.given in
     on_ok_weaker c.stage.result
     (λ told. told ∙ ap (λ (h : Applications _). h.turns ++ turns_of c.args.slice (map (needs answer h.moment) h.parts)) both
     ∙ ap (λ ns. old.turns ++ turns_of c.args.slice ns) (needs_two answer c.args.first c.args.second old.moment c.requires.differ c.requires.now c.requires.also_now 0 old.parts c.requires.rest)
     ∙ ap (λ ts. old.turns ++ ts) (sym (turns_apart answer c.args.slice c.args.first c.args.second (applications old.parts) c.requires.differ)))
     c.stage.ensures.turns
+
+pub returns-in_err-give-clause-cut : goal.returns-in_err-give-clause-cut
+returns-in_err-give-clause-cut g c =
+    let old = c.args.shared.now in
+    let whole = turns_given g.M.AliasMeaning.answer c.args.slice (stages_of (c.args.first ∷ c.args.second ∷ [])) (applications old.parts) in
+    on_err _ _
+    (cut_at_once old.turns whole c.give.new.shared.turns c.in_err-give.ensures.turns)
+
+pub returns-in_err-give-2-clause-cut : goal.returns-in_err-give-2-clause-cut
+returns-in_err-give-2-clause-cut g c =
+    let old = c.args.shared.now in
+    let whole = turns_given g.M.AliasMeaning.answer c.args.slice (stages_of (c.args.first ∷ c.args.second ∷ [])) (applications old.parts) in
+    on_err _ _
+    (cut_at_once old.turns whole c.give-2.new.shared.turns (c.in_err-give-2.ensures.turns ∙ c.in_ok-give.ensures.turns))
+
+pub returns-clause-cut : goal.returns-clause-cut
+returns-clause-cut g c =
+    let answer = g.M.AliasMeaning.answer in
+    let old = c.args.shared.now in
+    let mid : Applications _ = c.give-2.new.shared in
+    let both = given_twice c.args.first c.args.second old c.give.new.shared c.give-2.new.shared c.in_ok-give.ensures.given c.in_ok-give-2.ensures.given in
+    on_err_weaker c.stage.result
+    (λ cut. cut_as (mid.turns ++ turns_of c.args.slice (map (needs answer mid.moment) mid.parts))
+    (old.turns ++ turns_given answer c.args.slice (stages_of (c.args.first ∷ c.args.second ∷ [])) (applications old.parts)) c.stage.new.shared.turns
+    (ap (λ (h : Applications _). h.turns ++ turns_of c.args.slice (map (needs answer h.moment) h.parts)) both
+    ∙ ap (λ ns. old.turns ++ turns_of c.args.slice ns) (needs_two answer c.args.first c.args.second old.moment c.requires.differ c.requires.now c.requires.also_now 0 old.parts c.requires.rest)
+    ∙ ap (λ ts. old.turns ++ ts) (sym (turns_apart answer c.args.slice c.args.first c.args.second (applications old.parts) c.requires.differ))) cut)
+    c.stage.ensures.cut

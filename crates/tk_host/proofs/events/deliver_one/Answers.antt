@@ -1,9 +1,11 @@
-use Rattle.std.proofs.Common.{◌++◌, map, sym, ap, ◌∙◌}
-use Rattle.std.proofs.lemmas.Result.{on_ok_weaker}
+use Rattle.std.proofs.Common.{◌++◌, ◌∷◌, [], map, sym, ap, ◌∙◌}
+use Rattle.std.proofs.lemmas.Result.{on_err_weaker, on_ok_weaker}
 use Rattle.tk_app.specs.Rounds.{turns_of}
 use Rattle.tk_app.specs.Part.{needs, stage_done}
 use Rattle.tk_app.specs.Turns.{Applications}
-use Rattle.tk_host.specs.Turns.{applications}
+use Rattle.tk_app.proofs.Views.{on_err}
+use Rattle.tk_host.specs.Turns.{applications, stages_of, turns_given}
+use Rattle.tk_host.proofs.Cut.{cut_as, cut_at_once}
 use Rattle.tk_host.proofs.Deliveries.{done_one, needs_one, rests_in, turns_one}
 use Rattle.tk_host.proofs.events.deliver_one.Goals as goal
 
@@ -11,14 +13,14 @@ pub give-requires : goal.give-requires
 give-requires g c = record { now = c.requires.now; rests = λ part is. rests_in c.args.shared.now.parts c.args.only.slot part c.requires.rest is }
 
 pub returns-clause-moment : goal.returns-clause-moment
-returns-clause-moment g c = on_ok_weaker c.stage.result (λ same. same ∙ ap (λ (h : Applications _). h.moment) c.in_ok-give.ensures) c.stage.ensures.moment
+returns-clause-moment g c = on_ok_weaker c.stage.result (λ same. same ∙ ap (λ (h : Applications _). h.moment) c.in_ok-give.ensures.given) c.stage.ensures.moment
 
 pub returns-clause-parts : goal.returns-clause-parts
 returns-clause-parts g c =
     let answer = g.M.AliasMeaning.answer in
     let old = c.args.shared.now in
     on_ok_weaker c.stage.result
-    (λ done. done ∙ ap (λ (h : Applications _). map (stage_done answer h.moment) h.parts) c.in_ok-give.ensures ∙ done_one answer 0 c.args.only old.moment old.parts c.requires.now c.requires.rest)
+    (λ done. done ∙ ap (λ (h : Applications _). map (stage_done answer h.moment) h.parts) c.in_ok-give.ensures.given ∙ done_one answer 0 c.args.only old.moment old.parts c.requires.now c.requires.rest)
     c.stage.ensures.done
 
 pub returns-clause-turns : goal.returns-clause-turns
@@ -26,7 +28,26 @@ returns-clause-turns g c =
     let answer = g.M.AliasMeaning.answer in
     let old = c.args.shared.now in
     on_ok_weaker c.stage.result
-    (λ told. told ∙ ap (λ (h : Applications _). h.turns ++ turns_of c.args.slice (map (needs answer h.moment) h.parts)) c.in_ok-give.ensures
+    (λ told. told ∙ ap (λ (h : Applications _). h.turns ++ turns_of c.args.slice (map (needs answer h.moment) h.parts)) c.in_ok-give.ensures.given
     ∙ ap (λ ns. old.turns ++ turns_of c.args.slice ns) (needs_one answer 0 c.args.only old.moment old.parts c.requires.now c.requires.rest)
     ∙ ap (λ ts. old.turns ++ ts) (sym (turns_one answer c.args.slice c.args.only (applications old.parts))))
     c.stage.ensures.turns
+
+pub returns-in_err-give-clause-cut : goal.returns-in_err-give-clause-cut
+returns-in_err-give-clause-cut g c =
+    let old = c.args.shared.now in
+    on_err _ _
+    (cut_at_once old.turns (turns_given g.M.AliasMeaning.answer c.args.slice (stages_of (c.args.only ∷ [])) (applications old.parts)) c.give.new.shared.turns c.in_err-give.ensures.turns)
+
+pub returns-clause-cut : goal.returns-clause-cut
+returns-clause-cut g c =
+    let answer = g.M.AliasMeaning.answer in
+    let old = c.args.shared.now in
+    let mid : Applications _ = c.give.new.shared in
+    on_err_weaker c.stage.result
+    (λ cut. cut_as (mid.turns ++ turns_of c.args.slice (map (needs answer mid.moment) mid.parts))
+    (old.turns ++ turns_given answer c.args.slice (stages_of (c.args.only ∷ [])) (applications old.parts)) c.stage.new.shared.turns
+    (ap (λ (h : Applications _). h.turns ++ turns_of c.args.slice (map (needs answer h.moment) h.parts)) c.in_ok-give.ensures.given
+    ∙ ap (λ ns. old.turns ++ turns_of c.args.slice ns) (needs_one answer 0 c.args.only old.moment old.parts c.requires.now c.requires.rest)
+    ∙ ap (λ ts. old.turns ++ ts) (sym (turns_one answer c.args.slice c.args.only (applications old.parts)))) cut)
+    c.stage.ensures.cut

@@ -1,10 +1,13 @@
 use Rattle.std.proofs.Common.{◌≡◌, ◌++◌, ◌∷◌, [], map, List, sym, ap, ◌∙◌, subst, append_assoc}
-use Rattle.std.proofs.lemmas.Result.{on_ok_weaker}
+use Rattle.std.proofs.lemmas.Result.{on_err_weaker, on_ok_weaker}
 use Rattle.tk_app.specs.Rounds.{turns_of}
 use Rattle.tk_app.specs.Application.{Application}
+use Rattle.tk_app.specs.Turns.{Applications}
+use Rattle.tk_app.proofs.Views.{on_err}
 use Rattle.tk_host.specs.Held.{at_rest}
 use Rattle.tk_host.specs.Ready.{AllRest}
-use Rattle.tk_host.specs.Turns.{after_given, applications, steps_given}
+use Rattle.tk_host.specs.Turns.{after_given, applications, stages_of, steps_given, turns_given}
+use Rattle.tk_host.proofs.Cut.{cut_as, cut_more}
 use Rattle.tk_host.proofs.Deliveries.{after_two, turns_one, turns_same}
 use Rattle.tk_host.proofs.Parts.{apps_at, rest_at}
 use Rattle.tk_host.proofs.events.deliver_twice.Goals as goal
@@ -46,3 +49,38 @@ returns-clause-turns g c =
     ∙ append_assoc old.turns (turns_of slice (steps_given answer 0 (c.args.first ∷ []) apps)) (turns_of slice (steps_given answer 0 (c.args.second ∷ []) (after_given answer 0 (c.args.first ∷ []) apps)))
     ∙ ap (λ ts. old.turns ++ ts) (sym (turns_same answer slice c.args.first c.args.second apps c.requires.same)))
     c.deliver_one-2.ensures.turns
+
+pub returns-in_err-deliver_one-clause-cut : goal.returns-in_err-deliver_one-clause-cut
+returns-in_err-deliver_one-clause-cut g c =
+    let answer = g.M.AliasMeaning.answer in
+    let slice = c.args.slice in
+    let old = c.args.shared.now in
+    let apps : List (Application _) = applications old.parts in
+    let one = turns_of slice (steps_given answer 0 (c.args.first ∷ []) apps) in
+    let other = turns_of slice (steps_given answer 0 (c.args.second ∷ []) (after_given answer 0 (c.args.first ∷ []) apps)) in
+    let told = c.deliver_one.new.shared.turns in
+    on_err _ _
+    (cut_as ((old.turns ++ one) ++ other) (old.turns ++ turns_given answer slice (stages_of (c.args.first ∷ c.args.second ∷ [])) apps) told
+    (append_assoc old.turns one other ∙ ap (λ ts. old.turns ++ ts) (sym (turns_same answer slice c.args.first c.args.second apps c.requires.same)))
+    (cut_more (old.turns ++ one) other told
+    (cut_as (old.turns ++ turns_given answer slice (stages_of (c.args.first ∷ [])) apps) (old.turns ++ one) told (ap (λ ts. old.turns ++ ts) (turns_one answer slice c.args.first apps))
+    c.in_err-deliver_one.ensures.cut)))
+
+pub returns-clause-cut : goal.returns-clause-cut
+returns-clause-cut g c =
+    let answer = g.M.AliasMeaning.answer in
+    let slice = c.args.slice in
+    let old = c.args.shared.now in
+    let apps : List (Application _) = applications old.parts in
+    let there : Applications _ = c.deliver_one.new.shared in
+    let mid : applications there.parts ≡ after_given answer 0 (c.args.first ∷ []) apps = ap applications c.in_ok-deliver_one.ensures.parts ∙ apps_at answer (after_given answer 0 (c.args.first ∷ []) apps) in
+    let one = c.in_ok-deliver_one.ensures.turns ∙ ap (λ ts. old.turns ++ ts) (turns_one answer slice c.args.first apps) in
+    on_err_weaker c.deliver_one-2.result
+    (λ cut. cut_as (there.turns ++ turns_given answer slice (stages_of (c.args.second ∷ [])) (applications there.parts))
+    (old.turns ++ turns_given answer slice (stages_of (c.args.first ∷ c.args.second ∷ [])) apps) c.deliver_one-2.new.shared.turns
+    (ap (λ ts. there.turns ++ ts) (turns_one answer slice c.args.second (applications there.parts))
+    ∙ ap (λ apps. there.turns ++ turns_of slice (steps_given answer 0 (c.args.second ∷ []) apps)) mid
+    ∙ ap (λ ts. ts ++ turns_of slice (steps_given answer 0 (c.args.second ∷ []) (after_given answer 0 (c.args.first ∷ []) apps))) one
+    ∙ append_assoc old.turns (turns_of slice (steps_given answer 0 (c.args.first ∷ []) apps)) (turns_of slice (steps_given answer 0 (c.args.second ∷ []) (after_given answer 0 (c.args.first ∷ []) apps)))
+    ∙ ap (λ ts. old.turns ++ ts) (sym (turns_same answer slice c.args.first c.args.second apps c.requires.same))) cut)
+    c.deliver_one-2.ensures.cut

@@ -1,4 +1,4 @@
-use Rattle.std.proofs.Common.{List, length, length-set, ap, sym, arith}
+use Rattle.std.proofs.Common.{List, length, length-set, refl, ap, sym, ◌∙◌, arith}
 use Rattle.std.proofs.lemmas.Result.{on_ok_weaker}
 use Rattle.tk_app.specs.Moments.{delivered}
 use Rattle.tk_app.specs.Part.{Part}
@@ -7,15 +7,20 @@ use Rattle.tk_host.proofs.Deliveries.{given_is, given_nobody}
 use Rattle.tk_host.proofs.events.give.Goals as goal
 
 pub returns-then-delivery-len : goal.returns-then-delivery-len
-returns-then-delivery-len g c = ap (λ (ps : List (Part _)). record c.args.shared.now { parts = ps }) (sym (given_nobody c.args.delivery 0 c.args.shared.now.parts (omega arith)))
+returns-then-delivery-len g c = record {
+  given = ap (λ (ps : List (Part _)). record c.args.shared.now { parts = ps }) (sym (given_nobody c.args.delivery 0 c.args.shared.now.parts (omega arith)));
+  turns = refl;
+}
 
 pub begin_settling-requires : goal.begin_settling-requires
 begin_settling-requires g c =
-    let delivers = c.in_ok-deliver.ensures in
+    let delivers = c.in_ok-deliver.ensures.delivered in
     let got : Part _ = record delivers.before { application = delivered c.args.delivery.event delivers.before.application } in
     omega (arith, ap (λ (h : Applications _). length h.parts) delivers.changed, length-set c.args.shared.now.parts c.args.delivery.slot got, c.if-delivery-len.false, c.len.ensures)
 
 pub returns : goal.returns
-returns g c =
-    on_ok_weaker c.begin_settling.result
-    (λ begins. given_is c.args.delivery c.args.shared.now c.deliver.new.shared c.begin_settling.new.shared c.requires.now c.in_ok-deliver.ensures begins) c.begin_settling.ensures
+returns g c = record {
+  given = on_ok_weaker c.begin_settling.result
+      (λ begins. given_is c.args.delivery c.args.shared.now c.deliver.new.shared c.begin_settling.new.shared c.requires.now c.in_ok-deliver.ensures.delivered begins) c.begin_settling.ensures.begun;
+  turns = c.begin_settling.ensures.turns ∙ c.in_ok-deliver.ensures.turns;
+}

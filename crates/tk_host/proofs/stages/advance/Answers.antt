@@ -1,8 +1,11 @@
-use Rattle.std.proofs.Common.{refl, sym, subst}
+use Rattle.std.proofs.Common.{refl, sym, ap, ◌∙◌, subst}
 use Rattle.tk_app.specs.Stages.{IsPast, first_due}
 use Rattle.tk_app.specs.Application.{next_due}
 use Rattle.tk_app.specs.Moments.{settled}
+use Rattle.tk_app.specs.Turns.{Applications}
+use Rattle.tk_app.proofs.Views.{on_err}
 use Rattle.tk_host.specs.Turns.{applications}
+use Rattle.tk_host.proofs.Cut.{cut_on_the_way, cut_way}
 use Rattle.tk_host.proofs.Ways.{way_brought, way_lighter, way_on, way_told}
 use Rattle.tk_host.proofs.stages.advance.Goals as goal
 
@@ -21,19 +24,20 @@ returns-then-due-target g c =
       through = past;
       ahead = way.ahead;
       turns = way_told g.M.AliasMeaning.answer c.args.slice c.args.target c.args.shared.now here way past;
+      cut = tt;
     }
 
 pub moments-smaller : goal.moments-smaller
 moments-smaller g c =
     let here = c.moments.shared in
-    way_lighter g.M.AliasMeaning.answer c.in-Some.due here c.set_moment.new.self c.begin_all.new.shared c.stage.new.shared (sym c.in-Some.ensures) c.moments.invariant.rest c.set_moment.ensures c.in_ok-begin_all.ensures c.in_ok-stage.ensures.done
+    way_lighter g.M.AliasMeaning.answer c.in-Some.due here c.set_moment.new.self c.begin_all.new.shared c.stage.new.shared (sym c.in-Some.ensures) c.moments.invariant.rest c.set_moment.ensures c.in_ok-begin_all.ensures.begun c.in_ok-stage.ensures.done
 
 pub moments-preserved : goal.moments-preserved
 moments-preserved g c =
     let here = c.moments.shared in
     let told = c.in_ok-stage.ensures in
     way_on g.M.AliasMeaning.answer c.args.slice c.args.target c.in-Some.due c.args.shared.now here c.set_moment.new.self c.begin_all.new.shared c.stage.new.shared (sym c.in-Some.ensures) c.if-due-target.false c.moments.invariant
-    c.set_moment.ensures c.in_ok-begin_all.ensures told.moment told.done told.turns
+    c.set_moment.ensures c.in_ok-begin_all.ensures.begun told.moment told.done told.turns
 
 pub returns : goal.returns
 returns g c =
@@ -47,4 +51,17 @@ returns g c =
       through = past;
       ahead = way.ahead;
       turns = way_told g.M.AliasMeaning.answer c.args.slice c.args.target c.args.shared.now here way past;
+      cut = tt;
     }
+
+pub returns-in_err-begin_all-clause-cut : goal.returns-in_err-begin_all-clause-cut
+returns-in_err-begin_all-clause-cut g c =
+    on_err _ _
+    (cut_way g.M.AliasMeaning.answer c.args.slice c.args.target c.args.shared.now c.moments.shared c.begin_all.new.shared.turns c.moments.invariant
+    (c.in_err-begin_all.ensures.turns ∙ ap (λ (h : Applications _). h.turns) c.set_moment.ensures))
+
+pub returns-in_err-stage-clause-cut : goal.returns-in_err-stage-clause-cut
+returns-in_err-stage-clause-cut g c =
+    on_err _ _
+    (cut_on_the_way g.M.AliasMeaning.answer c.args.slice c.args.target c.in-Some.due c.args.shared.now c.moments.shared c.set_moment.new.self c.begin_all.new.shared c.stage.new.shared.turns (sym c.in-Some.ensures)
+    c.if-due-target.false c.moments.invariant c.set_moment.ensures c.in_ok-begin_all.ensures.begun c.in_err-stage.ensures.cut)

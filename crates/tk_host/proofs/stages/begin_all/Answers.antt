@@ -11,4 +11,10 @@ begin-requires g c =
 pub loop-slot-preserved : goal.loop-slot-preserved
 loop-slot-preserved g c =
     let loop = c.loop-slot in
-    begun_more g.M.AliasMeaning.answer c.args.moment loop.slot c.args.shared.now loop.shared c.begin.new.shared (omega arith) loop.invariant c.in_ok-begin.ensures
+    begun_more g.M.AliasMeaning.answer c.args.moment loop.slot c.args.shared.now loop.shared c.begin.new.shared (omega arith) loop.invariant c.in_ok-begin.ensures.begun
+
+pub returns-in_err-begin-clause-turns : goal.returns-in_err-begin-clause-turns
+returns-in_err-begin-clause-turns g c = c.in_err-begin.ensures.turns ∙ ap (λ (h : Applications _). h.turns) c.loop-slot.invariant.same
+
+pub returns-clause-turns : goal.returns-clause-turns
+returns-clause-turns g c = ap (λ (h : Applications _). h.turns) c.loop-slot.invariant.same

@@ -1,7 +1,10 @@
-use Rattle.std.proofs.Common.{◌≡◌, ◌++◌, ◌-◌, ℕ, List, [], map, sum, sym, ap, ◌∙◌, append-nil, arith, Ok}
+use Rattle.std.proofs.Common.{◌≡◌, ◌++◌, ◌-◌, ℕ, List, [], map, sum, sym, ap, ◌∙◌, subst, append-nil, arith, Ok}
 use Rattle.tk_app.specs.Rounds.{round, turns_of}
 use Rattle.tk_app.proofs.Rounds.{turns_more, turns_none}
 use Rattle.tk_app.specs.Part.{Part, needs, stage_done}
+use Rattle.tk_app.proofs.Views.{on_err}
+use Rattle.tk_host.specs.Cut.{IsCutShort}
+use Rattle.tk_host.proofs.Cut.{cut_stage}
 use Rattle.tk_host.proofs.Slots.{none_needed}
 use Rattle.tk_host.proofs.stages.stage.Goals as goal
 
@@ -34,3 +37,13 @@ returns-clause-turns g c =
     let rest : turns_of c.args.slice (map (needs g.M.AliasMeaning.answer m) loop.shared.parts) ≡ [] =
     turns_none c.args.slice (map (needs g.M.AliasMeaning.answer m) loop.shared.parts) (ap (λ ps. sum (map (needs g.M.AliasMeaning.answer m) ps)) (loop.invariant.last c.rounds-test.false) ∙ none_needed g.M.AliasMeaning.answer m c.args.shared.now.parts) in
     sym (append-nil loop.shared.turns) ∙ ap (λ ts. loop.shared.turns ++ ts) (sym rest) ∙ loop.invariant.turns
+
+pub returns-in_err-more-clause-cut : goal.returns-in_err-more-clause-cut
+returns-in_err-more-clause-cut g c =
+    let loop = c.rounds in
+    let m : ℕ = c.args.shared.now.moment in
+    let needed_by : ℕ → List (Part _) → List ℕ = λ n ps. map (needs g.M.AliasMeaning.answer n) ps in
+    let told = c.run_round.new.shared.turns in
+    on_err _ _
+    (cut_stage c.args.slice (needed_by m loop.shared.parts) loop.shared.turns (c.args.shared.now.turns ++ turns_of c.args.slice (needed_by m c.args.shared.now.parts)) told (omega arith) loop.invariant.turns
+    (subst (λ n. IsCutShort (loop.shared.turns ++ round c.args.slice (needed_by n loop.shared.parts) 0) told) loop.invariant.moment c.in_err-more.ensures.cut))

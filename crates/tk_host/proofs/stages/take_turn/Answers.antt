@@ -1,5 +1,20 @@
-use Rattle.tk_host.proofs.Slots.{turn_at_rest}
+use Rattle.std.proofs.Common.{rules}
+use Rattle.tk_app.proofs.Views.{on_err}
+use Rattle.tk_host.proofs.Cut.{cut_turn}
+use Rattle.tk_host.proofs.Slots.{turn_at_rest, turn_on, turn_settled, turn_stopped}
 use Rattle.tk_host.proofs.stages.take_turn.Goals as goal
 
-pub returns-then-not-is_under_way : goal.returns-then-not-is_under_way
-returns-then-not-is_under_way g c = turn_at_rest g.M.AliasMeaning.answer c.args.slice c.args.slot c.args.shared.now (rw c.if-not-is_under_way.true at c.is_under_way.ensures)
+pub returns-then-not-is_under_way-clause-taken : goal.returns-then-not-is_under_way-clause-taken
+returns-then-not-is_under_way-clause-taken g c = turn_at_rest g.M.AliasMeaning.answer c.args.slice c.args.slot c.args.shared.now (rw c.if-not-is_under_way.true at c.is_under_way.ensures)
+
+pub returns-in_err-settle-clause-cut : goal.returns-in_err-settle-clause-cut
+returns-in_err-settle-clause-cut g c = on_err _ _ (cut_turn c.args.slot c.args.shared.now c.shared-1.given.0 (search rules))
+
+pub returns-in-More-clause-taken : goal.returns-in-More-clause-taken
+returns-in-More-clause-taken g c = turn_on g.M.AliasMeaning.answer c.args.slice c.args.slot c.args.shared.now _ (rw c.if-not-is_under_way.false at c.is_under_way.ensures) (search rules)
+
+pub returns-in-Settled-clause-taken : goal.returns-in-Settled-clause-taken
+returns-in-Settled-clause-taken g c = turn_settled g.M.AliasMeaning.answer c.args.slice c.args.slot c.args.shared.now _ (rw c.if-not-is_under_way.false at c.is_under_way.ensures) (search rules)
+
+pub returns-in-Stopped-clause-taken : goal.returns-in-Stopped-clause-taken
+returns-in-Stopped-clause-taken g c = turn_stopped g.M.AliasMeaning.answer c.args.slice c.args.slot c.args.shared.now _ (rw c.if-not-is_under_way.false at c.is_under_way.ensures) (search rules)

@@ -8,6 +8,7 @@ use Rattle.tk_host.specs.declared.phase.Phase.TheVariants.{Reached}
 use Rattle.tk_host.specs.Held.{Hosted}
 use Rattle.tk_host.specs.Ready.{AllRest}
 use Rattle.tk_host.specs.Turns.{applications}
+use Rattle.tk_host.proofs.Cut.{cut_by, cut_going}
 use Rattle.tk_host.proofs.History.{not_back, reached_if_not_refused}
 use Rattle.tk_host.proofs.Kept.{gone_is, ready_gone, routed_gone}
 use Rattle.tk_host.proofs.host.Host.go_to.Goals as goal
@@ -57,3 +58,14 @@ returns-clause-gone g c =
     let gone = c.in_ok-advance.ensures in
     gone_is g.M.AliasMeaning.answer inside.phase c.args.phase from.0 c.args.moment inside.rects.items inside.router inside.slice inside.shared c.clear_turns.new.self c.advance.new.shared c.args.self.now there c.requires.there c.self.view_is ready.1 c.clear_turns.ensures
     gone.brought gone.rest gone.turns
+
+pub returns-in_err-advance-clause-cut : goal.returns-in_err-advance-clause-cut
+returns-in_err-advance-clause-cut g c =
+    let inside = c.self.inside in
+    cut_by _ _ _
+    (cut_going g.M.AliasMeaning.answer inside.phase c.args.phase c.args.moment inside.rects.items inside.router inside.slice inside.shared c.clear_turns.new.self c.args.self.now c.advance.new.shared.turns c.self.view_is
+    c.clear_turns.ensures c.in_err-advance.ensures.cut)
+
+pub returns-in_err-may_go_to-clause-cut : goal.returns-in_err-may_go_to-clause-cut
+returns-in_err-may_go_to-clause-cut g c =
+    let p = err_from_is_err_and c.from_residual.result c.from_residual.ensures.1 in rw (p.1, p.2) tt

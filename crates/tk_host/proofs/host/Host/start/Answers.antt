@@ -5,6 +5,7 @@ use Rattle.tk_app.specs.Turns.{Applications}
 use Rattle.tk_host.specs.declared.phase.Phase.TheVariants.{Adding}
 use Rattle.tk_host.specs.Held.{Hosted}
 use Rattle.tk_host.specs.Ready.{IsReady}
+use Rattle.tk_host.proofs.Cut.{cut_by, cut_start}
 use Rattle.tk_host.proofs.History.{history_of_start, turns_of_start}
 use Rattle.tk_host.proofs.Kept.{ready_started, routed_start, started_is}
 use Rattle.tk_host.proofs.host.Host.start.Goals as goal
@@ -38,3 +39,11 @@ pub returns-clause-turns : goal.returns-clause-turns
 returns-clause-turns g c = λ calls held.
     let adding : c.args.self.now.held.phase ≡ Adding = sym (ap (λ (h : Hosted _). h.held.phase) c.self.view_is) ∙ c.in-Adding.is in
     turns_of_start g.M.AliasMeaning.answer calls c.args.self.now _ held adding (ap (λ (h : Hosted _). h.turns) (returns-clause-started g c))
+
+pub returns-in_err-stage-clause-cut : goal.returns-in_err-stage-clause-cut
+returns-in_err-stage-clause-cut g c =
+    let inside = c.self.inside in
+    let start : inside.shared.moment ≡ 0 = (c.self.invariant.1.adding c.in-Adding.is).0 in
+    cut_by _ _ _
+    (cut_start g.M.AliasMeaning.answer inside.phase inside.rects.items inside.router inside.slice inside.shared c.clear_turns.new.self c.args.self.now c.stage.new.shared.turns c.self.view_is start c.clear_turns.ensures
+    c.in_err-stage.ensures.cut)

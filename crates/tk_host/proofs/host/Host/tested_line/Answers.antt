@@ -5,11 +5,13 @@ use Rattle.tk_route.specs.Routes.{deliveries}
 use Rattle.tk_app.specs.Application.{next_due}
 use Rattle.tk_app.specs.Moments.{settled}
 use Rattle.tk_app.specs.Turns.{Applications}
+use Rattle.tk_app.proofs.Views.{on_err}
 use Rattle.tk_host.specs.declared.phase.Phase.TheVariants.{Reached}
 use Rattle.tk_host.specs.Held.{Hosted}
 use Rattle.tk_host.specs.Ready.{AllRest}
 use Rattle.tk_host.specs.Slots.{AreAt}
 use Rattle.tk_host.specs.Turns.{applications}
+use Rattle.tk_host.proofs.Cut.{cut_before_line, cut_line}
 use Rattle.tk_host.proofs.History.{history_of_line, not_back, reached_if_not_refused, turns_of_line}
 use Rattle.tk_host.proofs.Kept.{known_reached, lined_is, ready_line, routed_line}
 use Rattle.tk_host.proofs.Order.{tested_for_router}
@@ -112,3 +114,23 @@ returns-clause-turns g c = λ calls held.
     let none = c.requires.tested in
     let from = reached_if_not_refused phase c.requires.begun none.0 none.1.0 in
     turns_of_line g.M.AliasMeaning.answer calls from.0 c.args.moment c.args.line c.args.self.now _ held from.1 (returns-clause-lined g c)
+
+pub returns-in_err-advance-clause-cut : goal.returns-in_err-advance-clause-cut
+returns-in_err-advance-clause-cut g c = λ first earlier is.
+    let inside = c.self.inside in
+    on_err _ _
+    (cut_before_line g.M.AliasMeaning.answer inside.phase (Reached c.args.moment) (at c.args.moment c.args.line) first earlier inside.rects.items inside.router inside.slice inside.shared c.clear_turns.new.self c.args.self.now
+    c.advance.new.shared.turns c.self.view_is c.clear_turns.ensures c.in_err-advance.ensures.cut)
+
+pub returns-in_err-deliver_all-clause-cut : goal.returns-in_err-deliver_all-clause-cut
+returns-in_err-deliver_all-clause-cut g c = λ first earlier is.
+    let inside = c.self.inside in
+    let none = c.requires.tested in
+    let from = reached_if_not_refused c.args.self.now.held.phase c.requires.begun none.0 none.1.0 in
+    let there : inside.phase ≡ Reached from.0 = ap (λ (h : Hosted _). h.held.phase) c.self.view_is ∙ from.1 in
+    let router : inside.router ≡ c.args.self.now.held.known =
+    sym (known_reached inside.phase from.0 inside.rects.items inside.router there) ∙ ap (λ (h : Hosted _). h.held.known) c.self.view_is in
+    on_err _ _
+    (cut_line g.M.AliasMeaning.answer inside.phase (at c.args.moment c.args.line) first earlier inside.rects.items inside.router inside.slice (deliveries c.tested_line-routed.result) inside.shared c.clear_turns.new.self
+    c.advance.new.shared c.set_moment.new.self c.args.self.now c.deliver_all.new.shared.turns c.self.view_is c.clear_turns.ensures (c.tested_line-routed.ensures.routes first earlier (router ∙ is))
+    c.in_ok-advance.ensures.brought c.in_ok-advance.ensures.turns c.set_moment.ensures c.in_err-deliver_all.ensures.cut)

@@ -1,0 +1,170 @@
+-- Turns that want of memory cut short.
+use Rattle.std.proofs.Common.{◌≡◌, ℕ, zero, suc, ◌-◌, ◌≤◌, ◌++◌, Bool, List, [], length, map, drop, Option, Some, refl, sym, ap, ◌∙◌, subst, append-nil, append_assoc, arith}
+use Rattle.std.specs.Prelude.{Result, Ok, Err, IfErr, OnErr, OnOk}
+use Rattle.tk_base.specs.declared.rect.Rect.{Rect}
+use Rattle.tk_route.specs.Lines.{Line}
+use Rattle.tk_route.specs.Routes.{routes}
+use Rattle.tk_route.specs.Values.{Values}
+use Rattle.tk_route.specs.declared.delivery.Delivery.{Delivery}
+use Rattle.tk_route.specs.declared.fault.HostFault.{HostFault}
+use Rattle.tk_route.specs.declared.fault.HostFault.TheVariants.{Refused, NoMemory}
+use Rattle.tk_app.specs.declared.turns.Turn.{Turn}
+use Rattle.tk_app.specs.Application.{Application, next_due}
+use Rattle.tk_app.specs.Moments.{settled}
+use Rattle.tk_app.specs.Part.{Part, needs}
+use Rattle.tk_app.specs.Rounds.{entry, round, round_from, turns_of}
+use Rattle.tk_app.specs.Seen.{Meaning}
+use Rattle.tk_app.specs.Stages.{first_due, stage_at, turns_at}
+use Rattle.tk_app.specs.Turns.{Applications, BeginsIn, ChangesOnly}
+use Rattle.tk_app.proofs.Rounds.{turns_step}
+use Rattle.tk_host.specs.declared.phase.Phase.{Phase}
+use Rattle.tk_host.specs.Alone.{passed}
+use Rattle.tk_host.specs.Cut.{CutBy, IsCutShort}
+use Rattle.tk_host.specs.Held.{Hosted, after_line, after_start, gone_to}
+use Rattle.tk_host.specs.Slots.{begun_at}
+use Rattle.tk_host.specs.Turns.{applications, stages_of, steps_left, turns_at_start, turns_given, turns_on_the_way}
+use Rattle.tk_host.proofs.Kept.{seen}
+use Rattle.tk_host.proofs.Parts.{needs_all}
+use Rattle.tk_host.proofs.Passing.{way_through}
+use Rattle.tk_host.proofs.Slots.{Reaches}
+use Rattle.tk_host.proofs.Ways.{Way}
+
+-- no turn but those before
+pub cut_before : (turns more : List Turn) → IsCutShort (turns ++ more) turns
+cut_before turns more = record { front = turns; back = more; last = []; whole_is = refl; told_is = sym (append-nil turns); few = omega arith }
+
+-- further turns would have come behind
+pub cut_more : (whole more told : List Turn) → IsCutShort whole told → IsCutShort (whole ++ more) told
+cut_more whole more told cut = record {
+  front = cut.front;
+  back = cut.back ++ more;
+  last = cut.last;
+  whole_is = ap (λ ts. ts ++ more) cut.whole_is ∙ append_assoc cut.front cut.back more;
+  told_is = cut.told_is;
+  few = cut.few;
+}
+
+-- nothing was told
+pub cut_at_once : (turns more told : List Turn) → told ≡ turns → IsCutShort (turns ++ more) told
+cut_at_once turns more told is = subst (λ ts. IsCutShort (turns ++ more) ts) (sym is) (cut_before turns more)
+
+pub cut_as : (whole other told : List Turn) → whole ≡ other → IsCutShort whole told → IsCutShort other told
+cut_as whole other told same cut = subst (λ ts. IsCutShort ts told) same cut
+
+entry_few : (slot steps : ℕ) → length (entry slot steps) ≤ 1
+entry_few slot zero = omega arith
+entry_few slot (suc steps) = omega arith
+
+-- the turn in which memory was refused
+pub cut_turn : {M : Type 0} (slot : ℕ) (old new : Applications M) → ChangesOnly slot old new → IsCutShort old.turns new.turns
+cut_turn slot old new only = record {
+  front = old.turns;
+  back = [];
+  last = entry slot (only.before.application.steps - only.after.application.steps);
+  whole_is = sym (append-nil old.turns);
+  told_is = only.told;
+  few = entry_few slot (only.before.application.steps - only.after.application.steps);
+}
+
+module _ {M : Type 0} (answer : M → Meaning) where
+  -- in the midst of a round
+  pub cut_round : (slice slot : ℕ) (old now : Applications M) (more : Bool) (told : List Turn) → Reaches answer slice slot old now more → IsCutShort now.turns told
+      → IsCutShort (old.turns ++ round slice (map (needs answer old.moment) old.parts) 0) told
+  cut_round slice slot old now more told reaches cut =
+      let rest : List Turn = round_from slot slice 0 (drop slot (map (needs answer old.moment) now.parts)) in
+      cut_as (now.turns ++ rest) (old.turns ++ round slice (map (needs answer old.moment) old.parts) 0) told reaches.reached.told (cut_more now.turns rest told cut)
+
+-- a round is the first of a stage
+pub cut_stage : (slice : ℕ) (needed : List ℕ) (turns whole told : List Turn) → 1 ≤ slice → turns ++ turns_of slice needed ≡ whole → IsCutShort (turns ++ round slice needed 0) told → IsCutShort whole told
+cut_stage slice needed turns whole told positive is cut =
+    let rest : List Turn = turns_of slice (map (λ need. need - slice) needed) in
+    cut_as ((turns ++ round slice needed 0) ++ rest) whole told
+    (append_assoc turns (round slice needed 0) rest ∙ ap (λ ts. turns ++ ts) (sym (turns_step slice needed positive)) ∙ is)
+    (cut_more (turns ++ round slice needed 0) rest told cut)
+
+module _ {M : Type 0} (answer : M → Meaning) where
+  -- ── on the way ──
+
+  -- before a stage
+  pub cut_way : (slice target : ℕ) (start now : Applications M) (told : List Turn) → Way answer slice target start now → told ≡ now.turns
+      → IsCutShort (start.turns ++ turns_on_the_way answer slice target (applications start.parts)) told
+  cut_way slice target start now told way is =
+      let rest : List Turn = turns_on_the_way answer slice target (applications now.parts) in
+      cut_as (now.turns ++ rest) (start.turns ++ turns_on_the_way answer slice target (applications start.parts)) told way.turns (cut_at_once now.turns rest told is)
+
+  -- and in one
+  pub cut_on_the_way : (slice target due : ℕ) (start before at begun : Applications M) (told : List Turn) → first_due next_due (settled answer) (applications before.parts) ≡ Some due → due ≤ target
+      → Way answer slice target start before → at ≡ record before { moment = due } → begun ≡ record at { parts = map (begun_at due) at.parts }
+      → IsCutShort (begun.turns ++ turns_of slice (map (needs answer begun.moment) begun.parts)) told
+      → IsCutShort (start.turns ++ turns_on_the_way answer slice target (applications start.parts)) told
+  cut_on_the_way slice target due start before at begun told next le way on begins cut =
+      let apps : List (Application M) = applications before.parts in
+      let first : List Turn = turns_at next_due (settled answer) steps_left slice due apps in
+      let rest : List Turn = turns_on_the_way answer slice target (stage_at next_due (settled answer) due apps) in
+      let both : begun ≡ record before { moment = due; parts = map (begun_at due) before.parts } = begins ∙ ap (λ (h : Applications M). record h { parts = map (begun_at due) h.parts }) on in
+      let here : begun.turns ++ turns_of slice (map (needs answer begun.moment) begun.parts) ≡ before.turns ++ first =
+      ap (λ (h : Applications M). h.turns ++ turns_of slice (map (needs answer h.moment) h.parts)) both ∙ ap (λ ns. before.turns ++ turns_of slice ns) (needs_all answer due before.parts way.rest) in
+      cut_as ((before.turns ++ first) ++ rest) (start.turns ++ turns_on_the_way answer slice target (applications start.parts)) told
+      (append_assoc before.turns first rest ∙ ap (λ ts. before.turns ++ ts) (sym (way_through answer slice target due apps next le)) ∙ way.turns)
+      (cut_more (before.turns ++ first) rest told
+      (cut_as (begun.turns ++ turns_of slice (map (needs answer begun.moment) begun.parts)) (before.turns ++ first) told here cut))
+
+  -- ── in a call ──
+
+  pub cut_start : (phase : Phase) (rects : List Rect) (known : Values) (slice : ℕ) (shared cleared : Applications M) (old : Hosted M) (told : List Turn)
+      → seen answer phase rects known slice shared ≡ old → shared.moment ≡ 0 → cleared ≡ record shared { turns = [] }
+      → IsCutShort (cleared.turns ++ turns_of slice (map (needs answer cleared.moment) cleared.parts)) told → IsCutShort (after_start answer old).turns told
+  cut_start phase rects known slice shared cleared old told is start clear cut =
+      let same : cleared.turns ++ turns_of slice (map (needs answer cleared.moment) cleared.parts) ≡ (after_start answer old).turns =
+      ap (λ (h : Applications M). h.turns ++ turns_of slice (map (needs answer h.moment) h.parts)) clear
+      ∙ ap (λ n. turns_of slice (map (needs answer n) shared.parts)) start
+      ∙ ap (λ (h : Hosted M). turns_at_start answer h.slice h.held.parts) is in
+      cut_as (cleared.turns ++ turns_of slice (map (needs answer cleared.moment) cleared.parts)) (after_start answer old).turns told same cut
+
+  pub cut_going : (phase to : Phase) (moment : ℕ) (rects : List Rect) (known : Values) (slice : ℕ) (shared cleared : Applications M) (old : Hosted M) (told : List Turn)
+      → seen answer phase rects known slice shared ≡ old → cleared ≡ record shared { turns = [] }
+      → IsCutShort (cleared.turns ++ turns_on_the_way answer slice moment (applications cleared.parts)) told → IsCutShort (gone_to answer to moment old).turns told
+  cut_going phase to moment rects known slice shared cleared old told is clear cut =
+      let same : cleared.turns ++ turns_on_the_way answer slice moment (applications cleared.parts) ≡ (gone_to answer to moment old).turns =
+      ap (λ (h : Applications M). h.turns ++ turns_on_the_way answer slice moment (applications h.parts)) clear
+      ∙ ap (λ (h : Hosted M). turns_on_the_way answer h.slice moment (applications h.held.parts)) is in
+      cut_as (cleared.turns ++ turns_on_the_way answer slice moment (applications cleared.parts)) (gone_to answer to moment old).turns told same cut
+
+  -- a line gives its events behind the way
+  pub cut_before_line : (phase to : Phase) (line : Line) (first : List Rect) (earlier : List Line) (rects : List Rect) (known : Values) (slice : ℕ) (shared cleared : Applications M) (old : Hosted M)
+      (told : List Turn) → seen answer phase rects known slice shared ≡ old → cleared ≡ record shared { turns = [] }
+      → IsCutShort (cleared.turns ++ turns_on_the_way answer slice line.moment (applications cleared.parts)) told → IsCutShort (after_line answer first earlier line old).turns told
+  cut_before_line phase to line first earlier rects known slice shared cleared old told is clear cut =
+      cut_more (gone_to answer to line.moment old).turns
+      (turns_given answer old.slice (stages_of (routes first earlier line)) (map (passed answer line.moment) (applications old.held.parts))) told
+      (cut_going phase to line.moment rects known slice shared cleared old told is clear cut)
+
+  pub cut_line : (phase : Phase) (line : Line) (first : List Rect) (earlier : List Line) (rects : List Rect) (known : Values) (slice : ℕ) (given : List Delivery)
+      (shared cleared mid moved : Applications M) (old : Hosted M) (told : List Turn)
+      → seen answer phase rects known slice shared ≡ old → cleared ≡ record shared { turns = [] } → given ≡ routes first earlier line
+      → applications mid.parts ≡ map (passed answer line.moment) (applications cleared.parts) → mid.turns ≡ cleared.turns ++ turns_on_the_way answer slice line.moment (applications cleared.parts)
+      → moved ≡ record mid { moment = line.moment }
+      → IsCutShort (moved.turns ++ turns_given answer slice (stages_of given) (applications moved.parts)) told → IsCutShort (after_line answer first earlier line old).turns told
+  cut_line phase line first earlier rects known slice given shared cleared mid moved old told is clear gives done gone on cut =
+      let whole : List Turn = moved.turns ++ turns_given answer slice (stages_of given) (applications moved.parts) in
+      let there : applications moved.parts ≡ map (passed answer line.moment) (applications shared.parts) =
+      ap (λ (h : Applications M). applications h.parts) on ∙ done ∙ ap (λ (h : Applications M). map (passed answer line.moment) (applications h.parts)) clear in
+      let way : moved.turns ≡ turns_on_the_way answer slice line.moment (applications shared.parts) =
+      ap (λ (h : Applications M). h.turns) on ∙ gone ∙ ap (λ (h : Applications M). h.turns ++ turns_on_the_way answer slice line.moment (applications h.parts)) clear in
+      let same : whole ≡ (after_line answer first earlier line old).turns =
+      ap (λ ts. ts ++ turns_given answer slice (stages_of given) (applications moved.parts)) way
+      ∙ ap (λ ds. turns_on_the_way answer slice line.moment (applications shared.parts) ++ turns_given answer slice (stages_of ds) (applications moved.parts)) gives
+      ∙ ap (λ apps. turns_on_the_way answer slice line.moment (applications shared.parts) ++ turns_given answer slice (stages_of (routes first earlier line)) apps) there
+      ∙ ap (λ (h : Hosted M). (after_line answer first earlier line h).turns) is in
+      cut_as whole (after_line answer first earlier line old).turns told same cut
+
+-- settling begins without a turn
+pub begins_untold : {M : Type 0} {T E : Type 0} (r : Result T E) (slot : ℕ) (old new : Applications M) → OnOk r (BeginsIn slot old new) → OnErr r (new ≡ old) → new.turns ≡ old.turns
+begins_untold (Ok x) slot old new begins stays = ap (λ (h : Applications _). h.turns) begins.changed
+begins_untold (Err e) slot old new begins stays = ap (λ (h : Applications _). h.turns) stays
+
+-- however the call that met it tells it
+pub cut_by : {T : Type 0} (r : Result T HostFault) (whole told : List Turn) → IsCutShort whole told → IfErr r (λ fault. CutBy fault whole told)
+cut_by (Ok x) whole told cut = tt
+cut_by (Err NoMemory) whole told cut = cut
+cut_by (Err (Refused found)) whole told cut = tt

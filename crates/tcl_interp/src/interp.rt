@@ -3,6 +3,7 @@ ghost use Rattle.tcl_interp.specs.declared.machine.Machine.TheVariants.{Spent as
 
 use crate::machine::{Frame, Machine, Now};
 use crate::slices::{Ran, run};
+use crate::stopped::{CommandPlace, places};
 use crate::tasks::Tasks;
 use std::alloc::{AllocError, Global};
 use std::mem::replace;
@@ -33,6 +34,7 @@ pub struct Interp<K> {
     left: u64,
     machine: Machine<K>,
     frames: Vec<Frame<K>>,
+    stopped: Vec<CommandPlace>,
     ghost within: { left ≤ budget },
     ghost spent: { machine ≡ MachineSpent → left ≡ 0 },
 }
@@ -61,6 +63,7 @@ impl<K: Drop> Interp<K> {
             left: budget,
             machine: Machine::Idle,
             frames: Vec::new(alloc),
+            stopped: Vec::new(alloc),
         })
     }
 
@@ -144,6 +147,12 @@ impl<K: Drop> Interp<K> {
         self.budget - self.left
     }
 
+    /// The commands in which it stood as a slice answered `Exhausted` last, the innermost first: what tells people where a script ran out of its
+    /// steps. No script sees them, and nothing that runs hangs on them. There are none before. It takes no memory.
+    pub fn stopped_at(&self) -> &[CommandPlace] {
+        self.stopped.as_slice()
+    }
+
     /// Goes on with what is to be done now, for at most so many steps.
     fn run_on<T: Tasks<Task = K>>(
         &mut self,
@@ -185,6 +194,7 @@ impl<K: Drop> Interp<K> {
                 Ok(SliceEnd::More)
             }
             Ran::Spent => {
+                self.stopped = places(self.alloc, self.frames.as_slice())?;
                 self.machine = Machine::Spent;
                 self.frames.clear();
                 Ok(SliceEnd::Exhausted)
@@ -237,6 +247,7 @@ impl<K: Drop> Drop for Interp<K> {
             left: _,
             machine: _,
             frames: _,
+            stopped: _,
         } = self;
     }
 }

@@ -24,6 +24,7 @@ pub use laws::{
 pub use shared::Shared;
 pub use size::Size;
 pub use state::{AppEnd, AppState};
+pub use tcl_interp::CommandPlace;
 pub use tk_alias::{
     Alias, AliasCode, AliasMeaning, AliasReply, AliasService, Aliases, Closure, NoAlias,
 };

@@ -8,7 +8,7 @@ use crate::state::{AppEnd, AppState};
 use crate::turn::run;
 use std::alloc::{AllocError, Global};
 use std::marker::Model;
-use tcl_interp::{Interp, SliceEnd, Task};
+use tcl_interp::{CommandPlace, Interp, SliceEnd, Task};
 use tcl_text::Text;
 use tcl_vars::Scopes;
 use tk_alias::{AliasService, Aliases};
@@ -161,6 +161,11 @@ impl<M: AliasService> Runner<M> {
         ensures { result ≡ self.now.steps }
     {
         self.interp.steps_left()
+    }
+
+    /// The commands in which it stood as it ran out of steps last, the innermost first.
+    pub fn stopped_at(&self) -> &[CommandPlace] {
+        self.interp.stopped_at()
     }
 
     /// Whether it has something to do that has begun.

@@ -10,6 +10,7 @@ use crate::state::AppState;
 use crate::view::AppView;
 use std::alloc::{AllocError, Global};
 use std::marker::Model;
+use tcl_interp::CommandPlace;
 use tcl_text::Text;
 use tk_alias::{AliasService, Aliases};
 use tk_base::Budget;
@@ -157,6 +158,14 @@ impl<M: AliasService> Shared<M> {
     {
         let runner = &self.runners[slot];
         runner.steps_left()
+    }
+
+    /// The commands in which an application stood as it ran out of steps last, the innermost first. It takes no memory.
+    pub fn stopped_at(&self, slot: usize) -> &[CommandPlace]
+        requires { slot < length self.now.parts }
+    {
+        let runner = &self.runners[slot];
+        runner.stopped_at()
     }
 
     /// The section of an application, in bytes: what it wrote, its windows, and what it has waiting.

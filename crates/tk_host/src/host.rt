@@ -14,7 +14,7 @@ use crate::stages::{advance, stage};
 use std::alloc::{AllocError, Global};
 use std::marker::Model;
 use tcl_text::Text;
-use tk_app::{Alias, AliasService, Aliases, Budget, Shared, Size, Turn};
+use tk_app::{Alias, AliasService, Aliases, Budget, CommandPlace, Shared, Size, Turn};
 use tk_base::{MAX_MOMENT, Rect};
 use tk_route::{HostFault, HostLine, LineFault, MAX_APPLICATIONS, Router, test_line};
 
@@ -244,6 +244,16 @@ impl<M: AliasService> Host<M> {
         ensures { result.now ≡ self.now.turns }
     {
         self.shared.turns()
+    }
+
+    /// The commands in which the application in a slot stood as it ran out of steps last, the innermost first; none where it never did. `None` where
+    /// the slot has no application. It takes no memory.
+    pub fn stopped_at(&self, slot: usize) -> Option<&[CommandPlace]> {
+        if slot < self.shared.len() {
+            Some(self.shared.stopped_at(slot))
+        } else {
+            None
+        }
     }
 
     /// Goes on to a moment, and to a phase there.

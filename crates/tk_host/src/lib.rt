@@ -16,8 +16,8 @@ pub use laws::{
 pub use phase::Phase;
 pub use tk_alias::{MAX_ALIASES, is_command_name};
 pub use tk_app::{
-    Alias, AliasCode, AliasMeaning, AliasReply, AliasService, Aliases, Budget, Closure, NoAlias,
-    Turn,
+    Alias, AliasCode, AliasMeaning, AliasReply, AliasService, Aliases, Budget, Closure,
+    CommandPlace, NoAlias, Turn,
 };
 pub use tk_base::{MAX_MOMENT, MAX_PIXELS, Rect};
 pub use tk_route::{HostFault, HostLine, Keysym, LineFault, MAX_APPLICATIONS, MAX_BUDGET, is_name};

@@ -11,7 +11,6 @@ mod Gone
 mod Grows
 mod Homes
 mod LaidOut
-mod Lines
 mod Only
 mod Panels
 pub mod Parts

@@ -1,7 +1,6 @@
 //! The section of an application.
 ghost use Rattle.std.specs.Prelude.{◌≡◌, ◌++◌, IfOk, OnOk, flat_map};
 ghost use Rattle.tk_panel.specs.Panel.{panel_of};
-ghost use Rattle.tk_panel.specs.Transcript.{lines_of};
 ghost use Rattle.tk_app.specs.Section.{head_line, section, transcript_line};
 ghost use Rattle.tk_app.specs.Turns.{application_of};
 
@@ -9,7 +8,7 @@ use crate::runner::Runner;
 use crate::state::AppState;
 use std::alloc::{AllocError, Global};
 use tk_alias::AliasService;
-use tk_panel::{Line, Tables, Written};
+use tk_panel::{Line, Tables};
 use tk_screen::{push_escaped, push_field, push_timers, push_tree};
 
 /// Adds a line of a transcript.
@@ -24,13 +23,11 @@ fn push_transcript_line(out: &mut Vec<u8>, line: &Line) -> Result<(), AllocError
 }
 
 /// Adds the lines that an application wrote.
-fn push_transcript(out: &mut Vec<u8>, log: &[Written], owner: usize) -> Result<(), AllocError>
-    ensures { OnOk result (out.new.items ≡ out.old.items ++ flat_map transcript_line (lines_of owner log.now)) }
+fn push_transcript(out: &mut Vec<u8>, lines: &[Line]) -> Result<(), AllocError>
+    ensures { OnOk result (out.new.items ≡ out.old.items ++ flat_map transcript_line lines.now) }
 {
-    for written in log {
-        if written.owner == owner {
-            push_transcript_line(out, &written.line)?;
-        }
+    for line in lines {
+        push_transcript_line(out, line)?;
     }
     Ok(())
 }
@@ -64,7 +61,7 @@ pub fn section<M: AliasService>(
         runner.state(),
         runner.steps_left(),
     )?;
-    push_transcript(&mut out, tables.transcripts.log(), slot)?;
+    push_transcript(&mut out, tables.transcripts.of(slot))?;
     out.extend_from_slice(b"tree\n")?;
     let screen = tables.screen.shown();
     push_tree(alloc, &mut out, screen, runner.scopes(), slot)?;

@@ -1,17 +1,27 @@
--- Meaning. What applications wrote, in one log.
-use Rattle.std.specs.Prelude.{◌≡◌, ◌≢◌, ℕ, List, ◌==◌, filter, map, codes}
+-- Meaning. What applications wrote, each by itself.
+use Rattle.std.specs.Prelude.{◌≡◌, ◌≢◌, ℕ, nat_eq, List, [], codes}
+use Rattle.std.specs.Option.{option_map_or}
+use Rattle.std.specs.Map.{lookup}
 use Rattle.tk_panel.specs.declared.transcript.Line.{Line}
 use Rattle.tk_panel.specs.declared.transcript.Stream.{Stream}
 use Rattle.tk_panel.specs.declared.transcript.Stream.TheVariants.{Out, Err}
-use Rattle.tk_panel.specs.declared.transcript.Written.{Written}
 
 abbrev pub stream_name : Stream → List ℕ
 stream_name Out = codes "out"
 stream_name Err = codes "err"
 
--- the lines of one application, in order
-abbrev pub lines_of : ℕ → List Written → List Line
-lines_of owner log = map (λ written. written.line) (filter (λ written. written.owner == owner) log)
+-- the transcript of each application that has written
+abbrev pub Written : Type 0
+Written = List (ℕ × List Line)
 
-abbrev pub LeavesLines : ℕ → List Written → List Written → Type 0
+-- the lines of one application, in order
+abbrev pub lines_of : ℕ → Written → List Line
+lines_of owner written = option_map_or (λ own. own) (lookup (nat_eq owner) written) []
+
+-- every other application's are as before
+abbrev pub LeavesLines : ℕ → Written → Written → Type 0
 LeavesLines owner old new = (other : ℕ) → other ≢ owner → lines_of other new ≡ lines_of other old
+
+-- every application's are as before
+abbrev pub LeavesAllLines : Written → Written → Type 0
+LeavesAllLines old new = (other : ℕ) → lines_of other new ≡ lines_of other old

@@ -37,4 +37,4 @@ pub use scripts::Scripts;
 pub use settle::is_closed;
 pub use starting::start;
 pub use tables::Tables;
-pub use transcript::{Line, Stream, Transcripts, Written};
+pub use transcript::{Line, Stream, Transcripts};

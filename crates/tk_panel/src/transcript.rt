@@ -1,7 +1,8 @@
 ghost use Rattle.std.specs.Prelude.{◌≡◌, [], ◌∷◌, ◌++◌, OnErr, OnOk};
-ghost use Rattle.tk_panel.specs.Transcript.{LeavesLines, lines_of, stream_name};
+ghost use Rattle.tk_panel.specs.Transcript.{LeavesAllLines, LeavesLines, lines_of, stream_name};
 
 use std::alloc::{AllocError, Global};
+use std::collections::HashMap;
 use std::marker::Model;
 use tcl_text::Text;
 
@@ -35,25 +36,59 @@ pub struct Line {
     pub text: Text,
 }
 
-/// A line, and whose it is.
+/// What one application wrote, line by line.
 #[derive(Drop)]
-pub struct Written {
-    pub owner: usize,
-    pub line: Line,
+pub struct Transcript {
+    lines: Vec<Line>,
 }
 
-/// What all applications wrote, in one log.
+impl Model for Transcript {
+    ghost use Rattle.std.specs.Prelude.{List};
+    ghost use Rattle.tk_panel.specs.declared.transcript.Line.{Line};
+
+    ghost Value = { List Line };
+
+    ghost view = { λ t. t.lines.items };
+}
+
+impl Transcript {
+    /// Nothing was written. It takes no memory.
+    fn new(alloc: Global) -> Transcript
+        ensures { result ≡ [] }
+    {
+        Transcript {
+            lines: Vec::new(alloc),
+        }
+    }
+
+    /// The lines, in order. It takes no memory.
+    fn as_slice(&self) -> &[Line]
+        ensures { result.now ≡ self.now }
+    {
+        self.lines.as_slice()
+    }
+
+    /// Adds a line.
+    fn push(&mut self, line: Line) -> Result<(), AllocError>
+        ensures ok { OnOk result (self.new ≡ self.old ++ line ∷ []) }
+        ensures err { OnErr result (self.new ≡ self.old) }
+    {
+        Ok(self.lines.push(line)?)
+    }
+}
+
+/// What applications wrote, each by itself. `owner` is an application's number everywhere; one that hasn't been named yet has written nothing.
 pub struct Transcripts {
-    log: Vec<Written>,
+    owners: HashMap<usize, Transcript>,
+    alloc: Global,
 }
 
 impl Model for Transcripts {
-    ghost use Rattle.std.specs.Prelude.{List};
-    ghost use Rattle.tk_panel.specs.declared.transcript.Written.{Written};
+    ghost use Rattle.tk_panel.specs.Transcript.{Written};
 
-    ghost Value = { List Written };
+    ghost Value = { Written };
 
-    ghost view = { λ t. t.log.items };
+    ghost view = { λ t. t.owners.entries };
 }
 
 impl Transcripts {
@@ -62,30 +97,45 @@ impl Transcripts {
         ensures { result ≡ [] }
     {
         Transcripts {
-            log: Vec::new(alloc),
+            owners: HashMap::new(alloc),
+            alloc,
         }
     }
 
-    /// The log.
-    pub fn log(&self) -> &[Written]
-        ensures { result.now ≡ self.now }
+    /// The lines that an application wrote, in order. It takes no memory.
+    pub fn of(&self, owner: usize) -> &[Line]
+        ensures { result.now ≡ lines_of owner self.now }
     {
-        self.log.as_slice()
+        match self.owners.get(&owner) {
+            Some(transcript) => transcript.as_slice(),
+            None => &[],
+        }
     }
 
     /// Adds a line of an application.
     pub fn write(&mut self, owner: usize, line: Line) -> Result<(), AllocError>
         ensures own { OnOk result (lines_of owner self.new ≡ lines_of owner self.old ++ line ∷ []) }
         ensures others { LeavesLines owner self.old self.new }
-        ensures err { OnErr result (self.new ≡ self.old) }
+        ensures err { OnErr result (LeavesAllLines self.old self.new) }
     {
-        Ok(self.log.push(Written { owner, line })?)
+        if let Some(transcript) = self.owners.get_mut(&owner) {
+            return transcript.push(line);
+        }
+        let mut transcript = Transcript::new(self.alloc);
+        transcript.push(line)?;
+        match self.owners.insert(owner, transcript) {
+            Ok(_) => Ok(()),
+            Err(_) => Err(AllocError),
+        }
     }
 }
 
 /// By hand: a proof sees one call where it is dropped, and not its parts.
 impl Drop for Transcripts {
     fn drop(self) {
-        let Transcripts { log: _ } = self;
+        let Transcripts {
+            owners: _,
+            alloc: _,
+        } = self;
     }
 }

@@ -160,12 +160,12 @@ impl<M: AliasService> Shared<M> {
         runner.steps_left()
     }
 
-    /// The commands in which an application stood as it ran out of steps last, the innermost first. It takes no memory.
-    pub fn stopped_at(&self, slot: usize) -> &[CommandPlace]
-        requires { slot < length self.now.parts }
-    {
-        let runner = &self.runners[slot];
-        runner.stopped_at()
+    /// The commands in which the application in a slot stood as it ran out of steps last, the innermost first. It takes no memory.
+    pub fn stopped_at(&self, slot: usize) -> Option<&[CommandPlace]> {
+        match self.runners.get(slot) {
+            Some(runner) => Some(runner.stopped_at()),
+            None => None,
+        }
     }
 
     /// The section of an application, in bytes: what it wrote, its windows, and what it has waiting.

@@ -249,11 +249,7 @@ impl<M: AliasService> Host<M> {
     /// The commands in which the application in a slot stood as it ran out of steps last, the innermost first; none where it never did. `None` where
     /// the slot has no application. It takes no memory.
     pub fn stopped_at(&self, slot: usize) -> Option<&[CommandPlace]> {
-        if slot < self.shared.len() {
-            Some(self.shared.stopped_at(slot))
-        } else {
-            None
-        }
+        self.shared.stopped_at(slot)
     }
 
     /// Goes on to a moment, and to a phase there.

@@ -25,3 +25,7 @@ returns-clause-text g c =
     IfOk-weaker c.sections.result _ _
     (λ text is. is ∙ played_sections g.M.AliasMeaning.answer plan lists c.run_through.new.host.held c.requires.serve (c.in_ok-run_through.ensures.history (adding plan.apps lists) c.in_ok-host.ensures.host))
     c.sections.ensures.text
+
+-- the host was filled with the aliases that the session's applications have
+pub run_through-requires : goal.run_through-requires
+run_through-requires g c = (c.args.aliases.items, c.requires.serve, c.in_ok-host.ensures.host)

@@ -80,7 +80,7 @@ pub struct Played {
 }
 
 /// What the host refuses in an entry.
-fn refused(entry: usize, fault: HostFault) -> BenchFault {
+pub(crate) fn refused(entry: usize, fault: HostFault) -> BenchFault {
     match fault {
         HostFault::NoMemory => BenchFault::NoMemory,
         HostFault::Refused(fault) => BenchFault::Refused { entry, fault },
@@ -211,7 +211,7 @@ fn enter<M: AliasService>(
 }
 
 /// Goes through the entries of a bench.
-fn go_through<M: AliasService>(
+pub(crate) fn go_through<M: AliasService>(
     alloc: Global,
     host: &mut Host<M>,
     course: &mut Course,
@@ -266,7 +266,7 @@ fn add_all<M: AliasService>(
 }
 
 /// A host that has run the scripts of the panels of a session.
-fn started<M: AliasService>(
+pub(crate) fn started<M: AliasService>(
     alloc: Global,
     session: &Session,
     aliases: Vec<Aliases<M>>,
@@ -322,7 +322,7 @@ fn course_of<M: AliasService>(
 }
 
 /// The session of a bench whose gestures became these lines, with its text.
-fn written(
+pub(crate) fn written(
     alloc: Global,
     bench: &Bench,
     events: &[EventLine],

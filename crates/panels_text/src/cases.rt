@@ -1,0 +1,57 @@
+//! What is told of panels, for a person.
+
+use std::alloc::{AllocError, Global};
+
+/// A panel of a bench that was played, or what is of no panel.
+#[derive(Drop)]
+pub struct Case {
+    /// The bench's file.
+    pub bench: String,
+    /// The panel's name; empty for what is of none.
+    pub panel: String,
+    /// What isn't as it has to be; nothing where all is.
+    pub problems: Vec<String>,
+}
+
+/// What a case is of.
+pub fn title(alloc: Global, case: &Case) -> Result<String, AllocError> {
+    if case.panel.is_empty() {
+        String::from_str(alloc, case.bench.as_str())
+    } else {
+        format!(in alloc; "{}: {}", case.bench.as_str(), case.panel.as_str())
+    }
+}
+
+/// Adds the line of a case, and those of what isn't as it has to be.
+fn push_case(alloc: Global, text: &mut String, case: &Case) -> Result<(), AllocError> {
+    let is_fine = case.problems.is_empty();
+    text.push_str(if is_fine { "ok    " } else { "FAIL  " })?;
+    text.push_str(title(alloc, case)?.as_str())?;
+    text.push_str("\n")?;
+    for problem in &case.problems {
+        text.push_str("    ")?;
+        text.push_str(problem.as_str())?;
+        text.push_str("\n")?;
+    }
+    Ok(())
+}
+
+/// How many cases aren't as they have to be.
+pub fn count_failed(cases: &[Case]) -> usize {
+    cases
+        .iter()
+        .filter(|case| !case.problems.is_empty())
+        .count()
+}
+
+/// A line for each case, what isn't as it has to be, and how many there are.
+pub fn report(alloc: Global, cases: &[Case]) -> Result<String, AllocError> {
+    let mut text = String::new(alloc);
+    for case in cases {
+        push_case(alloc, &mut text, case)?;
+    }
+    let failed = count_failed(cases);
+    let line = format!(in alloc; "{} panels, {failed} of them failed\n", cases.len())?;
+    text.push_str(line.as_str())?;
+    Ok(text)
+}

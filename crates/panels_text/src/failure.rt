@@ -1,0 +1,44 @@
+use std::alloc::{AllocError, AllocFailed, Global};
+use std::io;
+
+/// Why a command isn't done.
+#[derive(Drop)]
+pub enum Failure {
+    /// What is wrong, in words.
+    Said(String),
+    /// Memory was refused.
+    NoMemory,
+    /// A stream failed.
+    Stream,
+}
+
+impl From<AllocError> for Failure {
+    fn from(_refused: AllocError) -> Failure {
+        Failure::NoMemory
+    }
+}
+
+impl<T: Drop> From<AllocFailed<T>> for Failure {
+    fn from(_refused: AllocFailed<T>) -> Failure {
+        Failure::NoMemory
+    }
+}
+
+impl From<io::Error> for Failure {
+    fn from(_refused: io::Error) -> Failure {
+        Failure::Stream
+    }
+}
+
+/// What is wrong in a line of a file, counted from 1; 0 where no line says it.
+pub fn fault(alloc: Global, file: &str, line: usize, words: &str) -> Failure {
+    let text = if line == 0 {
+        format!(in alloc; "{file}: {words}")
+    } else {
+        format!(in alloc; "{file}:{line}: {words}")
+    };
+    match text {
+        Ok(text) => Failure::Said(text),
+        Err(_) => Failure::NoMemory,
+    }
+}

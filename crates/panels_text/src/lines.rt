@@ -1,0 +1,46 @@
+//! Lines of a session in its own words.
+
+use std::alloc::{AllocError, Global};
+use tk_session::{AppBlock, HostLine};
+
+/// The name of the panel in a slot.
+pub fn name_at(panels: &[AppBlock], slot: usize) -> &str {
+    match panels.get(slot) {
+        Some(panel) => panel.name.as_str(),
+        None => "",
+    }
+}
+
+/// The name of the key that goes down or up.
+fn key_name(line: HostLine) -> &'static str {
+    match line {
+        HostLine::Keydown(key) => key.name(),
+        HostLine::Keyup(key) => key.name(),
+        _ => "",
+    }
+}
+
+/// A line of a session without its moment.
+pub fn line_words(
+    alloc: Global,
+    line: HostLine,
+    panels: &[AppBlock],
+) -> Result<String, AllocError> {
+    match line {
+        HostLine::Move { x, y } => format!(in alloc; "move {x} {y}"),
+        HostLine::Press(button) => format!(in alloc; "press {button}"),
+        HostLine::Release(button) => format!(in alloc; "release {button}"),
+        HostLine::Keydown(_) => format!(in alloc; "keydown {}", key_name(line)),
+        HostLine::Keyup(_) => format!(in alloc; "keyup {}", key_name(line)),
+        HostLine::Focus(None) => String::from_str(alloc, "focus -"),
+        HostLine::Focus(Some(slot)) => format!(in alloc; "focus {}", name_at(panels, slot)),
+        HostLine::Rect { slot, rect } => format!(in alloc;
+            "rect {} {} {} {} {}",
+            name_at(panels, slot),
+            rect.x,
+            rect.y,
+            rect.width,
+            rect.height
+        ),
+    }
+}

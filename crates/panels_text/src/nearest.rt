@@ -1,0 +1,79 @@
+//! Words, and those that may have been meant.
+
+use std::alloc::{AllocError, Global};
+use strsim::levenshtein;
+
+/// How many letters are changed to make a word of another, where it is at most two in three of the first.
+pub(crate) fn distance_within(
+    alloc: Global,
+    word: &str,
+    candidate: &str,
+) -> Result<Option<usize>, AllocError> {
+    let most = (word.len() / 3).saturating_mul(2);
+    let distance = levenshtein(alloc, word, candidate)?;
+    Ok(if distance <= most {
+        Some(distance)
+    } else {
+        None
+    })
+}
+
+/// The word of a list that is nearest to another, where at most two letters in three are changed for it.
+pub(crate) fn nearest<'a>(
+    alloc: Global,
+    word: &str,
+    known: &[&'a str],
+) -> Result<Option<&'a str>, AllocError> {
+    let mut least = usize::MAX;
+    let mut found = None;
+    for candidate in known {
+        if let Some(distance) = distance_within(alloc, word, *candidate)? {
+            if distance < least {
+                least = distance;
+                found = Some(*candidate);
+            }
+        }
+    }
+    Ok(found)
+}
+
+/// Words with a comma between neighbours.
+fn listed(alloc: Global, words: &[&str]) -> Result<String, AllocError> {
+    let mut text = String::new(alloc);
+    for word in words {
+        if !text.is_empty() {
+            text.push_str(", ")?;
+        }
+        text.push_str(word)?;
+    }
+    Ok(text)
+}
+
+/// What would serve in place of a word: the nearest of a list, or all of them.
+pub fn serving(alloc: Global, word: &str, known: &[&str]) -> Result<String, AllocError> {
+    match nearest(alloc, word, known)? {
+        Some(near) => format!(in alloc; "did you mean {near}?"),
+        None => {
+            let list = listed(alloc, known)?;
+            format!(in alloc; "there are {list}")
+        }
+    }
+}
+
+/// Whether a word is in a list.
+pub(crate) fn is_known(word: &str, known: &[&str]) -> bool {
+    for other in known {
+        if *other == word {
+            return true;
+        }
+    }
+    false
+}
+
+/// A word and the words behind its blank.
+pub(crate) fn next<'a>(words: &'a str) -> (&'a str, &'a str) {
+    match words.split_once(' ') {
+        Some(parts) => parts,
+        None => (words, ""),
+    }
+}

@@ -1,4 +1,5 @@
 -- What the crates above cite in their proofs.
+pub mod NamesLemmas
 pub mod Orders
 pub mod Owners
 mod Parts

@@ -4,4 +4,5 @@ pub mod Counters
 pub mod Kind
 pub mod Limits
 pub mod Line
+pub mod Names
 pub mod Rect

@@ -2,9 +2,9 @@
 use Rattle.std.specs.Prelude.{ℕ, ℤ, pos, Bool, true, false, List, [], ◌∷◌, ◌++◌, Option, Some, None, if◌then◌else◌}
 use Rattle.std.specs.List.{flat_map}
 use Rattle.tk_sequences.specs.declared.event.Event.{Event}
-use Rattle.tk_keys.specs.declared.local_event.LocalEvent.{LocalEvent}
-use Rattle.tk_keys.specs.declared.local_event.LocalKind.{LocalKind}
-use Rattle.tk_keys.specs.declared.local_event.LocalKind.TheVariants as kinds
+use Rattle.tk_base.specs.declared.local_event.LocalEvent.{LocalEvent}
+use Rattle.tk_base.specs.declared.local_event.LocalKind.{LocalKind}
+use Rattle.tk_base.specs.declared.local_event.LocalKind.TheVariants as kinds
 use Rattle.tk_inputs.specs.declared.delivery.KeyLine.{KeyLine}
 use Rattle.tk_inputs.specs.declared.events.PointerLine.{PointerLine}
 use Rattle.tk_inputs.specs.declared.inputs.Input.{Input}

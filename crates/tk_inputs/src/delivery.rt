@@ -10,9 +10,8 @@ use crate::PointerEvent;
 use crate::events::{PointerLine, key_event, plain_event, pointer_event};
 use crate::inputs::Inputs;
 use std::alloc::{AllocError, Global};
-use tk_base::Win;
+use tk_base::{Keysym, LocalEvent, LocalKind, Win};
 use tk_dispatch::EventQueue;
-use tk_keys::{Keysym, LocalEvent, LocalKind};
 use tk_sequences::EventType;
 use tk_tree::Windows;
 

@@ -6,7 +6,7 @@ ghost use Rattle.tk_inputs.specs.Crossings.{detail_name};
 use crate::{CrossingDetail, CrossingKind, PointerKind};
 use std::alloc::{AllocError, Global};
 use tcl_text::Text;
-use tk_keys::Keysym;
+use tk_base::Keysym;
 use tk_sequences::{Event, EventKind, EventType};
 use tk_tree::{Corner, Window};
 

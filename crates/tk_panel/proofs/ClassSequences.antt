@@ -4,7 +4,7 @@ use Rattle.std.specs.List.{list_all}
 use Rattle.std.specs.Prelude.{is_ok}
 use Rattle.tk_base.specs.declared.kind.Kind.TheVariants as kind
 use Rattle.tk_options.specs.Rows.{row_of}
-use Rattle.tk_keys.specs.Names.{key_names}
+use Rattle.tk_base.specs.Names.{key_names}
 use Rattle.tk_panel.specs.ClassLaws.{ClassesBindSequences}
 use Rattle.tk_sequences.specs.Reading.{fields, key_meant, detail_of, headed, pattern_of, plain_pattern, physical, name_in, parsed}
 

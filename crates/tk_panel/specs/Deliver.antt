@@ -1,7 +1,7 @@
 -- Meaning. What a line of the session gives an application.
-use Rattle.tk_keys.specs.declared.local_event.LocalEvent.{LocalEvent}
-use Rattle.tk_keys.specs.declared.local_event.LocalKind.{LocalKind}
-use Rattle.tk_keys.specs.declared.local_event.LocalKind.TheVariants.{Size}
+use Rattle.tk_base.specs.declared.local_event.LocalEvent.{LocalEvent}
+use Rattle.tk_base.specs.declared.local_event.LocalKind.{LocalKind}
+use Rattle.tk_base.specs.declared.local_event.LocalKind.TheVariants.{Size}
 use Rattle.tk_inputs.specs.Deliver.{Arrivals, delivered as arrived}
 use Rattle.tk_screen.specs.Own.{with_size}
 use Rattle.tk_panel.specs.Panel.{Panel}

@@ -5,7 +5,7 @@ ghost use Rattle.tk_panel.specs.Panel.{LeavesOthers, panel_of};
 
 use crate::tables::Tables;
 use std::alloc::AllocError;
-use tk_keys::{LocalEvent, LocalKind};
+use tk_base::{LocalEvent, LocalKind};
 
 /// What a line gives an application: the events that it queues, at once, and the size of its rectangle. The event's moment is its own; the keys and
 /// the pointer are as `tk_inputs` has them.

@@ -5,8 +5,8 @@ use Rattle.std.proofs.lemmas.List.{length-set}
 use Rattle.std.proofs.lemmas.List.Quantifiers.{position-Some}
 use Rattle.std.specs.List.{position_from}
 use Rattle.tk_base.specs.declared.rect.Rect.{Rect}
-use Rattle.tk_keys.specs.declared.local_event.LocalEvent.{LocalEvent}
-use Rattle.tk_keys.specs.declared.local_event.LocalKind.TheVariants.{Position, Press as PressAt, Release as ReleaseAt}
+use Rattle.tk_base.specs.declared.local_event.LocalEvent.{LocalEvent}
+use Rattle.tk_base.specs.declared.local_event.LocalKind.TheVariants.{Position, Press as PressAt, Release as ReleaseAt}
 use Rattle.tk_route.specs.Added.{AllPassBy, PassesBy}
 use Rattle.tk_route.specs.Lines.{Line, holder_after, is_any_held_after, pointer_after, pointer_by, rects_after, rects_by, under_after, values}
 use Rattle.tk_route.specs.Routes.{events_of, is_same, routed, routes, stamp_of, to_place, told, told_size, under_in}

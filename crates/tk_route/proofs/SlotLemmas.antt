@@ -5,10 +5,10 @@ use Rattle.std.proofs.lemmas.Iterator.Adapters.{position_from-zero}
 use Rattle.std.proofs.lemmas.List.{length-set, map-append}
 use Rattle.std.specs.List.{position_from}
 use Rattle.tk_base.specs.declared.rect.Rect.{Rect}
-use Rattle.tk_keys.specs.declared.local_event.LocalEvent.{LocalEvent}
-use Rattle.tk_keys.specs.declared.local_event.LocalKind.{LocalKind}
-use Rattle.tk_keys.specs.declared.local_event.LocalKind.TheVariants.{Position, FocusIn, FocusOut, Press as PressAt, Release as ReleaseAt, Keydown as KeydownOf, Keyup as KeyupOf}
-use Rattle.tk_keys.specs.Names as names
+use Rattle.tk_base.specs.declared.local_event.LocalEvent.{LocalEvent}
+use Rattle.tk_base.specs.declared.local_event.LocalKind.{LocalKind}
+use Rattle.tk_base.specs.declared.local_event.LocalKind.TheVariants.{Position, FocusIn, FocusOut, Press as PressAt, Release as ReleaseAt, Keydown as KeydownOf, Keyup as KeyupOf}
+use Rattle.tk_base.specs.Names as names
 use Rattle.tk_route.specs.Added.{AllMiss, Misses, line_up, lines_up, up}
 use Rattle.tk_route.specs.Lines.{Line, focus_after, focus_by, holder_after, is_any_held_after, is_down, is_down_by, is_held, is_held_by, is_locked, is_locked_by, moment_after, pointer_after, pointer_by, rects_after, rects_by, under_after, values}
 use Rattle.tk_route.specs.Routes.{delivery, events_of, is_same, routed, routes, stamp_of, to, to_place, told, told_focus, told_size, under_in}

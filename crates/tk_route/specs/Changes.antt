@@ -1,6 +1,6 @@
 -- Steps. What a line changes of what a router holds. What the lines say stands in `Lines`, and a router holds just that.
 use Rattle.std.specs.Prelude.{ℕ, not, ◌&&◌, ◌||◌, ◌==◌, if◌then◌else◌, Option, Some, None, slice_set}
-use Rattle.tk_keys.specs.Names as names
+use Rattle.tk_base.specs.Names as names
 use Rattle.tk_route.specs.Buttons.{is_any_held, with_pressed, with_released}
 use Rattle.tk_route.specs.Values.{Values, under}
 use Rattle.tk_route.specs.declared.buttons.Buttons.{Buttons}

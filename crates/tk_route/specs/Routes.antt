@@ -2,9 +2,9 @@
 use Rattle.std.specs.Prelude.{ℕ, ℤ, Bool, not, ◌&&◌, ◌||◌, ◌==◌, if◌then◌else◌, List, [], ◌∷◌, ◌++◌, map, filter, reverse, Option, Some, None, slice_get}
 use Rattle.std.specs.Option.{option_eq}
 use Rattle.tk_base.specs.declared.rect.Rect.{Rect}
-use Rattle.tk_keys.specs.declared.local_event.LocalEvent.{LocalEvent}
-use Rattle.tk_keys.specs.declared.local_event.LocalKind.{LocalKind}
-use Rattle.tk_keys.specs.declared.local_event.LocalKind.TheVariants.{Position, FocusIn, FocusOut, Size, Press as PressAt, Release as ReleaseAt, Keydown as KeydownOf, Keyup as KeyupOf}
+use Rattle.tk_base.specs.declared.local_event.LocalEvent.{LocalEvent}
+use Rattle.tk_base.specs.declared.local_event.LocalKind.{LocalKind}
+use Rattle.tk_base.specs.declared.local_event.LocalKind.TheVariants.{Position, FocusIn, FocusOut, Size, Press as PressAt, Release as ReleaseAt, Keydown as KeydownOf, Keyup as KeyupOf}
 use Rattle.tk_route.specs.Lines.{Line, values}
 use Rattle.tk_route.specs.Buttons.{has, is_any_held}
 use Rattle.tk_route.specs.Values.{Values, local, state_of, under}

@@ -1,11 +1,11 @@
 //! What a line gives, and to whom.
 ghost use Rattle.std.specs.Prelude.{◌≡◌, ◌++◌};
 ghost use Rattle.std.specs.Option.{option_to_list};
-ghost use Rattle.tk_keys.specs.declared.local_event.LocalKind.TheVariants.{Position, Press, Release};
+ghost use Rattle.tk_base.specs.declared.local_event.LocalKind.TheVariants.{Position, Press, Release};
 ghost use Rattle.tk_route.specs.Routes.{deliveries, to, to_place};
 
 use crate::place::Place;
-use tk_keys::{LocalEvent, LocalKind};
+use tk_base::{LocalEvent, LocalKind};
 
 /// An event, and the slot of the application that gets it.
 #[derive(Clone, Copy, Debug, PartialEq, Eq)]

@@ -2,7 +2,7 @@ ghost use Rattle.std.specs.Prelude.{◌≡◌, ◌≤◌};
 ghost use Rattle.tk_route.specs.Values.{bit, state_of};
 
 use crate::buttons::Buttons;
-use tk_keys::Keysym;
+use tk_base::Keysym;
 
 /// The keys that count in the state of an event: which of them are down, and whether capitals are locked.
 #[derive(Clone, Copy, Debug, PartialEq, Eq)]

@@ -24,5 +24,4 @@ pub use names::{is_app_in_range, is_name};
 pub use place::Point;
 pub use rects::shares_pixel;
 pub use router::Router;
-pub use tk_base::Rect;
-pub use tk_keys::{Keysym, LocalEvent, LocalKind};
+pub use tk_base::{Keysym, LocalEvent, LocalKind, Rect};

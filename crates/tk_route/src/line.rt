@@ -4,8 +4,7 @@ ghost use Rattle.tk_route.specs.Screen.{IsOnScreen};
 
 use crate::fault::LineFault;
 use crate::rects::shares_with_another;
-use tk_base::{MAX_MOMENT, MAX_PIXELS, MAX_PLACE, Rect};
-use tk_keys::Keysym;
+use tk_base::{Keysym, MAX_MOMENT, MAX_PIXELS, MAX_PLACE, Rect};
 
 /// A line of a session: what happens at the screen and the keyboard. Places and sizes are in pixels, places from the screen's upper left
 /// corner. Applications are told by their slots, from 0 on.

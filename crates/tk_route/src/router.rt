@@ -11,8 +11,7 @@ use crate::line::{HostLine, test_line};
 use crate::place::{Point, local, under};
 use crate::rects::{Rects, are_apart};
 use std::marker::Model;
-use tk_base::Rect;
-use tk_keys::{Keysym, LocalKind};
+use tk_base::{Keysym, LocalKind, Rect};
 
 const NO_BUTTONS: Buttons = Buttons {
     first: false,
@@ -59,7 +58,7 @@ impl Model for Router {
 impl Router {
     ghost use Rattle.std.specs.Prelude.{◌≡◌, ◌<◌, ◌≤◌, true, length, List, [], ◌∷◌, Some, MatchResult, OnOk, OnErr, IfOk, slice_set};
     ghost use Rattle.tk_base.specs.declared.rect.Rect.{Rect};
-    ghost use Rattle.tk_keys.specs.declared.local_event.LocalKind.TheVariants.{Keydown, Keyup};
+    ghost use Rattle.tk_base.specs.declared.local_event.LocalKind.TheVariants.{Keydown, Keyup};
     ghost use Rattle.tk_route.specs.Lines.{Line, at, values};
     ghost use Rattle.tk_route.specs.Limits.{most_applications};
     ghost use Rattle.tk_route.specs.Refusals.{IsFirst, IsInRange, NamesNobody, NoneApplies, Refuses, RefusesRects, line_faults};

@@ -1,7 +1,7 @@
 -- What the grammar says of some texts.
 use Rattle.std.proofs.Common.{◌≡◌, ℕ, List, [], ◌∷◌, Some, None, Ok, Err, refl}
 use Rattle.std.specs.Prelude.{codes}
-use Rattle.tk_keys.specs.Names.{key_names}
+use Rattle.tk_base.specs.Names.{key_names}
 use Rattle.tk_sequences.proofs.Grammars.{sequences_read, faults_told}
 use Rattle.tk_sequences.specs.Grammar.{IsSequence, HasFault}
 use Rattle.tk_sequences.specs.Reading.{fields, key_meant, detail_of, headed, pattern_of, plain_pattern, physical, name_in, parsed}

@@ -7,7 +7,7 @@ use Rattle.std.proofs.lemmas.Bool.{ne_eqb, eqb-false}
 use Rattle.std.proofs.lemmas.List.Quantifiers.{position-Some}
 use Rattle.std.proofs.lemmas.List.Sums.{AllPass-from_list_all}
 use Rattle.std.proofs.lemmas.Slice.Eq.{bytes_eq-Decides}
-use Rattle.tk_keys.specs.Names.{key_names, key_named, key_of_character}
+use Rattle.tk_base.specs.Names.{key_names, key_named, key_of_character}
 use Rattle.tk_sequences.proofs.ReadLemmas.{if_by, always}
 use Rattle.tk_sequences.proofs.WordLemmas.{is_inside, both_first, both_second}
 use Rattle.tk_sequences.specs.Grammar.{IsKey, IsCounted}

@@ -2,7 +2,7 @@
 use Rattle.std.proofs.Common.{◌≡◌, ◌≢◌, inl, inr, ℕ, ◌==◌, Bool, true, false, List, [], ◌∷◌, ◌++◌, append_assoc, eqb-true, Option, Some, None, refl, sym, ap, subst}
 use Rattle.std.proofs.lemmas.Bool.{eqb-false}
 use Rattle.tcl_text.specs.Backslash.{is_white}
-use Rattle.tk_keys.specs.Names.{key_of_character}
+use Rattle.tk_base.specs.Names.{key_of_character}
 use Rattle.tk_sequences.proofs.EventsCut.{AreCut, fields_are_cut}
 use Rattle.tk_sequences.proofs.FieldsCut.{fields_cut}
 use Rattle.tk_sequences.specs.Grammar.{IsGap, HasNoClosing, AreFields, key_pattern, BeginsWith, IsFaulty}

@@ -5,7 +5,7 @@ use Rattle.std.proofs.lemmas.Bool.{cases_lt, le-leb, lt-leb, ne_eqb}
 use Rattle.std.proofs.lemmas.Bool.Decides.{nat_tests}
 use Rattle.std.proofs.lemmas.List.Sums.{AllPass-from_list_all, sum_by-cons}
 use Rattle.tcl_text.specs.Backslash.{is_white}
-use Rattle.tk_keys.specs.Names.{key_of_character}
+use Rattle.tk_base.specs.Names.{key_of_character}
 use Rattle.tk_sequences.proofs.EventsRead.{fields_read, fields_faulty, words_inside}
 use Rattle.tk_sequences.proofs.FieldsCut.{each_all, fields_are, fields_inside}
 use Rattle.tk_sequences.proofs.ReadBack.{begins_within, brackets_within}

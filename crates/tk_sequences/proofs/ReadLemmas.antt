@@ -10,8 +10,8 @@ use Rattle.std.proofs.lemmas.List.Sums.{sum_by-cons}
 use Rattle.tcl_text.specs.Backslash.{is_white}
 use Rattle.tk_sequences.proofs.HeldLemmas.{IsHeld, held_more}
 use Rattle.tk_sequences.proofs.WordLemmas.{is_word}
-use Rattle.tk_keys.proofs.NamesLemmas.{length_key_names}
-use Rattle.tk_keys.specs.Names.{key_names, key_named, key_of_character}
+use Rattle.tk_base.proofs.NamesLemmas.{length_key_names}
+use Rattle.tk_base.specs.Names.{key_names, key_named, key_of_character}
 use Rattle.tk_sequences.specs.Modifiers.{modifier_bit}
 use Rattle.tk_sequences.specs.Patterns.{count_of, times_of}
 use Rattle.tk_sequences.specs.Reading.{Outcome, ◌>>=◌, fields, prefix_named, button_named, key_of_one, key_meant, is_single, key_or_fault, button_or_fault, detail_of, detail_behind, may_repeat, typed, button_or_key, type_of_detail, alone, untyped, typed_or_not, headed, with_prefix, pattern_behind, pattern_of, plain_key, plain_pattern, ReadingPlace, Between, Within, onto, counted, patterns_from}

@@ -4,8 +4,8 @@ use Rattle.std.specs.List.{list_all}
 use Rattle.std.proofs.lemmas.List.Splits.{slice_split_none}
 use Rattle.std.proofs.lemmas.List.Sums.{AllPass-from_list_all}
 use Rattle.std.proofs.lemmas.Option.{unwrap_or-slice_get}
-use Rattle.tk_keys.proofs.NamesLemmas.{length_key_names}
-use Rattle.tk_keys.specs.Names.{key_names, name_of}
+use Rattle.tk_base.proofs.NamesLemmas.{length_key_names}
+use Rattle.tk_base.specs.Names.{key_names, name_of}
 use Rattle.tk_sequences.specs.Reading.{fields, is_separator, is_some_text}
 
 -- what may stand between the brackets of a pattern

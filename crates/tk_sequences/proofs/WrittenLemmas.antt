@@ -8,7 +8,7 @@ use Rattle.std.proofs.lemmas.List.Sums.{AllPass-from_list_all, sum_by-cons}
 use Rattle.tk_sequences.proofs.HeldLemmas.{read_held}
 use Rattle.tk_sequences.proofs.ReadLemmas.{DetailReads, Reads, AllRead}
 use Rattle.tk_sequences.proofs.WordLemmas.{is_inside, is_in_word, is_word, both_second, not_closing, inside_word, word_field, name_is_word}
-use Rattle.tk_keys.proofs.NamesLemmas.{named-name}
+use Rattle.tk_base.proofs.NamesLemmas.{named-name}
 use Rattle.tk_sequences.proofs.PieceLemmas.{closed}
 use Rattle.tk_sequences.specs.Modifiers.{all_modifiers, has_modifier, modifier_name}
 use Rattle.tk_sequences.specs.Patterns.{count_of, times_of}

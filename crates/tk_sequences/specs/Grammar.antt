@@ -1,10 +1,10 @@
 -- Meaning. The grammar of event sequences (bind(n), EVENT PATTERNS), as a relation between a whole text and the sequence that it is, or its fault. It
 -- cuts texts into white space, patterns and fields, and says nothing of how a text is read. The words are those of the tables of `tk_sequences` and
--- `tk_keys`.
+-- `tk_base`.
 use Rattle.std.specs.Prelude.{◌≡◌, ◌≢◌, ◌⊎◌, ℕ, ◌<◌, ◌≤◌, true, false, bit_or, List, [], ◌∷◌, ◌++◌, Option, Some, None, codes}
 use Rattle.tcl_text.specs.Backslash.{is_white}
 use Rattle.tcl_text.specs.Bytes.{greater_sign, less_sign, minus_sign, space}
-use Rattle.tk_keys.specs.Names.{key_named, key_of_character}
+use Rattle.tk_base.specs.Names.{key_named, key_of_character}
 use Rattle.tk_sequences.specs.Modifiers.{modifier_named, modifier_bit}
 use Rattle.tk_sequences.specs.Patterns.{count_of, most_events, repetition_named}
 use Rattle.tk_sequences.specs.Reading.{is_separator, button_named}

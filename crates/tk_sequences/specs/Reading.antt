@@ -4,7 +4,7 @@ use Rattle.std.specs.List.{list_all, prefix_len, slice_split}
 use Rattle.std.specs.Option.{option_or}
 use Rattle.std.specs.Str.{bytes_eq}
 use Rattle.tcl_text.specs.Backslash.{is_white}
-use Rattle.tk_keys.specs.Names.{key_named, key_of_character}
+use Rattle.tk_base.specs.Names.{key_named, key_of_character}
 use Rattle.tk_sequences.specs.Lookup.{looked_up}
 use Rattle.tk_sequences.specs.Modifiers.{modifier_named, modifier_bit}
 use Rattle.tk_sequences.specs.Patterns.{most_events, repetition_named, times_of}

@@ -2,7 +2,7 @@
 use Rattle.std.specs.Prelude.{ℕ, List, [], ◌∷◌, ◌++◌, Option, Some, None, if◌then◌else◌, codes}
 use Rattle.std.specs.Fmt.{decimal}
 use Rattle.std.specs.List.{flat_map}
-use Rattle.tk_keys.specs.Names.{name_of}
+use Rattle.tk_base.specs.Names.{name_of}
 use Rattle.tk_sequences.specs.Modifiers.{all_modifiers, has_modifier, modifier_name}
 use Rattle.tk_sequences.specs.Reading.{in_brackets}
 use Rattle.tk_sequences.specs.Types.{type_name}

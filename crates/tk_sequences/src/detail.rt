@@ -1,4 +1,4 @@
-use tk_keys::Keysym;
+use tk_base::Keysym;
 
 /// Which key or which button an event or a pattern is about (bind(n), EVENT DETAILS).
 #[derive(Clone, Copy, Debug, PartialEq, Eq, Hash)]

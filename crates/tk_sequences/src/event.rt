@@ -2,7 +2,7 @@ use crate::event_type::EventType;
 use crate::virtual_name::VirtualName;
 use std::alloc::AllocError;
 use tcl_text::Text;
-use tk_keys::Keysym;
+use tk_base::Keysym;
 
 /// What happens.
 #[derive(Drop)]

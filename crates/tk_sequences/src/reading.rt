@@ -14,7 +14,7 @@ use crate::pattern::{Pattern, Repetition};
 use std::alloc::Global;
 use tcl_text::Text;
 use tcl_text::message::short_text;
-use tk_keys::Keysym;
+use tk_base::Keysym;
 
 /// What may stand in front of a type or a detail.
 pub enum Prefix {

@@ -9,7 +9,7 @@ use Rattle.std.proofs.lemmas.Option.{cond_some, none-some, same_Some}
 use Rattle.std.proofs.lemmas.Slice.Eq.{bytes_eq-Decides}
 use Rattle.std.proofs.lemmas.Str.{is_utf8-from_IsUtf8, IsUtf8-from_is_utf8}
 use Rattle.tk_base.specs.declared.rect.Rect.{Rect}
-use Rattle.tk_keys.specs.Names.{key_named}
+use Rattle.tk_base.specs.Names.{key_named}
 use Rattle.tk_route.specs.Lines.{Line, moment_after, rects_after}
 use Rattle.tk_route.specs.Names.{IsName, is_name}
 use Rattle.tk_route.specs.Refusals.{Covers, IsFirst, IsInRange as IsLineInRange, NamesNobody, NoneApplies, Refuses, covers, faults_beside, names_nobody}

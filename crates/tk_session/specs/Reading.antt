@@ -6,7 +6,7 @@ use Rattle.std.specs.Char.{is_ascii_digit}
 use Rattle.std.specs.Str.Parse.{digits_value}
 use Rattle.tk_base.specs.Rect.{last_place, most_pixels}
 use Rattle.tk_base.specs.declared.rect.Rect.{Rect}
-use Rattle.tk_keys.specs.Names.{key_named}
+use Rattle.tk_base.specs.Names.{key_named}
 use Rattle.tk_route.specs.Lines.{rects_by}
 use Rattle.tk_route.specs.Limits.{most_applications, most_steps}
 use Rattle.tk_route.specs.Names.{is_name}

@@ -5,7 +5,7 @@ use Rattle.std.specs.Fmt.{decimal}
 use Rattle.std.specs.Str.{IsUtf8}
 use Rattle.tk_base.specs.Rect.{SharePixel}
 use Rattle.tk_base.specs.declared.rect.Rect.{Rect}
-use Rattle.tk_keys.specs.Names.{key_named}
+use Rattle.tk_base.specs.Names.{key_named}
 use Rattle.tk_route.specs.Lines.{Line, at, moment_after, rects_after}
 use Rattle.tk_route.specs.Refusals.{Covers, IsInRange as IsLineInRange, NamesNobody}
 use Rattle.tk_route.specs.declared.line.HostLine.{HostLine}

@@ -2,7 +2,7 @@
 use Rattle.std.specs.Prelude.{ℕ, ◌+◌, ◌==◌, if◌then◌else◌, List, [], ◌∷◌, ◌++◌, flat_map, codes, Option, Some, None, slice_get}
 use Rattle.std.specs.Fmt.{decimal}
 use Rattle.tk_base.specs.declared.budget.Budget.{Budget}
-use Rattle.tk_keys.specs.Names.{name_of}
+use Rattle.tk_base.specs.Names.{name_of}
 use Rattle.tk_route.specs.declared.line.HostLine.{HostLine}
 use Rattle.tk_route.specs.declared.line.HostLine.TheVariants.{Move, Press, Release, Keydown, Keyup, Focus, Rect as Placed}
 use Rattle.tk_session.specs.Names.{kind_word}

@@ -6,8 +6,7 @@ ghost use Rattle.tk_session.specs.Reading.{app_of, button_of, event_line_of, eve
 use crate::line::{cut, last_rect, leading_number, name, number, utf8};
 use crate::session::{AppBlock, EventLine};
 use crate::stage::Format;
-use tk_base::{MAX_MOMENT, MAX_PLACE};
-use tk_keys::Keysym;
+use tk_base::{Keysym, MAX_MOMENT, MAX_PLACE};
 use tk_route::HostLine;
 
 /// The largest coordinate of the pointer.

@@ -17,7 +17,7 @@ use Rattle.tk_host.specs.Refusals.{PhaseRefuses, RefusesApp, RefusesLine, Refuse
 use Rattle.tk_host.specs.Sections.{sections_after}
 use Rattle.tk_host.specs.Spec.{Given, given}
 use Rattle.tk_host.specs.declared.phase.Phase.TheVariants.{Adding, Reached, Lost}
-use Rattle.tk_keys.specs.Names.{key_named}
+use Rattle.tk_base.specs.Names.{key_named}
 use Rattle.tk_route.specs.Lines.{Line, at, values}
 use Rattle.tk_route.specs.Refusals.{IsFirst, NoneApplies}
 use Rattle.tk_route.specs.declared.fault.LineFault.{LineFault}

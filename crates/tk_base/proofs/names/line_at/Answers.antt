@@ -1,6 +1,6 @@
 use Rattle.std.proofs.lemmas.Iterator.Consumers.{nth_from_yields_List}
 use Rattle.std.proofs.lemmas.Iterator.Splits.{YieldsList-from_lines}
-use Rattle.tk_keys.proofs.names.line_at.Goals as goal
+use Rattle.tk_base.proofs.names.line_at.Goals as goal
 
 pub returns : goal.returns
 returns c =

@@ -7,7 +7,7 @@ use Rattle.std.proofs.lemmas.Slice.Eq.{bytes_eq-Decides}
 use Rattle.std.specs.List.{enumerate_from}
 use Rattle.std.specs.Option.{option_map}
 use Rattle.std.specs.Str.{bytes_eq}
-use Rattle.tk_keys.specs.Names.{key_names, key_named, name_of}
+use Rattle.tk_base.specs.Names.{key_names, key_named, name_of}
 
 pub length_key_names : length key_names ≡ 128
 unfolding key_names

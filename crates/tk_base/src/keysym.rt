@@ -21,7 +21,7 @@ impl Model for Keysym {
 
 impl Keysym {
     ghost use Rattle.std.specs.Prelude.{◌≡◌, nat_le};
-    ghost use Rattle.tk_keys.specs.Names.{name_of, key_named, key_of_character, character_of};
+    ghost use Rattle.tk_base.specs.Names.{name_of, key_named, key_of_character, character_of};
 
     pub const SHIFT_L: Keysym = Keysym { index: 121 };
 

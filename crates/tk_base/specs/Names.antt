@@ -2,7 +2,7 @@
 use Rattle.std.specs.Prelude.{ℕ, ◌+◌, ◌-◌, ◌&&◌, nat_le, if◌then◌else◌, List, [], ◌∷◌, Option, Some, None, position, slice_get, unwrap_or}
 use Rattle.std.specs.Str.{bytes_eq}
 use Rattle.std.specs.Str.Lines.{lines}
-use Rattle.tk_keys.specs.declared.names.TheConstants.{NAMES}
+use Rattle.tk_base.specs.declared.names.TheConstants.{NAMES}
 
 -- the names in the table, a line each
 unfoldable pub key_names : List (List ℕ)

@@ -1,4 +1,4 @@
--- What the program's own command answers.
+-- Meaning. What the program's own command answers.
 use Rattle.std.specs.Prelude.{ℕ, List, Ok}
 use Rattle.tk_alias.specs.Replies.{Answer}
 

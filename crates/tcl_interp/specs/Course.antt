@@ -1,4 +1,4 @@
--- Meaning. The course of jobs: what an object that does them says of each, by what it shows and the variables.
+-- Steps. The course of jobs: what an object that does them says of each, by what it shows and the variables.
 use Rattle.std.specs.Prelude.{ℕ, List}
 use Rattle.tcl_vars.specs.Store.{Store}
 use Rattle.tcl_control.specs.declared.code.Code.{Code}

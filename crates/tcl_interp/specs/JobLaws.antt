@@ -1,4 +1,4 @@
--- Meaning. What holds of all jobs.
+-- Steps. What holds of all jobs.
 use Rattle.std.specs.Prelude.{◌≡◌, ℕ, suc, ◌≤◌, ◌<◌, Bool, true, List}
 use Rattle.tcl_vars.specs.Store.{Store}
 use Rattle.tcl_control.specs.declared.code.Code.{Code}

@@ -1,4 +1,4 @@
--- Meaning. What a job comes to: by its tasks, and step by step.
+-- Steps. What a job comes to: by its tasks, and step by step.
 use Rattle.std.specs.Prelude.{ℕ, List, []}
 use Rattle.tcl_vars.specs.Store.{Store}
 use Rattle.tcl_control.specs.declared.code.Code.{Code}

@@ -1,4 +1,4 @@
--- Meaning. The tasks of jobs, as outside commands of an interpreter.
+-- Steps. The tasks of jobs, as outside commands of an interpreter.
 use Rattle.std.specs.Prelude.{ℕ, List, []}
 use Rattle.tcl_vars.specs.Store.{Store}
 use Rattle.tcl_control.specs.declared.code.Code.{Code}

@@ -1,4 +1,4 @@
--- The command `bind` (bind(n)): what it answers, and what the application has bound then.
+-- Meaning. The command `bind` (bind(n)): what it answers, and what the application has bound then.
 use Rattle.std.specs.Prelude.{◌≡◌, ℕ, Bool, true, false, ◌==◌, List, [], ◌∷◌, ◌++◌, map, Option, None, Some, Result, Ok, Err, if◌then◌else◌, codes}
 use Rattle.std.specs.Option.{option_map_or}
 use Rattle.tcl_text.specs.Answers.{Answer, Gives, ◌>>=◌, answers, wrong_args}

@@ -1,4 +1,4 @@
--- The command `bindtags` (bindtags(n)): what it answers, and what windows the application has then.
+-- Meaning. The command `bindtags` (bindtags(n)): what it answers, and what windows the application has then.
 use Rattle.std.specs.Prelude.{◌≡◌, ℕ, List, [], ◌∷◌, Option, None, Some, Result, Ok, Err, codes}
 use Rattle.tcl_text.specs.Answers.{Answer, Gives, answers, items_in, wrong_args}
 use Rattle.tcl_text.specs.declared.commands.answers.Refusal.{Refusal}

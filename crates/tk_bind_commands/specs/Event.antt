@@ -1,4 +1,4 @@
--- The command `event` (event(n)) without `generate`: what it answers, and what virtual events the application has then.
+-- Meaning. The command `event` (event(n)) without `generate`: what it answers, and what virtual events the application has then.
 use Rattle.std.specs.Prelude.{◌≡◌, ◌≢◌, ℕ, List, [], ◌∷◌, Result, Ok, Err, if◌then◌else◌, codes}
 use Rattle.std.specs.Str.{bytes_eq}
 use Rattle.tcl_text.specs.Answers.{Answer, ◌>>=◌, answers, bad_option, wrong_args}

@@ -1,4 +1,4 @@
--- What words of these commands are, or the text of the error.
+-- Meaning. What words of these commands are, or the text of the error.
 use Rattle.std.specs.Prelude.{◌≡◌, ℕ, List, ◌++◌, Result, Ok, Err, if◌then◌else◌, codes}
 use Rattle.tcl_text.specs.Answers.{Answer, Gives, fails, quoted}
 use Rattle.tcl_text.specs.declared.commands.answers.Refusal.{Refusal}

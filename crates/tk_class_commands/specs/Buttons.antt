@@ -1,6 +1,6 @@
 -- Meaning. What the pointer and keys do to buttons (button(n)). The application keeps the button that the pointer is over, the one that is pressed, and the
 -- relief that it had then.
-use Rattle.std.specs.Prelude.{ℕ, Bool, false, ◌==◌, List, [], ◌∷◌, Option, Some, None, codes, if◌then◌else◌}
+use Rattle.std.specs.Prelude.{ℕ, Bool, false, ◌==◌, List, [], ◌∷◌, Option, Some, None, option_and_then, codes, if◌then◌else◌}
 use Rattle.std.specs.Option.{option_map_or}
 use Rattle.std.specs.Result.{result_ok}
 use Rattle.tk_class_commands.specs.Changes.{with_change}
@@ -41,44 +41,27 @@ is_it number kept = option_map_or (λ other. other == number) kept false
 unfoldable pub relief_settings : List ℕ → Widget → Option (List Setting)
 relief_settings relief widget = result_ok (settings (codes "-relief" ∷ relief ∷ []) widget.options)
 
-abbrev pub configured : ℕ → Own → Option (List Setting) → Own
-configured number own None = own
-configured number own (Some all) = with_change number (Configure all) own
-
-abbrev pub with_relief_of : ℕ → List ℕ → Own → Option Widget → Own
-with_relief_of number relief own None = own
-with_relief_of number relief own (Some widget) = configured number own (relief_settings relief widget)
-
 -- the button with a number has another relief, as by `configure -relief RELIEF`
 abbrev pub with_relief : ℕ → List ℕ → Own → Own
-with_relief number relief own = with_relief_of number relief own (widget_at number own.widgets)
+with_relief number relief own =
+    option_map_or (λ all. with_change number (Configure all) own) (option_and_then (relief_settings relief) (widget_at number own.widgets)) own
 
 abbrev pub restored : ℕ → Option (List ℕ) → Own → Own
-restored number None own = own
-restored number (Some relief) own = with_relief number relief own
+restored number kept own = option_map_or (λ relief. with_relief number relief own) kept own
 
 -- a button's command, unless the button is disabled
-abbrev pub script_run : Option (List ℕ) → ClassOutcome
-script_run (Some script) = Acts (Script script)
-script_run None = nothing
-
-abbrev pub invoked_of : Option Widget → ClassOutcome
-invoked_of (Some widget) = script_run (invoked widget.options)
-invoked_of None = nothing
+abbrev pub script_of : ℕ → Own → Option (List ℕ)
+script_of number own = option_and_then (λ widget. invoked widget.options) (widget_at number own.widgets)
 
 abbrev pub invoked_at : ℕ → Own → ClassOutcome
-invoked_at number own = invoked_of (widget_at number own.widgets)
+invoked_at number own = option_map_or (λ script. Acts (Script script)) (script_of number own) nothing
 
 -- the relief that is kept of a button that is pressed; a disabled one can't be pressed
 abbrev pub kept_of : List OptionEntry → Option (List ℕ)
 kept_of options = if has_value State (codes "disabled") options then None else Some (relief_of options)
 
-abbrev pub relief_kept : Option Widget → Option (List ℕ)
-relief_kept (Some widget) = kept_of widget.options
-relief_kept None = None
-
 abbrev pub relief_to_keep : ℕ → Own → Option (List ℕ)
-relief_to_keep number own = relief_kept (widget_at number own.widgets)
+relief_to_keep number own = option_and_then (λ widget. kept_of widget.options) (widget_at number own.widgets)
 
 -- ---- the commands
 

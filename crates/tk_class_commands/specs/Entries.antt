@@ -1,5 +1,6 @@
 -- Meaning. What keys and the pointer do to entries (entry(n)).
-use Rattle.std.specs.Prelude.{ℕ, ℤ, Bool, false, List, Option, Some, None, codes, if◌then◌else◌}
+use Rattle.std.specs.Prelude.{ℕ, ℤ, Bool, false, List, Option, Some, None, option_and_then, codes, if◌then◌else◌}
+use Rattle.std.specs.Option.{option_map_or}
 use Rattle.std.specs.Str.{chars}
 use Rattle.tcl_vars.specs.Store.{Store}
 use Rattle.tk_class_commands.specs.Changes.{with_change}
@@ -17,7 +18,7 @@ use Rattle.tk_inputs.specs.Focus.{focused}
 use Rattle.tk_options.specs.declared.option.OptionEntry.{OptionEntry}
 use Rattle.tk_options.specs.declared.option.OptionName.TheVariants.{BorderWidth, State}
 use Rattle.tk_options.specs.Options.{amount_of}
-use Rattle.tk_screen.specs.Changes.{Changed, changed}
+use Rattle.tk_screen.specs.Changes.{changed}
 use Rattle.tk_screen.specs.Own.{Own}
 use Rattle.tk_screen.specs.Shapes.{variable_text}
 use Rattle.tk_screen.specs.Widgets.{widget_at}
@@ -43,27 +44,22 @@ pub record Edited : Type 0 where
 abbrev pub edit_told : Own → Store → ClassOutcome → Edited
 edit_told own store outcome = record { own = own; store = store; outcome = outcome }
 
-abbrev pub told_of : Changed → Edited
-told_of there = edit_told there.own there.store (outcome_of there.act)
-
 -- an edit sets the variable that the entry shows; where that can't be set, its error is told, and nothing is changed
 abbrev pub edited_as : ℕ → Own → Store → WidgetRequest → Edited
 edited_as number own store (asked.Done act) = edit_told own store (outcome_of (Some act))
-edited_as number own store (asked.Wants change) = told_of (changed number change own store)
-
-abbrev pub edited_by : ℕ → EntryEdit → Own → Store → Option Widget → Edited
-edited_by number key own store None = edit_told own store nothing
-edited_by number key own store (Some widget) = edited_as number own store (asked_by (edit_asked key (variable_text widget store) widget))
+edited_as number own store (asked.Wants change) =
+    (let there = changed number change own store in edit_told there.own there.store (outcome_of there.act))
 
 abbrev pub edited : ℕ → EntryEdit → Own → Store → Edited
-edited number key own store = edited_by number key own store (widget_at number own.widgets)
+edited number key own store =
+    option_map_or (λ widget. edited_as number own store (asked_by (edit_asked key (variable_text widget store) widget))) (widget_at number own.widgets)
+    (edit_told own store nothing)
 
 -- ---- the cursor
 
 -- the cursor of an entry stands behind so many characters
 abbrev pub with_cursor : ℕ → Option ℕ → Own → Own
-with_cursor number None own = own
-with_cursor number (Some at) own = with_change number (PutCursor at) own
+with_cursor number place own = option_map_or (λ at. with_change number (PutCursor at) own) place own
 
 -- where it comes by a key or to the pointer, so many pixels from the left edge, in an entry that shows this text of a variable
 abbrev pub place_in : CursorMove → Option (List ℕ) → List OptionEntry → EntryText → ℕ
@@ -77,19 +73,11 @@ place_by how text options parts = None
 abbrev pub place_of : CursorMove → Store → Widget → Option ℕ
 place_of how store widget = place_by how (variable_text widget store) widget.options widget.parts
 
-abbrev pub moved_by : ℕ → CursorMove → Own → Store → Option Widget → Own
-moved_by number how own store None = own
-moved_by number how own store (Some widget) = with_cursor number (place_of how store widget) own
-
 abbrev pub moved_at : ℕ → CursorMove → Own → Store → Own
-moved_at number how own store = moved_by number how own store (widget_at number own.widgets)
-
-abbrev pub is_disabled : Option Widget → Bool
-is_disabled (Some widget) = has_value State (codes "disabled") widget.options
-is_disabled None = false
+moved_at number how own store = with_cursor number (option_and_then (place_of how store) (widget_at number own.widgets)) own
 
 abbrev pub is_disabled_at : ℕ → Own → Bool
-is_disabled_at number own = is_disabled (widget_at number own.widgets)
+is_disabled_at number own = option_map_or (λ widget. has_value State (codes "disabled") widget.options) (widget_at number own.widgets) false
 
 -- a press: the entry gets the keys, and its cursor goes to the pointer, unless it is disabled
 abbrev pub pointed : ℕ → ℕ → ℤ → Own → Arrivals → Store → Done

@@ -1,5 +1,6 @@
 -- Meaning. What keys and the pointer do to listboxes (listbox(n)).
-use Rattle.std.specs.Prelude.{ℕ, ℤ, Bool, true, false, not, ◌||◌, ◌==◌, List, length, Option, Some, None, codes, if◌then◌else◌}
+use Rattle.std.specs.Prelude.{ℕ, ℤ, Bool, true, false, not, ◌||◌, ◌==◌, List, length, Option, Some, None, option_and_then, codes, if◌then◌else◌}
+use Rattle.std.specs.Option.{option_map_or}
 use Rattle.tk_class_commands.specs.Changes.{with_change}
 use Rattle.tk_class_commands.specs.declared.listboxes.Effect.{Effect}
 use Rattle.tk_class_commands.specs.declared.listboxes.ListboxRequest.{ListboxRequest}
@@ -19,7 +20,6 @@ use Rattle.tk_widgets.specs.declared.listbox_keys.RowStep.{RowStep}
 use Rattle.tk_widgets.specs.declared.outcome.WidgetChange.TheVariants.{Activate, Select}
 use Rattle.tk_widgets.specs.declared.widget.Parts.{Parts}
 use Rattle.tk_widgets.specs.declared.widget.Parts.TheVariants.{Listbox}
-use Rattle.tk_widgets.specs.declared.widget.Widget.{Widget}
 use Rattle.tk_widgets.specs.ListboxKeys.{has_mode, place_after, row_of}
 
 -- what is left of the application, and what comes of the command
@@ -71,12 +71,8 @@ abbrev pub effect_by : ListboxRequest → List OptionEntry → Parts → Option 
 effect_by request options (Listbox box) = effect_on request options box
 effect_by request options parts = None
 
-abbrev pub effect_of : ListboxRequest → Option Widget → Option Effect
-effect_of request (Some widget) = effect_by request widget.options widget.parts
-effect_of request None = None
-
 abbrev pub effect_at : ℕ → ListboxRequest → Own → Option Effect
-effect_at number request own = effect_of request (widget_at number own.widgets)
+effect_at number request own = option_and_then (λ widget. effect_by request widget.options widget.parts) (widget_at number own.widgets)
 
 abbrev pub is_press : ListboxRequest → Bool
 is_press (request.Press y) = true
@@ -93,8 +89,7 @@ with_effect number effect own = with_choice number effect.choice (with_change nu
 
 -- where a selection was made or toggled, `<<ListboxSelect>>` follows
 abbrev pub outcome_of : ℕ → Option Choice → ClassOutcome
-outcome_of number (Some choice) = Selects number
-outcome_of number None = nothing
+outcome_of number made = option_map_or (λ choice. Selects number) made nothing
 
 -- a press that does something gives the listbox the keys
 abbrev pub asked_with : ℕ → ℕ → ListboxRequest → Own → Arrivals → Option Effect → Told

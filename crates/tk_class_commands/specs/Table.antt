@@ -1,5 +1,6 @@
 -- Meaning. The commands that class bindings run, by their names: what each is called with, the kind of widgets that it is for, and what its words are.
-use Rattle.std.specs.Prelude.{ℕ, List, Option, Some, None, codes, if◌then◌else◌}
+use Rattle.std.specs.Prelude.{ℕ, List, [], ◌∷◌, ◌++◌, Option, codes}
+use Rattle.std.specs.Map.{lookup}
 use Rattle.std.specs.Str.{bytes_eq}
 use Rattle.tk_base.specs.declared.kind.Kind.{Kind}
 use Rattle.tk_base.specs.declared.kind.Kind.TheVariants as kind
@@ -28,20 +29,37 @@ with_word kind usage form = record { usage = usage; kind = kind; form = Word for
 abbrev pub on_button : List ℕ → ButtonRequest → ClassCommand
 on_button usage request = on_path kind.Button usage (path.Button request)
 
+-- ---- by their names
+
+-- a command with its name
+abbrev pub Row : Type 0
+Row = List ℕ × ClassCommand
+
+abbrev pub button_rows : List Row
+button_rows =
+    (codes "tk::ButtonEnter", on_button (codes "tk::ButtonEnter %W") Enter)
+    ∷ (codes "tk::ButtonLeave", on_button (codes "tk::ButtonLeave %W") Leave)
+    ∷ (codes "tk::ButtonDown", on_button (codes "tk::ButtonDown %W") Press)
+    ∷ (codes "tk::ButtonUp", on_button (codes "tk::ButtonUp %W") Release)
+    ∷ (codes "tk::ButtonInvoke", on_button (codes "tk::ButtonInvoke %W") Invoke)
+    ∷ []
+
+abbrev pub entry_rows : List Row
+entry_rows =
+    (codes "tk::EntryInsert", with_word kind.Entry (codes "tk::EntryInsert %W %A") word.Typed)
+    ∷ (codes "tk::EntryBackspace", on_path kind.Entry (codes "tk::EntryBackspace %W") path.Backspace)
+    ∷ (codes "tk::EntryDelete", on_path kind.Entry (codes "tk::EntryDelete %W") path.Delete)
+    ∷ (codes "tk::EntryMove", with_word kind.Entry (codes "tk::EntryMove %W left") word.Move)
+    ∷ (codes "tk::EntryDown", with_word kind.Entry (codes "tk::EntryDown %W %x") word.Point)
+    ∷ []
+
+abbrev pub listbox_rows : List Row
+listbox_rows =
+    (codes "tk::ListboxDown", with_word kind.Listbox (codes "tk::ListboxDown %W %y") word.Press)
+    ∷ (codes "tk::ListboxDrag", with_word kind.Listbox (codes "tk::ListboxDrag %W %y") word.Drag)
+    ∷ (codes "tk::ListboxMove", with_word kind.Listbox (codes "tk::ListboxMove %W -1") word.Step)
+    ∷ (codes "tk::ListboxSpace", on_path kind.Listbox (codes "tk::ListboxSpace %W") path.Choose)
+    ∷ []
+
 unfoldable pub class_command_named : List ℕ → Option ClassCommand
-class_command_named name =
-    if bytes_eq name (codes "tk::ButtonEnter") then Some (on_button (codes "tk::ButtonEnter %W") Enter)
-    else if bytes_eq name (codes "tk::ButtonLeave") then Some (on_button (codes "tk::ButtonLeave %W") Leave)
-    else if bytes_eq name (codes "tk::ButtonDown") then Some (on_button (codes "tk::ButtonDown %W") Press)
-    else if bytes_eq name (codes "tk::ButtonUp") then Some (on_button (codes "tk::ButtonUp %W") Release)
-    else if bytes_eq name (codes "tk::ButtonInvoke") then Some (on_button (codes "tk::ButtonInvoke %W") Invoke)
-    else if bytes_eq name (codes "tk::EntryInsert") then Some (with_word kind.Entry (codes "tk::EntryInsert %W %A") word.Typed)
-    else if bytes_eq name (codes "tk::EntryBackspace") then Some (on_path kind.Entry (codes "tk::EntryBackspace %W") path.Backspace)
-    else if bytes_eq name (codes "tk::EntryDelete") then Some (on_path kind.Entry (codes "tk::EntryDelete %W") path.Delete)
-    else if bytes_eq name (codes "tk::EntryMove") then Some (with_word kind.Entry (codes "tk::EntryMove %W left") word.Move)
-    else if bytes_eq name (codes "tk::EntryDown") then Some (with_word kind.Entry (codes "tk::EntryDown %W %x") word.Point)
-    else if bytes_eq name (codes "tk::ListboxDown") then Some (with_word kind.Listbox (codes "tk::ListboxDown %W %y") word.Press)
-    else if bytes_eq name (codes "tk::ListboxDrag") then Some (with_word kind.Listbox (codes "tk::ListboxDrag %W %y") word.Drag)
-    else if bytes_eq name (codes "tk::ListboxMove") then Some (with_word kind.Listbox (codes "tk::ListboxMove %W -1") word.Step)
-    else if bytes_eq name (codes "tk::ListboxSpace") then Some (on_path kind.Listbox (codes "tk::ListboxSpace %W") path.Choose)
-    else None
+class_command_named name = lookup (bytes_eq name) (button_rows ++ entry_rows ++ listbox_rows)

@@ -1,5 +1,6 @@
 -- Meaning. The commands `bind`, `bindtags`, `event` and `focus`, from the words behind their names.
-use Rattle.std.specs.Prelude.{ℕ, List, [], ◌∷◌, Option, Some, None, codes, if◌then◌else◌}
+use Rattle.std.specs.Prelude.{ℕ, List, [], ◌∷◌, Option, codes, if◌then◌else◌}
+use Rattle.std.specs.Map.{lookup}
 use Rattle.std.specs.Str.{bytes_eq}
 use Rattle.tcl_text.specs.Answers.{Answer}
 use Rattle.tk_bind_commands.specs.Bind.{bind_words}
@@ -43,13 +44,14 @@ with_focus panel there = (record panel { input = there.arrivals.input; queue = t
 abbrev pub focus_told : List (List ℕ) → Panel → Panel × Answer
 focus_told words panel = with_focus panel (focus.focus_words words panel.moment panel.screen.tree (arrivals_in panel))
 
+-- ---- by their names
+
+abbrev pub binding_commands : List (List ℕ × BindingCommand)
+binding_commands =
+    (codes "bind", command.Bind) ∷ (codes "bindtags", command.Bindtags) ∷ (codes "event", command.Event) ∷ (codes "focus", command.Focus) ∷ []
+
 unfoldable pub binding_command_named : List ℕ → Option BindingCommand
-binding_command_named name =
-    if bytes_eq name (codes "bind") then Some command.Bind
-    else (if bytes_eq name (codes "bindtags") then Some command.Bindtags
-    else (if bytes_eq name (codes "event") then Some command.Event
-    else (if bytes_eq name (codes "focus") then Some command.Focus
-    else None)))
+binding_command_named name = lookup (bytes_eq name) binding_commands
 
 unfoldable pub binding_command_done : BindingCommand → List (List ℕ) → Panel → Told
 binding_command_done command.Bind words panel = answered (bind_told words panel)

@@ -1,4 +1,5 @@
--- Meaning. The course of an application's jobs: what comes next of each, what that starts, and what the end of a script makes of it.
+-- Steps. The course of an application's jobs: what comes next of each, what that starts, and what the end of a script makes of it. What jobs come to,
+-- the equations of tk_app say (`Settles`, `Dispatches`, `Destroys`); of what stands here they have *with_end* alone.
 use Rattle.std.specs.Prelude.{ℕ, List, [], Option, Some, None}
 use Rattle.tcl_vars.specs.Store.{Store}
 use Rattle.tcl_control.specs.declared.code.Code.{Code}

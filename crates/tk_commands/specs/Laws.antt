@@ -1,4 +1,4 @@
--- Meaning. What jobs come to, big-step.
+-- Steps. What jobs come to, big-step.
 use Rattle.std.specs.Prelude.{◌≡◌, ℕ, List, [], ◌∷◌, Option, Some, None}
 use Rattle.tcl_control.specs.declared.code.Code.{Code}
 use Rattle.tcl_control.specs.declared.code.Code.TheVariants.{Normal}

@@ -1,5 +1,6 @@
 -- Meaning. The commands `puts`, `after`, `clock`, `update` and `destroy`, from the words behind their names.
-use Rattle.std.specs.Prelude.{ℕ, List, [], ◌∷◌, Option, Some, None, codes, if◌then◌else◌}
+use Rattle.std.specs.Prelude.{ℕ, List, [], ◌∷◌, Option, None, codes, if◌then◌else◌}
+use Rattle.std.specs.Map.{lookup}
 use Rattle.std.specs.Str.{bytes_eq}
 use Rattle.tcl_text.specs.Answers.{bad_option, wrong_args}
 use Rattle.tk_panel.specs.declared.job.Home.{Home}
@@ -33,14 +34,19 @@ unfoldable pub update_words : List (List ℕ) → CommandOutcome
 update_words [] = Begins (settling Update)
 update_words (option ∷ words) = if bytes_eq option (codes "idletasks") then idle_words words else outcome_of (bad_option option)
 
+-- ---- by their names
+
+abbrev pub moment_commands : List (List ℕ × MomentCommand)
+moment_commands =
+    (codes "puts", command.Puts)
+    ∷ (codes "after", command.After)
+    ∷ (codes "clock", command.Clock)
+    ∷ (codes "update", command.Update)
+    ∷ (codes "destroy", command.Destroy)
+    ∷ []
+
 unfoldable pub moment_command_named : List ℕ → Option MomentCommand
-moment_command_named name =
-    if bytes_eq name (codes "puts") then Some command.Puts
-    else (if bytes_eq name (codes "after") then Some command.After
-    else (if bytes_eq name (codes "clock") then Some command.Clock
-    else (if bytes_eq name (codes "update") then Some command.Update
-    else (if bytes_eq name (codes "destroy") then Some command.Destroy
-    else None))))
+moment_command_named name = lookup (bytes_eq name) moment_commands
 
 unfoldable pub moment_command_done : MomentCommand → List (List ℕ) → Panel → Told
 moment_command_done command.Puts words panel = answered (puts_words words panel)

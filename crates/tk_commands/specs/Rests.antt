@@ -1,4 +1,4 @@
--- Meaning. When nothing is left to do at a moment.
+-- Steps. When nothing is left to do at a moment.
 use Rattle.std.specs.Prelude.{◌≡◌, ℕ, Bool, true, false, ◌&&◌, ◌||◌, not, List, [], ◌∷◌, is_some}
 use Rattle.tcl_vars.specs.Store.{Store}
 use Rattle.tcl_control.specs.declared.code.Code.{Code}

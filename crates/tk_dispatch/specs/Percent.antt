@@ -1,11 +1,12 @@
 -- Meaning. A script with the fields of an event put in where `%` and a character stand for them.
 use Rattle.std.specs.Prelude.{ℕ, ℤ, ◌==◌, if◌then◌else◌, List, [], ◌∷◌, ◌++◌, Option, Some, None, option_map, encode_utf8, codes}
 use Rattle.std.specs.Fmt.{decimal, signed_decimal}
+use Rattle.std.specs.Map.{lookup}
 use Rattle.tcl_text.specs.Readings.{list_form}
 use Rattle.tk_sequences.specs.declared.event.Event.{Event}
 use Rattle.tk_sequences.specs.declared.event.EventKind.{EventKind}
 use Rattle.tk_sequences.specs.declared.event.EventKind.TheVariants.{Physical, Virtual}
-use Rattle.tk_keys.specs.Names.{name_of, character_of}
+use Rattle.tk_base.specs.Names.{name_of, character_of}
 use Rattle.tk_dispatch.specs.declared.field.Field.{Field}
 use Rattle.tk_dispatch.specs.declared.field.Field.TheVariants.{Path, TypeNumber, Moment, State, X, Y, RootX, RootY, Button, Key, KeyText, Width, Height, Detail}
 use Rattle.tk_sequences.specs.Types.{type_number}
@@ -62,12 +63,8 @@ field_characters =
     ∷ (100, Detail)
     ∷ []
 
-abbrev pub field_among : ℕ → List (ℕ × Field) → Option Field
-field_among character [] = None
-field_among character (entry ∷ entries) = if character == entry.0 then Some entry.1 else field_among character entries
-
 abbrev pub field_named : ℕ → Option Field
-field_named character = field_among character field_characters
+field_named character = lookup (λ known. character == known) field_characters
 
 abbrev pub field_shown : Event → Field → List ℕ
 field_shown event Path = element event.path

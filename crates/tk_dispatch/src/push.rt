@@ -1,7 +1,7 @@
 //! Adds to a text what a field is.
 ghost use Rattle.std.specs.Prelude.{◌≡◌, ◌≢◌, ◌<◌, ◌++◌, length, IfOk, IfErr, OnOk, option_map};
 ghost use Rattle.std.specs.Fmt.{decimal, signed_decimal};
-ghost use Rattle.tk_keys.specs.Names.{name_of};
+ghost use Rattle.tk_base.specs.Names.{name_of};
 ghost use Rattle.tk_dispatch.specs.Percent.{element, key_text, number_shown, place_shown, text_shown};
 ghost use Rattle.tcl_text.specs.Limits.{most_bytes};
 
@@ -9,7 +9,7 @@ use itoa::Buffer;
 use std::alloc::{AllocError, Global};
 use tcl_text::message::short_text;
 use tcl_text::{Text, TextFault};
-use tk_keys::Keysym;
+use tk_base::Keysym;
 
 /// Adds a text as an element of a list.
 pub fn push_element(alloc: Global, text: &mut Text, item: &Text) -> Result<(), TextFault>

@@ -1,5 +1,6 @@
 -- Meaning. Which fields a generated event has, beside its type, its window and its moment.
-use Rattle.std.specs.Prelude.{ℕ, ℤ, pos, ◌+ℤ◌, Bool, true, false, ◌||◌, bit_or, fold, unwrap_or, List, Option, Some, None, option_map, Result, Ok, codes, if◌then◌else◌}
+use Rattle.std.specs.Prelude.{ℕ, ℤ, pos, ◌+ℤ◌, Bool, true, false, ◌||◌, unwrap_or, List, Option, Some, None, option_map, Result, Ok, codes, if◌then◌else◌}
+use Rattle.std.specs.List.{sum_by}
 use Rattle.std.specs.Option.{option_or}
 use Rattle.tcl_text.specs.Answers.{fails}
 use Rattle.tk_sequences.specs.declared.detail.Detail.{Detail}
@@ -50,12 +51,12 @@ detail_for type given = if has_detail type then given else None
 
 -- ---- state
 
-abbrev pub with_held : ℕ → ℕ → Modifier → ℕ
-with_held modifiers state modifier = if has_modifier modifiers modifier then bit_or state (modifier_bit modifier) else state
+abbrev pub held_bit : ℕ → Modifier → ℕ
+held_bit modifiers modifier = if has_modifier modifiers modifier then modifier_bit modifier else 0
 
--- the state in which these modifiers are held, and nothing else
+-- the state in which these modifiers are held, and nothing else: the sum of their bits
 abbrev pub state_of : ℕ → ℕ
-state_of modifiers = fold (with_held modifiers) 0 all_modifiers
+state_of modifiers = sum_by (held_bit modifiers) all_modifiers
 
 -- the one given, else that of the pattern's modifiers
 abbrev pub state_for : Pattern → Option ℕ → Option ℕ

@@ -1,7 +1,7 @@
 -- Meaning. What the values of options are read as.
 use Rattle.std.specs.Prelude.{ℕ, ℤ, pos, negsuc, ◌&&◌, nat_le, List, [], ◌∷◌, Option, Some, None, Result, Ok, codes, if◌then◌else◌}
 use Rattle.tcl_text.specs.Readings.{integer_of}
-use Rattle.tk_keys.specs.Names.{key_named}
+use Rattle.tk_base.specs.Names.{key_named}
 use Rattle.tk_sequences.specs.declared.fault.SequenceFault.TheVariants.{BadKeysym}
 use Rattle.tk_sequences.specs.Lookup.{looked_up}
 use Rattle.tk_generate.specs.declared.given.When.{When}

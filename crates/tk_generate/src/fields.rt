@@ -6,7 +6,7 @@ ghost use Rattle.tk_generate.specs.Fields as spec;
 use std::alloc::Global;
 use tcl_text::Text;
 use tcl_text::answers::{Refusal, error};
-use tk_keys::Keysym;
+use tk_base::Keysym;
 use tk_sequences::{Detail, EventType, Modifier, Modifiers, Pattern};
 
 /// Whether the pointer makes events of this type.
@@ -64,19 +64,19 @@ fn state_of(modifiers: Modifiers) -> u16
 {
     let mut state = 0;
     for modifier in Modifier::ALL {
-        state = with_held(modifiers, state, modifier);
+        state += held_bit(modifiers, modifier);
     }
     state
 }
 
-/// A state, with one modifier more where it is among these.
-fn with_held(modifiers: Modifiers, state: u16, modifier: Modifier) -> u16
-    ensures { result ≡ spec.with_held modifiers state modifier }
+/// The bit of a modifier in a state, where it is among these; else 0.
+fn held_bit(modifiers: Modifiers, modifier: Modifier) -> u16
+    ensures { result ≡ spec.held_bit modifiers modifier }
 {
     if modifiers.has(modifier) {
-        state | modifier.bit()
+        modifier.bit()
     } else {
-        state
+        0
     }
 }
 

@@ -8,7 +8,7 @@ use crate::values::{button_in, coordinate_in, keysym_in, state_in, when_in};
 use std::alloc::Global;
 use tcl_text::Text;
 use tcl_text::answers::Refusal;
-use tk_keys::Keysym;
+use tk_base::Keysym;
 use tk_options::OptionFault;
 
 /// When an event comes (event(n), `-when`).

@@ -9,7 +9,7 @@ use crate::refusals::{or_bad_value, sequence_refused};
 use std::alloc::Global;
 use tcl_text::Text;
 use tcl_text::answers::Refusal;
-use tk_keys::Keysym;
+use tk_base::Keysym;
 use tk_sequences::SequenceFault;
 
 /// When an event comes, by its word.

@@ -11,7 +11,8 @@ use Rattle.tcl_text.specs.declared.commands.answers.Refusal.TheVariants.{Error, 
 use Rattle.tk_pack_commands.specs.declared.settings.PackOption.{PackOption}
 use Rattle.tk_pack_commands.specs.Faults.{no_value}
 use Rattle.tk_pack_commands.specs.Options.{known, option_named, setting_in, settings_in, without_value}
-use Rattle.tk_pack_commands.specs.Targets.{GivesItems, target_in, targets_in}
+use Rattle.tk_pack_commands.specs.Given.{GivesItems}
+use Rattle.tk_pack_commands.specs.Targets.{target_in, targets_in}
 
 -- items behind others
 abbrev pub items_behind : {T : Type 0} → List T → Result (List T) (List ℕ) → Result (List T) (List ℕ)

@@ -1,5 +1,6 @@
 -- What the contracts cite.
 pub mod Faults
+pub mod Given
 pub mod Info
 pub mod Options
 pub mod Pack

@@ -1,9 +1,7 @@
 -- Meaning. The windows that `pack` is to pack: the first of its words, and those after it that begin with a dot.
-use Rattle.std.specs.Prelude.{◌≡◌, ℕ, ◌+◌, Bool, false, ◌==◌, not, List, [], ◌∷◌, Option, None, Some, option_map, Result, Ok, Err, Vec, ⊤}
+use Rattle.std.specs.Prelude.{ℕ, ◌+◌, Bool, false, ◌==◌, not, List, [], ◌∷◌, Option, None, Some, option_map, Result, Ok}
 use Rattle.std.specs.List.{position_or_len}
 use Rattle.tcl_text.specs.Answers.{◌>>=◌}
-use Rattle.tcl_text.specs.declared.commands.answers.Refusal.{Refusal}
-use Rattle.tcl_text.specs.declared.commands.answers.Refusal.TheVariants.{Error, NoMemory}
 use Rattle.tk_tree.specs.Own.{Own as Tree, at_path}
 use Rattle.tk_tree.specs.declared.window.Window.{Window}
 use Rattle.tk_pack_commands.specs.declared.targets.Found.{Found}
@@ -50,9 +48,3 @@ targets_in (path ∷ paths) tree = do
   first ← target_in path tree
   others ← targets_in paths tree
   Ok (first ∷ others)
-
--- what a step gave, item by item, is what the definition says, unless memory was refused
-abbrev pub GivesItems : {T Z : Type 0} → Result (Vec T Z) Refusal → Result (List T) (List ℕ) → Type 0
-GivesItems (Ok list) wanted = wanted ≡ Ok list.items
-GivesItems (Err (Error message)) wanted = wanted ≡ Err message
-GivesItems (Err NoMemory) wanted = ⊤

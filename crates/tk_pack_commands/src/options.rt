@@ -2,8 +2,8 @@
 ghost use Rattle.std.specs.Prelude.{◌≡◌, ◌==◌, IfOk};
 ghost use Rattle.std.specs.List.{list_all};
 ghost use Rattle.tcl_text.specs.Answers.{Gives};
+ghost use Rattle.tk_pack_commands.specs.Given.{GivesItems};
 ghost use Rattle.tk_pack_commands.specs.Options as spec;
-ghost use Rattle.tk_pack_commands.specs.Targets.{GivesItems};
 ghost use Rattle.tk_packer.specs.Packs.{own_of as packs_of};
 ghost use Rattle.tk_tree.specs.Own.{own_of};
 

@@ -2,6 +2,7 @@
 ghost use Rattle.std.specs.Prelude.{◌≡◌, ◌≤◌, length, not, option_map};
 ghost use Rattle.std.specs.List.{position_or_len};
 ghost use Rattle.tcl_text.specs.Answers.{Gives};
+ghost use Rattle.tk_pack_commands.specs.Given.{GivesItems};
 ghost use Rattle.tk_pack_commands.specs.Targets as spec;
 ghost use Rattle.tk_tree.specs.Own.{own_of, at_path};
 
@@ -118,7 +119,7 @@ pub fn targets_in(
     owner: usize,
     paths: &[Text],
 ) -> Result<Vec<Target>, Refusal>
-    ensures { spec.GivesItems result (spec.targets_in paths.now (own_of owner windows.now)) }
+    ensures { GivesItems result (spec.targets_in paths.now (own_of owner windows.now)) }
 {
     let mut targets = Vec::with_capacity(alloc, paths.len())?;
     let mut rest = paths;

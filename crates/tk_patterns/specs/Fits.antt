@@ -2,6 +2,7 @@
 use Rattle.std.specs.Prelude.{ℕ, Bool, true, false, ◌&&◌, ◌||◌, ◌==◌, nat_le, not, ℤ, ◌-ℤ◌, unsigned_abs, Option, Some, None, unwrap_or}
 use Rattle.std.specs.Int.{abs_diff}
 use Rattle.std.specs.Option.{option_map_or}
+use Rattle.tk_base.specs.Names.{shift_left}
 use Rattle.tk_sequences.specs.declared.detail.Detail.{Detail}
 use Rattle.tk_sequences.specs.declared.detail.Detail.TheVariants.{Key, Button}
 use Rattle.tk_sequences.specs.declared.event_type.EventType.{EventType}
@@ -49,7 +50,7 @@ is_key_press (Virtual name) = false
 
 -- a key from Shift_L on, the first of those that modify others
 abbrev pub is_modifier_key : Option ℕ → Bool
-is_modifier_key key = option_map_or (λ k. nat_le 121 k) key false
+is_modifier_key key = option_map_or (λ k. nat_le shift_left k) key false
 
 -- any release, or a press of a modifier key: between two events of a sequence such an event may stand
 abbrev pub may_stand_between : Event → Bool

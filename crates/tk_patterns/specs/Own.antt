@@ -67,6 +67,8 @@ without_binding tag sequence own = filter (λ binding. not (is_of tag sequence b
 abbrev pub without_tag : List ℕ → List Binding → List Binding
 without_tag tag own = filter (λ binding. not (has_tag tag binding)) own
 
+-- ── steps ──
+
 -- the binding at a place with another script
 abbrev pub with_script_at : ℕ → List ℕ → List Binding → List Binding
 with_script_at place script [] = []

@@ -5,7 +5,7 @@ ghost use Rattle.tk_patterns.specs.Filing.{mixed, filing_number, key_number, det
 
 use crate::Buckets;
 use crate::binding::Binding;
-use tk_keys::Keysym;
+use tk_base::Keysym;
 use tk_sequences::{Detail, EventType, Sequence};
 
 /// The class of all virtual events.

@@ -2,7 +2,7 @@
 ghost use Rattle.std.specs.Prelude.{◌≡◌};
 ghost use Rattle.tk_patterns.specs.Fits.{same_type, has_type, has_detail, is_about, has_modifiers, fits, is_release, is_key_press, is_modifier_key, may_stand_between, is_near_on_axis, is_near_in_place, are_near};
 
-use tk_keys::Keysym;
+use tk_base::Keysym;
 use tk_sequences::{Detail, Event, EventKind, EventType, Modifiers, Pattern};
 
 /// Whether an event is of the pattern's type, of its detail if it has one, and has all its modifiers in its state.

@@ -26,6 +26,6 @@ pub use history::History;
 pub use rests::{earlier, first_of, past};
 pub use step::{PatternStep, count_of, step_at};
 pub use table::BindTable;
-pub use tk_keys::{Keysym, LocalEvent};
+pub use tk_base::{Keysym, LocalEvent};
 pub use tk_sequences::{Event, EventKind, EventType, Sequence, VirtualName};
 pub use tk_virtual::VirtualPairs;

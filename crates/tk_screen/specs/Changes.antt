@@ -1,5 +1,6 @@
 -- Meaning. A change of a widget, with the variable that it asks for.
 use Rattle.std.specs.Prelude.{ℕ, Bool, true, false, ◌&&◌, not, if◌then◌else◌, List, Option, None, Some, Result, Ok, Err}
+use Rattle.std.specs.Option.{option_map_or}
 use Rattle.tcl_commands.specs.Texts.{cannot_set}
 use Rattle.tcl_vars.specs.Store.{Store, variable_in, with_variable}
 use Rattle.tcl_text.specs.declared.fault.ReadFault.{ReadFault}
@@ -9,10 +10,9 @@ use Rattle.tk_widgets.specs.declared.outcome.WidgetChange.{WidgetChange}
 use Rattle.tk_widgets.specs.declared.outcome.VariableWrite.{VariableWrite}
 use Rattle.tk_widgets.specs.declared.outcome.WidgetAct.{WidgetAct}
 use Rattle.tk_widgets.specs.declared.outcome.WidgetAct.TheVariants.{Fault}
-use Rattle.tk_widgets.specs.declared.widget.Widget.{Widget}
 use Rattle.tk_widgets.specs.Commands.{variable_write}
 use Rattle.tk_screen.specs.Own.{Own}
-use Rattle.tk_screen.specs.Widgets.{ToldOf, made_at, widget_at}
+use Rattle.tk_screen.specs.Widgets.{made_at, widget_at}
 
 -- ---- the variable
 
@@ -49,18 +49,14 @@ pub record Changed : Type 0 where
 abbrev pub stays : Own → Store → Option WidgetAct → Changed
 stays own store act = record { own = own; store = store; act = act }
 
-abbrev pub with_told : Own → Store → ToldOf → Changed
-with_told own store told = record { own = record own { widgets = told.widgets }; store = store; act = told.act }
-
 -- the change is made once the variable is set; where that can't be set, its error is told, and nothing is changed
 abbrev pub changed_after : ℕ → WidgetChange → Own → Store → Result Store (List ℕ) → Changed
-changed_after number change own store (Ok new) = with_told own new (made_at number change own.widgets)
+changed_after number change own store (Ok new) =
+    (let told = made_at number change own.widgets in record { own = record own { widgets = told.widgets }; store = new; act = told.act })
 changed_after number change own store (Err text) = stays own store (Some (Fault text))
-
-abbrev pub changed_by : ℕ → WidgetChange → Own → Store → Option Widget → Changed
-changed_by number change own store None = stays own store None
-changed_by number change own store (Some widget) = changed_after number change own store (wrote (variable_write change widget) store)
 
 -- a change that the widget of the window with a number was asked for
 unfoldable pub changed : ℕ → WidgetChange → Own → Store → Changed
-changed number change own store = changed_by number change own store (widget_at number own.widgets)
+changed number change own store =
+    option_map_or (λ widget. changed_after number change own store (wrote (variable_write change widget) store)) (widget_at number own.widgets)
+    (stays own store None)

@@ -36,12 +36,9 @@ abbrev pub told_of : ℕ → OwnWidgets → Told → ToldOf
 told_of number widgets told = record { widgets = set_value (nat_eq number) widgets told.widget; act = Some told.act }
 
 -- a change made of the widget of the window with a number; nothing is told where there is none
-abbrev pub made_of : ℕ → WidgetChange → OwnWidgets → Option Widget → ToldOf
-made_of number change widgets None = record { widgets = widgets; act = None }
-made_of number change widgets (Some widget) = told_of number widgets (made change widget)
-
 abbrev pub made_at : ℕ → WidgetChange → OwnWidgets → ToldOf
-made_at number change widgets = made_of number change widgets (widget_at number widgets)
+made_at number change widgets =
+    option_map_or (λ widget. told_of number widgets (made change widget)) (widget_at number widgets) (record { widgets = widgets; act = None })
 
 -- ---- all applications
 

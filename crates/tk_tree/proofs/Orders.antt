@@ -5,7 +5,8 @@ use Rattle.std.proofs.lemmas.Bool.{ne_eqb}
 use Rattle.std.proofs.lemmas.List.{reverse-append, reverse-reverse}
 use Rattle.tk_base.specs.Bag.{AllAbove, IsRising}
 use Rattle.tk_tree.specs.declared.window.Window.{Window}
-use Rattle.tk_tree.specs.Orders.{below, below_first, all_below, all_below_first}
+use Rattle.tk_tree.specs.Orders.{below, below_first}
+use Rattle.tk_tree.specs.Walks.{all_below, all_below_first}
 use Rattle.tk_tree.specs.Own.{HasOlderParent, HaveOlderParents, is_child_of, child_numbers}
 use Rattle.tk_tree.specs.Window.{number_of}
 

@@ -8,5 +8,6 @@ pub mod Index
 pub mod Orders
 pub mod Own
 pub mod Path
+pub mod Walks
 pub mod Ways
 pub mod Window

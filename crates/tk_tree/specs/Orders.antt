@@ -25,15 +25,3 @@ below_first number (window ∷ windows) =
 -- those below the window with a number, and then itself (post-order)
 abbrev pub post_order : ℕ → Own → List ℕ
 post_order number own = below_first number own.windows ++ number ∷ []
-
--- ── in the middle of a walk ──
-
--- some windows, each with what is below it
-unfoldable pub all_below : List ℕ → List Window → List ℕ
-all_below [] windows = []
-all_below (number ∷ numbers) windows = number ∷ below number windows ++ all_below numbers windows
-
--- the same, each behind what is below it
-unfoldable pub all_below_first : List ℕ → List Window → List ℕ
-all_below_first [] windows = []
-all_below_first (number ∷ numbers) windows = (below_first number windows ++ number ∷ []) ++ all_below_first numbers windows

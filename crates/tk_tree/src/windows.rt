@@ -3,7 +3,8 @@ ghost use Rattle.std.specs.Option.{option_copied, option_map_or};
 ghost use Rattle.tk_tree.specs.Change.{changed, dying, with_place, with_tags};
 ghost use Rattle.tk_tree.specs.Corners.{corner};
 ghost use Rattle.tk_tree.specs.Create.{refusal, place_refusal, parent_number, with_window};
-ghost use Rattle.tk_tree.specs.Orders.{below, below_first, all_below, all_below_first, subtree, post_order};
+ghost use Rattle.tk_tree.specs.Orders.{below, below_first, subtree, post_order};
+ghost use Rattle.tk_tree.specs.Walks.{all_below, all_below_first};
 ghost use Rattle.tk_tree.specs.Own.{own_of, window_at, at_path, is_full, child_numbers, with_change, without_window, LeavesOthers, IsSound};
 ghost use Rattle.tk_tree.specs.Ways.{at_point, way_at, way_to, way_up};
 

@@ -1,6 +1,7 @@
 -- Meaning. The sub-commands of an entry (entry(n)), each from the words behind its name. `text` is the variable's, where it can be read.
-use Rattle.std.specs.Prelude.{ℕ, ◌+◌, if◌then◌else◌, List, [], ◌∷◌, Option, Some, None, Result, Ok, Err, codes}
+use Rattle.std.specs.Prelude.{ℕ, ◌+◌, if◌then◌else◌, List, [], ◌∷◌, Option, Some, None, unwrap_or, Result, Ok, Err, codes}
 use Rattle.std.specs.Fmt.{decimal}
+use Rattle.std.specs.Map.{lookup}
 use Rattle.std.specs.Str.{bytes_eq}
 use Rattle.tcl_text.specs.Answers.{◌>>=◌, answers, bad_index, bad_option, wrong_args}
 use Rattle.tk_entry.specs.declared.entry.Entry.{Entry}
@@ -71,11 +72,15 @@ entry_index (index ∷ []) text entry = do
   told (answers (decimal at))
 entry_index _ text entry = wrong_args (codes "path index index")
 
+-- the sub-commands by their names: what each asks for with these words
+abbrev pub entry_commands : List (List ℕ) → Option (List ℕ) → List OptionEntry → Entry → List (List ℕ × Wanted)
+entry_commands words text options entry =
+    (codes "get", entry_get words text entry)
+    ∷ (codes "insert", entry_insert words text options entry)
+    ∷ (codes "delete", entry_delete words text options entry)
+    ∷ (codes "icursor", entry_icursor words text entry)
+    ∷ (codes "index", entry_index words text entry)
+    ∷ []
+
 unfoldable pub entry_words : List ℕ → List (List ℕ) → Option (List ℕ) → List OptionEntry → Entry → Wanted
-entry_words name words text options entry =
-    if bytes_eq name (codes "get") then entry_get words text entry
-    else if bytes_eq name (codes "insert") then entry_insert words text options entry
-    else if bytes_eq name (codes "delete") then entry_delete words text options entry
-    else if bytes_eq name (codes "icursor") then entry_icursor words text entry
-    else if bytes_eq name (codes "index") then entry_index words text entry
-    else bad_option name
+entry_words name words text options entry = unwrap_or (lookup (bytes_eq name) (entry_commands words text options entry)) (bad_option name)

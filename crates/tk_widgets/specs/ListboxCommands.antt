@@ -1,6 +1,7 @@
 -- Meaning. The sub-commands of a listbox (listbox(n)), each from the words behind its name.
-use Rattle.std.specs.Prelude.{ℕ, Bool, if◌then◌else◌, List, [], ◌∷◌, length, map, Option, Some, None, Result, Ok, Err, codes}
+use Rattle.std.specs.Prelude.{ℕ, Bool, List, [], ◌∷◌, length, map, Option, Some, None, unwrap_or, Result, Ok, Err, codes}
 use Rattle.std.specs.Fmt.{decimal, signed_decimal}
+use Rattle.std.specs.Map.{lookup}
 use Rattle.std.specs.Str.{bytes_eq}
 use Rattle.tcl_text.specs.Answers.{Answer, ◌>>=◌, answers, bad_index, bad_option, truth, wrong_args}
 use Rattle.tcl_text.specs.Readings.{list_form}
@@ -114,12 +115,16 @@ selection_includes (index ∷ []) box = do
   told (truth (has_chosen (part one.from one.to box.items)))
 selection_includes _ box = wrong_args (codes "path selection includes index")
 
+-- by its names: what each asks for with these words
+abbrev pub selection_commands : List (List ℕ) → Held → List (List ℕ × Wanted)
+selection_commands words box =
+    (codes "set", selection_set words box)
+    ∷ (codes "clear", selection_clear words box)
+    ∷ (codes "includes", selection_includes words box)
+    ∷ []
+
 unfoldable pub selection_words : List ℕ → List (List ℕ) → Held → Wanted
-selection_words name words box =
-    if bytes_eq name (codes "set") then selection_set words box
-    else (if bytes_eq name (codes "clear") then selection_clear words box
-    else (if bytes_eq name (codes "includes") then selection_includes words box
-    else bad_option name))
+selection_words name words box = unwrap_or (lookup (bytes_eq name) (selection_commands words box)) (bad_option name)
 
 abbrev pub list_selection : List (List ℕ) → Held → Wanted
 list_selection [] box = wrong_args (codes "path selection set|clear first ?last?")
@@ -131,14 +136,18 @@ list_activate words box = do
   at ← index_in words (codes "path activate index")
   change (Activate (before at (length box.items) box.active))
 
+-- the sub-commands by their names: what each asks for with these words
+abbrev pub listbox_commands : List (List ℕ) → Held → List (List ℕ × Wanted)
+listbox_commands words box =
+    (codes "insert", list_insert words box)
+    ∷ (codes "delete", list_delete words box)
+    ∷ (codes "get", list_get words box)
+    ∷ (codes "size", list_size words box)
+    ∷ (codes "index", list_index words box)
+    ∷ (codes "curselection", list_curselection words box)
+    ∷ (codes "selection", list_selection words box)
+    ∷ (codes "activate", list_activate words box)
+    ∷ []
+
 unfoldable pub listbox_words : List ℕ → List (List ℕ) → Held → Wanted
-listbox_words name words box =
-    if bytes_eq name (codes "insert") then list_insert words box
-    else (if bytes_eq name (codes "delete") then list_delete words box
-    else (if bytes_eq name (codes "get") then list_get words box
-    else (if bytes_eq name (codes "size") then list_size words box
-    else (if bytes_eq name (codes "index") then list_index words box
-    else (if bytes_eq name (codes "curselection") then list_curselection words box
-    else (if bytes_eq name (codes "selection") then list_selection words box
-    else (if bytes_eq name (codes "activate") then list_activate words box
-    else bad_option name)))))))
+listbox_words name words box = unwrap_or (lookup (bytes_eq name) (listbox_commands words box)) (bad_option name)

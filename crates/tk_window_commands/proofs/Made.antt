@@ -1,7 +1,7 @@
 -- A window that is made, and one that isn't, since its variable can't be set.
 use Rattle.std.proofs.Common.{◌≡◌, ℕ, List, refl, sym, ap, ◌∙◌, subst}
 use Rattle.std.specs.Prelude.{Result, Ok, Err}
-use Rattle.tcl_text.specs.Answers.{Gives, bounded}
+use Rattle.tcl_text.specs.Answers.{◌>>=◌, Gives, bounded}
 use Rattle.tcl_text.specs.declared.commands.answers.Refusal.{Refusal}
 use Rattle.tcl_text.specs.declared.commands.answers.Refusal.TheVariants.{Error, NoMemory}
 use Rattle.tcl_vars.specs.Store.{Store}
@@ -19,7 +19,7 @@ use Rattle.tk_widgets.specs.declared.outcome.WidgetAct.{WidgetAct}
 use Rattle.tk_widgets.specs.declared.widget.Widget.{Widget}
 use Rattle.tk_widgets.specs.Outcomes.{or_fault}
 use Rattle.tk_widgets.specs.Sizes.{new_widget}
-use Rattle.tk_window_commands.specs.Create.{made_after, made_with, configured, configured_new}
+use Rattle.tk_window_commands.specs.Create.{made_of, made_with, or_keeps, configured, configured_new}
 use Rattle.tk_window_commands.specs.declared.create.Ready.{Ready}
 
 ok_settings : (given : Result (List Setting) OptionFault) (all : List Setting) → or_fault given ≡ Ok all → given ≡ Ok all
@@ -57,7 +57,8 @@ set_by all widget widget' act is = ap (λ (t : Told). t.widget) is
 -- the window is made of the widget, and its variable was written
 pub window_made : (own own' : Own) (kind : Kind) (path answer : List ℕ) (store new : Store) (done : Ready) (given : Result Ready (List ℕ))
     → given ≡ Ok done → wrote done.write store ≡ Ok new → own' ≡ with_made path kind done.widget own → answer ≡ path
-    → made_with kind path own store given ≡ record { own = own'; store = new; answer = Ok answer }
+    → or_keeps own store (made_of kind path own store given) ≡ record { own = own'; store = new; answer = Ok answer }
 window_made own own' kind path answer store new done given given_is wrote_is own_is answer_is =
-    ap (made_with kind path own store) given_is ∙ ap (made_after kind path done.widget own store) wrote_is
+    ap (λ given. or_keeps own store (made_of kind path own store given)) given_is
+    ∙ ap (λ (written : Result Store (List ℕ)). or_keeps own store (written >>= (λ store. Ok (made_with kind path own done store)))) wrote_is
     ∙ ap (λ o. record { own = o; store = new; answer = Ok path }) (sym own_is) ∙ ap (λ a. record { own = own'; store = new; answer = Ok a }) (sym answer_is)

@@ -2,7 +2,7 @@
 use Rattle.std.specs.Prelude.{ℕ, if◌then◌else◌, List, [], ◌∷◌, ◌++◌, Option, None, Some, Result, Ok, Err, codes}
 use Rattle.std.specs.Option.{option_map_or}
 use Rattle.std.specs.Str.{bytes_eq}
-use Rattle.tcl_text.specs.Answers.{fails, quoted, wrong_args}
+use Rattle.tcl_text.specs.Answers.{◌>>=◌, fails, quoted, wrong_args}
 use Rattle.tcl_vars.specs.Store.{Store}
 use Rattle.tk_base.specs.declared.kind.Kind.{Kind}
 use Rattle.tk_options.specs.declared.fault.OptionFault.{OptionFault}
@@ -43,6 +43,11 @@ refusal_text path NoMemory = codes "out of memory"
 abbrev pub path_refusal : List ℕ → Tree → Option WindowFault
 path_refusal path tree = if bytes_eq path (codes ".") then Some BadPath else refusal path tree
 
+-- the path, if a window may be made of it
+abbrev pub allowed : List ℕ → Option WindowFault → Result (List ℕ) (List ℕ)
+allowed path None = Ok path
+allowed path (Some fault) = fails (refusal_text path fault)
+
 -- ---- the window
 
 -- a widget with options set, and what they write into its variable
@@ -53,21 +58,28 @@ abbrev pub configured_new : Kind → Result (List Setting) OptionFault → Resul
 configured_new kind (Ok all) = Ok (configured all (new_widget kind))
 configured_new kind (Err fault) = fails (option_text fault)
 
--- the window is made of the widget, once its variable is written
-abbrev pub made_after : Kind → List ℕ → Widget → Own → Store → Result Store (List ℕ) → Done
-made_after kind path widget own store (Ok new) = record { own = with_made path kind widget own; store = new; answer = Ok path }
-made_after kind path widget own store (Err text) = keeps own store (Err text)
+-- the window, made of the widget, whose variable is written
+abbrev pub made_with : Kind → List ℕ → Own → Ready → Store → Done
+made_with kind path own ready written = record { own = with_made path kind ready.widget own; store = written; answer = Ok path }
 
-abbrev pub made_with : Kind → List ℕ → Own → Store → Result Ready (List ℕ) → Done
-made_with kind path own store (Ok ready) = made_after kind path ready.widget own store (wrote ready.write store)
-made_with kind path own store (Err text) = keeps own store (Err text)
+abbrev pub made_of : Kind → List ℕ → Own → Store → Result Ready (List ℕ) → Result Done (List ℕ)
+made_of kind path own store given = do
+  ready ← given
+  written ← wrote ready.write store
+  Ok (made_with kind path own ready written)
 
--- the path is tested before the options
-abbrev pub made_unless : Kind → List ℕ → List (List ℕ) → Own → Store → Option WindowFault → Done
-made_unless kind path options own store (Some fault) = keeps own store (fails (refusal_text path fault))
-made_unless kind path options own store None = made_with kind path own store (configured_new kind (settings options (options_of kind)))
+-- the path is tested before the options, and both before anything is written or made
+abbrev pub made : Kind → List ℕ → List (List ℕ) → Own → Store → Result Done (List ℕ)
+made kind path options own store = do
+  _ ← allowed path (path_refusal path own.tree)
+  made_of kind path own store (configured_new kind (settings options (options_of kind)))
 
--- KIND path ?option value ..?: the answer is the path; a refused command changes nothing
+-- a refused command changes nothing
+abbrev pub or_keeps : Own → Store → Result Done (List ℕ) → Done
+or_keeps own store (Ok done) = done
+or_keeps own store (Err text) = keeps own store (Err text)
+
+-- KIND path ?option value ..?: the answer is the path
 unfoldable pub create_words : Kind → List (List ℕ) → Own → Store → Done
 create_words kind [] own store = keeps own store (wrong_args (row_of kind).usage)
-create_words kind (path ∷ options) own store = made_unless kind path options own store (path_refusal path own.tree)
+create_words kind (path ∷ options) own store = or_keeps own store (made kind path options own store)

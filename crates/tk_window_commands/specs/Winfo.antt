@@ -1,6 +1,7 @@
 -- Meaning. winfo(n): what can be asked of a window.
 use Rattle.std.specs.Prelude.{ℕ, if◌then◌else◌, List, [], ◌∷◌, ◌++◌, map, Option, None, Some, true, false, unwrap_or, Ok, codes}
 use Rattle.std.specs.Fmt.{decimal}
+use Rattle.std.specs.Map.{lookup}
 use Rattle.std.specs.Option.{option_map_or}
 use Rattle.std.specs.Str.{bytes_eq}
 use Rattle.tcl_text.specs.Answers.{Answer, answers, bad_option, truth, wrong_args}
@@ -17,25 +18,32 @@ use Rattle.tk_window_commands.specs.declared.winfo.Question.{Question}
 use Rattle.tk_window_commands.specs.declared.winfo.Question.TheVariants.{Children, Class, Exists, Height, IsMapped, Name, Parent, RequestedHeight, RequestedWidth, RootX, RootY, Toplevel, Width, X, Y}
 use Rattle.tk_tree.specs.Path.{bad_path}
 
--- the sub-command of a name
+-- ---- the sub-commands, by their names
+
+abbrev pub questions : List (List ℕ × Question)
+questions =
+    (codes "children", Children)
+    ∷ (codes "class", Class)
+    ∷ (codes "exists", Exists)
+    ∷ (codes "height", Height)
+    ∷ (codes "ismapped", IsMapped)
+    ∷ (codes "name", Name)
+    ∷ (codes "parent", Parent)
+    ∷ (codes "reqheight", RequestedHeight)
+    ∷ (codes "reqwidth", RequestedWidth)
+    ∷ (codes "rootx", RootX)
+    ∷ (codes "rooty", RootY)
+    ∷ (codes "toplevel", Toplevel)
+    ∷ (codes "width", Width)
+    ∷ (codes "x", X)
+    ∷ (codes "y", Y)
+    ∷ []
+
+-- names are not abbreviated
 unfoldable pub question_named : List ℕ → Option Question
-question_named name =
-    if bytes_eq name (codes "children") then Some Children
-    else (if bytes_eq name (codes "class") then Some Class
-    else (if bytes_eq name (codes "exists") then Some Exists
-    else (if bytes_eq name (codes "height") then Some Height
-    else (if bytes_eq name (codes "ismapped") then Some IsMapped
-    else (if bytes_eq name (codes "name") then Some Name
-    else (if bytes_eq name (codes "parent") then Some Parent
-    else (if bytes_eq name (codes "reqheight") then Some RequestedHeight
-    else (if bytes_eq name (codes "reqwidth") then Some RequestedWidth
-    else (if bytes_eq name (codes "rootx") then Some RootX
-    else (if bytes_eq name (codes "rooty") then Some RootY
-    else (if bytes_eq name (codes "toplevel") then Some Toplevel
-    else (if bytes_eq name (codes "width") then Some Width
-    else (if bytes_eq name (codes "x") then Some X
-    else (if bytes_eq name (codes "y") then Some Y
-    else None))))))))))))))
+question_named name = lookup (bytes_eq name) questions
+
+-- ---- what is told
 
 -- the path of the window with a number
 abbrev pub path_at : Tree → ℕ → List ℕ
@@ -83,12 +91,8 @@ abbrev pub told_of_none : Question → List ℕ → Answer
 told_of_none Exists path = truth false
 told_of_none _ path = bad_path path
 
-abbrev pub told_of : Question → List ℕ → Own → Store → Option Window → Answer
-told_of question path own store (Some window) = told question own store window
-told_of question path own store None = told_of_none question path
-
 abbrev pub told_at : Question → List ℕ → Own → Store → Answer
-told_at question path own store = told_of question path own store (at_path path own.tree)
+told_at question path own store = option_map_or (told question own store) (at_path path own.tree) (told_of_none question path)
 
 abbrev pub wrong_question : List ℕ → Answer
 wrong_question name = wrong_args (codes "winfo " ++ (name ++ codes " path"))

@@ -89,7 +89,8 @@ fn make(
 ) -> Result<Text, Refusal>
     requires { spec.path_refusal path.now (own_of slot screen.old).tree ≡ None }
     ensures own { Does result (own_of slot screen.new) scopes.new
-        (spec.made_with kind path.now (own_of slot screen.old) scopes.old (spec.configured_new kind (settings options.now (options_of kind)))) }
+        (spec.or_keeps (own_of slot screen.old) scopes.old
+        (spec.made_of kind path.now (own_of slot screen.old) scopes.old (spec.configured_new kind (settings options.now (options_of kind))))) }
     ensures others { LeavesOthers slot screen.old screen.new }
 {
     let answer = path.copy()?;

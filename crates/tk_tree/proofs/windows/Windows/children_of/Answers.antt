@@ -1,6 +1,7 @@
 use Rattle.std.proofs.Common.{◌≡◌, ap, ◌∙◌, subst}
 use Rattle.tk_tree.specs.Own.{own_of, child_numbers}
-use Rattle.tk_tree.specs.Orders.{below, below_first, all_below, all_below_first}
+use Rattle.tk_tree.specs.Orders.{below, below_first}
+use Rattle.tk_tree.specs.Walks.{all_below, all_below_first}
 use Rattle.tk_tree.proofs.Orders.{below_children, first_children}
 use Rattle.tk_tree.proofs.windows.Windows.children_of.Goals as goal
 

@@ -5,7 +5,8 @@ use Rattle.std.proofs.lemmas.Bool.{leb-true, leb-false, eqb-true, eqb-false}
 use Rattle.tk_app.specs.declared.turns.Turn.{Turn}
 use Rattle.tk_app.specs.Rounds.{turns_of}
 use Rattle.tk_app.specs.Passing.{brought}
-use Rattle.tk_app.specs.Stages.{IsAmong, IsOwnOfOne, IsPast, RisesFrom, Rises, before, earlier, first_due, own_moments, settled_if, settled_at, stage_at, stage_moments, taken_at, turns_to, used_at}
+use Rattle.tk_app.specs.Stages.{IsPast, earlier, first_due, settled_if, settled_at, stage_at, used_at}
+use Rattle.tk_app.specs.Together.{IsAmong, IsOwnOfOne, RisesFrom, Rises, before, own_moments, stage_moments, taken_at, turns_to}
 use Rattle.tk_app.proofs.Passing.{pass_none, pass_late, pass_step, brought_step}
 use Rattle.tk_app.proofs.Stages.{IsFrom, brought_at, brought_past, both_from, both_past, stage_lighter, stage_past, told_past, told_step}
 

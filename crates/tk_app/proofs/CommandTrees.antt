@@ -1,12 +1,14 @@
 -- What the commands of an application do to its windows.
 use Rattle.std.proofs.Common.{◌≡◌, ℕ, Bool, true, false, cond, List, [], ◌∷◌, Option, Some, None, refl, sym, subst}
-use Rattle.std.specs.Prelude.{Result, Ok, Err, codes, length}
+use Rattle.std.specs.Prelude.{Result, Ok, Err, codes, length, option_and_then}
+use Rattle.std.specs.Option.{option_map_or}
 use Rattle.std.specs.Str.{bytes_eq}
 use Rattle.tcl_text.specs.Answers.{items_in}
 use Rattle.tcl_vars.specs.Store.{Store}
 use Rattle.tk_base.specs.declared.kind.Kind.{Kind}
 use Rattle.tk_class_commands.specs.Buttons as buttons
-use Rattle.tk_class_commands.specs.Buttons.{act, configured, is_it, let_go, pressed_with, relief_settings, relief_to_keep, restored, with_relief, with_relief_of}
+use Rattle.tk_class_commands.specs.Buttons.{act, is_it, let_go, pressed_with, relief_settings, relief_to_keep, restored, with_relief}
+use Rattle.tk_class_commands.specs.Changes.{with_change}
 use Rattle.tk_class_commands.specs.Commands.{asked, class_command_done, requested}
 use Rattle.tk_class_commands.specs.declared.buttons.ButtonRequest.{ButtonRequest}
 use Rattle.tk_class_commands.specs.declared.buttons.ButtonRequest.TheVariants.{Enter, Leave, Press, Release, Invoke}
@@ -21,7 +23,7 @@ use Rattle.tk_class_commands.specs.declared.outcome.ClassOutcome.TheVariants as 
 use Rattle.tk_class_commands.specs.declared.requests.ClassRequest.{ClassRequest}
 use Rattle.tk_class_commands.specs.declared.requests.ClassRequest.TheVariants.{Button, Entry, Listbox}
 use Rattle.tk_class_commands.specs.declared.requests.ClassTarget.{ClassTarget}
-use Rattle.tk_class_commands.specs.Entries.{edited, edited_as, edited_by, entry_asked, is_disabled_at, moved_at, moved_by, place_of, pointed, with_cursor}
+use Rattle.tk_class_commands.specs.Entries.{edited, edited_as, entry_asked, is_disabled_at, moved_at, place_of, pointed, with_cursor}
 use Rattle.tk_class_commands.specs.Listboxes.{asked_with, effect_at, listbox_asked, with_effect}
 use Rattle.tk_class_commands.specs.Outcomes.{nothing}
 use Rattle.tk_class_commands.specs.Requests.{target_in}
@@ -41,7 +43,7 @@ use Rattle.tk_pack_commands.specs.Targets.{begins_path}
 use Rattle.tk_panel.specs.Choice.{chosen}
 use Rattle.tk_panel.specs.Commands.{put_to, puts_words}
 use Rattle.tk_panel.specs.Panel.{Panel}
-use Rattle.tk_screen.specs.Changes.{changed, changed_after, changed_by, wrote}
+use Rattle.tk_screen.specs.Changes.{changed, changed_after, wrote}
 use Rattle.tk_screen.specs.Own.{Own as Screen}
 use Rattle.tk_screen.specs.Shapes.{variable_text}
 use Rattle.tk_screen.specs.Widgets.{widget_at}
@@ -55,16 +57,17 @@ use Rattle.tk_tree.specs.Own.{Own as Tree, at_path, window_at}
 use Rattle.tk_widgets.specs.Commands.{edit_asked, variable_write, wanted}
 use Rattle.tk_widgets.specs.declared.entry_commands.EntryEdit.{EntryEdit}
 use Rattle.tk_widgets.specs.declared.outcome.WidgetChange.{WidgetChange}
+use Rattle.tk_widgets.specs.declared.outcome.WidgetChange.TheVariants.{Configure}
 use Rattle.tk_widgets.specs.declared.outcome.WidgetRequest.{WidgetRequest}
 use Rattle.tk_widgets.specs.declared.outcome.WidgetRequest.TheVariants.{Done as Told, Wants}
 use Rattle.tk_widgets.specs.declared.widget.Widget.{Widget}
 use Rattle.tk_widgets.specs.Outcomes.{asked_by}
 use Rattle.tk_window_commands.specs.Commands.{window_command_done}
-use Rattle.tk_window_commands.specs.Create.{configured_new, create_words, made_after, made_unless, made_with, path_refusal}
+use Rattle.tk_window_commands.specs.Create.{configured_new, create_words, made, made_of, or_keeps, path_refusal}
 use Rattle.tk_window_commands.specs.declared.commands.WindowCommand.{WindowCommand}
 use Rattle.tk_window_commands.specs.declared.commands.WindowCommand.TheVariants.{Make, Winfo, Wm}
 use Rattle.tk_window_commands.specs.declared.create.Ready.{Ready}
-use Rattle.tk_window_commands.specs.Path.{asked_of, path_words, widget_words, window_words}
+use Rattle.tk_window_commands.specs.Path.{asked_of, path_words, widget_words}
 use Rattle.tk_window_commands.specs.Wm.{is_main, title_set, title_words, wm_words}
 use Rattle.tk_commands.specs.Binding.{arrivals_in, binding_command_done, event_told}
 use Rattle.tk_commands.specs.Class.{ClassDone, class_command, class_told, outcome_for}
@@ -89,32 +92,35 @@ use Rattle.tk_app.proofs.Trees.{Acts, HoldsOfActs, by_screen}
 -- a change of a widget
 changed_tree : (number : ℕ) (change : WidgetChange) (own : Screen) (store : Store) → (changed number change own store).own.tree ≡ own.tree
 unfolding changed
-changed_tree number change own store = by (widget_at number own.widgets)
+changed_tree number change own store = by (widget_at number own.widgets) refl
   where
     written : (set : Result Store (List ℕ)) → (changed_after number change own store set).own.tree ≡ own.tree
     written (Ok new) = refl
     written (Err text) = refl
 
-    by : (widget : Option Widget) → (changed_by number change own store widget).own.tree ≡ own.tree
-    by None = refl
-    by (Some widget) = written (wrote (variable_write change widget) store)
+    by : (widget : Option Widget) → widget_at number own.widgets ≡ widget → (changed number change own store).own.tree ≡ own.tree
+    by None is = rw is refl
+    by (Some widget) is = rw is (written (wrote (variable_write change widget) store))
 
 -- a window's own command
+request_tree : (number : ℕ) (request : WidgetRequest) (own : Screen) (store : Store) → (asked_of number request own store).own.tree ≡ own.tree
+request_tree number (Told act) own store = refl
+request_tree number (Wants change) own store = changed_tree number change own store
+
+widget_tree : (number : ℕ) (words : List (List ℕ)) (own : Screen) (store : Store) → (widget_words number words own store).own.tree ≡ own.tree
+widget_tree number words own store = by (widget_at number own.widgets) refl
+  where
+    by : (widget : Option Widget) → widget_at number own.widgets ≡ widget → (widget_words number words own store).own.tree ≡ own.tree
+    by None is = rw is refl
+    by (Some widget) is = rw is (request_tree number (asked_by (wanted words (variable_text widget store) widget)) own store)
+
 path_tree : (path : List ℕ) (words : List (List ℕ)) (own : Screen) (store : Store) → (path_words path words own store).own.tree ≡ own.tree
 unfolding path_words
-path_tree path words own store = by (at_path path own.tree)
+path_tree path words own store = by (at_path path own.tree) refl
   where
-    request : (number : ℕ) (asked : WidgetRequest) → (asked_of number asked own store).own.tree ≡ own.tree
-    request number (Told act) = refl
-    request number (Wants change) = changed_tree number change own store
-
-    widget_is : (number : ℕ) (widget : Option Widget) → (widget_words number words own store widget).own.tree ≡ own.tree
-    widget_is number None = refl
-    widget_is number (Some widget) = request number (asked_by (wanted words (variable_text widget store) widget))
-
-    by : (window : Option Window) → (window_words words own store window).own.tree ≡ own.tree
-    by None = refl
-    by (Some window) = widget_is window.number (widget_at window.number own.widgets)
+    by : (window : Option Window) → at_path path own.tree ≡ window → (path_words path words own store).own.tree ≡ own.tree
+    by None is = rw is refl
+    by (Some window) is = rw is (widget_tree window.number words own store)
 
 -- `puts`
 puts_screen : (words : List (List ℕ)) (panel : Panel) → (puts_words words panel).0.screen ≡ panel.screen
@@ -153,16 +159,12 @@ wm_tree (name ∷ words) own = by (bytes_eq name (codes "title")) refl
 
 -- ── what the pointer and keys do to widgets ──
 
-settings_tree : (number : ℕ) (own : Screen) (all : Option (List Setting)) → (configured number own all).tree ≡ own.tree
-settings_tree number own None = refl
-settings_tree number own (Some all) = refl
-
 relief_tree : (number : ℕ) (relief : List ℕ) (own : Screen) → (with_relief number relief own).tree ≡ own.tree
-relief_tree number relief own = by (widget_at number own.widgets)
+relief_tree number relief own = by (option_and_then (relief_settings relief) (widget_at number own.widgets))
   where
-    by : (widget : Option Widget) → (with_relief_of number relief own widget).tree ≡ own.tree
+    by : (all : Option (List Setting)) → (option_map_or (λ all. with_change number (Configure all) own) all own).tree ≡ own.tree
     by None = refl
-    by (Some widget) = settings_tree number own (relief_settings relief widget)
+    by (Some all) = refl
 
 restored_tree : (number : ℕ) (relief : Option (List ℕ)) (own : Screen) → (restored number relief own).tree ≡ own.tree
 restored_tree number None own = refl
@@ -194,26 +196,22 @@ button_tree Release number own input = release_tree number own input
 button_tree Invoke number own input = refl
 
 edit_tree : (number : ℕ) (key : EntryEdit) (own : Screen) (store : Store) → (edited number key own store).own.tree ≡ own.tree
-edit_tree number key own store = by (widget_at number own.widgets)
+edit_tree number key own store = by (widget_at number own.widgets) refl
   where
     request : (asked : WidgetRequest) → (edited_as number own store asked).own.tree ≡ own.tree
     request (Told act) = refl
     request (Wants change) = changed_tree number change own store
 
-    by : (widget : Option Widget) → (edited_by number key own store widget).own.tree ≡ own.tree
-    by None = refl
-    by (Some widget) = request (asked_by (edit_asked key (variable_text widget store) widget))
+    by : (widget : Option Widget) → widget_at number own.widgets ≡ widget → (edited number key own store).own.tree ≡ own.tree
+    by None is = rw is refl
+    by (Some widget) is = rw is (request (asked_by (edit_asked key (variable_text widget store) widget)))
 
 cursor_tree : (number : ℕ) (how : CursorMove) (own : Screen) (store : Store) → (moved_at number how own store).tree ≡ own.tree
-cursor_tree number how own store = by (widget_at number own.widgets)
+cursor_tree number how own store = placed (option_and_then (place_of how store) (widget_at number own.widgets))
   where
     placed : (at : Option ℕ) → (with_cursor number at own).tree ≡ own.tree
     placed None = refl
     placed (Some at) = refl
-
-    by : (widget : Option Widget) → (moved_by number how own store widget).tree ≡ own.tree
-    by None = refl
-    by (Some widget) = placed (place_of how store widget)
 
 entry_tree : (number moment : ℕ) (request : EntryRequest) (own : Screen) (arrivals : Arrivals) (store : Store) → (entry_asked number moment request own arrivals store).own.tree ≡ own.tree
 entry_tree number moment (entry_request.Edit key) own arrivals store = edit_tree number key own store
@@ -330,17 +328,18 @@ module _ (Q : Tree → Tree → Type 0) (acts : HoldsOfActs Q) where
   create_does kind [] own store = acts.same own.tree
   create_does kind (path ∷ options) own store = by (path_refusal path own.tree) refl
     where
-      written : (bytes_eq path (codes ".") ≡ false) × (refusal path own.tree ≡ None) → (widget : Widget) (set : Result Store (List ℕ)) → Q own.tree (made_after kind path widget own store set).own.tree
-      written may widget (Ok new) = acts.made path kind own.tree may.0 may.1
-      written may widget (Err text) = acts.same own.tree
+      written : (bytes_eq path (codes ".") ≡ false) × (refusal path own.tree ≡ None) → (ready : Ready) (set : Result Store (List ℕ)) → wrote ready.write store ≡ set
+          → Q own.tree (or_keeps own store (made_of kind path own store (Ok ready))).own.tree
+      written may ready (Ok new) is = rw is (acts.made path kind own.tree may.0 may.1)
+      written may ready (Err text) is = rw is (acts.same own.tree)
 
-      ready : (bytes_eq path (codes ".") ≡ false) × (refusal path own.tree ≡ None) → (given : Result Ready (List ℕ)) → Q own.tree (made_with kind path own store given).own.tree
-      ready may (Ok given) = written may given.widget (wrote given.write store)
-      ready may (Err text) = acts.same own.tree
+      tested : (bytes_eq path (codes ".") ≡ false) × (refusal path own.tree ≡ None) → (given : Result Ready (List ℕ)) → Q own.tree (or_keeps own store (made_of kind path own store given)).own.tree
+      tested may (Ok ready) = written may ready (wrote ready.write store) refl
+      tested may (Err text) = acts.same own.tree
 
-      by : (refused : Option WindowFault) → path_refusal path own.tree ≡ refused → Q own.tree (made_unless kind path options own store refused).own.tree
-      by None is = ready (not_main (bytes_eq path (codes ".")) BadPath (refusal path own.tree) is) (configured_new kind (settings options (options_of kind)))
-      by (Some fault) is = acts.same own.tree
+      by : (refused : Option WindowFault) → path_refusal path own.tree ≡ refused → Q own.tree (or_keeps own store (made kind path options own store)).own.tree
+      by None is = rw is (tested (not_main (bytes_eq path (codes ".")) BadPath (refusal path own.tree) is) (configured_new kind (settings options (options_of kind))))
+      by (Some fault) is = rw is (acts.same own.tree)
 
   window_does : (command : WindowCommand) (words : List (List ℕ)) (own : Screen) (store : Store) → Q own.tree (window_command_done command words own store).own.tree
   unfolding window_command_done

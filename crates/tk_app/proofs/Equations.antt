@@ -34,11 +34,11 @@ use Rattle.tk_panel.proofs.Choices.{chosen_queue}
 use Rattle.tk_commands.specs.Course.{bound_ended, event_job, with_end}
 use Rattle.tk_commands.proofs.Drained.{LeavesTimers, drained_leaves, drained_out, layout_leaves, then}
 use Rattle.tk_app.specs.Destroy.{destroy_dispatched, destroy_meaning, windows_destroyed}
-use Rattle.tk_app.specs.Dispatch.{Behind, after_bound, at_global, bound_meaning, dispatch_meaning, in_panel, shown}
+use Rattle.tk_app.specs.Dispatch.{Continuation, after_bound, global_meaning, bound_meaning, dispatch_meaning, in_panel, shown}
 use Rattle.tk_app.specs.Items.{entry_meaning, entry_taken, idle_meaning, item_meaning, on_idle, on_layout, on_queue, on_timer, round_meaning}
 use Rattle.tk_app.specs.Jobs.{goes_on, meaning, on_next, starts}
 use Rattle.tk_app.specs.Seen.{Seen}
-use Rattle.tk_app.specs.Settle.{Destroys, Dispatches, Settles, Updates, UpdatesIdleTasks, laid}
+use Rattle.tk_app.specs.Settle.{Destroys, Dispatches, Settles, Updates, UpdatesIdleTasks, laid, settle_meaning}
 use Rattle.tk_app.proofs.Panels.{chosen_screen, laid_closed, next_moment, nothing_again, nothing_to_lay, same_closed}
 use Rattle.tk_app.proofs.Parts.{goes_by_next}
 
@@ -48,11 +48,11 @@ then_same : (o : Outcome Seen) (f g : State Seen → Code → List ℕ → Outco
 then_same (Ended state code text) f g same = same state code text
 then_same (OutOfSteps state) f g same = refl
 
-stepped_same : (steps : ℕ) (state : State Seen) (f g : Behind) → ((left : ℕ) → f (record state { steps = left }) ≡ g (record state { steps = left })) → stepped steps state f ≡ stepped steps state g
+stepped_same : (steps : ℕ) (state : State Seen) (f g : Continuation) → ((left : ℕ) → f (record state { steps = left }) ≡ g (record state { steps = left })) → stepped steps state f ≡ stepped steps state g
 stepped_same zero state f g same = refl
 stepped_same (suc left) state f g same = same left
 
-step_same : (state : State Seen) (f g : Behind) → ((left : ℕ) → f (record state { steps = left }) ≡ g (record state { steps = left })) → with_step state f ≡ with_step state g
+step_same : (state : State Seen) (f g : Continuation) → ((left : ℕ) → f (record state { steps = left }) ≡ g (record state { steps = left })) → with_step state f ≡ with_step state g
 step_same state f g same = stepped_same state.steps state f g same
 
 shown_same : (panel : Panel) (state : State Seen) → panel.moment ≡ state.shows.panel.moment → in_panel panel state ≡ shown panel state
@@ -96,7 +96,7 @@ module _ (room : ℕ) where
 
   -- ── *Dispatch* ──
 
-  bound_end : (scripts : List (List ℕ)) (rest : Rest) (others : Behind) → ((state : State Seen) → meaning room (event_job scripts rest) state ≡ others state)
+  bound_end : (scripts : List (List ℕ)) (rest : Rest) (others : Continuation) → ((state : State Seen) → meaning room (event_job scripts rest) state ≡ others state)
       → ((state : State Seen) → meaning room (event_job [] rest) state ≡ meaning room (alone rest) state) → (state : State Seen) (code : Code) (text : List ℕ)
       → (let there : Panel × Job = bound_ended code text scripts rest state.shows.panel in meaning room there.1 (in_panel there.0 state))
       ≡ after_bound room others (meaning room (alone rest)) state code text
@@ -112,20 +112,20 @@ module _ (room : ℕ) where
   bound : (scripts : List (List ℕ)) (rest : Rest) (state : State Seen) → meaning room (event_job scripts rest) state ≡ bound_meaning room scripts (meaning room (alone rest)) state
   bound [] rest state = none_bound rest state
   bound (script ∷ scripts) rest state =
-      let behind : Behind = meaning room (alone rest) in
-      let others : Behind = bound_meaning room scripts behind in
+      let behind : Continuation = meaning room (alone rest) in
+      let others : Continuation = bound_meaning room scripts behind in
       goes (event_job (script ∷ scripts) rest) state
-      ∙ step_same state (starts room (event_job (script ∷ scripts) rest)) (λ begun. and_then (at_global room script begun) (λ left code text. after_bound room others behind left (out_of_global code) text))
-      (λ steps. then_same (at_global room script (record state { steps = steps })) (goes_on room (event_job scripts rest)) (λ left code text. after_bound room others behind left (out_of_global code) text)
+      ∙ step_same state (starts room (event_job (script ∷ scripts) rest)) (λ begun. and_then (global_meaning room script begun) (λ left code text. after_bound room others behind left (out_of_global code) text))
+      (λ steps. then_same (global_meaning room script (record state { steps = steps })) (goes_on room (event_job scripts rest)) (λ left code text. after_bound room others behind left (out_of_global code) text)
       (λ left code text. bound_end scripts rest others (bound scripts rest) (none_bound rest) left (out_of_global code) text))
 
   -- scripts behind which comes the same
-  pub bound_same : (scripts : List (List ℕ)) (f g : Behind) → ((state : State Seen) → f state ≡ g state) → (state : State Seen) → bound_meaning room scripts f state ≡ bound_meaning room scripts g state
+  pub bound_same : (scripts : List (List ℕ)) (f g : Continuation) → ((state : State Seen) → f state ≡ g state) → (state : State Seen) → bound_meaning room scripts f state ≡ bound_meaning room scripts g state
   bound_same [] f g same state = same state
   bound_same (script ∷ scripts) f g same state =
-      step_same state (λ begun. and_then (at_global room script begun) (λ left code text. after_bound room (bound_meaning room scripts f) f left (out_of_global code) text))
-      (λ begun. and_then (at_global room script begun) (λ left code text. after_bound room (bound_meaning room scripts g) g left (out_of_global code) text))
-      (λ steps. then_same (at_global room script (record state { steps = steps })) (λ left code text. after_bound room (bound_meaning room scripts f) f left (out_of_global code) text)
+      step_same state (λ begun. and_then (global_meaning room script begun) (λ left code text. after_bound room (bound_meaning room scripts f) f left (out_of_global code) text))
+      (λ begun. and_then (global_meaning room script begun) (λ left code text. after_bound room (bound_meaning room scripts g) g left (out_of_global code) text))
+      (λ steps. then_same (global_meaning room script (record state { steps = steps })) (λ left code text. after_bound room (bound_meaning room scripts f) f left (out_of_global code) text)
       (λ left code text. after_bound room (bound_meaning room scripts g) g left (out_of_global code) text)
       (λ left code text. by (bound_same scripts f g same) left (out_of_global code) text))
     where
@@ -147,7 +147,7 @@ module _ (room : ℕ) where
   abbrev Later : List (List ℕ) → Type 0
   Later paths = (state : State Seen) → comes state (destroys paths state.shows.panel) ≡ destroy_meaning room paths state
 
-  chosen_dispatched : (number : ℕ) (window : Option Window) (behind : Behind) (state : State Seen) → window_at number state.shows.panel.screen.tree ≡ window
+  chosen_dispatched : (number : ℕ) (window : Option Window) (behind : Continuation) (state : State Seen) → window_at number state.shows.panel.screen.tree ≡ window
       → (let there : Panel × List (List ℕ) = destroy_chosen number state.shows.panel in bound_meaning room there.1 behind (shown there.0 state)) ≡ destroy_dispatched room window behind state
   chosen_dispatched number None behind state is = rw is refl
   chosen_dispatched number (Some window) behind state is = rw is refl
@@ -160,7 +160,7 @@ module _ (room : ℕ) where
       let there : Panel × List (List ℕ) = destroy_chosen number state.shows.panel in
       by there.1 there.0 (windows_go paths later numbers) ∙ chosen_dispatched number (window_at number state.shows.panel.screen.tree) gone state refl
     where
-      gone : Behind
+      gone : Continuation
       gone left = windows_destroyed room numbers (destroy_meaning room paths) (shown (removed number left.shows.panel) left)
 
       by : (scripts : List (List ℕ)) (after : Panel) → ((state : State Seen) → comes state (doomed_next paths (destroys paths) numbers state.shows.panel) ≡ windows_destroyed room numbers (destroy_meaning room paths) state)
@@ -180,10 +180,10 @@ module _ (room : ℕ) where
 
   -- ── a timer, or an idle script ──
 
-  entry_starts : (id : ℕ) (script : List ℕ) (rest : Rest) (behind : Behind) → ((state : State Seen) → meaning room (alone rest) state ≡ behind state) → (state : State Seen)
-      → and_then (at_global room script (in_panel (entry_taken id state.shows.panel) state)) (goes_on room (alone rest)) ≡ entry_meaning room id script behind state
+  entry_starts : (id : ℕ) (script : List ℕ) (rest : Rest) (behind : Continuation) → ((state : State Seen) → meaning room (alone rest) state ≡ behind state) → (state : State Seen)
+      → and_then (global_meaning room script (in_panel (entry_taken id state.shows.panel) state)) (goes_on room (alone rest)) ≡ entry_meaning room id script behind state
   entry_starts id script rest behind same state =
-      then_same (at_global room script (shown (entry_taken id state.shows.panel) state)) (goes_on room (alone rest))
+      then_same (global_meaning room script (shown (entry_taken id state.shows.panel) state)) (goes_on room (alone rest))
       (λ left code text. behind (shown (with_end (out_of_global code) text left.shows.panel) left))
       (λ left code text. ap (meaning room (alone rest)) (end_shown (out_of_global code) text left) ∙ same (shown (with_end (out_of_global code) text left.shows.panel) left))
 
@@ -202,7 +202,7 @@ module _ (room : ℕ) where
       by false differs false idle later = rw differs (later (rw idle at is))
 
   module _ (home : Home) where
-    abbrev again : Behind
+    abbrev again : Continuation
     again = meaning room (alone (Rounds [] home))
 
     round : (ids : List ℕ) (state : State Seen) → meaning room (alone (Rounds ids home)) state ≡ round_meaning room ids again state
@@ -327,7 +327,7 @@ module _ (room : ℕ) where
   unfolding still_waiting
   last_layout state = goes (alone (Rounds [] LastLayout)) state
 
-  round_same : (ids : List ℕ) (f g : Behind) → ((state : State Seen) → f state ≡ g state) → (state : State Seen) → round_meaning room ids f state ≡ round_meaning room ids g state
+  round_same : (ids : List ℕ) (f g : Continuation) → ((state : State Seen) → f state ≡ g state) → (state : State Seen) → round_meaning room ids f state ≡ round_meaning room ids g state
   round_same [] f g same state = same state
   round_same (id ∷ ids) f g same state = by (entry_with id state.shows.panel.timers.entries) (round_same ids f g same)
     where
@@ -336,7 +336,7 @@ module _ (room : ℕ) where
       by None rest = rest state
       by (Some entry) rest =
           step_same state (entry_meaning room id entry.script (round_meaning room ids f)) (entry_meaning room id entry.script (round_meaning room ids g))
-          (λ steps. then_same (at_global room entry.script (shown (entry_taken id state.shows.panel) (record state { steps = steps })))
+          (λ steps. then_same (global_meaning room entry.script (shown (entry_taken id state.shows.panel) (record state { steps = steps })))
           (λ left code text. round_meaning room ids f (shown (with_end (out_of_global code) text left.shows.panel) left))
           (λ left code text. round_meaning room ids g (shown (with_end (out_of_global code) text left.shows.panel) left))
           (λ left code text. rest (shown (with_end (out_of_global code) text left.shows.panel) left)))
@@ -371,6 +371,7 @@ unfolding still_waiting
 closed_next state closed = rw closed refl
 
 pub settles_all : Settles
+unfolding settle_meaning
 settles_all state sound = by (is_closed state.shows.panel) refl
   where
     by : (closed : Bool) → is_closed state.shows.panel ≡ closed → again 200 Settle state ≡ cond closed (Ended state Normal []) (item_meaning 200 (again 200 Settle) state)

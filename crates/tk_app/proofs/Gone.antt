@@ -22,7 +22,7 @@ use Rattle.tk_panel.specs.Destroy.{all_dying, destroy_event, doomed_at, doomed_f
 use Rattle.tk_panel.specs.Panel.{Panel}
 use Rattle.tk_panel.specs.Reports.{with_line}
 use Rattle.tk_app.specs.Destroy.{destroy_dispatched, destroy_meaning, windows_destroyed}
-use Rattle.tk_app.specs.Dispatch.{Behind, after_bound, at_global, bound_meaning, shown}
+use Rattle.tk_app.specs.Dispatch.{Continuation, after_bound, global_meaning, bound_meaning, shown}
 use Rattle.tk_app.specs.Gone.{AreGone, DestroysAll, LeavesNone}
 use Rattle.tk_app.specs.Seen.{Seen}
 use Rattle.tk_app.proofs.Grows.{Grows, LivesIn, StaysAndGrows, Was, found_given, found_number, grow_acts, none_left}
@@ -115,17 +115,17 @@ module _ (room : ℕ) (all : List ℕ) where
   good_then first (Ended left code text) f kept rest = rest left code text kept
   good_then first (OutOfSteps left) f kept rest = tt
 
-  good_stepped : (steps : ℕ) (state : State Seen) (f : Behind) → ((left : ℕ) → Good (f (record state { steps = left }))) → Good (stepped steps state f)
+  good_stepped : (steps : ℕ) (state : State Seen) (f : Continuation) → ((left : ℕ) → Good (f (record state { steps = left }))) → Good (stepped steps state f)
   good_stepped zero state f rest = tt
   good_stepped (suc left) state f rest = rest left
 
-  good_bound : (first : Tree) (behind : Behind) → ((left : State Seen) → From first left.shows → Good (behind left)) → (scripts : List (List ℕ)) (state : State Seen) → From first state.shows
+  good_bound : (first : Tree) (behind : Continuation) → ((left : State Seen) → From first left.shows → Good (behind left)) → (scripts : List (List ℕ)) (state : State Seen) → From first state.shows
       → Good (bound_meaning room scripts behind state)
   good_bound first behind rest [] state since = rest state since
   good_bound first behind rest (script ∷ scripts) state since =
       good_stepped state.steps state
-      (λ begun. and_then (at_global room script begun) (λ left code text. after_bound room (bound_meaning room scripts behind) behind left (out_of_global code) text))
-      (λ steps. good_then first (at_global room script (record state { steps = steps }))
+      (λ begun. and_then (global_meaning room script begun) (λ left code text. after_bound room (bound_meaning room scripts behind) behind left (out_of_global code) text))
+      (λ steps. good_then first (global_meaning room script (record state { steps = steps }))
       (λ left code text. after_bound room (bound_meaning room scripts behind) behind left (out_of_global code) text)
       (global_since StaysAndGrows grow_acts first room script (record state { steps = steps }) since)
       (λ left code text kept. by (good_bound first behind rest scripts) left (out_of_global code) text kept))
@@ -184,7 +184,7 @@ module _ (room : ℕ) (all : List ℕ) where
         by (Some window) is = rw childless (none_left n panel.screen.tree.windows)
 
     -- one window, where those behind it go so
-    good_window : (n : ℕ) (ns done : List ℕ) (behind : Behind) → HasOnly n done → n < first.next_number → ((window : Window) → window_at n first ≡ Some window → window.dying ≡ true)
+    good_window : (n : ℕ) (ns done : List ℕ) (behind : Continuation) → HasOnly n done → n < first.next_number → ((window : Window) → window_at n first ≡ Some window → window.dying ≡ true)
         → ((state : State Seen) → From first state.shows → AllGone (n ∷ done) state.shows.panel.screen.tree → Good (windows_destroyed room ns behind state))
         → (state : State Seen) → From first state.shows → AllGone done state.shows.panel.screen.tree → Good (windows_destroyed room (n ∷ ns) behind state)
     good_window n ns done behind only given dead rest state since gone = by (window_at n here)
@@ -192,7 +192,7 @@ module _ (room : ℕ) (all : List ℕ) where
         here : Tree
         here = state.shows.panel.screen.tree
 
-        behind_it : Behind
+        behind_it : Continuation
         behind_it left = windows_destroyed room ns behind (shown (removed n left.shows.panel) left)
 
         next : (left : State Seen) → From here left.shows → Good (behind_it left)
@@ -221,7 +221,7 @@ module _ (room : ℕ) (all : List ℕ) where
             let there : Panel × List (List ℕ) = chosen event state.shows.panel in
             good_bound here behind_it next there.1 (shown there.0 state) (by_screen StaysAndGrows grow_acts state.shows.panel there.0 (chosen_screen event state.shows.panel))
 
-    good_windows : (ns done : List ℕ) (behind : Behind) → AllDoomed ns → AllHave done ns
+    good_windows : (ns done : List ℕ) (behind : Continuation) → AllDoomed ns → AllHave done ns
         → ((left : State Seen) → From first left.shows → AllGone (pushed ns done) left.shows.panel.screen.tree → Good (behind left))
         → (state : State Seen) → From first state.shows → AllGone done state.shows.panel.screen.tree → Good (windows_destroyed room ns behind state)
     good_windows [] done behind doomed have rest state since gone = rest state since gone

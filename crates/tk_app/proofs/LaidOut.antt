@@ -4,13 +4,13 @@ use Rattle.std.specs.Prelude.{◌&&◌, not}
 use Rattle.tcl_vars.specs.Store.{Store}
 use Rattle.tcl_control.specs.declared.code.Code.{Code}
 use Rattle.tcl_control.specs.declared.code.Code.TheVariants.{Normal}
-use Rattle.tcl_interp.specs.Evaluation.{State, Outcome, Ended}
+use Rattle.tcl_interp.specs.Evaluation.{Outcome, Ended}
 use Rattle.tcl_interp.specs.declared.job.Looked.{Looked}
-use Rattle.tcl_interp.specs.declared.job.Looked.TheVariants.{Wants, Ends}
+use Rattle.tcl_interp.specs.declared.job.Looked.TheVariants.{Ends}
 use Rattle.tcl_interp.specs.JobLaws.{LookedLast}
 use Rattle.tcl_interp.proofs.Ends.{ends_looked}
 use Rattle.tk_after.specs.Timers.{idle_ids}
-use Rattle.tk_screen.specs.Layout.{changes_due, laid_out as laid_out_screen}
+use Rattle.tk_screen.specs.Layout.{changes_due}
 use Rattle.tk_screen.specs.Own.{Own as Screen}
 use Rattle.tk_app.proofs.Twice.{laid_sound}
 use Rattle.tk_tree.specs.Own.{IsSound}
@@ -22,7 +22,7 @@ use Rattle.tk_panel.specs.Changes.{laid_out}
 use Rattle.tk_panel.specs.Next.{next, next_event, next_rest}
 use Rattle.tk_panel.specs.Panel.{Panel}
 use Rattle.tk_panel.specs.Settle.{Next, after_layout, after_round, at_home, drained, idle_round, is_closed, is_due, on_event, on_round, on_timer, queue_or_round, still_waiting, turn}
-use Rattle.tk_commands.specs.Course.{look, looked_of}
+use Rattle.tk_commands.specs.Course.{looked_of}
 use Rattle.tk_commands.specs.Rests.{is_empty, rest_settles, settles_last}
 use Rattle.tk_app.specs.Outside.{calls, course}
 use Rattle.tk_app.specs.Seen.{Seen}
@@ -106,6 +106,7 @@ ended_at store there shows None code text on same is held sound =
 ended_at store there shows (Some job) code text on same is held sound = absurd (cc)
 
 pub ends_laid_out : EndsLaidOut
+unfolding settle_meaning
 ends_laid_out state after code text is sound held =
     let last : LookedLast course settles_last code text after = ends_looked course calls 200 settles_last keeps settling state after code text refl is in
     let there : Next = next last.last after.store last.before.panel in

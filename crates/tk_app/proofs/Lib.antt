@@ -4,6 +4,7 @@ mod Alone
 mod Apart
 mod Beginnings
 mod Begun
+pub mod BySettle
 mod CommandTrees
 mod Equations
 mod Events
@@ -15,6 +16,7 @@ mod Only
 mod Panels
 pub mod Parts
 pub mod Passing
+mod Places
 mod PostOrder
 mod Pushes
 pub mod Reached
@@ -25,7 +27,7 @@ mod Shows
 pub mod Slices
 pub mod Slots
 mod Sound
-mod SoundParts
+pub mod SoundParts
 pub mod Stages
 mod Trees
 mod Twice

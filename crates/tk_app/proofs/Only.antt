@@ -24,7 +24,7 @@ use Rattle.tk_panel.specs.Settle.{is_closed, with_queue}
 use Rattle.tk_panel.proofs.Choices.{chosen_queue}
 use Rattle.tk_commands.specs.Course.{with_end}
 use Rattle.tk_commands.specs.Moment.{settling as settling_to}
-use Rattle.tk_app.specs.Dispatch.{Behind, after_bound, at_global, bound_meaning, shown}
+use Rattle.tk_app.specs.Dispatch.{Continuation, after_bound, global_meaning, bound_meaning, shown}
 use Rattle.tk_app.specs.Items.{entry_meaning, entry_taken, idle_meaning, item_meaning, on_idle, on_layout, on_queue, on_timer, round_meaning}
 use Rattle.tk_app.specs.Jobs.{meaning}
 use Rattle.tk_app.specs.Outside.{outside}
@@ -38,14 +38,14 @@ use Rattle.tk_app.proofs.Trees.{end_screen, laid}
 use Rattle.tk_app.proofs.Twice.{laid_twice}
 
 -- the same where windows are sound and at most so many steps are left
-abbrev Agree : ℕ → Behind → Behind → Type 0
+abbrev Agree : ℕ → Continuation → Continuation → Type 0
 Agree n f g = (state : State Seen) → IsSoundIn state → state.steps ≤ n → f state ≡ g state
 
 -- the same once a step is taken
-abbrev Less : Behind → Behind → State Seen → Type 0
+abbrev Less : Continuation → Continuation → State Seen → Type 0
 Less f g state = (left : ℕ) → state.steps ≡ suc left → Agree left f g
 
-step_then : (steps : ℕ) (state : State Seen) (f g : Behind) → ((left : ℕ) → steps ≡ suc left → f (record state { steps = left }) ≡ g (record state { steps = left })) → stepped steps state f ≡ stepped steps state g
+step_then : (steps : ℕ) (state : State Seen) (f g : Continuation) → ((left : ℕ) → steps ≡ suc left → f (record state { steps = left }) ≡ g (record state { steps = left })) → stepped steps state f ≡ stepped steps state g
 step_then zero state f g same = refl
 step_then (suc left) state f g same = same left refl
 
@@ -56,16 +56,16 @@ module _ (room : ℕ) where
   -- what comes behind a script at global level, which leaves windows sound and no more steps
   ran_same : (script : List ℕ) (state : State Seen) (f g : State Seen → Code → List ℕ → Outcome Seen) → IsSoundIn state
       → ((left : State Seen) (code : Code) (text : List ℕ) → IsSoundIn left → left.steps ≤ state.steps → f left code text ≡ g left code text)
-      → and_then (at_global room script state) f ≡ and_then (at_global room script state) g
+      → and_then (global_meaning room script state) f ≡ and_then (global_meaning room script state) g
   ran_same script state f g sound same =
-      by (at_global room script state) ((keeps_sound room state sound).0 script)
+      by (global_meaning room script state) ((keeps_sound room state sound).0 script)
       (within_run_at (script_meaning outside room) (within_script outside room) state.steps 1 script state (omega arith))
     where
       by : (o : Outcome Seen) → EndsSound o → Within state.steps o → and_then o f ≡ and_then o g
       by (Ended left code text) kept within = same left code text kept within
       by (OutOfSteps left) kept within = refl
 
-  bound_ends : (n : ℕ) (others more f g : Behind) → Agree n others more → Agree n f g → (left : State Seen) (code : Code) (text : List ℕ) → IsSoundIn left → left.steps ≤ n
+  bound_ends : (n : ℕ) (others more f g : Continuation) → Agree n others more → Agree n f g → (left : State Seen) (code : Code) (text : List ℕ) → IsSoundIn left → left.steps ≤ n
       → after_bound room others f left code text ≡ after_bound room more g left code text
   bound_ends n others more f g rest same left Normal text sound few = rest left sound few
   bound_ends n others more f g rest same left Error text sound few = same (shown (with_line Errors text left.shows.panel) left) sound few
@@ -73,23 +73,23 @@ module _ (room : ℕ) where
   bound_ends n others more f g rest same left Break text sound few = same left sound few
   bound_ends n others more f g rest same left Continue text sound few = rest left sound few
 
-  bound_step : (n : ℕ) (f g : Behind) → Agree n f g → (script : List ℕ) (scripts : List (List ℕ)) → Agree n (bound_meaning room scripts f) (bound_meaning room scripts g)
+  bound_step : (n : ℕ) (f g : Continuation) → Agree n f g → (script : List ℕ) (scripts : List (List ℕ)) → Agree n (bound_meaning room scripts f) (bound_meaning room scripts g)
       → (state : State Seen) → IsSoundIn state → state.steps ≤ suc n → bound_meaning room (script ∷ scripts) f state ≡ bound_meaning room (script ∷ scripts) g state
   bound_step n f g same script scripts rest state sound few =
       step_then state.steps state
-      (λ begun. and_then (at_global room script begun) (λ left code text. after_bound room (bound_meaning room scripts f) f left (out_of_global code) text))
-      (λ begun. and_then (at_global room script begun) (λ left code text. after_bound room (bound_meaning room scripts g) g left (out_of_global code) text))
+      (λ begun. and_then (global_meaning room script begun) (λ left code text. after_bound room (bound_meaning room scripts f) f left (out_of_global code) text))
+      (λ begun. and_then (global_meaning room script begun) (λ left code text. after_bound room (bound_meaning room scripts g) g left (out_of_global code) text))
       (λ steps is. ran_same script (record state { steps = steps })
       (λ left code text. after_bound room (bound_meaning room scripts f) f left (out_of_global code) text)
       (λ left code text. after_bound room (bound_meaning room scripts g) g left (out_of_global code) text) sound
       (λ left code text kept fewer.
       bound_ends n (bound_meaning room scripts f) (bound_meaning room scripts g) f g rest same left (out_of_global code) text kept (omega (arith, fewer, is, few))))
 
-  bound_same : (n : ℕ) (f g : Behind) → Agree n f g → (scripts : List (List ℕ)) → Agree n (bound_meaning room scripts f) (bound_meaning room scripts g)
+  bound_same : (n : ℕ) (f g : Continuation) → Agree n f g → (scripts : List (List ℕ)) → Agree n (bound_meaning room scripts f) (bound_meaning room scripts g)
   bound_same n f g same [] state sound few = same state sound few
   bound_same n f g same (script ∷ scripts) state sound few = bound_step n f g same script scripts (bound_same n f g same scripts) state sound (omega (arith, few))
 
-  entry_same : (n : ℕ) (f g : Behind) → Agree n f g → (id : ℕ) (script : List ℕ) → Agree n (entry_meaning room id script f) (entry_meaning room id script g)
+  entry_same : (n : ℕ) (f g : Continuation) → Agree n f g → (id : ℕ) (script : List ℕ) → Agree n (entry_meaning room id script f) (entry_meaning room id script g)
   entry_same n f g same id script state sound few =
       ran_same script (shown (entry_taken id state.shows.panel) state)
       (λ left code text. f (shown (with_end (out_of_global code) text left.shows.panel) left))
@@ -99,13 +99,13 @@ module _ (room : ℕ) where
       (sound_screen left.shows.panel (with_end (out_of_global code) text left.shows.panel) (end_screen (out_of_global code) text left.shows.panel) kept) (omega (arith, fewer, few)))
 
   -- an entry, once its step is taken
-  entry_step : (n : ℕ) (f g : Behind) → Agree n f g → (id : ℕ) (script : List ℕ) (state : State Seen) → IsSoundIn state → state.steps ≤ suc n
+  entry_step : (n : ℕ) (f g : Continuation) → Agree n f g → (id : ℕ) (script : List ℕ) (state : State Seen) → IsSoundIn state → state.steps ≤ suc n
       → stepped state.steps state (entry_meaning room id script f) ≡ stepped state.steps state (entry_meaning room id script g)
   entry_step n f g same id script state sound few =
       step_then state.steps state (entry_meaning room id script f) (entry_meaning room id script g)
       (λ steps is. entry_same n f g same id script (record state { steps = steps }) sound (omega (arith, is, few)))
 
-  round_same : (n : ℕ) (f g : Behind) → Agree n f g → (ids : List ℕ) → Agree n (round_meaning room ids f) (round_meaning room ids g)
+  round_same : (n : ℕ) (f g : Continuation) → Agree n f g → (ids : List ℕ) → Agree n (round_meaning room ids f) (round_meaning room ids g)
   round_same n f g same [] state sound few = same state sound few
   round_same n f g same (id ∷ ids) state sound few = by (entry_with id state.shows.panel.timers.entries) (round_same n f g same ids)
     where
@@ -115,7 +115,7 @@ module _ (room : ℕ) where
       by (Some entry) rest = entry_step n (round_meaning room ids f) (round_meaning room ids g) rest id entry.script state sound (omega (arith, few))
 
   -- two functions that meet the same equation: what is to be done first, where this test holds nothing
-  module _ (is_over : State Seen → Bool) (f g : Behind)
+  module _ (is_over : State Seen → Bool) (f g : Continuation)
       (f_meets : (state : State Seen) → IsSoundIn state → f state ≡ cond (is_over state) (Ended state Normal []) (item_meaning room f state))
       (g_meets : (state : State Seen) → IsSoundIn state → g state ≡ cond (is_over state) (Ended state Normal []) (item_meaning room g state)) where
     meets : (state : State Seen) → IsSoundIn state → item_meaning room f state ≡ item_meaning room g state → f state ≡ g state
@@ -126,11 +126,11 @@ module _ (room : ℕ) where
         by false = same
 
     -- where no step is left, a step ends it
-    with_less : (state : State Seen) (one other : Behind) → ((left : ℕ) → state.steps ≡ suc left → one (record state { steps = left }) ≡ other (record state { steps = left }))
+    with_less : (state : State Seen) (one other : Continuation) → ((left : ℕ) → state.steps ≡ suc left → one (record state { steps = left }) ≡ other (record state { steps = left }))
         → stepped state.steps state one ≡ stepped state.steps state other
     with_less state one other same = step_then state.steps state one other same
 
-    entry_less : (id : ℕ) (script : List ℕ) (state : State Seen) (one other : Behind) → ((left : ℕ) → state.steps ≡ suc left → Agree left one other) → IsSoundIn state
+    entry_less : (id : ℕ) (script : List ℕ) (state : State Seen) (one other : Continuation) → ((left : ℕ) → state.steps ≡ suc left → Agree left one other) → IsSoundIn state
         → stepped state.steps state (entry_meaning room id script one) ≡ stepped state.steps state (entry_meaning room id script other)
     entry_less id script state one other less sound =
         with_less state (entry_meaning room id script one) (entry_meaning room id script other)
@@ -140,8 +140,8 @@ module _ (room : ℕ) where
         → bound_meaning room (script ∷ scripts) f state ≡ bound_meaning room (script ∷ scripts) g state
     bound_less script scripts state less sound =
         step_then state.steps state
-        (λ begun. and_then (at_global room script begun) (λ left code text. after_bound room (bound_meaning room scripts f) f left (out_of_global code) text))
-        (λ begun. and_then (at_global room script begun) (λ left code text. after_bound room (bound_meaning room scripts g) g left (out_of_global code) text))
+        (λ begun. and_then (global_meaning room script begun) (λ left code text. after_bound room (bound_meaning room scripts f) f left (out_of_global code) text))
+        (λ begun. and_then (global_meaning room script begun) (λ left code text. after_bound room (bound_meaning room scripts g) g left (out_of_global code) text))
         (λ steps is. ran_same script (record state { steps = steps })
         (λ left code text. after_bound room (bound_meaning room scripts f) f left (out_of_global code) text)
         (λ left code text. after_bound room (bound_meaning room scripts g) g left (out_of_global code) text) sound

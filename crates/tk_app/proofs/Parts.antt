@@ -17,7 +17,7 @@ use Rattle.tk_app.specs.declared.state.AppState.{AppState}
 use Rattle.tk_app.specs.declared.state.AppState.TheVariants.{Running, Exhausted, Closed}
 use Rattle.tk_app.specs.Application.{Application, fresh}
 use Rattle.tk_app.specs.Outside.{calls, course, outside}
-use Rattle.tk_app.specs.Moments.{after_outcome, settled, settled_as, started, state_at}
+use Rattle.tk_app.specs.Moments.{after_outcome, settled_as, settled_by, started_by, state_at}
 use Rattle.tk_app.specs.Part.{Rests, BeginsWithScript, SettlesFromRest, done_as, settling_as, stage_done}
 use Rattle.tk_app.specs.Seen.{Meaning, Seen}
 use Rattle.tk_app.specs.Dispatch.{in_panel}
@@ -31,10 +31,12 @@ ended_alone (OutOfSteps state) = refl
 
 -- the task with which settling begins comes to what settling is
 pub settles : (state : State Seen) → task_meaning outside (script_meaning outside 200) (task.Runs settling) state Normal [] ≡ settle_meaning state
+unfolding settle_meaning
 settles state = (jobs.goes_on course calls 200 settling state Normal [] []).0
 
 -- the task of an application's own script comes to the script and what settling is
-pub starts : (script : List ℕ) (state : State Seen) → task_meaning outside (script_meaning outside 200) (task.Begins script settling) state Normal [] ≡ start_meaning script state
+pub starts : (script : List ℕ) (state : State Seen) → task_meaning outside (script_meaning outside 200) (task.Begins script settling) state Normal [] ≡ start_meaning settle_meaning script state
+unfolding settle_meaning
 starts script state = (jobs.goes_on course calls 200 settling state Normal [] script).1
 
 -- what is next of a job, where it ends or takes a step
@@ -49,7 +51,7 @@ goes_by_next room job state =
 
 module _ {M : Type 0} (answer : M → Meaning) where
   from_rest : (s : AppState) (moment : ℕ) (application : Application M) → application.state ≡ s
-      → done_as answer moment (settling_as s Rests) application ≡ record { application = settled_as answer s moment application; work = Rests }
+      → done_as answer moment (settling_as s Rests) application ≡ record { application = settled_as answer settle_meaning s moment application; work = Rests }
   from_rest Running moment application is =
       let state = state_at answer moment application in
       ap (λ o. record { application = after_outcome o application; work = Rests })
@@ -58,11 +60,11 @@ module _ {M : Type 0} (answer : M → Meaning) where
   from_rest Closed moment application is = refl
 
   pub settles_from_rest : SettlesFromRest answer
-  unfolding stage_done settled
+  unfolding stage_done settled_by
   settles_from_rest moment application = from_rest application.state moment application refl
 
   pub begins_with_script : BeginsWithScript answer
-  unfolding stage_done started
+  unfolding stage_done started_by
   begins_with_script moment spec =
       let application = fresh spec in
       let state = state_at answer moment application in

@@ -33,9 +33,9 @@ use Rattle.tk_app.specs.declared.state.AppState.TheVariants.{Running, Exhausted,
 use Rattle.tk_app.specs.Application.{Application, next_due, next_due_as, panel_at}
 use Rattle.tk_app.specs.Dues.{DueTakesAStep, SettledIsPast, StartedIsPast}
 use Rattle.tk_app.specs.Outside.{calls, called_as, alias_act, course, outside}
-use Rattle.tk_app.specs.Moments.{after_outcome, settled, settled_as, started, state_after, state_at}
+use Rattle.tk_app.specs.Moments.{after_outcome, settled, settled_as, settled_by, started_by, state_after, state_at}
 use Rattle.tk_app.specs.Seen.{Meaning, Seen}
-use Rattle.tk_app.specs.Dispatch.{at_global, in_panel}
+use Rattle.tk_app.specs.Dispatch.{global_meaning, in_panel}
 use Rattle.tk_app.specs.Jobs.{comes_next}
 use Rattle.tk_app.specs.Settle.{after_script, settle_meaning, settling, start_meaning}
 use Rattle.tk_app.proofs.Homes.{keeps, look_stays, looked_last}
@@ -67,7 +67,7 @@ settle_stays state =
     subst (λ o. EndsWith moment_of (moment_of state.shows) o) (settles state)
     (task_leaves moment_of outside leaves (moment_of state.shows) 200 (task.Runs settling) state Normal [] refl)
 
-start_stays : (script : List ℕ) (state : State Seen) → EndsWith moment_of (moment_of state.shows) (start_meaning script state)
+start_stays : (script : List ℕ) (state : State Seen) → EndsWith moment_of (moment_of state.shows) (start_meaning settle_meaning script state)
 start_stays script state =
     subst (λ o. EndsWith moment_of (moment_of state.shows) o) (starts script state)
     (task_leaves moment_of outside leaves (moment_of state.shows) 200 (task.Begins script settling) state Normal [] refl)
@@ -90,16 +90,17 @@ quiet_last code text after last =
     ∙ looked_last last.last after.store before there.0 code text last.is_kind (ap (λ (l : Looked Job). (there.0, l)) ends)
 
 pub quiet_settle : (state : State Seen) → Quiet (settle_meaning state)
+unfolding settle_meaning
 quiet_settle state = by (settle_meaning state) refl
   where
     by : (o : Outcome Seen) → settle_meaning state ≡ o → Quiet o
     by (Ended after code text) is = quiet_last code text after (ends_looked course calls 200 settles_last keeps settling state after code text refl is)
     by (OutOfSteps after) is = tt
 
-quiet_start : (script : List ℕ) (state : State Seen) → Quiet (start_meaning script state)
-quiet_start script state = by (at_global 200 script state)
+quiet_start : (script : List ℕ) (state : State Seen) → Quiet (start_meaning settle_meaning script state)
+quiet_start script state = by (global_meaning 200 script state)
   where
-    by : (o : Outcome Seen) → Quiet (and_then o after_script)
+    by : (o : Outcome Seen) → Quiet (and_then o (after_script settle_meaning))
     by (Ended left code text) = quiet_settle (in_panel (with_end (out_of_global code) text left.shows.panel) left)
     by (OutOfSteps left) = tt
 
@@ -141,6 +142,7 @@ module _ {M : Type 0} where
 
 -- where something comes next, it takes a step
 comes_below : (state : State Seen) (o : Option Job) → (next settling state.store state.shows.panel).1 ≡ o → is_some o ≡ true → EndsBelow state.steps (settle_meaning state)
+unfolding settle_meaning
 comes_below state None is comes = cc
 comes_below state (Some job) is comes = (steps_fall course calls 200 settling state).1 job (ap looked_of is)
 
@@ -150,6 +152,7 @@ unfolding still_waiting
 closed_next panel store closed = rw closed refl
 
 closed_ends : (state : State Seen) → is_closed state.shows.panel ≡ true → settle_meaning state ≡ Ended state Normal []
+unfolding settle_meaning
 closed_ends state closed = goes_by_next 200 settling state ∙ ap (comes_next 200 state) (closed_next state.shows.panel state.store closed)
 
 module _ {M : Type 0} (answer : M → Meaning) where
@@ -173,26 +176,26 @@ module _ {M : Type 0} (answer : M → Meaning) where
           (comes_below here (next settling here.store here.shows.panel).1 refl (due_comes here.store here.shows.panel held (due_now moment due application.timers.entries next_is le))) runs
 
   fewer_as : (s : AppState) (moment due : ℕ) (application : Application M) → next_due_as s application.timers ≡ Some due → due ≤ moment
-      → (settled_as answer s moment application).state ≡ Running → (settled_as answer s moment application).steps < application.steps
+      → (settled_as answer settle_meaning s moment application).state ≡ Running → (settled_as answer settle_meaning s moment application).steps < application.steps
   fewer_as Running moment due application next_is le runs = fewer moment due application next_is le runs
   fewer_as Exhausted moment due application next_is le runs = absurd (none-some due next_is)
   fewer_as Closed moment due application next_is le runs = absurd (none-some due next_is)
 
   pub due_takes_a_step : DueTakesAStep answer
-  unfolding settled
+  unfolding settled_by
   due_takes_a_step moment due application next_is le runs = fewer_as application.state moment due application next_is le runs
 
-  past_as : (s : AppState) (moment : ℕ) (application : Application M) → application.state ≡ s → IsPast moment (next_due (settled_as answer s moment application))
+  past_as : (s : AppState) (moment : ℕ) (application : Application M) → application.state ≡ s → IsPast moment (next_due (settled_as answer settle_meaning s moment application))
   past_as Running moment application is =
       let state : State Seen = state_at answer moment application in past_outcome moment (settle_meaning state) application (settle_stays state) (quiet_settle state)
   past_as Exhausted moment application is = subst (λ s. IsPast moment (next_due_as s application.timers)) (sym is) tt
   past_as Closed moment application is = subst (λ s. IsPast moment (next_due_as s application.timers)) (sym is) tt
 
   pub settled_is_past : SettledIsPast answer
-  unfolding settled
+  unfolding settled_by
   settled_is_past moment application = past_as application.state moment application refl
 
   pub started_is_past : StartedIsPast answer
-  unfolding started
+  unfolding started_by
   started_is_past moment script application =
-      let state : State Seen = state_at answer moment application in past_outcome moment (start_meaning script state) application (start_stays script state) (quiet_start script state)
+      let state : State Seen = state_at answer moment application in past_outcome moment (start_meaning settle_meaning script state) application (start_stays script state) (quiet_start script state)

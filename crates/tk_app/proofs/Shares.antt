@@ -12,20 +12,20 @@ use Rattle.tk_app.proofs.Rounds.{after_round, fewer_after, sum-cons, turns_none,
 pub steps_in-append : (ts us : List Turn) → steps_in (ts ++ us) ≡ steps_in ts + steps_in us
 steps_in-append ts us = sum_by-append (λ (turn : Turn). turn.steps) ts us
 
-taken_by-append : (slot : ℕ) (ts us : List Turn) → taken_by slot (ts ++ us) ≡ taken_by slot ts + taken_by slot us
+pub taken_by-append : (slot : ℕ) (ts us : List Turn) → taken_by slot (ts ++ us) ≡ taken_by slot ts + taken_by slot us
 taken_by-append slot ts us = ap steps_in (filter-append (λ (turn : Turn). turn.slot == slot) ts us) ∙ steps_in-append (filter (λ (turn : Turn). turn.slot == slot) ts) (filter (λ (turn : Turn). turn.slot == slot) us)
 
 steps_in-entry : (slot n : ℕ) → steps_in (entry slot n) ≡ n
 steps_in-entry slot zero = refl
 steps_in-entry slot (suc n) = omega arith
 
-taken_own : (slot n : ℕ) → taken_by slot (entry slot n) ≡ n
+pub taken_own : (slot n : ℕ) → taken_by slot (entry slot n) ≡ n
 taken_own slot zero = refl
 taken_own slot (suc n) =
     let one : 0 + suc n ≡ suc n = omega arith in
     ap (λ b. steps_in (cond b (record { slot = slot; steps = suc n } ∷ []) [])) (eq-eqb slot slot refl) ∙ one
 
-taken_other : (slot other n : ℕ) → other ≢ slot → taken_by slot (entry other n) ≡ 0
+pub taken_other : (slot other n : ℕ) → other ≢ slot → taken_by slot (entry other n) ≡ 0
 taken_other slot other zero differ = refl
 taken_other slot other (suc n) differ = by (nat_eq other slot) refl
   where

@@ -35,7 +35,7 @@ use Rattle.tk_tree.specs.Own.{HasOlderParent, HaveOlderParents, IsSound, Own as 
 use Rattle.tk_tree.specs.Path.{parent_and_name}
 use Rattle.tk_tree.specs.Window.{new_window, number_of}
 use Rattle.tk_tree.proofs.Lists.{below_more, find_below, parents_more, rising_more}
-use Rattle.tk_app.specs.Dispatch.{at_global}
+use Rattle.tk_app.specs.Dispatch.{global_meaning}
 use Rattle.tk_app.specs.Jobs.{meaning}
 use Rattle.tk_app.specs.Outside.{alias_act, called_as, calls, course, outside}
 use Rattle.tk_app.specs.Seen.{Seen}
@@ -87,7 +87,7 @@ module _ (Q : Tree → Tree → Type 0) (acts : HoldsOfActs Q) (first : Tree) wh
   pub script_since : (room : ℕ) (script : List ℕ) (state : State Seen) → Since state.shows → Kept Since (script_meaning outside room script state)
   script_since room script state since = kept_script Since outside keeps room script state since
 
-  pub global_since : (room : ℕ) (script : List ℕ) (state : State Seen) → Since state.shows → Kept Since (at_global room script state)
+  pub global_since : (room : ℕ) (script : List ℕ) (state : State Seen) → Since state.shows → Kept Since (global_meaning room script state)
   global_since room script state since = kept_run_at Since (script_meaning outside room) (script_since room) 1 script state since
 
   -- a job is where a task is that goes on with it
@@ -266,6 +266,6 @@ ends_sound first (OutOfSteps state) sound kept = tt
 pub keeps_sound : KeepsSound
 keeps_sound room state sound =
     let first : Tree = state.shows.panel.screen.tree in (
-      (λ script. ends_sound first (at_global room script state) sound (global_since StaysSound sound_acts first room script state (λ same. same))),
+      (λ script. ends_sound first (global_meaning room script state) sound (global_since StaysSound sound_acts first room script state (λ same. same))),
       (λ job. ends_sound first (meaning room job state) sound (job_since StaysSound sound_acts first room job state (λ same. same))),
     )

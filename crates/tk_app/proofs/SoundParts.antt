@@ -3,9 +3,9 @@ use Rattle.std.proofs.Common.{◌≡◌, ℕ, List, refl, sym, subst, arith}
 use Rattle.tcl_control.specs.declared.code.Code.{Code}
 use Rattle.tcl_interp.specs.Evaluation.{State, Outcome, Ended, OutOfSteps, and_then}
 use Rattle.tcl_interp.specs.Scripts.{out_of_global}
-use Rattle.tk_keys.specs.declared.local_event.LocalEvent.{LocalEvent}
-use Rattle.tk_keys.specs.declared.local_event.LocalKind.{LocalKind}
-use Rattle.tk_keys.specs.declared.local_event.LocalKind.TheVariants as kinds
+use Rattle.tk_base.specs.declared.local_event.LocalEvent.{LocalEvent}
+use Rattle.tk_base.specs.declared.local_event.LocalKind.{LocalKind}
+use Rattle.tk_base.specs.declared.local_event.LocalKind.TheVariants as kinds
 use Rattle.tk_inputs.specs.Deliver.{delivered as arrived}
 use Rattle.tk_screen.specs.Own.{Own as Screen}
 use Rattle.tk_tree.specs.Own.{IsSound}
@@ -16,8 +16,8 @@ use Rattle.tk_commands.specs.Course.{with_end}
 use Rattle.tk_app.specs.declared.state.AppState.{AppState}
 use Rattle.tk_app.specs.declared.state.AppState.TheVariants.{Running, Exhausted, Closed}
 use Rattle.tk_app.specs.Application.{Application, panel_at}
-use Rattle.tk_app.specs.Dispatch.{at_global, in_panel}
-use Rattle.tk_app.specs.Moments.{after_outcome, delivered, delivered_as, settled, settled_as, started, state_at}
+use Rattle.tk_app.specs.Dispatch.{global_meaning, in_panel}
+use Rattle.tk_app.specs.Moments.{after_outcome, delivered, delivered_as, settled, settled_as, settled_by, started, started_by, state_at}
 use Rattle.tk_app.specs.Seen.{Meaning, Seen}
 use Rattle.tk_app.specs.Settle.{IsSoundIn, after_script, settle_meaning, settling, start_meaning}
 use Rattle.tk_app.specs.Sound.{EndsSound, RunsSound, StaysSound}
@@ -30,9 +30,10 @@ then_sound : (o : Outcome Seen) (f : State Seen → Code → List ℕ → Outcom
 then_sound (Ended state code text) f kept rest = rest state code text kept
 then_sound (OutOfSteps state) f kept rest = tt
 
-start_sound : (script : List ℕ) (state : State Seen) → IsSoundIn state → EndsSound (start_meaning script state)
+start_sound : (script : List ℕ) (state : State Seen) → IsSoundIn state → EndsSound (start_meaning settle_meaning script state)
+unfolding settle_meaning
 start_sound script state sound =
-    then_sound (at_global 200 script state) after_script ((keeps_sound 200 state sound).0 script)
+    then_sound (global_meaning 200 script state) (after_script settle_meaning) ((keeps_sound 200 state sound).0 script)
     (λ left code text kept.
     (keeps_sound 200 (in_panel (with_end (out_of_global code) text left.shows.panel) left)
     (subst (λ (screen : Screen). IsSound screen.tree) (sym (end_screen (out_of_global code) text left.shows.panel)) kept)).1 settling)
@@ -61,15 +62,15 @@ module _ {M : Type 0} (answer : M → Meaning) where
   outcome_sound (OutOfSteps left) application kept = λ runs. absurd (cc)
 
   started_sound : (moment : ℕ) (script : List ℕ) (application : Application M) → IsSound application.screen.tree → RunsSound (started answer moment script application)
-  unfolding started
+  unfolding started_by
   started_sound moment script application sound =
-      outcome_sound (start_meaning script (state_at answer moment application)) application (start_sound script (state_at answer moment application) sound)
+      outcome_sound (start_meaning settle_meaning script (state_at answer moment application)) application (start_sound script (state_at answer moment application) sound)
 
   settled_sound : (moment : ℕ) (application : Application M) → RunsSound application → RunsSound (settled answer moment application)
-  unfolding settled
+  unfolding settle_meaning settled_by
   settled_sound moment application sound = by application.state refl
     where
-      by : (s : AppState) → application.state ≡ s → RunsSound (settled_as answer s moment application)
+      by : (s : AppState) → application.state ≡ s → RunsSound (settled_as answer settle_meaning s moment application)
       by Running is = outcome_sound (settle_meaning (state_at answer moment application)) application ((keeps_sound 200 (state_at answer moment application) (sound is)).1 settling)
       by Exhausted is = sound
       by Closed is = sound

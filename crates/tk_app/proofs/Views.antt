@@ -1,5 +1,5 @@
 -- All applications, after a call on one of them.
-use Rattle.std.proofs.Common.{◌≡◌, ℕ, zero, suc, ◌-◌, ◌<◌, ◌≤◌, ◌++◌, List, [], ◌∷◌, length, get_or, set, refl, sym, ap, ◌∙◌, arith}
+use Rattle.std.proofs.Common.{◌≡◌, ℕ, zero, suc, ◌-◌, ◌<◌, ◌≤◌, ◌++◌, List, [], ◌∷◌, length, get_or, set, inl, refl, sym, ap, ◌∙◌, arith}
 use Rattle.std.specs.Prelude.{Some, Result, Ok, Err, OnErr, slice_get, slice_set}
 use Rattle.std.proofs.lemmas.List.{append-nil, length-set}
 use Rattle.tk_app.specs.declared.turns.Turn.{Turn}
@@ -22,15 +22,25 @@ there (part ∷ parts) zero lt = (part, refl, refl)
 there (part ∷ parts) (suc slot) lt = let rest = there parts slot (omega (arith, lt)) in (rest.0, rest.1, ap (λ ps. part ∷ ps) rest.2)
 
 -- a call that changes nothing
-pub only_same : {M : Type 0} (slot : ℕ) (held : Applications M) → slot < length held.parts → ChangesOnly slot held held
-only_same slot held lt =
+pub only_same : {M : Type 0} (steps slot : ℕ) (held : Applications M) → slot < length held.parts → ChangesOnly steps slot held held
+only_same steps slot held lt =
     let here = there held.parts slot lt in
-    record { before = here.0; after = here.0; was = here.1; changed = sym here.2; told = none_told held.turns slot here.0.application.steps; moment = refl }
+    record {
+      before = here.0;
+      after = here.0;
+      was = here.1;
+      changed = sym here.2;
+      budget = refl;
+      fewer = omega arith;
+      most = omega arith;
+      told = none_told held.turns slot here.0.application.steps;
+      moment = refl;
+    }
 
 pub part_same : {M : Type 0} (slot : ℕ) (held : Applications M) → slot < length held.parts → ChangesPart slot held held
 part_same slot held lt =
     let here = there held.parts slot lt in
-    record { before = here.0; after = here.0; was = here.1; changed = sym here.2; turns = refl; moment = refl }
+    record { before = here.0; after = here.0; was = here.1; changed = sym here.2; budget = refl; steps = inl refl; turns = refl; moment = refl }
 
 module _ {M : Type 0} (slot : ℕ) (old new : Tables) (programs : List (Program M)) (before after : Program M) (few : length programs ≤ 16) (lt : slot < length programs) (at : before ≡ get_or programs slot before)
     (others : others_of slot new ≡ others_of slot old) where

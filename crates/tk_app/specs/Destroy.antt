@@ -6,24 +6,24 @@ use Rattle.tcl_interp.specs.Evaluation.{Ended}
 use Rattle.tk_tree.specs.declared.window.Window.{Window}
 use Rattle.tk_tree.specs.Own.{window_at}
 use Rattle.tk_panel.specs.Destroy.{destroy_event, doomed_by, marked, removed}
-use Rattle.tk_app.specs.Dispatch.{Behind, dispatch_meaning, shown}
+use Rattle.tk_app.specs.Dispatch.{Continuation, dispatch_meaning, shown}
 
 -- with room for so many scripts one in another
 module _ (room : ℕ) where
   -- a window that is still there has its Destroy event dispatched
-  abbrev pub destroy_dispatched : Option Window → Behind → Behind
+  abbrev pub destroy_dispatched : Option Window → Continuation → Continuation
   destroy_dispatched None behind state = behind state
   destroy_dispatched (Some window) behind state = dispatch_meaning room (destroy_event window state.shows.panel.moment) behind state
 
   -- and then it goes, with its bindings, if it is there still; so do the others, in their order
-  abbrev pub windows_destroyed : List ℕ → Behind → Behind
+  abbrev pub windows_destroyed : List ℕ → Continuation → Continuation
   windows_destroyed [] behind state = behind state
   windows_destroyed (number ∷ numbers) behind state =
       destroy_dispatched (window_at number state.shows.panel.screen.tree)
       (λ left. windows_destroyed numbers behind (shown (removed number left.shows.panel) left)) state
 
   -- *Destroy* of one path after another. Its windows are dying from then on; a path that names no window, or one that is dying, is passed over.
-  abbrev pub destroy_meaning : List (List ℕ) → Behind
+  abbrev pub destroy_meaning : List (List ℕ) → Continuation
   destroy_meaning [] state = Ended state Normal []
   destroy_meaning (path ∷ paths) state =
       (let numbers : List ℕ = doomed_by path state.shows.panel in windows_destroyed numbers (destroy_meaning paths) (shown (marked numbers state.shows.panel) state))

@@ -21,19 +21,19 @@ shown panel state = record state { shows = record state.shows { panel = panel } 
 abbrev pub in_panel : Panel → State Seen → State Seen
 in_panel panel state = record state { shows = with_panel panel state.shows }
 
--- what is done behind something, with the state that is left: its continuation
-abbrev pub Behind : Type 0
-Behind = State Seen → Outcome Seen
+-- what is done behind something, with the state that is left
+abbrev pub Continuation : Type 0
+Continuation = State Seen → Outcome Seen
 
 -- with room for so many scripts one in another
 module _ (room : ℕ) where
-  -- a script at global level, where the first of the levels is alone
-  abbrev pub at_global : List ℕ → State Seen → Outcome Seen
-  at_global script state = run_at (script_meaning outside room) 1 script state
+  -- what a script comes to at global level, where the first of the levels is alone
+  abbrev pub global_meaning : List ℕ → State Seen → Outcome Seen
+  global_meaning script state = run_at (script_meaning outside room) 1 script state
 
   -- How a bound script has ended: at its end, and by a return or a continue, the others follow. A break ends the event, and so does an error, which
   -- is told.
-  abbrev pub after_bound : Behind → Behind → State Seen → Code → List ℕ → Outcome Seen
+  abbrev pub after_bound : Continuation → Continuation → State Seen → Code → List ℕ → Outcome Seen
   after_bound others behind state Normal text = others state
   after_bound others behind state Error text = behind (shown (with_line Errors text state.shows.panel) state)
   after_bound others behind state (Return code) text = others state
@@ -41,13 +41,13 @@ module _ (room : ℕ) where
   after_bound others behind state Continue text = others state
 
   -- bound scripts in their order, a step before each
-  abbrev pub bound_meaning : List (List ℕ) → Behind → Behind
+  abbrev pub bound_meaning : List (List ℕ) → Continuation → Continuation
   bound_meaning [] behind state = behind state
   bound_meaning (script ∷ scripts) behind state =
-      with_step state (λ begun. and_then (at_global script begun) (λ left code text. after_bound (bound_meaning scripts behind) behind left (out_of_global code) text))
+      with_step state (λ begun. and_then (global_meaning script begun) (λ left code text. after_bound (bound_meaning scripts behind) behind left (out_of_global code) text))
 
   -- *Dispatch*: for each tag in order the winner's script is substituted, then an event of a key or a button enters the history, and then the scripts
   -- run in order. Where a substitution is refused, that is told, the event enters the history all the same, and none runs. An event of a window that is
   -- gone is dropped.
-  abbrev pub dispatch_meaning : Event → Behind → Behind
+  abbrev pub dispatch_meaning : Event → Continuation → Continuation
   dispatch_meaning event behind state = (let there : Panel × List (List ℕ) = chosen event state.shows.panel in bound_meaning there.1 behind (shown there.0 state))

@@ -13,7 +13,7 @@ use Rattle.tk_panel.specs.Changes.{laid_out}
 use Rattle.tk_panel.specs.Panel.{Panel}
 use Rattle.tk_panel.specs.Settle.{is_closed, with_queue}
 use Rattle.tk_commands.specs.Course.{with_end}
-use Rattle.tk_app.specs.Dispatch.{Behind, at_global, dispatch_meaning, shown}
+use Rattle.tk_app.specs.Dispatch.{Continuation, global_meaning, dispatch_meaning, shown}
 
 -- a timer or an idle script leaves its table
 abbrev pub entry_taken : ℕ → Panel → Panel
@@ -22,47 +22,47 @@ entry_taken id panel = record panel { timers = without id panel.timers }
 -- with room for so many scripts one in another
 module _ (room : ℕ) where
   -- a timer or an idle script whose step is taken leaves its table and runs at global level; an error is told
-  abbrev pub entry_meaning : ℕ → List ℕ → Behind → Behind
+  abbrev pub entry_meaning : ℕ → List ℕ → Continuation → Continuation
   entry_meaning id script behind state =
-      and_then (at_global room script (shown (entry_taken id state.shows.panel) state))
+      and_then (global_meaning room script (shown (entry_taken id state.shows.panel) state))
       (λ left code text. behind (shown (with_end (out_of_global code) text left.shows.panel) left))
 
   -- an idle script of a round, if it still waits
-  abbrev pub idle_meaning : ℕ → Option Entry → Behind → Behind
+  abbrev pub idle_meaning : ℕ → Option Entry → Continuation → Continuation
   idle_meaning id None behind state = behind state
   idle_meaning id (Some entry) behind state = with_step state (entry_meaning id entry.script behind)
 
   -- a round: of the idle scripts with these numbers those that still wait, one after another
-  abbrev pub round_meaning : List ℕ → Behind → Behind
+  abbrev pub round_meaning : List ℕ → Continuation → Continuation
   round_meaning [] behind state = behind state
   round_meaning (id ∷ ids) behind state = idle_meaning id (entry_with id state.shows.panel.timers.entries) (round_meaning ids behind) state
 
   -- ── one before the other ──
 
   -- a round of the idle scripts that wait, if there are any; else nothing is left to do
-  abbrev pub on_idle : List ℕ → Behind → Behind
+  abbrev pub on_idle : List ℕ → Continuation → Continuation
   on_idle [] again state = Ended state Normal []
   on_idle (id ∷ ids) again state = round_meaning (id ∷ ids) again state
 
   -- a layout that changes something: one act, without a step
-  abbrev pub on_layout : List PlaceChange → Behind → Behind
+  abbrev pub on_layout : List PlaceChange → Continuation → Continuation
   on_layout [] again state = on_idle (idle_ids state.shows.panel.timers.entries) again state
   on_layout (change ∷ changes) again state = again (shown (laid_out state.store state.shows.panel) state)
 
   -- the timer that is due, the one that was due first
-  abbrev pub on_timer : Option Entry → Behind → Behind
+  abbrev pub on_timer : Option Entry → Continuation → Continuation
   on_timer None again state = on_layout (changes_due state.shows.panel.screen state.store) again state
   on_timer (Some entry) again state = with_step state (entry_meaning entry.id entry.script again)
 
   -- the first of the events that are queued
-  abbrev pub on_queue : List Event → Behind → Behind
+  abbrev pub on_queue : List Event → Continuation → Continuation
   on_queue [] again state = on_timer (first_due state.shows.panel.moment state.shows.panel.timers.entries) again state
   on_queue (event ∷ events) again state = dispatch_meaning room event again (shown (with_queue events state.shows.panel) state)
 
   -- the first item that exists, and what comes again behind it; with no item all is done
-  abbrev pub item_meaning : Behind → Behind
+  abbrev pub item_meaning : Continuation → Continuation
   item_meaning again state = on_queue state.shows.panel.queue again state
 
   -- Where there is no main window nothing more is done, and what waits stays listed; the application is closed then (`state_after`).
-  abbrev pub settle_item : Behind → Behind
+  abbrev pub settle_item : Continuation → Continuation
   settle_item again state = if is_closed state.shows.panel then Ended state Normal [] else item_meaning again state

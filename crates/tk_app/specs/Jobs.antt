@@ -11,7 +11,7 @@ use Rattle.tk_panel.specs.Panel.{Panel}
 use Rattle.tk_panel.specs.Settle.{Next}
 use Rattle.tk_panel.specs.Start.{start}
 use Rattle.tk_commands.specs.Course.{ended}
-use Rattle.tk_app.specs.Dispatch.{at_global, in_panel}
+use Rattle.tk_app.specs.Dispatch.{global_meaning, in_panel}
 use Rattle.tk_app.specs.Outside.{calls, course}
 use Rattle.tk_app.specs.Seen.{Seen}
 
@@ -29,7 +29,7 @@ module _ (room : ℕ) where
   -- the step of what is next is taken, it starts, and its script runs
   abbrev pub starts : Job → State Seen → Outcome Seen
   starts job state =
-      (let there : Panel × (List ℕ × Job) = start job state.shows.panel in and_then (at_global room there.1.0 (in_panel there.0 state)) (goes_on there.1.1))
+      (let there : Panel × (List ℕ × Job) = start job state.shows.panel in and_then (global_meaning room there.1.0 (in_panel there.0 state)) (goes_on there.1.1))
 
   abbrev pub on_next : State Seen → Option Job → Outcome Seen
   on_next state None = Ended state Normal []

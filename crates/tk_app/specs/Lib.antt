@@ -12,6 +12,7 @@ pub mod Names
 pub mod Outside
 pub mod Part
 pub mod Passing
+pub mod Places
 pub mod Rounds
 pub mod Section
 pub mod Seen
@@ -20,4 +21,5 @@ pub mod Shares
 pub mod Sound
 pub mod Spec
 pub mod Stages
+pub mod Together
 pub mod Turns

@@ -1,7 +1,7 @@
 -- Meaning. What becomes of an application at a moment: its script, an event that it is given, and what is to be done then.
 use Rattle.std.specs.Prelude.{ℕ, ◌+◌, min, List, [], ◌∷◌, if◌then◌else◌}
 use Rattle.tcl_interp.specs.Evaluation.{State, Outcome, Ended, OutOfSteps}
-use Rattle.tk_keys.specs.declared.local_event.LocalEvent.{LocalEvent}
+use Rattle.tk_base.specs.declared.local_event.LocalEvent.{LocalEvent}
 use Rattle.tk_panel.specs.Deliver.{delivered as delivered_panel}
 use Rattle.tk_panel.specs.Panel.{Panel}
 use Rattle.tk_panel.specs.Settle.{is_closed}
@@ -9,6 +9,7 @@ use Rattle.tk_base.specs.declared.budget.Budget.{Budget}
 use Rattle.tk_app.specs.declared.state.AppState.{AppState}
 use Rattle.tk_app.specs.declared.state.AppState.TheVariants.{Running, Exhausted, Closed}
 use Rattle.tk_app.specs.Application.{Application, panel_at, with_panel}
+use Rattle.tk_app.specs.Dispatch.{Continuation}
 use Rattle.tk_app.specs.Seen.{Meaning, Seen, meanings}
 use Rattle.tk_app.specs.Settle.{settle_meaning, start_meaning}
 
@@ -62,15 +63,24 @@ module _ {M : Type 0} (answer : M → Meaning) where
   abbrev pub state_at : ℕ → Application M → State Seen
   state_at moment application = state_in (0 ∷ []) moment application
 
-  -- its script has run at a moment, an error of it is told, and what was to be done then is done
-  unfoldable pub started : ℕ → List ℕ → Application M → Application M
-  started moment script application = after_outcome (start_meaning script (state_at moment application)) application
+  -- by what *Settle* is
+  module _ (settle : Continuation) where
+    -- its script has run at a moment, an error of it is told, and what was to be done then is done
+    unfoldable pub started_by : ℕ → List ℕ → Application M → Application M
+    started_by moment script application = after_outcome (start_meaning settle script (state_at moment application)) application
 
-  -- What is to be done at a moment has been done. An application that is exhausted or closed does nothing more.
-  abbrev pub settled_as : AppState → ℕ → Application M → Application M
-  settled_as Running moment application = after_outcome (settle_meaning (state_at moment application)) application
-  settled_as Exhausted moment application = application
-  settled_as Closed moment application = application
+    -- What is to be done at a moment has been done. An application that is exhausted or closed does nothing more.
+    abbrev pub settled_as : AppState → ℕ → Application M → Application M
+    settled_as Running moment application = after_outcome (settle (state_at moment application)) application
+    settled_as Exhausted moment application = application
+    settled_as Closed moment application = application
 
-  unfoldable pub settled : ℕ → Application M → Application M
-  settled moment application = settled_as application.state moment application
+    unfoldable pub settled_by : ℕ → Application M → Application M
+    settled_by moment application = settled_as application.state moment application
+
+  -- *Settle* is what its job comes to
+  abbrev pub started : ℕ → List ℕ → Application M → Application M
+  started = started_by settle_meaning
+
+  abbrev pub settled : ℕ → Application M → Application M
+  settled = settled_by settle_meaning

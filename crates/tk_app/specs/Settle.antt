@@ -19,7 +19,7 @@ use Rattle.tk_panel.specs.Start.{alone}
 use Rattle.tk_commands.specs.Course.{event_job, with_end}
 use Rattle.tk_commands.specs.Moment.{destroying, settling as settling_to}
 use Rattle.tk_app.specs.Destroy.{destroy_meaning}
-use Rattle.tk_app.specs.Dispatch.{Behind, at_global, dispatch_meaning, in_panel, shown}
+use Rattle.tk_app.specs.Dispatch.{Continuation, global_meaning, dispatch_meaning, in_panel, shown}
 use Rattle.tk_app.specs.Items.{item_meaning, round_meaning, settle_item}
 use Rattle.tk_app.specs.Jobs.{meaning}
 use Rattle.tk_app.specs.Seen.{Seen}
@@ -31,18 +31,20 @@ use Rattle.tcl_text.specs.Limits.{most_running}
 abbrev pub settling : Job
 settling = settling_to Settle
 
--- *Settle*: all that is to be done at a moment, as what its job comes to. It meets the equation `Settles`.
-abbrev pub settle_meaning : State Seen → Outcome Seen
+-- *Settle*: all that is to be done at a moment, as what its job comes to. It meets its equation, and nothing else does (`Settles`, `OnlySettle`).
+unfoldable pub settle_meaning : State Seen → Outcome Seen
 settle_meaning state = meaning most_running settling state
 
 -- ── the beginning ──
 
--- an error of the application's own script is told, and then comes what is to be done at the moment
-abbrev pub after_script : State Seen → Code → List ℕ → Outcome Seen
-after_script state code text = settle_meaning (in_panel (with_end (out_of_global code) text state.shows.panel) state)
+-- by what *Settle* is
+module _ (settle : Continuation) where
+  -- an error of the application's own script is told, and then comes what is to be done at the moment
+  abbrev pub after_script : State Seen → Code → List ℕ → Outcome Seen
+  after_script state code text = settle (in_panel (with_end (out_of_global code) text state.shows.panel) state)
 
-abbrev pub start_meaning : List ℕ → State Seen → Outcome Seen
-start_meaning script state = and_then (at_global most_running script state) after_script
+  abbrev pub start_meaning : List ℕ → State Seen → Outcome Seen
+  start_meaning script state = and_then (global_meaning most_running script state) after_script
 
 -- ── the equations ──
 
@@ -51,14 +53,17 @@ start_meaning script state = and_then (at_global most_running script state) afte
 abbrev pub IsSoundIn : State Seen → Type 0
 IsSoundIn state = IsSound state.shows.panel.screen.tree
 
--- *Settle* is the first item that exists, and *Settle* again.
-abbrev pub Settles : Type 0
-Settles = (state : State Seen) → IsSoundIn state → settle_meaning state ≡ settle_item most_running settle_meaning state
+-- *Settle*'s equation: it is the first item that exists, and *Settle* again.
+abbrev pub IsSettle : Continuation → Type 0
+IsSettle settle = (state : State Seen) → IsSoundIn state → settle state ≡ settle_item most_running settle state
 
--- Nothing else meets that equation: what meets it wherever windows are numbered so is *Settle* there.
+-- The job meets it.
+abbrev pub Settles : Type 0
+Settles = IsSettle settle_meaning
+
+-- Nothing else does: what meets it wherever windows are numbered so is *Settle* there.
 abbrev pub OnlySettle : Type 0
-OnlySettle = (other : Behind) → ((state : State Seen) → IsSoundIn state → other state ≡ settle_item most_running other state)
-    → (state : State Seen) → IsSoundIn state → other state ≡ settle_meaning state
+OnlySettle = (other : Continuation) → IsSettle other → (state : State Seen) → IsSoundIn state → other state ≡ settle_meaning state
 
 -- So is the job that `update` begins, without the test for the main window. With `idletasks` it is a layout, a round of the idle scripts that wait
 -- then, and a layout more.
@@ -68,11 +73,11 @@ Updates = (room : ℕ) (state : State Seen) → IsSoundIn state
 
 -- Nor does anything else meet this one.
 abbrev pub OnlyUpdate : Type 0
-OnlyUpdate = (room : ℕ) (other : Behind) → ((state : State Seen) → IsSoundIn state → other state ≡ item_meaning room other state)
+OnlyUpdate = (room : ℕ) (other : Continuation) → ((state : State Seen) → IsSoundIn state → other state ≡ item_meaning room other state)
     → (state : State Seen) → IsSoundIn state → other state ≡ meaning room (settling_to Update) state
 
 -- a layout, and the empty answer
-abbrev pub laid : Behind
+abbrev pub laid : Continuation
 laid state = Ended (shown (laid_out state.store state.shows.panel) state) Normal []
 
 abbrev pub UpdatesIdleTasks : Type 0

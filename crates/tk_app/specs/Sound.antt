@@ -1,16 +1,16 @@
 -- Meaning. The windows of an application stay numbered as they were made, whatever its scripts and jobs do: the equation of *Settle* is of such states.
 use Rattle.std.specs.Prelude.{◌≡◌, ℕ, List}
 use Rattle.tcl_interp.specs.Evaluation.{State, Outcome, Ended, OutOfSteps}
-use Rattle.tk_keys.specs.declared.local_event.LocalEvent.{LocalEvent}
+use Rattle.tk_base.specs.declared.local_event.LocalEvent.{LocalEvent}
 use Rattle.tk_panel.specs.declared.job.Job.{Job}
 use Rattle.tk_tree.specs.Own.{IsSound}
 use Rattle.tk_app.specs.declared.state.AppState.TheVariants.{Running}
 use Rattle.tk_app.specs.Application.{Application, fresh}
-use Rattle.tk_app.specs.Dispatch.{at_global}
+use Rattle.tk_app.specs.Dispatch.{Continuation, global_meaning}
 use Rattle.tk_app.specs.Jobs.{meaning}
-use Rattle.tk_app.specs.Moments.{delivered, settled, started}
+use Rattle.tk_app.specs.Moments.{delivered, settled, settled_by, started, started_by}
 use Rattle.tk_app.specs.Seen.{Meaning, Seen}
-use Rattle.tk_app.specs.Settle.{IsSoundIn}
+use Rattle.tk_app.specs.Settle.{IsSettle, IsSoundIn}
 use Rattle.tk_app.specs.Spec.{Spec}
 
 -- where something ends, the windows are numbered so
@@ -21,7 +21,7 @@ EndsSound (OutOfSteps state) = Unit {0}
 -- a script at global level leaves them so, and so does every job
 abbrev pub KeepsSound : Type 0
 KeepsSound = (room : ℕ) (state : State Seen) → IsSoundIn state
-    → ((script : List ℕ) → EndsSound (at_global room script state)) × ((job : Job) → EndsSound (meaning room job state))
+    → ((script : List ℕ) → EndsSound (global_meaning room script state)) × ((job : Job) → EndsSound (meaning room job state))
 
 -- ── of an application by itself ──
 
@@ -36,3 +36,10 @@ module _ {M : Type 0} (answer : M → Meaning) where
     pub started : (moment : ℕ) (script : List ℕ) (application : Application M) → IsSound application.screen.tree → RunsSound (started answer moment script application)
     pub delivered : (event : LocalEvent) (application : Application M) → RunsSound application → RunsSound (delivered event application)
     pub settled : (moment : ℕ) (application : Application M) → RunsSound application → RunsSound (settled answer moment application)
+
+  -- Whatever meets the equation of *Settle* makes the same of an application: of one that begins, and of one that runs on.
+  pub record BySettle : Type 0 where
+    pub started : (settle : Continuation) → IsSettle settle → (moment : ℕ) (script : List ℕ) (application : Application M) → IsSound application.screen.tree
+        → started answer moment script application ≡ started_by answer settle moment script application
+    pub settled : (settle : Continuation) → IsSettle settle → (moment : ℕ) (application : Application M) → RunsSound application
+        → settled answer moment application ≡ settled_by answer settle moment application

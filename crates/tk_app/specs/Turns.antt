@@ -8,7 +8,7 @@ use Rattle.tcl_interp.specs.Interp.{IsRunning}
 use Rattle.tcl_control.specs.Table.{NamedCommands, first_commands}
 use Rattle.tcl_interp.specs.declared.job.Task.{Task}
 use Rattle.tcl_interp.specs.declared.job.Task.TheVariants as task
-use Rattle.tk_keys.specs.declared.local_event.LocalEvent.{LocalEvent}
+use Rattle.tk_base.specs.declared.local_event.LocalEvent.{LocalEvent}
 use Rattle.tk_panel.specs.declared.job.Job.{Job}
 use Rattle.tk_route.specs.Limits.{most_applications}
 use Rattle.tk_panel.specs.declared.tables.Tables.{Tables}
@@ -25,7 +25,7 @@ use Rattle.tk_app.specs.declared.state.AppEnd.{AppEnd}
 use Rattle.tk_app.specs.declared.state.AppEnd.TheVariants.{Settled, More, Stopped}
 use Rattle.tk_app.specs.Application.{Application}
 use Rattle.tk_app.specs.Names.{command_names}
-use Rattle.tk_app.specs.Moments.{delivered}
+use Rattle.tk_app.specs.Moments.{delivered, granted}
 use Rattle.tk_app.specs.Part.{Part, Work, Rests, needs, settling_begun, stage_done, task_begins}
 use Rattle.tk_app.specs.Seen.{Meaning, names_of}
 use Rattle.tk_app.specs.Settle.{settling}
@@ -118,12 +118,15 @@ pub record TakesTurn {M : Type 0} (answer : M → Meaning) (moment steps : ℕ) 
   pub more : end ≡ More → steps ≤ needs answer moment begun
   pub ends : EndsAs end after
 
--- Whatever comes of it, only the part in one slot has changed, and the steps that it took are told.
-pub record ChangesOnly {M : Type 0} (slot : ℕ) (old new : Applications M) : Type 0 where
+-- Whatever comes of it, only the part in one slot has changed; it took at most so many steps, which are told.
+pub record ChangesOnly {M : Type 0} (steps slot : ℕ) (old new : Applications M) : Type 0 where
   pub before : Part M
   pub after : Part M
   pub was : slice_get old.parts slot ≡ Some before
   pub changed : new.parts ≡ slice_set old.parts slot after
+  pub budget : after.application.budget ≡ before.application.budget
+  pub fewer : after.application.steps ≤ before.application.steps
+  pub most : before.application.steps ≤ after.application.steps + steps
   pub told : new.turns ≡ old.turns ++ entry slot (before.application.steps - after.application.steps)
   pub moment : new.moment ≡ old.moment
 
@@ -155,12 +158,18 @@ MayGet part =
 abbrev pub MayGetIn : {M : Type 0} → ℕ → List (Part M) → Type 0
 MayGetIn {M} slot parts = (part : Part M) → slice_get parts slot ≡ Some part → MayGet part
 
--- whatever comes of it, only the part in one slot has changed, and no turn is told
+-- a part has as many steps left as before, or it was granted those of an event
+abbrev pub MayBeGranted : {M : Type 0} → Application M → Application M → Type 0
+MayBeGranted before after = (after.steps ≡ before.steps) ⊎ (after.steps ≡ granted before.budget before.steps)
+
+-- Whatever comes of it, only the part in one slot has changed, and no turn is told. Its steps are as they were, or those of an event are granted.
 pub record ChangesPart {M : Type 0} (slot : ℕ) (old new : Applications M) : Type 0 where
   pub before : Part M
   pub after : Part M
   pub was : slice_get old.parts slot ≡ Some before
   pub changed : new.parts ≡ slice_set old.parts slot after
+  pub budget : after.application.budget ≡ before.application.budget
+  pub steps : MayBeGranted before.application after.application
   pub turns : new.turns ≡ old.turns
   pub moment : new.moment ≡ old.moment
 

@@ -1,5 +1,13 @@
 //! What a part comes to, by what is done at a moment. The functions do nothing: their contracts are the laws.
-ghost use Rattle.tk_app.specs.Begun.{DestroyBegins, GenerateBegins, UpdateBegins};
+ghost use Rattle.tk_app.specs.Begun.{
+  DestroyBegins,
+  GenerateBegins,
+  IdleTasksAre,
+  InvokeRuns,
+  SelectBegins,
+  UpdateBegins,
+  UpdateIs,
+};
 ghost use Rattle.tk_app.specs.Dues.{DueTakesAStep, SettledIsPast, StartedIsPast};
 ghost use Rattle.tk_app.specs.Gone.{DestroysAll};
 ghost use Rattle.tk_app.specs.Part.{BeginsWithScript, SettlesFromRest};
@@ -15,7 +23,7 @@ ghost use Rattle.tk_app.specs.Settle.{
   Updates,
   UpdatesIdleTasks,
 };
-ghost use Rattle.tk_app.specs.Sound.{KeepsSound, StaysSound};
+ghost use Rattle.tk_app.specs.Sound.{BySettle, KeepsSound, StaysSound};
 
 use tk_alias::AliasMeaning;
 
@@ -35,6 +43,12 @@ pub fn begins_with_script<M: AliasMeaning>()
 pub fn settles()
     ensures equation { Settles }
     ensures only { OnlySettle }
+{}
+
+/// Whatever meets the equation of *Settle* makes the same of an application as its job does: of one whose script runs, and of one that has something
+/// to do at a moment. So what becomes of an application may be read by the equation alone.
+pub fn comes_by_settle<M: AliasMeaning>()
+    ensures { BySettle M.answer }
 {}
 
 /// The job that `update` begins is the same, without the test for the main window (update(n)). Nothing else meets that equation.
@@ -72,11 +86,16 @@ pub fn stays_sound<M: AliasMeaning>()
     ensures { StaysSound M.answer }
 {}
 
-/// `update`, `destroy` and an `event generate` that comes at once do what these equations say of their jobs, where no alias serves their names.
+/// Where no alias serves their names, commands do what these equations say: `update` and `update idletasks`, `destroy`, an `event generate` that comes at
+/// once, a class command that selects in a listbox, and those that invoke a widget's command.
 pub fn commands_begin_jobs()
     ensures update { UpdateBegins }
+    ensures update_is { UpdateIs }
+    ensures idle_tasks_are { IdleTasksAre }
     ensures destroy { DestroyBegins }
     ensures generate { GenerateBegins }
+    ensures select { SelectBegins }
+    ensures invoke { InvokeRuns }
 {}
 
 /// Where *Settle* has ended and there is a main window, the windows lie where a layout from nothing puts them (pack(n)).

@@ -5,6 +5,7 @@
 mod aliases;
 mod jobs;
 mod laws;
+mod layout_laws;
 mod names;
 mod runner;
 mod section;
@@ -17,10 +18,11 @@ mod turns;
 mod view;
 
 pub use laws::{
-    begins_with_script, destroys, dispatches, due_takes_a_step, ends_laid_out, goes_by_next,
-    settled_is_past, settles, settles_from_rest, settles_twice, started_is_past, updates,
-    updates_idle_tasks,
+    begins_with_script, comes_by_settle, commands_begin_jobs, destroys, dispatches,
+    due_takes_a_step, ends_laid_out, goes_by_next, keeps_sound, settled_is_past, settles,
+    settles_from_rest, settles_twice, started_is_past, stays_sound, updates, updates_idle_tasks,
 };
+pub use layout_laws::lies_by_masters;
 pub use shared::Shared;
 pub use size::Size;
 pub use state::{AppEnd, AppState};
@@ -28,8 +30,7 @@ pub use tcl_interp::CommandPlace;
 pub use tk_alias::{
     Alias, AliasCode, AliasMeaning, AliasReply, AliasService, Aliases, Closure, NoAlias,
 };
-pub use tk_base::Budget;
-pub use tk_keys::{LocalEvent, LocalKind};
+pub use tk_base::{Budget, LocalEvent, LocalKind};
 pub use tk_panel::{Line, Stream};
 pub use turn_laws::{
     alone_and_together, first_round_and_the_rest, moment_in_two_calls, stage_is_bounded,

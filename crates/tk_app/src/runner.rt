@@ -93,7 +93,7 @@ fn end_as(state: AppState) -> AppEnd
 }
 
 impl<M: AliasService> Runner<M> {
-    ghost use Rattle.std.specs.Prelude.{◌≡◌, ◌≢◌, ◌<◌, ◌≤◌, ◌↔◌, ◌⊎◌, IfOk, IsTrue, OnErr, OnOk};
+    ghost use Rattle.std.specs.Prelude.{◌≡◌, ◌≢◌, ◌<◌, ◌≤◌, ◌+◌, ◌↔◌, ◌⊎◌, IfOk, IsTrue, OnErr, OnOk};
     ghost use Rattle.tk_panel.specs.Panel.{others_of, panel_of};
     ghost use Rattle.tk_app.specs.declared.state.AppState.TheVariants.{Running};
     ghost use Rattle.tk_app.specs.Moments.{granted};
@@ -200,6 +200,7 @@ impl<M: AliasService> Runner<M> {
         requires rests { (self.old.work ≡ Rests) ⊎ (self.old.steps ≡ self.old.budget.total) }
         requires running { self.old.state ≡ Running }
         ensures ok { OnOk result (self.new ≡ record self.old { steps = granted self.old.budget self.old.steps }) }
+        ensures err { OnErr result (self.new ≡ self.old) }
     {
         match self.progress {
             Progress::Resting => {
@@ -223,7 +224,9 @@ impl<M: AliasService> Runner<M> {
         requires going { self.old.work ≢ Rests }
         ensures turn { IfOk result (λ end. TakesTurn M.answer tables.old.clock steps end (part_of (panel_of slot tables.old) self.old)
             (part_of (panel_of slot tables.new) self.new)) }
+        ensures budget { self.new.budget ≡ self.old.budget }
         ensures fewer { self.new.steps ≤ self.old.steps }
+        ensures most { self.old.steps ≤ self.new.steps + steps }
         ensures clock { tables.new.clock ≡ tables.old.clock }
         ensures others { others_of slot tables.new ≡ others_of slot tables.old }
     {

@@ -1,12 +1,12 @@
 //! What an application's turn and an event make of what it has.
-ghost use Rattle.std.specs.Prelude.{◌≡◌, ◌≢◌, ◌<◌, ◌≤◌, ◌+◌, ◌-◌, ◌++◌, IfOk, OnErr, OnOk, Ok};
+ghost use Rattle.std.specs.Prelude.{◌≡◌, ◌≢◌, ◌<◌, ◌≤◌, ◌+◌, ◌-◌, ◌++◌, ◌⊎◌, IfOk, OnErr, OnOk, Ok};
 ghost use Rattle.std.specs.Vec.{vec_capacity, vec_len};
 ghost use Rattle.tcl_interp.specs.Finish.{Broken, Idle, finish};
 ghost use Rattle.tcl_interp.specs.Interp.{LeavesRest, Reaches, budget_of, left_of, rest_of, state_of};
 ghost use Rattle.tk_panel.specs.Panel.{others_of, panel_of};
 ghost use Rattle.tk_app.specs.Rounds.{entry};
 ghost use Rattle.tk_app.specs.Outside.{outside};
-ghost use Rattle.tk_app.specs.Moments.{delivered};
+ghost use Rattle.tk_app.specs.Moments.{delivered, granted};
 ghost use Rattle.tk_app.specs.Part.{settling_begun};
 ghost use Rattle.tk_app.specs.Seen.{meanings};
 ghost use Rattle.tk_app.specs.Turns.{MayGet, TakesTurn, part_of};
@@ -19,7 +19,7 @@ use std::alloc::AllocError;
 use tcl_interp::{Interp, SliceEnd, Task};
 use tcl_vars::Scopes;
 use tk_alias::{AliasService, Aliases};
-use tk_keys::LocalEvent;
+use tk_base::LocalEvent;
 use tk_panel::{Job, Tables};
 
 /// Does what an interpreter still has to do, through the view of its application.
@@ -109,6 +109,9 @@ pub fn take_turn<M: AliasService>(
     ensures turn { IfOk result (λ end. TakesTurn M.answer tables.old.clock steps end (settling_begun (part_of (panel_of slot tables.old) runner.old))
         (part_of (panel_of slot tables.new) runner.new)) }
     ensures told { turns.new.items ≡ turns.old.items ++ entry slot (runner.old.steps - runner.new.steps) }
+    ensures budget { runner.new.budget ≡ runner.old.budget }
+    ensures fewer { runner.new.steps ≤ runner.old.steps }
+    ensures most { runner.old.steps ≤ runner.new.steps + steps }
     ensures clock { tables.new.clock ≡ tables.old.clock }
     ensures others { others_of slot tables.new ≡ others_of slot tables.old }
 {
@@ -139,6 +142,8 @@ fn deliver_running<M: AliasService>(
           application = delivered event
               (part_of (panel_of slot tables.old) runner.old).application;
         }) }
+    ensures budget { runner.new.budget ≡ runner.old.budget }
+    ensures steps { (runner.new.steps ≡ runner.old.steps) ⊎ (runner.new.steps ≡ granted runner.old.budget runner.old.steps) }
     ensures clock { tables.new.clock ≡ tables.old.clock }
     ensures others { others_of slot tables.new ≡ others_of slot tables.old }
 {
@@ -161,6 +166,8 @@ pub fn deliver<M: AliasService>(
           application = delivered event
               (part_of (panel_of slot tables.old) runner.old).application;
         }) }
+    ensures budget { runner.new.budget ≡ runner.old.budget }
+    ensures steps { (runner.new.steps ≡ runner.old.steps) ⊎ (runner.new.steps ≡ granted runner.old.budget runner.old.steps) }
     ensures clock { tables.new.clock ≡ tables.old.clock }
     ensures others { others_of slot tables.new ≡ others_of slot tables.old }
 {

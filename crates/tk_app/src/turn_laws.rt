@@ -3,7 +3,8 @@ ghost use Rattle.tk_app.specs.declared.turns.Turn.{Turn};
 ghost use Rattle.tk_app.specs.Passing.{brought};
 ghost use Rattle.tk_app.specs.Rounds.{round, turns_of};
 ghost use Rattle.tk_app.specs.Shares.{WaitsAtMost, steps_in, taken_by};
-ghost use Rattle.tk_app.specs.Stages.{IsAmong, IsOwnOfOne, Lightens, Quiets, Rises, passed_together, stage_moments, taken_at, turns_at, turns_to};
+ghost use Rattle.tk_app.specs.Stages.{turns_at};
+ghost use Rattle.tk_app.specs.Together.{IsAmong, IsOwnOfOne, Lightens, Quiets, Rises, passed_together, stage_moments, taken_at, turns_to};
 
 /// The turns of a stage are a first round and then those of a stage in which each needs a slice less.
 pub fn first_round_and_the_rest()

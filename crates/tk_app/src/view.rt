@@ -5,7 +5,7 @@ use crate::state::{AppEnd, AppState};
 use crate::turn::{deliver, take_turn};
 use std::alloc::{AllocError, Global};
 use tk_alias::AliasService;
-use tk_keys::LocalEvent;
+use tk_base::LocalEvent;
 
 /// All applications, as one of them is called.
 #[derive(Drop)]
@@ -31,7 +31,7 @@ impl<M: AliasService> AppView<'_, M> {
         ensures slot { self.new.slot ≡ self.old.slot }
         ensures same_reference { self.new.shared.ghost_name ≡ self.old.shared.ghost_name }
         ensures settled { IfOk result (λ end. SettlesSlot M.answer steps self.old.slot end self.old.shared.now self.new.shared.now) }
-        ensures only { ChangesOnly self.old.slot self.old.shared.now self.new.shared.now }
+        ensures only { ChangesOnly steps self.old.slot self.old.shared.now self.new.shared.now }
         ensures kept { OnOk result (self.new.shared.now.refused ≡ false) }
         ensures refused { OnErr result (self.new.shared.now.refused ≡ true) }
         ensures again { self.old.shared.now.refused ≡ true → IsErr result }

@@ -4,7 +4,7 @@ use Rattle.std.specs.Prelude.{nat_eq, filter, ◌==◌, sum, sum_by, if◌then�
 use Rattle.std.specs.List.{AllByRecursion, list_any}
 use Rattle.std.proofs.lemmas.Bool.{eqb-true}
 use Rattle.std.proofs.lemmas.List.Sums.{sum_by-cons}
-use Rattle.tk_keys.specs.declared.local_event.LocalEvent.{LocalEvent}
+use Rattle.tk_base.specs.declared.local_event.LocalEvent.{LocalEvent}
 use Rattle.tk_route.specs.declared.delivery.Delivery.{Delivery}
 use Rattle.tk_route.specs.Routes.{events_of}
 use Rattle.tk_app.specs.Stages.{settled_at, used_at}

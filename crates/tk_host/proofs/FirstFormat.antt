@@ -1,7 +1,7 @@
 -- Where nothing is refilled, events grant nothing.
 use Rattle.std.proofs.Common.{◌≡◌, ℕ, ◌+◌, ◌≤◌, min, List, [], ◌∷◌, refl, sym, ap, ◌∙◌, subst, arith}
 use Rattle.tk_base.specs.declared.budget.Budget.{Budget}
-use Rattle.tk_keys.specs.declared.local_event.LocalEvent.{LocalEvent}
+use Rattle.tk_base.specs.declared.local_event.LocalEvent.{LocalEvent}
 use Rattle.tk_app.specs.declared.state.AppState.{AppState}
 use Rattle.tk_app.specs.declared.state.AppState.TheVariants.{Running, Exhausted, Closed}
 use Rattle.tk_app.specs.Application.{Application}

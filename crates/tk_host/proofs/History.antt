@@ -4,7 +4,7 @@ use Rattle.std.proofs.lemmas.List.{map-append, append-nil, append_assoc, reverse
 use Rattle.std.proofs.lemmas.Option.{slice_get-map}
 use Rattle.std.specs.Prelude.{Some, Result, Ok, Err, OnOk, option_map, slice_get}
 use Rattle.tk_base.specs.declared.rect.Rect.{Rect}
-use Rattle.tk_keys.specs.declared.local_event.LocalEvent.{LocalEvent}
+use Rattle.tk_base.specs.declared.local_event.LocalEvent.{LocalEvent}
 use Rattle.tk_route.specs.Lines.{Line, at, values}
 use Rattle.tk_route.specs.Routes.{events_of, routed, routes}
 use Rattle.tk_route.specs.declared.delivery.Delivery.{Delivery}
@@ -234,7 +234,7 @@ module _ {M : Type 0} (answer : M → Meaning) where
       ∙ leads_on calls (End moment) (Finished moment) (lines_of calls) refl refl refl
 
   -- what is known is known by the lines
-  known_lines : (calls : List (Call M)) (before : ℕ) (old : Held M) → old ≡ held_after answer calls → old.phase ≡ Reached before → old.known ≡ values (first_rects calls) (lines_of calls)
+  pub known_lines : (calls : List (Call M)) (before : ℕ) (old : Held M) → old ≡ held_after answer calls → old.phase ≡ Reached before → old.known ≡ values (first_rects calls) (lines_of calls)
   known_lines calls before old held from = ap (λ (h : Held M). h.known) (was_in calls old (Reached before) held from)
 
   pub history_of_line : (calls : List (Call M)) (before moment : ℕ) (line : HostLine) (old new : Hosted M) → old.held ≡ held_after answer calls → old.held.phase ≡ Reached before → before ≤ moment
@@ -281,6 +281,14 @@ module _ {M : Type 0} (answer : M → Meaning) where
       let given : List Delivery = routes first lines (at moment line) in
       ap (λ (h : Hosted M). h.turns) (lined first lines (known_lines calls before old.held held from))
       ∙ ap (λ (h : Held M). turns_on_the_way answer old.slice moment (applications h.parts)
+      ++ turns_given answer old.slice (stages_of given) (map (passed answer moment) (applications h.parts))) held
+
+  -- the turns that a line would have had
+  pub whole_of_line : (calls : List (Call M)) (moment : ℕ) (line : HostLine) (old : Hosted M) → old.held ≡ held_after answer calls
+      → (after_line answer (first_rects calls) (lines_of calls) (at moment line) old).turns ≡ turns_after answer old.slice calls (LineAt moment line)
+  whole_of_line calls moment line old held =
+      let given : List Delivery = routes (first_rects calls) (lines_of calls) (at moment line) in
+      ap (λ (h : Held M). turns_on_the_way answer old.slice moment (applications h.parts)
       ++ turns_given answer old.slice (stages_of given) (map (passed answer moment) (applications h.parts))) held
 
   -- ── sections ──

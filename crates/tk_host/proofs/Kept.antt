@@ -2,7 +2,7 @@
 use Rattle.std.proofs.Common.{◌≡◌, ℕ, ◌+◌, ◌≤◌, Bool, true, false, cond, List, [], ◌∷◌, ◌++◌, map, refl, sym, ap, ◌∙◌, subst, arith}
 use Rattle.std.specs.Prelude.{filter, nat_eq, ◌==◌}
 use Rattle.tk_base.specs.declared.rect.Rect.{Rect}
-use Rattle.tk_keys.specs.declared.local_event.LocalEvent.{LocalEvent}
+use Rattle.tk_base.specs.declared.local_event.LocalEvent.{LocalEvent}
 use Rattle.tk_route.specs.Lines.{Line, values}
 use Rattle.tk_route.specs.Routes.{events_of, routes}
 use Rattle.tk_route.specs.Values.{Values}

@@ -1,8 +1,11 @@
 mod Apart
 mod Bounded
+pub mod BySettle
+mod Counts
 mod Cut
 mod Deliveries
 mod FirstFormat
+mod Fits
 mod History
 mod Kept
 mod Order

@@ -1,21 +1,23 @@
 -- The steps that an application takes, and those that are left.
-use Rattle.std.proofs.Common.{◌≡◌, ℕ, zero, suc, ◌+◌, ◌-◌, ◌*◌, ◌≤◌, min, Bool, true, false, List, [], ◌∷◌, length, refl, sym, ap, ◌∙◌, subst, arith}
-use Rattle.std.specs.Prelude.{if◌then◌else◌, sum_by}
+use Rattle.std.proofs.Common.{◌≡◌, ℕ, zero, suc, ◌+◌, ◌-◌, ◌*◌, ◌≤◌, min, Bool, true, false, Option, Some, None, List, [], ◌∷◌, length, refl, sym, ap, ◌∙◌, subst, arith}
+use Rattle.std.specs.Prelude.{if◌then◌else◌, nat_eq, sum_by}
 use Rattle.std.specs.List.{enumerate_from}
 use Rattle.std.proofs.Math.Nat.{suc-mul}
 use Rattle.std.proofs.lemmas.List.Sums.{sum_by-cons}
 use Rattle.tcl_interp.specs.Evaluation.{Outcome, Ended, OutOfSteps}
-use Rattle.tk_keys.specs.declared.local_event.LocalEvent.{LocalEvent}
+use Rattle.tk_base.specs.declared.local_event.LocalEvent.{LocalEvent}
 use Rattle.tk_app.specs.declared.state.AppState.{AppState}
 use Rattle.tk_app.specs.declared.state.AppState.TheVariants.{Running, Exhausted, Closed}
 use Rattle.tk_app.specs.Application.{Application, fresh, next_due}
-use Rattle.tk_app.specs.Moments.{after_outcome, delivered, delivered_as, settled, settled_as, started}
+use Rattle.tk_app.specs.Moments.{after_outcome, delivered, delivered_as, settled, settled_as, settled_by, started, started_by}
 use Rattle.tk_app.specs.Part.{Part, Rests, added, settling_begun, stage_done}
 use Rattle.tk_app.specs.Seen.{Meaning, Seen}
+use Rattle.tk_app.specs.Settle.{settle_meaning}
 use Rattle.tk_app.specs.Spec.{Spec}
+use Rattle.tk_app.specs.Stages.{settled_if}
 use Rattle.tk_app.proofs.Parts.{begins_with_script, settles_from_rest}
 use Rattle.tk_app.proofs.Slices.{done_within}
-use Rattle.tk_host.specs.Alone.{after_events, alone, at_moment, is_due, passed}
+use Rattle.tk_host.specs.Alone.{after_events, alone, at_moment, passed, passed_by}
 use Rattle.tk_host.specs.Used.{AllWithin, UsedAndLeft, before_event, granted_to, used, used_for}
 
 -- the budget stays, and steps only fall
@@ -37,10 +39,10 @@ budget_after (OutOfSteps left) application = refl
 
 module _ {M : Type 0} (answer : M → Meaning) where
   settled_budget : (moment : ℕ) (application : Application M) → (settled answer moment application).budget ≡ application.budget
-  unfolding settled
+  unfolding settled_by
   settled_budget moment application = by application.state
     where
-      by : (state : AppState) → (settled_as answer state moment application).budget ≡ application.budget
+      by : (state : AppState) → (settled_as answer settle_meaning state moment application).budget ≡ application.budget
       by Running = budget_after _ application
       by Exhausted = refl
       by Closed = refl
@@ -53,7 +55,7 @@ module _ {M : Type 0} (answer : M → Meaning) where
   }
 
   started_budget : (spec : Spec M) → (started answer 0 spec.script (fresh spec)).budget ≡ spec.budget
-  unfolding started
+  unfolding started_by
   started_budget spec = budget_after _ (fresh spec)
 
   started_keeps : (spec : Spec M) → Keeps (fresh spec) (started answer 0 spec.script (fresh spec))
@@ -63,14 +65,18 @@ module _ {M : Type 0} (answer : M → Meaning) where
   }
 
   at_moment_keeps : (moment : ℕ) (application : Application M) → Keeps application (at_moment answer moment application)
-  at_moment_keeps moment application = by (is_due moment (next_due application))
+  at_moment_keeps moment application = by (next_due application)
     where
-      by : (b : Bool) → Keeps application (if b then settled answer moment application else application)
-      by true = settled_keeps moment application
-      by false = record { budget = refl; steps = omega arith }
+      by_test : (b : Bool) → Keeps application (if b then settled answer moment application else application)
+      by_test true = settled_keeps moment application
+      by_test false = record { budget = refl; steps = omega arith }
+
+      by : (o : Option ℕ) → Keeps application (settled_if next_due (settled answer) o moment application)
+      by None = record { budget = refl; steps = omega arith }
+      by (Some due) = by_test (nat_eq due moment)
 
   passed_keeps : (last : ℕ) (application : Application M) → Keeps application (passed answer last application)
-  unfolding passed
+  unfolding passed_by
   passed_keeps zero application = at_moment_keeps 0 application
   passed_keeps (suc last) application =
       let before = passed_keeps last application in
@@ -116,6 +122,9 @@ module _ {M : Type 0} (answer : M → Meaning) where
   pub fits_before : (spec : Spec M) (event : LocalEvent) (earlier : List LocalEvent) → Fits spec (before_event answer spec event earlier)
   fits_before spec event earlier =
       kept_fits spec (after_events answer spec earlier) (before_event answer spec event earlier) (passed_keeps event.moment (after_events answer spec earlier)) (fits_alone spec earlier)
+
+  pub fits_alone_to : (spec : Spec M) (routed : List LocalEvent) (last : ℕ) → Fits spec (alone answer spec routed last)
+  fits_alone_to spec routed last = kept_fits spec (after_events answer spec routed) (alone answer spec routed last) (passed_keeps last (after_events answer spec routed)) (fits_alone spec routed)
 
   left_for : (spec : Spec M) (routed : List LocalEvent)
       → used_for answer spec routed + (after_events answer spec routed).steps ≡ spec.budget.total + granted_to answer spec routed

@@ -1,12 +1,14 @@
 -- Steps. From due moment to due moment, and how many there are at most.
-use Rattle.std.specs.Prelude.{◌≡◌, ℕ, suc}
+use Rattle.std.specs.Prelude.{◌≡◌, ℕ, suc, List}
 use Rattle.tk_app.specs.Passing.{brought}
+use Rattle.tk_app.specs.Together.{turns_to}
 use Rattle.tk_app.specs.declared.state.AppState.{AppState}
 use Rattle.tk_app.specs.declared.state.AppState.TheVariants.{Running, Exhausted, Closed}
 use Rattle.tk_app.specs.Application.{Application, next_due}
 use Rattle.tk_app.specs.Moments.{settled}
 use Rattle.tk_app.specs.Seen.{Meaning}
 use Rattle.tk_host.specs.Alone.{passed}
+use Rattle.tk_host.specs.Turns.{steps_left, turns_on_the_way}
 
 -- How many moments an application can still have at most: each takes a step, or is the last.
 abbrev pub weight_as : AppState → ℕ → ℕ
@@ -25,3 +27,8 @@ module _ {M : Type 0} (answer : M → Meaning) where
   -- The moments that come, one after another, are those at which something is due, the earliest first: in the others nothing is done.
   abbrev pub PassesByDues : Type 0
   PassesByDues = (last : ℕ) (application : Application M) → passed answer last application ≡ brought_by_dues last application
+
+  -- So are the turns on the way: in a moment at which nothing is due nobody has one.
+  abbrev pub TurnsByDues : Type 0
+  TurnsByDues = (slice last : ℕ) (apps : List (Application M))
+      → turns_on_the_way answer slice last apps ≡ turns_to next_due (settled answer) weight steps_left slice last apps

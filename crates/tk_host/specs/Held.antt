@@ -1,7 +1,7 @@
 -- Meaning. What a host holds, and what it holds after a list of calls.
 use Rattle.std.specs.Prelude.{ℕ, ◌+◌, List, [], ◌∷◌, ◌++◌, map}
 use Rattle.tk_base.specs.declared.rect.Rect.{Rect}
-use Rattle.tk_keys.specs.declared.local_event.LocalEvent.{LocalEvent}
+use Rattle.tk_base.specs.declared.local_event.LocalEvent.{LocalEvent}
 use Rattle.tk_route.specs.Lines.{Line, at, values}
 use Rattle.tk_route.specs.Routes.{routed, routes}
 use Rattle.tk_route.specs.Values.{Values}

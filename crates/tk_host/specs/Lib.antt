@@ -1,6 +1,7 @@
 -- What the contracts cite.
 pub mod Alone
 pub mod Bounds
+pub mod BySettle
 pub mod Cut
 pub mod Dues
 pub mod FirstFormat

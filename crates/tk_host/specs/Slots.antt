@@ -1,13 +1,16 @@
 -- Steps. What a step of a stage makes of the part in one slot.
-use Rattle.std.specs.Prelude.{◌≡◌, ◌+◌, ◌≤◌, ◌-◌, ◌++◌, ◌==◌, ℕ, Bool, true, false, List, [], ◌∷◌, Option, Some, None, slice_get, slice_set, min, if◌then◌else◌}
-use Rattle.tk_keys.specs.declared.local_event.LocalEvent.{LocalEvent}
+use Rattle.std.specs.Prelude.{◌≡◌, ◌+◌, ◌≤◌, ◌-◌, ◌++◌, ◌==◌, ℕ, Bool, true, false, List, [], ◌∷◌, Option, Some, None, IfSome, slice_get, slice_set, min, if◌then◌else◌}
+use Rattle.tk_base.specs.declared.local_event.LocalEvent.{LocalEvent}
 use Rattle.tk_route.specs.declared.delivery.Delivery.{Delivery}
 use Rattle.tk_app.specs.Rounds.{entry}
 use Rattle.tk_app.specs.Application.{next_due}
 use Rattle.tk_app.specs.Moments.{delivered}
 use Rattle.tk_app.specs.Part.{Part, Rests, needs, settling_begun, stage_done}
 use Rattle.tk_app.specs.Seen.{Meaning}
+use Rattle.tk_app.specs.Shares.{taken_by}
 use Rattle.tk_app.specs.Turns.{Applications}
+use Rattle.tk_base.specs.declared.budget.Budget.{Budget}
+use Rattle.tk_host.specs.Cut.{budget_in, left_in}
 
 -- a part after a stage at a moment began: where something is due of it then, it begins to settle
 abbrev pub begun_by : {M : Type 0} → Option ℕ → ℕ → Part M → Part M
@@ -36,6 +39,15 @@ pub record TakesTurn {M : Type 0} (answer : M → Meaning) (slice slot : ℕ) (a
   pub more : again ≡ true → slice ≤ needs answer old.moment before
   pub moment : new.moment ≡ old.moment
 
+-- The steps that a slot has left and those that are told of its turns are as many as before: none is granted, and none forgotten.
+pub record CountsIn {M : Type 0} (slot : ℕ) (old new : Applications M) : Type 0 where
+  pub told : taken_by slot new.turns + left_in slot new.parts ≡ taken_by slot old.turns + left_in slot old.parts
+  pub fewer : left_in slot new.parts ≤ left_in slot old.parts
+  pub budget : budget_in slot new.parts ≡ budget_in slot old.parts
+
+abbrev pub CountsAll : {M : Type 0} → Applications M → Applications M → Type 0
+CountsAll old new = (slot : ℕ) → CountsIn slot old new
+
 -- ── events ──
 
 -- a part to which an event was given, and which begins to settle
@@ -51,6 +63,18 @@ given_from slot delivery (part ∷ parts) =
 -- who is given an event has nothing under way
 abbrev pub RestsIn : {M : Type 0} → ℕ → List (Part M) → Type 0
 RestsIn {M} slot parts = (part : Part M) → slice_get parts slot ≡ Some part → part.work ≡ Rests
+
+-- a slot has at most its total left
+abbrev pub FitsIn : {M : Type 0} → ℕ → List (Part M) → Type 0
+FitsIn slot parts = IfSome (budget_in slot parts) (λ (budget : Budget). left_in slot parts ≤ budget.total)
+
+-- so it has then, and none of its steps is forgotten; events may have granted some
+pub record KeepsIn {M : Type 0} (slot : ℕ) (old new : Applications M) : Type 0 where
+  pub fits : FitsIn slot new.parts
+  pub told : taken_by slot old.turns + left_in slot old.parts ≤ taken_by slot new.turns + left_in slot new.parts
+
+abbrev pub KeepsAll : {M : Type 0} → Applications M → Applications M → Type 0
+KeepsAll old new = (slot : ℕ) → FitsIn slot old.parts → KeepsIn slot old new
 
 -- the deliveries are of this moment
 abbrev pub AreAt : ℕ → List Delivery → Type 0

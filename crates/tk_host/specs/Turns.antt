@@ -1,19 +1,18 @@
 -- Meaning. The turns of the calls that run applications.
-use Rattle.std.specs.Prelude.{ℕ, ◌+◌, ◌-◌, ◌==◌, List, [], ◌∷◌, ◌++◌, map, if◌then◌else◌}
+use Rattle.std.specs.Prelude.{ℕ, zero, suc, ◌+◌, ◌-◌, ◌==◌, List, [], ◌∷◌, ◌++◌, map, if◌then◌else◌}
 use Rattle.std.specs.List.{list_any}
-use Rattle.tk_keys.specs.declared.local_event.LocalEvent.{LocalEvent}
+use Rattle.tk_base.specs.declared.local_event.LocalEvent.{LocalEvent}
 use Rattle.tk_route.specs.declared.delivery.Delivery.{Delivery}
 use Rattle.tk_route.specs.Routes.{events_of}
 use Rattle.tk_app.specs.declared.turns.Turn.{Turn}
 use Rattle.tk_app.specs.Rounds.{turns_of}
-use Rattle.tk_app.specs.Stages.{turns_to}
+use Rattle.tk_app.specs.Stages.{turns_at}
 use Rattle.tk_app.specs.Application.{Application, fresh, next_due}
 use Rattle.tk_app.specs.Moments.{delivered, settled, started}
 use Rattle.tk_app.specs.Part.{Part, needs}
 use Rattle.tk_app.specs.Seen.{Meaning}
 use Rattle.tk_app.specs.Spec.{Spec}
-use Rattle.tk_host.specs.Alone.{after_event}
-use Rattle.tk_host.specs.Dues.{weight}
+use Rattle.tk_host.specs.Alone.{after_event, passed}
 
 -- The stages of what a line gives: one for the events of different applications; a second event of the same application is a stage of its own.
 abbrev pub joined : Delivery → List (List Delivery) → List (List Delivery)
@@ -37,10 +36,12 @@ module _ {M : Type 0} (answer : M → Meaning) where
   abbrev pub turns_at_start : ℕ → List (Part M) → List Turn
   turns_at_start slice parts = turns_of slice (map (needs answer 0) parts)
 
-  -- The turns on the way to a moment, of applications in which nothing is under way: a stage for each moment up to it at which something is due of
-  -- one of them.
-  abbrev pub turns_on_the_way : ℕ → ℕ → List (Application M) → List Turn
-  turns_on_the_way slice moment apps = turns_to next_due (settled answer) weight steps_left slice moment apps
+  -- The turns on the way to a moment, of applications in which nothing is under way: the moments up to it come one after another, from 0 on, and each
+  -- has a stage of those of which something is due then. Where nothing is, nobody takes a step, and so has no turn.
+  unfoldable pub turns_on_the_way : ℕ → ℕ → List (Application M) → List Turn
+  turns_on_the_way slice zero apps = turns_at next_due (settled answer) steps_left slice zero apps
+  turns_on_the_way slice (suc moment) apps =
+      turns_on_the_way slice moment apps ++ turns_at next_due (settled answer) steps_left slice (suc moment) (map (passed answer moment) apps)
 
   -- how many steps the script of an application takes, with what comes of it at moment 0
   abbrev pub steps_at_start : Spec M → ℕ

@@ -1,7 +1,7 @@
 -- Meaning. The steps that an application by itself takes, and those that it is granted.
 use Rattle.std.specs.Prelude.{◌≡◌, ℕ, ◌+◌, ◌-◌, ◌*◌, ◌≤◌, List, [], ◌∷◌, length, sum_by}
 use Rattle.std.specs.List.{enumerate_from}
-use Rattle.tk_keys.specs.declared.local_event.LocalEvent.{LocalEvent}
+use Rattle.tk_base.specs.declared.local_event.LocalEvent.{LocalEvent}
 use Rattle.tk_app.specs.Application.{Application, fresh}
 use Rattle.tk_app.specs.Moments.{delivered, started}
 use Rattle.tk_app.specs.Seen.{Meaning}

@@ -6,7 +6,7 @@ ghost use Rattle.tk_route.specs.Routes.{deliveries};
 ghost use Rattle.tk_host.specs.Cut.{IsCutShort};
 ghost use Rattle.tk_host.specs.Held.{at_rest};
 ghost use Rattle.tk_host.specs.Ready.{AllRest};
-ghost use Rattle.tk_host.specs.Slots.{AreAt, RestsIn, given_from};
+ghost use Rattle.tk_host.specs.Slots.{AreAt, KeepsAll, RestsIn, given_from};
 ghost use Rattle.tk_host.specs.Turns.{after_given, applications, stages_of, turns_given};
 
 use crate::stages::{begin_settling, stage};
@@ -28,8 +28,9 @@ pub fn deliver_all<M: AliasService>(
     ensures parts { OnOk result (shared.new.parts ≡ map at_rest (after_given M.answer 0 (deliveries routed) (applications shared.old.parts))) }
     ensures turns { OnOk result (shared.new.turns
         ≡ shared.old.turns ++ turns_given M.answer slice (stages_of (deliveries routed)) (applications shared.old.parts)) }
-    ensures cut { OnErr result (IsCutShort
+    ensures cut { OnErr result (IsCutShort slice
         (shared.old.turns ++ turns_given M.answer slice (stages_of (deliveries routed)) (applications shared.old.parts)) shared.new.turns) }
+    ensures keeps { KeepsAll shared.old shared.new }
 {
     match routed {
         Routed::Nobody => Ok(()),
@@ -56,8 +57,9 @@ fn deliver_one<M: AliasService>(
     ensures moment { OnOk result (shared.new.moment ≡ shared.old.moment) }
     ensures parts { OnOk result (shared.new.parts ≡ map at_rest (after_given M.answer 0 (only ∷ []) (applications shared.old.parts))) }
     ensures turns { OnOk result (shared.new.turns ≡ shared.old.turns ++ turns_given M.answer slice (stages_of (only ∷ [])) (applications shared.old.parts)) }
-    ensures cut { OnErr result (IsCutShort
+    ensures cut { OnErr result (IsCutShort slice
         (shared.old.turns ++ turns_given M.answer slice (stages_of (only ∷ [])) (applications shared.old.parts)) shared.new.turns) }
+    ensures keeps { KeepsAll shared.old shared.new }
 {
     give(shared, only)?;
     stage(shared, slice)
@@ -79,8 +81,9 @@ fn deliver_twice<M: AliasService>(
     ensures parts { OnOk result (shared.new.parts ≡ map at_rest (after_given M.answer 0 (first ∷ second ∷ []) (applications shared.old.parts))) }
     ensures turns { OnOk result (shared.new.turns
         ≡ shared.old.turns ++ turns_given M.answer slice (stages_of (first ∷ second ∷ [])) (applications shared.old.parts)) }
-    ensures cut { OnErr result (IsCutShort
+    ensures cut { OnErr result (IsCutShort slice
         (shared.old.turns ++ turns_given M.answer slice (stages_of (first ∷ second ∷ [])) (applications shared.old.parts)) shared.new.turns) }
+    ensures keeps { KeepsAll shared.old shared.new }
 {
     deliver_one(shared, first, slice)?;
     deliver_one(shared, second, slice)
@@ -102,8 +105,9 @@ fn deliver_both<M: AliasService>(
     ensures parts { OnOk result (shared.new.parts ≡ map at_rest (after_given M.answer 0 (first ∷ second ∷ []) (applications shared.old.parts))) }
     ensures turns { OnOk result (shared.new.turns
         ≡ shared.old.turns ++ turns_given M.answer slice (stages_of (first ∷ second ∷ [])) (applications shared.old.parts)) }
-    ensures cut { OnErr result (IsCutShort
+    ensures cut { OnErr result (IsCutShort slice
         (shared.old.turns ++ turns_given M.answer slice (stages_of (first ∷ second ∷ [])) (applications shared.old.parts)) shared.new.turns) }
+    ensures keeps { KeepsAll shared.old shared.new }
 {
     give(shared, first)?;
     give(shared, second)?;
@@ -116,6 +120,7 @@ fn give<M: AliasService>(shared: &mut Shared<M>, delivery: Delivery) -> Result<(
     requires rests { RestsIn delivery.slot shared.old.parts }
     ensures given { OnOk result (shared.new ≡ record shared.old { parts = given_from 0 delivery shared.old.parts }) }
     ensures turns { shared.new.turns ≡ shared.old.turns }
+    ensures keeps { KeepsAll shared.old shared.new }
 {
     if delivery.slot >= shared.len() {
         return Ok(());
@@ -135,6 +140,7 @@ fn deliver<M: AliasService>(
     requires rests { RestsIn slot shared.old.parts }
     ensures delivered { OnOk result (DeliversIn slot event shared.old shared.new) }
     ensures turns { shared.new.turns ≡ shared.old.turns }
+    ensures keeps { KeepsAll shared.old shared.new }
 {
     let mut view = shared.view(slot);
     view.deliver(event)

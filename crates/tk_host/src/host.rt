@@ -49,7 +49,7 @@ impl<M: AliasService> Host<M> {
     ghost use Rattle.std.specs.Prelude.{◌≡◌, ◌≢◌, ◌≤◌, ℕ, List, [], ◌∷◌, ◌++◌, map, slice_get, Some, IfOk, IfErr, OnOk, OnErr, MatchResult};
     ghost use Rattle.tk_app.specs.Section.{section};
     ghost use Rattle.tk_base.specs.declared.rect.Rect.{Rect};
-    ghost use Rattle.tk_host.specs.Cut.{CutBy, IsCutShort};
+    ghost use Rattle.tk_host.specs.Cut.{CutBy, CutByLine, IsCutShort, TellsAtLeast};
     ghost use Rattle.tk_route.specs.Lines.{Line, at, values};
     ghost use Rattle.tk_host.specs.Held.{AddApp, AdvanceTo, Call, End, LineAt, Start, after_advance, after_end, after_line, after_start, gone_to, held_after, turns_after, with_app};
     ghost use Rattle.tk_host.specs.Ready.{IsAt};
@@ -117,7 +117,8 @@ impl<M: AliasService> Host<M> {
             OnOk result (self.new.held ≡ held_after M.answer (calls ++ Start ∷ [])) }
         ensures turns { (calls : List (Call M)) → self.old.held ≡ held_after M.answer calls →
             OnOk result (self.new.turns ≡ turns_after M.answer self.old.slice calls Start) }
-        ensures cut { IfErr result (λ fault. CutBy fault (after_start M.answer self.old).turns self.new.turns) }
+        ensures cut { (calls : List (Call M)) → self.old.held ≡ held_after M.answer calls →
+            IfErr result (λ fault. CutBy fault (turns_after M.answer self.old.slice calls Start) self.old self.new) }
     {
         match self.phase {
             Phase::Adding => {}
@@ -149,8 +150,8 @@ impl<M: AliasService> Host<M> {
             OnOk result (self.new.held ≡ held_after M.answer (calls ++ LineAt moment line ∷ [])) }
         ensures turns { (calls : List (Call M)) → self.old.held ≡ held_after M.answer calls →
             OnOk result (self.new.turns ≡ turns_after M.answer self.old.slice calls (LineAt moment line)) }
-        ensures cut { (first : List Rect) (earlier : List Line) → self.old.held.known ≡ values first earlier
-            → IfErr result (λ fault. CutBy fault (after_line M.answer first earlier (at moment line) self.old).turns self.new.turns) }
+        ensures cut { (calls : List (Call M)) → self.old.held ≡ held_after M.answer calls →
+            IfErr result (λ fault. CutByLine fault (turns_after M.answer self.old.slice calls (LineAt moment line)) self.old self.new) }
     {
         self.may_take(moment, &line)?;
         self.tested_line(moment, line)?;
@@ -170,8 +171,9 @@ impl<M: AliasService> Host<M> {
             OnOk result (self.new.held ≡ held_after M.answer (calls ++ LineAt moment line ∷ [])) }
         ensures turns { (calls : List (Call M)) → self.old.held ≡ held_after M.answer calls →
             OnOk result (self.new.turns ≡ turns_after M.answer self.old.slice calls (LineAt moment line)) }
-        ensures cut { (first : List Rect) (earlier : List Line) → self.old.held.known ≡ values first earlier
-            → OnErr result (IsCutShort (after_line M.answer first earlier (at moment line) self.old).turns self.new.turns) }
+        ensures cut { (calls : List (Call M)) → self.old.held ≡ held_after M.answer calls →
+            OnErr result (IsCutShort self.old.slice (turns_after M.answer self.old.slice calls (LineAt moment line)) self.new.turns
+            × TellsAtLeast self.new.turns self.old.held.parts self.new.held.parts) }
     {
         let routed = self.router.tested_line(moment, line);
         self.phase = Phase::Lost;
@@ -197,7 +199,8 @@ impl<M: AliasService> Host<M> {
             OnOk result (self.new.held ≡ held_after M.answer (calls ++ AdvanceTo moment ∷ [])) }
         ensures turns { (calls : List (Call M)) → self.old.held ≡ held_after M.answer calls →
             OnOk result (self.new.turns ≡ turns_after M.answer self.old.slice calls (AdvanceTo moment)) }
-        ensures cut { IfErr result (λ fault. CutBy fault (after_advance M.answer moment self.old).turns self.new.turns) }
+        ensures cut { (calls : List (Call M)) → self.old.held ≡ held_after M.answer calls →
+            IfErr result (λ fault. CutBy fault (turns_after M.answer self.old.slice calls (AdvanceTo moment)) self.old self.new) }
     {
         self.go_to(moment, Phase::Reached(moment))
     }
@@ -214,7 +217,8 @@ impl<M: AliasService> Host<M> {
             OnOk result (self.new.held ≡ held_after M.answer (calls ++ End moment ∷ [])) }
         ensures turns { (calls : List (Call M)) → self.old.held ≡ held_after M.answer calls →
             OnOk result (self.new.turns ≡ turns_after M.answer self.old.slice calls (End moment)) }
-        ensures cut { IfErr result (λ fault. CutBy fault (after_end M.answer moment self.old).turns self.new.turns) }
+        ensures cut { (calls : List (Call M)) → self.old.held ≡ held_after M.answer calls →
+            IfErr result (λ fault. CutBy fault (turns_after M.answer self.old.slice calls (End moment)) self.old self.new) }
     {
         self.go_to(moment, Phase::Finished(moment))
     }
@@ -257,7 +261,7 @@ impl<M: AliasService> Host<M> {
         requires begun { self.old.held.phase ≢ Phase.Adding }
         requires there { IsAt moment phase }
         ensures gone { OnOk result (self.new ≡ gone_to M.answer phase moment self.old) }
-        ensures cut { IfErr result (λ fault. CutBy fault (gone_to M.answer phase moment self.old).turns self.new.turns) }
+        ensures cut { IfErr result (λ fault. CutBy fault (gone_to M.answer phase moment self.old).turns self.old self.new) }
         ensures unless { OnOk result (NoneApplies (RefusesMoment self.old.held moment) moment_faults) }
         ensures refused { IfErr result (IsRefusal (RefusesMoment self.old.held moment) moment_faults) }
         ensures left { IfErr result (λ fault. LeftBy fault self.old self.new) }

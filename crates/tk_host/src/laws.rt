@@ -1,5 +1,6 @@
 ghost use Rattle.tk_host.specs.Bounds.{BoundedStages};
-ghost use Rattle.tk_host.specs.Dues.{PassesByDues};
+ghost use Rattle.tk_host.specs.BySettle.{AloneBySettle};
+ghost use Rattle.tk_host.specs.Dues.{PassesByDues, TurnsByDues};
 ghost use Rattle.tk_host.specs.FirstFormat.{AloneWithoutRefills};
 ghost use Rattle.tk_host.specs.Refusals.{OneRefusal};
 ghost use Rattle.tk_host.specs.Sections.{EachByItself};
@@ -27,6 +28,17 @@ pub fn bounded_stages<M: AliasMeaning>()
 /// nothing is to be done.
 pub fn passes_by_dues<M: AliasMeaning>()
     ensures { PassesByDues M.answer }
+{}
+
+/// So are the turns on the way told: they are those of the due moments' stages, the earliest first, and between them nobody has one.
+pub fn turns_by_dues<M: AliasMeaning>()
+    ensures { TurnsByDues M.answer }
+{}
+
+/// An application by itself comes to the same by anything that meets the equation of *Settle* (the first item that exists of a queued event, a due
+/// timer, a layout that changes something and a round of idle scripts, and *Settle* again): no other part of it rests on the job that does it.
+pub fn alone_by_settle<M: AliasMeaning>()
+    ensures { AloneBySettle M.answer }
 {}
 
 /// An application by itself: the steps that it has taken and those that are left are its total and those that its events granted, which are at

@@ -10,8 +10,8 @@ mod stages;
 
 pub use host::Host;
 pub use laws::{
-    all_within, alone_without_refills, bounded_stages, each_by_itself, one_refusal, passes_by_dues,
-    used_and_left,
+    all_within, alone_by_settle, alone_without_refills, bounded_stages, each_by_itself,
+    one_refusal, passes_by_dues, turns_by_dues, used_and_left,
 };
 pub use phase::Phase;
 pub use tk_alias::{MAX_ALIASES, is_command_name};

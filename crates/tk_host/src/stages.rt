@@ -1,7 +1,7 @@
 //! Stages: what all applications do at one moment, in turns of slices, and the way from stage to stage.
 
-ghost use Rattle.std.specs.Prelude.{◌≡◌, ◌-◌, ◌≤◌, ◌<◌, ◌++◌, map, length, true, false, Ok, OnOk, OnErr, IfOk, sum_by};
-ghost use Rattle.tk_app.specs.Rounds.{round, turns_of};
+ghost use Rattle.std.specs.Prelude.{◌≡◌, ◌-◌, ◌≤◌, ◌<◌, ◌++◌, ℕ, map, length, true, false, Ok, OnOk, OnErr, IfOk, sum_by};
+ghost use Rattle.tk_app.specs.Rounds.{entry, round, turns_of};
 ghost use Rattle.tk_app.specs.Stages.{IsPast, first_due};
 ghost use Rattle.tk_app.specs.Application.{next_due};
 ghost use Rattle.tk_app.specs.Moments.{settled};
@@ -10,7 +10,7 @@ ghost use Rattle.tk_app.specs.Turns.{BeginsIn};
 ghost use Rattle.tk_host.specs.Alone.{passed};
 ghost use Rattle.tk_host.specs.Cut.{IsCutShort};
 ghost use Rattle.tk_host.specs.Ready.{AllRest};
-ghost use Rattle.tk_host.specs.Slots.{BeginsAt, TakesTurn, begun_at};
+ghost use Rattle.tk_host.specs.Slots.{BeginsAt, CountsAll, TakesTurn, begun_at};
 ghost use Rattle.tk_host.specs.Turns.{applications, turns_on_the_way};
 ghost use Rattle.tk_base.specs.Limits.{last_moment};
 
@@ -34,7 +34,8 @@ pub fn advance<M: AliasService>(
     ensures through { OnOk result (IsPast target (first_due next_due (settled M.answer) (applications shared.new.parts))) }
     ensures ahead { OnOk result (shared.new.moment ≤ target) }
     ensures turns { OnOk result (shared.new.turns ≡ shared.old.turns ++ turns_on_the_way M.answer slice target (applications shared.old.parts)) }
-    ensures cut { OnErr result (IsCutShort (shared.old.turns ++ turns_on_the_way M.answer slice target (applications shared.old.parts)) shared.new.turns) }
+    ensures cut { OnErr result (IsCutShort slice (shared.old.turns ++ turns_on_the_way M.answer slice target (applications shared.old.parts)) shared.new.turns) }
+    ensures counts { CountsAll shared.old shared.new }
 {
     'moments: while let Some(due) = next_due(shared) {
         if due > target {
@@ -63,6 +64,7 @@ fn begin_all<M: AliasService>(shared: &mut Shared<M>, moment: u64) -> Result<(),
     requires { shared.old.moment ≡ moment }
     ensures begun { OnOk result (shared.new ≡ record shared.old { parts = map (begun_at moment) shared.old.parts }) }
     ensures turns { shared.new.turns ≡ shared.old.turns }
+    ensures counts { CountsAll shared.old shared.new }
 {
     for slot in 0..shared.len() {
         begin(shared, slot, moment)?;
@@ -80,6 +82,7 @@ fn begin<M: AliasService>(
     requires moment { shared.old.moment ≡ moment }
     ensures begun { OnOk result (BeginsAt moment slot shared.old shared.new) }
     ensures turns { shared.new.turns ≡ shared.old.turns }
+    ensures counts { CountsAll shared.old shared.new }
 {
     let Some(due) = shared.next_due(slot) else {
         return Ok(());
@@ -98,6 +101,7 @@ pub fn begin_settling<M: AliasService>(
     requires { slot < length shared.old.parts }
     ensures begun { OnOk result (BeginsIn slot shared.old shared.new) }
     ensures turns { shared.new.turns ≡ shared.old.turns }
+    ensures counts { CountsAll shared.old shared.new }
 {
     let mut view = shared.view(slot);
     view.begin_settling()
@@ -109,7 +113,8 @@ pub fn stage<M: AliasService>(shared: &mut Shared<M>, slice: u64) -> Result<(), 
     ensures moment { OnOk result (shared.new.moment ≡ shared.old.moment) }
     ensures done { OnOk result (shared.new.parts ≡ map (stage_done M.answer shared.old.moment) shared.old.parts) }
     ensures turns { OnOk result (shared.new.turns ≡ shared.old.turns ++ turns_of slice (map (needs M.answer shared.old.moment) shared.old.parts)) }
-    ensures cut { OnErr result (IsCutShort (shared.old.turns ++ turns_of slice (map (needs M.answer shared.old.moment) shared.old.parts)) shared.new.turns) }
+    ensures cut { OnErr result (IsCutShort slice (shared.old.turns ++ turns_of slice (map (needs M.answer shared.old.moment) shared.old.parts)) shared.new.turns) }
+    ensures counts { CountsAll shared.old shared.new }
 {
     let mut more = true;
     'rounds: while more {
@@ -126,7 +131,8 @@ fn run_round<M: AliasService>(shared: &mut Shared<M>, slice: u64) -> Result<bool
     ensures left { OnOk result (map (needs M.answer shared.old.moment) shared.new.parts
         ≡ map (λ need. need - slice) (map (needs M.answer shared.old.moment) shared.old.parts)) }
     ensures turns { OnOk result (shared.new.turns ≡ shared.old.turns ++ round slice (map (needs M.answer shared.old.moment) shared.old.parts) 0) }
-    ensures cut { OnErr result (IsCutShort (shared.old.turns ++ round slice (map (needs M.answer shared.old.moment) shared.old.parts) 0) shared.new.turns) }
+    ensures cut { OnErr result (IsCutShort slice (shared.old.turns ++ round slice (map (needs M.answer shared.old.moment) shared.old.parts) 0) shared.new.turns) }
+    ensures counts { CountsAll shared.old shared.new }
     ensures last { result ≡ Ok false → shared.new.parts ≡ map (stage_done M.answer shared.old.moment) shared.old.parts }
     ensures falls { result ≡ Ok true → sum_by (needs M.answer shared.old.moment) shared.new.parts < sum_by (needs M.answer shared.old.moment) shared.old.parts }
 {
@@ -147,7 +153,8 @@ fn take_turn<M: AliasService>(
     requires slot { slot < length shared.old.parts }
     requires slice { 0 < slice }
     ensures taken { IfOk result (λ again. TakesTurn M.answer slice slot again shared.old shared.new) }
-    ensures cut { OnErr result (IsCutShort shared.old.turns shared.new.turns) }
+    ensures cut { OnErr result ((next : ℕ) → IsCutShort slice (shared.old.turns ++ entry slot next) shared.new.turns) }
+    ensures counts { CountsAll shared.old shared.new }
 {
     if !shared.is_under_way(slot) {
         return Ok(false);

@@ -1,19 +1,22 @@
 -- The sections of what was played are those of the session.
 use Rattle.std.proofs.Common.{◌≡◌, ◌≢◌, ℕ, zero, suc, ◌+◌, ◌<◌, List, [], ◌∷◌, ◌++◌, length, take, map, Some, refl, sym, ◌∙◌, ap, arith, append_assoc, append-nil}
 use Rattle.std.specs.Prelude.{slice_get, flat_map}
+use Rattle.std.specs.List.{enumerate_from}
 use Rattle.std.proofs.lemmas.Option.{none-some, same_Some}
 use Rattle.tk_base.specs.declared.rect.Rect.{Rect}
-use Rattle.tk_keys.specs.declared.local_event.LocalEvent.{LocalEvent}
+use Rattle.tk_base.specs.declared.local_event.LocalEvent.{LocalEvent}
 use Rattle.tk_route.specs.Lines.{Line}
 use Rattle.tk_route.specs.Routes.{routed}
+use Rattle.tk_app.specs.Dispatch.{Continuation}
 use Rattle.tk_app.specs.Part.{Part}
 use Rattle.tk_app.specs.Section.{section}
 use Rattle.tk_app.specs.Seen.{Meaning}
+use Rattle.tk_app.specs.Settle.{IsSettle}
 use Rattle.tk_app.specs.Spec.{Spec}
 use Rattle.tk_route.specs.declared.fault.LineFault.TheVariants.{Broken}
 use Rattle.tk_host.specs.declared.phase.Phase.{Phase}
 use Rattle.tk_host.specs.declared.phase.Phase.TheVariants.{Adding, Reached, Finished, Lost}
-use Rattle.tk_host.specs.Alone.{alone}
+use Rattle.tk_host.specs.Alone.{alone, alone_by}
 use Rattle.tk_host.specs.Held.{Held, held_after, parts_in}
 use Rattle.tk_route.specs.Refusals.{NoneApplies}
 use Rattle.tk_host.specs.Refusals.{RefusesSection, PhaseRefuses, section_faults}
@@ -21,7 +24,8 @@ use Rattle.tk_host.specs.Spec.{rect_of}
 use Rattle.tk_session.specs.Session.{Plan, newest_first, rects_of}
 use Rattle.tk_session.specs.declared.session.AppBlock.{AppBlock}
 use Rattle.tkhost.specs.Calls.{calls_of, sections_from}
-use Rattle.tkhost.specs.Play.{SameBytes, Serve, sections_of, spec_of, specs_of}
+use Rattle.tk_host.proofs.BySettle.{alone_by_settle}
+use Rattle.tkhost.specs.Play.{SameBytes, Serve, sections_by, sections_of, spec_of, specs_of}
 use Rattle.tkhost.proofs.Adds.{givens, givens-rects}
 use Rattle.tkhost.proofs.Happens.{held-played}
 
@@ -79,6 +83,23 @@ module _ {M : Type 0} (answer : M → Meaning) where
       ap (λ (h : Held M). flat_map section_of h.parts) (is ∙ held-played answer plan.apps lists plan.events plan.end)
       ∙ told_from plan.end (map rect_of (givens plan.apps lists)) (newest_first plan.events) 0 plan.apps lists
       ∙ ap (λ first. flat_map (λ bytes. bytes) (sections_from answer plan.end first (newest_first plan.events) 0 (specs_of plan.apps lists))) (givens-rects plan.apps lists serve)
+
+  -- ── by the equation of *Settle* ──
+
+  module _ (settle : Continuation) (meets : IsSettle settle) where
+    same_in : (plan : Plan) (specs : List (ℕ × Spec M))
+        → map (λ (numbered : ℕ × Spec M). section (alone answer numbered.1 (routed (rects_of plan.apps) (newest_first plan.events) numbered.0) plan.end)) specs
+        ≡ map (λ (numbered : ℕ × Spec M). section (alone_by answer settle numbered.1 (routed (rects_of plan.apps) (newest_first plan.events) numbered.0) plan.end)) specs
+    same_in plan [] = refl
+    same_in plan (numbered ∷ specs) =
+        let events = routed (rects_of plan.apps) (newest_first plan.events) numbered.0 in
+        ap
+        (λ application. section application ∷ map (λ (other : ℕ × Spec M). section (alone answer other.1 (routed (rects_of plan.apps) (newest_first plan.events) other.0) plan.end)) specs)
+        (alone_by_settle answer settle meets numbered.1 events plan.end)
+        ∙ ap (λ rest. section (alone_by answer settle numbered.1 events plan.end) ∷ rest) (same_in plan specs)
+
+    pub sections_same : (plan : Plan) (lists : List (List (List ℕ × M))) → sections_of answer plan lists ≡ sections_by answer settle plan lists
+    sections_same plan lists = ap (λ sections. flat_map (λ bytes. bytes) sections) (same_in plan (enumerate_from 0 (specs_of plan.apps lists)))
 
   -- ── two sessions ──
 

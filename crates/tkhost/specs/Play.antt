@@ -1,13 +1,15 @@
--- Meaning. What is written of a session: the theorem of the project stands on `sections_of`.
+-- Meaning. What is written of a session: the theorem of the project stands on `sections_by`.
 use Rattle.std.specs.Prelude.{◌≡◌, ℕ, List, [], ◌∷◌, map, flat_map, slice_get, Some}
 use Rattle.std.specs.List.{enumerate_from}
 use Rattle.tk_route.specs.Routes.{routed}
 use Rattle.tk_alias.specs.Replies.{IsReply}
 use Rattle.tk_alias.specs.declared.reply.AliasReply.{AliasReply}
+use Rattle.tk_app.specs.Dispatch.{Continuation}
 use Rattle.tk_app.specs.Section.{section}
 use Rattle.tk_app.specs.Seen.{Meaning, names_of}
+use Rattle.tk_app.specs.Settle.{settle_meaning}
 use Rattle.tk_app.specs.Spec.{Spec}
-use Rattle.tk_host.specs.Alone.{alone}
+use Rattle.tk_host.specs.Alone.{alone_by}
 use Rattle.tk_alias.specs.Services.{answer_of}
 use Rattle.tk_alias.specs.declared.service.Service.{Service}
 use Rattle.tk_alias.specs.declared.service.ServiceKind.{ServiceKind}
@@ -49,16 +51,25 @@ module _ {M : Type 0} where
   specs_of (app ∷ apps) (aliases ∷ lists) = spec_of app aliases ∷ specs_of apps lists
 
 module _ {M : Type 0} (answer : M → Meaning) where
-  -- The section of each application of a session, in their order: that of the application by itself, with its own aliases and the events that are routed
-  -- to its slot, up to the session's end.
-  abbrev pub sections_in : Plan → List (List (List ℕ × M)) → List (List ℕ)
-  sections_in plan lists =
-      map (λ (numbered : ℕ × Spec M). section (alone answer numbered.1 (routed (rects_of plan.apps) (newest_first plan.events) numbered.0) plan.end))
-      (enumerate_from 0 (specs_of plan.apps lists))
+  -- by what *Settle* is
+  module _ (settle : Continuation) where
+    -- The section of each application of a session, in their order: that of the application by itself, with its own aliases and the events that are
+    -- routed to its slot, up to the session's end.
+    abbrev pub sections_in_by : Plan → List (List (List ℕ × M)) → List (List ℕ)
+    sections_in_by plan lists =
+        map (λ (numbered : ℕ × Spec M). section (alone_by answer settle numbered.1 (routed (rects_of plan.apps) (newest_first plan.events) numbered.0) plan.end))
+        (enumerate_from 0 (specs_of plan.apps lists))
 
-  -- and what is written of them: these one after another, and nothing else
+    -- and what is written of them: these one after another, and nothing else
+    abbrev pub sections_by : Plan → List (List (List ℕ × M)) → List ℕ
+    sections_by plan lists = flat_map (λ bytes. bytes) (sections_in_by plan lists)
+
+  -- The same by the job that does it, which meets the equation of *Settle*; by anything else that meets it the sections are the same (`AloneBySettle`).
+  abbrev pub sections_in : Plan → List (List (List ℕ × M)) → List (List ℕ)
+  sections_in = sections_in_by settle_meaning
+
   abbrev pub sections_of : Plan → List (List (List ℕ × M)) → List ℕ
-  sections_of plan lists = flat_map (λ bytes. bytes) (sections_in plan lists)
+  sections_of = sections_by settle_meaning
 
   -- Two sessions that end at the same moment, and have an application each with the same spec, be it in two places, to which the same events are
   -- routed, give it the same bytes, whatever else they say.

@@ -13,7 +13,7 @@ pub use input::{InputFault, read_input};
 pub use laws::{same_bytes, session_within};
 pub use outcome::Outcome;
 pub use output::{WriteFault, write_whole};
-pub use playing::{PlayFault, play};
+pub use playing::{PlayFault, filled, play, run_through};
 pub use program::run;
 pub use services::services_of;
 pub use tk_host::{

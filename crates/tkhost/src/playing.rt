@@ -9,7 +9,9 @@ ghost use Rattle.tk_host.specs.Refusals.{RefusesApp, add_faults};
 ghost use Rattle.tk_session.specs.Session.{AreAllowed, rects_of};
 ghost use Rattle.tkhost.specs.Output.{AppendsFront};
 ghost use Rattle.tkhost.specs.Calls.{adding, given_of, lining};
-ghost use Rattle.tkhost.specs.Play.{Serve, sections_of};
+ghost use Rattle.tk_app.specs.Dispatch.{Continuation};
+ghost use Rattle.tk_app.specs.Settle.{IsSettle};
+ghost use Rattle.tkhost.specs.Play.{Serve, sections_by, sections_of};
 
 use crate::output::write_whole;
 use std::alloc::{AllocError, AllocFailed, Global};
@@ -118,8 +120,8 @@ fn line_all<M: AliasService>(host: &mut Host<M>, session: &Session) -> Result<()
     Ok(())
 }
 
-/// A host to which the applications of a session were added, each with its aliases.
-fn filled<M: AliasService>(
+/// A host to which the applications of a session were added, each with its aliases, and which has still to start. It is refused for want of memory alone.
+pub fn filled<M: AliasService>(
     alloc: Global,
     session: &Session,
     aliases: Vec<Aliases<M>>,
@@ -135,8 +137,8 @@ fn filled<M: AliasService>(
     Ok(host)
 }
 
-/// The host runs the applications of a session that were added to it, hands them its events, and comes to its end.
-fn run_through<M: AliasService>(host: &mut Host<M>, session: &Session) -> Result<(), PlayFault>
+/// The host runs the applications of a session that were added to it, hands them its events, and comes to its end. It is refused for want of memory alone.
+pub fn run_through<M: AliasService>(host: &mut Host<M>, session: &Session) -> Result<(), PlayFault>
     requires { (lists : List (List (List ℕ × M))) × Serve session.now.apps lists × (host.old.held ≡ held_after M.answer (adding session.now.apps lists)) }
     ensures history { (calls : List (Call M)) → host.old.held ≡ held_after M.answer calls
         → OnOk result (host.new.held ≡ held_after M.answer (calls ++ Start ∷ (lining session.now.events ++ End session.now.end ∷ []))) }
@@ -182,13 +184,8 @@ fn text_of<M: AliasService>(
     sections(alloc, &host, session.apps().len())
 }
 
-/// Plays a session, each application at most `slice` steps at a time, and writes their sections once all have come to the end. The lists of
-/// aliases are those of the applications, in their order: each has the names of its application's alias lines. `NoMemory` comes before a
-/// byte went out, and `Write` where the writer fails or takes nothing; neither has a number.
-///
-/// What each application's section is rests on its own name, size, script, budget and aliases, on the events that are routed to it, and on
-/// the moment of the end: on nothing that another does.
-pub fn play<M: AliasService, W: Write>(
+/// The sections of a session's applications, written one after another once all have come to the end.
+fn write_sections<M: AliasService, W: Write>(
     alloc: Global,
     session: &Session,
     aliases: Vec<Aliases<M>>,
@@ -207,4 +204,31 @@ pub fn play<M: AliasService, W: Write>(
         Ok(()) => Ok(()),
         Err(_) => Err(PlayFault::Write),
     }
+}
+
+/// Plays a session, each application at most `slice` steps at a time, and writes their sections once all have come to the end. The lists of
+/// aliases are those of the applications, in their order: each has the names of its application's alias lines. `NoMemory` comes before a
+/// byte went out, and `Write` where the writer fails or takes nothing; neither has a number.
+///
+/// What each application's section is rests on its own name, size, script, budget and aliases, on the events that are routed to it, and on
+/// the moment of the end: on nothing that another does. What is done at a moment is what *Settle*'s equation says, the first item that exists of a
+/// queued event, a due timer, a layout that changes something and a round of idle scripts, again and again: whatever meets that equation gives
+/// these sections.
+pub fn play<M: AliasService, W: Write>(
+    alloc: Global,
+    session: &Session,
+    aliases: Vec<Aliases<M>>,
+    slice: u64,
+    writer: &mut W,
+) -> Result<(), PlayFault>
+    requires slice { 1 ≤ slice }
+    requires serve { Serve session.now.apps aliases.items }
+    ensures sections { (settle : Continuation) → IsSettle settle
+        → OnOk result (Appends (W.contents writer.old) (W.contents writer.new) (sections_by M.answer settle session.now aliases.items)) }
+    ensures by_job { OnOk result (Appends (W.contents writer.old) (W.contents writer.new) (sections_of M.answer session.now aliases.items)) }
+    ensures write { result ≡ Err PlayFault.Write
+        → AppendsFront (W.contents writer.old) (W.contents writer.new) (sections_of M.answer session.now aliases.items) }
+    ensures no_memory { result ≡ Err PlayFault.NoMemory → writer.new ≡ writer.old }
+{
+    write_sections(alloc, session, aliases, slice, writer)
 }

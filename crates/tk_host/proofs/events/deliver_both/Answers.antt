@@ -5,6 +5,7 @@ use Rattle.tk_app.specs.Part.{needs, stage_done}
 use Rattle.tk_app.specs.Turns.{Applications}
 use Rattle.tk_app.proofs.Views.{on_err}
 use Rattle.tk_host.specs.Turns.{applications, stages_of, turns_given}
+use Rattle.tk_host.proofs.Counts.{given_keeps, keeps_both}
 use Rattle.tk_host.proofs.Cut.{cut_as, cut_at_once}
 use Rattle.tk_host.proofs.Deliveries.{done_two, given_twice, needs_two, rests_in, rests_other, turns_apart}
 use Rattle.tk_host.proofs.events.deliver_both.Goals as goal
@@ -51,14 +52,14 @@ returns-in_err-give-clause-cut g c =
     let old = c.args.shared.now in
     let whole = turns_given g.M.AliasMeaning.answer c.args.slice (stages_of (c.args.first ∷ c.args.second ∷ [])) (applications old.parts) in
     on_err _ _
-    (cut_at_once old.turns whole c.give.new.shared.turns c.in_err-give.ensures.turns)
+    (cut_at_once c.args.slice old.turns whole c.give.new.shared.turns c.in_err-give.ensures.turns)
 
 pub returns-in_err-give-2-clause-cut : goal.returns-in_err-give-2-clause-cut
 returns-in_err-give-2-clause-cut g c =
     let old = c.args.shared.now in
     let whole = turns_given g.M.AliasMeaning.answer c.args.slice (stages_of (c.args.first ∷ c.args.second ∷ [])) (applications old.parts) in
     on_err _ _
-    (cut_at_once old.turns whole c.give-2.new.shared.turns (c.in_err-give-2.ensures.turns ∙ c.in_ok-give.ensures.turns))
+    (cut_at_once c.args.slice old.turns whole c.give-2.new.shared.turns (c.in_err-give-2.ensures.turns ∙ c.in_ok-give.ensures.turns))
 
 pub returns-clause-cut : goal.returns-clause-cut
 returns-clause-cut g c =
@@ -67,9 +68,20 @@ returns-clause-cut g c =
     let mid : Applications _ = c.give-2.new.shared in
     let both = given_twice c.args.first c.args.second old c.give.new.shared c.give-2.new.shared c.in_ok-give.ensures.given c.in_ok-give-2.ensures.given in
     on_err_weaker c.stage.result
-    (λ cut. cut_as (mid.turns ++ turns_of c.args.slice (map (needs answer mid.moment) mid.parts))
+    (λ cut. cut_as c.args.slice (mid.turns ++ turns_of c.args.slice (map (needs answer mid.moment) mid.parts))
     (old.turns ++ turns_given answer c.args.slice (stages_of (c.args.first ∷ c.args.second ∷ [])) (applications old.parts)) c.stage.new.shared.turns
     (ap (λ (h : Applications _). h.turns ++ turns_of c.args.slice (map (needs answer h.moment) h.parts)) both
     ∙ ap (λ ns. old.turns ++ turns_of c.args.slice ns) (needs_two answer c.args.first c.args.second old.moment c.requires.differ c.requires.now c.requires.also_now 0 old.parts c.requires.rest)
     ∙ ap (λ ts. old.turns ++ ts) (sym (turns_apart answer c.args.slice c.args.first c.args.second (applications old.parts) c.requires.differ))) cut)
     c.stage.ensures.cut
+
+pub returns-in_err-give-clause-keeps : goal.returns-in_err-give-clause-keeps
+returns-in_err-give-clause-keeps g c = c.in_err-give.ensures.keeps
+
+pub returns-in_err-give-2-clause-keeps : goal.returns-in_err-give-2-clause-keeps
+returns-in_err-give-2-clause-keeps g c = keeps_both c.args.shared.now c.give.new.shared c.give-2.new.shared c.in_ok-give.ensures.keeps c.in_err-give-2.ensures.keeps
+
+pub returns-clause-keeps : goal.returns-clause-keeps
+returns-clause-keeps g c =
+    given_keeps c.args.shared.now c.give-2.new.shared c.stage.new.shared
+    (keeps_both c.args.shared.now c.give.new.shared c.give-2.new.shared c.in_ok-give.ensures.keeps c.in_ok-give-2.ensures.keeps) c.stage.ensures.counts

@@ -5,6 +5,7 @@ use Rattle.tk_app.specs.Part.{needs, stage_done}
 use Rattle.tk_app.specs.Turns.{Applications}
 use Rattle.tk_app.proofs.Views.{on_err}
 use Rattle.tk_host.specs.Turns.{applications, stages_of, turns_given}
+use Rattle.tk_host.proofs.Counts.{given_keeps}
 use Rattle.tk_host.proofs.Cut.{cut_as, cut_at_once}
 use Rattle.tk_host.proofs.Deliveries.{done_one, needs_one, rests_in, turns_one}
 use Rattle.tk_host.proofs.events.deliver_one.Goals as goal
@@ -37,7 +38,7 @@ pub returns-in_err-give-clause-cut : goal.returns-in_err-give-clause-cut
 returns-in_err-give-clause-cut g c =
     let old = c.args.shared.now in
     on_err _ _
-    (cut_at_once old.turns (turns_given g.M.AliasMeaning.answer c.args.slice (stages_of (c.args.only ∷ [])) (applications old.parts)) c.give.new.shared.turns c.in_err-give.ensures.turns)
+    (cut_at_once c.args.slice old.turns (turns_given g.M.AliasMeaning.answer c.args.slice (stages_of (c.args.only ∷ [])) (applications old.parts)) c.give.new.shared.turns c.in_err-give.ensures.turns)
 
 pub returns-clause-cut : goal.returns-clause-cut
 returns-clause-cut g c =
@@ -45,9 +46,15 @@ returns-clause-cut g c =
     let old = c.args.shared.now in
     let mid : Applications _ = c.give.new.shared in
     on_err_weaker c.stage.result
-    (λ cut. cut_as (mid.turns ++ turns_of c.args.slice (map (needs answer mid.moment) mid.parts))
+    (λ cut. cut_as c.args.slice (mid.turns ++ turns_of c.args.slice (map (needs answer mid.moment) mid.parts))
     (old.turns ++ turns_given answer c.args.slice (stages_of (c.args.only ∷ [])) (applications old.parts)) c.stage.new.shared.turns
     (ap (λ (h : Applications _). h.turns ++ turns_of c.args.slice (map (needs answer h.moment) h.parts)) c.in_ok-give.ensures.given
     ∙ ap (λ ns. old.turns ++ turns_of c.args.slice ns) (needs_one answer 0 c.args.only old.moment old.parts c.requires.now c.requires.rest)
     ∙ ap (λ ts. old.turns ++ ts) (sym (turns_one answer c.args.slice c.args.only (applications old.parts)))) cut)
     c.stage.ensures.cut
+
+pub returns-in_err-give-clause-keeps : goal.returns-in_err-give-clause-keeps
+returns-in_err-give-clause-keeps g c = c.in_err-give.ensures.keeps
+
+pub returns-clause-keeps : goal.returns-clause-keeps
+returns-clause-keeps g c = given_keeps c.args.shared.now c.give.new.shared c.stage.new.shared c.in_ok-give.ensures.keeps c.stage.ensures.counts

@@ -7,6 +7,7 @@ use Rattle.tk_app.proofs.Views.{on_err}
 use Rattle.tk_host.specs.Held.{at_rest}
 use Rattle.tk_host.specs.Ready.{AllRest}
 use Rattle.tk_host.specs.Turns.{after_given, applications, stages_of, steps_given, turns_given}
+use Rattle.tk_host.proofs.Counts.{keeps_both}
 use Rattle.tk_host.proofs.Cut.{cut_as, cut_more}
 use Rattle.tk_host.proofs.Deliveries.{after_two, turns_one, turns_same}
 use Rattle.tk_host.proofs.Parts.{apps_at, rest_at}
@@ -60,10 +61,10 @@ returns-in_err-deliver_one-clause-cut g c =
     let other = turns_of slice (steps_given answer 0 (c.args.second ∷ []) (after_given answer 0 (c.args.first ∷ []) apps)) in
     let told = c.deliver_one.new.shared.turns in
     on_err _ _
-    (cut_as ((old.turns ++ one) ++ other) (old.turns ++ turns_given answer slice (stages_of (c.args.first ∷ c.args.second ∷ [])) apps) told
+    (cut_as slice ((old.turns ++ one) ++ other) (old.turns ++ turns_given answer slice (stages_of (c.args.first ∷ c.args.second ∷ [])) apps) told
     (append_assoc old.turns one other ∙ ap (λ ts. old.turns ++ ts) (sym (turns_same answer slice c.args.first c.args.second apps c.requires.same)))
-    (cut_more (old.turns ++ one) other told
-    (cut_as (old.turns ++ turns_given answer slice (stages_of (c.args.first ∷ [])) apps) (old.turns ++ one) told (ap (λ ts. old.turns ++ ts) (turns_one answer slice c.args.first apps))
+    (cut_more slice (old.turns ++ one) other told
+    (cut_as slice (old.turns ++ turns_given answer slice (stages_of (c.args.first ∷ [])) apps) (old.turns ++ one) told (ap (λ ts. old.turns ++ ts) (turns_one answer slice c.args.first apps))
     c.in_err-deliver_one.ensures.cut)))
 
 pub returns-clause-cut : goal.returns-clause-cut
@@ -76,7 +77,7 @@ returns-clause-cut g c =
     let mid : applications there.parts ≡ after_given answer 0 (c.args.first ∷ []) apps = ap applications c.in_ok-deliver_one.ensures.parts ∙ apps_at answer (after_given answer 0 (c.args.first ∷ []) apps) in
     let one = c.in_ok-deliver_one.ensures.turns ∙ ap (λ ts. old.turns ++ ts) (turns_one answer slice c.args.first apps) in
     on_err_weaker c.deliver_one-2.result
-    (λ cut. cut_as (there.turns ++ turns_given answer slice (stages_of (c.args.second ∷ [])) (applications there.parts))
+    (λ cut. cut_as slice (there.turns ++ turns_given answer slice (stages_of (c.args.second ∷ [])) (applications there.parts))
     (old.turns ++ turns_given answer slice (stages_of (c.args.first ∷ c.args.second ∷ [])) apps) c.deliver_one-2.new.shared.turns
     (ap (λ ts. there.turns ++ ts) (turns_one answer slice c.args.second (applications there.parts))
     ∙ ap (λ apps. there.turns ++ turns_of slice (steps_given answer 0 (c.args.second ∷ []) apps)) mid
@@ -84,3 +85,9 @@ returns-clause-cut g c =
     ∙ append_assoc old.turns (turns_of slice (steps_given answer 0 (c.args.first ∷ []) apps)) (turns_of slice (steps_given answer 0 (c.args.second ∷ []) (after_given answer 0 (c.args.first ∷ []) apps)))
     ∙ ap (λ ts. old.turns ++ ts) (sym (turns_same answer slice c.args.first c.args.second apps c.requires.same))) cut)
     c.deliver_one-2.ensures.cut
+
+pub returns-in_err-deliver_one-clause-keeps : goal.returns-in_err-deliver_one-clause-keeps
+returns-in_err-deliver_one-clause-keeps g c = c.in_err-deliver_one.ensures.keeps
+
+pub returns-clause-keeps : goal.returns-clause-keeps
+returns-clause-keeps g c = keeps_both c.args.shared.now c.deliver_one.new.shared c.deliver_one-2.new.shared c.in_ok-deliver_one.ensures.keeps c.deliver_one-2.ensures.keeps

@@ -3,6 +3,7 @@ use Rattle.std.proofs.lemmas.Result.{on_ok_weaker}
 use Rattle.tk_app.specs.Moments.{delivered}
 use Rattle.tk_app.specs.Part.{Part}
 use Rattle.tk_app.specs.Turns.{Applications}
+use Rattle.tk_host.proofs.Counts.{given_keeps, keeps_same}
 use Rattle.tk_host.proofs.Deliveries.{given_is, given_nobody}
 use Rattle.tk_host.proofs.events.give.Goals as goal
 
@@ -10,6 +11,7 @@ pub returns-then-delivery-len : goal.returns-then-delivery-len
 returns-then-delivery-len g c = record {
   given = ap (λ (ps : List (Part _)). record c.args.shared.now { parts = ps }) (sym (given_nobody c.args.delivery 0 c.args.shared.now.parts (omega arith)));
   turns = refl;
+  keeps = keeps_same c.args.shared.now;
 }
 
 pub begin_settling-requires : goal.begin_settling-requires
@@ -23,4 +25,5 @@ returns g c = record {
   given = on_ok_weaker c.begin_settling.result
       (λ begins. given_is c.args.delivery c.args.shared.now c.deliver.new.shared c.begin_settling.new.shared c.requires.now c.in_ok-deliver.ensures.delivered begins) c.begin_settling.ensures.begun;
   turns = c.begin_settling.ensures.turns ∙ c.in_ok-deliver.ensures.turns;
+  keeps = given_keeps c.args.shared.now c.deliver.new.shared c.begin_settling.new.shared c.in_ok-deliver.ensures.keeps c.begin_settling.ensures.counts;
 }

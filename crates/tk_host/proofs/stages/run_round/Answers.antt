@@ -1,5 +1,6 @@
 use Rattle.std.proofs.Common.{arith}
 use Rattle.tk_app.proofs.Views.{on_err}
+use Rattle.tk_host.proofs.Counts.{counts_both}
 use Rattle.tk_host.proofs.Cut.{cut_round}
 use Rattle.tk_host.proofs.Slots.{reaches_more}
 use Rattle.tk_host.proofs.stages.run_round.Goals as goal
@@ -7,10 +8,18 @@ use Rattle.tk_host.proofs.stages.run_round.Goals as goal
 pub loop-slot-preserved : goal.loop-slot-preserved
 loop-slot-preserved g c =
     let loop = c.loop-slot in
-    reaches_more g.M.AliasMeaning.answer c.args.slice loop.slot c.args.shared.now loop.shared c.take_turn.new.shared loop.more c.in_ok-more.field-0 (omega arith) (omega arith) loop.invariant c.in_ok-more.ensures.taken
+    record {
+      reaches = reaches_more g.M.AliasMeaning.answer c.args.slice loop.slot c.args.shared.now loop.shared c.take_turn.new.shared loop.more c.in_ok-more.field-0 (omega arith) (omega arith) loop.invariant.reaches c.in_ok-more.ensures.taken;
+      counts = counts_both c.args.shared.now loop.shared c.take_turn.new.shared loop.invariant.counts c.in_ok-more.ensures.counts;
+    }
 
 pub returns-in_err-more-clause-cut : goal.returns-in_err-more-clause-cut
 returns-in_err-more-clause-cut g c =
     let loop = c.loop-slot in
     on_err _ _
-    (cut_round g.M.AliasMeaning.answer c.args.slice loop.slot c.args.shared.now loop.shared loop.more c.take_turn.new.shared.turns loop.invariant c.in_err-more.ensures.cut)
+    (cut_round g.M.AliasMeaning.answer c.args.slice loop.slot c.args.shared.now loop.shared loop.more c.take_turn.new.shared.turns (omega (arith, loop.invariant.reaches.size)) loop.invariant.reaches c.in_err-more.ensures.cut)
+
+pub returns-in_err-more-clause-counts : goal.returns-in_err-more-clause-counts
+returns-in_err-more-clause-counts g c =
+    let loop = c.loop-slot in
+    counts_both c.args.shared.now loop.shared c.take_turn.new.shared loop.invariant.counts c.in_err-more.ensures.counts

@@ -4,6 +4,7 @@ use Rattle.tk_app.proofs.Rounds.{turns_more, turns_none}
 use Rattle.tk_app.specs.Part.{Part, needs, stage_done}
 use Rattle.tk_app.proofs.Views.{on_err}
 use Rattle.tk_host.specs.Cut.{IsCutShort}
+use Rattle.tk_host.proofs.Counts.{counts_both}
 use Rattle.tk_host.proofs.Cut.{cut_stage}
 use Rattle.tk_host.proofs.Slots.{none_needed}
 use Rattle.tk_host.proofs.stages.stage.Goals as goal
@@ -27,6 +28,7 @@ rounds-preserved g c =
           (ap (λ n. needed_by n there) (sym is) ∙ told.left ∙ ap (λ n. map (λ need. need - c.args.slice) (needed_by n here)) is)
           (told.turns ∙ ap (λ n. loop.shared.turns ++ round c.args.slice (needed_by n here) 0) is)
           loop.invariant.turns;
+      counts = counts_both c.args.shared.now loop.shared c.run_round.new.shared loop.invariant.counts told.counts;
       last = λ e. told.last (ap Ok e) ∙ ap (λ n. done_by n here) is ∙ loop.invariant.done;
     }
 
@@ -46,4 +48,9 @@ returns-in_err-more-clause-cut g c =
     let told = c.run_round.new.shared.turns in
     on_err _ _
     (cut_stage c.args.slice (needed_by m loop.shared.parts) loop.shared.turns (c.args.shared.now.turns ++ turns_of c.args.slice (needed_by m c.args.shared.now.parts)) told (omega arith) loop.invariant.turns
-    (subst (λ n. IsCutShort (loop.shared.turns ++ round c.args.slice (needed_by n loop.shared.parts) 0) told) loop.invariant.moment c.in_err-more.ensures.cut))
+    (subst (λ n. IsCutShort c.args.slice (loop.shared.turns ++ round c.args.slice (needed_by n loop.shared.parts) 0) told) loop.invariant.moment c.in_err-more.ensures.cut))
+
+pub returns-in_err-more-clause-counts : goal.returns-in_err-more-clause-counts
+returns-in_err-more-clause-counts g c =
+    let loop = c.rounds in
+    counts_both c.args.shared.now loop.shared c.run_round.new.shared loop.invariant.counts c.in_err-more.ensures.counts

@@ -2,6 +2,7 @@ use Rattle.std.proofs.Common.{◌≡◌, ◌++◌, map, suc, cond, false}
 use Rattle.std.specs.Prelude.{sum_by}
 use Rattle.tk_app.specs.Rounds.{turns_of}
 use Rattle.tk_app.specs.Part.{needs, stage_done}
+use Rattle.tk_host.specs.Slots.{CountsAll}
 use Rattle.tk_host.proofs.stages.stage.Given as goal
 
 -- what is left to be done, and who is to take turns, comes to what all does
@@ -11,6 +12,7 @@ invariant-rounds g l = record {
   done : map (stage_done g.M.AliasMeaning.answer l.fn.shared.moment) l.shared.parts ≡ map (stage_done g.M.AliasMeaning.answer l.fn.shared.moment) l.fn.shared.parts;
   turns : l.shared.turns ++ turns_of l.slice (map (needs g.M.AliasMeaning.answer l.fn.shared.moment) l.shared.parts)
       ≡ l.fn.shared.turns ++ turns_of l.slice (map (needs g.M.AliasMeaning.answer l.fn.shared.moment) l.fn.shared.parts);
+  counts : CountsAll l.fn.shared l.shared;
   last : l.more ≡ false → l.shared.parts ≡ map (stage_done g.M.AliasMeaning.answer l.fn.shared.moment) l.fn.shared.parts;
 }
 

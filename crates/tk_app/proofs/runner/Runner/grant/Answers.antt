@@ -10,4 +10,5 @@ returns-in-Going g c =
     record {
       ok = full_granted c.args.self.now i.progress i.state (rest_of i.interp) (context_of i.interp).levels c.in-Going.is c.self.invariant.0 (ap (λ (p : Program _). p.state) c.self.view_is)
           (ap (λ (p : Program _). p.work) c.self.view_is) c.requires.running c.requires.rests;
+      err = tt;
     }

@@ -64,6 +64,8 @@ returns-in_err-deliver-clause-only g c =
       after = part_of (panel_of i new.tables) new.runner;
       was = one_was i old.tables new.tables old.runners.items r new.runner c.shared.invariant.0 lt c.index_mut-runner.ensures.value c.deliver.ensures.others;
       changed = one_changed i old.tables new.tables old.runners.items r new.runner c.shared.invariant.0 lt c.index_mut-runner.ensures.value c.deliver.ensures.others;
+      budget = c.deliver.ensures.budget;
+      steps = c.deliver.ensures.steps;
       turns = refl;
       moment = c.deliver.ensures.clock;
     })
@@ -81,6 +83,8 @@ returns-clause-only g c =
       after = part_of (panel_of i new.tables) new.runner;
       was = one_was i old.tables new.tables old.runners.items r new.runner c.shared.invariant.0 lt c.index_mut-runner.ensures.value c.deliver.ensures.others;
       changed = one_changed i old.tables new.tables old.runners.items r new.runner c.shared.invariant.0 lt c.index_mut-runner.ensures.value c.deliver.ensures.others;
+      budget = c.deliver.ensures.budget;
+      steps = c.deliver.ensures.steps;
       turns = refl;
       moment = c.deliver.ensures.clock;
     })

@@ -7,7 +7,7 @@ use Rattle.tk_app.proofs.Views.{held_kept, one_changed, one_was, only_same, slot
 use Rattle.tk_app.proofs.view.AppView.settle.Goals as goal
 
 pub returns-then-shared-clause-only : goal.returns-then-shared-clause-only
-returns-then-shared-clause-only g c = only_same c.args.self.now.slot c.args.self.now.shared.now c.args.self.now.held
+returns-then-shared-clause-only g c = only_same c.args.steps c.args.self.now.slot c.args.self.now.shared.now c.args.self.now.held
 
 pub index_mut-runner-requires : goal.index_mut-runner-requires
 index_mut-runner-requires g c =
@@ -33,11 +33,14 @@ returns-in_err-end-clause-only g c =
     let new = c.take_turn.new in
     let lt : i < length old.runners.items = in_range c.shared.inside.tables c.shared.inside.runners.items c.args.self.now.shared.now.parts c.args.self.now.slot (ap (λ (h : Applications _). h.parts) c.shared.view_is) c.args.self.now.held in
     let held : Applications _ = record { moment = new.tables.clock; parts = parts_from 0 new.tables (set old.runners.items i new.runner); turns = new.turns.items; refused = true } in
-    subst (λ (h : Applications _). ChangesOnly i h held) c.shared.view_is (record {
+    subst (λ (h : Applications _). ChangesOnly c.args.steps i h held) c.shared.view_is (record {
       before = part_of (panel_of i old.tables) r;
       after = part_of (panel_of i new.tables) new.runner;
       was = one_was i old.tables new.tables old.runners.items r new.runner c.shared.invariant.0 lt c.index_mut-runner.ensures.value c.take_turn.ensures.others;
       changed = one_changed i old.tables new.tables old.runners.items r new.runner c.shared.invariant.0 lt c.index_mut-runner.ensures.value c.take_turn.ensures.others;
+      budget = c.take_turn.ensures.budget;
+      fewer = c.take_turn.ensures.fewer;
+      most = c.take_turn.ensures.most;
       told = c.take_turn.ensures.told;
       moment = c.take_turn.ensures.clock;
     })
@@ -61,11 +64,14 @@ returns-clause-only g c =
     let new = c.take_turn.new in
     let lt : i < length old.runners.items = in_range c.shared.inside.tables c.shared.inside.runners.items c.args.self.now.shared.now.parts c.args.self.now.slot (ap (λ (h : Applications _). h.parts) c.shared.view_is) c.args.self.now.held in
     let held : Applications _ = record { moment = new.tables.clock; parts = parts_from 0 new.tables (set old.runners.items i new.runner); turns = new.turns.items; refused = false } in
-    subst (λ (h : Applications _). ChangesOnly i h held) c.shared.view_is (record {
+    subst (λ (h : Applications _). ChangesOnly c.args.steps i h held) c.shared.view_is (record {
       before = part_of (panel_of i old.tables) r;
       after = part_of (panel_of i new.tables) new.runner;
       was = one_was i old.tables new.tables old.runners.items r new.runner c.shared.invariant.0 lt c.index_mut-runner.ensures.value c.take_turn.ensures.others;
       changed = one_changed i old.tables new.tables old.runners.items r new.runner c.shared.invariant.0 lt c.index_mut-runner.ensures.value c.take_turn.ensures.others;
+      budget = c.take_turn.ensures.budget;
+      fewer = c.take_turn.ensures.fewer;
+      most = c.take_turn.ensures.most;
       told = c.take_turn.ensures.told;
       moment = c.take_turn.ensures.clock;
     })

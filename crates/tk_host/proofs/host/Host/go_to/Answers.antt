@@ -8,6 +8,7 @@ use Rattle.tk_host.specs.declared.phase.Phase.TheVariants.{Reached}
 use Rattle.tk_host.specs.Held.{Hosted}
 use Rattle.tk_host.specs.Ready.{AllRest}
 use Rattle.tk_host.specs.Turns.{applications}
+use Rattle.tk_host.proofs.Counts.{tells_all}
 use Rattle.tk_host.proofs.Cut.{cut_by, cut_going}
 use Rattle.tk_host.proofs.History.{not_back, reached_if_not_refused}
 use Rattle.tk_host.proofs.Kept.{gone_is, ready_gone, routed_gone}
@@ -62,9 +63,11 @@ returns-clause-gone g c =
 pub returns-in_err-advance-clause-cut : goal.returns-in_err-advance-clause-cut
 returns-in_err-advance-clause-cut g c =
     let inside = c.self.inside in
-    cut_by _ _ _
-    (cut_going g.M.AliasMeaning.answer inside.phase c.args.phase c.args.moment inside.rects.items inside.router inside.slice inside.shared c.clear_turns.new.self c.args.self.now c.advance.new.shared.turns c.self.view_is
+    let old = c.args.self.now in
+    cut_by _ _ old _
+    (cut_going g.M.AliasMeaning.answer inside.phase c.args.phase c.args.moment inside.rects.items inside.router inside.slice inside.shared c.clear_turns.new.self old c.advance.new.shared.turns c.self.view_is
     c.clear_turns.ensures c.in_err-advance.ensures.cut)
+    (tells_all inside.shared c.clear_turns.new.self c.advance.new.shared old.held.parts c.clear_turns.ensures (ap (λ (h : Hosted _). h.held.parts) c.self.view_is) c.in_err-advance.ensures.counts)
 
 pub returns-in_err-may_go_to-clause-cut : goal.returns-in_err-may_go_to-clause-cut
 returns-in_err-may_go_to-clause-cut g c =

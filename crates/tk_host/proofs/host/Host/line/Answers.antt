@@ -1,5 +1,5 @@
 use Rattle.std.proofs.lemmas.Result.{err_from_is_err_and}
-use Rattle.tk_host.proofs.Cut.{cut_by}
+use Rattle.tk_host.proofs.Cut.{cut_by_line}
 use Rattle.tk_host.proofs.host.Host.line.Goals as goal
 
 pub returns-in_err-may_take-clause-refused : goal.returns-in_err-may_take-clause-refused
@@ -14,8 +14,8 @@ returns-in_err-tested_line-clause-refused g c =
     let p = err_from_is_err_and c.from_residual-in_err-tested_line.result c.from_residual-in_err-tested_line.ensures.1 in rw (p.1, p.2) c.in_ok-may_take.ensures.answer
 
 pub returns-in_err-tested_line-clause-cut : goal.returns-in_err-tested_line-clause-cut
-returns-in_err-tested_line-clause-cut g c = λ first earlier is. cut_by _ _ _ (c.in_err-tested_line.ensures.cut first earlier is)
+returns-in_err-tested_line-clause-cut g c = λ calls held. (let told = c.in_err-tested_line.ensures.cut calls held in cut_by_line _ _ c.args.self.now _ told.0 told.1)
 
 pub returns-in_err-may_take-clause-cut : goal.returns-in_err-may_take-clause-cut
-returns-in_err-may_take-clause-cut g c = λ first earlier is.
+returns-in_err-may_take-clause-cut g c = λ calls held.
     let p = err_from_is_err_and c.from_residual.result c.from_residual.ensures.1 in rw (p.1, p.2) tt

@@ -1,10 +1,12 @@
-use Rattle.std.proofs.Common.{◌≡◌, [], map, sym, ap, ◌∙◌, subst}
+use Rattle.std.proofs.Common.{◌≡◌, [], map, refl, sym, ap, ◌∙◌, subst}
 use Rattle.tk_route.specs.Lines.{values}
 use Rattle.tk_app.specs.Part.{stage_done}
 use Rattle.tk_app.specs.Turns.{Applications}
 use Rattle.tk_host.specs.declared.phase.Phase.TheVariants.{Adding}
-use Rattle.tk_host.specs.Held.{Hosted}
+use Rattle.tk_host.specs.Cut.{IsCutShort}
+use Rattle.tk_host.specs.Held.{Hosted, Start, after_start, turns_after}
 use Rattle.tk_host.specs.Ready.{IsReady}
+use Rattle.tk_host.proofs.Counts.{tells_all}
 use Rattle.tk_host.proofs.Cut.{cut_by, cut_start}
 use Rattle.tk_host.proofs.History.{history_of_start, turns_of_start}
 use Rattle.tk_host.proofs.Kept.{ready_started, routed_start, started_is}
@@ -41,9 +43,13 @@ returns-clause-turns g c = λ calls held.
     turns_of_start g.M.AliasMeaning.answer calls c.args.self.now _ held adding (ap (λ (h : Hosted _). h.turns) (returns-clause-started g c))
 
 pub returns-in_err-stage-clause-cut : goal.returns-in_err-stage-clause-cut
-returns-in_err-stage-clause-cut g c =
+returns-in_err-stage-clause-cut g c = λ calls held.
+    let answer = g.M.AliasMeaning.answer in
     let inside = c.self.inside in
+    let old = c.args.self.now in
     let start : inside.shared.moment ≡ 0 = (c.self.invariant.1.adding c.in-Adding.is).0 in
-    cut_by _ _ _
-    (cut_start g.M.AliasMeaning.answer inside.phase inside.rects.items inside.router inside.slice inside.shared c.clear_turns.new.self c.args.self.now c.stage.new.shared.turns c.self.view_is start c.clear_turns.ensures
-    c.in_err-stage.ensures.cut)
+    let adding : old.held.phase ≡ Adding = sym (ap (λ (h : Hosted _). h.held.phase) c.self.view_is) ∙ c.in-Adding.is in
+    let cut = cut_start answer inside.phase inside.rects.items inside.router inside.slice inside.shared c.clear_turns.new.self old c.stage.new.shared.turns c.self.view_is start c.clear_turns.ensures c.in_err-stage.ensures.cut in
+    let whole : (after_start answer old).turns ≡ turns_after answer old.slice calls Start = turns_of_start answer calls old (after_start answer old).turns held adding refl in
+    cut_by _ _ old _ (subst (λ ts. IsCutShort old.slice ts c.stage.new.shared.turns) whole cut)
+    (tells_all inside.shared c.clear_turns.new.self c.stage.new.shared old.held.parts c.clear_turns.ensures (ap (λ (h : Hosted _). h.held.parts) c.self.view_is) c.in_err-stage.ensures.counts)

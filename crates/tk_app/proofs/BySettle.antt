@@ -1,0 +1,57 @@
+-- What meets the equation of *Settle* makes the same of an application as its job does.
+use Rattle.std.proofs.Common.{◌≡◌, ℕ, List, refl, sym, ap, subst}
+use Rattle.tcl_control.specs.declared.code.Code.{Code}
+use Rattle.tcl_interp.specs.Evaluation.{State, Outcome, Ended, OutOfSteps, and_then}
+use Rattle.tcl_interp.specs.Scripts.{out_of_global}
+use Rattle.tk_screen.specs.Own.{Own as Screen}
+use Rattle.tk_tree.specs.Own.{IsSound}
+use Rattle.tk_commands.specs.Course.{with_end}
+use Rattle.tk_app.specs.declared.state.AppState.{AppState}
+use Rattle.tk_app.specs.declared.state.AppState.TheVariants.{Running, Exhausted, Closed}
+use Rattle.tk_app.specs.Application.{Application}
+use Rattle.tk_app.specs.Dispatch.{Continuation, global_meaning, in_panel}
+use Rattle.tk_app.specs.Moments.{after_outcome, settled, settled_as, settled_by, started, started_by, state_at}
+use Rattle.tk_app.specs.Seen.{Meaning, Seen}
+use Rattle.tk_app.specs.Settle.{IsSettle, IsSoundIn, after_script, settle_meaning, start_meaning}
+use Rattle.tk_app.specs.Sound.{BySettle, EndsSound, RunsSound}
+use Rattle.tk_app.proofs.Only.{only_settle}
+use Rattle.tk_app.proofs.Sound.{keeps_sound}
+use Rattle.tk_app.proofs.Trees.{end_screen}
+
+-- what comes behind something that ends so is the same where it is so in each such state
+then_same : (o : Outcome Seen) (f g : State Seen → Code → List ℕ → Outcome Seen) → EndsSound o
+    → ((state : State Seen) (code : Code) (text : List ℕ) → IsSoundIn state → f state code text ≡ g state code text) → and_then o f ≡ and_then o g
+then_same (Ended state code text) f g sound same = same state code text sound
+then_same (OutOfSteps state) f g sound same = refl
+
+module _ (settle : Continuation) (meets : IsSettle settle) where
+  same : (state : State Seen) → IsSoundIn state → settle_meaning state ≡ settle state
+  same state sound = sym (only_settle settle meets state sound)
+
+  start_same : (script : List ℕ) (state : State Seen) → IsSoundIn state → start_meaning settle_meaning script state ≡ start_meaning settle script state
+  start_same script state sound =
+      then_same (global_meaning 200 script state) (after_script settle_meaning) (after_script settle) ((keeps_sound 200 state sound).0 script)
+      (λ left code text kept.
+      same (in_panel (with_end (out_of_global code) text left.shows.panel) left)
+      (subst (λ (screen : Screen). IsSound screen.tree) (sym (end_screen (out_of_global code) text left.shows.panel)) kept))
+
+  module _ {M : Type 0} (answer : M → Meaning) where
+    started_same : (moment : ℕ) (script : List ℕ) (application : Application M) → IsSound application.screen.tree
+        → started answer moment script application ≡ started_by answer settle moment script application
+    unfolding started_by
+    started_same moment script application sound = ap (λ o. after_outcome o application) (start_same script (state_at answer moment application) sound)
+
+    settled_same : (moment : ℕ) (application : Application M) → RunsSound application → settled answer moment application ≡ settled_by answer settle moment application
+    unfolding settled_by
+    settled_same moment application sound = by application.state refl
+      where
+        by : (s : AppState) → application.state ≡ s → settled_as answer settle_meaning s moment application ≡ settled_as answer settle s moment application
+        by Running is = ap (λ o. after_outcome o application) (same (state_at answer moment application) (sound is))
+        by Exhausted is = refl
+        by Closed is = refl
+
+pub by_settle : {M : Type 0} (answer : M → Meaning) → BySettle answer
+by_settle answer = record {
+  started = λ settle meets. started_same settle meets answer;
+  settled = λ settle meets. settled_same settle meets answer;
+}

@@ -1,0 +1,13 @@
+use Rattle.std.proofs.Common.{subst}
+use Rattle.std.specs.Prelude.{OnOk}
+use Rattle.std.specs.Io.KnownBytes.{Appends}
+use Rattle.tkhost.proofs.Told.{sections_same}
+use Rattle.tkhost.proofs.playing.play.Goals as goal
+
+-- what is written is the sections by the job, which are those by whatever meets the equation of *Settle*
+pub returns-clause-sections : goal.returns-clause-sections
+returns-clause-sections g c settle meets =
+    subst
+    (λ bytes. OnOk c.write_sections.result (Appends (g.W.Write.contents c.args.writer.now) (g.W.Write.contents c.write_sections.new.writer) bytes))
+    (sections_same g.M.AliasMeaning.answer settle meets c.args.session.now c.args.aliases.items)
+    c.write_sections.ensures.sections

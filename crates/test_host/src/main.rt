@@ -6,6 +6,7 @@
 
 mod calls;
 mod example;
+mod faults;
 mod lines;
 mod plays;
 mod refusing;
@@ -25,6 +26,7 @@ use std::alloc::Global;
 enum Part {
     Calls,
     Embedding,
+    Faults,
     Refusing,
     Routes(Routes),
     Streams(Streams),
@@ -35,6 +37,7 @@ impl Fixture for Part {
         match table {
             "calls" => Ok(Part::Calls),
             "embedding" => Ok(Part::Embedding),
+            "faults" => Ok(Part::Faults),
             "refusing" => Ok(Part::Refusing),
             "routes" => Ok(Part::Routes(Routes::new())),
             "streams" => Ok(Part::Streams(Streams::new(alloc))),
@@ -46,6 +49,7 @@ impl Fixture for Part {
         match self {
             Part::Calls => calls::answer(alloc, question),
             Part::Embedding => example::answer(alloc, question),
+            Part::Faults => faults::answer(alloc, question),
             Part::Refusing => refusing::answer(alloc, question),
             Part::Routes(routes) => routes.answer(alloc, question),
             Part::Streams(streams) => streams.answer(alloc, question),

@@ -1,4 +1,4 @@
--- A few outside commands, for tests: tasks are numbers.
+-- Meaning. A few outside commands, for tests: tasks are numbers.
 use Rattle.std.specs.Prelude.{ℕ, ◌+◌, ◌-◌, ◌==◌, nat_lt, List, [], ◌∷◌, if◌then◌else◌, codes, bytes_eq}
 use Rattle.tcl_control.specs.declared.code.Code.{Code}
 use Rattle.tcl_control.specs.declared.code.Code.TheVariants.{Normal, Error, Return, Break, Continue}

@@ -1,4 +1,4 @@
--- The tasks of the sample come to an end.
+-- Steps. The tasks of the sample come to an end.
 use Rattle.std.specs.Prelude.{◌≡◌, ℕ, ◌-◌, ◌==◌, ◌<◌, nat_lt, Bool, true, false, if◌then◌else◌, List, codes, refl}
 use Rattle.std.proofs.Common.{arith}
 use Rattle.std.proofs.lemmas.Bool.Decides.{nat_tests}

@@ -6,15 +6,19 @@
 
 mod commands;
 mod expressions;
+mod faults;
 mod kept;
 mod panel;
 mod runner;
 mod runs;
+mod scopes;
 mod scripts;
 mod slices;
+mod texts;
 
 use crate::commands::Frames;
 use crate::kept::Kept;
+use crate::scopes::Store;
 use anyhow::{Result, bail};
 use asking::{Fixture, arguments, ask_tables};
 use std::alloc::Global;
@@ -24,10 +28,13 @@ use std::alloc::Global;
 enum Part {
     Commands(Frames),
     Expressions,
+    Faults,
     Kept(Kept),
     Runs,
+    Scopes(Store),
     Scripts,
     Slices,
+    Texts,
 }
 
 impl Fixture for Part {
@@ -36,10 +43,13 @@ impl Fixture for Part {
         match folder {
             "commands" => Ok(Part::Commands(Frames::new(alloc)?)),
             "expressions" => Ok(Part::Expressions),
+            "faults" => Ok(Part::Faults),
             "kept" => Ok(Part::Kept(Kept::new(alloc)?)),
             "runs" => Ok(Part::Runs),
+            "scopes" => Ok(Part::Scopes(Store::new(alloc)?)),
             "scripts" => Ok(Part::Scripts),
             "slices" => Ok(Part::Slices),
+            "texts" => Ok(Part::Texts),
             _ => bail!("no such table"),
         }
     }
@@ -48,10 +58,13 @@ impl Fixture for Part {
         match self {
             Part::Commands(frames) => frames.answer(alloc, question),
             Part::Expressions => expressions::answer(alloc, question),
+            Part::Faults => faults::answer(alloc, question),
             Part::Kept(kept) => kept.answer(alloc, question),
             Part::Runs => runs::answer(alloc, question),
+            Part::Scopes(store) => store.answer(alloc, question),
             Part::Scripts => scripts::answer(alloc, question),
             Part::Slices => slices::answer(alloc, question),
+            Part::Texts => texts::answer(alloc, question),
         }
     }
 }

@@ -1,4 +1,4 @@
--- What a service of this program answers.
+-- Meaning. What a service of this program answers.
 use Rattle.std.specs.Prelude.{ℕ, List, ◌++◌, length}
 use Rattle.std.specs.Fmt.{decimal}
 use Rattle.tcl_text.specs.Answers.{Answer, answers}

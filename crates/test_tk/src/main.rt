@@ -5,6 +5,7 @@
 mod bindings;
 mod counting;
 mod dispatch;
+mod faults;
 mod options;
 mod sequences;
 mod services;
@@ -31,6 +32,7 @@ use std::alloc::Global;
 enum Part {
     Bindings(State),
     Dispatch(Dispatch),
+    Faults,
     Options(Options),
     Sequences,
     Services(Caller),
@@ -46,6 +48,7 @@ impl Fixture for Part {
         match part {
             "bindings" => Ok(Part::Bindings(State::new(alloc)?)),
             "dispatch" => Ok(Part::Dispatch(Dispatch::new(alloc)?)),
+            "faults" => Ok(Part::Faults),
             "options" => Ok(Part::Options(Options::new(alloc)?)),
             "sequences" => Ok(Part::Sequences),
             "services" => Ok(Part::Services(Caller::new())),
@@ -61,6 +64,7 @@ impl Fixture for Part {
         match self {
             Part::Bindings(state) => state.answer(alloc, question),
             Part::Dispatch(dispatch) => dispatch.answer(alloc, question),
+            Part::Faults => faults::answer(alloc, question),
             Part::Options(options) => options.answer(alloc, question),
             Part::Sequences => sequences::answer(alloc, question),
             Part::Services(caller) => caller.answer(alloc, question),

@@ -1,6 +1,6 @@
 -- Meaning. What is typed, as lines of a session.
 use Rattle.std.specs.Prelude.{ℕ, ◌==◌, if◌then◌else◌, List, [], ◌∷◌, ◌++◌, map, reverse, codes, Option, Some, None, option_map}
-use Rattle.tk_keys.specs.Names.{key_named, key_of_character}
+use Rattle.tk_base.specs.Names.{key_named, key_of_character}
 use Rattle.tk_route.specs.declared.line.HostLine.{HostLine}
 use Rattle.tk_route.specs.declared.line.HostLine.TheVariants.{Keydown, Keyup}
 

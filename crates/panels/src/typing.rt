@@ -5,7 +5,7 @@ ghost use Rattle.panels.specs.Typing.{chord, key_typing, pressing, releasing, ty
 ghost use Rattle.tk_route.specs.declared.line.HostLine.TheVariants.{Keydown as Down, Keyup as Up};
 
 use std::alloc::{AllocError, Global};
-use tk_keys::Keysym;
+use tk_base::Keysym;
 use tk_session::HostLine;
 
 /// Adds the press of a key.

@@ -5,7 +5,7 @@ use crate::keys::serving_key;
 use crate::table::Part;
 use panels::{Gesture, chord};
 use std::alloc::Global;
-use tk_keys::Keysym;
+use tk_base::Keysym;
 
 /// The keys that type a text. A text that no keys type is refused.
 pub(crate) fn typed(alloc: Global, part: &Part<'_>, text: &str) -> Result<Gesture, Failure> {

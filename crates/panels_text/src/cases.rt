@@ -1,5 +1,9 @@
 //! What is told of panels, for a person.
 
+ghost use Rattle.std.specs.Prelude.{◌≡◌, IfOk};
+ghost use Rattle.std.specs.String.{string_bytes};
+ghost use Rattle.panels_text.specs.Verdicts.{count_failed, title};
+
 use std::alloc::{AllocError, Global};
 
 /// A panel of a bench that was played, or what is of no panel.
@@ -14,7 +18,9 @@ pub struct Case {
 }
 
 /// What a case is of.
-pub fn title(alloc: Global, case: &Case) -> Result<String, AllocError> {
+pub fn title(alloc: Global, case: &Case) -> Result<String, AllocError>
+    ensures { IfOk result (λ text. string_bytes text ≡ title case.now) }
+{
     if case.panel.is_empty() {
         String::from_str(alloc, case.bench.as_str())
     } else {
@@ -37,7 +43,9 @@ fn push_case(alloc: Global, text: &mut String, case: &Case) -> Result<(), AllocE
 }
 
 /// How many cases aren't as they have to be.
-pub fn count_failed(cases: &[Case]) -> usize {
+pub fn count_failed(cases: &[Case]) -> usize
+    ensures { result ≡ count_failed cases.now }
+{
     cases
         .iter()
         .filter(|case| !case.problems.is_empty())

@@ -1,5 +1,6 @@
 //! What differs between two sections, for a person to read.
 
+use crate::lines::as_text;
 use std::alloc::{AllocError, Global};
 
 fn first_word(line: &str) -> &str {
@@ -65,7 +66,8 @@ fn push_unwanted(alloc: Global, found: &mut Vec<String>, lines: &[&str]) -> Resu
 
 /// The lines that differ between the section that was wanted and the one that there is, each beside one of the other that tells of the same. Where the same
 /// lines stand in another order, or in another number, that is said.
-pub fn differences(alloc: Global, wanted: &str, got: &str) -> Result<Vec<String>, AllocError> {
+pub fn differences(alloc: Global, wanted: &[u8], got: &[u8]) -> Result<Vec<String>, AllocError> {
+    let (wanted, got) = (as_text(wanted), as_text(got));
     let mut others = without(alloc, got, wanted)?;
     let mut found = Vec::new(alloc);
     for line in &without(alloc, wanted, got)? {

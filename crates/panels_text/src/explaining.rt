@@ -7,7 +7,7 @@ ghost use Rattle.tk_session.specs.Session.{HasFault, IsSession, Plan};
 use crate::keys::serving_key;
 use crate::nearest::{is_known, nearest, next};
 use std::alloc::{AllocError, Global};
-use tk_keys::Keysym;
+use tk_base::Keysym;
 use tk_session::{LineFault, SessionFault, read_session};
 
 /// What a line of a session is to be.

@@ -1,3 +1,7 @@
+//! What keeps a command from being done.
+
+ghost use Rattle.panels_text.specs.Places.{IsFault, fault_text};
+
 use std::alloc::{AllocError, AllocFailed, Global};
 use std::io;
 
@@ -31,7 +35,9 @@ impl From<io::Error> for Failure {
 }
 
 /// What is wrong in a line of a file, counted from 1; 0 where no line says it.
-pub fn fault(alloc: Global, file: &str, line: usize, words: &str) -> Failure {
+pub fn fault(alloc: Global, file: &str, line: usize, words: &str) -> Failure
+    ensures { IsFault (fault_text file.now line words.now) result }
+{
     let text = if line == 0 {
         format!(in alloc; "{file}: {words}")
     } else {

@@ -2,7 +2,7 @@
 
 use crate::nearest::serving;
 use std::alloc::{AllocError, Global};
-use tk_keys::Keysym;
+use tk_base::Keysym;
 
 /// Names of keys that are easily missed.
 const NAMES: [&str; 34] = [

@@ -32,7 +32,7 @@ pub use failure::{Failure, fault};
 pub use files::{expected, file_beside, plain_script, write};
 pub use formats::{json, junit, push_escaped, tap};
 pub use keys::serving_key;
-pub use lines::{line_words, name_at};
+pub use lines::{as_text, line_words, name_at};
 pub use meant::{likely, otherwise};
 pub use nearest::serving;
 pub use options::{Command, Format, Options, options_of};

@@ -1,10 +1,23 @@
 //! Lines of a session in its own words.
 
+ghost use Rattle.std.specs.Prelude.{◌≡◌};
+ghost use Rattle.std.specs.Str.{IsUtf8};
+ghost use Rattle.panels_text.specs.Lines.{name_at};
+
 use std::alloc::{AllocError, Global};
 use tk_session::{AppBlock, HostLine};
 
-/// The name of the panel in a slot.
-pub fn name_at(panels: &[AppBlock], slot: usize) -> &str {
+/// A text whose bytes are UTF-8, as those of a section are; empty where they aren't.
+pub fn as_text(bytes: &[u8]) -> &str
+    ensures { IsUtf8 bytes.now → result.now ≡ bytes.now }
+{
+    std::str::from_utf8(bytes).unwrap_or("")
+}
+
+/// The name of the panel in a slot; empty where there is none.
+pub fn name_at(panels: &[AppBlock], slot: usize) -> &str
+    ensures { result.now ≡ name_at panels.now slot }
+{
     match panels.get(slot) {
         Some(panel) => panel.name.as_str(),
         None => "",

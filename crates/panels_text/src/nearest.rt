@@ -1,5 +1,8 @@
 //! Words, and those that may have been meant.
 
+ghost use Rattle.std.specs.Prelude.{◌≡◌, IfOk, IfSome};
+ghost use Rattle.panels_text.specs.Words.{IsKnown, is_known};
+
 use std::alloc::{AllocError, Global};
 use strsim::levenshtein;
 
@@ -23,7 +26,9 @@ pub(crate) fn nearest<'a>(
     alloc: Global,
     word: &str,
     known: &[&'a str],
-) -> Result<Option<&'a str>, AllocError> {
+) -> Result<Option<&'a str>, AllocError>
+    ensures { IfOk result (λ found. IfSome found (λ near. IsKnown near.now known.now)) }
+{
     let mut least = usize::MAX;
     let mut found = None;
     for candidate in known {
@@ -61,13 +66,10 @@ pub fn serving(alloc: Global, word: &str, known: &[&str]) -> Result<String, Allo
 }
 
 /// Whether a word is in a list.
-pub(crate) fn is_known(word: &str, known: &[&str]) -> bool {
-    for other in known {
-        if *other == word {
-            return true;
-        }
-    }
-    false
+pub(crate) fn is_known(word: &str, known: &[&str]) -> bool
+    ensures { result ≡ is_known word.now known.now }
+{
+    known.iter().any(|other| *other == word)
 }
 
 /// A word and the words behind its blank.

@@ -1,5 +1,8 @@
 //! Where a bench says something.
 
+ghost use Rattle.std.specs.Prelude.{◌≡◌, ◌≤◌, length, take};
+ghost use Rattle.panels_text.specs.Places.{count_breaks, line_at};
+
 /// The name between double brackets, where a line is the head of an entry of an array of tables.
 fn head_of(line: &str) -> Option<&str> {
     let name = line.trim().strip_prefix("[[")?.strip_suffix("]]")?;
@@ -42,16 +45,29 @@ pub fn line_of(bench: &str, array: &str, index: usize, key: &str) -> usize {
     at_head
 }
 
-/// The number of the line in which a byte of a text stands, counted from 1.
-pub fn line_at(text: &str, byte: usize) -> usize {
-    let mut number = 1usize;
-    for (place, character) in text.char_indices() {
-        if place >= byte {
-            return number;
-        }
-        if character == '\n' {
-            number = number.saturating_add(1);
-        }
+/// How many lines end in a text.
+fn count_breaks(bytes: &[u8]) -> usize
+    ensures breaks { result ≡ count_breaks bytes.now }
+    ensures most { result ≤ length bytes.now }
+{
+    bytes.iter().filter(|byte| **byte == b'\n').count()
+}
+
+/// What stands before a byte.
+fn front(bytes: &[u8], byte: usize) -> &[u8]
+    ensures { result.now ≡ take byte bytes.now }
+{
+    match bytes.get(..byte) {
+        Some(front) => front,
+        None => bytes,
     }
-    number
+}
+
+/// The number of the line in which a byte of a text stands, counted from 1.
+pub fn line_at(text: &str, byte: usize) -> usize
+    ensures { result ≡ line_at text.now byte }
+{
+    let front = front(text.as_bytes(), byte);
+    let _short = front.len();
+    1 + count_breaks(front)
 }

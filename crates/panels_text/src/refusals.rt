@@ -1,5 +1,7 @@
 //! What an answer says of the words of a question.
 
+ghost use Rattle.std.specs.Prelude.{◌≤◌, ◌<◌, length, IfSome};
+
 use crate::questions::{ANY, Question};
 
 /// How the answers begin that quote a word which isn't there.
@@ -36,7 +38,9 @@ fn quoted(answer: &str) -> Option<&str> {
 }
 
 /// The first word of a question that has a word in it, from one on.
-fn index_of(question: &Question, first: usize, wanted: &str) -> Option<usize> {
+fn index_of(question: &Question, first: usize, wanted: &str) -> Option<usize>
+    ensures { IfSome result (λ index. (first ≤ index) × (index < length question.now.words.items)) }
+{
     for (index, word) in question.words.iter().enumerate() {
         if index >= first && word.as_str().contains(wanted) {
             return Some(index);

@@ -1,6 +1,7 @@
 //! The rows of text that a window shows.
 
 use crate::failure::Failure;
+use crate::lines::as_text;
 use std::alloc::{AllocError, Global};
 use tcl_text::{SplitFault, Text, TextFault};
 
@@ -51,7 +52,7 @@ fn items(alloc: Global, list: &str) -> Result<Vec<Vec<u8>>, Failure> {
 
 /// The rows of a window of a class, whose value a section writes so.
 pub fn rows_of(alloc: Global, class: &[u8], value: &[u8]) -> Result<Vec<Vec<u8>>, Failure> {
-    let text = unescaped(alloc, std::str::from_utf8(value).unwrap_or(""))?;
+    let text = unescaped(alloc, as_text(value))?;
     if class == b"Listbox".as_slice() {
         return items(alloc, text.as_str());
     }

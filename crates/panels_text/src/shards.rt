@@ -1,5 +1,7 @@
 //! Shares of the benches of a check, for runs side by side.
 
+ghost use Rattle.std.specs.Prelude.{◌<◌, IfSome};
+
 use crate::failure::{Failure, fault};
 use crate::files::write;
 use std::env;
@@ -10,16 +12,22 @@ use std::rt::Files;
 #[derive(Clone, Copy, Debug, PartialEq, Eq)]
 pub struct Shard {
     /// From 0 on.
-    index: usize,
-    count: usize,
+    pub index: usize,
+    pub count: usize,
 }
 
 impl Shard {
+    ghost use Rattle.std.specs.Prelude.{◌≡◌, ◌<◌, ◌≤◌, IfNone, IfSome};
+    ghost use Rattle.panels_text.specs.Verdicts.{is_in_share};
+
     /// All benches.
     pub const WHOLE: Shard = Shard { index: 0, count: 1 };
 
     /// The share of this number, from 0 on, where there are so many.
-    fn new(index: usize, count: usize) -> Option<Shard> {
+    fn new(index: usize, count: usize) -> Option<Shard>
+        ensures some { IfSome result (λ shard. (shard ≡ record { index = index; count = count }) × (index < count)) }
+        ensures none { IfNone result (count ≤ index) }
+    {
         if index < count {
             Some(Shard { index, count })
         } else {
@@ -28,13 +36,17 @@ impl Shard {
     }
 
     /// Whether the bench of this number, from 0 on, is in the share.
-    pub fn has(self, number: usize) -> bool {
+    pub fn has(self, number: usize) -> bool
+        ensures { result ≡ is_in_share self number }
+    {
         self.count == 0 || number % self.count == self.index
     }
 }
 
 /// The share that a word names, as `1/4` the first of four.
-pub fn shard_named(word: &str) -> Option<Shard> {
+pub fn shard_named(word: &str) -> Option<Shard>
+    ensures { IfSome result (λ shard. shard.index < shard.count) }
+{
     let (number, count) = word.split_once('/')?;
     let index = number.parse::<usize>().ok()?.checked_sub(1)?;
     Shard::new(index, count.parse::<usize>().ok()?)

@@ -1,5 +1,7 @@
 //! The values of a table of a bench.
 
+ghost use Rattle.std.specs.Prelude.{◌≤◌, IfSome};
+
 use crate::failure::{Failure, fault};
 use crate::nearest::serving;
 use crate::place::line_of;
@@ -23,6 +25,8 @@ pub struct Part<'a> {
 }
 
 impl<'a> Part<'a> {
+    ghost use Rattle.std.specs.Prelude.{◌≤◌, IfOk, IfSome};
+
     /// The line that has a key.
     pub fn line(&self, key: &str) -> usize {
         let key = if self.key.is_empty() { key } else { self.key };
@@ -81,7 +85,9 @@ impl<'a> Part<'a> {
     }
 
     /// A number from 0 to `most`.
-    pub fn number(&self, alloc: Global, key: &str, most: u64) -> Result<Option<u64>, Failure> {
+    pub fn number(&self, alloc: Global, key: &str, most: u64) -> Result<Option<u64>, Failure>
+        ensures { IfOk result (λ number. IfSome number (λ number. number ≤ most)) }
+    {
         let Some(value) = self.table.get(key) else {
             return Ok(None);
         };
@@ -137,7 +143,9 @@ impl<'a> Part<'a> {
 }
 
 /// The number of a value, where it is whole and not larger than `most`.
-pub fn in_range(value: &Value, most: u64) -> Option<u64> {
+pub fn in_range(value: &Value, most: u64) -> Option<u64>
+    ensures { IfSome result (λ number. number ≤ most) }
+{
     let number = u64::try_from(value.as_integer()?).ok()?;
     if number <= most { Some(number) } else { None }
 }

@@ -1,0 +1,5 @@
+-- What the contracts cite.
+pub mod Lines
+pub mod Places
+pub mod Verdicts
+pub mod Words

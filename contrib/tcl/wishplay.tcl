@@ -15,7 +15,7 @@ if {$wanted eq ""} {
 }
 
 namespace eval play {
-    variable now 0 timers {} number 0 told {} under "" pressed "" keys "" state 0
+    variable now 0 timers {} number 0 told {} under "" at "" pressed "" keys "" state 0
     foreach command {after puts clock exit} {rename ::$command ::play::tk_$command}
 }
 
@@ -223,10 +223,30 @@ proc play::send {window x y type args} {
     if {[winfo exists $window]} {event generate $window $type -x $x -y $y -time $now -state $state {*}$args}
 }
 
+# Where a move comes from one place on the way to another, where so many are left with it.
+proc play::nearer {from to left} {
+    return [expr {$from <= $to ? $from + ($to - $from) / $left : $from - ($from - $to) / $left}]
+}
+
+# The pointer comes by places on its straight way to one of a window.
+proc play::lead {window x y moves} {
+    variable at
+    if {$at eq ""} return
+    set to [list [expr {[winfo rootx $window] + $x}] [expr {[winfo rooty $window] + $y}]]
+    for {set left $moves} {$left > 1} {incr left -1} {
+        set place [lmap from $at end $to {nearer $from $end $left}]
+        set there [winfo containing {*}$place]
+        if {$there eq ""} {set there .}
+        enter $there [expr {[lindex $place 0] - [winfo rootx $there]}] [expr {[lindex $place 1] - [winfo rooty $there]}]
+    }
+}
+
 # The pointer comes to a window.
 proc play::enter {window x y} {
     variable under
     variable pressed
+    variable at
+    set at [expr {$window eq "" ? "" : [list [expr {[winfo rootx $window] + $x}] [expr {[winfo rooty $window] + $y}]]}]
     if {$pressed eq "" && $under ne $window} {
         if {$under ne ""} {send $under 0 0 <Leave>}
         set under $window
@@ -301,7 +321,7 @@ proc play::typing {character} {
     return [expr {[dict exists $names $character] ? [dict get $names $character] : $character}]
 }
 
-proc play::pointer {what gesture window x y} {
+proc play::pointer {what gesture window x y {moves 1}} {
     set button [get $gesture button 1]
     if {[get $gesture panel] ne $::wanted} {
         if {[get $gesture focus [expr {$what in {click double-click press drag}}]]} {keys 0}
@@ -313,6 +333,7 @@ proc play::pointer {what gesture window x y} {
         return
     }
     lassign [place $window $x $y] x y
+    lead $window $x $y $moves
     lassign [enter $window $x $y] window x y
     if {[get $gesture focus [expr {$what in {click double-click press drag}}]]} {keys 1}
     switch $what {
@@ -340,7 +361,7 @@ proc play::do {entry} {
         switch $what {
             click - double-click - press - release - move - drag {
                 pointer $what $value [get $value window] [get $value x] [get $value y]
-                if {$what eq "drag"} {pointer release $value [get $value to] [get $value to-x] [get $value to-y]}
+                if {$what eq "drag"} {pointer release $value [get $value to] [get $value to-x] [get $value to-y] [get $value moves 8]}
             }
             type {
                 if {$keys ne ""} {foreach character [split $value {}] {strike [typing $character]}}

@@ -32,7 +32,7 @@ Lacks-cut x [] rest h = h.0 refl
 Lacks-cut x (y ∷ front) rest h = Lacks-cut x front rest h.1
 
 -- a text has one first cut at x
-first_cut-same : (x : ℕ) (a b s t : List ℕ) → Lacks x a → Lacks x b → a ++ x ∷ s ≡ b ++ x ∷ t → (a ≡ b) × (s ≡ t)
+pub first_cut-same : (x : ℕ) (a b s t : List ℕ) → Lacks x a → Lacks x b → a ++ x ∷ s ≡ b ++ x ∷ t → (a ≡ b) × (s ≡ t)
 first_cut-same x [] [] s t la lb e = (refl, cc)
 first_cut-same x [] (y ∷ b) s t la lb e = absurd (lb.0 cc)
 first_cut-same x (y ∷ a) [] s t la lb e = absurd (la.0 cc)
@@ -138,7 +138,7 @@ Stops-at_end (first ∷ after) left h k =
     elim (eqb_tells first 42) [ inl w ↦ w.1 | inr w ↦ absurd (h w.1) ]
 
 -- what matches after more characters matches here, at a stop
-left_matches : (rest left : List ℕ) → StopsAt rest left → (more : ℕ) → GlobMatches rest (drop more left) → GlobMatches rest left
+pub left_matches : (rest left : List ℕ) → StopsAt rest left → (more : ℕ) → GlobMatches rest (drop more left) → GlobMatches rest left
 left_matches [] left stops more m = rw stops nothing_left
 left_matches (first ∷ after) left stops more m =
     let later = GlobMatches-star m after (ap (λ (x : ℕ). x ∷ after) stops) in

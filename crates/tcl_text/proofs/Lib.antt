@@ -36,3 +36,6 @@ pub mod ListFaultsMeant
 pub mod RoundTrip
 pub mod WrittenIntegers
 pub mod CommandExamples
+pub mod LengthLemmas
+pub mod SeparatorLemmas
+pub mod GlobPieces

@@ -63,7 +63,7 @@ onto-with_first : (front : List ℕ) (c : ℕ) (pieces : List (List ℕ)) → on
 onto-with_first front c [] = refl
 onto-with_first front c (p ∷ ps) = ap (λ (t : List ℕ). t ∷ ps) (sym (append_assoc front (c ∷ []) p))
 
-take_past : (passed : ℕ) (cs : List ℕ) (c : ℕ) (next : List ℕ) → drop passed cs ≡ c ∷ next → take (suc passed) cs ≡ take passed cs ++ c ∷ []
+pub take_past : (passed : ℕ) (cs : List ℕ) (c : ℕ) (next : List ℕ) → drop passed cs ≡ c ∷ next → take (suc passed) cs ≡ take passed cs ++ c ∷ []
 take_past zero [] c next e = absurd (nothing_cons c next e)
 take_past zero (x ∷ xs) c next e = let same : x ≡ c = cc in ap (λ (y : ℕ). y ∷ []) same
 take_past (suc passed) [] c next e = absurd (nothing_cons c next e)

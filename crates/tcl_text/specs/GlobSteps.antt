@@ -1,6 +1,9 @@
 -- Steps. What the steps of a glob search say to one another.
-use Rattle.std.specs.Prelude.{◌≡◌, ◌≢◌, ℕ, List, [], ◌∷◌, drop}
-use Rattle.tcl_text.specs.Bytes.{star}
+use Rattle.std.specs.Prelude.{◌≡◌, ◌≢◌, ◌+◌, ◌<◌, ◌≤◌, ℕ, Bool, not, ◌||◌, ◌==◌, true, List, [], ◌∷◌, take, drop, length}
+use Rattle.std.specs.List.{list_all}
+use Rattle.std.specs.Str.{chars}
+use Rattle.memchr.specs.Find.{OccursAt}
+use Rattle.tcl_text.specs.Bytes.{star, question_mark, open_bracket, backslash_sign}
 use Rattle.tcl_text.specs.Glob.{GlobMatches}
 
 -- the pattern begins with a part for one character, and not with `*`
@@ -19,3 +22,27 @@ pub record Runs (pattern text rest left : List ℕ) : Type 0 where
   pub cut : left ≡ drop count text
   pub forth : (any : List ℕ) → GlobMatches pattern any → GlobMatches rest (drop count any)
   pub back : GlobMatches rest left → GlobMatches pattern text
+
+-- the character stands for itself in a pattern, wherever that isn't inside a class
+abbrev pub is_plain : ℕ → Bool
+is_plain c = not (c == star || c == question_mark || c == open_bracket || c == backslash_sign)
+
+-- the parts that lead from the pattern to rest are so many, one for each character that they stand for
+pub record Spans (pattern rest : List ℕ) (count : ℕ) : Type 0 where
+  pub forth : (any : List ℕ) → GlobMatches pattern any → (count ≤ length any) × GlobMatches rest (drop count any)
+
+-- left is what stands in the text behind the first place of the piece
+pub record IsBehindFirst (text piece left : List ℕ) : Type 0 where
+  pub place : ℕ
+  pub occurs : OccursAt text piece place
+  pub before : (k : ℕ) → k < place → OccursAt text piece k → ⊥
+  pub is : left ≡ drop (place + length piece) text
+
+-- rest is what stands in the pattern from a byte on, and the characters before it are plain
+pub record PassesPlain (pattern rest : List ℕ) : Type 0 where
+  pub start : ℕ
+  pub within : start ≤ length pattern
+  pub is : rest ≡ drop start pattern
+  pub passed : ℕ
+  pub at : chars rest ≡ drop passed (chars pattern)
+  pub plain : list_all is_plain (take passed (chars pattern)) ≡ true

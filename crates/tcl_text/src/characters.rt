@@ -1,6 +1,7 @@
 //! A text by its characters. Where all are ASCII, which one quick pass tells, they are counted and taken by bytes; else they are walked over.
 ghost use Rattle.std.specs.Prelude.{◌≡◌, ◌≢◌, ◌<◌, ◌≤◌, [], ◌∷◌, ◌++◌, length, take, drop, MatchOption, IfSome, IfOk, IfErr, encode_utf8};
 ghost use Rattle.std.specs.Str.{chars};
+ghost use Rattle.memchr.specs.Find.{FindsNeedle};
 ghost use Rattle.tcl_text.specs.Backslash.{is_white};
 ghost use Rattle.tcl_text.specs.Characters.{behind as behind_of, front as front_of, size, with_inserted, without_characters};
 ghost use Rattle.tcl_text.specs.Limits.{most_bytes};
@@ -9,6 +10,7 @@ ghost use Rattle.tcl_text.specs.StringCommands.{drop_white_end, trimmed as trimm
 use crate::fault::TextFault;
 use crate::text::Text;
 use crate::white_space::behind_white;
+use memchr::memmem;
 use std::alloc::Global;
 
 /// The first character, and what follows it.
@@ -36,6 +38,13 @@ pub(crate) fn split_last_char(text: &str) -> Option<(&str, char)>
     let mut rest = text.chars();
     let last = rest.next_back()?;
     Some((rest.as_str(), last))
+}
+
+/// The byte at which the needle first stands in the text.
+pub(crate) fn find_text(text: &str, needle: &str) -> Option<usize>
+    ensures { FindsNeedle text.now needle.now 0 result }
+{
+    memmem::find(text.as_bytes(), needle.as_bytes())
 }
 
 /// How many characters there are.

@@ -1,18 +1,21 @@
 //! Glob patterns, as `string match` of string(n) has them.
-ghost use Rattle.std.specs.Prelude.{◌≡◌, ◌<◌, ◌↔◌, [], List, ℕ, ◌∷◌, ◌+◌, length, IsTrue, IfSome, IfNone};
+ghost use Rattle.std.specs.Prelude.{◌≡◌, ◌<◌, ◌≤◌, ◌↔◌, [], List, ℕ, ◌∷◌, ◌+◌, ◌++◌, length, true, IsTrue, IfSome, IfNone};
+ghost use Rattle.std.specs.List.{list_all};
 ghost use Rattle.std.specs.Str.{chars};
+ghost use Rattle.memchr.specs.Find.{OccursAt};
 ghost use Rattle.tcl_text.specs.Bytes.{minus_sign, star};
 ghost use Rattle.tcl_text.specs.Glob.{in_class, AllowsByClass, AllowsFirst, GlobMatches, glob_matches};
-ghost use Rattle.tcl_text.specs.GlobSteps.{HasPart, StopsAt, Runs};
+ghost use Rattle.tcl_text.specs.GlobSteps.{HasPart, IsBehindFirst, PassesPlain, StopsAt, Runs, Spans, is_plain as is_plain_of};
 
-use crate::characters::split_first_char;
+use crate::characters::{count, find_text, split_characters, split_first_char};
 use crate::text::Text;
 
 impl Text {
     /// Whether the pattern matches the whole text, as `string match` of string(n): `*` stands for any text, `?` for one character,
     /// `[..]` for one of its characters and ranges, `\x` for x itself. The first `]` ends a class, in which a backslash is itself.
-    /// A pattern whose class isn't closed, or that ends with a lone backslash, matches nothing. It takes no memory, and at most
-    /// as many steps as the pattern's length times the text's.
+    /// A pattern whose class isn't closed, or that ends with a lone backslash, matches nothing. It takes no memory. What stands between two
+    /// stars costs as many steps as the text is long, where it is plain characters, and what stands behind the last star as many as it is
+    /// long itself; the other parts between stars cost at most their length times the text's.
     pub fn glob_match(pattern: &Text, text: &Text) -> bool
         ensures matches { IsTrue result ↔ GlobMatches (chars pattern.now) (chars text.now) }
         ensures value { result ≡ glob_matches (chars pattern.now) (chars text.now) }
@@ -44,6 +47,150 @@ fn matches_whole(pattern: &str, text: &str) -> bool
 /// Finds the first place in the text from which the pattern's parts, up to its next `*` or its end,
 /// match. Answers what is left of both there.
 fn find_run<'p, 't>(pattern: &'p str, text: &'t str) -> Option<(&'p str, &'t str)>
+    ensures found { IfSome result (λ rests.
+        GlobMatches (chars rests.0.now) (chars rests.1.now)
+        ↔ GlobMatches (star ∷ chars pattern.now) (chars text.now)) }
+    ensures stops { IfSome result (λ rests. StopsAt (chars rests.0.now) (chars rests.1.now)) }
+    ensures none { IfNone result (GlobMatches (star ∷ chars pattern.now) (chars text.now) → ⊥) }
+    ensures shorter { IfSome result (λ rests. length rests.0.now < length pattern.now + 1) }
+{
+    let (piece, rest) = plain_front(pattern, text.len());
+    if piece.len() > text.len() {
+        return None;
+    }
+    if piece.is_empty() || rest.is_empty() || has_part(rest) {
+        return find_parts(pattern, text);
+    }
+    let left = behind_first(piece, text)?;
+    Some((rest, left))
+}
+
+/// The same of parts that aren't all plain characters before a `*`.
+fn find_parts<'p, 't>(pattern: &'p str, text: &'t str) -> Option<(&'p str, &'t str)>
+    ensures found { IfSome result (λ rests.
+        GlobMatches (chars rests.0.now) (chars rests.1.now)
+        ↔ GlobMatches (star ∷ chars pattern.now) (chars text.now)) }
+    ensures stops { IfSome result (λ rests. StopsAt (chars rests.0.now) (chars rests.1.now)) }
+    ensures none { IfNone result (GlobMatches (star ∷ chars pattern.now) (chars text.now) → ⊥) }
+    ensures shorter { IfSome result (λ rests. length rests.0.now < length pattern.now + 1) }
+{
+    let (parts, behind) = run_of(pattern, text.len())?;
+    if behind.is_empty() {
+        match_end(pattern, parts, text)
+    } else {
+        walk_run(pattern, text)
+    }
+}
+
+/// The pattern's plain characters in front, as far as it looks for them, which is soon behind so many bytes, and what follows them.
+fn plain_front(pattern: &str, most: usize) -> (&str, &str)
+    ensures plain { list_all is_plain_of (chars result.0.now) ≡ true }
+    ensures cut { chars pattern.now ≡ chars result.0.now ++ chars result.1.now }
+    ensures shorter { length result.1.now < length pattern.now + 1 }
+{
+    let rest = behind_plain(pattern, most);
+    pattern.split_at(pattern.len() - rest.len())
+}
+
+/// What follows the pattern's plain characters in front, as far as it looks for them.
+fn behind_plain(pattern: &str, most: usize) -> &str
+    ensures { PassesPlain pattern.now result.now }
+{
+    let mut rest = pattern;
+    while let Some((first, after)) = split_first_char(rest) {
+        if !is_plain(first) || pattern.len() - rest.len() > most {
+            return rest;
+        }
+        rest = after;
+    }
+    rest
+}
+
+/// Whether the character stands for itself in a pattern, wherever that isn't inside a class.
+fn is_plain(character: char) -> bool
+    ensures { result ≡ is_plain_of character }
+{
+    !(character == '*' || character == '?' || character == '[' || character == '\\')
+}
+
+/// What stands in the text behind the first place of the piece.
+fn behind_first<'t>(piece: &str, text: &'t str) -> Option<&'t str>
+    requires { 0 < length piece.now }
+    ensures found { IfSome result (λ left. IsBehindFirst text.now piece.now left.now) }
+    ensures none { IfNone result ((place : ℕ) → OccursAt text.now piece.now place → ⊥) }
+{
+    let place = find_text(text, piece)?;
+    let end = place + piece.len();
+    Some(&text[end..])
+}
+
+/// How many parts the pattern has up to its next `*` or its end, and what follows them; none where one of them has no end, or where they are
+/// more than so many.
+fn run_of(pattern: &str, most: usize) -> Option<(usize, &str)>
+    ensures spans { IfSome result (λ run. Spans (chars pattern.now) (chars run.1.now) run.0) }
+    ensures none { IfNone result ((text : List ℕ) → length text ≤ most → GlobMatches (chars pattern.now) text → ⊥) }
+{
+    let mut parts = 0;
+    let mut rest = pattern;
+    while has_part(rest) {
+        if parts == most {
+            return None;
+        }
+        rest = behind_part(rest)?;
+        parts += 1;
+    }
+    Some((parts, rest))
+}
+
+/// What follows the pattern's first part, whatever character that allows; none where the part has no end.
+fn behind_part(pattern: &str) -> Option<&str>
+    ensures behind { IfSome result (λ rest. (character : ℕ) (other : List ℕ)
+        → AllowsFirst (chars pattern.now) character other → other ≡ chars rest.now) }
+    ensures none { IfNone result ((character : ℕ) (other : List ℕ) → AllowsFirst (chars pattern.now) character other → ⊥) }
+    ensures shorter { IfSome result (λ rest. length rest.now < length pattern.now) }
+{
+    let (first, after) = split_first_char(pattern)?;
+    match first {
+        '\\' => {
+            let (_escaped, rest) = split_first_char(after)?;
+            Some(rest)
+        }
+        '[' => behind_class(after),
+        _ => Some(after),
+    }
+}
+
+/// What follows the class whose text this is up to the first `]`.
+fn behind_class(text: &str) -> Option<&str>
+    ensures behind { IfSome result (λ rest. (character : ℕ) (other : List ℕ)
+        → AllowsByClass (chars text.now) character other → other ≡ chars rest.now) }
+    ensures none { IfNone result ((character : ℕ) (other : List ℕ) → AllowsByClass (chars text.now) character other → ⊥) }
+    ensures shorter { IfSome result (λ rest. length rest.now < length text.now) }
+{
+    let (_class, rest) = text.split_once(']')?;
+    Some(rest)
+}
+
+/// Matches the pattern, which has so many parts and no `*`, against as many characters at the text's end. Answers what is left of both.
+fn match_end<'p, 't>(pattern: &'p str, parts: usize, text: &'t str) -> Option<(&'p str, &'t str)>
+    requires { Spans (chars pattern.now) [] parts }
+    ensures found { IfSome result (λ rests.
+        GlobMatches (chars rests.0.now) (chars rests.1.now)
+        ↔ GlobMatches (star ∷ chars pattern.now) (chars text.now)) }
+    ensures stops { IfSome result (λ rests. StopsAt (chars rests.0.now) (chars rests.1.now)) }
+    ensures none { IfNone result (GlobMatches (star ∷ chars pattern.now) (chars text.now) → ⊥) }
+    ensures shorter { IfSome result (λ rests. length rests.0.now < length pattern.now + 1) }
+{
+    let size = count(text);
+    if size < parts {
+        return None;
+    }
+    let (_skipped, end) = split_characters(text, size - parts);
+    match_run(pattern, end)
+}
+
+/// The same, by each place one after another.
+fn walk_run<'p, 't>(pattern: &'p str, text: &'t str) -> Option<(&'p str, &'t str)>
     ensures found { IfSome result (λ rests.
         GlobMatches (chars rests.0.now) (chars rests.1.now)
         ↔ GlobMatches (star ∷ chars pattern.now) (chars text.now)) }

@@ -11,6 +11,7 @@ mod fault;
 mod glob;
 mod integer;
 pub mod laws;
+pub mod lengths;
 mod list;
 mod list_form;
 mod list_items;

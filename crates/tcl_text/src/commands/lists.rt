@@ -1,10 +1,11 @@
 //! The commands of list(n), llength(n), lindex(n), lrange(n), linsert(n), lreplace(n), lsearch(n)
 //! and join(n).
-ghost use Rattle.std.specs.Prelude.{◌≡◌, ◌++◌, ◌≤◌, length, position, IfOk, OnOk, string_bytes};
+ghost use Rattle.std.specs.Prelude.{◌≡◌, ◌+◌, ◌++◌, ◌<◌, ◌≤◌, length, position, IfOk, IfSome, IfNone, OnOk, string_bytes};
 ghost use Rattle.tcl_text.specs.Answers.{Gives, answers};
 ghost use Rattle.tcl_text.specs.Indices.{part};
 ghost use Rattle.tcl_text.specs.Readings.{list_form};
 ghost use Rattle.tcl_text.specs.ListCommands as spec;
+ghost use Rattle.tcl_text.specs.Limits.{most_bytes};
 ghost use Rattle.tcl_text.specs.ListSteps.{each_behind};
 
 use crate::commands::answers::{
@@ -14,6 +15,7 @@ use crate::commands::answers::{
 use crate::commands::indices::{Index, index_in};
 use crate::commands::items::{items_in, list_answer};
 use crate::fault::TextFault;
+use crate::lengths::longer;
 use crate::list_string::ListString;
 use crate::text::Text;
 use std::alloc::{AllocError, Global};
@@ -363,14 +365,49 @@ fn join_list_by(alloc: Global, list: &Text, between: &str) -> Reply
     ensures { Gives result (spec.join_list_by list.now between.now) }
 {
     let items = items_in(alloc, list)?;
-    let string = joined(alloc, between, items.as_slice())?;
+    joined_answer(alloc, between, items.as_slice())
+}
+
+/// The items with the text between each two. What is too long is refused before a byte of it is asked for.
+fn joined_answer(alloc: Global, between: &str, items: &[Text]) -> Reply
+    ensures { Gives result (answers (spec.joined between.now items.now)) }
+{
+    let Some(size) = joined_len(between, items) else {
+        return Err(limit_reached(alloc));
+    };
+    let string = joined(alloc, size, between, items)?;
     string_answer(alloc, string)
 }
 
-fn joined(alloc: Global, between: &str, items: &[Text]) -> Result<String, AllocError>
+/// How long the items are with the text between each two; none past 65,536 bytes.
+fn joined_len(between: &str, items: &[Text]) -> Option<usize>
+    ensures exact { IfSome result (λ size. size ≡ length (spec.joined between.now items.now)) }
+    ensures none { IfNone result (most_bytes < length (spec.joined between.now items.now)) }
+{
+    match items.split_first() {
+        Some((first, others)) => len_behind(first.as_str().len(), between, others),
+        None => Some(0),
+    }
+}
+
+/// How long a text of this length is with the items behind it, each behind another text; none past 65,536 bytes.
+fn len_behind(text: usize, between: &str, items: &[Text]) -> Option<usize>
+    requires { text ≤ most_bytes }
+    ensures exact { IfSome result (λ size. size ≡ text + length (each_behind between.now items.now)) }
+    ensures none { IfNone result (most_bytes < text + length (each_behind between.now items.now)) }
+{
+    let mut size = text;
+    for item in items {
+        size = longer(longer(size, between.len())?, item.as_str().len())?;
+    }
+    Some(size)
+}
+
+/// The items with the text between each two, for which so many bytes are asked for at once.
+fn joined(alloc: Global, size: usize, between: &str, items: &[Text]) -> Result<String, AllocError>
     ensures { IfOk result (λ string. string_bytes string ≡ spec.joined between.now items.now) }
 {
-    let mut string = String::new(alloc);
+    let mut string = String::with_capacity(alloc, size)?;
     let Some((first, others)) = items.split_first() else {
         return Ok(string);
     };

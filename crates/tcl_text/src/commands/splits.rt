@@ -1,6 +1,8 @@
 //! The command of split(n).
 ghost use Rattle.std.specs.Prelude.{◌≡◌, ◌≤◌, ◌<◌, ◌++◌, ◌∷◌, [], length, IfOk, IfSome, OnOk};
 ghost use Rattle.std.specs.Option.{option_copied};
+ghost use Rattle.std.specs.List.Sorted.{IsPermutation, IsSorted};
+ghost use Rattle.std.specs.Ordering.{nat_cmp};
 ghost use Rattle.std.specs.Str.{chars, encode_utf8_all};
 ghost use Rattle.memchr.specs.Find.{IsFirstByte, is_byte};
 ghost use Rattle.tcl_text.specs.Answers.{Gives};
@@ -45,8 +47,19 @@ fn split_text(alloc: Global, text: &str, separators: &str) -> Reply
         let characters = characters_of(alloc, text)?;
         return list_answer(alloc, characters.as_slice());
     }
-    let pieces = pieces_of(alloc, text, separators)?;
+    let set = sorted_characters(alloc, separators)?;
+    let pieces = pieces_of(alloc, text, set.as_slice())?;
     list_answer(alloc, pieces.as_slice())
+}
+
+/// The characters in order, to be looked up.
+fn sorted_characters(alloc: Global, text: &str) -> Result<Vec<char>, AllocError>
+    ensures sorted { IfOk result (λ set. IsSorted nat_cmp set.items) }
+    ensures same { IfOk result (λ set. IsPermutation (chars text.now) set.items) }
+{
+    let mut characters: Vec<char> = text.chars().collect(alloc)?;
+    characters.sort_unstable();
+    Ok(characters)
 }
 
 /// Each character as a text.
@@ -65,9 +78,10 @@ fn characters_of(alloc: Global, text: &str) -> Result<Vec<Text>, AllocError>
 }
 
 /// The parts of the text between separators.
-fn pieces_of(alloc: Global, text: &str, separators: &str) -> Result<Vec<Text>, AllocError>
-    requires { length text.now ≤ most_bytes }
-    ensures { IfOk result (λ pieces. pieces.items ≡ spec.pieces_of text.now (chars separators.now)) }
+fn pieces_of(alloc: Global, text: &str, separators: &[char]) -> Result<Vec<Text>, AllocError>
+    requires short { length text.now ≤ most_bytes }
+    requires sorted { IsSorted nat_cmp separators.now }
+    ensures { IfOk result (λ pieces. pieces.items ≡ spec.pieces_of text.now separators.now) }
 {
     let mut pieces = Vec::new(alloc);
     let mut rest = text;
@@ -82,14 +96,15 @@ fn pieces_of(alloc: Global, text: &str, separators: &str) -> Result<Vec<Text>, A
 }
 
 /// The text up to its first separator, and what follows that, if it has one.
-fn cut_piece<'t>(text: &'t str, separators: &str) -> (&'t str, Option<&'t str>)
-    ensures cut { CutsOnce (spec.is_one_of (chars separators.now)) text.now result.0.now (option_copied result.1) }
+fn cut_piece<'t>(text: &'t str, separators: &[char]) -> (&'t str, Option<&'t str>)
+    requires { IsSorted nat_cmp separators.now }
+    ensures cut { CutsOnce (spec.is_one_of separators.now) text.now result.0.now (option_copied result.1) }
     ensures short { length result.0.now ≤ length text.now }
     ensures shorter { IfSome result.1 (λ rest. length rest.now < length text.now) }
 {
-    if let [separator] = separators.as_bytes() {
+    if let [separator] = separators {
         if separator.is_ascii() {
-            return cut_at_byte(text, *separator);
+            return cut_at_byte(text, *separator as u8);
         }
     }
     cut_at_character(text, separators)
@@ -116,8 +131,9 @@ fn find_byte(text: &str, byte: u8) -> Option<usize>
 }
 
 /// The same for any separators, by the characters one after another.
-fn cut_at_character<'t>(text: &'t str, separators: &str) -> (&'t str, Option<&'t str>)
-    ensures cut { CutsOnce (spec.is_one_of (chars separators.now)) text.now result.0.now (option_copied result.1) }
+fn cut_at_character<'t>(text: &'t str, separators: &[char]) -> (&'t str, Option<&'t str>)
+    requires { IsSorted nat_cmp separators.now }
+    ensures cut { CutsOnce (spec.is_one_of separators.now) text.now result.0.now (option_copied result.1) }
     ensures short { length result.0.now ≤ length text.now }
     ensures shorter { IfSome result.1 (λ rest. length rest.now < length text.now) }
 {
@@ -132,9 +148,10 @@ fn cut_at_character<'t>(text: &'t str, separators: &str) -> (&'t str, Option<&'t
     (text, None)
 }
 
-/// Whether the character is one of the separators.
-fn is_one_of(separators: &str, character: char) -> bool
-    ensures { result ≡ spec.is_one_of (chars separators.now) character }
+/// Whether the character is one of the separators, by halving them.
+fn is_one_of(separators: &[char], character: char) -> bool
+    requires { IsSorted nat_cmp separators.now }
+    ensures { result ≡ spec.is_one_of separators.now character }
 {
-    separators.chars().any(|separator| separator == character)
+    separators.binary_search(&character).is_ok()
 }

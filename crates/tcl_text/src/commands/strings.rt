@@ -1,22 +1,22 @@
 //! The commands of string(n), and concat(n).
-ghost use Rattle.std.specs.Prelude.{◌≡◌, min, replicate, IfOk, IfSome, OnOk, string_bytes, length};
+ghost use Rattle.std.specs.Prelude.{◌≡◌, ◌<◌, ◌≤◌, min, replicate, IfOk, IfSome, IfNone, OnOk, string_bytes, length};
 ghost use Rattle.std.specs.List.{concat};
 ghost use Rattle.std.specs.Str.{chars, encode_utf8_all, IsAscii};
-ghost use Rattle.memchr.specs.Find.{FindsNeedle};
 ghost use Rattle.tcl_text.specs.Answers.{Gives, answers};
 ghost use Rattle.tcl_text.specs.Indices.{part};
 ghost use Rattle.tcl_text.specs.StringCommands as spec;
-ghost use Rattle.tcl_text.specs.StringSteps.{with_word};
+ghost use Rattle.tcl_text.specs.Limits.{most_bytes};
+ghost use Rattle.tcl_text.specs.StringSteps.{with_word, word_added};
 
-use crate::characters::{self, split_characters, trimmed};
+use crate::characters::{self, find_text, split_characters, trimmed};
 use crate::commands::answers::{
     Reply, bad_option, decimal_answer, limit_reached, place_answer, string_answer, text_answer,
     truth_answer, wrong_args,
 };
 use crate::commands::indices::{Index, index_in};
 use crate::commands::integers::integer_of;
+use crate::lengths::longer;
 use crate::text::{MAX_BYTES, Text};
-use memchr::memmem;
 use std::alloc::{AllocError, Global};
 use std::cmp::Ordering;
 
@@ -188,13 +188,6 @@ fn characters_before(needle: &str, text: &str) -> Option<usize>
     Some(characters::count(before))
 }
 
-/// The byte at which the needle first stands in the text.
-fn find_text(text: &str, needle: &str) -> Option<usize>
-    ensures { FindsNeedle text.now needle.now 0 result }
-{
-    memmem::find(text.as_bytes(), needle.as_bytes())
-}
-
 fn string_repeat(alloc: Global, words: &[Text]) -> Reply
     ensures { Gives result (spec.string_repeat words.now) }
 {
@@ -242,14 +235,44 @@ pub fn concat_words(alloc: Global, words: &[Text]) -> Reply
     {
         return Ok(word.copy()?);
     }
-    let string = concatenated(alloc, words)?;
+    let Some(size) = concatenated_len(words) else {
+        return Err(limit_reached(alloc));
+    };
+    let string = concatenated(alloc, size, words)?;
     string_answer(alloc, string)
 }
 
-fn concatenated(alloc: Global, words: &[Text]) -> Result<String, AllocError>
+/// How long the words are when they are joined; none past 65,536 bytes.
+fn concatenated_len(words: &[Text]) -> Option<usize>
+    ensures exact { IfSome result (λ size. size ≡ length (spec.concatenated words.now)) }
+    ensures none { IfNone result (most_bytes < length (spec.concatenated words.now)) }
+{
+    let mut size = 0;
+    for word in words {
+        size = len_with_word(size, trimmed(word.as_str()))?;
+    }
+    Some(size)
+}
+
+/// How long a text of this length is with the word behind a blank; none past 65,536 bytes.
+#[tactic(auto, using(crate::proofs::LengthLemmas::added))]
+fn len_with_word(text: usize, added: &str) -> Option<usize>
+    requires { text ≤ most_bytes }
+    ensures exact { IfSome result (λ size. size ≡ word_added text (length added.now)) }
+    ensures within { IfSome result (λ size. size ≤ most_bytes) }
+    ensures none { IfNone result (most_bytes < word_added text (length added.now)) }
+{
+    if text == 0 || added.is_empty() {
+        return longer(text, added.len());
+    }
+    longer(longer(text, 1)?, added.len())
+}
+
+/// The words joined, for which so many bytes are asked for at once.
+fn concatenated(alloc: Global, size: usize, words: &[Text]) -> Result<String, AllocError>
     ensures { IfOk result (λ string. string_bytes string ≡ spec.concatenated words.now) }
 {
-    let mut string = String::new(alloc);
+    let mut string = String::with_capacity(alloc, size)?;
     for word in words {
         push_word(&mut string, trimmed(word.as_str()))?;
     }

@@ -1,29 +1,34 @@
-use Rattle.std.proofs.Common.{ℕ, List, ◌+◌, rules, subst, sym, ◌∙◌, drop}
+use Rattle.std.proofs.Common.{◌<◌, ◌∙◌, arith, length, rules, sym}
 use Rattle.std.specs.Str.{chars}
-use borrow.Author.Count.{below_more}
-use Rattle.tcl_text.specs.Glob.{GlobMatches}
-use Rattle.tcl_text.specs.GlobSteps.{Runs}
-use Rattle.tcl_text.proofs.GlobLemmas.{star_found, star_none, star_skips, drop_past}
+use Rattle.std.proofs.lemmas.Bool.{false≢true}
+use Rattle.std.proofs.lemmas.Bool.Decides.{nat_tests}
+use Rattle.tcl_text.specs.GlobSteps.{StopsAt}
+use Rattle.tcl_text.proofs.GlobLemmas.{Stops-at_end, bytes_left}
+use Rattle.tcl_text.proofs.GlobPieces.{piece_none, piece_found, piece_matched, piece_long}
 use Rattle.tcl_text.proofs.glob.find_run.Goals as goal
 
-pub returns-in-Some-clause-found : goal.returns-in-Some-clause-found
-returns-in-Some-clause-found c =
-    let from = c.loop-rest.invariant.1 in
-    let run : Runs (chars c.args.pattern.now) (drop from.0 (chars c.args.text.now)) (chars c.in-Some.rest.now) (chars c.in-Some.left.now) =
-    subst (λ (t : List ℕ). Runs (chars c.args.pattern.now) t (chars c.in-Some.rest.now) (chars c.in-Some.left.now)) from.1 c.in-Some.ensures.found
+pub returns-then-piece-text-clause-none : goal.returns-then-piece-text-clause-none
+returns-then-piece-text-clause-none c =
+    piece_long c.args.text.now c.plain_front.result.0.now (chars c.args.pattern.now) (chars c.plain_front.result.1.now) c.utf8.text (search rules) c.plain_front.ensures.cut c.plain_front.ensures.plain (omega arith)
+
+pub returns-in_err-left-clause-none : goal.returns-in_err-left-clause-none
+returns-in_err-left-clause-none c =
+    rw c.from_residual.ensures (piece_none c.args.text.now c.plain_front.result.0.now (chars c.args.pattern.now) (chars c.plain_front.result.1.now) c.utf8.text (search rules) c.plain_front.ensures.cut c.plain_front.ensures.plain c.in_err-left.ensures.none)
+
+pub returns-clause-stops : goal.returns-clause-stops
+returns-clause-stops c =
+    Stops-at_end (chars c.plain_front.result.1.now) (chars c.in_ok-left.left.now) (λ part. false≢true (sym c.if-has_part.false ∙ c.has_part.ensures.1 part)) (λ none. absurd (bytes_left c.plain_front.result.1.now (search rules) none (λ e. grind (arith, nat_tests))))
+
+pub returns-clause-found : goal.returns-clause-found
+returns-clause-found c =
+    let text = c.args.text.now in
+    let piece = c.plain_front.result.0.now in
+    let rest = c.plain_front.result.1.now in
+    let left = c.in_ok-left.left.now in
+    let some : 0 < length piece = grind (arith, nat_tests) in
+    let stops : StopsAt (chars rest) (chars left) =
+    Stops-at_end (chars rest) (chars left) (λ part. false≢true (sym c.if-has_part.false ∙ c.has_part.ensures.1 part)) (λ none. absurd (bytes_left rest (search rules) none (λ e. grind (arith, nat_tests))))
     in (
-      λ m. star_skips _ _ from.0 (run.back m),
-      λ m. star_found _ _ _ _ from.0 run c.in-Some.ensures.stops from.2 m,
-    )
-
-pub returns-in_err-_skipped-clause-none : goal.returns-in_err-_skipped-clause-none
-returns-in_err-_skipped-clause-none c =
-    let from = c.loop-rest.invariant.1 in
-    rw c.from_residual.ensures (star_none _ _ from.0 (sym from.1 ∙ c.in_err-_skipped.ensures.cut) from.2 (rw (← from.1) c.in_default.ensures.none))
-
-pub loop-rest-preserved : goal.loop-rest-preserved
-loop-rest-preserved c =
-    let from = c.loop-rest.invariant.1 in (
-      search rules,
-      (from.0 + 1, drop_past _ _ from.0 _ (sym from.1 ∙ c.in_ok-_skipped.ensures.cut), below_more (λ (k : ℕ). GlobMatches (chars c.args.pattern.now) (drop k (chars c.args.text.now)) → ⊥) from.0 from.2 (rw (← from.1) c.in_default.ensures.none)),
+      λ m. piece_matched text piece (chars c.args.pattern.now) (chars rest) left c.utf8.text (search rules) some c.plain_front.ensures.cut c.plain_front.ensures.plain c.in_ok-left.ensures.found m,
+      λ m. piece_found text piece (chars c.args.pattern.now) (chars rest) left c.utf8.text (search rules) (search rules) some c.plain_front.ensures.cut c.plain_front.ensures.plain c.in_ok-left.ensures.found stops m,
     )

@@ -9,4 +9,4 @@ returns c =
     let between = c.args.between.now in
     let first = c.in-Some.first.now in
     let others = c.in-Some.others.now in
-    c.in_ok-push_behind.ensures ∙ ap (λ (t : List ℕ). t ++ each_behind between others) (c.in_ok-push_str.ensures.bytes ∙ ap (λ (t : List ℕ). t ++ c.as_str.result.now) c.new-string.ensures.bytes ∙ c.as_str.ensures.bytes) ∙ sym (joined-behind between first others) ∙ ap (joined between) (sym c.in-Some.ensures.cases.0)
+    c.in_ok-push_behind.ensures ∙ ap (λ (t : List ℕ). t ++ each_behind between others) (c.in_ok-push_str.ensures.bytes ∙ ap (λ (t : List ℕ). t ++ c.as_str.result.now) c.in_ok-string.ensures.bytes ∙ c.as_str.ensures.bytes) ∙ sym (joined-behind between first others) ∙ ap (joined between) (sym c.in-Some.ensures.cases.0)

@@ -11,7 +11,7 @@ use Rattle.tcl_text.proofs.commands.splits.cut_at_character.Given as goal
 abbrev pub invariant-loop-first : goal.invariant-loop-first
 invariant-loop-first l =
     shadow (Utf8 l.rest) × IsEnd l.text l.rest
-    × ((passed : ℕ) × (chars l.rest ≡ drop passed (chars l.text)) × (cut_at (is_one_of (chars l.separators)) (chars l.text) ≡ onto_first (take passed (chars l.text)) (cut_at (is_one_of (chars l.separators)) (chars l.rest))))
+    × ((passed : ℕ) × (chars l.rest ≡ drop passed (chars l.text)) × (cut_at (is_one_of l.separators) (chars l.text) ≡ onto_first (take passed (chars l.text)) (cut_at (is_one_of l.separators) (chars l.rest))))
 
 abbrev pub decreases-loop-first : goal.decreases-loop-first
 decreases-loop-first l = length l.rest

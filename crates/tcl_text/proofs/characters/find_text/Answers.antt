@@ -1,6 +1,6 @@
 use Rattle.std.proofs.Common.{List, ℕ, subst}
 use Rattle.memchr.specs.Find.{FindsNeedle}
-use Rattle.tcl_text.proofs.commands.strings.find_text.Goals as goal
+use Rattle.tcl_text.proofs.characters.find_text.Goals as goal
 
 pub returns : goal.returns
 returns c =

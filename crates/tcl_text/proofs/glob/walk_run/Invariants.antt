@@ -3,7 +3,7 @@ use denote.Text.{Utf8}
 use denote.Shadow.{shadow}
 use Rattle.std.specs.Str.{chars}
 use Rattle.tcl_text.specs.Glob.{GlobMatches}
-use Rattle.tcl_text.proofs.glob.find_run.Given as goal
+use Rattle.tcl_text.proofs.glob.walk_run.Given as goal
 
 -- `from` is the text after its first `skipped` characters, and at none of the places before it the pattern matches
 abbrev pub invariant-loop-rest : goal.invariant-loop-rest

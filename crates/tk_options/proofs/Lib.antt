@@ -1,4 +1,5 @@
 -- Lemmas.
+pub mod AmountLemmas
 pub mod Entries
 pub mod Only
 pub mod Places

@@ -1,4 +1,5 @@
 -- What the contracts cite.
+pub mod Amounts
 pub mod Entries
 pub mod FaultTexts
 pub mod Forms

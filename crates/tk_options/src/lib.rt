@@ -1,6 +1,7 @@
 //! What each kind of Tk's widgets is, and the options of one: what values they take, and those that it has.
 #![tactic(auto)]
 
+mod amounts;
 mod fault;
 mod form;
 mod option;

@@ -6,6 +6,7 @@ ghost use Rattle.tk_options.specs.Options.{is_named, is_begun, only, meant, test
 ghost use Rattle.tk_options.specs.Entries.{with_option};
 ghost use Rattle.tk_options.specs.Forms.{most_amount};
 
+use crate::amounts::Amounts;
 use crate::fault::OptionFault;
 use crate::form::amount_in;
 use crate::option::{OptionEntry, OptionName};
@@ -22,18 +23,21 @@ use tk_base::Kind;
 pub struct OptionTable {
     /// By name, in the order in which they are told.
     entries: IndexMap<&'static str, OptionEntry>,
+    /// What the amounts among them spell.
+    amounts: Amounts,
 }
 
 impl Model for OptionTable {
     ghost use Rattle.std.specs.Prelude.{List};
     ghost use Rattle.tk_options.specs.declared.option.OptionEntry.{OptionEntry};
-    ghost use Rattle.tk_options.specs.Entries.{options_in, AreUnderTheirNames};
+    ghost use Rattle.tk_options.specs.Amounts.{AreKept};
+    ghost use Rattle.tk_options.specs.Entries.{options_in};
 
     ghost Value = { List OptionEntry };
 
     ghost view = { λ t. options_in t.entries.entries };
 
-    ghost invariant = { λ t. AreUnderTheirNames t.entries.entries };
+    ghost invariant = { λ t. AreKept t.entries.entries t.amounts };
 }
 
 impl OptionTable {
@@ -55,6 +59,7 @@ impl OptionTable {
     {
         Ok(OptionTable {
             entries: IndexMap::with_capacity(alloc, count)?,
+            amounts: Amounts::none(),
         })
     }
 
@@ -62,8 +67,12 @@ impl OptionTable {
     fn add(&mut self, entry: OptionEntry) -> Result<(), AllocError>
         ensures { OnOk result (self.new ≡ with_option entry self.old) }
     {
+        let amounts = self.amounts.with(entry.option, &entry.value);
         match self.entries.insert(entry.option.name(), entry) {
-            Ok(_) => Ok(()),
+            Ok(_) => {
+                self.amounts = amounts;
+                Ok(())
+            }
             Err(_) => Err(AllocError),
         }
     }
@@ -148,11 +157,22 @@ impl OptionTable {
         Some(&entry.value)
     }
 
-    /// The pixels, columns or lines of an option; 0 where the widget has no such option. It takes no memory.
-    #[tactic(auto, unfolding(crate::specs::Options::amount_of))]
+    /// The pixels, columns or lines of an option; 0 where the widget has no such option. No value of an option that takes an amount is
+    /// read again. It takes no memory.
     pub fn amount(&self, option: OptionName) -> u32
         ensures value { result ≡ amount_of option self.now }
         ensures bound { result ≤ most_amount }
+    {
+        match self.amounts.of(option) {
+            Some(amount) => amount,
+            None => self.amount_read(option),
+        }
+    }
+
+    /// The amount that an option's value spells; 0 where it spells none, and where the widget has no such option.
+    #[tactic(auto, unfolding(crate::specs::Options::amount_of))]
+    fn amount_read(&self, option: OptionName) -> u32
+        ensures { result ≡ amount_of option self.now }
     {
         match self.value(option) {
             Some(value) => amount_in(value).unwrap_or(0),
@@ -167,6 +187,7 @@ impl OptionTable {
         let Some(entry) = self.entries.get_mut(option.name()) else {
             return;
         };
+        self.amounts = self.amounts.with(option, &value);
         set_value(entry, value);
     }
 
@@ -291,6 +312,9 @@ fn tested(
 /// By hand: a proof sees one call where it is dropped, and not its parts.
 impl Drop for OptionTable {
     fn drop(self) {
-        let OptionTable { entries: _ } = self;
+        let OptionTable {
+            entries: _,
+            amounts: _,
+        } = self;
     }
 }

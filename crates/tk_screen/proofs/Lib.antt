@@ -1,9 +1,11 @@
 -- Lemmas.
+mod Apart
 mod Escapes
 pub mod Laid
 mod Listed
 pub mod Placed
 pub mod Rows
-pub mod SameTexts
+mod SameSizes
 pub mod Settled
 pub mod There
+pub mod Twice

@@ -1,6 +1,7 @@
 -- What the contracts cite.
 pub mod Changes
 pub mod Fields
+pub mod Kept
 pub mod Layout
 pub mod Marks
 pub mod Own

@@ -9,9 +9,9 @@ use Rattle.tk_screen.specs.declared.marks.Marks.{Marks}
 use Rattle.tk_screen.specs.Marks.{mark_of}
 use Rattle.tk_screen.specs.Reads.{hold}
 
--- where the variables have the texts that they had, a layout changes nothing
+-- where the widgets that show variables ask for the sizes that they asked for, a layout changes nothing
 abbrev pub IsSettled : Mark → Own → Type 0
-IsSettled mark own = (store : Store) → hold store mark.reads.items ≡ true → changes_due own store ≡ []
+IsSettled mark own = (store : Store) → hold own.widgets store mark.reads.items ≡ true → changes_due own store ≡ []
 
 -- so it is for each application that has a mark
 abbrev pub AllSettled : Marks → Screen → Type 0

@@ -4,6 +4,7 @@
 
 mod changes;
 mod fields;
+mod kept;
 mod layout;
 mod marked;
 mod marks;
@@ -12,6 +13,7 @@ mod placing;
 mod placing_laws;
 mod reads;
 mod screen;
+mod seen;
 mod shapes;
 mod timers;
 mod toplevel;
@@ -20,7 +22,8 @@ mod widgets;
 
 pub use changes::{change_widget, write_variable};
 pub use fields::{push_escaped, push_field};
-pub use layout::{lay_out, requested_size};
+pub use kept::KeptWidget;
+pub use layout::requested_size;
 pub use marked::MarkedScreen;
 pub use marks::{Mark, Marks};
 pub use placing::write_changes;

@@ -5,8 +5,9 @@ ghost use Rattle.tk_screen.specs.Own.{own_of, nothing, with_size, without, Leave
 ghost use Rattle.tk_tree.specs.Own.{window_at, child_numbers};
 
 use crate::Screen;
+use crate::layout::{Laid, lay_out};
 use crate::marks::{Mark, Marks};
-use crate::reads::{hold, reads};
+use crate::reads::hold;
 use std::alloc::{AllocError, Global};
 use std::marker::Model;
 use tcl_vars::Scopes;
@@ -75,8 +76,9 @@ impl MarkedScreen {
         self.screen.remove(win);
     }
 
-    /// Lays out the windows of an application as `crate::lay_out` does. Nothing is looked at but the variables that its widgets show where a
-    /// layout of it has changed nothing, and nothing of it was changed since then.
+    /// Lays out the windows of an application with the texts that variables have now, and answers what that changes, in the order of the windows,
+    /// each before its children: for each that is changed Unmap, Configure and Map, of these what applies. Where memory is refused no window is
+    /// changed. Nothing is looked at but the variables that its widgets show where it was laid out, and nothing of it was changed since then.
     pub fn lay_out(
         &mut self,
         alloc: Global,
@@ -99,12 +101,12 @@ impl MarkedScreen {
         ensures { result ≡ true → changes_due (own_of slot self.now) scopes.now ≡ [] }
     {
         match self.marks.of(slot) {
-            Some(mark) => hold(mark.reads.as_slice(), scopes),
+            Some(mark) => hold(mark.reads.as_slice(), &self.screen.widgets, slot, scopes),
             None => false,
         }
     }
 
-    /// Lays out the windows of an application. If that changes nothing, the application is marked.
+    /// Lays out the windows of an application, and marks it. Where memory for the mark is refused, it is laid out anew the next time.
     fn lay_out_anew(
         &mut self,
         alloc: Global,
@@ -117,28 +119,11 @@ impl MarkedScreen {
         ensures err { OnErr result (own_of slot self.new ≡ own_of slot self.old) }
     {
         self.marks.forget(slot);
-        let changes = crate::lay_out(alloc, &mut self.screen, slot, scopes)?;
-        if changes.is_empty() {
-            mark(alloc, &mut self.marks, &self.screen, slot, scopes)?;
-        }
+        let _ = self.screen.windows.count(slot);
+        let Laid { changes, reads } = lay_out(alloc, &mut self.screen, slot, scopes)?;
+        let _ = self.marks.put(slot, Mark { reads });
         Ok(changes)
     }
-}
-
-/// Marks an application that is laid out.
-fn mark(
-    alloc: Global,
-    marks: &mut Marks,
-    screen: &Screen,
-    slot: usize,
-    scopes: &Scopes,
-) -> Result<(), AllocError>
-    requires laid_out { changes_due (own_of slot screen.now) scopes.now ≡ [] }
-    requires settled { AllSettled marks.old screen.now }
-    ensures { AllSettled marks.new screen.now }
-{
-    let reads = reads(alloc, screen, slot, scopes)?;
-    marks.put(slot, Mark { reads })
 }
 
 /// By hand: a proof sees one call where it is dropped, and not its parts.

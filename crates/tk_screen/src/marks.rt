@@ -7,7 +7,7 @@ use crate::reads::TextRead;
 use std::alloc::{AllocError, Global};
 use std::collections::HashMap;
 
-/// That an application is laid out as long as the variables that its widgets show have these texts.
+/// That an application is laid out as long as the widgets that show these variables ask for these sizes.
 #[derive(Drop)]
 pub struct Mark {
     pub reads: Vec<TextRead>,

@@ -1,13 +1,12 @@
 //! What the layout has to know of windows.
 ghost use Rattle.std.specs.Prelude.{◌≡◌, IfOk};
-ghost use Rattle.std.specs.List.{filter_map};
 ghost use Rattle.std.specs.Option.{option_copied};
 ghost use Rattle.tk_packer.specs.Packs.{own_of as packs_of};
 ghost use Rattle.tk_screen.specs.Own.{own_of};
-ghost use Rattle.tk_screen.specs.Shapes.{is_frame, shape_at, shape_of, shapes, value_of, variable_text};
-ghost use Rattle.tk_tree.specs.Own.{own_of as tree_of};
+ghost use Rattle.tk_screen.specs.Shapes.{is_frame, shape_by, shape_of, value_of, variable_text};
+ghost use Rattle.tk_tree.specs.Own.{own_of as tree_of, window_at};
 
-use crate::order::pre_order;
+use crate::kept::KeptWidget;
 use crate::screen::Screen;
 use std::alloc::{AllocError, Global};
 use tcl_text::Text;
@@ -30,52 +29,19 @@ pub fn variable_text<'a>(widget: &Widget, scopes: &'a Scopes) -> Option<&'a Text
     }
 }
 
-/// All windows of an application as the layout sees them, each before its children, and children in the order of creation.
-#[tactic(auto, unfolding(crate::specs::Shapes::shapes))]
-pub fn shapes(
-    alloc: Global,
-    screen: &Screen,
-    slot: usize,
-    scopes: &Scopes,
-) -> Result<Vec<Shape>, AllocError>
-    ensures { IfOk result (λ list. list.items ≡ shapes (own_of slot screen.now) scopes.now) }
-{
-    let order = pre_order(alloc, &screen.windows, slot)?;
-    shapes_of(alloc, screen, slot, scopes, order.as_slice())
-}
-
-/// The windows with these numbers that are there.
-fn shapes_of(
-    alloc: Global,
-    screen: &Screen,
-    slot: usize,
-    scopes: &Scopes,
-    numbers: &[u64],
-) -> Result<Vec<Shape>, AllocError>
-    ensures { IfOk result (λ list. list.items ≡ filter_map (shape_at (own_of slot screen.now) scopes.now) numbers.now) }
-{
-    let mut list = Vec::with_capacity(alloc, numbers.len())?;
-    let mut rest = numbers;
-    while let [number, others @ ..] = rest {
-        if let Some(shape) = shape_at(screen, slot, scopes, *number) {
-            list.push(shape)?;
-        }
-        rest = others;
-    }
-    Ok(list)
-}
-
 /// A window of an application, if it is there and has a widget.
-fn shape_at(screen: &Screen, slot: usize, scopes: &Scopes, number: u64) -> Option<Shape>
-    ensures { result ≡ shape_at (own_of slot screen.now) scopes.now number }
+pub fn shape_by(
+    screen: &Screen,
+    scopes: &Scopes,
+    win: Win,
+    widget: Option<&KeptWidget>,
+) -> Option<Shape>
+    ensures { result ≡ shape_by (packs_of win.owner screen.now.packs) scopes.now
+        (window_at win.number (tree_of win.owner screen.now.windows)) (option_copied widget.entry) }
 {
-    let win = Win {
-        owner: slot,
-        number,
-    };
     let window = screen.windows.window(win)?;
-    let widget = screen.widgets.get(win)?;
-    Some(shape_of(&screen.packs, slot, scopes, window, widget))
+    let widget = widget?;
+    Some(shape_of(&screen.packs, win.owner, scopes, window, widget))
 }
 
 /// A window with its widget.
@@ -85,17 +51,17 @@ fn shape_of(
     slot: usize,
     scopes: &Scopes,
     window: &Window,
-    widget: &Widget,
+    widget: &KeptWidget,
 ) -> Shape
     ensures { result ≡ shape_of (packs_of slot packs.now) scopes.now window.now widget.now }
 {
     let number = window.number;
-    let (width, height) = widget.requested_size(variable_text(widget, scopes));
+    let (width, height) = widget.requested_size(scopes);
     Shape {
         number,
         width,
         height,
-        border: widget.options.amount(OptionName::BorderWidth),
+        border: widget.widget().options.amount(OptionName::BorderWidth),
         propagates: is_frame(window.kind)
             && packs.propagates(Win {
                 owner: slot,

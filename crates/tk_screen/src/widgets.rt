@@ -4,6 +4,7 @@ ghost use Rattle.std.specs.HashMap.{get};
 ghost use Rattle.std.specs.Option.{option_copied};
 ghost use Rattle.tk_screen.specs.Widgets.{widgets_of, widget_at, with_widget, without_widget, made_at, HasRoom, LeavesOtherWidgets};
 
+use crate::kept::KeptWidget;
 use indexmap::IndexMap;
 use std::alloc::{AllocError, Global};
 use std::collections::HashMap;
@@ -12,7 +13,7 @@ use tk_widgets::{Widget, WidgetAct, WidgetChange};
 
 /// The widgets of the windows of all applications.
 pub struct Widgets {
-    rows: HashMap<usize, IndexMap<u64, Widget>>,
+    rows: HashMap<usize, IndexMap<u64, KeptWidget>>,
     alloc: Global,
 }
 
@@ -29,6 +30,13 @@ impl Widgets {
 
     /// The widget of a window; none where it has none. It takes no memory.
     pub fn get(&self, win: Win) -> Option<&Widget>
+        ensures { option_copied result ≡ widget_at win.number (widgets_of win.owner self.now) }
+    {
+        Some(self.kept(win)?.widget())
+    }
+
+    /// The widget of a window with what is kept beside it; none where it has none. It takes no memory.
+    pub fn kept(&self, win: Win) -> Option<&KeptWidget>
         ensures { option_copied result ≡ widget_at win.number (widgets_of win.owner self.now) }
     {
         self.rows.get(&win.owner)?.get(&win.number)
@@ -65,7 +73,7 @@ impl Widgets {
         ensures others { LeavesOtherWidgets win.owner self.old self.new }
     {
         if let Some(row) = self.rows.get_mut(&win.owner) {
-            match row.insert(win.number, widget) {
+            match row.insert(win.number, KeptWidget::new(widget)) {
                 Ok(_) => {}
                 Err(_) => unreachable!(),
             }

@@ -4,4 +4,4 @@ use Rattle.tk_options.proofs.Entries.{lookup-named}
 use Rattle.tk_options.proofs.table.OptionTable.named.Goals as goal
 
 pub returns : goal.returns
-returns c = c.get.ensures.value ∙ lookup-named c.args.name.now c.self.inside.entries.entries c.self.invariant ∙ ap (find (is_named c.args.name.now)) c.self.view_is
+returns c = c.get.ensures.value ∙ lookup-named c.args.name.now c.self.inside.entries.entries c.self.invariant.named ∙ ap (find (is_named c.args.name.now)) c.self.view_is
